@@ -1,4 +1,4 @@
--- What stands in a text once its lines and its content are read: texts that are not read yet.
+-- What is in a text once its lines and its content are read: texts that are not read yet.
 use Rattle.md_engine.specs.declared.tokenizer.held_leaf.HeldLeaf.TheVariants as held_leaf
 use Rattle.std.proofs.Common.{◌≡◌, ◌^◌, ◌<◌, ℕ, List, [], length, refl, sym, ◌∙◌, subst}
 use Rattle.md_engine.specs.declared.configuration.ParseOptions.{ParseOptions}
@@ -31,7 +31,7 @@ pub part-of : (options : ParseOptions) (bytes : List ℕ) →
     FrontPart bytes first_point (body_point options bytes) (front_events options bytes)
 part-of options bytes = (begun options bytes).fronted.part
 
--- The events of a text, once flow and content were read, and heads of tables in front of content.
+-- The events of a text, once flow and content were read, and heads of tables before content.
 pub content-are : (options : ParseOptions) (bytes : List ℕ) → IsWithoutMdx options → length bytes < 2 ^ 61 →
     (content : List Event) →
     Substituted wants_content (content_readings bytes options) [] 0

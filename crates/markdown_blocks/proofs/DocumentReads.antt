@@ -50,7 +50,7 @@ use Rattle.md_meaning.proofs.PreambleLemmas.{mark-bytes, mark-length}
 
 -- The mark among the cells.
 
--- behind a byte that is neither an ending nor a tab
+-- after a byte that is neither an ending nor a tab
 abbrev behind : Point → Point
 behind p = record p { column = p.column + 1; index = p.index + 1; vs = 0 }
 
@@ -137,7 +137,7 @@ text-marked : (bytes : List ℕ) (options : ParseOptions) → length bytes < 2 ^
 text-marked bytes options small =
     are-ahead mark (text_setting bytes options first_point) first_point refl small refl refl
 
--- behind a mark each of its bytes is a column
+-- after a mark each of its bytes is a column
 mark-cells : (bytes : List ℕ) (options : ParseOptions) → length bytes < 2 ^ 61 → has_mark bytes ≡ true →
     point_after (take 3 (text_cells bytes options first_point)) first_point ≡ mark_end
 mark-cells bytes options small h =
@@ -154,7 +154,7 @@ mark-cells bytes options small h =
       column = omega arith;
     }))
 
--- What the document comes to.
+-- What the document becomes.
 
 bom-there : (cells : List Cell) (h : Here) (p : Point) → are_next mark cells ≡ true →
     point_after (take 3 cells) h.point ≡ p →
@@ -169,7 +169,7 @@ bom-none cells h e = rw e refl
 abbrev begun : List ℕ → ParseOptions → Here
 begun bytes options = here (fresh bytes options first_point)
 
--- what is left behind a mark
+-- what is left after a mark
 behind-mark : (bytes : List ℕ) (options : ParseOptions) → length bytes < 2 ^ 61 → has_mark bytes ≡ true →
     drop 3 (text_cells bytes options first_point) ≡ text_feed (text_setting bytes options first_point) mark_end
 behind-mark bytes options small h =
@@ -186,7 +186,7 @@ behind-mark bytes options small h =
       column = omega arith;
     }))
 
--- behind the frontmatter, or where none is
+-- after the frontmatter, or where none is
 ends-front : (x : Setting) (k : Here) (cells : List Cell) (o : Option FrontRead) →
     (s : Scratch) × (rest : List Cell) ×
     (tried (comes x k o) (λ l h. Accepts h l) (λ t g. Accepts (record k { scratch = t; flags = g }) cells) ≡

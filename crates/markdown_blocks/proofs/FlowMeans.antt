@@ -44,7 +44,7 @@ flow_has bytes options next = record {
   leaves = λ _ _ _. refl;
 }
 
--- where the table stands at a state, the state has what it needs
+-- where the table is at a state, the state has what it needs
 flow-needs : (state : FlowState) (w : World) → stands flow_table_scheme w (Next (n.Flow state)) → FlowInvariant state w
 flow-needs flow.Start w at = at.0.0
 flow-needs flow.BlankLineBefore w at = tt
@@ -124,7 +124,7 @@ each_means feed next name w s c at on = go name at on
     go (n.SpaceOrTab state) at on = white_means B feed state w has.blank.white s
     go name at on = construct-steps feed next name w s c at
 
--- whatever follows behind the line, a call that takes no ending is one step of what flow means
+-- whatever follows after the line, a call that takes no ending is one step of what flow means
 pub flow-steps-by : (feed : Feed) (next : Rule) (name : StateName)
     (w : World) →
     Sees feed w → w.current ≡ looks w → stands flow_table_scheme w (Next name) → feeds name w.current ≡ 0 →
@@ -133,7 +133,7 @@ pub flow-steps-by : (feed : Feed) (next : Rule) (name : StateName)
     (flow_transition name w).world
 flow-steps-by feed next name w s c at none = each_means feed next name w s c at (inl none)
 
--- an ending is taken with no attempt around, and then the rule goes on
+-- an ending is taken with no attempt around, and then the rule continues
 pub record Takes (next : Rule) (feed : Feed) (w : World) (to : State) (new : World) : Type 0 where
   pub frames : w.frames ≡ []
   pub to_is : to ≡ Next (n.Document document.ContainerExistingBefore)
@@ -167,7 +167,7 @@ ending-taken feed next w s at is = subst P (sym (ap (flow_end_code v) is)) taken
           ∙ ending_left feed v next 10 refl;
     }
 
--- each state of flow takes one step of what flow means: behind a line all further lines follow
+-- each state of flow takes one step of what flow means: after a line all further lines follow
 pub flow_table_means : (under : Setting) (is_end : Bool) →
     MeansAt FlowStep flow_table_scheme under (flow_behaves under.bytes under.options) is_end
 flow_table_means under is_end feed name w to new f called step =
@@ -176,7 +176,7 @@ flow_table_means under is_end feed name w to new f called step =
     (each_means feed (flow_at w.setting.options) name (reading w)
     (sees feed w is_end f called.may) refl called.stands (inr (flow_by_line w.setting.options))))
 
--- and comes to where the table stands
+-- and reaches where the table is
 pub flow_stands : StandsOn FlowStep flow_table_scheme
 flow_stands name w to new at step =
     does-stands flow_table_scheme name (reading w)

@@ -76,7 +76,7 @@ no-text (row ∷ rows) h =
     other (LeafRow l) h = refl
     other TextRow h = absurd (h refl)
 
--- The begin and the end of each line of text stand side by side.
+-- The begin and the end of each line of text lie side by side.
 row-side : (row : Row) (es : List Event) → IsFramed row → HasNoContent row →
     side_by_side false (row_events row ++ es) ≡ side_by_side false es
 row-side row es framed quiet = go row.kind refl
@@ -110,7 +110,7 @@ rows-side [] framed quiet = refl
 rows-side (row ∷ rows) framed quiet =
     row-side row (rows_events rows) framed.0 quiet.0 ∙ rows-side rows framed.1 quiet.1
 
--- The step behind the states, whether content is read or not.
+-- The step after the states, whether content is read or not.
 
 -- lines of text that are heads are read again, and then content is read
 record ContentRead (bytes : List ℕ) (options : ParseOptions) (rows : List Row) (at : World) (found : Found)
@@ -176,7 +176,7 @@ content-step bytes options rows at found new framed quiet events text set false 
       footnotes = ap (λ (x : Found). x.footnotes) h.0;
     }
 
--- no attempt is around behind a flush, and behind content
+-- no attempt is around after a flush, and after content
 
 pub flushed-frames : (T : Step) (R : Resolution) (end : State) (at : World) (found : Found) (new : World) →
     Flushes T R end at false found new → new.frames ≡ []
@@ -302,7 +302,7 @@ pub record FlowFlushed (bytes : List ℕ) (options : ParseOptions) (p : Point) (
   pub definitions : found.definitions ≡ labels_in bytes content
   pub footnotes : found.footnotes ≡ []
 
--- Of the rows of a text: no content stands in a line that is no text, and prefixes stand in front of each.
+-- Of the rows of a text: no content is in a line that is no text, and prefixes are before each.
 pub text-quiet : (options : ParseOptions) (bytes : List ℕ) (p : Point) → EachNoContent (text_rows options bytes p)
 text-quiet options bytes p =
     rows_at-no_content options (suc (length (text_cells bytes options p))) [] held_leaf.None
@@ -351,7 +351,7 @@ flow-flushed bytes options p end at none flushed found new small run f h =
         (holds_content f.at.events) refl
         (subst (λ (w : World). ReadIf (holds_content w.events) w found new) f.resolved.0 h)
 
--- The begin and the end of each line of text stand side by side in what flow has added.
+-- The begin and the end of each line of text lie side by side in what flow has added.
 pub flushed-side : (bytes : List ℕ) (options : ParseOptions) (p : Point)
     (start : World) (to : ℕ) (end : State) (at : World) (none : Found) (flushed : World) →
     start ≡ fresh bytes options p → to ≡ length bytes →

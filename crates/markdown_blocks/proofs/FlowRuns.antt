@@ -1,4 +1,4 @@
--- What a whole run of flow comes to, as a function of the text.
+-- What a whole run of flow becomes, as a function of the text.
 use Rattle.std.proofs.Common.{◌≡◌, ◌^◌, ◌<◌, ◌≤◌, ℕ, Bool, false, true, refl, sym, ◌∙◌, ap, arith, subst, List, []}
 use Rattle.md_engine.specs.declared.state.State.{State}
 use Rattle.md_engine.specs.declared.state.State.TheVariants.{Error, Ok, Nok, Next, Retry}
@@ -15,7 +15,7 @@ use Rattle.md_registry.specs.States.{FlowStep, flow_behaves, flow_table_scheme}
 use Rattle.md_rows.proofs.FlowEnds.{Finishes, flow_finishes}
 use Rattle.markdown_blocks.proofs.FlowMeans.{flow_table_means, flow_stands}
 
--- a push keeps what a tokenizer comes to, with the text up to where it will be read in all, and stands
+-- a push keeps what a tokenizer becomes, with the text up to where it will be read in all, and is
 pub flow_push : (s s' : State) (w w' : World) (limit total : ℕ) →
     total < 2 ^ 61 → limit ≤ total → stands flow_table_scheme (reads_to w limit) (plain s) →
     Runs FlowStep false s (reads_to w limit) s' w' →
@@ -28,7 +28,7 @@ flow_push s s' w w' limit total small le at run =
     flow_stands
     (text-follows (reads_to w total).setting limit false small le (λ e. cc)) at s' w' run
 
--- a flush comes to where the tokenizer ends
+-- a flush reaches where the tokenizer ends
 pub flow_flush : (R : Resolution) (s : State) (w : World) (resolve : Bool)
     (found : Found) (new : World) →
     w.setting.limit < 2 ^ 61 → stands flow_table_scheme w (plain s) →
@@ -40,7 +40,7 @@ flow_flush R s w resolve found new small at f =
     (text_feed w.setting) s w resolve found new (flow_table_means w.setting true) flow_stands
     (text-follows w.setting w.setting.limit true small (omega arith) (λ e. refl)) at f
 
--- a tokenizer that comes to what flow means of some cells ends with all of them taken, and with its events
+-- a tokenizer that becomes what flow means of some cells ends with all of them taken, and with its events
 pub flow_outcome : (R : Resolution) (s : State) (w : World)
     (resolve : Bool) (found : Found) (new : World) (cells : List Cell) (h : Here) →
     w.setting.limit < 2 ^ 61 → stands flow_table_scheme w (plain s) →

@@ -1,4 +1,4 @@
--- Behind the states of flow the resolver of content is a step that changes nothing where no line is text: then it does
+-- After the states of flow the resolver of content is a step that changes nothing where no line is text: then it does
 -- not matter whether it ran.
 use Rattle.md_engine.specs.declared.tokenizer.held_leaf.HeldLeaf.{HeldLeaf}
 use Rattle.std.proofs.Common.{◌≡◌, ◌≢◌, ℕ, zero, suc, Bool, true, false, cond, List, [], ◌∷◌, length}
@@ -30,20 +30,20 @@ use Rattle.md_frame.proofs.PrefixNames.{AreFront, IsFrontEvent}
 use Rattle.md_frame.specs.Passed.{Passed}
 use Rattle.md_registry.proofs.RegistryContainers.{goes-front, opens-front}
 
--- What stands in front of a line that flow reads.
+-- What is before a line that flow reads.
 
--- the events of what stands there
+-- the events of what is there
 abbrev events_of : Front → List Event
 events_of f = f.events
 
--- one more in front of others
+-- one more before others
 more-front : (f : Passed → Front) (none : Front) → ((t : Passed) → AreFront (f t).events) → AreFront none.events →
     (o : Option Passed) → ((t : Passed) → o ≡ Some t → AreFront t.events) →
     AreFront (events_of (elim o [ None ↦ none | Some t ↦ in_front t (f t) ]))
 more-front f none below h None k = h
 more-front f none below h (Some t) k = each-append IsFrontEvent t.events (f t).events (k t refl) (below t)
 
--- all that go on
+-- all that continue
 went-are : (options : ParseOptions) (cs : List Container) (cells : List Cell) (p : Point) →
     AreFront (continued_prefixes options cs cells p).events
 went-are options [] cells p = tt
@@ -83,7 +83,7 @@ held-are options cs still cells p =
 
 -- Lines.
 
--- prefixes and begins of containers stand in front of a line
+-- prefixes and begins of containers are before a line
 pub record IsFramed (row : Row) : Type 0 where
   pub front : AreFront row.front
 

@@ -1,5 +1,5 @@
--- Of events in which the begin and the end of each line of text stand side by side, every other one tells whether a
--- line of text is among them.
+-- Of events in which the begin and the end of each line of text lie side by side, every other one shows whether a line
+-- of text is among them.
 use Rattle.std.proofs.Common.{◌≡◌, ℕ, suc, ◌+◌, ◌≤◌, Bool, true, false, cond, not, ◌||◌, List, [], ◌∷◌, ◌++◌, length, drop}
 use Rattle.std.proofs.Common.{◌-◌, get_or, inl, inr, refl, sym, ◌∙◌, ap, subst, arith}
 use Rattle.std.specs.List.{prefix_len}
@@ -23,7 +23,7 @@ pub held-parts : (xs ys : List Event) → holds_content (xs ++ ys) ≡ false →
 held-parts xs ys h =
     or_parts (holds_content xs) (holds_content ys) (sym (list_any-append (λ (e : Event). is_content e.name) xs ys) ∙ h)
 
--- events that are of no line of text change nothing in front of others
+-- events that are of no line of text change nothing before others
 pub quiet-side : (wants : Content → Bool) (xs ys : List Event) → NoContent wants xs →
     side_by_side false (xs ++ ys) ≡ side_by_side false ys
 quiet-side wants [] ys h = refl
@@ -51,7 +51,7 @@ two-passed e f es other side =
     behind false h = (inl h, refl)
     behind true h = (inr h, sym (ends es h))
 
--- also where they stand behind others
+-- also where they are after others
 pub passed-other : (es : List Event) (at : ℕ) (none : Event) → at + 2 ≤ length es →
     is_content (get_or es at none).name ≡ false → AreSideBySide (drop at es) →
     AreSideBySide (drop (at + 2) es) × (holds_content (drop at es) ≡ holds_content (drop (at + 2) es))
@@ -67,11 +67,11 @@ passed-other es at none within other side =
       ap holds_content whole ∙ passed.1 ∙ ap (λ (n : ℕ). holds_content (drop n es)) two,
     )
 
--- what is behind so many events, to the end
+-- what is after so many events, to the end
 pub behind : (es : List Event) (n : ℕ) → take (length es - n) (drop n es) ≡ drop n es
 behind es n = take_all (length es - n) (drop n es) (omega (arith, length-drop n es))
 
--- Events in front of the first that is of a line of text, or may not pass as it is where lines are joined, tell nothing.
+-- Events before the first that is of a line of text, or may not pass as it is where lines are joined, show nothing.
 pub alone-passed : (es : List Event) → AreSideBySide es →
     let rest = drop (prefix_len passes_alone es) es in AreSideBySide rest × (holds_content rest ≡ holds_content es)
 alone-passed [] side = (side, refl)

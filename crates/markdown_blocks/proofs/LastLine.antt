@@ -1,6 +1,6 @@
--- The empty line behind the last ending of a text: it is a row, but no line of the line definition.
+-- The empty line after the last ending of a text: it is a row, but no line of the line definition.
 --
--- Where it goes on a leaf of several lines, it adds nothing to that leaf; elsewhere it does what any empty line does,
+-- Where it continues a leaf of several lines, it adds nothing to that leaf; elsewhere it does what any empty line does,
 -- and that adds nothing either.
 use Rattle.std.proofs.Common.{◌≡◌, ℕ, zero, suc, ◌<◌, Bool, true, false, cond, ◌&&◌, List, [], ◌∷◌, ◌++◌, length, take}
 use Rattle.std.proofs.Common.{refl, ap, sym, ◌∙◌, append-nil, arith}
@@ -15,7 +15,7 @@ use Rattle.md_rows.specs.Stands.{IsPlain, containers_of}
 use Rattle.md_row_steps.proofs.LineSteps.{contained_at, goes_further, renewed}
 use Rattle.md_row_steps.proofs.StepBehind.{GoesOn, containers-all, containers-step, goes-on}
 
--- what a line does, of which it is told whether it stands over the end of the text
+-- what a line does, of which it is said whether it is over the end of the text
 abbrev pub step_over : ParseOptions → Bool → Path → Rest → Path
 step_over options over p r =
     let c = contained_at options p r in
@@ -33,7 +33,7 @@ abbrev pub no_rests : List Rest → Bool
 no_rests [] = true
 no_rests (r ∷ rs) = false
 
--- the lines of a text: the last of them stands over its end if it is empty
+-- the lines of a text: the last of them is over its end if it is empty
 abbrev pub told : List Rest → List Told
 told [] = []
 told (r ∷ rs) = record { rest = r; over = no_rests rs && no_bytes r.bytes } ∷ told rs
@@ -50,7 +50,7 @@ told-some options p (suc n) [] less = absurd (omega arith)
 told-some options p (suc n) (r ∷ []) less = absurd (omega arith)
 told-some options p (suc n) (r ∷ s ∷ rs) less = told-some options (step options p r) n (s ∷ rs) (omega arith)
 
--- What is open behind such a line.
+-- What is open after such a line.
 
 pub containers-over : (options : ParseOptions) (over : Bool) (p : Path) (r : Rest) → IsWithoutMdx options → IsPlain p →
     containers_of (step_over options over p r) ≡ open_behind (contained_at options p r).change

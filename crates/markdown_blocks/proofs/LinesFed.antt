@@ -1,7 +1,7 @@
 -- Whenever a run of flow has fed a line, the tokenizer holds what the rows of the text say.
 --
--- What is left of one line is a behaviour too, whose rule stops where the next line begins. So each call comes to what
--- the line comes to, up to the call that takes the ending of the line; there the next line begins.
+-- What is left of one line is a behaviour too, whose rule stops where the next line begins. So each call becomes what
+-- the line becomes, up to the call that takes the ending of the line; there the next line begins.
 use Rattle.md_engine.specs.declared.tokenizer.held_leaf.HeldLeaf.TheVariants as held_leaf
 use Rattle.md_engine.specs.declared.tokenizer.held_leaf.HeldLeaf.{HeldLeaf}
 use Rattle.std.proofs.Common.{◌≡◌, ◌^◌, ◌<◌, ◌⊎◌, inl, inr, ℕ, zero, suc, ◌+◌, Bool, true, false, cond, nat_eq, List}
@@ -50,14 +50,14 @@ use Rattle.md_rows.proofs.FlowRows.{held-shorter, leaving, next-begins, next_her
 use Rattle.md_rows.proofs.FlowRows.{no-closes, row-adds, rows_below, text-begins}
 use Rattle.md_frame.proofs.FromEnding.{from_ending-shrinks, from_ending-stops}
 
--- Behind some lines.
+-- After some lines.
 
 -- which containers are open,
 abbrev pub open_after : List Container → List Row → List Container
 open_after cs [] = cs
 open_after cs (row ∷ rows) = open_after (open_behind row.change) rows
 
--- and the leaf that is open behind them
+-- and the leaf that is open after them
 abbrev pub leaf_after : HeldLeaf → List Row → HeldLeaf
 leaf_after still [] = still
 leaf_after still (row ∷ rows) = leaf_after row.behind rows
@@ -77,7 +77,7 @@ place-last : (p : Point) (rows : List Row) (row : Row) → place_behind p (rows 
 place-last p [] row = refl
 place-last p (first ∷ rows) row = place-last (behind_row first) rows row
 
--- no container has ended behind it yet
+-- no container has ended after it yet
 not_left-last : (rows : List Row) (row : Row) → not_left (rows ++ row ∷ []) ≡ rows ++ leaving [] row ∷ []
 not_left-last [] row = refl
 not_left-last (first ∷ []) row = refl
@@ -107,8 +107,8 @@ drop-next (suc n) (first ∷ all) row below e = drop-next n all row below e
 
 -- One line.
 
--- the rule that stops in front of a line, and tells what is left there: it adds a cell, so it is told from the end of
--- the text
+-- the rule that stops before a line, and shows what is left there: it adds a cell, so it is distinguished from the end
+-- of the text
 abbrev line_stop : Rule
 line_stop cells h =
     Accepts h (record { byte = 0; after = h.point; line = record { start = 0; lazy = false } } ∷ cells)
@@ -121,7 +121,7 @@ AtStop P _ = ⊥
 -- A line begins at this place, where these cells are left and so many of all lines are before it.
 record LineAt (options : ParseOptions) (from : Point) (all : List Row) (n : ℕ) (left : List Cell)
     (h : Here) : Type 0 where
-  -- what was added in front of the ending before it, and from there on, and what is open
+  -- what was added before the ending before it, and from there on, and what is open
   front : List Event
   tail : List Event
   point : Point
@@ -144,7 +144,7 @@ record LineAt (options : ParseOptions) (from : Point) (all : List Row) (n : ℕ)
 regroup : (front ends tail more : List Event) → front ++ (ends ++ (tail ++ more)) ≡ (front ++ (ends ++ tail)) ++ more
 regroup front ends tail more = simp append_assoc
 
--- where the line has come to the begin of another, that is the next
+-- where the line has reached the begin of another, that is the next
 line-next : (options : ParseOptions) (from : Point) (all : List Row) (n : ℕ) (left : List Cell) (h : Here) →
     LineAt options from all n left h → (rest : List Cell) (new : Here) →
     line_then options line_stop left h ≡ line_stop rest new → LineAt options from all (suc n) rest new
@@ -163,7 +163,7 @@ line-next options from all n left h l rest new is = by l.size l.fits l.rows
     text : HeldLeaf
     text = behind_held options (held_at options l.containers l.still left h.point)
 
-    -- behind the line, with the ends of these containers
+    -- after the line, with the ends of these containers
     added : (c : Cell) (xs : List Cell) (below : List Row) (ls : List Container) → from_ending x.cells ≡ c ∷ xs →
         drop n all ≡ row_of options x below ∷ below →
         d.new.events ++ (ends_of ls d.new.point ++ pair (ending_name d.new.flags.blank) d.new.point c.after) ≡
@@ -265,7 +265,7 @@ none-or-ending name o = inl refl
 abbrev line_behaves : Setting → Behaviour
 line_behaves x = flow_behaves_by x.bytes x.options line_stop
 
--- So many of all lines were fed; the tokenizer comes to what is left of the line that it reads.
+-- So many of all lines were fed; the tokenizer becomes what is left of the line that it reads.
 record Within (under : Setting) (feed : Feed) (from : Point) (all : List Row) (n : ℕ) (t : State)
     (v : World) : Type 0 where
   at : stands flow_table_scheme v (plain t)
@@ -443,7 +443,7 @@ within-run under feed from all begin w f o begun to new (ThenCalls t v t' v' run
 
 -- A text.
 
--- So many lines were fed, and the tokenizer stands at the begin of the next.
+-- So many lines were fed, and the tokenizer is at the begin of the next.
 pub record LineFed (bytes : List ℕ) (options : ParseOptions) (p : Point) (n : ℕ) (w : World) : Type 0 where
   pub frames : w.frames ≡ []
   pub further : n < length (text_rows options bytes p)
@@ -510,7 +510,7 @@ text-within bytes options p small t v run =
       comes = refl;
     }
 
--- whenever it has fed a line, it stands at the begin of the next
+-- whenever it has fed a line, it is at the begin of the next
 pub line-fed : (bytes : List ℕ) (options : ParseOptions) (p : Point) →
     length bytes < 2 ^ 61 →
     (t : State) (v : World) (t' : State) (v' : World)
@@ -550,7 +550,7 @@ line-fed bytes options p small t v t' v' run c one = record {
 
 -- The last line.
 
--- where a line comes to the end of the text, it is the last
+-- where a line becomes the end of the text, it is the last
 line-last : (options : ParseOptions) (from : Point) (all : List Row) (n : ℕ) (left : List Cell) (h : Here) →
     LineAt options from all n left h → (new : Here) → line_then options line_stop left h ≡ Accepts new [] →
     suc n ≡ length all

@@ -45,8 +45,8 @@ use Rattle.md_wrap.specs.Footnoted.{NestsInFootnote, footnoted}
 use Rattle.md_wrap.proofs.FootnoteLaw.{footnote-nests}
 use Rattle.markdown_blocks.proofs.TextQuoted.{text-quoted}
 
--- What the calls in front of the last loop gave: the front of a text, and what flow reads behind it; and the labels in
--- the state are those that were found.
+-- What the calls before the last loop gave: the front of a text, and what flow reads after it; and the labels in the
+-- state are those that were found.
 pub record IsAhead (state : ParseState) (start : Point) (found : Found) (new : World) (mark items : List Event) :
     Type 0 where
   pub built : IsWithoutMdx state.options.now
@@ -94,7 +94,7 @@ module _ (state : ParseState) (start : Point) (found : Found) (new : World) (mar
         ahead.flow ahead.items_are;
   }
 
-  -- So the layer may be asked for each text part behind the front,
+  -- So the layer may be asked for each text part after the front,
   pub parts-asked : EachAsked wants_text
       (λ content chunks. IsTextPart (document_of state) (record { kind = text_kind content; chunks = chunks })) 0 items
   parts-asked =

@@ -1,5 +1,5 @@
--- What a line of text is read as that is the head of a table, with the lines that go on it: the table to which the line
--- definition comes with them, behind what the lines of text in front of the head come to.
+-- What a line of text is read as that is the head of a table, with the lines that continue it: the table to which the
+-- line definition comes with them, after what the lines of text before the head become.
 use Rattle.std.proofs.Common.{◌≡◌, ℕ, Bool, true, false, cond, List, [], ◌∷◌, ◌++◌, refl, ap, sym, ◌∙◌, subst}
 use Rattle.std.specs.Prelude.{None}
 use Rattle.std.proofs.lemmas.List.{reverse-append}
@@ -39,7 +39,7 @@ use Rattle.md_rows.proofs.SpelledParagraphs.{text-filled}
 use Rattle.md_rows.proofs.TextFound.{front-is}
 use Rattle.md_registry.proofs.UnderNames.{heads-table}
 
--- Lines on which something stands.
+-- Lines on which something is.
 
 -- one of a leaf, where it meets text
 pub met-dark : (options : ParseOptions) (bytes line : List ℕ) (row : Row) (l : LeafName) (at : OpenText) →
@@ -56,7 +56,7 @@ heads-dark options bytes line row l is kind further heads =
     line-filled options bytes line row l is kind
     (subst (λ (m : LeafName). (leaf m).further row.on ≡ true) (heads-table l heads) further)
 
--- the lines of a leaf behind one: on those of a table something stands
+-- the lines of a leaf after one: on those of a table something is
 abbrev pub AreDark : (options : ParseOptions) (bytes : List ℕ) (l : LeafName) (row : Row) (rows : List Row) →
     AreBehind options bytes (leaf l) row rows → Type 0
 AreDark options bytes l row [] are = Unit {0}
@@ -70,21 +70,21 @@ dark-filled options bytes row [] are dark = tt
 dark-filled options bytes row (next ∷ rows) are dark =
     (dark.0 refl, dark-filled options bytes next rows are.7 dark.1)
 
--- What the line definition comes to.
+-- What the line definition becomes.
 
--- with the lines of a table, behind its head
+-- with the lines of a table, after its head
 abbrev pub head_come : (options : ParseOptions) (bytes : List ℕ) (row next : Row) (rows : List Row) →
     AreBehind options bytes table_leaf row (next ∷ rows) → Leaf → LeafResult
 head_come options bytes row next rows are open_leaf =
     come_behind options bytes table_leaf next rows are.7 (table_leaf.comes options open_leaf are.6.rest)
 
--- where this text, which goes on the open one, is the head
+-- where this text, which continues the open one, is the head
 abbrev pub head_path : (options : ParseOptions) (bytes : List ℕ) (row next : Row) (rows : List Row) →
     AreBehind options bytes table_leaf row (next ∷ rows) → Path → Path
 head_path options bytes row next rows are q =
     with_came options true q (head_come options bytes row next rows are (spot q).leaf)
 
--- what stands behind the last line of a leaf of several
+-- what follows the last line of a leaf of several
 abbrev pub span_tail : Row → List Row → List Event
 span_tail row rows = tail_events (ending_name (is_blank_row (last_row row rows))) (last_row row rows)
 
@@ -113,7 +113,7 @@ abbrev pub IsOfText : ParseOptions → Leaf → Type 0
 IsOfText options open_leaf =
     (bs : Blocks) → then_leaf options bs open_leaf ≡ text_leaf.behind options bs (texts (held_of open_leaf))
 
--- no lines come to nothing
+-- no lines become nothing
 pub none-of_text : (options : ParseOptions) → IsOfText options NoLeaf
 unfolding shut_paragraph cut_definitions cut_at_most
 none-of_text options bs = go options.constructs.definition
@@ -133,7 +133,7 @@ pub longer-spot : (p : Path) (lines : List ParagraphLine) →
 longer-spot (At s) lines = refl
 longer-spot (Within before container p) lines = longer-spot p lines
 
--- what is read where the head has been turned: all in front of it is shut
+-- what is read where the head has been turned: all before it is shut
 reading-head : (options : ParseOptions) (outer : List OpenContainer) (p : Path) (k : ParagraphLine) (c : LeafResult) →
     IsOfText options (spot p).leaf →
     reading_on options outer (with_came options true (longer p (k ∷ [])) c) ≡

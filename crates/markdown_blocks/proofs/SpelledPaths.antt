@@ -51,7 +51,7 @@ close_containers-all options outer (Within before container p) =
     ((container-facts container).block (closed options p))
 
 -- The containers of a path are read as these, of which some stay and the others close. One that stays may have changed,
--- but for what the events tell.
+-- but for what the events show.
 abbrev pub AreShapes : List Container → List Container → Path → Type 0
 AreShapes stays closes p = map shape_of (stays ++ closes) ≡ map shape_of (containers_of p)
 
@@ -81,7 +81,7 @@ close_containers-kept options (c ∷ stays) closes outer (Within before containe
     ∙ ap (λ (around : OpenContainer). reading_on options (around ∷ outer) (kept_to options stays p))
     (sym (around-same c container before same))
 
--- what a line changes of those that stay, the events do not tell
+-- what a line changes of those that stay, the events do not show
 pub reading-renewed : (options : ParseOptions) (stays closes : List Container) (outer : List OpenContainer) (p : Path)
     (lines : List ParagraphLine) →
     AreShapes stays closes p →
@@ -100,7 +100,7 @@ abbrev pub new_none : List Container → Blocks → Path
 new_none [] bs = At (spot_of bs)
 new_none (c ∷ cs) bs = Within bs c (new_none cs End)
 
--- what is open behind the containers of a line, where it does not go on a text
+-- what is open after the containers of a line, where it does not continue a text
 abbrev pub open_path : ParseOptions → Path → Contained → Path
 open_path options p c = behind_path (kept_to options c.change.stays p) (new_none c.change.opens)
 
@@ -125,7 +125,7 @@ pub reading-none : (options : ParseOptions) (outer : List OpenContainer) (opens 
 reading-none options outer [] bs = refl
 reading-none options outer (c ∷ opens) bs = reading-none options (around_of c bs ∷ outer) opens End
 
--- behind the ends and the begins of containers
+-- after the ends and the begins of containers
 pub reading-open : (options : ParseOptions) (p : Path) (c : Contained) → AreShapes c.change.stays c.change.closes p →
     reading options (open_path options p c) ≡
     enters c.change.opens (close_containers (length c.change.closes) (reading options p))
@@ -166,7 +166,7 @@ pub new-with : (options : ParseOptions) (on : HeldLeaf) (opens : List Container)
 new-with options on [] r bs = refl
 new-with options on (c ∷ opens) r bs = ap (Within bs c) (new-with options on opens r End)
 
--- what a line begins stands behind its containers
+-- what a line begins is after its containers
 pub new-path : (options : ParseOptions) (p : Path) (c : Contained) (kind : RowKind) →
     line_kind options c.on c.rest ≡ kind →
     new_path options p c ≡ with_spot (open_path options p c) (λ bs. spot_by options bs [] c.rest kind)

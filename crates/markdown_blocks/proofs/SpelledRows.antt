@@ -175,7 +175,7 @@ lines-read options bytes p (suc n) lines rows built are =
     go lines rows (first-line options bytes [] held_leaf.None p lines rows are)
     (rows-mean options bytes (At (spot_of End)) p n lines rows built tt are)
   where
-    -- no container ends in front of the first line
+    -- no container ends before the first line
     none : (stays closes : List Container) → map shape_of (stays ++ closes) ≡ [] → closes ≡ []
     none [] [] e = refl
     none [] (c ∷ closes) e = cc

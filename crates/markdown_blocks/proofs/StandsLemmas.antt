@@ -1,5 +1,5 @@
--- Whenever flow has fed a line of a text, the flags that it holds and what was read stand for what the lines so far
--- come to.
+-- Whenever flow has fed a line of a text, the flags that it holds and what was read represent what the lines so far
+-- become.
 use Rattle.md_engine.specs.declared.tokenizer.held_leaf.HeldLeaf.{HeldLeaf}
 use Rattle.md_engine.specs.declared.tokenizer.held_leaf.HeldLeaf.TheVariants as held_leaf
 use Rattle.std.proofs.Common.{◌≡◌, ℕ, zero, suc, ◌^◌, ◌<◌, ◌≤◌, true, List, [], ◌∷◌, length, take, drop}
@@ -91,7 +91,7 @@ rests-size : (p : Point) (lines : List (List ℕ)) → length (rests_from p line
 rests-size p [] = refl
 rests-size p (line ∷ lines) = ap (λ (n : ℕ). suc n) (length-map lines (rest_at 0))
 
--- What was read of so many lines of a text, but for the containers that end behind them, stands for what they come to:
+-- What was read of so many lines of a text, but for the containers that end after them, represents what they become:
 -- where the flags hold the containers of this path, and whether text is open.
 pub flags-stand : (options : ParseOptions) (bytes : List ℕ) (p : Point) (n : ℕ) (lines : List (List ℕ))
     (rows : List Row) (g : Flags) →

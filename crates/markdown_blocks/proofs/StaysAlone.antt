@@ -121,7 +121,7 @@ alone-same options bytes es all =
     joined true = spanned-none es (all-pass stays_by_name (passes Outside) on es all)
     joined false = refl
 
--- a look for the first that may not pass goes on behind those that are known to
+-- a look for the first that may not pass continues after those that are known to
 pub alone-from : (es : List Event) (n : ℕ) → n ≤ prefix_len passes_alone es →
     n + prefix_len passes_alone (drop n es) ≡ prefix_len passes_alone es
 alone-from es zero le = omega arith

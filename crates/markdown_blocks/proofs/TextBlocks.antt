@@ -1,5 +1,5 @@
--- What stands in a text before its text parts are read, where the constructs of MDX are off: its block list, which
--- tiles it and spells its tree, and its labels. No inline layer changes that.
+-- What is in a text before its text parts are read, where the constructs of MDX are off: its block list, which tiles it
+-- and spells its tree, and its labels. No inline layer changes that.
 use Rattle.md_engine.specs.declared.tokenizer.held_leaf.HeldLeaf.TheVariants as held_leaf
 use Rattle.std.proofs.Common.{◌≡◌, ◌^◌, ◌<◌, ℕ, Bool, true, List, [], ◌++◌, length, refl, ap}
 use Rattle.std.proofs.Common.{sym, ◌∙◌, subst, cond, false}
@@ -161,14 +161,14 @@ listed-are options bytes built small found new flow = go options.constructs.gfm_
     go true e = footnotes-are options bytes built small found new flow
     go false e = sym (off-in options (tree options bytes) e (tree-on options bytes))
 
--- What stands in a text before lists are put around its items: its blocks, and what the plain layer reads of them.
+-- What is in a text before lists are put around its items: its blocks, and what the plain layer reads of them.
 abbrev pub blocks_of : ParseOptions → List ℕ → List Event
 blocks_of options bytes = front_events options bytes ++ tabled_groups options bytes (groups (rows_of options bytes))
 
 abbrev pub read_of : ParseOptions → List ℕ → List Event
 read_of options bytes = front_events options bytes ++ groups_events options bytes (groups (rows_of options bytes))
 
--- the lists may be put around items before texts are read or behind
+-- the lists may be put around items before texts are read or after
 read-listed : (options : ParseOptions) (bytes : List ℕ) → IsWithoutMdx options → length bytes < 2 ^ 61 →
     listed bytes (read_of options bytes) ≡ plain_read bytes (listed bytes (blocks_of options bytes))
 read-listed options bytes built small =
@@ -183,7 +183,7 @@ read-listed options bytes built small =
     (blocks-chunks options bytes [] held_leaf.None p (front_events options bytes) lines rows part.stretch.parts
     (refl, refl) are (text-quiet options bytes p)))
 
--- The blocks of a text, in front of the resolver of lists.
+-- The blocks of a text, before the resolver of lists.
 blocks-unlisted : (options : ParseOptions) (bytes : List ℕ) → IsWithoutMdx options → length bytes < 2 ^ 61 →
     IsTrue (are_placed bytes (blocks_of options bytes)) → IsUnlisted bytes (blocks_of options bytes)
 blocks-unlisted options bytes built small placed =
@@ -228,7 +228,7 @@ pub read-is : (options : ParseOptions) (bytes : List ℕ) → IsWithoutMdx optio
 read-is options bytes built small =
     read-listed options bytes built small ∙ ap (plain_read bytes) (blocks-exact options bytes built small)
 
--- The front of a text stands in front of what flow gives, which is all of the exact list.
+-- The front of a text is before what flow gives, which is all of the exact list.
 pub front-listed : (options : ParseOptions) (bytes : List ℕ) → IsWithoutMdx options → length bytes < 2 ^ 61 →
     front_events options bytes ++ listed bytes (tabled_groups options bytes (groups (rows_of options bytes))) ≡
     exact options bytes

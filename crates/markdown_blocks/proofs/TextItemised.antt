@@ -1,5 +1,5 @@
--- The list law for a text that was read: with `+ ` before its first line and two spaces before each other its tree
--- stands in one item of one list, and its labels are the same.
+-- The list law for a text that was read: with `+ ` before its first line and two spaces before each other its tree is
+-- in one item of one list, and its labels are the same.
 use Rattle.std.proofs.Common.{◌≡◌, ℕ, List, sym, subst}
 use Rattle.md_engine.specs.declared.configuration.ParseOptions.{ParseOptions}
 use Rattle.md_engine.specs.declared.event.Event.{Event}

@@ -1,5 +1,5 @@
--- The quote law for a text that was read: with `> ` before each line its tree stands in one block quote, and its labels
--- are the same.
+-- The quote law for a text that was read: with `> ` before each line its tree is in one block quote, and its labels are
+-- the same.
 use Rattle.std.proofs.Common.{◌≡◌, ℕ, List, sym, subst}
 use Rattle.md_engine.specs.declared.configuration.ParseOptions.{ParseOptions}
 use Rattle.md_engine.specs.declared.event.Event.{Event}

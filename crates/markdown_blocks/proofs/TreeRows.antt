@@ -236,7 +236,7 @@ shallow-steps options p (r ∷ rs) built plain h =
     shallow-steps options (step options p r) rs built (plain-step options p r built plain)
     (shallow-step options p r built plain h)
 
--- what the lines of a text come to
+-- what the lines of a text become
 abbrev come : ParseOptions → List Rest → Blocks
 come options rs = closed options (steps options (At (spot_of End)) rs)
 
@@ -247,7 +247,7 @@ shallow-come options rs built =
 
 -- An empty line at the end adds nothing.
 
--- some of the outermost containers go on over it, and the others end
+-- some of the outermost containers continue over it, and the others end
 on-empty : (options : ParseOptions) (cs : List Container) (column : ℕ) → AreRead cs →
     (n : ℕ)
     × (prefixes_on options cs (rest_at column []) ≡ record { containers = take n cs; rest = rest_at column [] })
@@ -272,7 +272,7 @@ on-empty options (c ∷ cs) column read =
     go true e more = (suc more.0, ap by e ∙ ap (one_more c) more.1)
     go false e more = (0, ap by e)
 
--- behind such a line all is as it was, once it is closed
+-- after such a line all is as it was, once it is closed
 closed-empty : (options : ParseOptions) (n : ℕ) (p : Path) (column : ℕ) →
     closed options
     (behind_path (kept_to options (take n (containers_of p)) p)
@@ -283,7 +283,7 @@ closed-empty options (suc n) (At s) column = refl
 closed-empty options (suc n) (Within before c p) column =
     ap (λ (bs : Blocks). then_block before (container_block c bs)) (closed-empty options n p column)
 
--- what an empty line does, where so many containers go on
+-- what an empty line does, where so many containers continue
 abbrev empty_contained : ParseOptions → Path → ℕ → ℕ → Contained
 empty_contained options p n column =
     let went : Prefixed = record { containers = take n (containers_of p); rest = rest_at column [] } in
@@ -309,7 +309,7 @@ empty-line options p column read =
     none interrupting true = refl
     none interrupting false = refl
 
--- where it goes on no leaf of several lines, it is blank
+-- where it continues no leaf of several lines, it is blank
 empty-blank : (options : ParseOptions) (p : Path) (column : ℕ) → IsPlain p →
     let on = (contained_at options p (rest_at column [])).on in
     is_further (line_kind options on (rest_at column [])) on ≡ false →
@@ -372,7 +372,7 @@ step-empty options p column built plain read = go (goes_further options c) refl
     kind : RowKind
     kind = line_kind options on r
 
-    -- a line that goes on a leaf leaves all as it was
+    -- a line that continues a leaf leaves all as it was
     stays : Bool → Path
     stays lazy = renewed (change_by lazy went others []).stays p
 
@@ -427,7 +427,7 @@ step-empty options p column built plain read = go (goes_further options c) refl
         last true = refl
         last false = refl
 
--- The lines of a text, with the empty one behind its last ending.
+-- The lines of a text, with the empty one after its last ending.
 
 abbrev come_over : ParseOptions → List Rest → Blocks
 come_over options rs = closed options (steps_over options (At (spot_of End)) (told rs))
@@ -500,7 +500,7 @@ without_ending-end b line e =
     take_while-cons (λ (c : ℕ). not (is_ending c)) b line
     ∙ ap (λ (t : Bool). cond (not t) (b ∷ without_ending line) []) e
 
--- a CR goes with the LF behind it
+-- a CR goes with the LF after it
 return-feed : (b : ℕ) (bytes : List ℕ) → is_ending b ≡ true → begins_with 10 bytes ≡ true →
     map without_ending (onto_first b (full_lines_of bytes)) ≡ lines_of bytes
 return-feed b [] e h = absurd (cc)
@@ -550,7 +550,7 @@ come-split options column split lines built (inr e) =
 
 -- The tree of a text.
 
--- what the lines of a body that begins at this point come to; its tree has lists around their items
+-- what the lines of a body that begins at this point become; its tree has lists around their items
 abbrev pub body_of : ParseOptions → List ℕ → Point → Blocks
 body_of options bytes p = come options (rests_at (p.column - 1) (lines_of (drop p.index bytes)))
 
@@ -573,7 +573,7 @@ rests-at : (p : Point) (lines : List (List ℕ)) → rests_from p lines ≡ rest
 rests-at p [] = refl
 rests-at p (line ∷ lines) = refl
 
--- The events of the lines of a text are read as what the lines come to.
+-- The events of the lines of a text are read as what the lines become.
 pub body-rows : (options : ParseOptions) → IsWithoutMdx options → (bytes : List ℕ) (p : Point) (rows : List Row) →
     f.AreRows options bytes [] held_leaf.None p (split_lines (drop p.index bytes)) rows →
     spelled (groups_events options bytes (groups rows)) bytes ≡ body_of options bytes p

@@ -1,5 +1,5 @@
--- What stands between two lines while flow reads a text: whenever a line has been fed, what the tokenizer holds stands
--- for what is open by the line definition.
+-- What is between two lines while flow reads a text: whenever a line has been fed, what the tokenizer holds represents
+-- what is open by the line definition.
 use Rattle.std.specs.Prelude.{◌≡◌, ℕ, suc, ◌+◌, ◌<◌, ◌≤◌, Bool, true, List, [], ◌∷◌, length, map, take, drop}
 use Rattle.md_engine.specs.declared.configuration.ParseOptions.{ParseOptions}
 use Rattle.md_engine.specs.declared.event.Point.{Point}
@@ -39,24 +39,24 @@ abbrev pub rests_from : Point → List (List ℕ) → List Rest
 rests_from p [] = []
 rests_from p (line ∷ lines) = rest_from p line ∷ map (rest_at 0) lines
 
--- what is open behind so many lines of a text, from a point on
+-- what is open after so many lines of a text, from a point on
 abbrev pub path_behind : ParseOptions → List ℕ → Point → ℕ → Path
 path_behind options bytes p n =
     steps options (At (spot_of End)) (take n (rests_from p (split_lines (drop p.index bytes))))
 
--- the containers that end behind the last of these lines
+-- the containers that end after the last of these lines
 abbrev pub last_leaves : List Row → List Container
 last_leaves [] = []
 last_leaves (row ∷ []) = row.closed_after
 last_leaves (row ∷ next ∷ rows) = last_leaves (next ∷ rows)
 
--- the lines while it is not known what ends behind the last
+-- the lines while it is not known what ends after the last
 abbrev pub not_left : List Row → List Row
 not_left [] = []
 not_left (row ∷ []) = record row { closed_after = [] } ∷ []
 not_left (row ∷ next ∷ rows) = row ∷ not_left (next ∷ rows)
 
--- where the line behind these begins, of which the first began at this point
+-- where the line after these begins, of which the first began at this point
 abbrev pub place_behind : Point → List Row → Point
 place_behind p [] = p
 place_behind p (row ∷ rows) = place_behind (behind_row row) rows
@@ -65,7 +65,7 @@ place_behind p (row ∷ rows) = place_behind (behind_row row) rows
 pub record StandsBehind (bytes : List ℕ) (options : ParseOptions) (p : Point) (n : ℕ) (w : World) : Type 0 where
   -- no attempt is around
   pub frames : w.frames ≡ []
-  -- the tokenizer is behind the last ending, where there is a further line, perhaps an empty one
+  -- the tokenizer is after the last ending, where there is a further line, perhaps an empty one
   pub further : n < length (text_rows options bytes p)
   pub point : w.point ≡ place_behind p (take n (text_rows options bytes p))
   -- the events of these lines were added, but for the ends of the containers that the next line closes
@@ -74,7 +74,7 @@ pub record StandsBehind (bytes : List ℕ) (options : ParseOptions) (p : Point) 
   pub reading : Reading
   pub reads : read bytes unread (groups_events options bytes (groups (take n (text_rows options bytes p)))) ≡
       close_containers (length (last_leaves (take n (text_rows options bytes p)))) reading
-  -- and with the flags it stands for what these lines come to
+  -- and with the flags it represents what these lines become
   pub stands : StandsFor options w.flags reading (path_behind options bytes p n)
 
 -- where flow begins to read all of a text, from a point on
@@ -85,13 +85,13 @@ flow_begins bytes options p = reads_to (fresh bytes options p) (length bytes)
 abbrev pub line_begins : State
 line_begins = Next (s.Document document.ContainerExistingBefore)
 
--- Flow has read a text, from a point on, and has come to this.
+-- Flow has read a text, from a point on, and has become this.
 pub record FlowRan (bytes : List ℕ) (options : ParseOptions) (p : Point) (end : State) (at : World) : Type 0 where
   pub run : Runs FlowStep true line_begins (flow_begins bytes options p) end at
   -- all lines were fed but the last, which ends where the text does,
   pub lines : suc (fed FlowStep true line_begins (flow_begins bytes options p) end at run) ≡
       length (text_rows options bytes p)
-  -- and whenever one had been fed, what the tokenizer held stood for what is open behind the lines so far
+  -- and whenever one had been fed, what the tokenizer held represented what is open after the lines so far
   pub stands : IsWithoutMdx options → p.index ≤ length bytes → p.vs ≡ 0 → 1 ≤ p.column →
       (t : State) (v : World) (t' : State) (v' : World)
       (before : Runs FlowStep true line_begins (flow_begins bytes options p) t v)

@@ -1,4 +1,4 @@
--- What flow has read of a text: its lines, then its content, and behind that what the resolvers set, in their order.
+-- What flow has read of a text: its lines, then its content, and after that what the resolvers set, in their order.
 -- Each step is total: where nothing is its own, it changes nothing.
 use Rattle.std.specs.Prelude.{◌≡◌, ◌⊎◌, ℕ, Bool, false, ◌||◌, List, [], ◌∷◌}
 use Rattle.md_engine.specs.declared.configuration.ParseOptions.{ParseOptions}
@@ -30,7 +30,7 @@ has_text (row ∷ rows) = is_text row.kind || has_text rows
 
 -- flow has read a text from a point to its end, and then its content was read and its blocks were set
 pub record FlowReads (bytes : List ℕ) (options : ParseOptions) (p : Point) (found : Found) (new : World) : Type 0 where
-  -- its states have come to this, with the events of the lines
+  -- its states have become this, with the events of the lines
   pub end : State
   pub ended : World
   pub ran : FlowRan bytes options p end ended

@@ -26,8 +26,8 @@ pub use Rattle.md_row_steps.specs.WithoutMdx.{IsWithoutMdx}
 use Rattle.md_exact.specs.Blocks.{exact}
 use Rattle.md_frame.specs.ReadsPlain.{reads_plain}
 
--- What is known of a text that was read with an inline layer, whatever it is: its events nest, stand at its points,
--- spell its tree and tile it, and the labels are those of that tree.
+-- What is known of a text that was read with an inline layer, whatever it is: its events nest, are at its points, spell
+-- its tree and tile it, and the labels are those of that tree.
 pub record IsRead (reads : Document → Part → List Event → Type 0) (text : List ℕ) (options : ParseOptions)
     (events : List Event) (state : ParseState) : Type 0 where
   pub bytes : state.bytes.now ≡ text
@@ -38,26 +38,26 @@ pub record IsRead (reads : Document → Part → List Event → Type 0) (text : 
   pub placed : IsTrue (are_placed text events)
   -- with `> ` before each line, the text means one block quote with this tree in it, unchanged, and has the same labels
   pub in_quote : NestsInQuote options text (quoted text) (spelled events text)
-  -- with `+ ` before its first line and two spaces before each other, it means one list, whose one item has this tree in
-  -- it, unchanged, and has the same labels
+  -- with `+ ` before its first line and two spaces before each other, it means one list, whose one item has this tree
+  -- in it, unchanged, and has the same labels
   pub in_item : NestsInItem options text (itemised text) (spelled events text)
   -- with `[^x]: ` before its first line and four spaces before each other, it means one footnote definition with this
-  -- tree in it, unchanged, and has the same labels, behind `x`
+  -- tree in it, unchanged, and has the same labels, after `x`
   pub in_footnote : NestsInFootnote options text (footnoted text) (spelled events text)
   pub tree : spelled events text ≡ tree options text
   -- no construct occurs in it that is off
   pub on : are_on options (spelled events text) ≡ true
-  -- one for one, the events are those of the lines of the text, with what the layer reads in the places of the chunks of
-  -- each text part
+  -- one for one, the events are those of the lines of the text, with what the layer reads in the places of the chunks
+  -- of each text part
   pub events_are : Substituted wants_text
       (λ content chunks answer. reads (document_of state) (record { kind = text_kind content; chunks = chunks }) answer)
       [] 0 (exact options text) events
-  -- every byte is accounted for: what stands in the place of each chunk covers it,
+  -- every byte is accounted for: what is in the place of each chunk covers it,
   pub tiles : Tiles (reads (document_of state)) text events
   pub blocks_are : tiles.blocks ≡ exact options text
   -- and the innermost pairs of all events lie side by side
   pub covers : Covers first_point (pieces events) (end_point text)
-  -- so every byte stands in a piece that says what it is, and no block holds bytes of its own
+  -- so every byte is in a piece that says what it is, and no block holds bytes of its own
   pub held : (index : ℕ) → index < length text → Holds text (pieces tiles.blocks) index
   -- the labels of its definitions, in their normal forms and in the order of the text, repeats kept, and those of its
   -- footnote definitions
@@ -72,9 +72,9 @@ pub record IsParsed (text : List ℕ) (options : ParseOptions) (events : List Ev
   -- one for one, the events are those of the lines of the text, with what the plain layer reads in the place of each
   -- chunk
   pub events_are : events ≡ plain_read text (exact options text)
-  -- each part stands where the grammar has it, with what it must hold
+  -- each part is where the grammar has it, with what it must hold
   pub grammar : keeps_grammar plain_text events ≡ true
   -- each piece is over what its name says, and no block is a piece
   pub pieces_are : pieces_stand text (pieces events) ≡ true
-  -- endings of blank lines are told from others
+  -- endings of blank lines are distinguished from others
   pub endings : endings_stand events ≡ true

@@ -45,7 +45,8 @@ use md_seam::subtokenize::{Reader, subtokenize};
 use md_seam::walks::{Test, passing};
 use std::alloc::Global;
 
-/// The most bytes that a text may have: an eighth of what an index can be, so that nothing that is counted of a text wraps.
+/// The most bytes that a text may have: an eighth of what an index can be, so that nothing that is counted of a text
+/// wraps.
 pub const MAX_LEN: usize = usize::MAX / 8;
 
 /// Where a text begins.
@@ -165,8 +166,8 @@ fn flow_tokenizer<'a>(
     Ok(tokenizer)
 }
 
-/// Joins the lines of each leaf of several, where one may be on. It is known of the first `many` events that they pass as
-/// they are. Returns whether there may be an underline of a heading among the events.
+/// Joins the lines of each leaf of several, where one may be on. It is known of the first `many` events that they pass
+/// as they are. Returns whether there may be an underline of a heading among the events.
 ///
 /// An `Err` says that memory ran out.
 fn join_lines(
@@ -218,8 +219,8 @@ impl Test for PassesAlone {
     }
 }
 
-/// How many events are in front of the first that is of a line of text or may not pass as it is where lines are joined.
-/// It is known of the first `known` that they are.
+/// How many events are before the first that is of a line of text or may not pass as it is where lines are joined. It
+/// is known of the first `known` that they are.
 fn until_read(events: &[Event], known: usize) -> usize
     requires known { known ≤ prefix_len passes_alone events.now }
     requires within { known ≤ length events.now }
@@ -258,7 +259,7 @@ impl Test for StaysByName {
     }
 }
 
-/// How many events are in front of the first whose name does not show that it stays as it is.
+/// How many events are before the first whose name does not show that it stays as it is.
 fn until_changed(events: &[Event]) -> usize
     ensures value { result ≡ prefix_len stays_by_name events.now }
     ensures within { result ≤ length events.now }
@@ -281,8 +282,8 @@ fn few_hold_content(events: &[Event]) -> bool
     matches!(left, [event] if is_content(event))
 }
 
-/// Whether a line of text is among events. Where there is none this goes over all events of a text. The begin and the end
-/// of a line of text stand side by side, so it asks every other event, and eight of these before the next round.
+/// Whether a line of text is among events. Where there is none this goes over all events of a text. The begin and the
+/// end of a line of text lie side by side, so it asks every other event, and eight of these before the next round.
 fn holds_content(events: &[Event]) -> bool
     requires { AreSideBySide events.now }
     ensures { result ≡ holds_content events.now }
@@ -305,7 +306,7 @@ fn holds_content(events: &[Event]) -> bool
     few_hold_content(left)
 }
 
-/// Whether a line of text is among events, where it is known how many are in front of the first that is of one or may not
+/// Whether a line of text is among events, where it is known how many are before the first that is of one or may not
 /// pass as it is where lines are joined.
 fn is_unread(events: &[Event], many: usize) -> bool
     requires many { many ≡ prefix_len passes_alone events.now }
@@ -381,8 +382,9 @@ fn resolve_blocks(
     Ok(())
 }
 
-/// Reads the lines of a text from a point on by flow, and then its content; joins the lines of each leaf of several, and
-/// runs the resolvers of items, headings and tables. One test of each event may show that none of this changes anything.
+/// Reads the lines of a text from a point on by flow, and then its content; joins the lines of each leaf of several,
+/// and runs the resolvers of items, headings and tables. One test of each event may show that none of this changes
+/// anything.
 ///
 /// An `Err` says that memory ran out.
 fn read_flow<'a>(
@@ -431,7 +433,7 @@ fn footnotes_of(
     Ok(Vec::new(alloc))
 }
 
-/// The events of a text: those of its front, and behind them all others.
+/// The events of a text: those of its front, and after them all others.
 fn behind_front(mut front: Vec<Event>, mut body: Vec<Event>) -> Result<Vec<Event>, Message>
     ensures { IfOk result (λ events. events.items ≡ front.items ++ body.items) }
 {
@@ -447,8 +449,8 @@ fn behind_front(mut front: Vec<Event>, mut body: Vec<Event>) -> Result<Vec<Event
 /// Reads a text, its text parts by an inline layer: its events, and what else is known of it.
 ///
 /// The labels of the whole text are known before the layer reads a part. The text has at most `MAX_LEN` bytes, and the
-/// constructs of MDX are off. A byte order mark in front of the text is taken as such. An `Err` says that
-/// memory ran out; then nothing is handed out.
+/// constructs of MDX are off. A byte order mark before the text is taken as such. An `Err` says that memory ran out;
+/// then nothing is handed out.
 pub fn parse_with<'a, I: Inline>(
     alloc: Global,
     inline: &I,

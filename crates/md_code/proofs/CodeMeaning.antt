@@ -107,7 +107,7 @@ and-second : (a b c : Bool) → (b ≡ false → c ≡ false) → (a && b) ≡ f
 and-second false b c f e = refl
 and-second true b c f e = f e
 
--- where no whitespace stands, or none may, a line of code is refused
+-- where no whitespace is, or none may, a line of code is refused
 line-none : (may : Bool) (begin : Event) (cells : List Cell) (h : Here) → may && begins_white cells ≡ false →
     line_at may begin cells h ≡ Refuses h.scratch h.flags
 unfolding line_at
@@ -127,7 +127,7 @@ line-some may begin cells h e = rw e refl
 chunk-bare : (cells : List Cell) (h : Here) → h.scratch.seen ≡ false → chunk_at cells h ≡ at_break cells h
 chunk-bare cells h e = rw e refl
 
--- at a state in front of a line of code, which begins with this event
+-- at a state before a line of code, which begins with this event
 begun_means : (B : Behaviour) (options : ParseOptions) (feed : Feed) (state : CodeState) (begin : Event) (w : World)
     (may x : Bool) →
     HasCode B options → Sees feed w → IsRest w.scratch →

@@ -1,4 +1,4 @@
--- Indented code stands and ends in any table that has it.
+-- Indented code is and ends in any table that has it.
 use Rattle.std.proofs.Common.{◌≡◌, Bool, true, false, [], ◌∷◌, ◌++◌, length, refl, arith, ap, sym, ◌∙◌}
 use Rattle.md_engine.specs.declared.event.Event.{Event}
 use Rattle.md_engine.specs.declared.event.Name.TheVariants.{CodeFlowChunk, CodeIndented}
@@ -25,7 +25,7 @@ pub record CodeFits (T : Scheme) : Type 1 where
   pub white : WhiteFits T
   pub each : (state : CodeState) → Fits T code_scheme (n.CodeIndented state)
 
--- at a state in front of a line of code, which begins with this event
+-- at a state before a line of code, which begins with this event
 code_begun_ends : (T : Scheme) (state : CodeState) (begin : Event) (w : World) (x : Bool) →
     code_level (n.CodeIndented state) ≡ 1 → (code_rank (n.CodeIndented state) (position w)).number ≡ 6 → CodeFits T →
     rest_ready (position w) (after_all T w.frames) → Does T (n.CodeIndented state) w (begun_code w begin x)

@@ -60,7 +60,7 @@ text-goes cells e = go (is_end (line_bytes cells)) refl
     go false k = refl
     go true k = let bad : true ≡ false = sym (end-blank cells k) ∙ e in cc
 
--- a line that is taken behind its columns is taken with them,
+-- a line that is taken after its columns is taken with them,
 columns-taken : (blank : Bool) (added : List Event) (cells : List Cell) (h : Here) (leaf : HeldLeaf) →
     calmed h.scratch ≡ h.scratch →
     line_by blank added (white_rest 4 cells) (behind_columns 4 cells h) (Some leaf) ≡
@@ -68,7 +68,7 @@ columns-taken : (blank : Bool) (added : List Event) (cells : List Cell) (h : Her
 columns-taken blank added cells h leaf calm =
     rw (white-ending 4 cells, white-line_end 4 cells h.point, calm) (simp append_assoc)
 
--- and one that is taken behind its begin with that
+-- and one that is taken after its begin with that
 begin-taken : (e : Event) (added : List Event) (cells : List Cell) (h : Here) (leaf : HeldLeaf) →
     line_by false added cells (then_here e h) (Some leaf) ≡ line_by false (e ∷ added) cells h (Some leaf)
 begin-taken e added cells h leaf = simp append_assoc
@@ -89,7 +89,7 @@ blank-break : (cells : List Cell) (h : Here) → is_blank (line_bytes cells) ≡
 unfolding in_blank
 blank-break cells h e = rw e refl
 
--- what is kept of a line of code, where one may stand: an indent, and text behind it
+-- what is kept of a line of code, where one may be: an indent, and text after it
 abbrev line_keeps : Bool → List Cell → Option HeldLeaf
 line_keeps may cells = cond (may && is_indented cells && not (is_blank (line_bytes cells))) (Some held_leaf.Code) None
 
@@ -135,9 +135,9 @@ pub code-line : (options : ParseOptions) (cells : List Cell) (h : Here) → calm
 code-line options cells h calm =
     line-taken (options.constructs.code_indented && may_open h.flags.leaf) (enter CodeIndented h.point) cells h calm
 
--- A line that may go on open code.
+-- A line that may continue open code.
 
--- what a blank one adds, where whitespace stands here
+-- what a blank one adds, where whitespace is here
 blank-white : (cells : List Cell) (p : Point) (x : Bool) → begins_white cells ≡ true →
     is_end (line_bytes (white_rest 4 cells)) ≡ x →
     blank_adds cells p ≡

@@ -136,7 +136,7 @@ run-walk t dark ten line (b ∷ bs) q stop k = go (t b) refl (run-walk t dark te
 
 -- Blank.
 
--- behind its whitespace a line ends just where it is blank
+-- after its whitespace a line ends just where it is blank
 pub end-blank : (room : ℕ) (cells : List Cell) → length cells ≤ room →
     is_end (white_rest room cells) ≡ is_blank (line_bytes cells)
 end-blank room [] le = refl

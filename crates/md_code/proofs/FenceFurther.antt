@@ -1,5 +1,5 @@
--- A further line of fenced code or math closes the block, or goes on it, where the definition of lines says, and leaves
--- what that says.
+-- A further line of fenced code or math closes the block, or continues it, where the definition of lines says, and
+-- leaves what that says.
 use Rattle.std.proofs.Common.{◌≡◌, ℕ, zero, suc, ◌^◌, ◌<◌, ◌≤◌, Bool, true, false, cond, ◌&&◌, nat_lt}
 use Rattle.std.proofs.Common.{List, [], ◌∷◌, ◌++◌, length, drop, refl, sym, ◌∙◌, ap, append_assoc, arith}
 use Rattle.std.specs.Prelude.{not, nat_le, ◌==◌}
@@ -86,7 +86,7 @@ further-end options leaf cells p is = go (closes_here options leaf cells) refl
 
 -- The indent.
 
--- the cells behind a small indent are those of the bytes behind it
+-- the cells after a small indent are those of the bytes after it
 pub record Behind (options : ParseOptions) (line : Line) (text behind : List ℕ) (r : Rest) (p : Point)
     (stop : List Cell) : Type 0 where
   pub cells : white_rest (small_indent options) (rest_cells line r p ++ stop) ≡
@@ -205,8 +205,8 @@ chunk-agrees m line text behind r p stop is h k =
     ∙ ap (λ (x : Bool). cond x [] (pair (chunk_name m) p (past_rest r p))) (nothing-end line r p stop h k)
 
 -- A further line: by its cells the block ends where the definition has a closing fence. All of the line is taken, and
--- it adds one linked pair. In the pair of any other line stands what is left of it there, and so much whitespace in
--- front as it loses.
+-- it adds one linked pair. In the pair of any other line is what is left of it there, and so much whitespace in front
+-- as it loses.
 pub record FurtherAgrees (options : ParseOptions) (o : Opening) (line : Line) (text behind : List ℕ) (r : Rest)
     (p : Point) (stop : List Cell) : Type 0 where
   pub goes : fence_goes options (held_leaf.Fence o.marker o.size o.indent) (rest_cells line r p ++ stop) ≡

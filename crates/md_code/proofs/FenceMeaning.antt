@@ -56,7 +56,7 @@ abbrev pub first_is : (ℕ → Bool) → Option ℕ → Bool
 first_is t None = false
 first_is t (Some b) = t b
 
--- where it does not, no run stands here
+-- where it does not, no run is here
 pub record NoRun (t : ℕ → Bool) (cells : List Cell) (p : Point) : Type 0 where
   pub size : run_size t cells ≡ 0
   pub end : run_end t cells p ≡ p
@@ -89,7 +89,7 @@ word-first (Some b) e = go (nat_eq b 10) (is_white b) e
     go false true e = refl
     go false false e = cc
 
--- a byte of a word, and one of a line, that may stand there
+-- a byte of a word, and one of a line, that may be there
 sees-word : (feed : Feed) (w : World) (m : ℕ) (bad : Bool) → Sees feed w → ends_word w.current ≡ false →
     sees_refused m w.current ≡ bad →
     (b : ℕ) × (feed w.point ≡ cell_here feed w b ∷ feed (after w.setting w.point)) × (is_word b ≡ true) ×
@@ -122,7 +122,7 @@ sees-line feed w m bad s e f = go w.current e f s.next
 two-more : (es : List Event) (a b : Event) → (es ++ a ∷ []) ++ b ∷ [] ≡ es ++ a ∷ b ∷ []
 two-more es a b = append_assoc es (a ∷ []) (b ∷ [])
 
--- Behind whitespace.
+-- After whitespace.
 
 white-steps : (B : Behaviour) (feed : Feed) (from next : StateName) (w : World) (events added : List Event)
     (s : Scratch) (room : ℕ) (behind : List Cell → Here → Outcome) → Sees feed w →
@@ -141,7 +141,7 @@ white-steps B feed from next w events added s room behind saw has e some f next_
     (from_is ∙ rw white (sym (next_is _ _))
     ∙ white-tried B feed frame events (feed w.point) h 0 room has.white white some (omega arith) refl)
 
--- and where none stands
+-- and where none is
 none-steps : (B : Behaviour) (feed : Feed) (from next : StateName) (w : World) (events added : List Event)
     (s : Scratch) (room : ℕ) (behind : List Cell → Here → Outcome) → Sees feed w →
     events ≡ w.events ++ added → sees_white w.current ≡ false →
@@ -480,7 +480,7 @@ further-is : (options : ParseOptions) (cells : List Cell) (h : Here) →
 unfolding further_at
 further-is options cells h = refl
 
--- an attempt at a closing fence comes to that, or to a line of the block
+-- an attempt at a closing fence becomes that, or a line of the block
 closed-resumes : (B : Behaviour) (feed : Feed) (w : World) (f : Frame) (o : Outcome) → HasFence B w.setting.options →
     f ≡
     (record {

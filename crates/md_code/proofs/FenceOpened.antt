@@ -33,7 +33,7 @@ use Rattle.md_seam.proofs.AheadLemmas.{small-some, white-all}
 use Rattle.md_seam.proofs.RestCells.{white-length}
 use Rattle.md_seam.proofs.SpacesTermination.{rest-calm, rest-size}
 
--- What a line has that may not stand there.
+-- What a line has that may not be there.
 
 -- a run, and what follows it
 pub has-run : (bad t : ℕ → Bool) → ((b : ℕ) → t b ≡ true → is_line b ≡ true) → (cells : List Cell) →
@@ -61,7 +61,7 @@ white-line b e = grind (arith, nat_tests)
 pub word-line : (b : ℕ) → is_word b ≡ true → is_line b ≡ true
 word-line b e = (and_parts (not (is_white b)) (not (b == 10)) e).1
 
--- and whitespace, which may stand there
+-- and whitespace, which may be there
 pub has-white : (bad : ℕ → Bool) → ((b : ℕ) → is_white b ≡ true → bad b ≡ false) → (room : ℕ) (cells : List Cell) →
     run_has bad is_line (white_rest room cells) ≡ run_has bad is_line cells
 has-white bad fine room [] = refl
@@ -80,9 +80,9 @@ refused-dark m b is e = go (b == m) refl
     go true f = let bad : true ≡ false = sym e ∙ marker-dark m b is f in cc
     go false f = refl
 
--- Behind the sequence.
+-- After the sequence.
 
--- the block is open behind the line, with these events
+-- the block is open after the line, with these events
 abbrev opened_with : List Event → List Cell → Here → Outcome
 opened_with es cells k =
     Accepts
@@ -315,7 +315,7 @@ sequence-whole cells k none is calm short =
     either false true = refl
     either false false = refl
 
--- Behind the indent.
+-- After the indent.
 
 -- a marker of a block that is on is a marker
 pub marker-may : (options : ParseOptions) (m : ℕ) → is_fence_marker options m ≡ true → may_begin m ≡ true
@@ -341,7 +341,7 @@ in_block m k = record (block_begun m k) {
   scratch = record k.scratch { marker = m; size_c = k.point.column - k.scratch.size_c };
 }
 
--- what is left there, by the marker that stands there
+-- what is left there, by the marker that is there
 abbrev before_by : Option ℕ → List Cell → Here → Outcome
 before_by None cells k = refuses k
 before_by (Some m) cells k =

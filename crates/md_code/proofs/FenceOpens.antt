@@ -42,7 +42,7 @@ HeldAs (Some leaf) (Some (Opened (OpenFence o lines))) =
     (leaf ≡ held_leaf.Fence o.marker o.size o.indent) × (lines ≡ []) × (may_begin o.marker ≡ true) × (1 ≤ o.size)
 HeldAs _ _ = ⊥
 
--- What may not stand behind the sequence.
+-- What may not be after the sequence.
 
 tab-fine : (m b : ℕ) → may_begin m ≡ true → is_white b ≡ true → (b == m) ≡ false
 tab-fine m b is e = by (b == m) refl
@@ -180,9 +180,9 @@ white-none options (c ∷ cs) e = go (may_begin c.byte) refl
     go true f = absurd (dark c.byte e f)
     go false f = ap (λ (x : Bool). cond x (Some c.byte) None) (marker-no options c.byte f)
 
--- Behind the indent.
+-- After the indent.
 
--- the block that opens there, by the marker that stands there
+-- the block that opens there, by the marker that is there
 opened_by : List Cell → ℕ → Option ℕ → Option HeldLeaf
 opened_by cells columns None = None
 opened_by cells columns (Some m) =

@@ -28,14 +28,14 @@ use Rattle.md_seam.proofs.FeedLines.{Stops, past-next, past_text-column, past_te
 use Rattle.md_seam.proofs.RestCells.{Bare, Cut, HasIndent, RestAt, bare, indent-length, indent-taken, white-length}
 use Rattle.md_seam.proofs.RestLines.{bare-spread, count-none, count-one, indent-trims, rest-past}
 
--- Where bytes stand.
+-- Where bytes are.
 
 at-drop : (text : List ℕ) (xs rest : List ℕ) (p : Point) → drop p.index text ≡ xs ++ rest →
     drop (past_text xs p).index text ≡ rest
 at-drop text [] rest p e = e
 at-drop text (x ∷ xs) rest p e = at-drop text xs rest (past_byte x p) (past-next p.index text x (xs ++ rest) e)
 
--- these bytes stand at a point that cuts no tab
+-- these bytes are at a point that cuts no tab
 abbrev pub Stands : List ℕ → List ℕ → List ℕ → Point → Type 0
 Stands text behind bytes p = RestAt text behind (bytes_at bytes p) p × (1 ≤ p.column)
 
@@ -51,7 +51,7 @@ stands-behind text behind xs ys p is =
       one,
     )
 
--- behind whitespace
+-- after whitespace
 pub record Behind (line : Line) (text behind bytes : List ℕ) (p : Point) (stop : List Cell) : Type 0 where
   pub cells : white_rest any_size (spread line bytes p ++ stop) ≡
       spread line (trim_start bytes) (white_end any_size (spread line bytes p ++ stop) p) ++ stop
@@ -158,11 +158,11 @@ prefix-take t (b ∷ bs) = go (t b) refl (prefix-take t bs)
     go false e next =
         ap (λ (n : ℕ). length (take n (b ∷ bs))) (count-none t b bs e) ∙ sym (count-none t b bs e)
 
--- what is left behind info
+-- what is left after info
 abbrev pub behind_info : List ℕ → List ℕ
 behind_info bytes = drop (length (first_word bytes)) bytes
 
--- its cells, and what stands in front of meta
+-- its cells, and what is before meta
 abbrev pub info_cells : Line → List ℕ → Point → List Cell → List Cell
 info_cells line bytes p stop = spread line (behind_info bytes) (past_text (first_word bytes) p) ++ stop
 
@@ -283,7 +283,7 @@ info-is m line text behind bytes p stop is h k dark short = (
         (no_ending-drop (prefix_len is_white (behind_info bytes)) (behind_info bytes)
         (no_ending-drop (length (first_word bytes)) bytes h)) k
 
--- Behind the sequence: whitespace, and info and meta of the definition, each where its text stands.
+-- After the sequence: whitespace, and info and meta of the definition, each where its text is.
 pub behind-agrees : (m : ℕ) (line : Line) (text behind bytes : List ℕ) (p : Point) (stop : List Cell) →
     Stands text behind bytes p → NoEnding bytes → Stops stop → length (spread line bytes p ++ stop) < 2 ^ 63 →
     let cells = spread line bytes p ++ stop in

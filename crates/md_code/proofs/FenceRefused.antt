@@ -1,4 +1,4 @@
--- A line where no fence stands is refused by the rule of an opening line, and leaves all as it was.
+-- A line where no fence is is refused by the rule of an opening line, and leaves all as it was.
 use Rattle.std.proofs.Common.{◌≡◌, ℕ, ◌+◌, ◌-◌, Bool, true, false, cond, ◌&&◌, ◌||◌, nat_lt, List, [], ◌∷◌, Option}
 use Rattle.std.proofs.Common.{Some, None, refl, sym, ◌∙◌, ap, arith}
 use Rattle.std.specs.Prelude.{not, ◌==◌}
@@ -25,7 +25,7 @@ use Rattle.md_seam.specs.Spaces.{IsRest, any_size, calmed, small_indent}
 use Rattle.md_seam.proofs.AheadLemmas.{small-some}
 use Rattle.md_seam.proofs.SpacesTermination.{rest-calm, rest-size}
 
--- Behind the sequence something stands that may not.
+-- After the sequence something is that may not.
 
 -- so the line does not end
 goes-on : (bad : ℕ → Bool) (cells : List Cell) → run_has bad is_line cells ≡ true → is_end cells ≡ false

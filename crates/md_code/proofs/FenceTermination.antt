@@ -1,4 +1,4 @@
--- Fenced code and math stand and end in any table that has them.
+-- Fenced code and math are and end in any table that has them.
 use Rattle.std.proofs.Common.{◌≡◌, ℕ, ◌<◌, Bool, true, false, cond, nat_eq, Option, Some, None, List, length, refl}
 use Rattle.std.proofs.Common.{arith, ap, sym, ◌∙◌}
 use Rattle.std.specs.Prelude.{not}
@@ -49,7 +49,7 @@ with-column s c e = ap (λ (t : Scratch). cleared (record t { size_c = c })) e
 with-marker : (s : Scratch) (m : ℕ) → IsRest s → IsRest (cleared (record s { marker = m }))
 with-marker s m e = ap (λ (t : Scratch). cleared (record t { marker = m })) e
 
--- Behind a part of a fence.
+-- After a part of a fence.
 
 low-info : (x : Position) → (fence_rank (n.RawFlow its.InfoBefore) x).number < 3
 low-info x = go (ends_line (seen x))
@@ -99,7 +99,7 @@ good-behind T w from state events s false has next none ends one lt = (
   refl,
 )
 
--- in a fence, behind whitespace or at once
+-- in a fence, after whitespace or at once
 in-fence : (T : Scheme) (w : World) (s : Scratch) (q : Point) (t : Setting) → IsRest (cleared s) →
     s.size ≡ w.scratch.size → in_fence (position w) (after_all T w.frames) →
     Grown w.setting t → Reaches t.limit w.point q → in_fence (spot_at t q (calmed s)) (after_all T w.frames)

@@ -124,7 +124,7 @@ content-joined cells h calm = go (held_indent h.flags.leaf)
         (before_chunk cells h)) fits
         ∙ white-joined (suc n) before_chunk cells h calm (omega arith)
 
--- what the line adds where no closing fence stands
+-- what the line adds where no closing fence is
 content-whole : (cells : List Cell) (h : Here) → calmed h.scratch ≡ h.scratch →
     let room = held_indent h.flags.leaf in
     let p = white_end room cells h.point in
@@ -143,7 +143,7 @@ content-whole cells h calm =
 
 -- A closing fence.
 
--- where it comes to
+-- where it becomes
 abbrev close_here : ℕ → List Cell → Here → Here
 close_here m cells h = record h {
   events = h.events ++ closing_events m cells h.point;

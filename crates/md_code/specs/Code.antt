@@ -23,7 +23,7 @@ may_open (held_leaf.Text at) = false
 may_open (held_leaf.LazyText at) = false
 may_open _ = true
 
--- a line of code with this begin, by whether it may begin, and whitespace stands here
+-- a line of code with this begin, by whether it may begin, and whitespace is here
 abbrev pub begun_code : World → Event → Bool → Transition
 begun_code w begin true =
     white_then (record w { events = w.events ++ begin ∷ [] }) 4 4 (Next (n.CodeIndented its.AtBreak)) Nok
@@ -44,7 +44,7 @@ at_break_code w true = record {
 }
 at_break_code w false = record { to = Retry (n.CodeIndented its.InsideBlank); world = entered w CodeFlowChunk }
 
--- by whether the line ends here, or whitespace stands
+-- by whether the line ends here, or whitespace is
 abbrev pub inside_blank_code : World → Bool → Bool → Transition
 inside_blank_code w true white = record { to = Nok; world = w }
 inside_blank_code w false true = record { to = Next (n.CodeIndented its.InsideBlank); world = taken w }
@@ -55,23 +55,23 @@ abbrev pub inside_code : World → Bool → Transition
 inside_code w true = record { to = Retry (n.CodeIndented its.After); world = exited w CodeFlowChunk }
 inside_code w false = record { to = Next (n.CodeIndented its.Inside); world = taken w }
 
--- by whether whitespace stands here
+-- by whether whitespace is here
 abbrev pub further_begin_code : World → Bool → Transition
 further_begin_code w true = white_then w 0 4 (Next (n.CodeIndented its.FurtherAfter)) Nok
 further_begin_code w false = record { to = Retry (n.CodeIndented its.FurtherAfter); world = w }
 
--- a blank line goes on the code, and is one for the endings still
+-- a blank line continues the code, and is one for the endings still
 abbrev pub blank_noted : World → World
 blank_noted w = record w { flags = record w.flags { blank = true } }
 
--- by whether the line ends here, or whitespace stands
+-- by whether the line ends here, or whitespace is
 abbrev pub further_after_code : World → Bool → Bool → Transition
 further_after_code w true white = record { to = Ok; world = blank_noted w }
 further_after_code w false true =
     record { to = Retry (n.CodeIndented its.AtBreak); world = record w { scratch = chunk_noted w.scratch } }
 further_after_code w false false = record { to = Nok; world = w }
 
--- by whether the line ends here, or whitespace stands
+-- by whether the line ends here, or whitespace is
 abbrev pub further_inside_code : World → Bool → Bool → Transition
 further_inside_code w true white = record { to = Ok; world = blank_noted (exited w CodeFlowChunk) }
 further_inside_code w false true = record { to = Next (n.CodeIndented its.FurtherInside); world = taken w }

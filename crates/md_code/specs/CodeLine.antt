@@ -1,4 +1,4 @@
--- The line that the events of a line of code tell, and how what is kept goes with the line definition.
+-- The line that the events of a line of code show, and how what is kept goes with the line definition.
 use Rattle.std.specs.Prelude.{ℕ, List}
 use Rattle.md_engine.specs.declared.event.Point.{Point}
 use Rattle.md_meaning.specs.Tree.{Line}

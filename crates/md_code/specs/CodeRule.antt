@@ -24,11 +24,11 @@ use Rattle.md_seam.specs.Spaces.{calmed}
 use Rattle.md_meaning.specs.Bytes.{is_end}
 use Rattle.md_meaning.specs.Rest.{is_blank}
 
--- behind an event
+-- after an event
 abbrev pub then_here : Event → Here → Here
 then_here e h = record h { events = h.events ++ e ∷ [] }
 
--- behind whitespace, at most so many columns
+-- after whitespace, at most so many columns
 abbrev pub behind_columns : ℕ → List Cell → Here → Here
 behind_columns room cells h =
     let p = white_end room cells h.point in
@@ -40,7 +40,7 @@ behind_chunk cells h =
     let p = line_end cells h.point in
     record h { events = h.events ++ exit CodeFlowChunk p ∷ []; point = p }
 
--- a line of code ends here: code is open behind it
+-- a line of code ends here: code is open after it
 abbrev pub code_ends : List Cell → Here → Outcome
 code_ends cells h =
     Accepts
@@ -55,7 +55,7 @@ in_text cells h = code_ends (from_ending cells) (behind_chunk cells h)
 unfoldable pub in_blank : List Cell → Here → Outcome
 in_blank cells h = if is_blank (line_bytes cells) then Refuses h.scratch h.flags else in_text cells h
 
--- behind the four columns
+-- after the four columns
 abbrev pub at_break : List Cell → Here → Outcome
 at_break cells h = in_blank cells (then_here (enter CodeFlowChunk h.point) h)
 
@@ -63,7 +63,7 @@ at_break cells h = in_blank cells (then_here (enter CodeFlowChunk h.point) h)
 abbrev pub is_indented : List Cell → Bool
 is_indented cells = nat_le 4 (white_size 4 cells)
 
--- the rule of a line of code with this begin, where it may stand here
+-- the rule of a line of code with this begin, where it may be here
 unfoldable pub line_at : Bool → Event → List Cell → Here → Outcome
 line_at may begin cells h =
     if may && is_indented cells then at_break (white_rest 4 cells) (behind_columns 4 cells (then_here begin h))
@@ -78,7 +78,7 @@ code_at options cells h =
 abbrev pub further_line : List Cell → Here → Outcome
 further_line cells h = line_at true (enter_link CodeIndented h.point further_link) cells h
 
--- a blank line ends here: it goes on the code, and is one for the endings still
+-- a blank line ends here: it continues the code, and is one for the endings still
 abbrev pub blank_ends : List Cell → Here → Outcome
 blank_ends cells h = Accepts (record h { flags = record h.flags { blank = true } }) cells
 
@@ -88,7 +88,7 @@ further_inside cells h =
     if is_blank (line_bytes cells) then blank_ends (from_ending cells) (behind_chunk cells h)
     else Refuses h.scratch h.flags
 
--- behind its first columns
+-- after its first columns
 unfoldable pub further_after : List Cell → Here → Outcome
 further_after cells h =
     if is_end (line_bytes cells) then blank_ends cells h
@@ -103,7 +103,7 @@ noted_chunk cells h =
 abbrev pub chunk_at : List Cell → Here → Outcome
 chunk_at cells h = if h.scratch.seen then noted_chunk cells h else at_break cells h
 
--- a line that is no line of code goes on open code if it is blank
+-- a line that is no line of code continues open code if it is blank
 unfoldable pub further_begin : List Cell → Here → Outcome
 further_begin cells h =
     if begins_white cells then further_after (white_rest 4 cells) (behind_columns 4 cells h) else further_after cells h
@@ -112,7 +112,7 @@ abbrev pub or_blank : List Cell → Here → Outcome → Outcome
 or_blank cells h (Refuses s g) = further_begin cells (record h { scratch = s; flags = g })
 or_blank cells h o = o
 
--- the whole rule of a line that may go on open code
+-- the whole rule of a line that may continue open code
 abbrev pub code_further : List Cell → Here → Outcome
 code_further cells h = or_blank cells h (further_line cells h)
 
@@ -142,7 +142,7 @@ CodeMeans state old to new =
 
 -- A line as a whole.
 
--- what is kept if it is the first line of code, where this leaf is open: an indent, and text behind it
+-- what is kept if it is the first line of code, where this leaf is open: an indent, and text after it
 abbrev pub code_begins : ParseOptions → HeldLeaf → List Cell → Option HeldLeaf
 code_begins options leaf cells =
     if options.constructs.code_indented && may_open leaf && is_indented cells && not (is_blank (line_bytes cells))
@@ -159,7 +159,7 @@ line_adds begin cells p =
 abbrev pub code_adds : List Cell → Point → List Event
 code_adds cells p = line_adds (enter CodeIndented p) cells p
 
--- what is kept if a line goes on open code: it is blank, or one of code
+-- what is kept if a line continues open code: it is blank, or one of code
 abbrev pub code_goes : HeldLeaf → List Cell → Option HeldLeaf
 code_goes leaf cells =
     if is_blank (line_bytes cells) then Some leaf else if is_indented cells then Some held_leaf.Code else None
@@ -171,7 +171,7 @@ blank_adds cells p =
     (if begins_white cells then pair SpaceOrTab p q else [])
     ++ (if is_end (line_bytes (white_rest 4 cells)) then [] else pair CodeFlowChunk q (line_end cells p))
 
--- and what any line adds that goes on
+-- and what any line adds that continues
 abbrev pub code_adds_on : List Cell → Point → List Event
 code_adds_on cells p =
     if is_blank (line_bytes cells) then blank_adds cells p

@@ -21,11 +21,11 @@ use Rattle.md_leaves.specs.Further.{further_link}
 use Rattle.md_seam.specs.Spaces.{any_size, ends_line, IsRest, is_current, sees_white, small_indent, white_then}
 use Rattle.md_seam.specs.Transition.{Transition, entered, entered_link, exited, taken, tried}
 
--- what may stand first behind the indent of an opening fence
+-- what may be first after the indent of an opening fence
 abbrev pub may_begin : ℕ → Bool
 may_begin b = (b == 96) || (b == 126) || (b == 36)
 
--- what may not stand behind an opening sequence: its marker, unless that is a tilde
+-- what may not be after an opening sequence: its marker, unless that is a tilde
 abbrev pub is_refused : ℕ → ℕ → Bool
 is_refused m b = (b == m) && not (m == 126)
 
@@ -72,7 +72,7 @@ cleared s = record s { marker = 0; size = 0; size_c = 0 }
 abbrev pub refused : World → Transition
 refused w = record { to = Nok; world = record w { scratch = cleared w.scratch } }
 
--- behind a part of a fence, by whether whitespace stands here
+-- after a part of a fence, by whether whitespace is here
 abbrev pub behind_part : World → RawState → Bool → Transition
 behind_part w state true = white_then w 0 any_size (Next (n.RawFlow state)) Nok
 behind_part w state false = record { to = Retry (n.RawFlow state); world = w }
@@ -83,7 +83,7 @@ behind_part w state false = record { to = Retry (n.RawFlow state); world = w }
 abbrev pub begun : World → World
 begun w = record w { scratch = record w.scratch { size_c = w.point.column } }
 
--- by whether fenced code or math is on, and whether whitespace stands here
+-- by whether fenced code or math is on, and whether whitespace is here
 abbrev pub start_code : World → Bool → Bool → Transition
 start_code w false white = record { to = Nok; world = w }
 start_code w true true =
@@ -98,7 +98,7 @@ block_entered w m = entered (entered (entered w (block_name m)) (fence_name m)) 
 abbrev pub marked : World → ℕ → World
 marked w m = record w { scratch = record w.scratch { marker = m; size_c = w.point.column - w.scratch.size_c } }
 
--- by whether this marker stands here
+-- by whether this marker is here
 abbrev pub before_open_code : World → ℕ → Bool → Transition
 before_open_code w m true = record { to = Retry (n.RawFlow its.SequenceOpen); world = block_entered (marked w m) m }
 before_open_code w m false = refused w
@@ -119,14 +119,14 @@ counted w state =
 abbrev pub behind_opening : ℕ → RawState
 behind_opening m = if m == 36 then its.MetaBefore else its.InfoBefore
 
--- by whether the marker stands here, whether there are too few of it, and whether whitespace stands here
+-- by whether the marker is here, whether there are too few of it, and whether whitespace is here
 abbrev pub sequence_open_code : World → Bool → Bool → Bool → Transition
 sequence_open_code w true few white = counted w its.SequenceOpen
 sequence_open_code w false true white = refused w
 sequence_open_code w false false white =
     behind_part (exited w (sequence_name w.scratch.marker)) (behind_opening w.scratch.marker) white
 
--- the block is open behind the line
+-- the block is open after the line
 abbrev pub opened : World → World
 opened w = record (exited (exited w (fence_name w.scratch.marker)) (block_name w.scratch.marker)) {
   scratch = cleared w.scratch;
@@ -140,7 +140,7 @@ part_entered w name = entered_link (entered w name) part.Data string_link
 abbrev pub part_exited : World → Name → World
 part_exited w name = exited (exited w part.Data) name
 
--- by whether the line ends here, and whether whitespace stands here
+-- by whether the line ends here, and whether whitespace is here
 abbrev pub info_before_code : World → Bool → Bool → Transition
 info_before_code w true white = record { to = Ok; world = opened w }
 info_before_code w false true = refused w
@@ -153,13 +153,13 @@ meta_before_code w false true = refused w
 meta_before_code w false false =
     record { to = Retry (n.RawFlow its.Meta); world = part_entered w (meta_name w.scratch.marker) }
 
--- by whether info ends here, whether whitespace stands here, and whether what stands here is refused
+-- by whether info ends here, whether whitespace is here, and whether what is here is refused
 abbrev pub info_code : World → Bool → Bool → Bool → Transition
 info_code w true white bad = behind_part (part_exited w part.CodeFencedFenceInfo) its.MetaBefore white
 info_code w false white true = refused w
 info_code w false white false = record { to = Next (n.RawFlow its.Info); world = taken w }
 
--- by whether the line ends here, and whether what stands here is refused
+-- by whether the line ends here, and whether what is here is refused
 abbrev pub meta_code : World → Bool → Bool → Transition
 meta_code w true bad =
     record { to = Retry (n.RawFlow its.InfoBefore); world = part_exited w (meta_name w.scratch.marker) }
@@ -183,13 +183,13 @@ at_non_lazy_break_code w true =
     }
 at_non_lazy_break_code w false = record { to = Retry (n.RawFlow its.ContentStart); world = line_entered w }
 
--- by whether whitespace stands here
+-- by whether whitespace is here
 abbrev pub close_start_code : World → Bool → Transition
 close_start_code w true =
     white_then w 0 (small_indent w.setting.options) (Next (n.RawFlow its.BeforeSequenceClose)) Nok
 close_start_code w false = record { to = Retry (n.RawFlow its.BeforeSequenceClose); world = w }
 
--- by whether the marker stands here
+-- by whether the marker is here
 abbrev pub before_close_code : World → Bool → Transition
 before_close_code w true =
     record {
@@ -198,7 +198,7 @@ before_close_code w true =
     }
 before_close_code w false = refused w
 
--- by whether the marker stands here, whether there are too few of it, and whether whitespace stands here
+-- by whether the marker is here, whether there are too few of it, and whether whitespace is here
 abbrev pub sequence_close_code : World → Bool → Bool → Bool → Transition
 sequence_close_code w true few white = counted w its.SequenceClose
 sequence_close_code w false true white = refused w
@@ -211,7 +211,7 @@ abbrev pub close_after_code : World → Bool → Transition
 close_after_code w true = record { to = Ok; world = exited w (fence_name (held_marker w.flags.leaf)) }
 close_after_code w false = record { to = Nok; world = w }
 
--- by whether whitespace stands here that does not belong to the line
+-- by whether whitespace is here that does not belong to the line
 abbrev pub content_start_code : World → Bool → Transition
 content_start_code w true =
     white_then w 0 (held_indent w.flags.leaf) (Next (n.RawFlow its.BeforeContentChunk)) Nok
@@ -253,7 +253,7 @@ info_before_transition w = info_before_code w (ends_line w.current) (sees_white 
 abbrev pub ends_word : Option ℕ → Bool
 ends_word o = ends_line o || sees_white o
 
--- whether what stands here may not stand behind a sequence of this marker
+-- whether what is here may not be after a sequence of this marker
 abbrev pub sees_refused : ℕ → Option ℕ → Bool
 sees_refused m None = false
 sees_refused m (Some b) = is_refused m b
@@ -288,7 +288,7 @@ sequence_close_transition w =
 abbrev pub sequence_close_after_transition : World → Transition
 sequence_close_after_transition w = close_after_code w (ends_line w.current)
 
--- in front of a line that is no closing fence, where its ending before it is taken already
+-- before a line that is no closing fence, where its ending before it is taken already
 abbrev pub content_before_transition : World → Transition
 content_before_transition w = record { to = Retry (n.RawFlow its.ContentStart); world = w }
 

@@ -31,11 +31,11 @@ abbrev pub later_part : Name → Point → Point → List Event
 later_part name p q =
     enter name p ∷ enter_link part.Data p string_link ∷ exit part.Data q ∷ exit name q ∷ []
 
--- what stands from here on: meta, which goes to the end of the line,
+-- what is from here on: meta, which goes to the end of the line,
 abbrev pub meta_events : ℕ → List Cell → Point → List Event
 meta_events m cells p = if is_end cells then [] else later_part (meta_name m) p (run_end is_line cells p)
 
--- or info, which is a word, and meta behind it
+-- or info, which is a word, and meta after it
 abbrev pub info_events : ℕ → List Cell → Point → List Event
 info_events m cells p =
     let q = run_end is_word cells p in
@@ -45,14 +45,14 @@ info_events m cells p =
     ++ spaces any_size rest q
     ++ meta_events m (white_rest any_size rest) (white_end any_size rest q)
 
--- behind the sequence
+-- after the sequence
 abbrev pub behind_events : ℕ → List Cell → Point → List Event
 behind_events m cells p =
     let q = white_end any_size cells p in
     let rest = white_rest any_size cells in
     spaces any_size cells p ++ (if m == 36 then meta_events m rest q else info_events m rest q)
 
--- the opening line of a block, behind its indent
+-- the opening line of a block, after its indent
 abbrev pub open_events : ℕ → List Cell → Point → List Event
 open_events m cells p =
     let q = run_end (λ b. b == m) cells p in
@@ -60,20 +60,20 @@ open_events m cells p =
     ++ behind_events m (run_rest (λ b. b == m) cells) q
     ++ exit (fence_name m) (line_end cells p) ∷ exit (block_name m) (line_end cells p) ∷ []
 
--- whether a fence of this marker stands here: enough of it, and behind it none that is refused
+-- whether a fence of this marker is here: enough of it, and after it none that is refused
 abbrev pub is_opening : ℕ → List Cell → Bool
 is_opening m cells =
     not (nat_lt (run_size (λ b. b == m) cells) (least_size m))
     && not (run_has (is_refused m) is_line (run_rest (λ b. b == m) cells))
 
--- the marker that stands here, if one of a block that is on does
+-- the marker that is here, if one of a block that is on does
 abbrev pub marker_at : ParseOptions → List Cell → Option ℕ
 marker_at options [] = None
 marker_at options (c ∷ cs) = if is_fence_marker options c.byte then Some c.byte else None
 
 -- A further line.
 
--- whether a closing fence stands here, behind its indent: the marker, at least as often, and then whitespace alone
+-- whether a closing fence is here, after its indent: the marker, at least as often, and then whitespace alone
 abbrev pub is_closing : ℕ → ℕ → List Cell → Bool
 is_closing m size cells =
     is_current m (first_seen cells) && not (nat_lt (run_size (λ b. b == m) cells) size)
@@ -98,7 +98,7 @@ closing_events m cells p =
 abbrev pub chunk_events : ℕ → List Cell → Point → List Event
 chunk_events m cells p = if is_end cells then [] else pair (chunk_name m) p (run_end is_line cells p)
 
--- What is kept of the block behind the line, and where the line ends.
+-- What is kept of the block after the line, and where the line ends.
 
 abbrev pub fence_goes : ParseOptions → HeldLeaf → List Cell → HeldLeaf
 fence_goes options leaf cells = if closes_here options leaf cells then held_leaf.None else leaf

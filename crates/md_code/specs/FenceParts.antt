@@ -1,4 +1,4 @@
--- What stands behind the sequence of an opening fence, by its bytes and by where its parts begin.
+-- What follows the sequence of an opening fence, by its bytes and by where its parts begin.
 use Rattle.std.specs.Prelude.{ℕ, ◌-◌, ◌==◌, if◌then◌else◌, List, [], ◌++◌, Option, Some, None}
 use Rattle.md_engine.specs.declared.event.Event.{Event}
 use Rattle.md_engine.specs.declared.event.Name.{Name}
@@ -19,7 +19,7 @@ abbrev pub part_of : Name → Option (List ℕ) → Point → List Event
 part_of name None p = []
 part_of name (Some text) p = later_part name p (past_text text p)
 
--- Info and meta, by the text behind the whitespace behind the sequence: the whitespace between them, and where meta
+-- Info and meta, by the text after the whitespace after the sequence: the whitespace between them, and where meta
 -- begins.
 abbrev pub parts_of : ℕ → List ℕ → Point → List Event → Point → List Event
 parts_of m text p between q =

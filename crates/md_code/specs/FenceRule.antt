@@ -59,7 +59,7 @@ is_end cells = ends_line (first_seen cells)
 abbrev pub with_event : Here → Event → Here
 with_event h e = record h { events = h.events ++ e ∷ [] }
 
--- behind whitespace that comes first, up to so many columns
+-- after whitespace that comes first, up to so many columns
 abbrev pub behind_columns : ℕ → List Cell → Here → Here
 behind_columns room cells h = record h {
   events = h.events ++ pair part.SpaceOrTab h.point (white_end room cells h.point);
@@ -67,7 +67,7 @@ behind_columns room cells h = record h {
   scratch = calmed h.scratch;
 }
 
--- what is left behind whitespace, if some comes first
+-- what is left after whitespace, if some comes first
 abbrev pub behind_white_of : ℕ → (List Cell → Here → Outcome) → List Cell → Here → Outcome
 behind_white_of room behind cells h =
     if begins_white cells then behind (white_rest room cells) (behind_columns room cells h) else behind cells h
@@ -102,7 +102,7 @@ in_meta cells h =
     if run_has (is_refused m) is_line cells then refuses h
     else opens (run_rest is_line cells) (part_ended (meta_name m) (run_end is_line cells h.point) h)
 
--- behind the whitespace in front of meta
+-- after the whitespace before meta
 unfoldable pub before_meta : List Cell → Here → Outcome
 before_meta cells h =
     if is_end cells then opens cells h
@@ -116,7 +116,7 @@ in_info cells h =
     else behind_white_of any_size before_meta (run_rest is_word cells)
     (part_ended part.CodeFencedFenceInfo (run_end is_word cells h.point) h)
 
--- behind the whitespace in front of info
+-- after the whitespace before info
 unfoldable pub before_info : List Cell → Here → Outcome
 before_info cells h =
     if is_end cells then opens cells h
@@ -147,7 +147,7 @@ block_begun m h =
     with_event (with_event (with_event h (enter (block_name m) h.point)) (enter (fence_name m) h.point))
     (enter (sequence_name m) h.point)
 
--- behind the indent, of which the column is kept where it begins
+-- after the indent, of which the column is kept where it begins
 unfoldable pub before_sequence : ParseOptions → List Cell → Here → Outcome
 before_sequence options [] h = refuses h
 before_sequence options (c ∷ cs) h =
@@ -158,7 +158,7 @@ before_sequence options (c ∷ cs) h =
     })
     else refuses h
 
--- the whole rule of an opening line, if fenced code or math is on: a small indent, and a fence behind it
+-- the whole rule of an opening line, if fenced code or math is on: a small indent, and a fence after it
 unfoldable pub fence_at : ParseOptions → List Cell → Here → Outcome
 fence_at options cells h =
     if is_on options
@@ -168,7 +168,7 @@ fence_at options cells h =
 
 -- A further line.
 
--- behind a closing sequence and whitespace
+-- after a closing sequence and whitespace
 unfoldable pub close_end : List Cell → Here → Outcome
 close_end cells h =
     if is_end cells
@@ -190,7 +190,7 @@ in_close cells h =
       scratch = cleared h.scratch;
     })
 
--- behind the indent
+-- after the indent
 unfoldable pub before_close : List Cell → Here → Outcome
 before_close [] h = refuses h
 before_close (c ∷ cs) h =
@@ -200,7 +200,7 @@ before_close (c ∷ cs) h =
     (with_event (with_event h (enter (fence_name m) h.point)) (enter (sequence_name m) h.point))
     else refuses h
 
--- a closing fence: a small indent, and a sequence behind it
+-- a closing fence: a small indent, and a sequence after it
 unfoldable pub close_at : ParseOptions → List Cell → Here → Outcome
 close_at options cells h = behind_white_of (small_indent options) before_close cells h
 
@@ -216,7 +216,7 @@ in_chunk cells h =
     (record (line_done (with_event h (exit (chunk_name (held_marker h.flags.leaf)) p)) p) { point = p })
     (run_rest is_line cells)
 
--- behind the columns that do not belong to it
+-- after the columns that do not belong to it
 unfoldable pub before_chunk : List Cell → Here → Outcome
 before_chunk cells h =
     if is_end cells then Accepts (line_done h h.point) cells
@@ -231,7 +231,7 @@ content_at cells h =
     (behind_columns (held_indent h.flags.leaf) cells h)
     else before_chunk cells h
 
--- behind a closing fence
+-- after a closing fence
 abbrev pub shuts : List Cell → Here → Outcome
 shuts cells h =
     Accepts
@@ -241,7 +241,7 @@ shuts cells h =
     })
     cells
 
--- by what a closing fence has come to
+-- by what a closing fence has become
 abbrev pub closed_or_content : Outcome → List Cell → Here → Outcome
 closed_or_content (Accepts k rest) cells h = shuts rest k
 closed_or_content (Refuses s g) cells h = content_at cells (record h { scratch = s; flags = g })

@@ -5,9 +5,9 @@
 //     blank_line    ::= *space_or_tab
 //
 // Each line of code is a `CodeIndented` of its own, around the `SpaceOrTab` of its four columns and a `CodeFlowChunk`
-// over the rest. A further one goes on the code of a line before, and says so in its link: a resolver makes one block
-// of them. A blank line stands bare, as it is not known yet whether code goes on behind it: a `SpaceOrTab` of at most
-// four columns, and a chunk over what whitespace is left, which `scratch.seen` notes until it begins.
+// over the rest. A further one continues the code of a line before, and says so in its link: a resolver makes one block
+// of them. A blank line is bare, as it is not known yet whether code continues after it: a `SpaceOrTab` of at most four
+// columns, and a chunk over what whitespace is left, which `scratch.seen` notes until it begins.
 
 ghost use Rattle.std.specs.Prelude.{◌≡◌, ◌≢◌, IfSome};
 ghost use Rattle.md_code.specs.CodeRule.{CodeMeans};
@@ -75,7 +75,7 @@ pub fn start(tokenizer: &mut Tokenizer) -> State
     }
 }
 
-/// Where a chunk begins: behind the four columns of a line of code, or where it is noted that a blank line has one.
+/// Where a chunk begins: after the four columns of a line of code, or where it is noted that a blank line has one.
 ///
 /// ```markdown
 /// > |     aaa
@@ -149,7 +149,7 @@ pub fn inside(tokenizer: &mut Tokenizer) -> State
     }
 }
 
-/// Behind a line of code.
+/// After a line of code.
 ///
 /// ```markdown
 /// > |     aaa
@@ -168,7 +168,7 @@ pub fn after(tokenizer: &mut Tokenizer) -> State
     State::Ok
 }
 
-/// Before a line that may go on open code: another line of code, or a blank one.
+/// Before a line that may continue open code: another line of code, or a blank one.
 ///
 /// ```markdown
 ///   |     aaa
@@ -253,8 +253,8 @@ pub fn further_begin(tokenizer: &mut Tokenizer) -> State
     }
 }
 
-/// Behind its first columns: it goes on the code if it is blank, and is a blank line still. This state takes no memory:
-/// it notes that a chunk begins over what whitespace is left, and that begins at the break.
+/// After its first columns: it continues the code if it is blank, and is a blank line still. This state takes no
+/// memory: it notes that a chunk begins over what whitespace is left, and that begins at the break.
 ///
 /// ```markdown
 ///   |     aaa

@@ -5,18 +5,18 @@
 //     closing  ::= small_indent sequence *space_or_tab
 //     sequence ::= 3*'`' | 3*'~' | 2*'$'
 //
-// A block of tildes or backticks is fenced code, one of dollars is math, which has no `info`: all behind its sequence
-// is `meta`. Neither holds the marker, unless that is a tilde. A closing sequence has the marker of the opening one,
-// and at least as many. Each other line loses as many columns of whitespace as stood in front of the opening sequence,
-// or as many as it has.
+// A block of tildes or backticks is fenced code, one of dollars is math, which has no `info`: all after its sequence is
+// `meta`. Neither holds the marker, unless that is a tilde. A closing sequence has the marker of the opening one, and
+// at least as many. Each other line loses as many columns of whitespace as was before the opening sequence, or as many
+// as it has.
 //
 // A block is read one line at a time: `start` is the first state of its opening line, `at_non_lazy_break` that of each
 // further line. What is kept between them is `HeldLeaf::Fence`. Each line is a `CodeFenced` of its own, to the end of
 // the line: the opening one from its sequence on, a further one from its begin, and linked to the line before. A
-// resolver makes one block of them. In it stand `CodeFencedFence` around a sequence and what follows it on its line:
+// resolver makes one block of them. In it are `CodeFencedFence` around a sequence and what follows it on its line:
 // `CodeFencedFenceSequence`, `SpaceOrTab`, and around linked `Data` `CodeFencedFenceInfo` and `CodeFencedFenceMeta`;
-// and `CodeFlowChunk` over what a line has left, if anything. Indents are `SpaceOrTab` in front of these. In math all
-// names begin with `MathFlow`.
+// and `CodeFlowChunk` over what a line has left, if anything. Indents are `SpaceOrTab` before these. In math all names
+// begin with `MathFlow`.
 
 ghost use Rattle.std.specs.Prelude.{◌≡◌, ◌≢◌, IfSome};
 ghost use Rattle.md_code.specs.FenceRule.{FenceMeans};
@@ -53,14 +53,14 @@ use md_engine::tokenizer::{HeldLeaf, Scratch, Tokenizer};
 use md_leaves::further::FURTHER;
 use md_seam::space_or_tab::{is_space_or_tab, small_indent, space_or_tab_min_max};
 
-/// What stands behind an opening sequence is read later.
+/// What follows an opening sequence is read later.
 const STRING_LINK: Link = Link {
     previous: false,
     next: false,
     content: Content::String,
 };
 
-/// Whether a block may begin here, by what stands first behind whitespace: a marker, if that is known.
+/// Whether a block may begin here, by what is first after whitespace: a marker, if that is known.
 pub fn may_begin(first: Option<u8>) -> bool
     ensures { result ≡ may_with may_begin first }
 {
@@ -109,7 +109,7 @@ pub fn start(tokenizer: &mut Tokenizer) -> State
     }
 }
 
-/// Behind the indent, at an opening sequence. The columns of the indent are known here.
+/// After the indent, at an opening sequence. The columns of the indent are known here.
 ///
 /// ```markdown
 /// > | ~~~js
@@ -144,7 +144,7 @@ pub fn before_sequence_open(tokenizer: &mut Tokenizer) -> State
     }
 }
 
-/// Goes on behind a part of a fence: behind whitespace, if some stands here.
+/// Goes on after a part of a fence: after whitespace, if some is here.
 fn go_on(tokenizer: &mut Tokenizer, behind: RawState) -> State
     ensures to { result ≢ State.Error →
         result ≡ (behind_part (world tokenizer.old) behind (sees_white tokenizer.old.current)).to }
@@ -201,7 +201,7 @@ pub fn sequence_open(tokenizer: &mut Tokenizer) -> State
     }
 }
 
-/// Behind the opening sequence, before `info`, or at the end of the line: then the block is open.
+/// After the opening sequence, before `info`, or at the end of the line: then the block is open.
 ///
 /// ```markdown
 /// > | ~~~js
@@ -237,7 +237,7 @@ pub fn info_before(tokenizer: &mut Tokenizer) -> State
             tokenizer.scratch = cleared(tokenizer.scratch);
             State::Ok
         }
-        // All whitespace lies behind.
+        // All whitespace lies after.
         Some(b'\t' | b' ') => {
             tokenizer.scratch = cleared(tokenizer.scratch);
             State::Nok
@@ -304,7 +304,7 @@ pub fn meta_before(tokenizer: &mut Tokenizer) -> State
 {
     match tokenizer.current {
         None | Some(b'\n') => State::Retry(StateName::RawFlow(RawState::InfoBefore)),
-        // All whitespace lies behind.
+        // All whitespace lies after.
         Some(b'\t' | b' ') => {
             tokenizer.scratch = cleared(tokenizer.scratch);
             State::Nok
@@ -318,7 +318,7 @@ pub fn meta_before(tokenizer: &mut Tokenizer) -> State
     }
 }
 
-/// In `meta`, which goes on to the end of the line.
+/// In `meta`, which continues to the end of the line.
 ///
 /// ```markdown
 /// > | ~~~js eval
@@ -353,8 +353,8 @@ pub fn meta(tokenizer: &mut Tokenizer) -> State
     }
 }
 
-/// Before a further line: a closing fence, which begins with whitespace or the marker, or else content. Either goes on
-/// the block of the line before.
+/// Before a further line: a closing fence, which begins with whitespace or the marker, or else content. Either
+/// continues the block of the line before.
 ///
 /// ```markdown
 ///   | ~~~js
@@ -419,7 +419,7 @@ pub fn close_start(tokenizer: &mut Tokenizer) -> State
     }
 }
 
-/// Behind the indent, at a closing sequence.
+/// After the indent, at a closing sequence.
 ///
 /// ```markdown
 ///   | ~~~js
@@ -480,7 +480,7 @@ pub fn sequence_close(tokenizer: &mut Tokenizer) -> State
     go_on(tokenizer, RawState::SequenceCloseAfter)
 }
 
-/// Behind the closing sequence and whitespace: the line ends here.
+/// After the closing sequence and whitespace: the line ends here.
 ///
 /// ```markdown
 ///   | ~~~js
@@ -508,8 +508,8 @@ pub fn sequence_close_after(tokenizer: &mut Tokenizer) -> State
     }
 }
 
-/// Before a line that is no closing fence. The ending in front of it was taken by flow, so that nothing is left to do
-/// here, and the line continues with `content_start`.
+/// Before a line that is no closing fence. The ending before it was taken by flow, so that nothing is left to do here,
+/// and the line continues with `content_start`.
 ///
 /// ```markdown
 ///   | ~~~js
@@ -527,8 +527,8 @@ pub fn content_before(_tokenizer: &mut Tokenizer) -> State
     State::Retry(StateName::RawFlow(RawState::ContentStart))
 }
 
-/// Before a line that is no closing fence: as many columns of whitespace as stood in front of the opening sequence do
-/// not belong to it.
+/// Before a line that is no closing fence: as many columns of whitespace as was before the opening sequence do not
+/// belong to it.
 ///
 /// ```markdown
 ///   | ~~~js
@@ -623,7 +623,7 @@ pub fn content_chunk(tokenizer: &mut Tokenizer) -> State
     }
 }
 
-/// Behind a closing fence: the block ends.
+/// After a closing fence: the block ends.
 ///
 /// ```markdown
 ///   | ~~~js

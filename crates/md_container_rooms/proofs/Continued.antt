@@ -1,4 +1,4 @@
--- What the events tell of a container, and as which kind it is held, does not change while it is open.
+-- What the events show of a container, and as which kind it is held, does not change while it is open.
 use Rattle.std.proofs.Common.{◌≡◌, Bool, true, false, cond, ap, sym}
 use Rattle.std.specs.Prelude.{None, Some}
 use Rattle.md_engine.specs.declared.configuration.ParseOptions.{ParseOptions}
@@ -12,7 +12,7 @@ when-container : (x : Bool) (u t : Taken) → cond x (Some u) None ≡ Some t �
 when-container true u t e = let same : u ≡ t = cc in sym (ap (λ (x : Taken). x.container) same)
 when-container false u t e = cc
 
--- so a container that goes on has the shape that it had,
+-- so a container that continues has the shape that it had,
 pub continues-shape : (options : ParseOptions) (c : Container) (r : Rest) (t : Taken) →
     continues options c r ≡ Some t → shape_of t.container ≡ shape_of c
 unfolding quote_taken item_continues footnote_continues

@@ -1,5 +1,5 @@
--- Parts of what stands in front of the content of a container, alone, one behind the other, and around others: with all
--- that is asked of such events, each container shows it of its own by one walk.
+-- Parts of what is before the content of a container, alone, one after the other, and around others: with all that is
+-- asked of such events, each container shows it of its own by one walk.
 use Rattle.std.proofs.Common.{◌≡◌, ℕ, ◌-◌, Bool, true, false, cond, not, ◌||◌, List, [], ◌∷◌, ◌++◌, slice_range, refl}
 use Rattle.std.proofs.Common.{sym, ap, subst}
 use Rattle.std.specs.Prelude.{◌==◌, IsTrue, slice_index}
@@ -36,15 +36,15 @@ use Rattle.md_frame.proofs.PrefixNames.{AreFront, IsFrontEvent}
 use Rattle.md_frame.proofs.SpanLemmas.{Nested_in, around-nested, nested_in-append, order-grows}
 use Rattle.md_frame.proofs.Stretch.{pair-nested}
 
--- Events in front of the content of a container, from a point to a point.
+-- Events before the content of a container, from a point to a point.
 pub record FrontPart (bytes : List ℕ) (p q : Point) (es : List Event) : Type 0 where
-  -- they nest and go forward, and cover what stands there
+  -- they nest and go forward, and cover what is there
   pub nested : Nested_in p q es
   pub tiled : Covered p q es
   -- their pieces are over what their names say, and none ends a line
   pub stood : PiecesValid bytes es
   pub others : AreOthers es
-  -- they stand between characters, if they begin so
+  -- they are between characters, if they begin so
   pub between : is_between bytes p.index ≡ true → AreBetween bytes es × (is_between bytes q.index ≡ true)
   -- they have names of prefixes and containers, an outline knows them, and a text that begins in them ends in them
   pub names : AreFront es
@@ -81,7 +81,7 @@ part-none {bytes = bytes} p q onward same ends = record {
   unlisted = tt;
 }
 
--- one behind the other
+-- one after the other
 pub part-append : {bytes : List ℕ} {p q r : Point} {xs ys : List Event} → FrontPart bytes p q xs →
     FrontPart bytes q r ys → FrontPart bytes p r (xs ++ ys)
 part-append {bytes = bytes} {p = p} {q = q} {r = r} {xs = xs} {ys = ys} h k = record {
@@ -102,7 +102,7 @@ part-append {bytes = bytes} {p = p} {q = q} {r = r} {xs = xs} {ys = ys} h k = re
 abbrev pub IsFrontName : Name → Type 0
 IsFrontName name = Other name × (is_front name ≡ true) × (is_plain (role name) ≡ true) × (in_place name ≡ name)
 
--- a point that cuts no tab is clear, be the text there told or not
+-- a point that cuts no tab is clear, be the text there said or not
 pub told-whole : (bytes : List ℕ) (name : Name) (p : Point) → p.vs ≡ 0 →
     (not (is_told (role name)) || clear bytes p) ≡ true
 told-whole bytes name p e = or_right (not (is_told (role name))) (clear bytes p) (rw e refl)
@@ -165,7 +165,7 @@ part-around {bytes = bytes} name p q es is still untold starts h = record {
     whole : (r : Point) → (not (is_told (role name)) || clear bytes r) ≡ true
     whole r = ap (λ x. not x || clear bytes r) untold
 
--- behind a byte of ASCII is between characters
+-- after a byte of ASCII is between characters
 pub low-past : (bytes : List ℕ) (p q : Point) → is_low (slice_index bytes p.index) ≡ true → q.index - 1 ≡ p.index →
     is_between bytes q.index ≡ true
 low-past bytes p q low back =

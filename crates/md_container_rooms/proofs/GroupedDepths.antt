@@ -6,7 +6,7 @@ use Rattle.md_meaning.specs.Grouped.{grouped, grouped_block, with_front, with_it
 use Rattle.md_meaning.specs.Tree.{Block, Blocks, End, Footnote, Item, ListOf, More, Quote}
 use Rattle.md_outline.specs.HeadingDepths.{are_shallow, is_shallow}
 
--- an item in front of lists
+-- an item before lists
 item-shallow : (m : ℕ) (item : Block) (bs : Blocks) → is_shallow item ≡ true → are_shallow bs ≡ true →
     are_shallow (with_item m item bs) ≡ true
 item-shallow m item (More (ListOf k items) bs) h i = go (m == k)

@@ -1,4 +1,4 @@
--- No list begins in front of the lines of a text: its front stays as it is.
+-- No list begins before the lines of a text: its front stays as it is.
 use Rattle.std.proofs.Common.{◌≡◌, ℕ, false, List, [], ◌∷◌, ◌++◌, refl, ap, ◌∙◌}
 use Rattle.md_engine.specs.declared.event.Event.{Event}
 use Rattle.md_engine.specs.declared.event.Name.{Name}

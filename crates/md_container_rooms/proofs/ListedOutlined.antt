@@ -292,7 +292,7 @@ IsAt bytes (InMarker shape p) (stand.InMarker q) ahead =
     (p ≡ q) × IsMarkerAt bytes q × (shape ≡ list_shape (get_or bytes q.index 0))
 IsAt bytes _ _ ahead = ⊥
 
--- no event is of a list, and the label of a footnote definition stands in front of its blocks alone
+-- no event is of a list, and the label of a footnote definition is before its blocks alone
 told-passed : (bytes : List ℕ) (held : List Bool) (inner : Inner) (kind : Kind) (x : Role) (p : Point)
     (ahead behind : ℕ) → MayStand bytes (record { held = held; inner = inner }) kind x p →
     IsAt bytes AllTold inner ahead →

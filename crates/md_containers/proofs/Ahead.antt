@@ -1,4 +1,4 @@
--- Where one comes to behind bytes of text.
+-- Where one reaches after bytes of text.
 use Rattle.std.proofs.Common.{◌≡◌, ℕ, ◌+◌, ◌<◌, ◌⊎◌, inl, inr, Bool, true, false, ◌&&◌, nat_eq, nat_lt, cond}
 use Rattle.std.proofs.Common.{List, length, None, Some, refl, sym, ◌∙◌, ap, ap₂, arith, subst}
 use Rattle.std.proofs.lemmas.Bool.Decides.{nat_tests}
@@ -12,11 +12,11 @@ use Rattle.md_engine.proofs.ClassLemmas.{further-next, no-ending}
 use Rattle.md_engine.proofs.Sound.{placed-next}
 use Rattle.md_containers.specs.Ahead.{ahead}
 
--- text stands at an index
+-- text is at an index
 abbrev pub IsText : List ℕ → ℕ → Type 0
 IsText bytes i = has class.Text (slice_index bytes i) ≡ true
 
--- behind text the line goes on,
+-- after text the line continues,
 pub text-after : (x : Setting) (p : Point) → IsText x.bytes p.index → after x p ≡ ahead 1 p
 text-after x p h =
     let e = no-ending class.Text (slice_index x.bytes p.index) h in
@@ -35,7 +35,7 @@ ahead-more n p =
     let more : (m : ℕ) → m + n + 1 ≡ m + (n + 1) = λ m. omega arith in
     ap₂ (λ (i c : ℕ). record p { column = c; index = i; vs = 0 }) (more p.index) (more p.column)
 
--- What is seen is the byte that stands there, unless it ends the line or is a column of a tab.
+-- What is seen is the byte that is there, unless it ends the line or is a column of a tab.
 pub seen-byte : (x : Setting) (p : Point) (b : ℕ) → looks_at x p ≡ Some b → nat_eq b 10 ≡ false →
     (nat_eq b 32 ≡ false) ⊎ (p.vs ≡ 0) → (p.index < x.limit) × (slice_index x.bytes p.index ≡ b)
 seen-byte x p b e no_end single = inside (nat_lt p.index x.limit) refl
@@ -78,7 +78,7 @@ seen-byte x p b e no_end single = inside (nat_lt p.index x.limit) refl
         let lt : p.index < x.limit = grind (arith, nat_tests) in
         (lt, by-end (is_ending byte) refl seen)
 
--- Where two bytes of text stand at the point of a tokenizer: what is behind each.
+-- Where two bytes of text are at the point of a tokenizer: what is after each.
 pub record StandsAhead (x : Setting) (p : Point) : Type 0 where
   pub one : after x p ≡ ahead 1 p
   pub two : after x (after x p) ≡ ahead 2 p

@@ -275,7 +275,7 @@ white-unmarked k (c ∷ cs) e = cells-parts k (c ∷ cs) ∙ rw (dark c.byte e) 
         go false f true g e = ap (λ (c : ℕ). to_ascii_lowercase c == 91) (eqb-true b 9 g)
         go false f false g e = cc
 
--- Behind the marker: the cells of the bytes behind it, and the point, so many columns further.
+-- After the marker: the cells of the bytes after it, and the point, so many columns further.
 pub record Marked (line : Line) (bytes : List ℕ) (n : ℕ) (p : Point) (stop cells : List Cell) : Type 0 where
   pub left : drop n cells ≡ spread line (drop n bytes) (past_text (take n bytes) p) ++ stop
   pub point : point_after (take n cells) p ≡ past_text (take n bytes) p

@@ -84,7 +84,7 @@ tail-length _ = refl
 
 -- The name.
 
--- what is left of it is taken in any case, with `]` and whitespace behind it
+-- what is left of it is taken in any case, with `]` and whitespace after it
 name-is : (left : List ℕ) (cells : List Cell) (h : Here) →
     let n = suc (length left) in
     let rest = drop n cells in

@@ -38,16 +38,16 @@ use Rattle.md_seam.proofs.RestCells.{indent-over, indent-taken, lose-no_ending, 
 use Rattle.md_seam.proofs.RestLines.{bare-spread, indent-trims, large-room, rest-from, rest-past, small-room}
 use Rattle.md_seam.proofs.RestLines.{trim-white}
 
--- The marker of an alert of this kind, from a point behind a prefix to the end of the line: whitespace, the marker, and
+-- The marker of an alert of this kind, from a point after a prefix to the end of the line: whitespace, the marker, and
 -- whitespace.
 pub record IsMarker (bytes : List ℕ) (kind : AlertKind) (p q : Point) (es : List Event) : Type 0 where
-  -- where its first bracket is, and the point behind its last one
+  -- where its first bracket is, and the point after its last one
   pub opens : Point
   pub closes : Point
   pub events : es ≡
       pair_unless_empty n.SpaceOrTab p opens ++ enter n.BlockQuoteMarker opens ∷ exit n.BlockQuoteMarker closes
       ∷ pair_unless_empty n.SpaceOrTab closes q
-  -- the points go on
+  -- the points continue
   pub indent : IsTrue (at_or_before p opens)
   pub past : closes.index ≡ opens.index + length (marker_of kind)
   pub column : IsTrue (at_or_before closes q)
@@ -73,7 +73,7 @@ blank-trims [] e = refl
 blank-trims (b ∷ bs) e =
     let parts = and_parts (is_white b) (is_blank bs) e in trim-white b bs parts.0 ∙ blank-trims bs parts.1
 
--- behind its whitespace nothing is left
+-- after its whitespace nothing is left
 pub record IsEmpty (r : Rest) : Type 0 where
   pub spaces : r.spaces ≡ 0
   pub bytes : r.bytes ≡ []
@@ -147,7 +147,7 @@ past-line : (bytes : List ℕ) (p : Point) → (past_text bytes p).line ≡ p.li
 past-line [] p = refl
 past-line (b ∷ bs) p = past-line bs (past_byte b p)
 
--- it is on the cells of a rest, and so much is left behind it
+-- it is on the cells of a rest, and so much is left after it
 pub record HasAlert (options : ParseOptions) (line : Line) (text past : List ℕ) (end : Point) (stop cells : List Cell)
     (p : Point) (kind : AlertKind) (left : Rest) : Type 0 where
   pub fed : alert_rest options (Some kind) cells ≡ rest_cells line left (alert_end options (Some kind) cells p) ++ stop
@@ -155,11 +155,11 @@ pub record HasAlert (options : ParseOptions) (line : Line) (text past : List ℕ
   pub ends : past_rest left (alert_end options (Some kind) cells p) ≡ end
   pub marker : IsMarker text kind p (alert_end options (Some kind) cells p) (alert_events options (Some kind) cells p)
 
--- the rest behind the marker of a kind
+-- the rest after the marker of a kind
 abbrev pub behind_alert_of : AlertKind → Rest → Rest
 behind_alert_of kind r = behind_indent (behind (length (marker_of kind)) (behind_indent r))
 
--- where its bytes are behind a small indent
+-- where its bytes are after a small indent
 alert-taken : (options : ParseOptions) (kind : AlertKind) (line : Line) (text past : List ℕ) (r : Rest)
     (stop : List Cell) (p : Point) →
     RestAt text past r p → NoEnding r.bytes → Stops stop → indent r ≤ small_indent options →

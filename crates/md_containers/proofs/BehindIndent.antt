@@ -1,4 +1,4 @@
--- What opens behind a small indent, by the cells of a line and by the rest of the line.
+-- What opens after a small indent, by the cells of a line and by the rest of the line.
 use Rattle.std.proofs.Common.{◌≡◌, ℕ, zero, suc, ◌+◌, ◌^◌, ◌<◌, ◌≤◌, Bool, true, false, cond, List, ◌++◌, length}
 use Rattle.std.proofs.Common.{Option, None, refl, sym, ap, ◌∙◌, subst, arith}
 use Rattle.std.proofs.lemmas.List.{length-append}
@@ -23,7 +23,7 @@ use Rattle.md_seam.proofs.RestLines.{large-room, small-room}
 abbrev rest : ℕ → List ℕ → Rest
 rest column bytes = record { column = column; spaces = 0; bytes = bytes }
 
--- these bytes stand behind the indent of a rest of a line, at a point
+-- these bytes are after the indent of a rest of a line, at a point
 pub record IsBehind (line : Line) (text past : List ℕ) (r : Rest) (p : Point) (stop : List Cell) (bytes : List ℕ)
     (q : Point) : Type 0 where
   pub dark : Bare 0 bytes

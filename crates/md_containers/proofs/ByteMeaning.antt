@@ -11,7 +11,7 @@ use Rattle.md_engine.specs.Sees.{Sees, ahead, cell_here}
 use Rattle.md_engine.proofs.StepOf.{moves, passes}
 use Rattle.md_seam.specs.Spaces.{is_current}
 
--- What is left where this byte must stand: what is left behind it, with these events.
+-- What is left where this byte must be: what is left after it, with these events.
 pub record AsksFor (b : ℕ) (adds : Point → Point → List Event)
     (front behind : List Cell → Here → Outcome) : Type 0 where
   pub none : (h : Here) → front [] h ≡ Refuses h.scratch h.flags
@@ -35,7 +35,7 @@ asked feed w h None true asks e = cc
 asked feed w h None false asks e = asks.none h
 asked feed w h (Some c) x asks e = asks.some (cell_here feed w c) (feed (after w.setting w.point)) h ∙ rw e refl
 
--- where it stands
+-- where it is
 pub asked-some : {b : ℕ} {adds : Point → Point → List Event} {front behind : List Cell → Here → Outcome}
     (B : Behaviour) (feed : Feed) (state next : StateName) (w new : World) → AsksFor b adds front behind →
     ((cells : List Cell) (h : Here) → B state cells h ≡ front cells h) →

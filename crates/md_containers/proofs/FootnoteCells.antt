@@ -30,13 +30,13 @@ use Rattle.md_seam.specs.Look.{first_seen}
 use Rattle.md_seam.specs.Spaces.{IsRest, any_size, ends_line, small_indent}
 use Rattle.md_seam.proofs.AheadLemmas.{none-end, none-rest}
 
--- behind these events, where a footnote definition is tried that began here
+-- after these events, where a footnote definition is tried that began here
 abbrev at : Here → List Event → Point → Here
 at h front p = record h { events = h.events ++ front; point = p; scratch = REST }
 
--- Behind `:`.
+-- After `:`.
 
--- it opens here, behind these events
+-- it opens here, after these events
 abbrev opened : Here → List Event → List Cell → Point → Outcome
 opened h es cells p =
     Accepts (record h { events = es; point = p; scratch = REST; flags = footnote_held h.flags }) cells
@@ -144,7 +144,7 @@ marked-is h front (c ∷ cs) p = go (nat_eq c.byte caret)
         ∙ labelled-is h (front ++ more) c.after o
     go false = refl
 
--- Behind the indent.
+-- After the indent.
 
 bracket-is : (h : Here) (front : List Event) (cells : List Cell) (p : Point) →
     at_bracket cells (at h front p) ≡ footnote_by (footnote_behind front cells p) (at_rest h)
@@ -243,7 +243,7 @@ further-by label cells h =
     go false true = refl
     go false false = refl
 
--- an open one is taken where it goes on, and refused elsewhere
+-- an open one is taken where it continues, and refused elsewhere
 pub footnote-on : (label : List ℕ) (cells : List Cell) (h : Here) → IsRest h.scratch →
     h.flags.asked.width ≡ footnote_width → h.flags.asked.starts_blank ≡ false →
     item_on cells h ≡ footnote_by (footnote_further label cells h.point) h

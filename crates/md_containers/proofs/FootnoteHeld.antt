@@ -30,7 +30,7 @@ use Rattle.md_seam.proofs.AheadLemmas.{none-rest}
 use Rattle.md_seam.proofs.LostColumns.{lose-bare}
 use Rattle.md_seam.proofs.RestCells.{white-length}
 
--- What opens or goes on is a footnote definition.
+-- What opens or continues is a footnote definition.
 
 abbrev pub IsFootnote : Option ItemPassed → Type 0
 IsFootnote None = Unit {0}
@@ -69,7 +69,7 @@ new-footnote options cells p =
     (white_rest (small_indent options) cells) (white_end (small_indent options) cells p))
     tt
 
--- the same one goes on
+-- the same one continues
 abbrev pub IsSame : List ℕ → Option ItemPassed → Type 0
 IsSame label None = Unit {0}
 IsSame label (Some t) = t.container ≡ InFootnote label
@@ -101,7 +101,7 @@ further-within label cells p =
     go false true = white-length footnote_width cells
     go false false = tt
 
--- Where another byte than `[` stands first behind whitespace, none opens, and all is left as it was.
+-- Where another byte than `[` is first after whitespace, none opens, and all is left as it was.
 
 dark-refused : (cells : List Cell) (h : Here) (b : ℕ) → first_seen cells ≡ Some b → may_begin b ≡ false →
     at_bracket cells h ≡ Refuses h.scratch h.flags
@@ -145,7 +145,7 @@ footnote-ended options cells p ends = go options.constructs.gfm_footnote_definit
     go true = ended-behind front (small_indent options) cells q ends
     go false = refl
 
--- and an open one goes on, and takes nothing.
+-- and an open one continues, and takes nothing.
 pub footnote-over : (label : List ℕ) (cells : List Cell) (p : Point) → ends_line (first_seen cells) ≡ true →
     footnote_further label cells p ≡
     Some (record { container = InFootnote label; events = []; cells = cells; point = p })

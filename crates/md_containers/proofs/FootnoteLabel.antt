@@ -20,11 +20,11 @@ use Rattle.md_seam.proofs.RestCells.{RestAt}
 abbrev pub rest : ℕ → List ℕ → Rest
 rest column bytes = record { column = column; spaces = 0; bytes = bytes }
 
--- no whitespace stands there
+-- no whitespace is there
 abbrev pub has_no_white : List ℕ → Bool
 has_no_white bytes = list_all (λ (b : ℕ). not (is_white b)) bytes
 
--- a label stands in front, with its `]` behind it
+-- a label is in front, with its `]` after it
 pub record HasLabel (line : Line) (text past : List ℕ) (column : ℕ) (bytes : List ℕ) (p : Point) (stop : List Cell)
     (l : LabelCells) (m : Labelled) : Type 0 where
   pub label : l.label ≡ m.label
@@ -104,7 +104,7 @@ one-more line text past column b bs p stop (Some l) (Some m) dark has = record {
   no_ending = has.no_ending;
 }
 
--- the `]` behind it
+-- the `]` after it
 closed : (line : Line) (text past : List ℕ) (column b : ℕ) (bs : List ℕ) (p : Point) (stop : List Cell) →
     nat_eq b 93 ≡ true → RestAt text past (rest column (b ∷ bs)) p → NoEnding bs →
     HasLabel line text past column (b ∷ bs) p stop

@@ -16,7 +16,7 @@ use Rattle.md_meaning.proofs.TextsLemmas.{NoEnding}
 use Rattle.md_seam.proofs.FeedLines.{Stops}
 use Rattle.md_seam.proofs.RestCells.{RestAt, past_rest, rest_cells}
 
--- it goes on as an item of its width does that did not start blank
+-- it continues as an item of its width does that did not start blank
 pub footnote-further_agrees : (label : List ℕ) (line : Line) (text past : List ℕ) (r : Rest) (stop : List Cell)
     (p : Point) →
     RestAt text past r p → NoEnding r.bytes → Stops stop →

@@ -107,7 +107,7 @@ label-goes : (c : Cell) (cs : List Cell) (h : Here) → nat_eq c.byte 93 ≡ fal
 unfolding in_label
 label-goes c cs h e f = rw (e, f) refl
 
--- and behind a backslash, by whether it takes what follows
+-- and after a backslash, by whether it takes what follows
 label-escaped : (c : Cell) (cs : List Cell) (h : Here) → is_label_mark c.byte ≡ true →
     in_label true (c ∷ cs) h ≡ label_by (with_cell c.byte (label_cells false cs c.after)) h
 unfolding in_label
@@ -138,7 +138,7 @@ label-full b (Some l) h e =
     let many : nat_le size most ≡ false = grind (arith, nat_tests, full) in
     rw (some, many) refl
 
--- what comes next where a byte stands here
+-- what comes next where a byte is here
 seen-cells : (feed : Feed) (w : World) (b : ℕ) → Sees feed w → w.current ≡ Some b →
     feed w.point ≡ cell_here feed w b ∷ feed (after w.setting w.point)
 seen-cells feed w b s is = s.next ∙ ap (ahead feed w) is
@@ -164,7 +164,7 @@ taken_means B options feed state next w escaped b false has rule goes e =
     (record w { point = q; scratch = record w.scratch { size = w.scratch.size + 1 } }) refl refl
     (rule ∙ label-counted b (label_cells escaped (feed q) q) q (here w) ∙ sym (goes _ _)))
 
--- at the `]` behind it, by whether it is empty
+-- at the `]` after it, by whether it is empty
 closed_means : (B : Behaviour) (options : ParseOptions) (feed : Feed) (w : World) (b : ℕ) (x : Bool) →
     HasFootnote B options → Sees feed w → w.current ≡ Some b → nat_eq b 93 ≡ true → w.scratch.size ≤ most →
     nat_eq w.scratch.size 0 ≡ x →
@@ -267,7 +267,7 @@ label_escape_means B options feed w (Some b) false has s is e =
     ∙ label-unescaped (cell_here feed w b) (feed (after w.setting w.point)) (here w) e
     ∙ ap (λ (x : List Cell). in_label false x (here w)) (sym cells) ∙ sym (has.each its.LabelInside _ _))
 
--- Behind the label.
+-- After the label.
 
 asks-colon : AsksFor colon (pair parts.DefinitionMarker) at_colon behind_colon
 unfolding at_colon
@@ -284,7 +284,7 @@ label_after_means B options feed w true has s e =
     (exit parts.DefinitionMarker (after w.setting w.point) ∷ [])) refl refl
 label_after_means B options feed w false has s e = asked-none B feed _ w asks-colon (has.each its.LabelAfter) s e
 
--- Behind `:`.
+-- After `:`.
 
 pub behind-white : (cells : List Cell) (h : Here) → begins_white cells ≡ true →
     behind_colon cells h ≡ behind_prefix (white_rest any_size cells) (behind_columns any_size cells h)

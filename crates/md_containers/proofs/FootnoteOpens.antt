@@ -41,7 +41,7 @@ use Rattle.md_seam.proofs.LostColumns.{White}
 use Rattle.md_seam.proofs.RestCells.{HasIndent, RestAt, indent-length}
 use Rattle.md_seam.proofs.RestCells.{indent-taken, lose-no_ending, past_rest, rest_cells, white-length}
 
--- The points of a prefix that begins at a point: behind `[^`, behind the label, and behind `]:`.
+-- The points of a prefix that begins at a point: after `[^`, after the label, and after `]:`.
 
 abbrev pub label_start : Point → Point
 label_start p = past_byte 94 (past_byte 91 p)
@@ -52,7 +52,7 @@ label_end label p = past_text label (label_start p)
 abbrev pub colon_end : List ℕ → Point → Point
 colon_end label p = past_byte 58 (past_byte 93 (label_end label p))
 
--- its bytes, without the whitespace behind it
+-- its bytes, without the whitespace after it
 abbrev pub footnote_bytes : List ℕ → List ℕ → List ℕ
 footnote_bytes label more = 91 ∷ 94 ∷ (label ++ (93 ∷ 58 ∷ more))
 
@@ -73,7 +73,7 @@ footnote_prefix label p q =
 abbrev pub IsSized : List ℕ → Type 0
 IsSized label = (1 ≤ length label) × (length label ≤ 999)
 
--- what is left of these bytes behind all whitespace at their front, and where that is
+-- what is left of these bytes after all whitespace at their front, and where that is
 pub record WhiteFrom (line : Line) (text past bytes : List ℕ) (p : Point) (stop : List Cell) (end : Point)
     (left : Rest) : Type 0 where
   pub column : ℕ
@@ -81,9 +81,9 @@ pub record WhiteFrom (line : Line) (text past bytes : List ℕ) (p : Point) (sto
   pub end_is : end ≡ white_end (indent (rest column bytes)) (rest_cells line (rest column bytes) p ++ stop) p
   pub left_is : left ≡ behind_indent (rest column bytes)
 
--- Behind the label.
+-- After the label.
 
--- what is left there, behind these events: `:` and all whitespace belong to the prefix
+-- what is left there, after these events: `:` and all whitespace belong to the prefix
 record HasColon (line : Line) (text past : List ℕ) (column : ℕ) (bytes : List ℕ) (p : Point) (stop : List Cell)
     (label : List ℕ) (front : List Event) (passed : ItemPassed) (taken : Taken) : Type 0 where
   leaves : LeavesRest line text past (past_text bytes p) stop (spread line bytes p ++ stop) passed taken
@@ -99,7 +99,7 @@ record HasColon (line : Line) (text past : List ℕ) (column : ℕ) (bytes : Lis
   white : White text (past_byte 58 p) passed.point
   padded : WhiteFrom line text past more (past_byte 58 p) stop passed.point taken.rest
 
--- whitespace behind `:`, of which no more may stand than there are cells
+-- whitespace after `:`, of which no more may be than there are cells
 colon-opened : (line : Line) (text past : List ℕ) (column : ℕ) (bs : List ℕ) (p : Point) (stop : List Cell)
     (label : List ℕ) (front : List Event) →
     RestAt text past (rest column (58 ∷ bs)) p → NoEnding bs → Stops stop →
@@ -229,9 +229,9 @@ colon-agrees line text past column (b ∷ bs) p stop label front from is h k sho
         (starts-spread (λ (b : ℕ). nat_eq b 58) line b bs p stop ∙ f)))
         tt
 
--- Behind the indent.
+-- After the indent.
 
--- a prefix stands at these bytes
+-- a prefix is at these bytes
 pub record HasFootnote (line : Line) (text past : List ℕ) (bytes : List ℕ) (p : Point) (stop : List Cell)
     (front : List Event) (passed : ItemPassed) (taken : Taken) : Type 0 where
   pub leaves : LeavesRest line text past (past_text bytes p) stop (spread line bytes p ++ stop) passed taken
@@ -255,7 +255,7 @@ drop-past [] ys k m e = ap (λ (j : ℕ). drop j ys) (omega (arith, e))
 drop-past (x ∷ xs) ys k zero e = absurd (omega (arith, e))
 drop-past (x ∷ xs) ys k (suc m) e = drop-past xs ys k m (omega (arith, e))
 
--- behind the label, its brackets and what stands between these and the text
+-- after the label, its brackets and what is between these and the text
 behind-label : (column : ℕ) (label after cs : List ℕ) → cs ≡ label ++ (93 ∷ after) →
     behind (length label + 4) (rest column (91 ∷ 94 ∷ cs)) ≡
     rest (column + 1 + 1 + length label + 1 + 1) (drop 1 after)
@@ -267,14 +267,14 @@ behind-label column label after cs e =
     four : length label + 4 ≡ suc (suc (length label + 2))
     four = omega arith
 
--- two bytes and the cells behind them
+-- two bytes and the cells after them
 two-spread : (line : Line) (cs : List ℕ) (p : Point) (stop : List Cell) →
     length (spread line (91 ∷ 94 ∷ cs) p ++ stop) ≡ suc (suc (length (spread line cs (label_start p) ++ stop)))
 two-spread line cs p stop =
     ap length (spread-one line 91 (94 ∷ cs) p stop refl)
     ∙ ap (λ (l : List Cell). suc (length l)) (spread-one line 94 cs (past_byte 91 p) stop refl)
 
--- a label that is read of the cells, and of the bytes behind `[^`
+-- a label that is read of the cells, and of the bytes after `[^`
 labelled-agrees : (line : Line) (text past : List ℕ) (column : ℕ) (cs : List ℕ) (p : Point) (stop : List Cell)
     (front : List Event) (o : Option LabelCells) (t : Option Labelled) →
     LabelIs line text past (column + 1 + 1) cs (label_start p) stop o t →
@@ -536,12 +536,12 @@ behind-agrees line text past column (b ∷ bs) p stop front is h k short = go (n
 
 -- The whole footnote definition.
 
--- a prefix stands here, behind the begin of the definition, and so much is left of the line behind it
+-- a prefix is here, after the begin of the definition, and so much is left of the line after it
 pub record OpensFootnote (line : Line) (text past : List ℕ) (p end : Point) (stop cells : List Cell)
     (passed : ItemPassed) (taken : Taken) : Type 0 where
   pub leaves : LeavesRest line text past end stop cells passed taken
   pub fewer : length passed.cells < length cells
-  -- the label, where `[` stands, and the bytes from there on
+  -- the label, where `[` is, and the bytes from there on
   pub label : List ℕ
   pub start : Point
   pub start_is : start ≡ white_end (length cells) cells p
@@ -558,7 +558,7 @@ pub record OpensFootnote (line : Line) (text past : List ℕ) (p end : Point) (s
   pub events : passed.events ≡
       enter n.GfmFootnoteDefinition p
       ∷ (pair_unless_empty n.SpaceOrTab p start ++ footnote_prefix label start passed.point)
-  -- whitespace stands in front of the prefix and behind `:`
+  -- whitespace is before the prefix and after `:`
   pub white_before : White text p start
   pub white_behind : White text (colon_end label start) passed.point
 
@@ -642,7 +642,7 @@ footnote-opens_agrees options line text past r stop p is h k short = go options.
         (behind-agrees line text past (behind_indent r).column bytes q stop front at.stands at.no_ending k
         (let size = at.shorter in omega (arith, size, short))))
 
-    -- a test in front of a test
+    -- a test before a test
     both : (x y : Bool) (t : Option Taken) → cond x (cond y t None) None ≡ cond (x && y) t None
     both true y t = refl
     both false y t = refl

@@ -38,7 +38,7 @@ at_colon-shortens n [] h le = tt
 at_colon-shortens n (c ∷ cs) h le =
     cond-shortens n (nat_eq c.byte colon) _ _ (colon-shortens n cs _ (omega (arith, le))) tt
 
--- what is left behind a label is shorter
+-- what is left after a label is shorter
 abbrev pub LabelFits : ℕ → Option LabelCells → Type 0
 LabelFits n None = Unit {0}
 LabelFits n (Some l) = length l.rest < n
@@ -141,7 +141,7 @@ as-shorter : (n : ℕ) (label : List ℕ) (o : Option ItemPassed) → IsShorter 
 as-shorter n label None lt = tt
 as-shorter n label (Some t) lt = lt
 
--- and one that goes on, where the line does
+-- and one that continues, where the line does
 pub footnote-further_shorter : (label : List ℕ) (cells : List Cell) (p : Point) → ends_line (first_seen cells) ≡ false →
     IsShorter (length cells) (footnote_further label cells p)
 footnote-further_shorter label cells p e =

@@ -1,4 +1,4 @@
--- The states of a footnote definition stand and end in any table that has them.
+-- The states of a footnote definition are and end in any table that has them.
 use Rattle.std.proofs.Common.{◌≡◌, ℕ, ◌+◌, ◌<◌, Bool, true, false, nat_eq, Option, Some, None, refl, arith, ap, sym}
 use Rattle.std.specs.Prelude.{nat_le}
 use Rattle.std.proofs.lemmas.Bool.Decides.{nat_tests}
@@ -145,7 +145,7 @@ label_escape_ends T w false has r e = (
   refl,
 )
 
--- Behind the label.
+-- After the label.
 
 label_after_ends : (T : Scheme) (w : World) (x : Bool) → FootnoteFits T →
     rest_ready (position w) (after_all T w.frames) → is_current colon (seen (position w)) ≡ x →

@@ -35,7 +35,7 @@ use Rattle.md_containers.specs.FrontmatterRule.{chunk_begun, chunk_ended, close_
 use Rattle.md_containers.specs.FrontmatterRule.{front_begun, front_here, in_close, in_lines, in_open, in_sequence}
 use Rattle.md_containers.specs.FrontmatterRule.{open_end, refuses}
 
--- Behind a part, and whitespace if some stands there.
+-- After a part, and whitespace if some is there.
 
 part-steps : (B : Behaviour) (feed : Feed) (from : StateName) (state : FrontState) (w : World)
     (events added : List Event) (s : Scratch) (behind : List Cell → Here → Outcome) (x : Bool) → Sees feed w →
@@ -245,7 +245,7 @@ open_after_means B feed w false has s e =
 
 -- A further line.
 
--- an attempt at a closing fence comes to that, or to a line
+-- an attempt at a closing fence becomes that, or to a line
 closed-resumes : (B : Behaviour) (feed : Feed) (w : World) (events : List Event) (f : Frame) (o : Outcome) →
     HasFront B w.setting.options →
     f ≡

@@ -1,4 +1,4 @@
--- Frontmatter stands and ends in any table that has it.
+-- Frontmatter is and ends in any table that has it.
 use Rattle.std.proofs.Common.{◌≡◌, ℕ, ◌<◌, Bool, true, false, cond, Option, Some, None, List, length, refl}
 use Rattle.std.proofs.Common.{arith, ap, sym, ◌∙◌, ◌&&◌}
 use Rattle.std.specs.Prelude.{not}
@@ -36,7 +36,7 @@ marked-none s e = ap (λ (t : Scratch). t.whitespace.size) e
 marked-rest : (s : Scratch) (m : ℕ) → IsRest s → IsMarked (record s { marker = m; size = 0 })
 marked-rest s m e = ap (λ (t : Scratch). cleared (record t { marker = m; size = 0 })) e
 
--- the position behind whitespace, or behind what is taken, is ready as this one was
+-- the position after whitespace, or after what is taken, is ready as this one was
 front-later : (x : After) (w : World) (P Q : Scratch → Type 0) (s : Scratch) (q : Point) (t : Setting) →
     Grown w.setting t → Reaches t.limit w.point q → Ends P Q (position w) x → Ends P Q (spot_at t q s) x
 front-later x w P Q s q t up way e = later_at P Q (position w) x q t s up way e
@@ -135,7 +135,7 @@ start_ends T w true has r = go w.current
     go None = (refuses T _ w _ _ w.events w.scratch r.1 r.0, refl)
     go (Some b) = by b (is_marker b)
 
--- behind a line ending, before a further line
+-- after a line ending, before a further line
 to-line : (T : Scheme) (w : World) (state : FrontState) (events : List Event) → FrontFits T →
     w.point.index < w.setting.limit → front_level (n.Frontmatter state) ≡ 2 →
     in_front (position w) (after_all T w.frames) →
@@ -244,7 +244,7 @@ after_ends T w true r e = (
 )
 after_ends T w false r e = (accepts T _ w _ _ (after_code w false).world.events (cleared w.scratch) r.1 r.0, refl)
 
--- whether one more marker is taken, it stands here
+-- whether one more marker is taken, it is here
 takes-marker : (x y : Bool) → x && y ≡ true → x ≡ true
 takes-marker true y e = refl
 takes-marker false y e = cc

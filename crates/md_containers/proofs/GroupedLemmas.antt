@@ -44,7 +44,7 @@ no-list-grouped _ h = tt
 
 -- An item more.
 
--- the one item in front of the other
+-- the one item before the other
 two-items : (m : ℕ) (d : List ℕ) (x : Blocks) (k : ℕ) (e : List ℕ) (y : Blocks) (t : Bool) → (k == m) ≡ t →
     cond t (More (ListOf m (More (Item k e y) (More (Item m d x) End))) End)
     (More (ListOf k (More (Item k e y) End)) (More (ListOf m (More (Item m d x) End)) End))
@@ -54,7 +54,7 @@ two-items m d x k e y true h =
     ap (λ (j : ℕ). More (ListOf j (More (Item k e y) (More (Item m d x) End))) End) (sym (eqb-true k m h))
 two-items m d x k e y false h = refl
 
--- an item in front of a list that has one more
+-- an item before a list that has one more
 one-list : (m : ℕ) (d : List ℕ) (x : Blocks) (k : ℕ) (e : List ℕ) (y : Blocks) (j : ℕ) (items : Blocks)
     (t u : Bool) → (j == m) ≡ t → (k == j) ≡ u →
     with_item k (Item k e y)
@@ -67,7 +67,7 @@ one-list m d x k e y j items true true h i = rw (h, i) refl
 one-list m d x k e y j items false true h i = rw (h, i) refl
 one-list m d x k e y j items _ _ h i = rw (h, i) refl
 
--- an item in front of a list with blocks behind it
+-- an item before a list with blocks after it
 more-lists : (m : ℕ) (d : List ℕ) (x : Blocks) (k : ℕ) (e : List ℕ) (y : Blocks) (j : ℕ) (items : Blocks) (b : Block)
     (bs : Blocks) (u : Bool) →
     cond u (More (ListOf j (More (Item k e y) items)) (with_last m d x (More b bs)))
@@ -91,7 +91,7 @@ front-last m d x (Item k e y) h gs = item-last m d x k e y gs
 front-last m d x (ListOf k items) h gs = absurd h
 front-last m d x _ h gs = refl
 
--- blocks without lists are grouped with an item behind them as they are without it, and the item then
+-- blocks without lists are grouped with an item after them as they are without it, and the item then
 pub grouped-item : (m : ℕ) (d : List ℕ) (x bs : Blocks) → NoLists bs →
     grouped (then_block bs (Item m d x)) ≡ with_last m d (grouped x) (grouped bs)
 grouped-item m d x End h = refl
@@ -133,7 +133,7 @@ front-other (ListOf marker items) h = refl
 front-other (Item marker digits bs) h = absurd h
 front-other _ h = refl
 
--- a block that parts lists stays behind them
+-- a block that parts lists stays after them
 pub grouped-other : (bs : Blocks) (b : Block) → IsOther b →
     grouped (then_block bs b) ≡ then_block (grouped bs) (grouped_block b)
 grouped-other End b h = front-other (grouped_block b) (other-grouped b h)
@@ -163,7 +163,7 @@ last-same m d x End items =
 last-same m d x (More g gs) items =
     last-behind m d x g gs (ListOf m items) ∙ ap (More g) (last-same m d x gs items)
 
--- and has a list of its own behind all else
+-- and has a list of its own after all else
 pub last-apart : (m : ℕ) (d : List ℕ) (x gs : Blocks) (b : Block) → IsNoListOf m b →
     with_last m d x (then_block gs b) ≡ then_block (then_block gs b) (ListOf m (More (Item m d x) End))
 last-apart m d x End (ListOf k items) h = rw h refl

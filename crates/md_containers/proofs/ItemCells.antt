@@ -26,7 +26,7 @@ use Rattle.md_seam.specs.Spaces.{IsRest, small_indent}
 use Rattle.md_seam.proofs.AheadLemmas.{none-end, none-rest}
 use Rattle.md_seam.proofs.LostColumns.{zero-end, zero-rest}
 
--- behind these events, where an item is tried that began here
+-- after these events, where an item is tried that began here
 abbrev at : Here → List Event → Point → Scratch → Here
 at h front p s = record h { events = h.events ++ front; point = p; scratch = s }
 
@@ -40,7 +40,7 @@ noted blank = record REST { seen = not blank }
 abbrev Begun : Here → Type 0
 Begun h = h.flags.asked_column ≡ h.point.column
 
--- Behind the padding.
+-- After the padding.
 
 closed-is : (h : Here) (digits : List ℕ) (byte : ℕ) (front : List Event) (blank : Bool) (cells : List Cell)
     (p : Point) →
@@ -265,7 +265,7 @@ valued-is h front c cs p e is = value-on c cs (at h front p REST) is ∙ go (c �
         (at_rest h))
         (append_assoc front more (exit ListItemValue q ∷ []))
 
--- Behind the indent.
+-- After the indent.
 
 bullet-marker : (b : ℕ) → is_bullet b ≡ true → is_item_marker b ≡ true
 bullet-marker b k = ap (λ (x : Bool). x || ends_value b) k

@@ -53,7 +53,7 @@ pub spread-one : (line : Line) (b : ℕ) (bs : List ℕ) (p : Point) (stop : Lis
 spread-one line b bs p stop dark =
     ap (λ (l : List Cell). (l ++ spread line bs (past_byte b p)) ++ stop) (byte-one line b p dark)
 
--- behind it the rest of the line stands a column further
+-- after it the rest of the line is a column further
 pub byte-behind : (text past : List ℕ) (column b : ℕ) (bs : List ℕ) (p : Point) → is_white b ≡ false →
     RestAt text past (rest column (b ∷ bs)) p → RestAt text past (rest (column + 1) bs) (past_byte b p)
 byte-behind text past column b bs p dark is =

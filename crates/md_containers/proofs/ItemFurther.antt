@@ -22,7 +22,7 @@ use Rattle.md_seam.specs.Events.Nested.{enter, exit, pair}
 use Rattle.md_seam.specs.Look.{first_seen}
 use Rattle.md_seam.specs.Spaces.{IsRest, asking, ends_line}
 
--- behind so many columns of an indent
+-- after so many columns of an indent
 abbrev indented : ℕ → List Cell → Here → Outcome
 indented width cells h =
     Accepts
@@ -148,7 +148,7 @@ further-rest w blank digits marker cells h e f =
         (white_rest (suc w) cells))
         e
 
-    -- where it goes on, as the line definition has it, and elsewhere
+    -- where it continues, as the line definition has it, and elsewhere
     either : (x : Bool) →
         cond x (indented (suc w) cells h) (Refuses REST h.flags) ≡
         item_by (cond x (Some (item_indented digits marker (suc w) cells h.point)) None) (at_rest h)
@@ -197,7 +197,7 @@ further-rest w blank digits marker cells h e f =
         ∙ indent-is (suc w) w cells h least (omega arith)
         ∙ either (nat_le (suc w) (white_size (suc w) cells))
 
--- an open item is taken where it goes on, and refused elsewhere
+-- an open item is taken where it continues, and refused elsewhere
 pub further-is : (width : ℕ) (blank : Bool) (digits : List ℕ) (marker : ℕ) (cells : List Cell) (h : Here) →
     IsRest h.scratch → 1 ≤ width → h.flags.asked.width ≡ width → h.flags.asked.starts_blank ≡ blank →
     item_on cells h ≡ item_by (item_further digits marker width blank cells h.point) h

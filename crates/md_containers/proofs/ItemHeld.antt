@@ -1,4 +1,4 @@
--- How the tokenizer holds a list item, and where one is refused or goes on at once.
+-- How the tokenizer holds a list item, and where one is refused or continues at once.
 use Rattle.std.proofs.Common.{◌≡◌, ℕ, ◌-◌, ◌+◌, ◌≤◌, Bool, true, false, cond, not, ◌&&◌, ◌||◌}
 use Rattle.std.proofs.Common.{List, [], ◌∷◌, ◌++◌, Option, Some, None, refl, ◌∙◌, ap, arith, nat_eq, nat_lt}
 use Rattle.std.specs.Prelude.{◌==◌, nat_le}
@@ -30,7 +30,7 @@ use Rattle.md_seam.specs.Spaces.{IsRest, ends_line, small_indent}
 
 -- What is held.
 
--- the item, if one opens or goes on, is held as it is
+-- the item, if one opens or continues, is held as it is
 abbrev pub IsHeld : Held → Option ItemPassed → Type 0
 IsHeld held None = Unit {0}
 IsHeld held (Some t) = item_holds (held_as held t.container) t.container
@@ -105,7 +105,7 @@ further-held held digits marker width blank cells p some =
     (held-if held (cond (is_blank (line_bytes cells)) (not blank) (nat_le width (white_size width cells))) _ _
     (refl, refl, some) tt)
 
--- Where another byte than a marker or a digit stands first behind whitespace, no item opens, and all is left as it was.
+-- Where another byte than a marker or a digit is first after whitespace, no item opens, and all is left as it was.
 
 dark-refused : (options : ParseOptions) (cells : List Cell) (h : Here) (b : ℕ) → first_seen cells ≡ Some b →
     may_begin b ≡ false → behind_indent options cells h ≡ Refuses h.scratch h.flags
@@ -127,7 +127,7 @@ item-looked options cells h b is seen e =
     start-looked ListItem options.constructs.list_item (behind_indent options) may_begin options cells h b
     (dark-refused options) white-dark is seen e
 
--- By the line definition an item goes on over an empty line, and takes nothing, unless it started blank.
+-- By the line definition an item continues over an empty line, and takes nothing, unless it started blank.
 pub item-empty : (digits : List ℕ) (marker width : ℕ) (blank : Bool) (column : ℕ) →
     item_continues digits marker width blank (rest_at column []) ≡
     cond (not blank) (Some (record { container = InItem digits marker width blank; rest = rest_at column [] })) None

@@ -29,7 +29,7 @@ use Rattle.md_seam.proofs.InlineLemmas.{same-refl}
 use Rattle.md_seam.proofs.RestCells.{RestAt, bare-cells, indent-over, indent-taken, lose-no_ending}
 use Rattle.md_seam.proofs.RestCells.{past_rest, rest_cells, white-length}
 
--- an item opens or goes on by the cells of a line where it does by its bytes
+-- an item opens or continues by the cells of a line where it does by its bytes
 abbrev pub ItemAgrees : (ItemPassed → Taken → Type 0) → Option ItemPassed → Option Taken → Type 0
 ItemAgrees Has None None = Unit {0}
 ItemAgrees Has (Some passed) (Some taken) = Has passed taken
@@ -45,7 +45,7 @@ pub record LeavesRest (line : Line) (text past : List ℕ) (end : Point) (stop c
   pub no_ending : NoEnding taken.rest.bytes
   pub shorter : length passed.cells ≤ length cells
 
--- of one that goes on: an indent stands in front of its content, which may be empty
+-- of one that continues: an indent is before its content, which may be empty
 pub record GoesFurther (line : Line) (text past : List ℕ) (p end : Point) (stop cells : List Cell)
     (passed : ItemPassed) (taken : Taken) : Type 0 where
   pub leaves : LeavesRest line text past end stop cells passed taken
@@ -192,7 +192,7 @@ further-agrees digits marker width blank some line text past r stop p is h k =
 
 -- The padding.
 
--- so many columns of whitespace belong to an item, behind its marker
+-- so many columns of whitespace belong to an item, after its marker
 pub record HasPadding (line : Line) (text past : List ℕ) (m : ℕ) (r : Rest) (p : Point) (stop cells : List Cell)
     (t : Padded) : Type 0 where
   pub blank : t.blank ≡ is_blank r.bytes

@@ -29,7 +29,7 @@ use Rattle.md_seam.proofs.RestCells.{RestAt, lose-no_ending, rest_cells}
 abbrev rest : ℕ → List ℕ → Rest
 rest column bytes = record { column = column; spaces = 0; bytes = bytes }
 
--- what is left of these bytes behind the padding at their front, and where that is
+-- what is left of these bytes after the padding at their front, and where that is
 pub record PaddedFrom (line : Line) (text past bytes : List ℕ) (p : Point) (stop : List Cell) (end : Point)
     (left : Rest) : Type 0 where
   pub column : ℕ
@@ -37,7 +37,7 @@ pub record PaddedFrom (line : Line) (text past bytes : List ℕ) (p : Point) (st
   pub end_is : end ≡ white_end (item_padding (rest column bytes)) (rest_cells line (rest column bytes) p ++ stop) p
   pub left_is : left ≡ lose (item_padding (rest column bytes)) (rest column bytes)
 
--- a marker, the padding behind it, and what is left of the line
+-- a marker, the padding after it, and what is left of the line
 pub record HasItemMarker (line : Line) (text past digits : List ℕ) (byte : ℕ) (bytes : List ℕ) (p : Point)
     (stop : List Cell) (front : List Event) (passed : ItemPassed) (taken : Taken) : Type 0 where
   pub leaves :
@@ -55,7 +55,7 @@ one-least : (columns : ℕ) → 1 ≤ columns → at_least_one columns ≡ colum
 one-least columns some =
     let e : nat_eq columns 0 ≡ false = grind (arith, nat_tests) in ap (λ (x : Bool). cond x 1 columns) e
 
--- What is known at a marker: it begins no break, and whether it may interrupt text tells its rest.
+-- What is known at a marker: it begins no break, and whether it may interrupt text shows its rest.
 pub record MayMark (options : ParseOptions) (interrupting : Bool) (from : Rest) (digits : List ℕ) (byte column : ℕ)
     (bytes : List ℕ) : Type 0 where
   pub after : behind (length digits + 1) from ≡ rest (column + 1) bytes

@@ -54,7 +54,7 @@ abbrev pub value_events : List ℕ → Point → List Event
 value_events [] p = []
 value_events (d ∷ ds) p = pair n.ListItemValue p (past_text (d ∷ ds) p)
 
--- the events of a prefix that begins at a point, behind its indent
+-- the events of a prefix that begins at a point, after its indent
 abbrev pub prefix_of : List ℕ → ℕ → Point → Point → List Event
 prefix_of digits byte p q =
     let marker = past_text digits p in
@@ -64,7 +64,7 @@ prefix_of digits byte p q =
     ++ (pair n.ListItemMarker marker behind
     ++ (pair_unless_empty n.SpaceOrTab behind q ++ exit n.ListItemPrefix q ∷ [])))
 
--- behind an indent: a prefix stands at these bytes
+-- after an indent: a prefix is at these bytes
 pub record HasItem (line : Line) (text past : List ℕ) (bytes : List ℕ) (p : Point) (stop : List Cell)
     (front : List Event) (passed : ItemPassed) (taken : Taken) : Type 0 where
   pub leaves : LeavesRest line text past (past_text bytes p) stop (spread line bytes p ++ stop) passed taken
@@ -111,7 +111,7 @@ never : (x y : Bool) (t : Taken) → cond (x && false && y) (Some t) None ≡ No
 never true y t = refl
 never false y t = refl
 
--- what the definition has where a break stands
+-- what the definition has where a break is
 broken : (options : ParseOptions) (interrupting : Bool) (before : ℕ) (from after : Rest) (marker : Marker) →
     options.constructs.thematic_break && is_rule from.bytes ≡ true →
     item_with options interrupting before from after marker ≡ None
@@ -265,7 +265,7 @@ starts-no_end : (cells : List Cell) → starts is_digit cells ≡ true → start
 starts-no_end [] e = refl
 starts-no_end (c ∷ cs) e = digit-no_end c.byte e
 
--- Digits, of which nine at most are taken: an item opens behind them, by the cells and by the bytes.
+-- Digits, of which nine at most are taken: an item opens after them, by the cells and by the bytes.
 by-digits : (options : ParseOptions) (interrupting : Bool) (line : Line) (text past : List ℕ) (column : ℕ)
     (bytes : List ℕ) (q : Point) (stop : List Cell) (p : Point) (before : ℕ) (front : List Event) (ds : List ℕ) →
     RestAt text past (rest column bytes) q → NoEnding bytes → Stops stop → q.column ≡ p.column + before →
@@ -302,7 +302,7 @@ by-digits options interrupting line text past column bytes q stop p before front
         ap (λ (y : Bool). cond (y && nat_le (length ds) 9) (marker_behind ds (drop (length ds) bytes)) None) least
         ∙ ap (λ (y : Bool). cond y (marker_behind ds (drop (length ds) bytes)) None) e
 
-    -- the item behind the digits
+    -- the item after the digits
     numbered : List Cell → Option ItemPassed
     numbered left = item_numbered interrupting p ds (length ds) front' left q'
 
@@ -353,7 +353,7 @@ by-digits options interrupting line text past column bytes q stop p before front
     ended left e = subst (λ (o : Option ItemPassed). Agrees o None)
         (sym (numbered-none interrupting p ds (length ds) front' left q' e)) tt
 
-    -- by what stands behind them
+    -- by what follows them
     behind-them : (more : List ℕ) → drop (length ds) bytes ≡ more → length ds ≤ 9 →
         length (spread line more q' ++ stop) ≤ length cells →
         Agrees (numbered (spread line more q' ++ stop)) (marker_behind ds more)
@@ -402,7 +402,7 @@ by-digits options interrupting line text past column bytes q stop p before front
         (sym (taken-is takes))
         (behind-them (drop (length ds) bytes) refl few (omega (arith, less, size))))
 
--- Behind the indent.
+-- After the indent.
 
 behind-none : (options : ParseOptions) (interrupting : Bool) (p : Point) (front : List Event) (cells : List Cell)
     (q : Point) →
@@ -581,7 +581,7 @@ behind-agrees options interrupting line text past column (b ∷ bs) q stop p bef
 
 -- The whole item.
 
--- a prefix stands here, behind the begin of the item, and so much is left of the line behind it
+-- a prefix is here, after the begin of the item, and so much is left of the line after it
 pub record OpensItem (line : Line) (text past : List ℕ) (p end : Point) (stop cells : List Cell)
     (passed : ItemPassed) (taken : Taken) : Type 0 where
   pub leaves : LeavesRest line text past end stop cells passed taken
@@ -603,7 +603,7 @@ pub record OpensItem (line : Line) (text past : List ℕ) (p end : Point) (stop 
   pub item : (width : ℕ) × (blank : Bool) × (passed.container ≡ InItem digits byte width blank)
   pub events : passed.events ≡
       enter n.ListItem p ∷ (pair_unless_empty n.SpaceOrTab p value ++ prefix_of digits byte value passed.point)
-  -- whitespace stands in front of the prefix and behind the marker
+  -- whitespace is before the prefix and after the marker
   pub white_before : White text p value
   pub white_behind : White text (past_byte byte (past_text digits value)) passed.point
 

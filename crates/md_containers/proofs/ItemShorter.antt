@@ -113,7 +113,7 @@ item-shortens options cells h =
     (indent-shortens options _ cells _ (omega arith)))
     tt
 
--- What has an item go on.
+-- What has an item continue.
 
 inside-shortens : (n : ℕ) (cells : List Cell) (h : Here) → length cells < n → Shortens n (inside_indent cells h)
 unfolding inside_indent
@@ -218,7 +218,7 @@ white-shorter (suc m) (c ∷ cs) e some =
     let size = ap (λ (x : Bool). length (cond x (white_rest m cs) (c ∷ cs))) e in
     omega (arith, size, white-length m cs)
 
--- and one that goes on, where the line does
+-- and one that continues, where the line does
 pub further-shorter : (digits : List ℕ) (marker width : ℕ) (blank : Bool) (cells : List Cell) (p : Point) →
     1 ≤ width → ends_line (first_seen cells) ≡ false →
     IsShorter (length cells) (item_further digits marker width blank cells p)

@@ -1,4 +1,4 @@
--- The states of a list item stand and end in any table that has them.
+-- The states of a list item are and end in any table that has them.
 use Rattle.std.proofs.Common.{◌≡◌, ℕ, zero, suc, ◌+◌, ◌<◌, ◌≤◌, Bool, true, false, cond, not, ◌&&◌, ◌||◌, nat_eq}
 use Rattle.std.proofs.Common.{Option, Some, None, length, refl, arith, ap, sym, subst, ◌∙◌}
 use Rattle.std.proofs.lemmas.Bool.Decides.{nat_tests}
@@ -235,7 +235,7 @@ choice_ends T w name blank filled (Some b) has is c = go (nat_eq b 10) refl
       refl,
     )
 
--- Behind the marker.
+-- After the marker.
 
 marker_after_ends : (T : Scheme) (w : World) (o : Option ℕ) → ItemFits T →
     rest_ready (position w) (after_all T w.frames) →

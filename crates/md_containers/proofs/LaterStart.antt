@@ -1,5 +1,5 @@
--- The start of a container behind a small indent, which accepts only behind the point where it begins, stands and ends
--- in any table that has its states.
+-- The start of a container after a small indent, which accepts only after the point where it begins, is and ends in any
+-- table that has its states.
 use Rattle.std.proofs.Common.{◌<◌, ◌≤◌, Bool, true, false, refl, arith}
 use Rattle.md_engine.specs.declared.event.Name.{Name}
 use Rattle.md_engine.specs.declared.state.Name.{Name as StateName}

@@ -151,7 +151,7 @@ among-begin bytes x p w ls r ahead next held may known =
 
 -- A block is added.
 
--- behind a block that is neither a list nor an item, each item begins a list
+-- after a block that is neither a list nor an item, each item begins a list
 pub other-apart : (bs : Blocks) (b : Block) → NoLists bs → IsOther b → (m : ℕ) → Apart m (then_block bs b)
 other-apart bs b lists h m d x =
     grouped-item m d x (then_block bs b) (no-lists-then bs b lists (other-is-no-list b h))
@@ -243,7 +243,7 @@ list-around m h (More (Item k e y) items) d x heads =
     (sym heads) (headed m h e y (then_block items (Item m d x)))
 list-around m h (More _ items) d x heads = absurd heads
 
--- the list goes on: an item behind this one is the next of it
+-- the list continues: an item after this one is the next of it
 pub fits-on : (l : OpenList) (b : Blocks) (d : List ℕ) (x : Blocks) → Fits l b → NoLists b →
     Fits (record l { items = then_block l.items (Item l.marker d (grouped x)) }) (then_block b (Item l.marker d x))
 fits-on l b d x fits lists = record {
@@ -255,7 +255,7 @@ fits-on l b d x fits lists = record {
       ∙ last-same l.marker e (grouped y) l.before (then_block l.items (Item l.marker d (grouped x)));
 }
 
--- the list ends: an item with another marker behind it begins one
+-- the list ends: an item with another marker after it begins one
 pub apart-behind : (l : OpenList) (b : Blocks) (d : List ℕ) (x : Blocks) → Fits l b → NoLists b → (m : ℕ) →
     (l.marker == m) ≡ false → Apart m (then_block b (Item l.marker d x))
 apart-behind l b d x fits lists m h e y =
@@ -290,7 +290,7 @@ item-ended bytes p k e l ls d before arounds here leaf text ahead next held mark
     items : Blocks
     items = then_block l.items (Item l.marker d (grouped here))
 
-    -- what is read behind the item, in its list
+    -- what is read after the item, in its list
     inside : Reading
     inside = record {
       outer = list_around l ∷ outer_by held ls arounds;

@@ -19,7 +19,7 @@ use Rattle.md_seam.specs.Events.Pieces.{pieces_stand}
 use Rattle.md_seam.specs.Events.Places.{are_placed, first_point}
 use Rattle.md_seam.specs.Events.Tiles.{IsBlockList, chunks_stand, end_point, parts_stand}
 
--- What a block list is before lists are put around its items: items stand where lists may, directly in blocks.
+-- What a block list is before lists are put around its items: items are where lists may, directly in blocks.
 pub record IsUnlisted (bytes : List ℕ) (events : List Event) : Type 0 where
   pub nested : Nested events
   pub items : ItemsHeld [] events

@@ -1,4 +1,4 @@
--- With lists around items, chunks stand where they did.
+-- With lists around items, chunks are where they did.
 use Rattle.std.proofs.Common.{◌≡◌, ℕ, zero, suc, Bool, true, false, cond, ◌&&◌, List, [], ◌∷◌, ◌++◌, refl, ap, sym, ◌∙◌}
 use Rattle.std.specs.Prelude.{Option, ◌==◌, not}
 use Rattle.md_engine.specs.declared.event.Event.{Event}
@@ -16,7 +16,7 @@ and-false : (a : Bool) → (a && false) ≡ false
 and-false true = refl
 and-false false = refl
 
--- In a text part neither an item nor a list stands.
+-- In a text part neither an item nor a list is.
 
 item-chunk : (e : Event) (kind : Kind) (es : List Event) →
     is_chunk (record e { kind = kind; name = n.ListItem }) es ≡ false
@@ -122,7 +122,7 @@ chunks-unmoved = record { begins = begins; ends = ends; passes = passes }
         (cond (is_linked e) ((depth == 0) && is_chunk e es) (stands_in_part e.kind e.name) && b))
         (h (depth_behind e.kind (suc depth)))
 
--- chunks stand in text parts alone, directly inside of them, if they did
+-- chunks are in text parts alone, directly inside of them, if they did
 pub listed-chunks : (bytes : List ℕ) (events : List Event) →
     chunks_stand 0 (listed bytes events) ≡ chunks_stand 0 events
 listed-chunks bytes events = unmoved chunks-unmoved bytes outside events 0

@@ -33,7 +33,7 @@ inline-item IsQuiet h = refl
 inline-item IsEnding h = refl
 inline-item _ h = absurd h
 
--- what stands ahead of these events and of those is the same
+-- what is ahead of these events and of those is the same
 abbrev pub SameAhead : List ℕ → List Event → List Event → Type 0
 SameAhead bytes xs ys =
     (marker_ahead bytes xs ≡ marker_ahead bytes ys) × (next_item bytes xs ≡ next_item bytes ys)
@@ -126,7 +126,7 @@ chunk-quiet e f es h =
     let middle = and_parts (not (is_exit e.kind) && is_data e.name) (is_exit f.kind) outer.0 in
     (data-quiet e.name (and_parts (not (is_exit e.kind)) (is_data e.name) middle.0).1, data-quiet f.name outer.1)
 
--- what stands ahead is the same once chunks are read
+-- what is ahead is the same once chunks are read
 ahead-filled : (bytes : List ℕ) (es : List Event) → Chunked es → (lists : List (List Event)) → EachInline lists →
     SameAhead bytes (filled_from false es lists) es
 ahead-filled bytes [] h lists each = (refl, refl)
@@ -191,7 +191,7 @@ filled-given Ends place m next e h es lists =
     ∙ ap (λ (l : List Event). e ∷ l) (filled-end place.markers next e.point es lists)
 filled-given Stays place m next e h es lists = filled-one e h es lists
 
--- an event is given the same in front of events with the same ahead
+-- an event is given the same before events with the same ahead
 pub given-same : (bytes : List ℕ) (place : Place) (e : Event) (es read : List Event) → SameAhead bytes read es →
     given bytes place e es ++ listed_from bytes (place_after bytes place e es) read ≡ listed_from bytes place (e ∷ read)
 given-same bytes place e es read same =
@@ -206,9 +206,9 @@ given-same bytes place e es read same =
     ++ listed_from bytes (place_by t place (marker_ahead bytes read) o) read)
     (sym same.1)
 
--- Lists may be put around items before chunks are read or behind:
+-- Lists may be put around items before chunks are read or after:
 
--- in front of an event that is no chunk,
+-- before an event that is no chunk,
 filled-other : (bytes : List ℕ) (place : Place) (e : Event) (es : List Event) → Chunked es → is_linked e ≡ false →
     (lists : List (List Event)) → EachInline lists →
     ((now : Place) →
@@ -225,7 +225,7 @@ filled-other bytes place e es h l lists each rec =
     ∙ given-same bytes place e es read same
     ∙ ap (listed_from bytes place) (sym (filled-one e l es lists))
 
--- and in front of all
+-- and before all
 filled-listed : (bytes : List ℕ) (place : Place) (es : List Event) → Chunked es → (lists : List (List Event)) →
     EachInline lists →
     filled_from false (listed_from bytes place es) lists ≡ listed_from bytes place (filled_from false es lists)
@@ -294,7 +294,7 @@ plain-inline text (part ∷ parts) =
     inline-append (plain_chunks text part.chunks) (together (plain_lists text parts)) (chunks-inline text part.chunks)
     (plain-inline text parts)
 
--- the plain layer reads text parts before lists are put around items or behind
+-- the plain layer reads text parts before lists are put around items or after
 pub listed-plain : (text bytes : List ℕ) (events : List Event) → chunks_stand 0 events ≡ true →
     plain_read text (listed bytes events) ≡ listed bytes (plain_read text events)
 listed-plain text bytes events stands =

@@ -1,7 +1,7 @@
 -- Events with lists around their items keep the grammar of events, if they kept it with items in the places of lists.
 --
 -- What may still come in each open part is followed side by side. With lists it is the same, but for the lists that are
--- open: behind an item more endings and items of its list may come.
+-- open: after an item more endings and items of its list may come.
 use Rattle.std.proofs.Common.{◌≡◌, ℕ, Bool, true, false, cond, List, [], ◌∷◌, ◌++◌, refl}
 use Rattle.std.proofs.Common.{ap, sym, ◌∙◌, subst, ◌⊎◌, inl, inr}
 use Rattle.std.specs.Prelude.{Option, Some, ◌||◌, if◌then◌else◌}
@@ -30,7 +30,7 @@ use Rattle.md_seam.specs.Events.Grammar.{keeps_grammar, left_of, line_break, may
 use Rattle.md_seam.specs.Events.Nested.{Matches, Nested, enter, exit}
 use Rattle.md_seam.specs.Events.Spelled.{role}
 
--- What may come in a list: behind an item, and behind an ending that follows it.
+-- What may come in a list: after an item, and after an ending that follows it.
 abbrev more_items : Expression
 more_items = Many (Then (some line_break) (one n.ListItem))
 
@@ -89,7 +89,7 @@ dead-fails text es stack h whole = absurd (let no : true ≡ false = sym whole �
 -- What is open.
 
 -- A part that is open: a part with this name, and what may still come in the part around it; or an item with the marker
--- of its list, behind which its container goes on.
+-- of its list, after which its container continues.
 data Frame : Type 0 where
   InPart : Name → Expression → Frame
   InItem : ℕ → Frame
@@ -120,7 +120,7 @@ AreFrames [] = Unit {0}
 AreFrames (InPart name x ∷ fs) = IsTame x × (is_item (role name) ≡ false) × AreFrames fs
 AreFrames (InItem m ∷ fs) = HoldsItems (names_in fs) × AreFrames fs
 
--- a part behind the last item of a list that goes on, and what may still come in it
+-- a part after the last item of a list that continues, and what may still come in it
 record Later : Type 0 where
   name : Name
   left : Expression
@@ -137,8 +137,8 @@ abbrev NoBlocks : List Later → Type 0
 NoBlocks [] = Unit {0}
 NoBlocks (l ∷ ls) = (is_block (role l.name) ≡ false) × NoBlocks ls
 
--- No list goes on here, and this may come in what is innermost; or a list with this marker does, behind an ending or
--- not, with these parts open behind its last item.
+-- No list continues here, and this may come in what is innermost; or a list with this marker does, after an ending or
+-- not, with these parts open after its last item.
 data Now : Type 0 where
   Free : Expression → List Frame → Now
   Within : ℕ → Bool → List Later → List Frame → Now
@@ -325,7 +325,7 @@ module _ (text : Expression) (bytes : List ℕ) where
       go true whole = keeps (Free y fs) (frames.0, frames.2) matches.1 held.1 whole
       go false whole = dead-fails text es [] (inl refl) whole
 
-  -- behind an item of a list that goes on
+  -- after an item of a list that continues
   later-enter : (name : Name) (p : Point) (link : Option Link) (es : List Event) (m : ℕ) (after : Bool)
       (ls : List Later) (fs : List Frame) → is_block (role name) ≡ false → Keeps es →
       Good (Within m after ls fs) (next_item bytes es) →
@@ -354,7 +354,7 @@ module _ (text : Expression) (bytes : List ℕ) where
       free-place _ b = refl
   later-enter name p link es m after [] fs b keeps good matches held whole = go (goes name after b)
     where
-      -- where this may come behind an item, it may come in its list and around it
+      -- where this may come after an item, it may come in its list and around it
       Goes : Name → Bool → Type 0
       Goes name after =
           (behind (in_place name) (in_container after) ≡ Never)

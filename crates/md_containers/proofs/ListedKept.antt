@@ -130,7 +130,7 @@ points-unmoved p = record {
   passes = λ s bytes place e es h. ap (λ (b : Bool). p e.point && b) (h tt);
 }
 
--- events stand at points of the text if they did
+-- events are at points of the text if they did
 pub listed-placed : (text bytes : List ℕ) (events : List Event) →
     are_placed text (listed bytes events) ≡ are_placed text events
 listed-placed text bytes events = unmoved (points-unmoved (is_placed text)) bytes outside events tt
@@ -201,7 +201,7 @@ end-pieces f e (m ∷ markers) next p es = go (goes_on m next)
         ap (λ (l : List Piece). piece_of f (record e { kind = Exit }) f.kind Exit ++ l)
         (exit-pieces (exit (list_name m) p) e es)
 
--- what an event adds, in front of such pieces
+-- what an event adds, before such pieces
 pub more-pieces : (f e : Event) (xs ys : List Event) → pieces_from e xs ≡ pieces_from e ys →
     pieces_from f (e ∷ xs) ≡ pieces_from f (e ∷ ys)
 more-pieces f e xs ys h = ap (λ (l : List Piece). piece_of f e f.kind e.kind ++ l) h
@@ -217,7 +217,7 @@ pieces-unmoved = record {
   passes = λ f bytes place e es h. more-pieces f e (listed_from bytes place es) es (h e);
 }
 
--- any event that ends a part could stand in front of the first
+-- any event that ends a part could be before the first
 pub first-pieces : (f : Event) (es : List Event) → pieces es ≡ pieces_from (record f { kind = Exit }) es
 first-pieces f [] = refl
 first-pieces f (e ∷ es) = refl

@@ -33,7 +33,7 @@ passes-given bytes place e es h =
     ++ listed_from bytes (place_by t place (marker_ahead bytes es) (next_item bytes es)) es)
     (turn-stays e.kind (role e.name) h)
 
--- and so are all in front of the next begin or end of an item
+-- and so are all before the next begin or end of an item
 listed-passes : (bytes : List ℕ) (place : Place) (es : List Event) →
     listed_from bytes place es
     ≡ take (prefix_len passes es) es ++ listed_from bytes place (drop (prefix_len passes es) es)

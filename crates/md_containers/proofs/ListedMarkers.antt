@@ -15,7 +15,7 @@ use Rattle.md_containers.proofs.GroupedLemmas.{NoLists}
 use Rattle.md_containers.proofs.ListedOpen.{Agree, AgreeAt, HasBlocks, IsItemOf, IsNoItem, Known, Knows, OpenList}
 use Rattle.md_containers.proofs.ListedOpen.{Stepped, as_listed, list_shape, moved, outer_by}
 
--- What is told of the innermost container.
+-- What is said of the innermost container.
 
 pub shape-listed : (f : Shape → Shape) (held : List Bool) (ls : List OpenList) (outer : List OpenContainer) →
     on_shape f (outer_by held ls outer) ≡ outer_by held ls (on_shape f outer)
@@ -67,7 +67,7 @@ marked-agree : (x : Bool) (kind : Option AlertKind) (r : Reading) (held : List B
 marked-agree true kind r held ls h = agree-kind kind held ls r.outer h
 marked-agree false kind r held ls h = h
 
--- where there are blocks it tells nothing
+-- where there are blocks it shows nothing
 before-blocks : (text : Option Text) (leaf : Option OpenLeaf) (bs : Blocks) → HasBlocks bs →
     is_before_blocks text leaf bs ≡ false
 before-blocks None None End h = absurd h
@@ -96,7 +96,7 @@ before-grouped text leaf (More b bs) =
     before-blocks text leaf (grouped (More b bs)) (front-some (grouped_block b) (grouped bs))
     ∙ sym (before-blocks text leaf (More b bs) tt)
 
--- where no list goes on
+-- where no list continues
 pub marker-listed : (bytes : List ℕ) (p : Point) (held : List Bool) (ls : List OpenList) (r : Reading) →
     read_by bytes Enter IsQuoteMarker p (as_listed None held ls r) ≡
     as_listed None held ls (read_by bytes Enter IsQuoteMarker p r)
@@ -113,7 +113,7 @@ marker-listed bytes p held ls r =
         (shape-listed (with_kind kind) held ls r.outer)
     go false = refl
 
--- where one does, it tells nothing
+-- where one does, it shows nothing
 pub marker-in_list : (bytes : List ℕ) (p : Point) (l : OpenList) (held : List Bool) (ls : List OpenList) (r : Reading) →
     read_by bytes Enter IsQuoteMarker p (as_listed (Some l) held ls r) ≡ as_listed (Some l) held ls r
 marker-in_list bytes p l held ls r = go (is_before_blocks r.text r.leaf l.items)
@@ -158,7 +158,7 @@ marker-in_text bytes p r text e = go r.text e
 pub marker-here : (bytes : List ℕ) (p : Point) (r : Reading) → (read_by bytes Enter IsQuoteMarker p r).here ≡ r.here
 marker-here bytes p r = marked-here (is_before_blocks r.text r.leaf r.here) (kind_at bytes p.index) r
 
--- where no list goes on
+-- where no list continues
 pub marker-begins : (bytes : List ℕ) (p : Point) (ls : List OpenList) (r : Reading) (ahead : ℕ) (next : Option ℕ)
     (held : List Bool) (inner : Inner) →
     ((outer : List OpenContainer) → Agree held ls outer → AgreeAt inner held ls outer) → Agree held ls r.outer →
@@ -198,7 +198,7 @@ marker-goes bytes p l ls r ahead next held some known =
           (sym same) known;
     }
 
--- where it tells nothing
+-- where it shows nothing
 pub marker-stays : (bytes : List ℕ) (p : Point) (ls : List OpenList) (r : Reading) (ahead : ℕ) (next : Option ℕ)
     (held : List Bool) (inner : Inner) → read_by bytes Enter IsQuoteMarker p r ≡ r →
     Known bytes (record { held = held; inner = inner }) None ls r ahead next →

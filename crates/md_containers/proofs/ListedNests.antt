@@ -1,6 +1,6 @@
 -- Events with lists around their items nest as they did.
 --
--- What is open once lists stand around items follows from what is open without them, and from the list that goes on, if
+-- What is open once lists are around items follows from what is open without them, and from the list that continues, if
 -- one does: it is open around what was entered since its last item.
 use Rattle.std.proofs.Common.{◌≡◌, ℕ, Bool, true, false, cond, List, [], ◌∷◌, ◌++◌, refl, ap, sym, ◌∙◌, subst}
 use Rattle.std.specs.Prelude.{IsTrue, Option, Some, None, if◌then◌else◌}
@@ -53,7 +53,7 @@ abbrev NoBlocks : List Name → Type 0
 NoBlocks [] = Unit {0}
 NoBlocks (name ∷ names) = (is_block (role name) ≡ false) × NoBlocks names
 
--- What is open: no list goes on here; or one does, with these names open behind its last item.
+-- What is open: no list continues here; or one does, with these names open after its last item.
 data Now : Type 0 where
   Free : List Entry → Now
   Within : List Name → ℕ → List Entry → Now
@@ -170,7 +170,7 @@ pass-free bytes Exit name p link es (ItemOf m ∷ entries) i keeps good matches 
 pass-free bytes Exit name p link es (Part other ∷ entries) i keeps good matches held =
     let k : Kept bytes (Free entries) es = keeps (Free entries) good.1 matches.1 held.1 in ((matches.0, k.0), k.1)
 
--- in front of an item that is to come, it is of no block
+-- before an item that is to come, it is of no block
 pub pass-next : (kind : Kind) (name : Name) (ahead m : ℕ) (next : Option ℕ) → is_item (role name) ≡ false →
     next_by kind (role name) ahead next ≡ Some m → (is_block (role name) ≡ false) × (next ≡ Some m)
 pass-next kind name ahead m next i h = go (is_block (role name)) refl kind h

@@ -2,7 +2,7 @@
 --
 -- Both are read side by side. What is read of the one follows from what is read of the other and from the lists that
 -- are open (`as_listed`): for each open item, its list with the items so far; and the list whose next item is to come,
--- if one goes on. `Stepped` says that an event keeps this.
+-- if one continues. `Stepped` says that an event keeps this.
 use Rattle.std.proofs.Common.{◌≡◌, ℕ, Bool, true, false, List, [], ◌∷◌, ◌++◌, map, length, refl, ap, sym, subst, ◌∙◌}
 use Rattle.std.specs.Prelude.{if◌then◌else◌, nat_lt, Option, Some, None, get_or}
 use Rattle.std.specs.Option.{is_some}
@@ -29,7 +29,7 @@ use Rattle.md_containers.proofs.GroupedLemmas.{NoLists}
 
 -- Lists that are open.
 
--- A list: the byte of its markers, the blocks in front of it, and its items so far.
+-- A list: the byte of its markers, the blocks before it, and its items so far.
 pub record OpenList : Type 0 where
   pub marker : ℕ
   pub before : Blocks
@@ -41,7 +41,7 @@ list_shape marker = if is_ordered marker then OrderedShape else UnorderedShape
 abbrev pub list_around : OpenList → OpenContainer
 list_around l = record { shape = list_shape l.marker; before = l.before }
 
--- what is open once lists stand around items: each item in its list
+-- what is open once lists are around items: each item in its list
 abbrev pub outer_by : List Bool → List OpenList → List OpenContainer → List OpenContainer
 outer_by (true ∷ held) (l ∷ ls) (a ∷ arounds) =
     record { shape = a.shape; before = l.items } ∷ list_around l ∷ outer_by held ls arounds
@@ -52,7 +52,7 @@ outer_by _ _ _ = []
 abbrev pub moved : Reading → List OpenContainer → Blocks → Reading
 moved r outer here = record { outer = outer; here = here; leaf = r.leaf; text = r.text }
 
--- what is read once lists stand around items, by the list that goes on, if one does
+-- what is read once lists are around items, by the list that continues, if one does
 abbrev pub as_listed : Option OpenList → List Bool → List OpenList → Reading → Reading
 as_listed None held ls r = moved r (outer_by held ls r.outer) (grouped r.here)
 as_listed (Some l) held ls r = moved r (list_around l ∷ outer_by held ls r.outer) l.items
@@ -62,20 +62,20 @@ place_of w ls = record { within = is_some w; markers = map (λ (l : OpenList). l
 
 -- What is known of them.
 
--- the first item of a list tells its marker
+-- the first item of a list shows its marker
 abbrev pub Heads : ℕ → Blocks → Type 0
 Heads m End = Unit {0}
 Heads m (More (Item k d x) items) = k ≡ m
 Heads m (More _ items) = ⊥
 
--- an item behind these blocks is the next of the list
+-- an item after these blocks is the next of the list
 pub record Fits (l : OpenList) (b : Blocks) : Type 0 where
   pub heads : Heads l.marker l.items
   pub more : (d : List ℕ) (x : Blocks) →
       grouped (then_block b (Item l.marker d x))
       ≡ then_block l.before (ListOf l.marker (then_block l.items (Item l.marker d (grouped x))))
 
--- an item with this marker behind these blocks begins a list
+-- an item with this marker after these blocks begins a list
 abbrev pub Apart : ℕ → Blocks → Type 0
 Apart m b =
     (d : List ℕ) (x : Blocks) →
@@ -124,7 +124,7 @@ abbrev pub first_marker : List OpenList → ℕ
 first_marker [] = 0
 first_marker (l ∷ ls) = l.marker
 
--- Of what is innermost, by what stands ahead: the marker of the item that has begun, and the next block.
+-- Of what is innermost, by what is ahead: the marker of the item that has begun, and the next block.
 abbrev pub Knows : List ℕ → Inner → Option OpenList → List OpenList → Reading → ℕ → Option ℕ → Type 0
 Knows bytes AmongBlocks None ls r ahead next = (m : ℕ) → next ≡ Some m → Apart m r.here
 Knows bytes AmongBlocks (Some l) ls r ahead next = (next ≡ Some l.marker) × Fits l r.here × HasBlocks r.here
@@ -296,7 +296,7 @@ passes-turn Exit _ h = refl
 
 -- One event.
 
--- What an event comes to on both sides, where this is known behind it.
+-- What an event becomes on both sides, where this is known after it.
 pub record Stepped (bytes : List ℕ) (kind : Kind) (x : Role) (p : Point) (w : Option OpenList) (ls : List OpenList)
     (r : Reading) (ahead : ℕ) (next : Option ℕ) (held : List Bool) (site : Site) : Type 0 where
   pub lists : List OpenList

@@ -1,5 +1,5 @@
--- In front of an item's marker, in a footnote's label, in a leaf block and in a text that is a block of its own: each
--- event keeps what is known of both readings.
+-- Before an item's marker, in a footnote's label, in a leaf block and in a text that is a block of its own: each event
+-- keeps what is known of both readings.
 use Rattle.std.proofs.Common.{◌≡◌, ℕ, ◌+◌, ◌-◌, Bool, true, false, List, [], ◌∷◌, drop, take, length}
 use Rattle.std.proofs.Common.{slice_range, refl, ap, sym, subst, ◌∙◌, arith}
 use Rattle.std.specs.Prelude.{◌==◌, if◌then◌else◌, nat_lt, Option, Some, None, option_map, get_or}
@@ -29,7 +29,7 @@ use Rattle.md_containers.proofs.ListedBlockSteps.{apart-end, other-apart}
 use Rattle.md_containers.proofs.ListedMarkers.{marker-begins, marker-here, marker-in_leaf, marker-in_text}
 use Rattle.md_containers.proofs.ListedMarkers.{marker-stays, shape-listed}
 
--- What tells something of a container.
+-- What shows something of a container.
 
 abbrev pub IsOfHolder : Purpose → Type 0
 IsOfHolder AsDigits = Unit {0}
@@ -56,7 +56,7 @@ holder-told bytes AsFootnoteLabel h p ls outer here leaf (Some text) held =
     (shape-listed (named AsFootnoteLabel (text_to bytes p.index text)) held ls outer)
 holder-told bytes _ h p ls outer here leaf (Some text) held = absurd h
 
--- such an end, and what is known behind it
+-- such an end, and what is known after it
 pub holder-tells : (bytes : List ℕ) (purpose : Purpose) → IsOfHolder purpose → (p : Point) (ls : List OpenList)
     (r : Reading) (ahead : ℕ) (next : Option ℕ) (held : List Bool) (inner : Inner) →
     Known bytes (record { held = held; inner = inner }) None ls (read_by bytes Exit (TextRole purpose) p r) ahead next →
@@ -172,7 +172,7 @@ marker-known bytes p q ls outer here leaf text ahead next held after agree lists
       inner = λ m i. apart-of m here e;
     })
 
--- In front of a marker, and in it.
+-- Before a marker, and in it.
 
 pub front-begin : (bytes : List ℕ) (x : Role) (p : Point) (ls : List OpenList) (r : Reading) (ahead : ℕ)
     (next : Option ℕ) (held : List Bool) → MayBegin bytes p InFront x →

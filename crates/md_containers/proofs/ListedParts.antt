@@ -1,5 +1,5 @@
 -- Lists around items, and text parts: the parts of events stay as they were, and lists may be put around items before
--- text parts are read or behind.
+-- text parts are read or after.
 use Rattle.std.proofs.Common.{◌≡◌, ℕ, Bool, true, false, cond, ◌&&◌, List, [], ◌∷◌, ◌++◌, refl, ap, sym, ◌∙◌}
 use Rattle.std.specs.Prelude.{Option, Some, None}
 use Rattle.std.specs.List.{list_all}
@@ -18,7 +18,7 @@ use Rattle.md_seam.specs.Events.Places.{first_point}
 use Rattle.md_seam.specs.Events.Tiles.{chunks, inside_part, is_part, links_kind, part_at, part_end, part_kind, part_of}
 use Rattle.md_seam.specs.Events.Tiles.{part_stands, parts, parts_stand}
 
--- What stands in a text part that is open.
+-- What is in a text part that is open.
 
 inside-begin : (within : Bool) (m : ℕ) (p : Point) (es : List Event) →
     inside_part (list_begin within m p ++ es) ≡ list_begin within m p ++ inside_part es
@@ -164,7 +164,7 @@ stand-unmoved text = record {
       ∙ ap (λ (b : Bool). b && parts_stand text es) (stand-same text bytes place e.kind (part_kind e.name) e.point es);
 }
 
--- and stand as they did
+-- and are as they did
 pub listed-stands : (text bytes : List ℕ) (events : List Event) →
     parts_stand text (listed bytes events) ≡ parts_stand text events
 listed-stands text bytes events = unmoved (stand-unmoved text) bytes outside events tt

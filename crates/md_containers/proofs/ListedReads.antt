@@ -80,8 +80,8 @@ walk bytes (e ∷ es) site w ls r stand known =
     (listed_from bytes place es)) s.place)
     ∙ walk bytes es behind s.within s.lists (read_by bytes e.kind x e.point r) stand.1 s.known
 
--- With lists around their items, events are read as what they are read as, grouped: if blocks stand in containers
--- alone, each item begins with its marker, and no list stands yet.
+-- With lists around their items, events are read as what they are read as, grouped: if blocks are in containers alone,
+-- each item begins with its marker, and no list is yet.
 pub listed-spelled : (bytes : List ℕ) (events : List Event) → ItemsStand bytes root events →
     spelled (listed bytes events) bytes ≡ grouped (spelled events bytes)
 unfolding spelled

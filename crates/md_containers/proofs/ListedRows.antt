@@ -11,7 +11,7 @@ use Rattle.md_containers.specs.Unlisted.{keeps_unlisted}
 use Rattle.md_seam.specs.Events.Grammar.{plain_text}
 use Rattle.md_seam.specs.Events.Nested.{around, pair}
 
--- Points are told by their bytes alone.
+-- Points are known from their bytes alone.
 abbrev at : ℕ → Point
 at index = record { line = 1; column = index + 1; index = index; vs = 0 }
 
@@ -82,13 +82,13 @@ row-ordered : IsRow (codes "1. a" ++ 10 ∷ codes "2) b")
 unfolding keeps_unlisted
 row-ordered = (refl, search rules, search rules, refl)
 
--- a list goes on over blank lines, and ends in front of those behind its last item
+-- a list continues over blank lines, and ends before those after its last item
 row-blank : IsRow (codes "- a" ++ 10 ∷ 10 ∷ codes "- b" ++ 10 ∷ 10 ∷ codes "c")
     (list 0 8 (bullet 0 3 (line 2) ++ ending 3 ++ blank 4 ++ bullet 5 8 (line 7)) ++ ending 8 ++ blank 9 ++ line 10)
 unfolding keeps_unlisted
 row-blank = (refl, search rules, search rules, refl)
 
--- prefixes of quotes stand in the list
+-- prefixes of quotes are in the list
 row-quote : IsRow (codes "> - a" ++ 10 ∷ codes "> - b")
     (around n.BlockQuote (at 0) (at 11)
     (prefix 0 ++ list 2 11 (bullet 2 5 (line 4) ++ ending 5 ++ prefix 6 ++ bullet 8 11 (line 10))))
@@ -117,7 +117,7 @@ row-nested : IsRow (codes "- - a" ++ 10 ∷ codes "- - b")
 unfolding keeps_unlisted
 row-nested = (refl, search rules, search rules, refl)
 
--- a list in an item is another than the one behind that item
+-- a list in an item is another than the one after that item
 row-behind : IsRow (codes "+ - a" ++ 10 ∷ codes "- b")
     (list 0 5 (bullet 0 5 (list 2 5 (bullet 2 5 (line 4)))) ++ ending 5 ++ list 6 9 (bullet 6 9 (line 8)))
 unfolding keeps_unlisted

@@ -1,5 +1,5 @@
 -- What the prefix of the line on which a quote opens takes of that line is what the definition of lines takes: the
--- prefix of any line of a quote, and behind it the marker of an alert, if there is one.
+-- prefix of any line of a quote, and after it the marker of an alert, if there is one.
 use Rattle.std.proofs.Common.{◌≡◌, ℕ, zero, suc, ◌+◌, ◌-◌, ◌^◌, ◌<◌, ◌≤◌, Bool, true, false, cond, List, [], ◌∷◌, ◌++◌}
 use Rattle.std.proofs.Common.{length, Option, Some, None, refl, sym, ap, ◌∙◌, subst, arith}
 use Rattle.std.specs.Prelude.{◌==◌}
@@ -29,7 +29,7 @@ use Rattle.md_seam.proofs.RestCells.{RestAt, behind-no_ending, lose-no_ending, p
 
 -- The prefix of the line on which a quote of this kind opens, from a point to a point.
 pub record IsOpening (bytes : List ℕ) (kind : Option AlertKind) (p q : Point) (es : List Event) : Type 0 where
-  -- behind `>` and its column of whitespace; the events in front of that, and those of the marker of an alert
+  -- after `>` and its column of whitespace; the events before that, and those of the marker of an alert
   pub middle : Point
   pub front : List Event
   pub alert : List Event
@@ -37,7 +37,7 @@ pub record IsOpening (bytes : List ℕ) (kind : Option AlertKind) (p q : Point) 
   pub marker : IsMarkerIf bytes kind middle q alert
   pub events : es ≡ front ++ alert ++ exit n.BlockQuotePrefix q ∷ []
 
--- so much is left of a line behind such a prefix, and this is there
+-- so much is left of a line after such a prefix, and this is there
 pub record HasOpeningPrefix (options : ParseOptions) (line : Line) (text past : List ℕ) (end : Point)
     (stop cells : List Cell) (p : Point) (taken : Taken) : Type 0
   where
@@ -59,7 +59,7 @@ OpeningIs options line text past end stop cells p None = takes_prefix options ce
 
 -- The whole prefix.
 
--- of a quote of this kind: behind the prefix that any line has
+-- of a quote of this kind: after the prefix that any line has
 record HasOpened (options : ParseOptions) (line : Line) (text past : List ℕ) (end : Point) (stop cells : List Cell)
     (p : Point) (kind : Option AlertKind) (taken : Taken) : Type 0 where
   container : taken.container ≡ InQuote kind
@@ -148,7 +148,7 @@ opening-agrees options line text past r stop p is h k short =
 
 -- What is left.
 
--- by the kind, it is that of any line, or what is behind the marker of an alert
+-- by the kind, it is that of any line, or what is after the marker of an alert
 opening-left : (P : Rest → Type 0) (options : ParseOptions) (r : Rest) (taken : Taken) →
     let s = lose 1 (behind 1 (behind_indent r)) in
     P s → ((kind : AlertKind) → P (behind_alert_of kind s)) →

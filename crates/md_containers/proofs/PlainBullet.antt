@@ -51,7 +51,7 @@ or-true : (x : Bool) → x || true ≡ true
 or-true true = refl
 or-true false = refl
 
--- What the bytes that stand here say of what the states see.
+-- What the bytes that are here say of what the states see.
 record SeesBullet (w : World) : Type 0 where
   here : looks w ≡ Some (slice_index w.setting.bytes w.point.index)
   inside : (after w.setting w.point).index < w.setting.limit
@@ -139,7 +139,7 @@ sees-bullet w plain = record {
     marker : ℕ
     marker = slice_index w.setting.bytes w.point.index
 
-    -- the bytes behind the marker, and those behind the byte that follows the space
+    -- the bytes after the marker, and those after the byte that follows the space
     behind : List ℕ
     behind = slice_range w.setting.bytes (w.point.index + 1) w.setting.limit
 
@@ -157,7 +157,7 @@ sees-bullet w plain = record {
         ap (λ (i : ℕ). slice_range w.setting.bytes i w.setting.limit) more
         ∙ range-next w.setting.bytes (w.point.index + 2) w.setting.limit low there
 
--- The bullet stands first behind whitespace.
+-- The bullet is first after whitespace.
 pub bullet-seen : (w : World) → w.current ≡ looks w → IsPlainBullet w →
     looks_behind w ≡ Some (slice_index w.setting.bytes w.point.index)
 unfolding looks_behind
@@ -167,7 +167,7 @@ bullet-seen w seen plain =
     ap (λ (o : Option ℕ). behind_code o found) (seen ∙ (sees-bullet w plain).here)
     ∙ ap (λ (x : Bool). cond x found (Some marker)) (bullet-dark marker plain.bullet)
 
--- Behind its space something may be read.
+-- After its space something may be read.
 pub bullet-next : (w : World) → IsPlainBullet w → (after w.setting (after w.setting w.point)).index < w.setting.limit
 bullet-next w plain = (sees-bullet w plain).next
 

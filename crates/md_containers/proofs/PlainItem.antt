@@ -38,7 +38,7 @@ HasItem T =
     (state : ItemState) (w : World) (to : State) (new : World) →
     item_transition state w ≡ record { to = to; world = new } → T (n.ListItem state) w to new
 
--- behind a space the line goes on
+-- after a space the line continues
 space-after : (x : Setting) (p : Point) → slice_index x.bytes p.index ≡ 32 →
     after x p ≡ record p { column = p.column + 1; index = p.index + 1; vs = 0 }
 space-after x p e = rw e refl
@@ -55,7 +55,7 @@ spaces-index w (suc n) h =
     let next : (after w.setting q).index ≡ q.index + 1 = ap (λ (p : Point). p.index) (space-after w.setting q here) in
     omega (arith, before, next)
 
--- one is taken behind others
+-- one is taken after others
 pub moved-more : (w : World) (n : ℕ) → taken (moved n w) ≡ moved (suc n) w
 unfolding along
 moved-more w n = refl
@@ -88,7 +88,7 @@ and-false : (x : Bool) → x && false ≡ false
 and-false true = refl
 and-false false = refl
 
--- An attempt at the indent of a further line takes it, and what stands behind it is seen.
+-- An attempt at the indent of a further line takes it, and what follows it is seen.
 pub indent-run : (T : Step) (is_end : Bool) (s : State) (v : World) (next : StateName) (nok : State) (w : World)
     (m : ℕ) →
     HasItem T → CameTo T is_end s v (n.ListItem its.ContStart) (tried w (Next next) nok) →
@@ -129,7 +129,7 @@ indent-run T is_end s v next nok w m item came seen within width plain =
     in-wa : Within wa
     in-wa = within-one f w.frames (length w.events) (omega arith) within
 
-    -- so many columns behind the first were taken
+    -- so many columns after the first were taken
     part : ℕ → World
     part k =
         reading

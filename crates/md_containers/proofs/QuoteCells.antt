@@ -80,7 +80,7 @@ opening-shorter options cells e =
       alert-shorter options (opening_kind options cells) (prefix_rest options cells),
     )
 
--- A prefix, and what is left behind it.
+-- A prefix, and what is left after it.
 
 -- a column of whitespace, if there is one
 pub behind-is : (next : List Cell → Here → Outcome) (cells : List Cell) (h : Here) →
@@ -208,7 +208,7 @@ prefix-is options cells h is =
 
 -- The marker of an alert, where alerts are on.
 
--- what is tried behind a prefix comes to, by the kind
+-- what is tried after a prefix becomes, by the kind
 abbrev tried_by : ParseOptions → Option AlertKind → List Cell → Here → Outcome
 tried_by options None cells h = Refuses h.scratch h.flags
 tried_by options (Some kind) cells h =
@@ -245,7 +245,7 @@ alert-is options cells h on is =
         (alert_rest options (Some kind) cells))
         (append_assoc h.events (indent_events options cells h.point) (marked_events kind left q))
 
--- the prefix ends behind it, or where it would begin
+-- the prefix ends after it, or where it would begin
 alert-ended : (options : ParseOptions) (cells : List Cell) (h : Here) → options.constructs.alerts ≡ true →
     IsRest h.scratch →
     let kind = alert_of options cells in

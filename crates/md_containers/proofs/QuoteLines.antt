@@ -35,13 +35,13 @@ use Rattle.md_meaning.proofs.TextsLemmas.{NoEnding}
 
 -- The prefix of a quote, from a point to a point: whitespace, `>`, and at most one column of whitespace.
 pub record IsPrefix (bytes : List ℕ) (p q : Point) (es : List Event) : Type 0 where
-  -- where `>` stands, and the point behind it
+  -- where `>` is, and the point after it
   pub marker : Point
   pub behind : Point
   pub events : es ≡
       pair_unless_empty n.SpaceOrTab p marker ++ enter n.BlockQuotePrefix marker ∷ enter n.BlockQuoteMarker marker
       ∷ exit n.BlockQuoteMarker behind ∷ pair_unless_empty n.SpaceOrTab behind q ++ exit n.BlockQuotePrefix q ∷ []
-  -- the points go on
+  -- the points continue
   pub indent : IsTrue (at_or_before p marker)
   pub past : behind.index ≡ suc marker.index
   pub column : IsTrue (at_or_before behind q)
@@ -55,7 +55,7 @@ pub record IsPrefix (bytes : List ℕ) (p q : Point) (es : List Event) : Type 0 
   -- all on one line
   pub line : q.line ≡ p.line
 
--- these events, by whether there is no whitespace in front of `>`, and none behind it
+-- these events, by whether there is no whitespace before `>`, and none after it
 abbrev pub prefix_by : Bool → Bool → Point → Point → Point → Point → List Event
 prefix_by none same p marker behind q =
     cond none [] (pair n.SpaceOrTab p marker) ++ enter n.BlockQuotePrefix marker ∷ enter n.BlockQuoteMarker marker
@@ -131,7 +131,7 @@ white_end-same line text behind (suc n) (suc room) r p stop is k e le =
     (omega (arith, e, first.columns)) (omega (arith, le)))
     ∙ sym (ap (λ (l : List Cell). white_end (suc n) l p) cells)
 
--- Behind the marker.
+-- After the marker.
 
 -- at most one column of whitespace is taken
 record HasBehind (line : Line) (text past : List ℕ) (end : Point) (stop cells : List Cell) (p : Point)
@@ -211,7 +211,7 @@ record HasMarker (line : Line) (text past : List ℕ) (end : Point) (stop cells 
   white : White text behind (marker_end cells p)
   shorter : length (marker_rest cells) < length cells
 
--- a marker stands here, and so much is left behind it, or there is none
+-- a marker is here, and so much is left after it, or there is none
 abbrev MarkerIs : Line → (text past : List ℕ) → Point → (stop cells : List Cell) → Point → Option Taken → Type 0
 MarkerIs line text past end stop cells p (Some taken) = HasMarker line text past end stop cells p taken.rest
 MarkerIs line text past end stop cells p None = has_marker cells ≡ false
@@ -297,7 +297,7 @@ marker-white (c ∷ cs) e = go c.byte e
 
 -- The whole prefix.
 
--- so much is left of a line behind it, and this stands there
+-- so much is left of a line after it, and this is there
 pub record HasPrefix (options : ParseOptions) (line : Line) (text past : List ℕ) (end : Point) (stop cells : List Cell)
     (p : Point) (left : Rest) : Type 0 where
   pub takes : takes_prefix options cells ≡ true
@@ -307,14 +307,14 @@ pub record HasPrefix (options : ParseOptions) (line : Line) (text past : List �
   pub prefix : IsPrefix text p (prefix_end options cells p) (prefix_events options cells p)
   pub shorter : length (prefix_rest options cells) < length cells
 
--- a prefix stands here, and so much is left behind it, or there is none
+-- a prefix is here, and so much is left after it, or there is none
 abbrev pub PrefixIs : ParseOptions → Line → (text past : List ℕ) → Point → (stop cells : List Cell) → Point →
     Option Taken → Type 0
 PrefixIs options line text past end stop cells p (Some taken) =
     HasPrefix options line text past end stop cells p taken.rest
 PrefixIs options line text past end stop cells p None = takes_prefix options cells ≡ false
 
--- the definition takes what stands behind the indent, if that is small
+-- the definition takes what follows the indent, if that is small
 taken-small : (options : ParseOptions) (kind : Option AlertKind) (r : Rest) → has_small_indent options r ≡ true →
     quote_taken options kind r ≡ taken_at kind (behind_indent r)
 unfolding quote_taken
@@ -325,7 +325,7 @@ taken-large : (options : ParseOptions) (kind : Option AlertKind) (r : Rest) → 
 unfolding quote_taken
 taken-large options kind r e = rw e refl
 
--- a prefix stands on the cells of a line where it does on its bytes
+-- a prefix is on the cells of a line where it does on its bytes
 pub prefix-agrees : (options : ParseOptions) (kind : Option AlertKind) (line : Line) (text past : List ℕ) (r : Rest)
     (stop : List Cell) (p : Point) →
     RestAt text past r p → Stops stop → length (rest_cells line r p ++ stop) < 2 ^ 63 →

@@ -129,7 +129,7 @@ marker_means B feed w true state behind next is then s e =
     (exit BlockQuoteMarker (after w.setting w.point))) refl refl
 marker_means B feed w false state behind next is then s e = asked-none B feed _ w (asks-marker next) is s e
 
--- Behind the marker.
+-- After the marker.
 
 behind-white : (next : Left) (feed : Feed) (w : World) (h : Here) (o : Option ℕ) → sees_white o ≡ true →
     behind_marker next (ahead feed w o) h ≡
@@ -188,7 +188,7 @@ cont_after_means B options feed w false has s e =
 
 -- The marker of an alert.
 
--- what an attempt at it comes to
+-- what an attempt at it becomes
 ended-resumed : (B : Behaviour) (options : ParseOptions) (feed : Feed) (w : World) (o : Outcome) → HasQuote B options →
     ended_by (feed w.point) (here w) o ≡
     resume B feed w.events

@@ -32,7 +32,7 @@ HasQuote T =
     (state : QuoteState) (w : World) (to : State) (new : World) →
     quote_transition state w ≡ record { to = to; world = new } → T (n.BlockQuote state) w to new
 
--- an attempt at the prefix of a further line takes it, and what stands behind it is seen
+-- an attempt at the prefix of a further line takes it, and what follows it is seen
 pub prefix-run : (T : Step) (is_end : Bool) (s : State) (v : World) (next : StateName) (nok : State) (w : World) →
     HasQuote T → CameTo T is_end s v (n.BlockQuote its.ContStart) (tried w (Next next) nok) →
     w.current ≡ looks w → Within w → IsPlainPrefix w → CameTo T is_end s v next (prefixed w)

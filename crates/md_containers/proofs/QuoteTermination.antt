@@ -1,4 +1,4 @@
--- The prefix of a quote stands and ends in any table that has it.
+-- The prefix of a quote is and ends in any table that has it.
 use Rattle.std.proofs.Common.{◌≡◌, ℕ, ◌+◌, Bool, true, false, nat_eq, length, Option, Some, None, refl, arith, ap, sym}
 use Rattle.std.specs.Char.{to_ascii_lowercase}
 use Rattle.md_engine.specs.declared.event.Name.TheVariants as parts

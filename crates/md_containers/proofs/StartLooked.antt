@@ -1,5 +1,5 @@
--- Where another byte than a container may begin with stands first behind whitespace it is refused, and all is left as
--- it was.
+-- Where another byte than a container may begin with is first after whitespace it is refused, and all is left as it
+-- was.
 use Rattle.std.proofs.Common.{◌≡◌, ℕ, Bool, true, false, List, Some, ap, refl, sym, ◌∙◌, ◌⊎◌, inl, inr}
 use Rattle.md_engine.specs.declared.configuration.ParseOptions.{ParseOptions}
 use Rattle.md_engine.specs.declared.event.Name.{Name}
@@ -16,7 +16,7 @@ use Rattle.md_seam.proofs.LookLemmas.{rest-begins}
 use Rattle.md_seam.proofs.SpacesTermination.{rest-calm}
 use Rattle.md_seam.proofs.WhiteMeaning.{behind_white}
 
--- what is left behind the indent refuses where such a byte, or whitespace, stands first
+-- what is left after the indent refuses where such a byte, or whitespace, is first
 pub start-looked : (name : Name) (on : Bool) (behind : List Cell → Here → Outcome) (may : ℕ → Bool)
     (options : ParseOptions) (cells : List Cell) (h : Here) (b : ℕ) →
     ((cells : List Cell) (h : Here) (b : ℕ) → first_seen cells ≡ Some b → may b ≡ false →

@@ -20,9 +20,9 @@ pub record IsOfNoList (name : Name) : Type 0 where
   pub unordered : same_name n.ListUnordered name ≡ false
   pub item : same_name n.ListItem name ≡ false
 
--- Where one is in a container: in front of its first prefix, which has this name, or behind the whitespace there; at
--- the begin of a line or behind a block; in a text, in front of a byte order mark, of frontmatter or of both; or where
--- nothing may come.
+-- Where one is in a container: before its first prefix, which has this name, or after the whitespace there; at the
+-- begin of a line or after a block; in a text, before a byte order mark, of frontmatter or of both; or where nothing
+-- may come.
 pub data Stage : Type 0 where
   AtFront : (prefix : Name) → IsOfNoList prefix → Stage
   AtPrefix : (prefix : Name) → IsOfNoList prefix → Stage
@@ -55,7 +55,7 @@ is-behind x e = (BehindBlock, e)
 is-dead : (x : Expression) → x ≡ Never → HasStage x
 is-dead x e = (Dead, e)
 
--- behind a name that may be that of the prefix
+-- after a name that may be that of the prefix
 at-prefix : (same : Bool) → HasStage (or_else (and_then (cond same Nothing Never) blocks) Never)
 at-prefix true = (AtLine, refl)
 at-prefix false = (Dead, refl)
@@ -208,7 +208,7 @@ tame-behind name x (inl h) =
     let next = stage-behind h.0 name in inl (next.0, ap (behind name) h.1 ∙ next.1)
 tame-behind name x (inr h) = inr (plain-behind name x h)
 
--- where a list comes, blocks of a container go on behind it; and an item stands in none
+-- where a list comes, blocks of a container continue after it; and an item is in none
 abbrev pub ListsWell : Expression → Type 0
 ListsWell x =
     ((behind n.ListOrdered x ≡ behind_block) ⊎ (behind n.ListOrdered x ≡ Never))
@@ -250,7 +250,7 @@ tame-lists x (inr h) =
     let none : behind n.ListOrdered x ≡ Never = plain-never n.ListOrdered tt x h in
     (inr none, plain-never n.ListUnordered tt x h ∙ sym none, plain-never n.ListItem tt x h)
 
--- a container in front of its first prefix
+-- a container before its first prefix
 tame-front : (prefix : Name) → IsOfNoList prefix →
     IsTame (Then white (Then (one prefix) blocks))
 tame-front prefix apart = inl (AtFront prefix apart, refl)
@@ -258,7 +258,7 @@ tame-front prefix apart = inl (AtFront prefix apart, refl)
 pub tame-item : IsTame (Then white (Then (one n.ListItemPrefix) blocks))
 tame-item = tame-front n.ListItemPrefix (record { space = refl; ordered = refl; unordered = refl; item = refl })
 
--- what stands in a part that is no list is so
+-- what is in a part that is no list is so
 pub tame-inside : (text : Expression) → is_plain text ≡ true → (name : Name) →
     IsTame (inside text name) ⊎ (in_place name ≡ n.ListItem)
 tame-inside text h n.ListItem = inl tame-item

@@ -12,7 +12,7 @@ use Rattle.md_seam.specs.Events.Nested.{open_after, open_behind}
 use Rattle.md_seam.specs.Events.Spelled.{role}
 use Rattle.md_seam.proofs.GrammarLemmas.{Leads}
 
--- what is open behind some events
+-- what is open after some events
 abbrev pub site_behind : Site → List Event → Site
 site_behind site [] = site
 site_behind site (e ∷ es) = site_behind (site_after site e.kind (role e.name) e.point) es
@@ -28,7 +28,7 @@ pub site-append : (site : Site) (xs ys : List Event) →
 site-append site [] ys = refl
 site-append site (e ∷ xs) ys = site-append (site_after site e.kind (role e.name) e.point) xs ys
 
--- events that may stand where this is open, behind which that is
+-- events that may be where this is open, after which that is
 pub record StandsTo (bytes : List ℕ) (from to : Site) (es : List Event) : Type 0 where
   pub stand : ItemsStand bytes from es
   pub behind : site_behind from es ≡ to
@@ -57,7 +57,7 @@ unlisted-append text stack [] ys = refl
 unlisted-append text stack (e ∷ xs) ys =
     unlisted-append text (unlisted_behind text stack e.kind e.name) xs ys
 
--- events behind which that is left of this, whatever stands around it
+-- events after which that is left of this, whatever is around it
 abbrev pub Unlists : Expression → List Expression → List Expression → List Event → Type 0
 Unlists text from to es = (outer : List Expression) → unlisted_left text (from ++ outer) es ≡ to ++ outer
 

@@ -1,4 +1,4 @@
--- The footnote definition: what each of its states does where it opens. The states of an item have it go on.
+-- The footnote definition: what each of its states does where it opens. The states of an item have it continue.
 use Rattle.std.specs.Prelude.{refl, ℕ, ◌+◌, ◌≤◌, Bool, true, false, ◌||◌, ◌==◌, if◌then◌else◌, nat_le, Option}
 use Rattle.std.specs.Prelude.{Some, None}
 use Rattle.md_engine.specs.declared.event.Content.TheVariants as content
@@ -23,7 +23,7 @@ use Rattle.md_leaves.specs.LeafStart as leaf
 use Rattle.md_seam.specs.Spaces.{IsRest, any_size, is_current, later_ready, rest_ready, sees_white, white_then}
 use Rattle.md_seam.specs.Transition.{Transition, entered, entered_link, exited, taken}
 
--- what may stand first behind the indent where a footnote definition opens: `[`
+-- what may be first after the indent where a footnote definition opens: `[`
 abbrev pub may_begin : ℕ → Bool
 may_begin b = b == left_bracket
 
@@ -55,7 +55,7 @@ start_transition w =
     leaf.start_transition GfmFootnoteDefinition (n.GfmFootnoteDefinition its.LabelBefore)
     w.setting.options.constructs.gfm_footnote_definition w
 
--- by whether `[` stands here
+-- by whether `[` is here
 abbrev pub label_before_code : World → Bool → Transition
 label_before_code w true =
     goes_on its.LabelAtMarker
@@ -66,7 +66,7 @@ label_before_code w true =
     GfmFootnoteDefinitionLabelMarker)
 label_before_code w false = record { to = Nok; world = w }
 
--- by whether `^` stands here
+-- by whether `^` is here
 abbrev pub label_at_marker_code : World → Bool → Transition
 label_at_marker_code w true =
     goes_on its.LabelInside
@@ -93,7 +93,7 @@ closed_code w false =
     GfmFootnoteDefinitionLabelMarker)
     GfmFootnoteDefinitionLabel) { scratch = without_size w.scratch })
 
--- by what stands here
+-- by what is here
 abbrev pub label_inside_code : World → Option ℕ → Transition
 label_inside_code w None = refused w
 label_inside_code w (Some b) =
@@ -101,17 +101,17 @@ label_inside_code w (Some b) =
     else if breaks_label b then refused w
     else taken_as w (if b == backslash then its.LabelEscape else its.LabelInside)
 
--- by whether a backslash takes what stands here
+-- by whether a backslash takes what is here
 abbrev pub label_escape_code : World → Bool → Transition
 label_escape_code w true = taken_as w its.LabelInside
 label_escape_code w false = record { to = Retry (n.GfmFootnoteDefinition its.LabelInside); world = w }
 
--- by whether `:` stands here
+-- by whether `:` is here
 abbrev pub label_after_code : World → Bool → Transition
 label_after_code w true = goes_on its.MarkerAfter (exited (taken (entered w DefinitionMarker)) DefinitionMarker)
 label_after_code w false = record { to = Nok; world = w }
 
--- by whether whitespace stands here
+-- by whether whitespace is here
 abbrev pub marker_after_code : World → Bool → Transition
 marker_after_code w true = white_then w 1 any_size (Next (n.GfmFootnoteDefinition its.WhitespaceAfter)) Nok
 marker_after_code w false = record { to = Retry (n.GfmFootnoteDefinition its.WhitespaceAfter); world = w }
@@ -169,7 +169,7 @@ pub record IsInLabel (x : Position) : Type 0 where
   pub size : x.scratch.size ≤ most
   pub rest : IsRest (without_size x.scratch)
 
--- it ends behind `[`, and so behind the point where it begins
+-- it ends after `[`, and so after the point where it begins
 abbrev pub footnote_ready : StateName → Position → After → Type 0
 footnote_ready (n.GfmFootnoteDefinition its.LabelInside) x K = IsInLabel x × Ends IsRest IsRest x K
 footnote_ready (n.GfmFootnoteDefinition its.LabelEscape) x K = IsInLabel x × Ends IsRest IsRest x K

@@ -1,4 +1,4 @@
--- A footnote definition on a line, by the cells of the line: one that opens, and one that goes on (own choice, as on
+-- A footnote definition on a line, by the cells of the line: one that opens, and one that continues (own choice, as on
 -- GitHub).
 use Rattle.std.specs.Prelude.{◌≡◌, ℕ, false, ◌==◌, if◌then◌else◌, List, [], ◌∷◌, ◌++◌, length, Option, Some, None}
 use Rattle.md_engine.specs.declared.configuration.ParseOptions.{ParseOptions}
@@ -19,11 +19,11 @@ use Rattle.md_seam.specs.Ahead.{begins_white, white_end, white_rest}
 use Rattle.md_seam.specs.Events.Nested.{enter, exit, pair}
 use Rattle.md_seam.specs.Spaces.{any_size, small_indent}
 
--- all whitespace behind `:`
+-- all whitespace after `:`
 abbrev pub white_events : List Cell → Point → List Event
 white_events cells p = if begins_white cells then pair SpaceOrTab p (white_end any_size cells p) else []
 
--- A footnote definition with these events in front: behind its `:`,
+-- A footnote definition with these events in front: after its `:`,
 abbrev pub footnote_opened : List ℕ → List Event → List Cell → Point → ItemPassed
 footnote_opened label front cells p = record {
   container = InFootnote label;
@@ -32,7 +32,7 @@ footnote_opened label front cells p = record {
   point = white_end any_size cells p;
 }
 
--- behind its label,
+-- after its label,
 abbrev pub footnote_ended : List ℕ → List Event → List Cell → Point → Option ItemPassed
 footnote_ended label front [] p = None
 footnote_ended label front (c ∷ cs) p =
@@ -48,7 +48,7 @@ footnote_labelled front (Some l) =
     then footnote_ended l.label (front ++ label_ended l.end l.closer.after) l.rest l.closer.after
     else None
 
--- behind its `[`,
+-- after its `[`,
 abbrev pub footnote_marked : List Event → List Cell → Point → Option ItemPassed
 footnote_marked front [] p = None
 footnote_marked front (c ∷ cs) p =
@@ -56,7 +56,7 @@ footnote_marked front (c ∷ cs) p =
     then footnote_labelled (front ++ caret_events p c.after) (label_cells false cs c.after)
     else None
 
--- and behind its indent.
+-- and after its indent.
 abbrev pub footnote_behind : List Event → List Cell → Point → Option ItemPassed
 footnote_behind front [] p = None
 footnote_behind front (c ∷ cs) p =
@@ -70,7 +70,7 @@ footnote_new options cells p =
     (white_rest (small_indent options) cells) (white_end (small_indent options) cells p)
     else None
 
--- An open one goes on as an item of its width does that did not start blank.
+-- An open one continues as an item of its width does that did not start blank.
 
 abbrev pub as_footnote : List ℕ → Option ItemPassed → Option ItemPassed
 as_footnote label None = None
@@ -88,7 +88,7 @@ abbrev pub footnote_holds : Held → Container → Type 0
 footnote_holds held (InFootnote label) = (held.width ≡ footnote_width) × (held.starts_blank ≡ false)
 footnote_holds held _ = ⊥
 
--- taken where it opens or goes on, and refused elsewhere
+-- taken where it opens or continues, and refused elsewhere
 abbrev pub footnote_by : Option ItemPassed → Here → Outcome
 footnote_by None h = Refuses h.scratch h.flags
 footnote_by (Some t) h =

@@ -29,7 +29,7 @@ use Rattle.md_seam.specs.Spaces.{any_size}
 
 -- The label.
 
--- the bytes of a label, where it ends, the `]` there, and what is left behind that
+-- the bytes of a label, where it ends, the `]` there, and what is left after that
 pub record LabelCells : Type 0 where
   pub label : List ℕ
   pub end : Point
@@ -74,20 +74,20 @@ label_ended p q =
 
 -- What is left.
 
--- behind the prefix: the footnote definition opens
+-- after the prefix: the footnote definition opens
 unfoldable pub behind_prefix : List Cell → Here → Outcome
 behind_prefix cells h =
     Accepts
     (record h { events = h.events ++ exit GfmFootnoteDefinitionPrefix h.point ∷ []; flags = footnote_held h.flags })
     cells
 
--- behind `:` all whitespace belongs to the prefix
+-- after `:` all whitespace belongs to the prefix
 unfoldable pub behind_colon : List Cell → Here → Outcome
 behind_colon cells h =
     if begins_white cells then behind_prefix (white_rest any_size cells) (behind_columns any_size cells h)
     else behind_prefix cells h
 
--- behind the label
+-- after the label
 unfoldable pub at_colon : List Cell → Here → Outcome
 at_colon [] h = Refuses h.scratch h.flags
 at_colon (c ∷ cs) h =
@@ -111,7 +111,7 @@ label_by (Some l) h =
 unfoldable pub in_label : Bool → List Cell → Here → Outcome
 in_label escaped cells h = label_by (label_cells escaped cells h.point) h
 
--- behind `[`
+-- after `[`
 unfoldable pub at_caret : List Cell → Here → Outcome
 at_caret [] h = Refuses h.scratch h.flags
 at_caret (c ∷ cs) h =
@@ -119,7 +119,7 @@ at_caret (c ∷ cs) h =
     then in_label false cs (record h { events = h.events ++ caret_events h.point c.after; point = c.after })
     else Refuses h.scratch h.flags
 
--- behind the indent
+-- after the indent
 unfoldable pub at_bracket : List Cell → Here → Outcome
 at_bracket [] h = Refuses h.scratch h.flags
 at_bracket (c ∷ cs) h =
@@ -127,7 +127,7 @@ at_bracket (c ∷ cs) h =
     then at_caret cs (record h { events = h.events ++ bracket_events h.point c.after; point = c.after })
     else Refuses h.scratch h.flags
 
--- the whole rule, if footnote definitions are on: a small indent, and a prefix behind it
+-- the whole rule, if footnote definitions are on: a small indent, and a prefix after it
 abbrev pub footnote_at : ParseOptions → List Cell → Here → Outcome
 footnote_at options cells h =
     start_at GfmFootnoteDefinition options.constructs.gfm_footnote_definition at_bracket options cells h

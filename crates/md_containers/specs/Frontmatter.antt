@@ -27,7 +27,7 @@ cleared s = record s { marker = 0; size = 0 }
 abbrev pub fence_entered : World → World
 fence_entered w = entered (entered w part.FrontmatterFence) part.FrontmatterSequence
 
--- the line ending that stands here is taken
+-- the line ending that is here is taken
 abbrev pub ending_taken : World → World
 ending_taken w = exited (taken (entered w part.LineEnding)) part.LineEnding
 
@@ -55,12 +55,12 @@ abbrev pub start_by : World → Bool → Transition
 start_by w true = start_at w w.current
 start_by w false = record { to = Nok; world = w }
 
--- behind a sequence, by whether whitespace stands here
+-- after a sequence, by whether whitespace is here
 abbrev pub behind_part : World → FrontState → Bool → Transition
 behind_part w state true = white_then w 0 any_size (Next (n.Frontmatter state)) Nok
 behind_part w state false = record { to = Retry (n.Frontmatter state); world = w }
 
--- by whether one more marker is taken, whether there are just three, and whether whitespace stands here
+-- by whether one more marker is taken, whether there are just three, and whether whitespace is here
 abbrev pub sequence_code : FrontState → FrontState → Scratch → World → Bool → Bool → Bool → Transition
 sequence_code here next left w true all white =
     record {
@@ -75,7 +75,7 @@ sequence_code here next left w false false white = record { to = Nok; world = re
 abbrev pub takes_one : World → Bool
 takes_one w = is_current w.scratch.marker w.current && nat_lt w.scratch.size 3
 
--- whether just three stand in front of this point
+-- whether just three are before this point
 abbrev pub has_three : World → Bool
 has_three w = not (is_current w.scratch.marker w.current) && (w.scratch.size == 3)
 
@@ -83,11 +83,11 @@ abbrev pub sequence_transition : FrontState → FrontState → Scratch → World
 sequence_transition here next left w =
     sequence_code here next left w (takes_one w) (has_three w) (sees_white w.current)
 
--- whether a line ending stands here
+-- whether a line ending is here
 abbrev pub sees_ending : World → Bool
 sees_ending w = is_current 10 w.current
 
--- by whether a line ending stands here
+-- by whether a line ending is here
 abbrev pub open_after_code : World → Bool → Transition
 open_after_code w true =
     record { to = Next (n.Frontmatter its.CloseStart); world = ending_taken (exited w part.FrontmatterFence) }
@@ -95,7 +95,7 @@ open_after_code w false = refused w
 
 -- A further line.
 
--- by whether the marker stands here
+-- by whether the marker is here
 abbrev pub close_start_code : World → Bool → Transition
 close_start_code w true =
     record {
@@ -119,7 +119,7 @@ content_inside_code w true =
     record { to = Retry (n.Frontmatter its.ContentEnd); world = exited w part.FrontmatterChunk }
 content_inside_code w false = record { to = Next (n.Frontmatter its.ContentInside); world = taken w }
 
--- by whether a line ending stands here
+-- by whether a line ending is here
 abbrev pub content_end_code : World → Bool → Transition
 content_end_code w true = record { to = Next (n.Frontmatter its.CloseStart); world = ending_taken w }
 content_end_code w false = refused w

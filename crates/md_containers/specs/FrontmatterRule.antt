@@ -21,7 +21,7 @@ use Rattle.md_containers.specs.Frontmatter.{cleared, is_marker}
 abbrev pub refuses : Here → Outcome
 refuses h = Refuses (cleared h.scratch) h.flags
 
--- A fence: just three markers, and behind them only whitespace. What is left is its sequence, behind which something is
+-- A fence: just three markers, and after them only whitespace. What is left is its sequence, after which something is
 -- asked; where there are fewer or more markers, this scratch is left.
 unfoldable pub in_sequence : (List Cell → Here → Outcome) → Scratch → List Cell → Here → Outcome
 in_sequence behind left cells h =
@@ -40,11 +40,11 @@ in_sequence behind left cells h =
 abbrev pub fence_begun : Here → Here
 fence_begun h = with_event (with_event h (enter part.FrontmatterFence h.point)) (enter part.FrontmatterSequence h.point)
 
--- behind a line ending
+-- after a line ending
 abbrev pub behind_ending : Cell → Here → Here
 behind_ending c h = record h { events = h.events ++ pair part.LineEnding h.point c.after; point = c.after }
 
--- Behind the closing fence: its line ending, if there is one.
+-- After the closing fence: its line ending, if there is one.
 abbrev pub behind_front : List Cell → Here → Outcome
 behind_front [] h = Accepts h []
 behind_front (c ∷ cs) h = if c.byte == 10 then Accepts (behind_ending c h) cs else Accepts h (c ∷ cs)
@@ -53,7 +53,7 @@ abbrev pub shuts : List Cell → Here → Outcome
 shuts cells h =
     behind_front cells (with_event (record h { scratch = cleared h.scratch }) (exit part.Frontmatter h.point))
 
--- behind a closing fence and its whitespace
+-- after a closing fence and its whitespace
 unfoldable pub close_end : List Cell → Here → Outcome
 close_end cells h =
     if is_end cells then Accepts (with_event h (exit part.FrontmatterFence h.point)) cells
@@ -63,13 +63,13 @@ close_end cells h =
 abbrev pub in_close : List Cell → Here → Outcome
 in_close cells h = in_sequence close_end (without_size h.scratch) cells h
 
--- a closing fence, where the marker stands
+-- a closing fence, where the marker is
 abbrev pub close_at : List Cell → Here → Outcome
 close_at cells h =
     if is_current h.scratch.marker (first_seen cells) then in_close cells (fence_begun h)
     else Refuses h.scratch h.flags
 
--- by what a closing fence has come to: frontmatter ends, or a line of it stands here
+-- by what a closing fence has become: frontmatter ends, or a line of it is here
 abbrev pub closed_or : (Scratch → Flags → Outcome) → Outcome → Outcome
 closed_or content (Accepts k rest) = shuts rest k
 closed_or content (Refuses s g) = content s g
@@ -85,7 +85,7 @@ abbrev pub chunk_ended : Bool → Here → Here
 chunk_ended true h = with_event h (exit part.FrontmatterChunk h.point)
 chunk_ended false h = h
 
--- What is left in a line that is no closing fence: a chunk to its end, if something stands there; behind its ending the
+-- What is left in a line that is no closing fence: a chunk to its end, if something is there; after its ending the
 -- closing fence, or else one more such line. The text may not end.
 unfoldable pub in_lines : Bool → List Cell → Here → Outcome
 in_lines begun [] h = refuses h
@@ -95,19 +95,19 @@ in_lines begun (c ∷ cs) h =
     then closed_or (λ s g. in_lines false cs (record k { scratch = s; flags = g })) (close_at cs k)
     else in_lines true cs (record (chunk_begun begun h) { point = c.after })
 
--- in front of a line: the closing fence, or else a line of the block
+-- before a line: the closing fence, or else a line of the block
 abbrev pub at_line : List Cell → Here → Outcome
 at_line cells h =
     closed_or (λ s g. in_lines false cells (record h { scratch = s; flags = g })) (close_at cells h)
 
--- behind a line ending that has to stand here
+-- after a line ending that has to be here
 abbrev pub behind_line : List Cell → Here → Outcome
 behind_line [] h = refuses h
 behind_line (c ∷ cs) h = if c.byte == 10 then at_line cs (behind_ending c h) else refuses h
 
 -- The opening fence.
 
--- behind it and its whitespace
+-- after it and its whitespace
 unfoldable pub open_end : List Cell → Here → Outcome
 open_end [] h = refuses h
 open_end (c ∷ cs) h =

@@ -24,18 +24,18 @@ use Rattle.md_seam.specs.Look.{looks_behind, sees_other}
 use Rattle.md_seam.specs.Spaces.{IsRest, asking, calmed, ends_line, later_ready, rest_ready, sees_white, white_then}
 use Rattle.md_seam.specs.Transition.{Transition, entered, exited, taken, tried}
 
--- what stands behind the digits of an ordered item
+-- what follows the digits of an ordered item
 abbrev pub ends_value : ℕ → Bool
 ends_value b = (b == dot) || (b == right_parenthesis)
 
 abbrev pub is_item_marker : ℕ → Bool
 is_item_marker b = is_bullet b || ends_value b
 
--- what may stand first behind the indent where an item opens
+-- what may be first after the indent where an item opens
 abbrev pub may_begin : ℕ → Bool
 may_begin b = is_bullet b || is_digit b
 
--- whether a byte stands here of which this holds
+-- whether a byte is here of which this holds
 abbrev pub sees : (ℕ → Bool) → Option ℕ → Bool
 sees is None = false
 sees is (Some b) = is b
@@ -66,7 +66,7 @@ abbrev pub start_transition : World → Transition
 start_transition w =
     leaf.start_transition ListItem (n.ListItem its.Before) w.setting.options.constructs.list_item w
 
--- at a bullet, by whether a thematic break may stand here
+-- at a bullet, by whether a thematic break may be here
 abbrev pub bullet_code : World → Bool → Transition
 bullet_code w true = record {
   to = Retry (n.ThematicBreak thematic_break.Start);
@@ -74,11 +74,11 @@ bullet_code w true = record {
 }
 bullet_code w false = goes_to its.BeforeUnordered w
 
--- whether a thematic break of this marker may stand here: there is none of `+`, and none where another byte is seen
+-- whether a thematic break of this marker may be here: there is none of `+`, and none where another byte is seen
 abbrev pub may_break : World → ℕ → Bool
 may_break w b = w.setting.options.constructs.thematic_break && not ((b == plus) || sees_other w b)
 
--- by what stands here; text is interrupted by the number 1 alone
+-- by what is here; text is interrupted by the number 1 alone
 abbrev pub before_code : World → Option ℕ → Transition
 before_code w None = refused w
 before_code w (Some b) =
@@ -86,7 +86,7 @@ before_code w (Some b) =
     else if is_digit b && (not (interrupts w.flags) || (b == 49)) then goes_to its.BeforeOrdered w
     else refused w
 
--- by whether a digit stands here
+-- by whether a digit is here
 abbrev pub before_ordered_code : World → Bool → Transition
 before_ordered_code w true = goes_to its.Value (entered (entered w ListItemPrefix) ListItemValue)
 before_ordered_code w false = refused w
@@ -102,7 +102,7 @@ value_code w false true =
     goes_to its.Marker (record (exited w ListItemValue) { scratch = without_size w.scratch })
 value_code w false false = refused (record w { scratch = without_size w.scratch })
 
--- by whether a marker stands here
+-- by whether a marker is here
 abbrev pub marker_code : World → Bool → Transition
 marker_code w true = record {
   to = Next (n.ListItem its.MarkerAfter);
@@ -110,8 +110,8 @@ marker_code w true = record {
 }
 marker_code w false = refused w
 
--- to one of two states, by whether the rest of the line is blank: by what stands first behind whitespace or, where that
--- is not known, by a check
+-- to one of two states, by whether the rest of the line is blank: by what is first after whitespace or, where that is
+-- not known, by a check
 abbrev pub blank_code : ItemState → ItemState → World → Option ℕ → Transition
 blank_code blank filled w None = record {
   to = Retry (n.BlankLine blank_line.Start);
@@ -119,7 +119,7 @@ blank_code blank filled w None = record {
 }
 blank_code blank filled w (Some b) = if b == 10 then goes_to blank w else goes_to filled w
 
--- 1 to 4 columns are tried; that something stands behind the marker is noted
+-- 1 to 4 columns are tried; that something is after the marker is noted
 abbrev pub filled_transition : World → Transition
 filled_transition w =
     goes_to its.Whitespace (record (tried w (Next (n.ListItem its.After)) (Next (n.ListItem its.PrefixOther))) {
@@ -131,7 +131,7 @@ abbrev pub whitespace_after_code : World → Bool → Transition
 whitespace_after_code w true = refused w
 whitespace_after_code w false = record { to = Ok; world = w }
 
--- by whether whitespace stands here
+-- by whether whitespace is here
 abbrev pub prefix_other_code : World → Bool → Transition
 prefix_other_code w true =
     record { to = Next (n.ListItem its.After); world = exited (taken (entered w SpaceOrTab)) SpaceOrTab }
@@ -142,7 +142,7 @@ abbrev pub at_least_one : ℕ → ℕ
 at_least_one columns = if columns == 0 then 1 else columns
 
 -- the columns that a further line has to lose, from the begin of an item to here; where its first line is blank, as if
--- a column stood behind the marker
+-- a column was after the marker
 abbrev pub width_here : ℕ → ℕ → Bool → ℕ
 width_here column from blank = at_least_one (column - from + (if blank then 1 else 0))
 
@@ -163,7 +163,7 @@ after_code w false blank = record {
   };
 }
 
--- What has an item go on, and a footnote definition.
+-- What has an item continue, and a footnote definition.
 
 -- the columns that a further line has to lose
 abbrev pub least_width : Container → ℕ
@@ -179,7 +179,7 @@ cont_start_code w true true = refused w
 cont_start_code w true false = record { to = Ok; world = w }
 cont_start_code w false blank = blank_code its.ContBlank its.ContFilled w (looks_behind w)
 
--- the first column of an indent, of which so many are asked for at least: by whether whitespace stands here
+-- the first column of an indent, of which so many are asked for at least: by whether whitespace is here
 abbrev pub indent_code : ItemState → ℕ → World → Bool → Transition
 indent_code state min w true =
     record {
@@ -281,9 +281,9 @@ item_transition its.ContStart w = cont_start_transition w
 item_transition its.ContBlank w = cont_blank_transition w
 item_transition its.ContFilled w = cont_filled_transition w
 
--- Readiness. An item accepts only behind the point where it begins, behind its marker everywhere.
+-- Readiness. An item accepts only after the point where it begins, after its marker everywhere.
 
--- where it is noted that something stands behind the marker
+-- where it is noted that something is after the marker
 abbrev pub IsFilled : Scratch → Type 0
 IsFilled s = s ≡ record REST { seen = true }
 

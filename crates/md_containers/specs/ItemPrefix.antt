@@ -1,4 +1,4 @@
--- A list item on a line, by the cells of the line: one that opens, and one that goes on (CommonMark 5.2).
+-- A list item on a line, by the cells of the line: one that opens, and one that continues (CommonMark 5.2).
 use Rattle.std.specs.Prelude.{◌≡◌, ℕ, zero, suc, ◌≤◌, Bool, true, false, ◌&&◌, ◌||◌, ◌==◌, not, nat_le, nat_lt}
 use Rattle.std.specs.Prelude.{if◌then◌else◌, List, [], ◌∷◌, ◌++◌, Option, Some, None}
 use Rattle.md_engine.specs.declared.configuration.ParseOptions.{ParseOptions}
@@ -20,16 +20,16 @@ use Rattle.md_seam.specs.Events.Nested.{enter, exit, pair}
 use Rattle.md_seam.specs.Look.{first_seen}
 use Rattle.md_seam.specs.Spaces.{ends_line, small_indent}
 
--- an item, or a footnote definition, that opens or goes on: as the line definition has it, the events in front of its
--- content, and what is left of the line behind them, and where
+-- an item, or a footnote definition, that opens or continues: as the line definition has it, the events before its
+-- content, and what is left of the line after them, and where
 pub record ItemPassed : Type 0 where
   pub container : Container
   pub events : List Event
   pub cells : List Cell
   pub point : Point
 
--- What is left behind a marker, if that may stand there: none, where the rest of the line is blank; else 1 to 4 columns
--- of whitespace, or one of more.
+-- What is left after a marker, if that may be there: none, where the rest of the line is blank; else 1 to 4 columns of
+-- whitespace, or one of more.
 pub record Padded : Type 0 where
   pub events : List Event
   pub cells : List Cell
@@ -37,7 +37,7 @@ pub record Padded : Type 0 where
   -- whether the rest of the line is blank
   pub blank : Bool
 
--- how many columns belong to the item, where whitespace stands
+-- how many columns belong to the item, where whitespace is
 abbrev pub padding_room : List Cell → ℕ
 padding_room cells = if begins_white (white_rest 4 cells) then 1 else 4
 
@@ -53,7 +53,7 @@ padding cells p =
     })
     else None
 
--- An item that began at a point, with these digits, this marker and these events in front: behind its padding,
+-- An item that began at a point, with these digits, this marker and these events in front: after its padding,
 abbrev pub item_closed : Bool → Point → List ℕ → ℕ → List Event → Bool → List Cell → Point → Option ItemPassed
 item_closed interrupting from digits byte front blank cells p =
     if blank && interrupting then None
@@ -80,7 +80,7 @@ digits_of room [] = []
 digits_of zero (c ∷ cs) = []
 digits_of (suc room) (c ∷ cs) = if is_digit c.byte then c.byte ∷ digits_of room cs else []
 
--- behind its digits, of which there are so many; text is interrupted by one alone,
+-- after its digits, of which there are so many; text is interrupted by one alone,
 abbrev pub item_numbered : Bool → Point → List ℕ → ℕ → List Event → List Cell → Point → Option ItemPassed
 item_numbered interrupting from digits size front [] p = None
 item_numbered interrupting from digits size front (c ∷ cs) p =
@@ -95,7 +95,7 @@ item_valued interrupting from front cells p =
     (front ++ enter ListItemPrefix p ∷ pair ListItemValue p (digits_end 9 cells p)) (digits_rest 9 cells)
     (digits_end 9 cells p)
 
--- and behind its indent.
+-- and after its indent.
 abbrev pub item_behind : ParseOptions → Bool → Point → List Event → List Cell → Point → Option ItemPassed
 item_behind options interrupting from front [] p = None
 item_behind options interrupting from front (c ∷ cs) p =
@@ -114,7 +114,7 @@ item_new options interrupting cells p =
     (white_rest (small_indent options) cells) (white_end (small_indent options) cells p)
     else None
 
--- one that goes on with nothing taken, and with so many columns
+-- one that continues with nothing taken, and with so many columns
 abbrev pub item_same : List ℕ → ℕ → ℕ → List Cell → Point → ItemPassed
 item_same digits marker width cells p =
     record { container = InItem digits marker width false; events = []; cells = cells; point = p }
@@ -127,7 +127,7 @@ item_indented digits marker width cells p = record {
   point = white_end width cells p;
 }
 
--- an open item, if it goes on
+-- an open item, if it continues
 abbrev pub item_further : List ℕ → ℕ → ℕ → Bool → List Cell → Point → Option ItemPassed
 item_further digits marker width blank cells p =
     if ends_line (first_seen cells) then if blank then None else Some (item_same digits marker width cells p)
@@ -146,7 +146,7 @@ item_holds held (InItem digits marker width blank) =
     (held.width ≡ width) × (held.starts_blank ≡ blank) × (1 ≤ width)
 item_holds held _ = ⊥
 
--- taken where it opens or goes on, and refused elsewhere
+-- taken where it opens or continues, and refused elsewhere
 abbrev pub item_by : Option ItemPassed → Here → Outcome
 item_by None h = Refuses h.scratch h.flags
 item_by (Some t) h =

@@ -46,7 +46,7 @@ digits_rest (suc room) (c ∷ cs) = if is_digit c.byte then digits_rest room cs 
 
 -- What opens an item.
 
--- behind the prefix: the item opens, unless it is blank and would interrupt text
+-- after the prefix: the item opens, unless it is blank and would interrupt text
 unfoldable pub behind_prefix : List Cell → Here → Outcome
 behind_prefix cells h =
     let blank = not h.scratch.seen in
@@ -71,7 +71,7 @@ one_column (c ∷ cs) h =
 unfoldable pub behind_padding : List Cell → Here → Outcome
 behind_padding cells h = if begins_white cells then Refuses h.scratch h.flags else Accepts h cells
 
--- behind whitespace that comes first, up to so many columns
+-- after whitespace that comes first, up to so many columns
 abbrev pub behind_columns : ℕ → List Cell → Here → Here
 behind_columns room cells h = record h {
   events = h.events ++ pair SpaceOrTab h.point (white_end room cells h.point);
@@ -85,7 +85,7 @@ padding_at cells h =
     if begins_white cells then behind_padding (white_rest 4 cells) (behind_columns 4 cells h)
     else Refuses (calmed h.scratch) h.flags
 
--- behind a marker that something else follows: 1 to 4 columns of whitespace, or one of more
+-- after a marker that something else follows: 1 to 4 columns of whitespace, or one of more
 unfoldable pub filled_at : List Cell → Here → Outcome
 filled_at cells h =
     let k = record h { scratch = record h.scratch { seen = true } } in
@@ -93,7 +93,7 @@ filled_at cells h =
     then behind_prefix (white_rest 4 cells) (behind_columns 4 cells k)
     else one_column cells k
 
--- behind the marker: none where the rest of the line is blank
+-- after the marker: none where the rest of the line is blank
 unfoldable pub behind_marker : List Cell → Here → Outcome
 behind_marker cells h = if is_blank (line_bytes cells) then behind_prefix cells h else filled_at cells h
 
@@ -105,7 +105,7 @@ at_marker (c ∷ cs) h =
     then behind_marker cs (record h { events = h.events ++ pair ListItemMarker h.point c.after; point = c.after })
     else Refuses h.scratch h.flags
 
--- behind the digits; text is interrupted by one alone
+-- after the digits; text is interrupted by one alone
 unfoldable pub behind_value : List Cell → Here → Outcome
 behind_value [] h = Refuses (without_size h.scratch) h.flags
 behind_value (c ∷ cs) h =
@@ -137,7 +137,7 @@ at_value (c ∷ cs) h =
 unfoldable pub at_bullet : List Cell → Here → Outcome
 at_bullet cells h = at_marker cells (record h { events = h.events ++ enter ListItemPrefix h.point ∷ [] })
 
--- behind the indent: a bullet, where no thematic break stands, or digits; text is interrupted by the number 1 alone
+-- after the indent: a bullet, where no thematic break is, or digits; text is interrupted by the number 1 alone
 unfoldable pub behind_indent : ParseOptions → List Cell → Here → Outcome
 behind_indent options [] h = Refuses h.scratch h.flags
 behind_indent options (c ∷ cs) h =
@@ -147,11 +147,11 @@ behind_indent options (c ∷ cs) h =
     else if is_digit c.byte && (not (interrupts h.flags) || (c.byte == 49)) then at_value (c ∷ cs) h
     else Refuses h.scratch h.flags
 
--- the whole rule, if items are on: a small indent, and a prefix behind it
+-- the whole rule, if items are on: a small indent, and a prefix after it
 abbrev pub item_at : ParseOptions → List Cell → Here → Outcome
 item_at options cells h = start_at ListItem options.constructs.list_item (behind_indent options) options cells h
 
--- What has an item go on.
+-- What has an item continue.
 
 -- in an indent, of which some columns were taken: as many as are there, up to a limit; it holds if those are enough
 unfoldable pub inside_indent : List Cell → Here → Outcome

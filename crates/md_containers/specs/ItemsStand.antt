@@ -1,5 +1,5 @@
--- Events whose lists can be told: blocks stand in containers alone, each item begins with its marker, and no list
--- stands yet.
+-- Events whose lists can be determined: blocks are in containers alone, each item begins with its marker, and no list
+-- is yet.
 --
 -- A walk over the events, which knows what is open. What it asks of an event depends on what is innermost.
 use Rattle.std.specs.Prelude.{◌≡◌, ℕ, ◌+◌, Bool, true, false, ◌||◌, List, [], ◌∷◌, drop, get_or}
@@ -45,7 +45,7 @@ abbrev pub is_item_shape : Shape → Bool
 is_item_shape (ItemShape marker digits) = true
 is_item_shape _ = false
 
--- what may stand wherever nothing else is read
+-- what may be wherever nothing else is read
 abbrev pub IsBetween : Role → Type 0
 IsBetween IsPrefix = Unit {0}
 IsBetween IsQuoteMarker = Unit {0}
@@ -64,7 +64,7 @@ abbrev pub IsForLeaf : Told → Type 0
 IsForLeaf OfLeaf = Unit {0}
 IsForLeaf _ = ⊥
 
--- a text of a leaf block, and none that is a block or tells something of a container
+-- a text of a leaf block, and none that is a block or shows something of a container
 abbrev pub IsOfLeaf : Purpose → Type 0
 IsOfLeaf purpose = IsForLeaf (told_of purpose)
 
@@ -76,14 +76,14 @@ IsForItself _ = ⊥
 abbrev pub IsOfItself : Purpose → Type 0
 IsOfItself purpose = IsForItself (told_of purpose)
 
--- what may stand in a leaf block
+-- what may be in a leaf block
 abbrev pub IsPart : Role → Type 0
 IsPart (ContainerRole shape) = ⊥
 IsPart (LeafRole kind) = ⊥
 IsPart (TextRole purpose) = IsOfLeaf purpose
 IsPart _ = Unit {0}
 
--- the byte of a marker, which stands at a byte's first column
+-- the byte of a marker, which is at a byte's first column
 pub record IsMarkerAt (bytes : List ℕ) (p : Point) : Type 0 where
   pub whole : p.vs ≡ 0
   pub marker : is_list_marker (get_or bytes p.index 0) ≡ true
@@ -128,7 +128,7 @@ MayEnd held p InLeaf role = IsPart role
 MayEnd held p InText (TextRole purpose) = IsOfItself purpose
 MayEnd held p InText role = IsBetween role
 
--- what is innermost behind a begin,
+-- what is innermost after a begin,
 abbrev pub inner_in : Point → Inner → Role → Inner
 inner_in p AmongBlocks (ContainerRole (ItemShape marker digits)) = InFront
 inner_in p AmongBlocks (ContainerRole (FootnoteShape label)) = InLabel
@@ -137,7 +137,7 @@ inner_in p AmongBlocks (TextRole purpose) = InText
 inner_in p InFront (TextRole AsItemMarker) = InMarker p
 inner_in p inner role = inner
 
--- and behind an end
+-- and after an end
 abbrev pub inner_behind : Inner → Role → Inner
 inner_behind (InMarker q) (TextRole AsItemMarker) = AmongBlocks
 inner_behind InLabel (TextRole AsFootnoteLabel) = AmongBlocks
@@ -161,7 +161,7 @@ abbrev pub site_after : Site → Kind → Role → Point → Site
 site_after site Enter role p = record { held = held_in site.held role; inner = inner_in p site.inner role }
 site_after site Exit role p = record { held = held_behind site.held role; inner = inner_behind site.inner role }
 
--- Whether these events may stand here.
+-- Whether these events may be here.
 abbrev pub ItemsStand : List ℕ → Site → List Event → Type 0
 ItemsStand bytes site [] = Unit {0}
 ItemsStand bytes site (e ∷ es) =

@@ -1,9 +1,9 @@
 -- Lists around items, among the events (CommonMark 5.3).
 --
 -- Neighbouring items with the same marker are one list, which begins where its first item begins and ends where its
--- last item ends. What stands between two items of one list (line endings, whitespace, prefixes of quotes) stands in
--- the list, and what follows the last of them does not. So where an item ends one looks ahead to the next block: the
--- list goes on if that is an item with the same marker.
+-- last item ends. What is between two items of one list (line endings, whitespace, prefixes of quotes) is in the list,
+-- and what follows the last of them does not. So where an item ends one looks ahead to the next block: the list
+-- continues if that is an item with the same marker.
 use Rattle.std.specs.Prelude.{ℕ, Bool, true, false, ◌&&◌, ◌==◌, not, if◌then◌else◌, List, []}
 use Rattle.std.specs.Prelude.{◌∷◌, ◌++◌, get_or, Option, Some, None}
 use Rattle.md_engine.specs.declared.event.Event.{Event}
@@ -26,10 +26,10 @@ abbrev pub is_marker : Role → Bool
 is_marker (TextRole AsItemMarker) = true
 is_marker _ = false
 
--- What stands ahead.
+-- What is ahead.
 
--- The marker of an item that has begun: the byte at the first marker behind it, in front of all further blocks; 0 if
--- there is none.
+-- The marker of an item that has begun: the byte at the first marker after it, before all further blocks; 0 if there is
+-- none.
 abbrev pub marker_by : Kind → Role → ℕ → ℕ → ℕ
 marker_by kind role byte behind =
     if is_block role then 0 else if is_enter kind && is_marker role then byte else behind
@@ -47,7 +47,7 @@ abbrev pub next_item : List ℕ → List Event → Option ℕ
 next_item bytes [] = None
 next_item bytes (e ∷ es) = next_by e.kind (role e.name) (marker_ahead bytes es) (next_item bytes es)
 
--- whether the list of an item with this marker goes on, by what the next block is
+-- whether the list of an item with this marker continues, by what the next block is
 abbrev pub goes_on : ℕ → Option ℕ → Bool
 goes_on marker None = false
 goes_on marker (Some next) = marker == next
@@ -60,7 +60,7 @@ list_name marker = if is_ordered marker then n.ListOrdered else n.ListUnordered
 
 -- Where one is between two events.
 pub record Place : Type 0 where
-  -- whether a list goes on here: it is open, and the next block is an item of it
+  -- whether a list continues here: it is open, and the next block is an item of it
   pub within : Bool
   -- the markers of the items that are open, the innermost first
   pub markers : List ℕ
@@ -69,16 +69,16 @@ pub record Place : Type 0 where
 abbrev pub outside : Place
 outside = record { within = false; markers = [] }
 
--- what stands in front of an item, which begins at this point: the begin of its list, if it is the first in it
+-- what is before an item, which begins at this point: the begin of its list, if it is the first in it
 abbrev pub list_begin : Bool → ℕ → Point → List Event
 list_begin within marker p = if within then [] else enter (list_name marker) p ∷ []
 
--- what stands behind an item, which ends at this point: the end of its list, if it is the last in it
+-- what follows an item, which ends at this point: the end of its list, if it is the last in it
 abbrev pub list_end : List ℕ → Option ℕ → Point → List Event
 list_end [] next p = []
 list_end (marker ∷ markers) next p = if goes_on marker next then [] else exit (list_name marker) p ∷ []
 
--- behind the end of an item
+-- after the end of an item
 abbrev pub place_behind : Place → Option ℕ → Place
 place_behind place next = behind place.markers
   where
@@ -103,7 +103,7 @@ given_by Begins place marker next e = list_begin place.within marker e.point ++ 
 given_by Ends place marker next e = e ∷ list_end place.markers next e.point
 given_by Stays place marker next e = e ∷ []
 
--- where one is behind it
+-- where one is after it
 abbrev pub place_by : Turn → Place → ℕ → Option ℕ → Place
 place_by Begins place marker next = record { within = false; markers = marker ∷ place.markers }
 place_by Ends place marker next = place_behind place next

@@ -10,12 +10,12 @@ use Rattle.md_containers.specs.Item.{item_held, unseen}
 use Rattle.md_seam.specs.Spaces.{calmed}
 use Rattle.md_seam.specs.Transition.{entered, exited, taken}
 
--- the byte that stands so much further
+-- the byte that is so much further
 abbrev pub byte_at : World → ℕ → ℕ
 byte_at w k = slice_index w.setting.bytes (w.point.index + k)
 
--- items are on; a bullet and one space stand here, and behind them another byte than this bullet, whitespace or an
--- ending, which may be read: so no thematic break stands here
+-- items are on; a bullet and one space are here, and after them another byte than this bullet, whitespace or an ending,
+-- which may be read: so no thematic break is here
 pub record IsPlainBullet (w : World) : Type 0 where
   pub on : w.setting.options.constructs.list_item ≡ true
   pub bullet : is_bullet (slice_index w.setting.bytes w.point.index) ≡ true
@@ -31,7 +31,7 @@ abbrev pub bullet_marked : World → World
 bullet_marked w =
     exited (taken (entered (entered (entered w ListItem) ListItemPrefix) ListItemMarker)) ListItemMarker
 
--- and its space; the item is held, and what stands behind it is seen
+-- and its space; the item is held, and what follows it is seen
 abbrev pub bulleted : World → World
 bulleted w =
     let v : World = exited (taken (entered (bullet_marked w) SpaceOrTab)) SpaceOrTab in

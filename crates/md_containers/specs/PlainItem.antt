@@ -9,7 +9,7 @@ use Rattle.md_seam.specs.Look.{looks_behind}
 use Rattle.md_seam.specs.Spaces.{calmed}
 use Rattle.md_seam.specs.Transition.{entered, exited}
 
--- spaces stand from an index on up to another,
+-- spaces are from an index on up to another,
 abbrev pub AreSpaces : List ℕ → ℕ → ℕ → Type 0
 AreSpaces bytes from to = (k : ℕ) → from ≤ k → k < to → slice_index bytes k ≡ 32
 
@@ -17,7 +17,7 @@ AreSpaces bytes from to = (k : ℕ) → from ≤ k → k < to → slice_index by
 abbrev pub SpacesHere : ℕ → World → Type 0
 SpacesHere columns w = AreSpaces w.setting.bytes w.point.index (w.point.index + columns)
 
--- so many spaces stand here, and behind them something that may be read; the line is not blank, and of no whitespace a
+-- so many spaces are here, and after them something that may be read; the line is not blank, and of no whitespace a
 -- part was counted
 pub record IsPlainIndent (columns : ℕ) (w : World) : Type 0 where
   pub spaces : SpacesHere columns w
@@ -31,7 +31,7 @@ pub record IsPlainIndent (columns : ℕ) (w : World) : Type 0 where
 abbrev pub moved : ℕ → World → World
 moved n w = record w { point = along w.setting n w.point }
 
--- and what stands behind it is seen
+-- and what follows it is seen
 abbrev pub indented : ℕ → World → World
 indented n w =
     reading

@@ -16,7 +16,7 @@ use Rattle.md_meaning.specs.Bytes.{is_end}
 use Rattle.md_seam.specs.Spaces.{IsRest, is_current, later_ready, rest_ready, sees_white, small_indent, white_then}
 use Rattle.md_seam.specs.Transition.{Transition, entered, exited, taken, tried}
 
--- what may stand first behind the indent of a quote's prefix: `>`
+-- what may be first after the indent of a quote's prefix: `>`
 abbrev pub may_begin : ℕ → Bool
 may_begin b = b == 62
 
@@ -30,12 +30,12 @@ abbrev pub start_code : World → Bool → Bool → Transition
 start_code w true alerts = record { to = Retry (n.BlockQuote (first_state alerts)); world = entered w BlockQuote }
 start_code w false alerts = record { to = Nok; world = w }
 
--- a small indent, and the state behind it: by whether there is whitespace
+-- a small indent, and the state after it: by whether there is whitespace
 abbrev pub indent_code : QuoteState → World → Bool → Transition
 indent_code next w true = white_then w 1 (small_indent w.setting.options) (Next (n.BlockQuote next)) Nok
 indent_code next w false = record { to = Retry (n.BlockQuote next); world = w }
 
--- the marker of a prefix, and the state behind it: by whether `>` is next
+-- the marker of a prefix, and the state after it: by whether `>` is next
 abbrev pub marker_code : QuoteState → World → Bool → Transition
 marker_code next w true =
     record {
@@ -44,7 +44,7 @@ marker_code next w true =
     }
 marker_code next w false = record { to = Nok; world = w }
 
--- one column of whitespace, by whether there is one, and the state behind it
+-- one column of whitespace, by whether there is one, and the state after it
 abbrev pub column_code : QuoteState → World → Bool → Transition
 column_code next w true = record {
   to = Next (n.BlockQuote next);
@@ -52,7 +52,7 @@ column_code next w true = record {
 }
 column_code next w false = record { to = Retry (n.BlockQuote next); world = w }
 
--- the marker of an alert is tried; the prefix ends behind it, or here
+-- the marker of an alert is tried; the prefix ends after it, or here
 abbrev pub try_code : World → Transition
 try_code w = record {
   to = Retry (n.BlockQuote its.AlertStart);
@@ -105,7 +105,7 @@ letter_code w (Some b) =
 abbrev pub forgotten : World → World
 forgotten w = record w { scratch = unnamed w.scratch }
 
--- a further byte of the name or, behind it, `]`: by the byte that the name has next, and the one that is next
+-- a further byte of the name or, after it, `]`: by the byte that the name has next, and the one that is next
 abbrev pub name_code : World → Option ℕ → Option ℕ → Transition
 name_code w left None = record { to = Nok; world = forgotten w }
 name_code w None (Some b) =
@@ -129,7 +129,7 @@ cont_start_code w white = indent_code its.ContBefore w white
 abbrev pub cont_before_code : World → Bool → Transition
 cont_before_code w marked = marker_code its.ContAfter w marked
 
--- by whether whitespace stands here
+-- by whether whitespace is here
 abbrev pub cont_after_code : World → Bool → Transition
 cont_after_code w true = record {
   to = Ok;
@@ -228,7 +228,7 @@ quote_level (n.BlockQuote its.AlertLetter) = 1
 quote_level (n.BlockQuote its.AlertName) = 1
 quote_level _ = 2
 
--- the prefix ends behind `>`, and so behind the point where it begins; a name is left with no byte counted
+-- the prefix ends after `>`, and so after the point where it begins; a name is left with no byte counted
 abbrev pub quote_ready : StateName → Position → After → Type 0
 quote_ready (n.BlockQuote its.OpenAfter) x K = rest_ready x K
 quote_ready (n.BlockQuote its.AlertTry) x K = rest_ready x K

@@ -5,7 +5,7 @@ use Rattle.md_engine.specs.Run.{reading}
 use Rattle.md_engine.specs.World.{World, after, looks, looks_at}
 use Rattle.md_seam.specs.Transition.{entered, exited, taken}
 
--- `>` and a space stand here, and behind them something that may be read
+-- `>` and a space are here, and after them something that may be read
 pub record IsPlainPrefix (w : World) : Type 0 where
   pub here : looks w ≡ Some 62
   pub inside : (after w.setting w.point).index < w.setting.limit
@@ -16,6 +16,6 @@ pub record IsPlainPrefix (w : World) : Type 0 where
 abbrev pub marked : World → World
 marked w = exited (taken (entered (entered w BlockQuotePrefix) BlockQuoteMarker)) BlockQuoteMarker
 
--- and its space, and what stands behind it is seen
+-- and its space, and what follows it is seen
 abbrev pub prefixed : World → World
 prefixed w = reading (exited (exited (taken (entered (marked w) SpaceOrTab)) SpaceOrTab) BlockQuotePrefix)

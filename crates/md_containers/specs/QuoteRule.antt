@@ -29,7 +29,7 @@ use Rattle.md_seam.specs.Spaces.{calmed, small_indent}
 abbrev pub prefix_ended : List Cell → Here → Outcome
 prefix_ended cells h = Accepts (record h { events = h.events ++ exit BlockQuotePrefix h.point ∷ [] }) cells
 
--- behind `>`: one column of whitespace belongs to the prefix, and this is left behind it
+-- after `>`: one column of whitespace belongs to the prefix, and this is left after it
 unfoldable pub behind_marker : (List Cell → Here → Outcome) → List Cell → Here → Outcome
 behind_marker next [] h = next [] h
 behind_marker next (c ∷ cs) h =
@@ -37,7 +37,7 @@ behind_marker next (c ∷ cs) h =
     then next cs (record h { events = h.events ++ pair SpaceOrTab h.point c.after; point = c.after })
     else next (c ∷ cs) h
 
--- behind the indent
+-- after the indent
 unfoldable pub at_marker : (List Cell → Here → Outcome) → List Cell → Here → Outcome
 at_marker next [] h = Refuses h.scratch h.flags
 at_marker next (c ∷ cs) h =
@@ -49,7 +49,7 @@ at_marker next (c ∷ cs) h =
     })
     else Refuses h.scratch h.flags
 
--- a small indent, and this is left behind it
+-- a small indent, and this is left after it
 unfoldable pub indent_at : (List Cell → Here → Outcome) → ParseOptions → List Cell → Here → Outcome
 indent_at next options cells h =
     let room = small_indent options in
@@ -96,13 +96,13 @@ alert_letter (c ∷ cs) h =
     else alert_name (drop 1 (name_of letter)) cs
     (record h { point = c.after; scratch = naming letter 1 h.scratch })
 
--- behind `[`
+-- after `[`
 unfoldable pub alert_mark : List Cell → Here → Outcome
 alert_mark [] h = Refuses h.scratch h.flags
 alert_mark (c ∷ cs) h =
     if c.byte == 33 then alert_letter cs (record h { point = c.after }) else Refuses h.scratch h.flags
 
--- behind the indent
+-- after the indent
 unfoldable pub alert_marker : List Cell → Here → Outcome
 alert_marker [] h = Refuses h.scratch h.flags
 alert_marker (c ∷ cs) h =
@@ -113,13 +113,13 @@ alert_marker (c ∷ cs) h =
 abbrev pub alert_at : ParseOptions → List Cell → Here → Outcome
 alert_at options cells h = indent_at alert_marker options cells h
 
--- the prefix ends behind what was tried, or where that began
+-- the prefix ends after what was tried, or where that began
 abbrev pub ended_by : List Cell → Here → Outcome → Outcome
 ended_by cells h (Accepts k rest) = prefix_ended rest k
 ended_by cells h (Refuses s g) = prefix_ended cells (record h { scratch = s; flags = g })
 ended_by cells h Fails = Fails
 
--- the end of the prefix where a quote opens: behind the marker of an alert, if there is one
+-- the end of the prefix where a quote opens: after the marker of an alert, if there is one
 abbrev pub alert_or_end : ParseOptions → List Cell → Here → Outcome
 alert_or_end options cells h = ended_by cells h (alert_at options cells h)
 
@@ -141,7 +141,7 @@ abbrev pub indent_events : ParseOptions → List Cell → Point → List Event
 indent_events options cells p =
     if begins_white cells then pair SpaceOrTab p (white_end (small_indent options) cells p) else []
 
--- behind `>`, in front of what ends the prefix
+-- after `>`, before what ends the prefix
 abbrev pub behind_events : List Cell → Point → List Event
 behind_events [] p = []
 behind_events (c ∷ cs) p = if is_white c.byte then pair SpaceOrTab p c.after else []
@@ -153,16 +153,16 @@ marker_events (c ∷ cs) p = enter BlockQuotePrefix p ∷ pair BlockQuoteMarker 
 
 -- What a prefix takes.
 
--- whether `>` stands first
+-- whether `>` is first
 abbrev pub has_marker : List Cell → Bool
 has_marker [] = false
 has_marker (c ∷ cs) = c.byte == 62
 
--- whether a prefix stands here
+-- whether a prefix is here
 abbrev pub takes_prefix : ParseOptions → List Cell → Bool
 takes_prefix options cells = has_marker (white_rest (small_indent options) cells)
 
--- what is left behind `>` and one column of whitespace, and where that begins
+-- what is left after `>` and one column of whitespace, and where that begins
 abbrev pub behind_rest : List Cell → List Cell
 behind_rest [] = []
 behind_rest (c ∷ cs) = if is_white c.byte then cs else c ∷ cs
@@ -179,7 +179,7 @@ abbrev pub marker_end : List Cell → Point → Point
 marker_end [] p = p
 marker_end (c ∷ cs) p = behind_end cs c.after
 
--- what is left behind a prefix, and where that begins
+-- what is left after a prefix, and where that begins
 abbrev pub prefix_rest : ParseOptions → List Cell → List Cell
 prefix_rest options cells = marker_rest (white_rest (small_indent options) cells)
 
@@ -199,9 +199,9 @@ abbrev pub prefix_events : ParseOptions → List Cell → Point → List Event
 prefix_events options cells p =
     front_events options cells p ++ exit BlockQuotePrefix (prefix_end options cells p) ∷ []
 
--- The marker of an alert, by the cells behind a prefix.
+-- The marker of an alert, by the cells after a prefix.
 
--- whether these bytes, in lower case, are next in any ASCII case, and nothing but whitespace behind them
+-- whether these bytes, in lower case, are next in any ASCII case, and nothing but whitespace after them
 abbrev pub takes_bytes : List ℕ → List Cell → Bool
 takes_bytes [] cells = is_blank (line_bytes cells)
 takes_bytes (b ∷ left) [] = false
@@ -210,14 +210,14 @@ takes_bytes (b ∷ left) (c ∷ cs) = (to_ascii_lowercase c.byte == b) && takes_
 abbrev pub takes_marker : AlertKind → List Cell → Bool
 takes_marker kind cells = takes_bytes (str_to_ascii_lowercase (marker_of kind)) cells
 
--- the kind whose marker is behind a small indent, where alerts are on
+-- the kind whose marker is after a small indent, where alerts are on
 abbrev pub alert_of : ParseOptions → List Cell → Option AlertKind
 alert_of options cells =
     if options.constructs.alerts
     then first_kind (λ kind. takes_marker kind (white_rest (small_indent options) cells)) kinds
     else None
 
--- the cells behind a marker, and the point
+-- the cells after a marker, and the point
 abbrev pub behind_alert : AlertKind → List Cell → List Cell
 behind_alert kind cells = drop (length (marker_of kind)) cells
 

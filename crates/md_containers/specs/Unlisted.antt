@@ -1,4 +1,4 @@
--- The grammar of events before lists are put around their items: an item stands where a list may, and no list does.
+-- The grammar of events before lists are put around their items: an item is where a list may, and no list does.
 use Rattle.std.specs.Prelude.{Bool, if◌then◌else◌, List, [], ◌∷◌}
 use Rattle.std.specs.List.{list_any}
 use Rattle.md_engine.specs.declared.event.Event.{Event}
@@ -8,7 +8,7 @@ use Rattle.md_engine.specs.declared.event.Name.{Name}
 use Rattle.md_engine.specs.declared.event.Name.TheVariants as n
 use Rattle.md_seam.specs.Events.Grammar.{Expression, behind, inside, is_whole, may_end, texts}
 
--- the name in whose place a name stands: no item stands in a container by the grammar of events
+-- the name in whose place a name is: no item is in a container by the grammar of events
 abbrev pub in_place : Name → Name
 in_place n.ListItem = n.ListOrdered
 in_place n.ListOrdered = n.ListItem
@@ -25,6 +25,6 @@ abbrev pub unlisted_left : Expression → List Expression → List Event → Lis
 unlisted_left text stack [] = stack
 unlisted_left text stack (e ∷ es) = unlisted_left text (unlisted_behind text stack e.kind e.name) es
 
--- Whether events keep this grammar, where this stands in text parts.
+-- Whether events keep this grammar, where this is in text parts.
 unfoldable pub keeps_unlisted : Expression → List Event → Bool
 keeps_unlisted text events = list_any (λ (x : Expression). is_whole (unlisted_left text (x ∷ []) events)) texts

@@ -4,8 +4,8 @@
 //     alert_marker       ::= small_indent '[' '!' name ']' *space_or_tab
 //
 // A quote begins on a line with its prefix and continues on each further line that has it. `start` adds the begin of
-// `BlockQuote` in front of the prefix. The prefix is its indent, and `BlockQuotePrefix` around `BlockQuoteMarker` and
-// at most one column of whitespace.
+// `BlockQuote` before the prefix. The prefix is its indent, and `BlockQuotePrefix` around `BlockQuoteMarker` and at
+// most one column of whitespace.
 //
 // Where alerts are on, the prefix of the line on which a quote opens takes the rest of that line too, if it is the
 // marker of an alert (as on GitHub): its brackets and what is between them are a second `BlockQuoteMarker`. A further
@@ -40,7 +40,7 @@ use md_engine::state::{Name as StateName, State};
 use md_engine::tokenizer::Tokenizer;
 use md_seam::space_or_tab::{is_space_or_tab, small_indent, space_or_tab_min_max};
 
-/// Whether the prefix of a quote may begin here, by what stands first behind whitespace: `>`, if that is known.
+/// Whether the prefix of a quote may begin here, by what is first after whitespace: `>`, if that is known.
 pub fn may_begin(first: Option<u8>) -> bool
     ensures { result ≡ may_with may_begin first }
 {
@@ -102,7 +102,7 @@ fn name_of(letter: u8) -> &'static [u8]
     }
 }
 
-/// The byte that a name has behind so many others, or none at its end.
+/// The byte that a name has after so many others, or none at its end.
 fn name_byte(letter: u8, size: usize) -> Option<u8>
     ensures { result ≡ slice_get (name_of letter) size }
 {
@@ -170,7 +170,7 @@ pub fn open_start(tokenizer: &mut Tokenizer) -> State
     indent_then(tokenizer, QuoteState::OpenBefore)
 }
 
-/// Behind the indent of the first line, at `>`.
+/// After the indent of the first line, at `>`.
 ///
 /// ```markdown
 /// > | > [!NOTE]
@@ -188,7 +188,7 @@ pub fn open_before(tokenizer: &mut Tokenizer) -> State
     marker_then(tokenizer, QuoteState::OpenAfter)
 }
 
-/// Behind `>` on the first line: one column of whitespace belongs to the prefix, if it is there.
+/// After `>` on the first line: one column of whitespace belongs to the prefix, if it is there.
 ///
 /// ```markdown
 /// > | > [!NOTE]
@@ -213,7 +213,7 @@ pub fn open_after(tokenizer: &mut Tokenizer) -> State
     }
 }
 
-/// Behind the prefix of the first line: the marker of an alert is tried.
+/// After the prefix of the first line: the marker of an alert is tried.
 ///
 /// ```markdown
 /// > | > [!NOTE]
@@ -253,7 +253,7 @@ pub fn alert_start(tokenizer: &mut Tokenizer) -> State
     indent_then(tokenizer, QuoteState::AlertBefore)
 }
 
-/// Behind the indent, at `[`.
+/// After the indent, at `[`.
 ///
 /// ```markdown
 /// > | > [!NOTE]
@@ -276,7 +276,7 @@ pub fn alert_before(tokenizer: &mut Tokenizer) -> State
     State::Next(StateName::BlockQuote(QuoteState::AlertMark))
 }
 
-/// Behind `[`, at `!`.
+/// After `[`, at `!`.
 ///
 /// ```markdown
 /// > | > [!NOTE]
@@ -298,7 +298,7 @@ pub fn alert_mark(tokenizer: &mut Tokenizer) -> State
     State::Next(StateName::BlockQuote(QuoteState::AlertLetter))
 }
 
-/// Behind `!`: the first letter says which kind it is.
+/// After `!`: the first letter says which kind it is.
 ///
 /// ```markdown
 /// > | > [!NOTE]
@@ -326,7 +326,7 @@ pub fn alert_letter(tokenizer: &mut Tokenizer) -> State
     State::Next(StateName::BlockQuote(QuoteState::AlertName))
 }
 
-/// In the name of a kind, or behind it at `]`; then nothing but whitespace may follow on the line.
+/// In the name of a kind, or after it at `]`; then nothing but whitespace may follow on the line.
 ///
 /// ```markdown
 /// > | > [!NOTE]
@@ -367,7 +367,7 @@ pub fn alert_name(tokenizer: &mut Tokenizer) -> State
     }
 }
 
-/// At the end of the prefix of the first line: behind the marker of an alert, if there is one.
+/// At the end of the prefix of the first line: after the marker of an alert, if there is one.
 ///
 /// ```markdown
 /// > | > [!NOTE]
@@ -405,7 +405,7 @@ pub fn cont_start(tokenizer: &mut Tokenizer) -> State
     indent_then(tokenizer, QuoteState::ContBefore)
 }
 
-/// Behind the indent, at `>`.
+/// After the indent, at `>`.
 ///
 /// ```markdown
 /// > | > a
@@ -423,7 +423,7 @@ pub fn cont_before(tokenizer: &mut Tokenizer) -> State
     marker_then(tokenizer, QuoteState::ContAfter)
 }
 
-/// Behind `>`: one column of whitespace belongs to the prefix, if it is there.
+/// After `>`: one column of whitespace belongs to the prefix, if it is there.
 ///
 /// ```markdown
 /// > | > a
@@ -447,7 +447,7 @@ pub fn cont_after(tokenizer: &mut Tokenizer) -> State
     State::Ok
 }
 
-/// Whether the prefix `> ` stands here, and behind it something that may be read now.
+/// Whether the prefix `> ` is here, and after it something that may be read now.
 pub fn is_plain_prefix(tokenizer: &Tokenizer) -> bool
     ensures { result ≡ true → IsPlainPrefix (world tokenizer.now) }
 {
@@ -459,8 +459,7 @@ pub fn is_plain_prefix(tokenizer: &Tokenizer) -> bool
         && index + 2 < tokenizer.limit
 }
 
-/// Takes the prefix `> ` that stands here where the list of events may have no room for it. This is rare, so it stands
-/// apart.
+/// Takes the prefix `> ` that is here where the list of events may have no room for it. This is rare, so it is apart.
 #[inline(never)]
 fn take_growing(tokenizer: &mut Tokenizer) -> Result<(), Message>
     requires { IsPlainPrefix (world tokenizer.old) }
@@ -479,7 +478,7 @@ fn take_growing(tokenizer: &mut Tokenizer) -> Result<(), Message>
     Ok(())
 }
 
-/// Takes the prefix `> ` that stands here, as the states do, and sees what stands behind it.
+/// Takes the prefix `> ` that is here, as the states do, and sees what follows it.
 #[inline(always)]
 pub fn take_plain_prefix(tokenizer: &mut Tokenizer) -> Result<(), Message>
     requires { IsPlainPrefix (world tokenizer.old) }

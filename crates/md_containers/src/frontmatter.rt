@@ -3,13 +3,13 @@
 //     frontmatter ::= fence *( eol line ) eol fence
 //     fence       ::= ( 3'-' | 3'+' ) *space_or_tab
 //
-// It stands at the front of a text, behind a byte order mark at most. Both fences have the same marker, with no indent
-// and just three of it; the first later line that is such a fence is the closing one. Without one there is no
-// frontmatter, and all that was read is taken back.
+// It is at the front of a text, after a byte order mark at most. Both fences have the same marker, with no indent and
+// just three of it; the first later line that is such a fence is the closing one. Without one there is no frontmatter,
+// and all that was read is taken back.
 //
-// It adds `Frontmatter`, and in it `FrontmatterFence` around `FrontmatterSequence` and the whitespace behind it,
-// `FrontmatterChunk` over each line that is not empty, and `LineEnding`. The ending behind the closing fence stands
-// outside: the lines of the text begin behind it.
+// It adds `Frontmatter`, and in it `FrontmatterFence` around `FrontmatterSequence` and the whitespace after it,
+// `FrontmatterChunk` over each line that is not empty, and `LineEnding`. The ending after the closing fence is outside:
+// the lines of the text begin after it.
 
 ghost use Rattle.std.specs.Prelude.{◌≡◌, ◌≢◌, ◌<◌, IfSome, OnOk, is_err, length, true};
 ghost use Rattle.md_containers.specs.Frontmatter.{after_transition, cleared, close_after_transition};
@@ -75,7 +75,7 @@ fn enter_fence(tokenizer: &mut Tokenizer) -> Result<(), Message>
     tokenizer.enter(Name::FrontmatterSequence)
 }
 
-/// Takes the line ending that stands here.
+/// Takes the line ending that is here.
 fn take_ending(tokenizer: &mut Tokenizer) -> Result<(), Message>
     requires { (world tokenizer.old).point.index < length (world tokenizer.old).setting.bytes }
     ensures world { OnOk result (world tokenizer.new ≡ ending_taken (world tokenizer.old)) }
@@ -118,7 +118,7 @@ pub fn start(tokenizer: &mut Tokenizer) -> State
     }
 }
 
-/// In the sequence of a fence, which has just three markers: one more is counted where `here` goes on, and `after` is
+/// In the sequence of a fence, which has just three markers: one more is counted where `here` continues, and `after` is
 /// what follows the sequence and whitespace. Where there are fewer or more, `refused` is left.
 fn sequence(
     tokenizer: &mut Tokenizer,
@@ -186,7 +186,7 @@ pub fn open_sequence(tokenizer: &mut Tokenizer) -> State
     )
 }
 
-/// Behind the opening fence and whitespace: the line ends here, and a further one follows.
+/// After the opening fence and whitespace: the line ends here, and a further one follows.
 ///
 /// ```markdown
 /// > | ---
@@ -270,7 +270,7 @@ pub fn close_sequence(tokenizer: &mut Tokenizer) -> State
     )
 }
 
-/// Behind the closing fence and whitespace: the line ends here.
+/// After the closing fence and whitespace: the line ends here.
 ///
 /// ```markdown
 ///   | ---
@@ -372,7 +372,7 @@ pub fn content_end(tokenizer: &mut Tokenizer) -> State
     State::Next(StateName::Frontmatter(FrontState::CloseStart))
 }
 
-/// Behind the closing fence: the lines of the text begin behind its line ending, if there is one.
+/// After the closing fence: the lines of the text begin after its line ending, if there is one.
 ///
 /// ```markdown
 ///   | ---

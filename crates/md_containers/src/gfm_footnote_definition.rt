@@ -4,13 +4,13 @@
 //     label                   ::= 1*999( pair | any but '[', ']', space, tab and eol )
 //     pair                    ::= '\' ( '[' | ']' | '\' )
 //
-// Pairs are read from left to right, and each byte of one counts. `start` adds the begin of `GfmFootnoteDefinition` in
-// front of the indent. Then stands the indent, and `GfmFootnoteDefinitionPrefix` around `GfmFootnoteDefinitionLabel`,
-// `DefinitionMarker` and all whitespace behind it. In the label stand `GfmFootnoteDefinitionLabelMarker`,
+// Pairs are read from left to right, and each byte of one counts. `start` adds the begin of `GfmFootnoteDefinition`
+// before the indent. Then is the indent, and `GfmFootnoteDefinitionPrefix` around `GfmFootnoteDefinitionLabel`,
+// `DefinitionMarker` and all whitespace after it. In the label are `GfmFootnoteDefinitionLabelMarker`,
 // `GfmFootnoteDefinitionMarker`, `GfmFootnoteDefinitionLabelString` around one linked `Data`, and
 // `GfmFootnoteDefinitionLabelMarker`.
 //
-// A further line goes on if its indent is 4 columns at least, and loses these; a blank one always, and loses at most
+// A further line continues if its indent is 4 columns at least, and loses these; a blank one always, and loses at most
 // as many. That is what an item of this width asks for that did not start blank; so the states of an item read it.
 
 ghost use Rattle.std.specs.Prelude.{◌≡◌, ◌≢◌, ◌<◌, ◌==◌, length};
@@ -51,14 +51,14 @@ fn is_label_mark(byte: u8) -> bool
     byte == b'[' || byte == b'\\' || byte == b']'
 }
 
-/// Whether this may not stand in a label, unless a backslash takes it.
+/// Whether this may not be in a label, unless a backslash takes it.
 fn breaks_label(byte: u8) -> bool
     ensures { result ≡ breaks_label byte }
 {
     byte == b'[' || byte == b' ' || byte == b'\t' || byte == b'\n'
 }
 
-/// Whether a footnote definition may open here, by what stands first behind whitespace: `[`, if that is known.
+/// Whether a footnote definition may open here, by what is first after whitespace: `[`, if that is known.
 pub fn may_begin(first: Option<u8>) -> bool
     ensures { result ≡ may_with may_begin first }
 {
@@ -98,7 +98,7 @@ pub fn start(tokenizer: &mut Tokenizer) -> State
     }
 }
 
-/// Behind the indent, at `[`.
+/// After the indent, at `[`.
 ///
 /// ```markdown
 /// > | [^a]: b
@@ -125,7 +125,7 @@ pub fn label_before(tokenizer: &mut Tokenizer) -> State
     State::Next(StateName::GfmFootnoteDefinition(FootnoteState::LabelAtMarker))
 }
 
-/// Behind `[`, at `^`.
+/// After `[`, at `^`.
 ///
 /// ```markdown
 /// > | [^a]: b
@@ -180,7 +180,7 @@ fn take(tokenizer: &mut Tokenizer, state: FootnoteState) -> State
     State::Next(StateName::GfmFootnoteDefinition(state))
 }
 
-/// At the `]` that ends the label, if something stands in it.
+/// At the `]` that ends the label, if something is in it.
 fn close(tokenizer: &mut Tokenizer) -> State
     requires { (world tokenizer.old).point.index < length (world tokenizer.old).setting.bytes }
     ensures to { result ≢ State.Error →
@@ -233,7 +233,7 @@ pub fn label_inside(tokenizer: &mut Tokenizer) -> State
     take(tokenizer, FootnoteState::LabelInside)
 }
 
-/// Behind `\`.
+/// After `\`.
 ///
 /// ```markdown
 /// > | [^\]]: b
@@ -252,7 +252,7 @@ pub fn label_escape(tokenizer: &mut Tokenizer) -> State
     }
 }
 
-/// Behind the label, at `:`.
+/// After the label, at `:`.
 ///
 /// ```markdown
 /// > | [^a]: b
@@ -277,7 +277,7 @@ pub fn label_after(tokenizer: &mut Tokenizer) -> State
     State::Next(StateName::GfmFootnoteDefinition(FootnoteState::MarkerAfter))
 }
 
-/// Behind `:`. All whitespace that follows belongs to the prefix.
+/// After `:`. All whitespace that follows belongs to the prefix.
 ///
 /// ```markdown
 /// > | [^a]: b
@@ -304,7 +304,7 @@ pub fn marker_after(tokenizer: &mut Tokenizer) -> State
     }
 }
 
-/// Behind the prefix: the footnote definition opens.
+/// After the prefix: the footnote definition opens.
 ///
 /// ```markdown
 /// > | [^a]: b

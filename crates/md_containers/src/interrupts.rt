@@ -6,7 +6,7 @@ ghost use Rattle.md_containers.specs.Interrupts.{interrupts};
 
 use md_engine::tokenizer::{HeldLeaf, Tokenizer};
 
-/// Whether a container that opens here interrupts the leaf that is open: a leaf of text, if all containers went on.
+/// Whether a container that opens here interrupts the leaf that is open: a leaf of text, if all containers continued.
 /// Where one did not, the leaf ends with it.
 pub(crate) fn interrupts(tokenizer: &Tokenizer) -> bool
     ensures { result ≡ interrupts (world tokenizer.now).flags }

@@ -1,4 +1,4 @@
-// Containers: block quotes, list items and footnote definitions; and frontmatter, which stands in front of all of them.
+// Containers: block quotes, list items and footnote definitions; and frontmatter, which is before all of them.
 #![tactic(auto)]
 
 pub mod block_quote;

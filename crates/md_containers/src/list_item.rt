@@ -2,16 +2,15 @@
 //
 //     list_item ::= small_indent ( '*' | '+' | '-' | 1*9digit ( '.' | ')' ) ) padding
 //
-// The padding is 1 to 4 columns of whitespace in front of something else, one of 5 or more, and none where the rest of
-// the line is blank. What looks like a thematic break is no item; and text is interrupted only by an item that is not
-// blank and whose number, if any, is written `1`. `start` adds the begin of `ListItem` in front of the indent. Then
-// stands the indent, and `ListItemPrefix` around `ListItemValue` (the digits, of ordered items alone),
-// `ListItemMarker` and the padding.
+// The padding is 1 to 4 columns of whitespace before something else, one of 5 or more, and none where the rest of the
+// line is blank. What looks like a thematic break is no item; and text is interrupted only by an item that is not blank
+// and whose number, if any, is written `1`. `start` adds the begin of `ListItem` before the indent. Then is the indent,
+// and `ListItemPrefix` around `ListItemValue` (the digits, of ordered items alone), `ListItemMarker` and the padding.
 //
 // An item has a width: the columns from its begin to the end of its padding, and where the rest of its first line is
-// blank, one more. A further line goes on if its indent is as wide, and loses the width; a blank one always, and loses
-// at most the width, unless it follows a first line that was blank. The states that read its indent read that of a
-// footnote definition too.
+// blank, one more. A further line continues if its indent is as wide, and loses the width; a blank one always, and
+// loses at most the width, unless it follows a first line that was blank. The states that read its indent read that of
+// a footnote definition too.
 
 ghost use Rattle.std.specs.Prelude.{◌≡◌, ◌≢◌, IfSome};
 ghost use Rattle.md_containers.specs.ItemRule.{ItemMeans};
@@ -75,7 +74,7 @@ fn is_digit(byte: u8) -> bool
     byte >= b'0' && byte <= b'9'
 }
 
-/// Whether a digit stands here.
+/// Whether a digit is here.
 fn sees_digit(current: Option<u8>) -> bool
     ensures { result ≡ sees is_digit current }
 {
@@ -85,7 +84,7 @@ fn sees_digit(current: Option<u8>) -> bool
     }
 }
 
-/// Whether what ends the value of an item stands here.
+/// Whether what ends the value of an item is here.
 fn sees_value_end(current: Option<u8>) -> bool
     ensures { result ≡ sees ends_value current }
 {
@@ -95,7 +94,7 @@ fn sees_value_end(current: Option<u8>) -> bool
     }
 }
 
-/// Whether a thematic break of this marker may stand here: there is none of `+`, and none where another byte is seen.
+/// Whether a thematic break of this marker may be here: there is none of `+`, and none where another byte is seen.
 fn may_break(tokenizer: &mut Tokenizer, marker: u8) -> bool
     ensures value { result ≡ may_break (world tokenizer.old) marker }
     ensures same { world tokenizer.new ≡ world tokenizer.old }
@@ -103,7 +102,7 @@ fn may_break(tokenizer: &mut Tokenizer, marker: u8) -> bool
     tokenizer.options.constructs.thematic_break && marker != b'+' && !sees_other(tokenizer, marker)
 }
 
-/// Whether an item may open here, by what stands first behind whitespace: a marker or a digit, if that is known.
+/// Whether an item may open here, by what is first after whitespace: a marker or a digit, if that is known.
 pub fn may_begin(first: Option<u8>) -> bool
     ensures { result ≡ may_with may_begin first }
 {
@@ -145,7 +144,7 @@ pub fn start(tokenizer: &mut Tokenizer) -> State
     }
 }
 
-/// Behind the indent, at a marker or a value. What looks like a thematic break is no item, where breaks are on.
+/// After the indent, at a marker or a value. What looks like a thematic break is no item, where breaks are on.
 ///
 /// ```markdown
 /// > | * a
@@ -304,7 +303,7 @@ fn by_blank(tokenizer: &mut Tokenizer, blank: ItemState, filled: ItemState) -> S
     }
 }
 
-/// Behind the marker.
+/// After the marker.
 ///
 /// ```markdown
 /// > | * a
@@ -324,7 +323,7 @@ pub fn marker_after(tokenizer: &mut Tokenizer) -> State
     by_blank(tokenizer, ItemState::After, ItemState::MarkerAfterFilled)
 }
 
-/// Behind the marker, where the rest of the line is not blank.
+/// After the marker, where the rest of the line is not blank.
 ///
 /// ```markdown
 /// > | * a
@@ -371,7 +370,7 @@ pub fn whitespace(tokenizer: &mut Tokenizer) -> State
     )
 }
 
-/// Behind 1 to 4 columns: there must be no more.
+/// After 1 to 4 columns: there must be no more.
 ///
 /// ```markdown
 /// > | * a
@@ -391,7 +390,7 @@ pub fn whitespace_after(tokenizer: &mut Tokenizer) -> State
     }
 }
 
-/// Behind the marker, where no whitespace follows or more than a padding may have: of that one column belongs to it.
+/// After the marker, where no whitespace follows or more than a padding may have: of that one column belongs to it.
 ///
 /// ```markdown
 /// > | *      a
@@ -436,7 +435,7 @@ pub(crate) fn width_here(tokenizer: &Tokenizer, blank: bool) -> usize
     at_least_one(if blank { columns + 1 } else { columns })
 }
 
-/// Behind the prefix: the item opens, unless it is blank and would interrupt text.
+/// After the prefix: the item opens, unless it is blank and would interrupt text.
 ///
 /// ```markdown
 /// > | * a
@@ -465,7 +464,7 @@ pub fn after(tokenizer: &mut Tokenizer) -> State
     State::Ok
 }
 
-/// Before the indent of a further line. Where nothing is left of the line, an item goes on that did not start blank.
+/// Before the indent of a further line. Where nothing is left of the line, an item continues that did not start blank.
 ///
 /// ```markdown
 ///   | * a

@@ -1,5 +1,5 @@
-// What of a list item is taken at once: the begin of one without a number, where one space stands behind its marker;
-// and the indent of a further line, where it is spaces and the line is not blank.
+// What of a list item is taken at once: the begin of one without a number, where one space is after its marker; and the
+// indent of a further line, where it is spaces and the line is not blank.
 
 ghost use Rattle.std.specs.Prelude.{◌≡◌, ◌+◌, ◌≤◌, OnOk, is_err, length, true};
 ghost use Rattle.md_engine.specs.Full.{IsFull};
@@ -17,7 +17,7 @@ use md_engine::message::Message;
 use md_engine::tokenizer::{Container, Tokenizer, Whitespace};
 use md_seam::space_or_tab::look_behind;
 
-/// Whether a bullet and one space stand here, and behind them another byte than this bullet, which may be read now.
+/// Whether a bullet and one space are here, and after them another byte than this bullet, which may be read now.
 pub fn is_plain_bullet(tokenizer: &Tokenizer) -> bool
     ensures { result ≡ true → IsPlainBullet (world tokenizer.now) }
 {
@@ -38,8 +38,8 @@ pub fn is_plain_bullet(tokenizer: &Tokenizer) -> bool
         && behind != b'\r'
 }
 
-/// Takes the bullet and the space that stand here where the list of events may have no room for them. This is rare, so
-/// it stands apart.
+/// Takes the bullet and the space that are here where the list of events may have no room for them. This is rare, so it
+/// is apart.
 #[inline(never)]
 fn take_bullet_growing(tokenizer: &mut Tokenizer) -> Result<(), Message>
     requires { IsPlainBullet (world tokenizer.old) }
@@ -67,8 +67,8 @@ fn take_bullet_growing(tokenizer: &mut Tokenizer) -> Result<(), Message>
     Ok(())
 }
 
-/// Takes the bullet and the space that stand here, as the states of the item that is tried do, and sees what stands
-/// behind them.
+/// Takes the bullet and the space that are here, as the states of the item that is tried do, and sees what follows
+/// them.
 #[inline(always)]
 pub fn take_plain_bullet(tokenizer: &mut Tokenizer) -> Result<(), Message>
     requires { IsPlainBullet (world tokenizer.old) }
@@ -111,7 +111,7 @@ pub fn take_plain_bullet(tokenizer: &mut Tokenizer) -> Result<(), Message>
     Ok(())
 }
 
-/// Whether spaces stand from an index on up to another.
+/// Whether spaces are from an index on up to another.
 fn are_spaces(bytes: &[u8], from: usize, to: usize) -> bool
     requires { to ≤ length bytes.now }
     ensures { result ≡ true → AreSpaces bytes.now from to }
@@ -126,7 +126,7 @@ fn are_spaces(bytes: &[u8], from: usize, to: usize) -> bool
     true
 }
 
-/// Whether the indent of a further line of an item stands here as spaces, on a line that is not blank, and behind it
+/// Whether the indent of a further line of an item is here as spaces, on a line that is not blank, and after it
 /// something that may be read now.
 pub fn is_plain_indent(tokenizer: &mut Tokenizer, item: Container) -> bool
     ensures plain { result ≡ true → IsPlainIndent (least_width item) (world tokenizer.old) }
@@ -161,8 +161,8 @@ fn take_spaces(tokenizer: &mut Tokenizer, columns: usize)
     }
 }
 
-/// Takes the indent that stands here as spaces where the list of events may have no room for it. This is rare, so it
-/// stands apart.
+/// Takes the indent that is here as spaces where the list of events may have no room for it. This is rare, so it is
+/// apart.
 #[inline(never)]
 fn take_indent_growing(tokenizer: &mut Tokenizer) -> Result<(), Message>
     requires { IsPlainIndent (least_width (world tokenizer.old).flags.asked) (world tokenizer.old) }
@@ -184,8 +184,7 @@ fn take_indent_growing(tokenizer: &mut Tokenizer) -> Result<(), Message>
     Ok(())
 }
 
-/// Takes the indent that stands here as spaces, as the states of the item that is asked do, and sees what stands behind
-/// it.
+/// Takes the indent that is here as spaces, as the states of the item that is asked do, and sees what follows it.
 #[inline(always)]
 pub fn take_plain_indent(tokenizer: &mut Tokenizer) -> Result<(), Message>
     requires { IsPlainIndent (least_width (world tokenizer.old).flags.asked) (world tokenizer.old) }

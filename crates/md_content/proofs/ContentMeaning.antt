@@ -69,7 +69,7 @@ chunk-ends feed w front h (Some b) e =
     (ahead feed w (Some b)))
     (append-nil front.bytes))
 
--- behind a byte of the line, where all of it is the same
+-- after a byte of the line, where all of it is the same
 chunk-passes : (front more : Rest) (c : Cell) (cs : List Cell) (h : Here) → nat_eq c.byte 10 ≡ false →
     longer front (whole_line h.point (c ∷ cs)) ≡ longer more (whole_line c.after cs) →
     inside_chunk front (c ∷ cs) h ≡ inside_chunk more cs (record h { point = c.after })
@@ -109,7 +109,7 @@ chunk-more feed w h (Some b) same le c e =
     (ap (λ (p : Point). front ++ whole_line p (cell ∷ feed q)) same
     ∙ taken-more w.setting w.scratch w.point cell (feed q) le refl (sym c) e))
 
--- what stands in a line, which began before its point
+-- what is in a line, which began before its point
 chunk_inside_means : (B : Behaviour) (feed : Feed) (w : World) (x : Bool) →
     HasChunk B w.setting.bytes → Sees feed w → w.current ≡ looks w → w.scratch.start ≤ whole_from w.point →
     ends_line w.current ≡ x →

@@ -73,7 +73,7 @@ resolved-same R w names found v same NoneYet = refl
 resolved-same R w names found v same (More ns n f m v' v'' r step) =
     same n v' m v'' step ∙ resolved-same R w ns f v' same r
 
--- a part stands where it begins
+-- a part is where it begins
 part-stands : (w : World) → IsRest w.scratch → w.frames ≡ [] → stands content_scheme w (Next content_start)
 part-stands w rest none = (rest, rw none (record { ok = λ s q t is g r. tt; nok = λ s q t is g. tt }))
 

@@ -28,7 +28,7 @@ in-takes options cells p d e = go options.constructs.definition e
     go true e = definition-takes cells p d e
     go false e = let none : (let o : Option DefinitionParts = None in o) ≡ Some d = e in cc
 
--- none stands where neither whitespace nor `[` does
+-- none is where neither whitespace nor `[` does
 parts-none : (cells : List Cell) → may_define (first_seen cells) ≡ false → definition_parts cells ≡ None
 unfolding definition_parts label_parts
 parts-none [] e = refl
@@ -84,7 +84,7 @@ content-enough options (suc n) (suc m) (c ∷ cs) p a b =
     by-same options (content_of options n) (content_of options m) (c ∷ cs) p
     (λ rest r fewer. content-enough options n m rest r (omega (arith, fewer, a)) (omega (arith, fewer, b)))
 
--- The content of some cells: a definition, and the content behind it, or a paragraph.
+-- The content of some cells: a definition, and the content after it, or a paragraph.
 pub content-unfolds : (options : ParseOptions) (cells : List Cell) (p : Point) →
     content_over options cells p ≡ content_by (definition_in options cells) (content_over options) cells p
 unfolding content_over

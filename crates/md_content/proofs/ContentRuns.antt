@@ -1,4 +1,4 @@
--- What a whole run of content comes to, as a function of the text.
+-- What a whole run of content becomes, as a function of the text.
 use Rattle.std.proofs.Common.{◌≡◌, ◌^◌, ◌<◌, ◌≤◌, ℕ, Bool, false, true, [], refl, sym, ◌∙◌, arith}
 use Rattle.md_engine.specs.declared.state.State.{State}
 use Rattle.md_engine.specs.declared.state.State.TheVariants.{Error, Ok, Nok, Next, Retry}
@@ -13,7 +13,7 @@ use Rattle.md_engine.proofs.TextFeed.{flush-means, text-follows}
 use Rattle.md_content.specs.States.{ContentStep, content_behaves, content_scheme}
 use Rattle.md_content.proofs.States.{content_table_means, content_stands}
 
--- a push keeps what a tokenizer comes to, with the text up to where it will be read in all, and stands
+-- a push keeps what a tokenizer becomes, with the text up to where it will be read in all, and is
 pub content_push : (s s' : State) (w w' : World) (limit total : ℕ) → total < 2 ^ 61 → limit ≤ total →
     stands content_scheme (reads_to w limit) (plain s) →
     Runs ContentStep false s (reads_to w limit) s' w' →
@@ -26,7 +26,7 @@ content_push s s' w w' limit total small le at run =
     (content_table_means (reads_to w limit).setting false) content_stands
     (text-follows (reads_to w total).setting limit false small le (λ e. cc)) at s' w' run
 
--- a flush comes to where the tokenizer ends
+-- a flush reaches where the tokenizer ends
 pub content_flush : (R : Resolution) (s : State) (w : World) (resolve : Bool) (found : Found) (new : World) →
     w.setting.limit < 2 ^ 61 → stands content_scheme w (plain s) →
     (f : Flushes ContentStep R s w resolve found new) →

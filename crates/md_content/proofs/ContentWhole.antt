@@ -1,4 +1,4 @@
--- The content of its text is all that a part comes to.
+-- The content of its text is all that a part becomes.
 use Rattle.std.proofs.Common.{◌≡◌, List, [], ap, ◌∙◌, refl}
 use Rattle.md_engine.specs.declared.configuration.ParseOptions.{ParseOptions}
 use Rattle.md_engine.specs.declared.state.State.TheVariants.{Next}
@@ -10,7 +10,7 @@ use Rattle.md_content.specs.DefinitionsRule.{content_at}
 use Rattle.md_content.specs.States.{content_behaves, content_start}
 use Rattle.md_seam.specs.Ahead.{point_after}
 
--- what stands behind it
+-- what follows it
 abbrev pub over : ParseOptions → List Cell → World → Here
 over options cells w = record (here w) { events = content_over options cells w.point; point = point_after cells w.point }
 

@@ -88,7 +88,7 @@ firsts-at [] i d lt = absurd (omega arith)
 firsts-at (chunk ∷ chunks) zero d lt = refl
 firsts-at (chunk ∷ chunks) (suc i) d lt = firsts-at chunks i d (omega (arith, lt))
 
--- lines begin in front of the end
+-- lines begin before the end
 first-before : (bytes : List ℕ) (chunk : Chunk) (chunks : List Chunk) → All (IsChunk bytes) (chunk ∷ chunks) →
     are_lines (chunk ∷ chunks) ≡ true → chunk.first.index < end_of (chunk ∷ chunks)
 first-before bytes chunk [] are lines = (within chunk lines).index

@@ -76,7 +76,7 @@ over-past [] k p = ap (λ (m : ℕ). past m p) (omega arith)
 over-past (b ∷ bs) k p =
     ap (over bs) (past-next_byte k p) ∙ over-past bs (k + 1) p ∙ ap (λ (m : ℕ). past m p) (omega arith)
 
--- The cells of the line, and those behind it.
+-- The cells of the line, and those after it.
 
 abbrev pub end_of_line : List ℕ → List ℕ → Point → Point
 end_of_line label dest p = past (length label + 4 + length dest) p
@@ -203,7 +203,7 @@ settled-all chunk chunks (e ∷ xs) es h =
     rw (not-true (is_piece_end e && nat_le chunk.after.index e.point.index) both.0)
     (ap (λ (l : List Event). e ∷ l) (settled-all chunk chunks xs es both.1))
 
--- the events of a definition, up to the end of its destination, and those behind that
+-- the events of a definition, up to the end of its destination, and those after that
 abbrev front : Point → Point → Point → Point → Point → Point → List Event
 front p q r s t u =
     enter parts.Definition p
@@ -221,7 +221,7 @@ front-kept : (chunk : Chunk) (p q r s t u : Point) → r.index < chunk.after.ind
 front-kept chunk p q r s t u lt =
     let no : nat_le chunk.after.index r.index ≡ false = grind (arith, nat_tests) in rw no refl
 
--- behind a line that goes on
+-- after a line that continues
 settled-on : (chunk : Chunk) (chunks : List Chunk) (p q r s t u v : Point) (es : List Event) →
     r.index < chunk.after.index → v.index < chunk.after.index →
     settled (chunk ∷ chunks) (definition_between p q r s t u v ++ es) ≡
@@ -246,7 +246,7 @@ point-is : (q : Point) (a b c d : ℕ) → q.line ≡ a → q.column ≡ b → q
     (let p : Point = record { line = a; column = b; index = c; vs = d } in p) ≡ q
 point-is q a b c d e f g h = rw (sym e, sym f, sym g, sym h) refl
 
--- behind its ending
+-- after its ending
 feed-ending : (x : Setting) (v q r : Point) → x.limit < 2 ^ 61 → v.index < x.limit → slice_index x.bytes v.index ≡ 10 →
     q.line ≡ v.line + 1 → q.column ≡ 1 → q.index ≡ v.index + 1 → q.vs ≡ 0 → line_begun x q ≡ r →
     text_feed x v ≡ cell 10 r x.line ∷ text_feed x r
@@ -303,7 +303,7 @@ has-text bytes p end label dest le is =
       size = omega (arith, all, cut, same);
     }
 
--- What is read of a line that goes on, and of the last.
+-- What is read of a line that continues, and of the last.
 
 abbrev pub reads : ParseOptions → Setting → List Chunk → List Event
 reads options x chunks = settled chunks (content_over options (text_feed x (first_of chunks)) (first_of chunks))
@@ -362,7 +362,7 @@ step-on x options chunk next more label dest small on are is f line ending begun
         (feed ∙ ap (λ (l : List Cell). cell 10 next.first x.line ∷ l) (feed-bracket x next.first small inside bracket))
         ∙ untitled next.first (after x next.first) x.line (text_feed x (after x next.first))
 
--- Where the points of a line stand.
+-- Where the points of a line are.
 
 past-placed : (bytes bs rest : List ℕ) (p : Point) (k : ℕ) → IsPlaced bytes p → drop p.index bytes ≡ bs ++ rest →
     list_all is_flat bs ≡ true → k < length bs → p.index + length bs ≤ length bytes → IsPlaced bytes (past (k + 1) p)

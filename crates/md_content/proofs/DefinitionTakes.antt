@@ -1,4 +1,4 @@
--- A definition takes the cells in front of what follows it, and at least one.
+-- A definition takes the cells before what follows it, and at least one.
 use Rattle.std.proofs.Common.{◌≡◌, ℕ, zero, suc, ◌<◌, ◌≤◌, Bool, true, false, cond, nat_eq, List, [], ◌∷◌, ◌++◌, length}
 use Rattle.std.proofs.Common.{take, drop, Option, Some, None, refl, sym, ◌∙◌, ap, arith, subst, append_assoc}
 use Rattle.std.proofs.lemmas.List.{length-append, take-append-drop}
@@ -25,7 +25,7 @@ use Rattle.md_seam.specs.Look.{first_seen}
 use Rattle.md_seam.specs.Spaces.{any_size, ends_line}
 use Rattle.md_seam.proofs.FeedLines.{point_after-append}
 
--- the cells in front of what is left were taken, from one point to another
+-- the cells before what is left were taken, from one point to another
 pub record Takes (cells : List Cell) (p : Point) (rest : List Cell) (q : Point) : Type 0 where
   pub front : List Cell
   pub split : cells ≡ front ++ rest
@@ -45,7 +45,7 @@ takes-more c cs p rest q t = record {
 takes-cell : (c : Cell) (cs : List Cell) (p : Point) → Takes (c ∷ cs) p cs c.after
 takes-cell c cs p = takes-more c cs p cs c.after (takes-none cs c.after)
 
--- one part behind another
+-- one part after another
 takes-then : (cells : List Cell) (p : Point) (some : List Cell) (q : Point) (rest : List Cell) (r : Point) →
     Takes cells p some q → Takes some q rest r → Takes cells p rest r
 takes-then cells p some q rest r a b = record {
@@ -82,7 +82,7 @@ white-takes (suc room) (c ∷ cs) p = go (is_white c.byte) (white-takes room cs 
     go true t = takes-more c cs p _ _ t
     go false t = takes-none (c ∷ cs) p
 
--- a text, and the mark behind it
+-- a text, and the mark after it
 mark-takes : (is : ℕ → Bool) (cells : List Cell) (p : Point) (d : Cell) (ds : List Cell) →
     from_mark is false cells ≡ d ∷ ds → Takes cells p ds d.after
 mark-takes is cells p d ds e =
@@ -173,7 +173,7 @@ some-takes : (size : ℕ) (cells : List Cell) (p : Point) → Takes cells p (dro
 some-takes size cells p =
     record { front = take size cells; split = sym (take-append-drop size cells); last = refl }
 
--- a title behind a gap, if there is one
+-- a title after a gap, if there is one
 titled-takes : (cells : List Cell) (p : Point) (title : Option TitleParts) → title_behind cells ≡ title →
     Takes cells p (titled_rest title cells) (titled_end title p)
 titled-takes cells p None e = takes-none cells p
@@ -197,7 +197,7 @@ titled-takes cells p (Some t) e = go (begins_gap cells) (title_parts (gap_rest c
 
 -- The whole.
 
--- a definition takes some cells, and the line ends behind it
+-- a definition takes some cells, and the line ends after it
 pub record DefinitionTakes (d : DefinitionParts) (cells : List Cell) (p : Point) : Type 0 where
   pub takes : Takes cells p (definition_rest d) (definition_end d)
   pub fewer : length (definition_rest d) < length cells

@@ -1,4 +1,4 @@
--- Each state in front of a paragraph takes one step of its rule.
+-- Each state before a paragraph takes one step of its rule.
 use Rattle.std.proofs.Common.{◌≡◌, ℕ, Bool, true, false, cond, nat_eq, List, [], ◌∷◌, ◌++◌, length, take, Option, Some}
 use Rattle.std.proofs.Common.{None, refl, sym, ◌∙◌, ap, ap₂, append_assoc, append-nil, arith}
 use Rattle.std.proofs.lemmas.List.{take_all}
@@ -42,7 +42,7 @@ pub paragraph-whole : (cells : List Cell) (h : Here) →
 unfolding paragraph_at paragraph_line inside_paragraph
 paragraph-whole cells h = ap (λ (es : List Event). Accepts (record h { events = es; point = point_after cells h.point }) []) (simp append_assoc)
 
--- so content is a paragraph where no definition stands
+-- so content is a paragraph where no definition is
 content-none : (options : ParseOptions) (cells : List Cell) (h : Here) → definition_in options cells ≡ None →
     content_at options cells h ≡ paragraph_at cells h
 unfolding content_at
@@ -121,7 +121,7 @@ before_means B feed options w false has s r e =
     (in-none options (feed w.point) (ap may_define (first-seen feed w s) ∙ e))
     ∙ sym (has.paragraph.each paragraph.Start _ _))
 
--- Behind a definition.
+-- After a definition.
 
 after-none : (options : ParseOptions) (h : Here) → after_definition options [] h ≡ Accepts h []
 unfolding after_definition
@@ -174,7 +174,7 @@ after_means B feed options w (Some b) has e = go (nat_eq b line_feed) refl
         (has.each its.DefinitionAfter _ _ ∙ ap (λ (x : List Cell). after_definition options x (here w)) e
         ∙ after-other options c cs (here w) k))
 
--- each state in front of a paragraph takes one step of what it means
+-- each state before a paragraph takes one step of what it means
 definitions_steps : (B : Behaviour) (feed : Feed) (state : ContentState) (w : World) →
     HasDefinitions B w.setting.options → Sees feed w → IsRest w.scratch →
     Steps B feed (Next (n.Content state)) w (definitions_transition state w).to (definitions_transition state w).world

@@ -1,4 +1,4 @@
--- What stands in front of a paragraph stands and ends in any table that has it, and definitions.
+-- What is before a paragraph is and ends in any table that has it, and definitions.
 use Rattle.std.proofs.Common.{◌≡◌, ℕ, ◌<◌, Bool, true, false, nat_eq, Option, Some, None, length, refl, sym, arith}
 use Rattle.md_meaning.specs.Ascii.{line_feed}
 use Rattle.md_engine.specs.declared.state.Name.TheVariants as n
@@ -84,7 +84,7 @@ after_ends T w (Some b) has r e = go (nat_eq b line_feed) refl
         )
     go false k = rw k (refuses T _ w _ _ w.events w.scratch r.1 r.0, refl)
 
--- each state in front of a paragraph
+-- each state before a paragraph
 pub definitions_terminates : (T : Scheme) (state : ContentState) (w : World) → DefinitionsFits T → w.current ≡ looks w →
     definitions_ready (n.Content state) (position w) (after_all T w.frames) →
     Does T (n.Content state) w (definitions_transition state w)

@@ -1,4 +1,4 @@
--- The labels of footnote definitions among events: in front of the first event of a label there are none.
+-- The labels of footnote definitions among events: before the first event of a label there are none.
 use Rattle.std.proofs.Common.{◌≡◌, ◌+◌, ◌&&◌, ℕ, suc, Bool, true, false, cond, List, [], ◌∷◌, drop, refl, ap, arith, ◌∙◌, sym}
 use Rattle.std.specs.Prelude.{if◌then◌else◌, not, slice_range}
 use Rattle.std.specs.List.{prefix_len}
@@ -26,7 +26,7 @@ label-passed bytes from e es none = go e.kind (is_footnote_label e.name) none
     go Exit false h = refl
     go k true h = cc
 
--- and so are all in front of the first that is
+-- and so are all before the first that is
 pub footnotes-passed : (bytes : List ℕ) (from : ℕ) (es : List Event) →
     footnote_labels_from bytes from (drop (prefix_len (λ (e : Event). not (is_footnote_label e.name)) es) es)
     ≡ footnote_labels_from bytes from es

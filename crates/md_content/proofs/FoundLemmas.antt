@@ -1,4 +1,4 @@
--- What is found of events is found behind those that have no link and begin no label.
+-- What is found of events is found after those that have no link and begin no label.
 use Rattle.std.proofs.Common.{◌≡◌, ℕ, suc, ◌+◌, Bool, true, false, ◌&&◌, cond, List, [], ◌∷◌, drop, refl, ap, sym, ◌∙◌, arith, true≢false}
 use Rattle.std.specs.List.{prefix_len}
 use Rattle.std.specs.Prelude.{is_none, not}
@@ -44,7 +44,7 @@ read-behind (e ∷ es) =
 abbrev found_of : Bool → List (List ℕ) → List (List ℕ) → Found
 found_of done labels notes = record { done = done; definitions = labels; footnotes = notes }
 
--- so what is found behind them is what is found of all
+-- so what is found after them is what is found of all
 pub found-behind : (bytes : List ℕ) (es : List Event) (done : Bool) (labels notes : List (List ℕ)) →
     done ≡ is_all_read (drop (prefix_len has_neither es) es) →
     labels ≡ labels_in bytes (drop (prefix_len has_neither es) es) → notes ≡ [] →

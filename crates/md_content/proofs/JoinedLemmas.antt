@@ -34,7 +34,7 @@ joined-head (e ∷ f ∷ g ∷ es) j d d' lt is = go (is_exit e.kind && is_conte
 pub to-end : (events : List Event) (n : ℕ) → take (length events - n) (drop n events) ≡ drop n events
 to-end events n = take_all _ _ (omega (arith, length-drop n events))
 
--- what passes first behind a place
+-- what passes first after a place
 pub first-there : (p : Event → Bool) (events : List Event) (at n : ℕ) (d : Event) →
     n ≡ position_or_len p (drop at events) → at + n < length events → p (get_or events (at + n) d) ≡ true
 first-there p events at n d is lt =
@@ -48,7 +48,7 @@ first-there p events at n d is lt =
 abbrev begins_line : Event → Bool
 begins_line e = is_enter e.kind && is_content e.name
 
--- a line begins behind prefixes if the first other event begins one
+-- a line begins after prefixes if the first other event begins one
 behind-some : (es : List Event) (d : Event) → prefix_len is_of_prefix es < length es →
     content_behind es ≡ begins_line (get_or es (prefix_len is_of_prefix es) d)
 behind-some [] d lt = absurd (omega arith)
@@ -92,7 +92,7 @@ behind-none (e ∷ es) le = by (is_of_prefix e) refl le (behind-none es)
         subst (λ x. length (e ∷ es) ≤ cond x (1 + run) 0) last le in
         absurd (omega (arith, less))
 
--- so a line goes on
+-- so a line continues
 pub goes-some : (events : List Event) (d : Event) (n : ℕ) → 2 ≤ length events →
     is_line_ending (get_or events 0 d).name ≡ true → n ≡ prefix_len is_of_prefix (drop 2 events) →
     2 + n < length events → goes_on events ≡ (is_enter (get_or events (2 + n) d).kind && is_content (get_or events (2 + n) d).name)
@@ -115,7 +115,7 @@ goes-none (e ∷ f ∷ es) n is le = go (is_line_ending e.name) (behind-none es 
     go true h = h
     go false h = refl
 
--- Events that stand at places of the text still do.
+-- Events that are at places of the text still do.
 
 abbrev Stands : List ℕ → Event → Type 0
 Stands bytes e = IsPlaced bytes e.point

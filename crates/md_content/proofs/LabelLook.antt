@@ -31,7 +31,7 @@ use Rattle.md_seam.proofs.PlainSteps.{range-next, range-none}
 
 -- By cells.
 
--- whether a label ends here in front of a colon
+-- whether a label ends here before a colon
 abbrev closes : List Cell → Bool
 closes [] = false
 closes (c ∷ []) = false
@@ -91,7 +91,7 @@ seen-same : (bytes : List ℕ) (p : Point) → is_ending (slice_index bytes p.in
     (slice_index bytes p.index == 9) ≡ false → seen_at bytes p ≡ slice_index bytes p.index
 seen-same bytes p e t = rw (e, t) refl
 
--- behind a byte, or within a tab
+-- after a byte, or within a tab
 next-index : (bytes : List ℕ) (p : Point) → is_ending (slice_index bytes p.index) ≡ false →
     ((next_point bytes p).index ≡ p.index) ⊎ ((next_point bytes p).index ≡ p.index + 1)
 next-index bytes p e = rw e (go ((slice_index bytes p.index == 9) && not (p.column % 4 == 0)))
@@ -107,7 +107,7 @@ next-plain : (bytes : List ℕ) (p : Point) → is_ending (slice_index bytes p.i
     (slice_index bytes p.index == 9) ≡ false → (next_point bytes p).index ≡ p.index + 1
 next-plain bytes p e t = rw (e, t) refl
 
--- a byte that is seen as it is, and the next byte behind it
+-- a byte that is seen as it is, and the next byte after it
 record Plain (x : Setting) (p : Point) (b : ℕ) : Type 0 where
   next : Point
   here : Cell
@@ -167,7 +167,7 @@ seen-no_colon b false cut k = last ((b == 9) && cut)
     last true = refl
     last false = k
 
--- a label that ends here ends in front of another byte
+-- a label that ends here ends before another byte
 ends-here : (x : Setting) (end : ℕ) (p : Point) → x.limit < 2 ^ 61 → end ≤ x.limit → end ≤ length x.bytes →
     p.index < end → slice_index x.bytes p.index ≡ right_bracket →
     may_mark (slice_range x.bytes (p.index + 1) end) ≡ false → closes (text_feed x p) ≡ false
@@ -197,7 +197,7 @@ seen-none b true cut h = refl
 seen-none b false cut h =
     let other : (b == 9) ≡ false = (or_parts _ _ (or_parts _ _ h).0).1 in rw other h
 
--- behind `[`, no label ends in front of a colon
+-- after `[`, no label ends before a colon
 scan : (x : Setting) (end : ℕ) (fuel : ℕ) (p : Point) → x.limit < 2 ^ 61 → end ≤ x.limit → end ≤ length x.bytes →
     cells_left x.limit p ≤ fuel → may_close (slice_range x.bytes p.index end) ≡ false →
     closes (from_mark is_bracket false (text_feed x p)) ≡ false

@@ -14,7 +14,7 @@ use Rattle.md_content.specs.LabelTexts.{on_one_line}
 abbrev filled : List (List ℕ) → List (List ℕ)
 filled pieces = filter (λ piece. not (is_end piece)) pieces
 
--- The pieces of a text on one line are those of its lines, one behind another: the first piece is that of the first
+-- The pieces of a text on one line are those of its lines, one after another: the first piece is that of the first
 -- line, and so are all others, but for those of nothing.
 record Pieces (one : List (List ℕ)) (lines : List (List ℕ)) : Type 0 where
   piece : List ℕ
@@ -39,7 +39,7 @@ words-of one lines p =
     first true e = rw e p.same
     first false e = rw e (ap (λ (l : List (List ℕ)). p.piece ∷ l) p.same)
 
--- behind the ending of a line
+-- after the ending of a line
 pieces-ended : (one lines : List (List ℕ)) → Pieces one lines → Pieces ([] ∷ one) ([] ∷ lines)
 pieces-ended one lines p = record {
   piece = [];
@@ -53,7 +53,7 @@ pieces-ended one lines p = record {
   same = words-of one lines p;
 }
 
--- behind a blank
+-- after a blank
 pieces-white : (b : ℕ) (one lines : List (List ℕ)) → is_white b ≡ true → Pieces one lines →
     Pieces ([] ∷ one) (onto_first b lines)
 pieces-white b one lines w p = record {
@@ -68,7 +68,7 @@ pieces-white b one lines w p = record {
   same = words-of one lines p ∙ ap (flat_map words) p.lines_are;
 }
 
--- behind another byte
+-- after another byte
 pieces-other : (b : ℕ) (one lines : List (List ℕ)) → is_white b ≡ false → Pieces one lines →
     Pieces (onto_first b one) (onto_first b lines)
 pieces-other b one lines w p = record {
@@ -113,7 +113,7 @@ ending-split : (b : ℕ) (bs : List ℕ) → is_ending b ≡ true →
     slice_split is_white (on_one_line (b ∷ bs)) ≡ [] ∷ slice_split is_white (on_one_line bs)
 ending-split b bs e = rw e refl
 
--- an ending that does not end the line is in front of one that does
+-- an ending that does not end the line is before one that does
 cut-lines : (b : ℕ) (bs : List ℕ) → ends_line b bs ≡ false → is_ending b ≡ true →
     split_lines bs ≡ [] ∷ split_lines (drop 1 bs)
 cut-lines b bs is e = by bs (go (nat_eq b 10) (nat_eq b 13) (begins_with 10 bs) is e)

@@ -17,7 +17,7 @@ use Rattle.md_seam.specs.Events.Nested.{is_enter}
 
 -- The text of a label.
 
--- what is read so far, in front of an event
+-- what is read so far, before an event
 pub record Reading (bytes : List ℕ) (events : List Event) (i : ℕ) (text : List ℕ) : Type 0 where
   pub so_far : text ++ on_one_line (label_text bytes (drop i events)) ≡ on_one_line (label_text bytes events)
 
@@ -57,7 +57,7 @@ label-found bytes events i d found text lt begins read so_far =
     ∙ append_assoc found (form ∷ []) (labels_in bytes (drop (i + 1) events))
     ∙ ap (λ (l : List (List ℕ)). found ++ l) (sym is) ∙ so_far
 
--- in front of the first there are none
+-- before the first there are none
 labels-before : (bytes : List ℕ) (es : List Event) →
     labels_in bytes (drop (position_or_len begins_label es) es) ≡ labels_in bytes es
 labels-before bytes [] = refl
@@ -78,7 +78,7 @@ labels-before bytes (e ∷ es) = by (begins_label e) refl (labels-before bytes e
         none)
     by true begins behind = ap (λ x. labels_in bytes (drop (cond (not x) (1 + run) 0) (e ∷ es))) begins
 
--- and so behind a place
+-- and so after a place
 pub labels-passed : (bytes : List ℕ) (events : List Event) (i n : ℕ) (found : List (List ℕ)) →
     n ≡ position_or_len begins_label (drop i events) →
     found ++ labels_in bytes (drop i events) ≡ labels_in bytes events →

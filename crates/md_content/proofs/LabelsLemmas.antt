@@ -23,7 +23,7 @@ labels-none bytes (e ∷ es) h =
     let parts = and_parts _ _ h in
     rw (none-begins (is_enter e.kind) (is_label e.name) parts.0) (labels-none bytes es parts.1)
 
--- such events in front of others
+-- such events before others
 pub labels-skip : (bytes : List ℕ) (xs ys : List Event) → has_no_label xs ≡ true →
     labels_in bytes (xs ++ ys) ≡ labels_in bytes ys
 labels-skip bytes [] ys h = refl

@@ -23,7 +23,7 @@ use Rattle.md_seam.proofs.PointOrder.{Before, next-within, placed-same, reached-
 
 -- The order of points, and their lines.
 
--- a point that is not behind another one
+-- a point that is not after another one
 in-order : (bytes : List ℕ) (n m : ℕ) → (Before (walked bytes m) (walked bytes n) → ⊥) → n ≤ m
 in-order bytes n m not_behind = elim (cases_lt m n) [
   | inl lt ↦ absurd (not_behind (walk-before bytes m n lt))
@@ -141,7 +141,7 @@ moved bytes p = go (is_ending (slice_index bytes p.index)) ((slice_index bytes p
     go false true lt = absurd (omega (arith, lt))
     go false false lt = refl
 
--- the point behind is a point before it, or it
+-- the point after is a point before it, or it
 step-upto : (bytes : List ℕ) (p q : Point) → IsPlaced bytes p → IsPlaced bytes q → p.index < q.index → q.vs ≡ 0 →
     ((next_point bytes p).index < q.index) ⊎ (next_point bytes p ≡ q)
 step-upto bytes p q h k lt whole = go (cases_lt (next_point bytes p).index q.index)

@@ -64,7 +64,7 @@ first-begins [] d h = absurd (true≢false (sym h))
 first-begins (e ∷ []) d h = absurd (true≢false (sym h))
 first-begins (e ∷ f ∷ es) d h = h
 
--- the second event of a chunk, which ends behind the ending of its line if that goes on
+-- the second event of a chunk, which ends after the ending of its line if that continues
 abbrev ended : List Event → ℕ → Event → Event
 ended rest last d = record (get_or rest 1 d) { point = (get_or rest last d).point }
 
@@ -88,7 +88,7 @@ chunk-split (e ∷ f ∷ es) with last d h is more =
     (ap
     (λ (n : ℕ). e ∷ record f { point = (get_or (e ∷ f ∷ es) last d).point } ∷ joined (drop n (e ∷ f ∷ es))) far)
 
--- so the part begins with it, or goes on
+-- so the part begins with it, or continues
 pub lines-split : (rest : List Event) (with last : ℕ) (d : Event) → begins_chunk rest ≡ true →
     with ≡ joined_with (drop 1 rest) → last ≡ 1 + with →
     lines_from rest ≡ chunk_of (get_or rest 0 d) (get_or rest last d) ∷ lines_from (drop (last + 1) rest)
@@ -107,7 +107,7 @@ some-content : (o : Option Content) → is_some o ≡ true → (content : Conten
 some-content (Some held) h = (held, refl)
 some-content None h = absurd (true≢false (sym h))
 
--- what is read stands in the places of its lines
+-- what is read is in the places of its lines
 pub leads-line : (bytes : List ℕ) (options : ParseOptions)
     (events rest left now left_behind all new : List Event) (chunks many chunks_left with last : ℕ) (d : Event) →
     begins_chunk rest ≡ true → with ≡ joined_with (drop 1 rest) → last ≡ 1 + with →
@@ -313,7 +313,7 @@ lines-more events at with last d items new all h is next new_is listed =
     ∙ ap (λ (l : List Event). chunk_of (get_or events at d) (get_or events last d) ∷ lines_from l) far))
     ∙ listed
 
--- those behind an event of a prefix
+-- those after an event of a prefix
 pub past-prefix : (e : Event) (es : List Event) → is_some (wanted wants_content e) ≡ false → is_prefix e.name ≡ true →
     lines_from (e ∷ es) ≡ lines_from es
 past-prefix e es none prefix =
@@ -328,7 +328,7 @@ past-prefix e es none prefix =
         (cond (is_prefix e.name) (chunks_behind wants_content (f ∷ l)) [])) none
         ∙ ap (λ (x : Bool). cond x (chunks_behind wants_content (f ∷ l)) []) prefix
 
--- none behind another event
+-- none after another event
 pub past-other : (e : Event) (es : List Event) → is_some (wanted wants_content e) ≡ false →
     is_prefix e.name ≡ false → lines_from (e ∷ es) ≡ []
 past-other e es none other =

@@ -50,7 +50,7 @@ line-byte bytes c (d ∷ cs) are l =
     has-byte bytes c.first c.after is.first is.after (first-vs bytes c.after is.after f.column)
     (omega (arith, f.line))
 
--- the two events of a line belong to it, and what comes behind them does not if it begins there
+-- the two events of a line belong to it, and what comes after them does not if it begins there
 line-share : (c : Chunk) (q : Point) (es : List Event) → c.first.index < c.after.index → c.after.index ≤ q.index →
     prefix_len (belongs c.after.index)
     (enter_link parts.Data c.first text_link ∷ exit parts.Data c.after ∷ enter_link parts.Data q text_link ∷ es) ≡ 2
@@ -77,7 +77,7 @@ abbrev pub LeadsTo : List ℕ → ParseOptions → List Event → List Event →
 LeadsTo bytes options events left chunks rest all =
     Leads wants_content (content_readings bytes options) (joined events) left chunks (joined rest) all
 
--- behind a line of a paragraph that has ended here, and which goes on with the lines that are left
+-- after a line of a paragraph that has ended here, and which continues with the lines that are left
 abbrev pub Shown : List ℕ → ParseOptions → List Event → List Event → List Event → Point → List Chunk → Type 0
 Shown bytes options events rest all after [] =
     LeadsTo bytes options events [] 0 rest (all ++ exit parts.Paragraph after ∷ [])
@@ -204,7 +204,7 @@ unlinked k (Some l) h = absurd (true≢false (sym h))
 plain-unwanted : (e : Event) → is_plain_prefix e ≡ true → wanted wants_content e ≡ None
 plain-unwanted e h = unlinked e.kind e.link (and_parts (is_prefix e.name) (is_none e.link) h).1
 
--- the lines behind them are those of the part
+-- the lines after them are those of the part
 pub lines-prefixes : (events : List Event) → lines_from (past_prefixes events) ≡ lines_from events
 lines-prefixes [] = refl
 lines-prefixes (e ∷ es) = by (is_plain_prefix e) refl (lines-prefixes es)
@@ -224,7 +224,7 @@ lines-prefixes (e ∷ es) = by (is_plain_prefix e) refl (lines-prefixes es)
         (and_parts (is_prefix e.name) (is_none e.link) plain).0)
     by false other behind = ap (λ (x : Bool). lines_from (drop (cond x (1 + run) 0) (e ∷ es))) other
 
--- where a line begins behind them, they are the events without a link
+-- where a line begins after them, they are the events without a link
 pub unlinked-prefixes : (events : List Event) → begins_chunk (past_prefixes events) ≡ true →
     prefix_len is_unlinked events ≡ prefix_len is_plain_prefix events
 unlinked-prefixes [] h = refl
@@ -336,7 +336,7 @@ pub record Behind (bytes : List ℕ) (options : ParseOptions) (items all rest : 
   pub end : IsPlaced bytes after
   pub shown : Shown bytes options items rest all after (lines_from rest)
 
--- so many lines are left, of which the next is behind container prefixes
+-- so many lines are left, of which the next is after container prefixes
 abbrev pub HasFurther : ℕ → List Event → Type 0
 HasFurther zero rest = lines_from rest ≡ []
 HasFurther (suc more) rest = HasLines more (past_prefixes rest)
@@ -477,7 +477,7 @@ paragraph-all bytes options events all rest all_behind rest_behind after behind 
 
 -- A paragraph is looked for.
 
--- a line of content is behind prefixes
+-- a line of content is after prefixes
 behind-prefixes : (es : List Event) (d : Event) → prefix_len is_plain_prefix es < length es →
     (is_enter (get_or es (prefix_len is_plain_prefix es) d).kind
     && is_content (get_or es (prefix_len is_plain_prefix es) d).name) ≡ true →
@@ -517,7 +517,7 @@ behind-prefixes (e ∷ es) d lt h = by (is_plain_prefix e) refl lt h (behind-pre
         (other e.name (and_parts (is_enter e.kind) (is_content e.name) here).1)
         ∙ here
 
--- so a line goes on
+-- so a line continues
 pub joins-two : (events : List Event) (n : ℕ) (d : Event) → 3 ≤ length events →
     ends_content (get_or events 0 d) ≡ true → is_line_ending (get_or events 1 d).name ≡ true →
     n ≡ prefix_len is_plain_prefix (drop 3 events) → 3 + n < length events →

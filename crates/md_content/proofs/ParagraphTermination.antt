@@ -1,4 +1,4 @@
--- A paragraph stands and ends in any table that has it.
+-- A paragraph is and ends in any table that has it.
 use Rattle.std.proofs.Common.{◌≡◌, ℕ, ◌<◌, Bool, true, false, nat_eq, Option, Some, None, refl, sym, arith}
 use Rattle.md_engine.specs.declared.event.Name.TheVariants as parts
 use Rattle.md_engine.specs.declared.state.Name.TheVariants as n

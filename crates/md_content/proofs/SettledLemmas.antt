@@ -13,7 +13,7 @@ use Rattle.md_seam.specs.declared.inline.Chunk.{Chunk}
 use Rattle.md_seam.specs.Events.Nested.{exit}
 use Rattle.md_seam.specs.Parts.{AreChunks, ArePlaced}
 
--- the events in front of a place are settled, with so many of the chunks
+-- the events before a place are settled, with so many of the chunks
 pub record Settling (chunks : List Chunk) (all : List Event) (i k : ℕ) (events : List Event) : Type 0 where
   pub within : k ≤ length chunks
   pub placed : (bytes : List ℕ) → AreChunks bytes chunks → ArePlaced bytes all → ArePlaced bytes events

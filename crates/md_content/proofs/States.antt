@@ -165,6 +165,6 @@ content_table_means under is_end feed name w to new f called step =
     steps-as (content_behaves under.options) feed (Next name) _ to (reading w) _ new step.to_is step.new_is
     (rw (sym called.setting) (content_means feed name (reading w) (sees feed w is_end f called.may) called.stands))
 
--- and comes to where the table stands
+-- and reaches where the table is
 pub content_stands : StandsOn ContentStep content_scheme
 content_stands name w to new at step = (content-keeps name (reading w) to new refl at step).0

@@ -1,4 +1,4 @@
--- A line of content stands and ends in any table that has it.
+-- A line of content is and ends in any table that has it.
 use Rattle.std.proofs.Common.{◌≡◌, ℕ, ◌≤◌, Bool, true, false, Option, Some, None, refl, sym, ap, arith}
 use Rattle.md_engine.specs.declared.event.Name.TheVariants as parts
 use Rattle.md_engine.specs.declared.state.Name.TheVariants as n
@@ -37,7 +37,7 @@ chunk_start_ends T w has r = (
     s : Scratch
     s = begun w.point w.scratch
 
--- a byte of the line lies in front of the point behind it
+-- a byte of the line lies before the point after it
 start-taken : (w : World) (o : Option ℕ) → o ≡ looks w → ends_line o ≡ false → w.scratch.start ≤ whole_from w.point →
     w.scratch.start ≤ whole_from (after w.setting w.point)
 start-taken w None c e le = cc

@@ -49,7 +49,7 @@ abbrev pub row : Line → List ℕ → Point → List Cell
 row line [] p = []
 row line (b ∷ bs) p = cell b (behind_last p) line ∷ row line bs (behind_last p)
 
--- the point behind them
+-- the point after them
 abbrev pub over : List ℕ → Point → Point
 over [] p = p
 over (b ∷ bs) p = over bs (behind_last p)
@@ -238,7 +238,7 @@ pub plain-each : (bs : List ℕ) → is_plain_destination bs ≡ true → list_a
 plain-each [] h = refl
 plain-each (b ∷ bs) h = (and_parts (not (b == less_than)) (list_all is_plain_byte (b ∷ bs)) h).1
 
--- nothing stands on the line where an ending or nothing does
+-- nothing is on the line where an ending or nothing does
 stops-line : (rest : List Cell) → Stops rest → line_bytes rest ≡ []
 stops-line [] h = refl
 stops-line (c ∷ cs) h = rw h refl
@@ -304,7 +304,7 @@ one-gap c cs p is dark line =
           ∙ ap (λ (t : Bool). cond t (pair n.SpaceOrTab p c.after) [] ++ []) is;
     }
 
--- the line ends behind the destination
+-- the line ends after the destination
 stops-ends : (rest : List Cell) → Stops rest → ends_behind rest ≡ true
 stops-ends rest h = ap (λ (l : List Cell). ends_line (first_seen l)) (none-rest any_size rest (stops-white rest h)) ∙ go rest h
   where

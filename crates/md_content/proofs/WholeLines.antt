@@ -86,7 +86,7 @@ has-byte bytes p q h k whole line = elim (cases_lt p.index q.index) [
 pub first-vs : (bytes : List ℕ) (q : Point) → IsPlaced bytes q → q.column ≡ 1 → q.vs ≡ 0
 first-vs bytes q k first = let few = k.vs in omega (arith, few, first)
 
--- no chunk ends behind the last
+-- no chunk ends after the last
 pub end-behind : (bytes : List ℕ) (chunk : Chunk) (chunks : List Chunk) → All (IsChunk bytes) (chunk ∷ chunks) →
     are_lines (chunk ∷ chunks) ≡ true → chunk.after.index ≤ end_of (chunk ∷ chunks)
 end-behind bytes chunk [] are lines = omega arith
@@ -122,7 +122,7 @@ at-seam : (before : List Point) (p : Point) (behind : List Point) →
 at-seam [] p behind = refl
 at-seam (q ∷ before) p behind = at-seam before p behind
 
--- the line behind a chunk begins at the next chunk
+-- the line after a chunk begins at the next chunk
 begun-next : (x : Setting) (before : List Point) (p : Point) (behind : List Point) (q : Point) →
     x.skips ≡ before ++ p ∷ behind → q.line ≡ x.first_line + length before → q.index ≤ p.index → line_begun x q ≡ p
 begun-next x before p behind q skips line le =

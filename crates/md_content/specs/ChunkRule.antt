@@ -16,11 +16,11 @@ use Rattle.md_link_definitions.specs.WholeCells.{rest_here, whole_line}
 use Rattle.md_seam.specs.Ahead.{from_ending, line_end}
 use Rattle.md_seam.specs.Events.Nested.{enter_link, exit}
 
--- a rest with these bytes behind it
+-- a rest with these bytes after it
 abbrev pub longer : Rest → List ℕ → Rest
 longer r bytes = record r { bytes = r.bytes ++ bytes }
 
--- the rest of a line, behind this much of it; a text is open then, which is told all of the line
+-- the rest of a line, after this much of it; a text is open then, which is said all of the line
 unfoldable pub inside_chunk : Rest → List Cell → Here → Outcome
 inside_chunk front cells h =
     let p = line_end cells h.point in

@@ -41,7 +41,7 @@ chunk_start_transition w =
       world = record (entered_link w parts.Content content_link) { scratch = begun w.point w.scratch };
     }
 
--- by whether the line ends here, of which an open text is told
+-- by whether the line ends here, of which an open text is said
 abbrev pub chunk_inside_code : World → Bool → Transition
 chunk_inside_code w true =
     record {
@@ -74,7 +74,7 @@ abbrev pub in_chunk : Position → After → Type 0
 in_chunk x K =
     (x.scratch.start ≤ whole_from x.point) × IsRest (unbegun x.scratch) × Ends IsRest IsRest x K
 
--- no tokenizer stands at a state that is not built
+-- no tokenizer is at a state that is not built
 abbrev pub chunk_ready : StateName → Position → After → Type 0
 chunk_ready (n.Content its.DefinitionBefore) x K = ⊥
 chunk_ready (n.Content its.DefinitionAfter) x K = ⊥

@@ -39,8 +39,8 @@ part_world bytes options chunks = reads_to (skipping_all (fresh bytes options (f
 abbrev pub is_piece_end : Event → Bool
 is_piece_end e = is_exit e.kind && (is_data e.name || is_line_ending e.name)
 
--- Each line ends where its chunk does: the prefixes of containers in front of the next one belong to no line
--- (CommonMark 5.1). The piece that ends a line is the first that ends there or behind it.
+-- Each line ends where its chunk does: the prefixes of containers before the next one belong to no line (CommonMark
+-- 5.1). The piece that ends a line is the first that ends there or after it.
 abbrev pub settled : List Chunk → List Event → List Event
 settled chunks [] = []
 settled [] (e ∷ es) = e ∷ es

@@ -14,7 +14,7 @@ use Rattle.md_seam.specs.Events.Nested.{pair}
 abbrev pub definition_in : ParseOptions → List Cell → Option DefinitionParts
 definition_in options cells = if options.constructs.definition then definition_parts cells else None
 
--- behind a definition: its line ending, and the content of the lines behind that
+-- after a definition: its line ending, and the content of the lines after that
 abbrev pub behind_definition : (List Cell → Point → List Event) → List Cell → Point → List Event
 behind_definition more [] p = []
 behind_definition more (c ∷ cs) p = pair n.LineEnding p c.after ++ more cs c.after

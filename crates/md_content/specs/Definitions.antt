@@ -1,4 +1,4 @@
--- The definitions in front of the paragraph of a text: where one is tried, and what follows it (CommonMark 4.7).
+-- The definitions before the paragraph of a text: where one is tried, and what follows it (CommonMark 4.7).
 use Rattle.std.specs.Prelude.{refl, ℕ, ◌==◌, Bool, true, false, ◌||◌, if◌then◌else◌, Option, Some, None}
 use Rattle.md_meaning.specs.Ascii.{left_bracket, line_feed}
 use Rattle.md_engine.specs.declared.event.Name.TheVariants.{LineEnding}
@@ -15,7 +15,7 @@ use Rattle.md_content.specs.Paragraph.{paragraph_rank}
 use Rattle.md_seam.specs.Spaces.{is_current, rest_ready, sees_white}
 use Rattle.md_seam.specs.Transition.{Transition, entered, exited, taken, tried}
 
--- whether a definition may begin with what stands here: with whitespace in front of it, or with its `[`
+-- whether a definition may begin with what is here: with whitespace before it, or with its `[`
 abbrev pub may_define : Option ℕ → Bool
 may_define o = sees_white o || is_current left_bracket o
 
@@ -27,7 +27,7 @@ definition_before_code w true = record {
 }
 definition_before_code w false = record { to = Retry (n.Paragraph paragraph.Start); world = w }
 
--- by what stands here: the end, or a line ending
+-- by what is here: the end, or a line ending
 abbrev pub definition_after_code : World → Option ℕ → Transition
 definition_after_code w None = record { to = Ok; world = w }
 definition_after_code w (Some b) =
@@ -47,13 +47,13 @@ definitions_transition its.DefinitionBefore w = definition_before_transition w
 definitions_transition its.DefinitionAfter w = definition_after_transition w
 definitions_transition _ w = record { to = Nok; world = w }
 
--- no tokenizer stands at a state of a line that is not read
+-- no tokenizer is at a state of a line that is not read
 abbrev pub definitions_ready : StateName → Position → After → Type 0
 definitions_ready (n.Content its.ChunkStart) x K = ⊥
 definitions_ready (n.Content its.ChunkInside) x K = ⊥
 definitions_ready _ x K = rest_ready x K
 
--- Where no definition stands, the paragraph is next.
+-- Where no definition is, the paragraph is next.
 abbrev pub definitions_rank : StateName → Position → Rank
 definitions_rank (n.Content its.DefinitionBefore) x = ranked 4 refl
 definitions_rank (n.Content _) x = ranked 0 refl

@@ -1,4 +1,4 @@
--- What is left of a text at each state in front of its paragraph (CommonMark 4.7 and 4.8).
+-- What is left of a text at each state before its paragraph (CommonMark 4.7 and 4.8).
 use Rattle.std.specs.Prelude.{◌≡◌, if◌then◌else◌, List, [], ◌++◌}
 use Rattle.md_engine.specs.declared.configuration.ParseOptions.{ParseOptions}
 use Rattle.md_engine.specs.declared.state.Name.TheVariants as n
@@ -22,7 +22,7 @@ content_at options cells h =
     (record h { events = h.events ++ content_over options cells h.point; point = point_after cells h.point })
     []
 
--- behind a definition, where its line ends
+-- after a definition, where its line ends
 unfoldable pub after_definition : ParseOptions → List Cell → Here → Outcome
 after_definition options cells h =
     if ends_line (first_seen cells)
@@ -46,7 +46,7 @@ pub record HasDefinitions (B : Behaviour) (options : ParseOptions) : Type 0 wher
   pub each : (state : ContentState) (cells : List Cell) (h : Here) →
       B (n.Content state) cells h ≡ definitions_behave options state cells h
 
--- what a state in front of a paragraph means: at rest, its call is one step of the rule
+-- what a state before a paragraph means: at rest, its call is one step of the rule
 unfoldable pub DefinitionsMeans : ContentState → World → State → World → Type 0
 DefinitionsMeans state old to new =
     IsRest old.scratch → IsStep (λ B. HasDefinitions B old.setting.options) (n.Content state) to old new

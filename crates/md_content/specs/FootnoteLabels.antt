@@ -1,5 +1,5 @@
 -- The labels of the footnote definitions among events, be their text parts read or not. Such a label is of one line, so
--- it is what stands between its begin and its end.
+-- it is what is between its begin and its end.
 use Rattle.std.specs.Prelude.{ℕ, Bool, true, false, ◌&&◌, if◌then◌else◌, List, [], ◌∷◌, slice_range}
 use Rattle.md_engine.specs.declared.event.Event.{Event}
 use Rattle.md_engine.specs.declared.event.Name.{Name}

@@ -15,12 +15,12 @@ is_content _ = false
 abbrev pub ends_content : Event → Bool
 ends_content e = is_exit e.kind && is_content e.name
 
--- whether a line of content begins behind container prefixes
+-- whether a line of content begins after container prefixes
 abbrev pub content_behind : List Event → Bool
 content_behind [] = false
 content_behind (e ∷ es) = if is_prefix e.name then content_behind es else is_enter e.kind && is_content e.name
 
--- whether a line of content that ends before these events goes on behind them: with its ending, and another line of
+-- whether a line of content that ends before these events continues after them: with its ending, and another line of
 -- content
 abbrev pub goes_on : List Event → Bool
 goes_on (e ∷ f ∷ es) = is_line_ending e.name && content_behind es
@@ -31,7 +31,7 @@ abbrev pub joined_with : List Event → ℕ
 joined_with (e ∷ f ∷ g ∷ es) = if is_exit e.kind && is_content e.name && goes_on (f ∷ g ∷ es) then 2 else 0
 joined_with _ = 0
 
--- each line of content that goes on ends behind its ending
+-- each line of content that continues ends after its ending
 abbrev pub joined : List Event → List Event
 joined [] = []
 joined (e ∷ []) = e ∷ []

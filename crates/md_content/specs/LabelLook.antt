@@ -10,8 +10,8 @@ abbrev pub may_mark : List ℕ → Bool
 may_mark [] = true
 may_mark (b ∷ bytes) = b == colon
 
--- Behind `[`: whether the label may end in front of a colon. It ends at the first bracket that no backslash escapes;
--- what is behind a backslash, or on a further line, is not known.
+-- After `[`: whether the label may end before a colon. It ends at the first bracket that no backslash escapes; what is
+-- after a backslash, or on a further line, is not known.
 abbrev pub may_close : List ℕ → Bool
 may_close [] = true
 may_close (b ∷ bytes) =

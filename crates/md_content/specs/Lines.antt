@@ -16,6 +16,6 @@ begins_chunk _ = false
 abbrev pub is_passed : Event → Bool
 is_passed e = stays wants_content e && not (ends_content e)
 
--- the chunks with which the part begins or goes on that these events come first in
+-- the chunks with which the part begins or continues that these events come first in
 abbrev pub lines_from : List Event → List Chunk
 lines_from events = chunks_behind wants_content (joined events)

@@ -22,7 +22,7 @@ start_transition w = record { to = Retry (n.Paragraph its.LineStart); world = en
 abbrev pub line_start_transition : World → Transition
 line_start_transition w = record { to = Retry (n.Paragraph its.Inside); world = entered_link w parts.Data text_link }
 
--- by what stands here: the end, a line ending, or a byte of the line
+-- by what is here: the end, a line ending, or a byte of the line
 abbrev pub inside_code : World → Option ℕ → Transition
 inside_code w None = record { to = Ok; world = exited (exited w parts.Data) parts.Paragraph }
 inside_code w (Some b) =
@@ -43,7 +43,7 @@ paragraph_rank (n.Paragraph its.Start) x = ranked 2 refl
 paragraph_rank (n.Paragraph its.LineStart) x = ranked 1 refl
 paragraph_rank _ x = ranked 0 refl
 
--- an attempt at a definition may go on with it, and definitions are below
+-- an attempt at a definition may continue with it, and definitions are below
 abbrev pub paragraph_scheme : Scheme
 paragraph_scheme =
     record { ready = λ n x K. rest_ready x K; level = λ n. 4; rank = paragraph_rank; tries = λ n. ranked 3 refl }

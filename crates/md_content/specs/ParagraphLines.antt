@@ -14,11 +14,11 @@ use Rattle.md_seam.specs.Substituted.{Substituted, is_plain_prefix}
 abbrev pub is_unlinked : Event → Bool
 is_unlinked e = is_none e.link
 
--- the events behind those of container prefixes
+-- the events after those of container prefixes
 abbrev pub past_prefixes : List Event → List Event
 past_prefixes events = drop (prefix_len is_plain_prefix events) events
 
--- The part that begins with some events has a line and so many further lines, each behind the ending of the line before
+-- The part that begins with some events has a line and so many further lines, each after the ending of the line before
 -- it and container prefixes.
 abbrev pub HasLines : ℕ → List Event → Type 0
 HasLines zero events =
@@ -33,7 +33,7 @@ pub record IsParagraph (bytes : List ℕ) (more : ℕ) (events : List Event) : T
   pub reads : (options : ParseOptions) →
       content_events bytes options (lines_from events) ≡ paragraph_of (lines_from events)
 
--- Of some events, `rest` are left, and no part is begun. `all` were given for those in front of them.
+-- Of some events, `rest` are left, and no part is begun. `all` were given for those before them.
 pub record Reached (bytes : List ℕ) (options : ParseOptions) (events all rest : List Event) : Type 0 where
   pub given : ArePlaced bytes all
   pub left : ArePlaced bytes rest

@@ -1,4 +1,4 @@
--- What is left of a paragraph at each state: it goes on to the end of the text.
+-- What is left of a paragraph at each state: it continues to the end of the text.
 use Rattle.std.specs.Prelude.{◌≡◌, ◌==◌, if◌then◌else◌, List, [], ◌∷◌, ◌++◌}
 use Rattle.md_engine.specs.declared.event.Event.{Event}
 use Rattle.md_engine.specs.declared.event.Name.TheVariants as parts

@@ -69,6 +69,6 @@ content_behaves options (n.SpaceOrTabEol state) cells h = gap_behaves state cell
 content_behaves options (n.Title state) cells h = title_behaves state cells h
 content_behaves options _ cells h = Refuses h.scratch h.flags
 
--- the state in front of a part
+-- the state before a part
 abbrev pub content_start : StateName
 content_start = n.Content content.DefinitionBefore

@@ -9,7 +9,7 @@ use Rattle.md_content.specs.Paragraph.{text_link}
 use Rattle.md_seam.specs.declared.inline.Chunk.{Chunk}
 use Rattle.md_seam.specs.Events.Nested.{around, enter_link, exit}
 
--- A chunk that ends behind the ending of its line, and one that begins on the next line.
+-- A chunk that ends after the ending of its line, and one that begins on the next line.
 abbrev pub is_followed : Chunk → Chunk → Bool
 is_followed chunk next =
     ((((chunk.after.line - chunk.first.line) == 1) && (chunk.after.column == 1))

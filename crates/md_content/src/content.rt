@@ -3,11 +3,11 @@
 //     content ::= 1*line
 //     text    ::= *( definition eol ) ( definition | paragraph )
 //
-// Each line first stands as one linked `Content`. When all lines are known, those that follow one another are joined
-// and read as one text.
+// Each line first is as one linked `Content`. When all lines are known, those that follow one another are joined and
+// read as one text.
 //
-// The prefixes of containers in front of a line belong to no line of the content (CommonMark 5.1). So each line begins
-// behind those in front of it, and ends behind its ending, before those of the next line: its end is that of its chunk.
+// The prefixes of containers before a line belong to no line of the content (CommonMark 5.1). So each line begins after
+// those before it, and ends after its ending, before those of the next line: its end is that of its chunk.
 
 ghost use Rattle.std.specs.Prelude.{◌≡◌, ◌≢◌, ℕ, ◌^◌, ◌<◌, ◌≤◌, ◌&&◌, false, not, IfOk, IfSome, List, []};
 ghost use Rattle.std.specs.Prelude.{OnOk, length, slice_range, true};
@@ -74,7 +74,7 @@ fn line_taken<'a>(tokenizer: &Tokenizer<'a>) -> &'a [u8]
     )
 }
 
-/// What is held of the open text behind the line that ends here.
+/// What is held of the open text after the line that ends here.
 fn text_with_line(tokenizer: &Tokenizer) -> HeldLeaf
     ensures { let w = world tokenizer.now in
         result ≡ text_behind w.flags.leaf (rest_taken w.setting.bytes w.scratch w.point) }
@@ -83,7 +83,7 @@ fn text_with_line(tokenizer: &Tokenizer) -> HeldLeaf
     text_behind(tokenizer.flags.leaf, size, seen, line_taken(tokenizer))
 }
 
-/// Before a line. Its column from 0, and whether it begins within a tab, tell how far it is indented.
+/// Before a line. Its column from 0, and whether it begins within a tab, show how far it is indented.
 ///
 /// ```markdown
 /// > | a
@@ -110,7 +110,7 @@ pub fn chunk_start(tokenizer: &mut Tokenizer) -> State
     State::Retry(StateName::Content(ContentState::ChunkInside))
 }
 
-/// In a line. Where it ends, the open text is told of it.
+/// In a line. Where it ends, the open text is said of it.
 ///
 /// ```markdown
 /// > | ab
@@ -273,8 +273,8 @@ impl Reader for ContentReader<'_> {
 }
 
 impl ContentReader<'_> {
-    /// The events of a part that stands in these chunks, definitions and a paragraph over them, in place of what stands
-    /// in `events`.
+    /// The events of a part that is in these chunks, definitions and a paragraph over them, in place of what is in
+    /// `events`.
     fn read_part(
         &self,
         alloc: Global,
@@ -328,10 +328,10 @@ impl ContentReader<'_> {
     }
 }
 
-/// Whether a chunk ends behind the ending of its line, and the next chunk begins on the next line.
+/// Whether a chunk ends after the ending of its line, and the next chunk begins on the next line.
 ///
-/// The line of a point counts the endings in front of it. So the chunk has one ending, and by the column it is the last
-/// of its text.
+/// The line of a point counts the endings before it. So the chunk has one ending, and by the column it is the last of
+/// its text.
 pub fn is_followed(chunk: &Chunk, next: &Chunk) -> bool
     ensures { result ≡ is_followed chunk.now next.now }
 {
@@ -365,7 +365,7 @@ pub fn are_lines(chunks: &[Chunk]) -> bool
     is_within_line(&chunks[at])
 }
 
-/// Whether a label may end in front of a colon, by the text behind its `[`: `true` where that is not known.
+/// Whether a label may end before a colon, by the text after its `[`: `true` where that is not known.
 ///
 /// A label ends at the first bracket that no backslash escapes. This looks no further than to a backslash, or to the
 /// end of the line.
@@ -386,7 +386,7 @@ fn may_close(text: &[u8]) -> bool
 
 /// Whether a definition may begin with a line: `true` where that is not known.
 ///
-/// A definition begins with `[`, with whitespace in front of it at most, and a colon follows its label.
+/// A definition begins with `[`, with whitespace before it at most, and a colon follows its label.
 fn may_define_in(line: &[u8]) -> bool
     ensures { result ≡ may_define_in line.now }
 {
@@ -472,9 +472,9 @@ fn ends_piece(event: &Event) -> bool
 
 /// Has each line of what was read end where its chunk ends.
 ///
-/// The tokenizer goes from the ending of a line at once to the begin of the next chunk, which may lie behind prefixes
-/// of containers. These belong to no line, so the piece that ends with a line ends before them: text, or the ending
-/// alone, as it stands between the parts of a definition.
+/// The tokenizer goes from the ending of a line at once to the begin of the next chunk, which may lie after prefixes of
+/// containers. These belong to no line, so the piece that ends with a line ends before them: text, or the ending alone,
+/// as it is between the parts of a definition.
 ///
 /// ```markdown
 /// > | > a
@@ -526,8 +526,8 @@ fn until_either(events: &[Event]) -> usize
     passing(&HasNeither, events)
 }
 
-/// What is found in the events of content: the labels of its definitions, and whether no part is left unread. Events in
-/// front of the first that has a link or begins a label are looked at once for both.
+/// What is found in the events of content: the labels of its definitions, and whether no part is left unread. Events
+/// before the first that has a link or begins a label are looked at once for both.
 fn found_among(alloc: Global, bytes: &[u8], events: &[Event]) -> Result<Subresult, Message>
     ensures { IfOk result (λ found. found_in found ≡ found_in_content bytes.now events.now) }
 {

@@ -1,9 +1,9 @@
-// Definitions in front of the paragraph of a text (CommonMark 4.7).
+// Definitions before the paragraph of a text (CommonMark 4.7).
 //
 //     text ::= *( definition eol ) ( definition | paragraph )
 //
-// A definition is tried on each line in front of the paragraph, and the paragraph begins where none stands. It adds
-// `LineEnding` behind a definition. By one look most paragraphs begin at once.
+// A definition is tried on each line before the paragraph, and the paragraph begins where none is. It adds `LineEnding`
+// after a definition. By one look most paragraphs begin at once.
 
 ghost use Rattle.std.specs.Prelude.{◌≡◌, ◌≢◌};
 ghost use Rattle.md_content.specs.DefinitionsRule.{DefinitionsMeans};
@@ -25,7 +25,7 @@ use md_engine::state::{Name as StateName, State};
 use md_engine::tokenizer::Tokenizer;
 use md_seam::space_or_tab::is_space_or_tab;
 
-/// Whether a definition may begin with what stands here.
+/// Whether a definition may begin with what is here.
 fn may_define(current: Option<u8>) -> bool
     ensures { result ≡ may_define current }
 {
@@ -59,7 +59,7 @@ pub fn definition_before(tokenizer: &mut Tokenizer) -> State
     State::Retry(StateName::Definition(DefinitionState::Start))
 }
 
-/// Behind a definition.
+/// After a definition.
 ///
 /// ```markdown
 /// > | [a]: b
@@ -88,7 +88,7 @@ pub fn definition_after(tokenizer: &mut Tokenizer) -> State
     }
 }
 
-/// Calls a state in front of the paragraph of a text.
+/// Calls a state before the paragraph of a text.
 #[tactic(auto, using(crate::proofs::DefinitionsMeaning::definitions_rule))]
 pub fn call(tokenizer: &mut Tokenizer, state: ContentState) -> State
     requires { IsAt NeedsNothing (StateName.Content state) (world tokenizer.old) }

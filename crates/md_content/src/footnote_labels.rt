@@ -28,7 +28,7 @@ fn ends_label(event: &Event) -> bool
     matches!(event.name, Name::GfmFootnoteDefinitionLabelString) && matches!(event.kind, Kind::Exit)
 }
 
-/// The first byte behind a point: one that cuts a tab is in front of the next.
+/// The first byte after a point: one that cuts a tab is before the next.
 fn byte_at(point: Point) -> Result<usize, Message>
     ensures { IfOk result (λ byte. byte ≡ byte_at point) }
 {

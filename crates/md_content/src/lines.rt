@@ -3,14 +3,14 @@
 //     part ::= line *( ending *prefix line )
 //
 // Each line of content is a begin and an end of its own. The ending between two such lines belongs to the first, and
-// the prefixes of containers in front of the second to neither. So a line that goes on ends behind its ending, whose
-// two events are left out, and the events of the part replace those of the lines.
+// the prefixes of containers before the second to neither. So a line that continues ends after its ending, whose two
+// events are left out, and the events of the part replace those of the lines.
 //
 // ```markdown
 // > | > a
 //       ^^ a line with its ending
 // > | > b
-//       ^ the line that it goes on with
+//       ^ the line that it continues with
 // ```
 
 ghost use Rattle.std.specs.Prelude.{◌≡◌, ◌≤◌, ◌<◌, ◌+◌, ◌&&◌, ◌∷◌, ◌++◌, length, drop, IfOk, IfSome, List, None, []};
@@ -85,7 +85,7 @@ fn plain_prefixes(events: &[Event]) -> usize
     passing(&IsPlainPrefix, events)
 }
 
-/// Whether a line of content that ends before these events goes on: its ending comes first, and behind it and the
+/// Whether a line of content that ends before these events continues: its ending comes first, and after it and the
 /// prefixes of the next line a line of content.
 fn goes_on(events: &[Event]) -> bool
     ensures { result ≡ goes_on events.now }
@@ -104,7 +104,8 @@ fn ends_line(event: &Event) -> bool
     matches!(event.name, Name::Content) && matches!(event.kind, Kind::Exit)
 }
 
-/// How many events are joined with the first of these: the two of an ending, where a line of content ends that goes on.
+/// How many events are joined with the first of these: the two of an ending, where a line of content ends that
+/// continues.
 fn joined_with(events: &[Event]) -> usize
     requires { 0 < length events.now }
     ensures value { result ≡ joined_with events.now }
@@ -150,8 +151,8 @@ fn unlinked(events: &[Event]) -> usize
     passing(&IsUnlinked, events)
 }
 
-/// Where the next line of the part begins among the events behind the begin of a line: behind its ending and
-/// container prefixes. `None` where none does, or where that is not known.
+/// Where the next line of the part begins among the events after the begin of a line: after its ending and container
+/// prefixes. `None` where none does, or where that is not known.
 fn next_line(events: &[Event]) -> Option<usize>
     ensures line { IfSome result (λ next. (next ≡ 3 + prefix_len is_plain_prefix (drop 3 events.now))
         × (joined_with events.now ≡ 2)) }
@@ -199,7 +200,7 @@ fn is_bracket(bytes: &[u8], at: usize) -> bool
 }
 
 /// How many lines follow the first in the part that begins with these events, if it is a paragraph: `None` where that
-/// is not known, as behind a `[`.
+/// is not known, as after a `[`.
 fn further_lines(bytes: &[u8], events: &[Event]) -> Option<usize>
     requires begins { begins_chunk events.now ≡ true }
     requires placed { ArePlaced bytes.now events.now }

@@ -2,8 +2,8 @@
 //
 //     paragraph ::= 1*line
 //
-// It adds `Paragraph` around one linked `Data` a line, which reaches over the line's ending where the paragraph goes
-// on.
+// It adds `Paragraph` around one linked `Data` a line, which reaches over the line's ending where the paragraph
+// continues.
 
 ghost use Rattle.std.specs.Prelude.{◌≡◌, ◌≢◌, IfSome};
 ghost use Rattle.md_content.specs.ParagraphRule.{ParagraphMeans};

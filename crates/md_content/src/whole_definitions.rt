@@ -1,12 +1,12 @@
-// Definitions that are whole lines, one behind another (CommonMark 4.7). Their events are written at once.
+// Definitions that are whole lines, one after another (CommonMark 4.7). Their events are written at once.
 //
 //     lines       ::= *( line eol ) line
 //     line        ::= "[" label "]: " destination
 //     label       ::= 1*999 label_byte                 ; one of them is no space
-//     label_byte  ::= any byte behind U+001F but "[", "\" and "]"
+//     label_byte  ::= any byte after U+001F but "[", "\" and "]"
 //     destination ::= 1*plain_byte                     ; of `plain_destination`
 //
-// Other definitions are read state by state, as are lines with paragraphs behind definitions.
+// Other definitions are read state by state, as are lines with paragraphs after definitions.
 
 ghost use Rattle.std.specs.Prelude.{◌≡◌, ◌+◌, ◌^◌, ◌<◌, ◌≤◌, ◌++◌, ◌∷◌, [], IfOk, IfSome, length, None, true};
 ghost use Rattle.std.specs.Prelude.{vec_capacity, vec_len};
@@ -200,7 +200,7 @@ fn put_destination(events: &mut Vec<Event>, first: Point, after: Point)
     put(events, Kind::Exit, Name::DefinitionDestination, after);
 }
 
-/// The definition that a line is, and the point behind it: `None` where that is not known, and then nothing is added.
+/// The definition that a line is, and the point after it: `None` where that is not known, and then nothing is added.
 fn put_definition(
     events: &mut Vec<Event>,
     line: &[u8],

@@ -8,7 +8,7 @@ use Rattle.md_meaning.specs.Tree.{Blocks}
 use Rattle.md_frame.specs.Laid.{laid}
 use Rattle.md_frame.specs.Row.{Row, breaks_of}
 
--- blocks, with those at the front of an open text behind them
+-- blocks, with those at the front of an open text after them
 abbrev pub then_front : ParseOptions → Blocks → Leaf → Blocks
 then_front options bs (OpenParagraph lines) = then_definitions bs (cut options (texts lines)).0
 then_front options bs _ = bs

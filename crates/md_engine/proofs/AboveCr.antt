@@ -34,7 +34,7 @@ lowest-low bytes n r long few is =
     ∙ first_set_mask_l (λ b. nat_lt b 14) bytes n long few
     ∙ count-not-low bytes
 
--- behind some of the bytes that are counted, the others are
+-- after some of the bytes that are counted, the others are
 pub counted-behind : (bytes : List ℕ) (at : ℕ) → at ≤ prefix_len (nat_lt 13) bytes →
     at + prefix_len (nat_lt 13) (drop at bytes) ≡ prefix_len (nat_lt 13) bytes
 counted-behind bytes zero le = omega arith
@@ -71,12 +71,12 @@ counted-front (b ∷ bytes) (suc n) = go (nat_lt 13 b) (counted-front bytes n)
     )
     go false more = (omega arith, λ lt. refl, λ le. absurd (omega arith))
 
--- what lies behind so many bytes, as slicing gives it
+-- what lies after so many bytes, as slicing gives it
 behind-whole : (bytes : List ℕ) (at : ℕ) → take (length bytes - at) (drop at bytes) ≡ drop at bytes
 behind-whole bytes at =
     take_all (length bytes - at) (drop at bytes) (let size = length-drop at bytes in omega (arith, size))
 
--- the next bytes are counted behind those that were counted: all of them, or up to one that is at most CR
+-- the next bytes are counted after those that were counted: all of them, or up to one that is at most CR
 pub counted-next : (bytes : List ℕ) (at n r : ℕ) → at ≤ prefix_len (nat_lt 13) bytes →
     r ≡ prefix_len (nat_lt 13) (take n (take (length bytes - at) (drop at bytes))) →
     (r < n → at + r ≡ prefix_len (nat_lt 13) bytes) × (n ≤ r → at + n ≤ prefix_len (nat_lt 13) bytes)
@@ -88,7 +88,7 @@ counted-next bytes at n r le is =
       λ ge. let more = front.2 (omega (arith, same, ge)) in omega (arith, all, more),
     )
 
--- the last bytes are counted behind those that were counted
+-- the last bytes are counted after those that were counted
 pub counted-last : (bytes : List ℕ) (at n r : ℕ) → at ≤ prefix_len (nat_lt 13) bytes → length bytes - at ≤ n →
     r ≡ prefix_len (nat_lt 13) (take n (take (length bytes - at) (drop at bytes))) →
     at + r ≡ prefix_len (nat_lt 13) bytes

@@ -26,7 +26,7 @@ abbrev pub further : ℕ → Point → Point
 further zero p = p
 further (suc n) p = record p { column = p.column + suc n; index = p.index + suc n; vs = 0 }
 
--- the point behind one more
+-- the point after one more
 pub further-next : (bytes : List ℕ) (c : Class) (n : ℕ) (p : Point) →
     has c (slice_index bytes (further n p).index) ≡ true →
     next_point bytes (further n p) ≡ further (suc n) p
@@ -55,7 +55,7 @@ after-here x c n p h =
     let q = next_point x.bytes (further n p) in
     ap (λ (b : Bool). cond b (line_begun x q) q) e.0 ∙ further-next x.bytes c n p h
 
--- a byte of a class stands at each of so many points from here on
+-- a byte of a class is at each of so many points from here on
 abbrev pub AreHere : Class → ℕ → List ℕ → ℕ → Point → Type 0
 AreHere c n bytes end p = (k : ℕ) → k < n → IsOf c bytes end (further k p)
 
@@ -70,7 +70,7 @@ along-further x c zero end p h = refl
 along-further x c (suc n) end p h =
     ap (after x) (along-further x c n end p (fewer-here c n x.bytes end p h)) ∙ after-here x c n p (h n (omega arith)).1
 
--- what is said of the points that one comes to step by step
+-- what is said of the points that one reaches step by step
 here-along : (x : Setting) (c : Class) (n : ℕ) (end : ℕ) (p : Point) →
     ((k : ℕ) → k < n → IsOf c x.bytes end (along x k p)) → AreHere c n x.bytes end p
 here-along x c zero end p h = λ k lt. absurd (omega (arith, lt))
@@ -99,7 +99,7 @@ took-leapt c (suc n) w h =
     ∙ ap₂ (λ (o : Option ℕ) (p : Point). record w { point = p; current = o })
     (seen-here w.setting c (further n w.point) here.0 here.1) (after-here w.setting c n w.point here.1)
 
--- what a span of the text says of what stands here
+-- what a span of the text says of what is here
 pub span-here : (c : Class) (n : ℕ) (bytes : List ℕ) (end : ℕ) (p : Point) → end ≤ length bytes → p.index ≤ end →
     IsSpan c (slice_range bytes p.index end) n → AreHere c n bytes end p × ¬ IsOf c bytes end (further n p)
 span-here c n bytes end p low at h = (
@@ -122,7 +122,7 @@ span-here c n bytes end p low at h = (
     read : (k : ℕ) → k < end - p.index → slice_index (slice_range bytes p.index end) k ≡ slice_index bytes (p.index + k)
     read k lt = get_or-take (end - p.index) (drop p.index bytes) k 0 lt ∙ get_or-drop p.index bytes k 0
 
--- the point behind a span
+-- the point after a span
 abbrev pub behind : ℕ → Point → Point
 behind n p = record p { column = p.column + n; index = p.index + n; vs = 0 }
 
@@ -147,12 +147,12 @@ span-taken c n end w low at some h =
       ends = λ sees. here.1 (subst (IsOf c w.setting.bytes end) (sym is) sees);
     }
 
--- where none stands here nothing is taken
+-- where none is here nothing is taken
 pub none-taken : (c : Class) (end : ℕ) (w : World) → ¬ IsOf c w.setting.bytes end w.point → TakesAll c end w w
 unfolding along
 none-taken c end w none = record { count = 0; new = refl; each = λ k lt. absurd (omega (arith, lt)); ends = none }
 
--- the point behind a span lies in the text
+-- the point after a span lies in the text
 placed-further : (bytes : List ℕ) (c : Class) (n : ℕ) (end : ℕ) (p : Point) → end ≤ length bytes → IsPlaced bytes p →
     AreHere c n bytes end p → IsPlaced bytes (further n p)
 placed-further bytes c zero end p low h each = h
@@ -168,7 +168,7 @@ placed-behind c n bytes end p placed low at some h =
     subst (IsPlaced bytes) (behind-further n p some)
     (placed-further bytes c n end p low placed (span-here c n bytes end p low at h).0)
 
--- what is taken as far as the text may be read is seen and taken, where the last byte is seen behind it
+-- what is taken as far as the text may be read is seen and taken, where the last byte is seen after it
 sees-leapt : (c : Class) (n : ℕ) (w : World) → AreHere c n w.setting.bytes w.setting.limit w.point →
     ¬ IsOf c w.setting.bytes w.setting.limit (further n w.point) → SeesSpan c w (leapt n w)
 sees-leapt c n w h none = record {

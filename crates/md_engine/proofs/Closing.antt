@@ -61,7 +61,7 @@ sound-put bytes p limit at ends events frames skips h k = record {
   begun = h.begun;
 }
 
--- putting at the index, or at the end if it lies behind
+-- putting at the index, or at the end if it lies after
 put-least : (at : ℕ) (ends events : List Event) → put (min at (length events)) ends events ≡ put at ends events
 put-least at ends events = go (nat_lt at (length events)) refl
   where
@@ -78,7 +78,7 @@ put-least at ends events = go (nat_lt at (length events)) refl
           drop_all (length events) events (omega arith),
         ) refl
 
--- what is appended and then turned in front of an event is put there
+-- what is appended and then turned before an event is put there
 turned : (m : ℕ) (ends events all : List Event) → m ≤ length events → all ≡ events ++ ends →
     take m all ++ drop (length all - m - length ends) (drop m all) ++ take (length all - m - length ends) (drop m all) ≡
     put m ends events
@@ -103,13 +103,13 @@ turned-put at m n ends events all new least count is e =
     let f : new ≡ put m ends events = (rw count at e) ∙ t in
     f ∙ ap (λ (i : ℕ). put i ends events) least ∙ put-least at ends events
 
--- containers behind the first so many, as slicing gives them
+-- containers after the first so many, as slicing gives them
 sliced : (keep : ℕ) (cs : List Container) → take (length cs - keep) (drop keep cs) ≡ drop keep cs
 sliced keep cs =
     let size = length-drop keep cs in
     take_all (length cs - keep) (drop keep cs) (omega (arith, size))
 
--- there is room behind the index for the ends that were added
+-- there is room after the index for the ends that were added
 pub ends-turn : (keep at m n : ℕ) (cs cs' : List Container) (p : Point) (events all : List Event) →
     m ≡ min at (length events) → n ≡ length cs - keep → cs' ≡ cs →
     all ≡ events ++ ends_at (take (length cs' - keep) (drop keep cs')) p →
@@ -119,7 +119,7 @@ ends-turn keep at m n cs cs' p events all least count same is =
     let rest = length-drop keep cs in
     rw (is, same, sliced keep cs) (simp length-append (omega (arith, size, rest, least, count)))
 
--- ends that are added behind the last event, and then turned in front of one, are put there
+-- ends that are added after the last event, and then turned before one, are put there
 pub ends-put : (keep at m n : ℕ) (cs cs' : List Container) (p : Point) (events all new : List Event) →
     m ≡ min at (length events) → n ≡ length cs - keep → cs' ≡ cs →
     all ≡ events ++ ends_at (take (length cs' - keep) (drop keep cs')) p →

@@ -32,7 +32,7 @@ pub later : (P Q : Scratch → Type 0) (x : Position) (K : After) (q : Point) (s
     Reaches x.setting.limit x.point q → Ends P Q x K → Ends P Q (moved_to x q s) K
 later P Q x K q s r e = later_at P Q x K q x.setting s (grown-same x.setting) r e
 
--- the same of a construct that accepts only behind the point where it begins
+-- the same of a construct that accepts only after the point where it begins
 pub passing_at : (P Q : Scratch → Type 0) (x : Position) (K : After) (q : Point) (t : Setting) (s : Scratch) →
     Grown x.setting t → Reaches t.limit x.point q → EndsLater P Q x K → EndsLater P Q (spot_at t q s) K
 passing_at P Q x K q t s g r e = record {
@@ -42,7 +42,7 @@ passing_at P Q x K q t s g r e = record {
   nok = λ v p u is up. e.nok v p u is (grown-then x.setting t u g up);
 }
 
--- behind that point it may accept everywhere
+-- after that point it may accept everywhere
 pub passed_at : (P Q : Scratch → Type 0) (x : Position) (K : After) (q : Point) (t : Setting) (s : Scratch) →
     Grown x.setting t → Passes t.limit x.point q → EndsLater P Q x K → Ends P Q (spot_at t q s) K
 passed_at P Q x K q t s g r e = record {
@@ -69,7 +69,7 @@ seen_grows x t s b g e = go (nat_lt x.point.index x.setting.limit) refl
         rw (inside, g.bytes) here
     go false k = let none : (let o : Option ℕ = None in o) ≡ Some b = rw k at e in cc
 
--- what is tried ends as is owed, where what it goes on with is ready and below
+-- what is tried ends as is owed, where what it continues with is ready and below
 resumes : (T : Scheme) (f : Frame) (st : State) (x : Position) (K : After) (p : Point) → f.point ≡ p →
     Reaches x.setting.limit p x.point → holds T st x K → state_level T st ≤ frame_level T f →
     (x.point ≡ p → state_rank T st x < frame_rank T f + 1) → Resumes T f st x K

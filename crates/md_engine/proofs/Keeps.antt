@@ -1,4 +1,4 @@
--- A run keeps what is left: what the tokenizer comes to from its first state is what it comes to from its last.
+-- A run keeps what is left: what the tokenizer becomes from its first state is what it becomes from its last.
 use Rattle.std.proofs.Common.{◌≡◌, ◌⊎◌, ◌<◌, inl, inr, ℕ, zero, suc, ◌≤◌, Bool, true, false, cond, List, [], ◌∷◌, ◌++◌}
 use Rattle.std.proofs.Common.{length, take, refl, sym, ◌∙◌, ap, ap₂, arith}
 use Rattle.std.specs.List.{All}
@@ -61,7 +61,7 @@ leave_ok : (B : Behaviour) (feed : Feed) (w : World) (fs : List Frame) (f : Fram
 leave_ok B feed w fs f h true = back-same B feed w.events fs f _ h
 leave_ok B feed w fs f h false = refl
 
--- leaving the innermost attempt keeps what the tokenizer comes to
+-- leaving the innermost attempt keeps what the tokenizer becomes
 leave_keeps : (B : Behaviour) (feed : Feed) (w : World) (fs : List Frame) (f : Frame) (s : State) → IsEnd s →
     w.frames ≡ f ∷ fs →
     All (λ g. g.events_len ≤ f.events_len) fs →
@@ -82,7 +82,7 @@ leaves-keep B feed s s' w w' l =
     leave_keeps B feed w l.outer l.frame s l.end l.frames l.below
     ∙ ap₂ (λ (x : State) (y : World). comes_to B feed x y) (sym l.next) (sym l.new)
 
--- a state that stays and one that takes what stands here come to the same
+-- a state that stays and one that takes what is here become the same
 pub plain-same : (B : Behaviour) (feed : Feed) (w : World) (s : State) →
     comes_to B feed (plain s) w ≡ comes_to B feed s w
 plain-same B feed w Ok = refl
@@ -96,7 +96,7 @@ resume_all-join : (B : Behaviour) (feed : Feed) (events : List Event) (fs gs : L
 resume_all-join B feed events [] gs o = refl
 resume_all-join B feed events (f ∷ fs) gs o = resume_all-join B feed events fs gs (resume B feed events f o)
 
--- a step of a construct keeps what the whole tokenizer comes to
+-- a step of a construct keeps what the whole tokenizer becomes
 pub steps-keep : (B : Behaviour) (feed : Feed) (from to : State) (old new : World) →
     All (λ f. f.events_len ≤ length old.events) old.frames →
     Steps B feed from old to new → comes_to B feed from old ≡ comes_to B feed to new
@@ -146,7 +146,7 @@ runs-at_end T s w s' w' (ThenCalls t v t' v' r c) =
       within = c.within;
     })
 
--- a run goes on from where another has come
+-- a run continues from where another has come
 pub runs-append : (T : Step) (is_end : Bool) (s : State) (w : World) (t : State) (v : World) (t' : State) (v' : World) →
     Runs T is_end s w t v → Runs T is_end t v t' v' → Runs T is_end s w t' v'
 runs-append T is_end s w t v t' v' first Stays = first

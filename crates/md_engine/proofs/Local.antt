@@ -1,4 +1,4 @@
--- what a construct proves of each of its states, whatever table it stands in
+-- what a construct proves of each of its states, whatever table it is in
 use Rattle.std.proofs.Common.{◌≡◌, ℕ, ◌+◌, ◌<◌, ◌≤◌, List, ◌∷◌, refl, arith, ap}
 use Rattle.md_engine.specs.declared.event.Event.{Event}
 use Rattle.md_engine.specs.declared.event.Point.{Point}
@@ -41,7 +41,7 @@ turns T own n m w events s fn fm r le lt =
     let low : (T.rank m (moved_to (position w) w.point s)).number < (T.rank n (position w)).number = rw (c, d) lt in
     (fm.ready _ _ r, same-frames T w events w.point s n m (rw (a, b) le) (omega (arith, low)), (refl, refl))
 
--- behind the cell that is here
+-- after the cell that is here
 pub consumes : (T own : Scheme) (n m : StateName) (w : World) (events : List Event) (s : Scratch) → Fits T own n →
     Fits T own m → w.point.index < w.setting.limit →
     own.ready m (moved_to (position w) (after w.setting w.point) s) (after_all T w.frames) → own.level m ≤ own.level n →
@@ -125,7 +125,7 @@ keyed_by T own g Error Ok f k e = refl
 keyed_by T own g Error Nok f k e = refl
 keyed_by T own g Error Error f k e = refl
 
--- how far an attempt is, by what it goes on with
+-- how far an attempt is, by what it continues with
 tries-by : (T own : Scheme) (a b : State) → FitsState T own a → FitsState T own b →
     keyed (λ n. (T.tries n).number) a b ≡ keyed (λ n. (own.tries n).number) a b
 tries-by T own a b f k =
@@ -189,7 +189,7 @@ begins_ready T own inner n m w events q s f fn fm fo fk same r low le lt =
     (state_number T (Next n) (position w)) (T.level m) (frame_level T f) (T.level n) number under small lower in
     (fm.ready y _ r, omega (arith, all))
 
--- here or behind the cell that is here
+-- here or after the cell that is here
 begins_by : (T own inner : Scheme) (n m : StateName) (w : World) (P Q : Scratch → Type 0) (events : List Event)
     (q : Point) (s : Scratch) (f : Frame) →
     Reaches w.setting.limit w.point q →
@@ -219,7 +219,7 @@ begins_try T own inner n m w P Q events s f fn fm fo fk same t r low le lt =
     le lt in
     (b.0, b.1, (refl, refl))
 
--- an attempt here at a construct that accepts only behind the point where it begins
+-- an attempt here at a construct that accepts only after the point where it begins
 pub begins_later : (T own inner : Scheme) (n m : StateName) (w : World) (P Q : Scratch → Type 0) (events : List Event)
     (s : Scratch) (f : Frame) →
     Fits T own n → Fits T inner m → FitsState T own f.ok → FitsState T own f.nok → f.point ≡ w.point →

@@ -27,7 +27,7 @@ is_end_of s (inr e) = rw e tt
 pub end_not_error : (s : State) → IsEnd s → s ≢ Error
 end_not_error s end h = let k : IsEnd Error = rw h at end in k
 
--- one has come to a state of this name, which sees what stands here
+-- one has reached a state of this name, which sees what is here
 pub record CameTo (T : Step) (is_end : Bool) (s : State) (v : World) (name : StateName) (w : World) : Type 0 where
   pub state : State
   pub at : World
@@ -81,14 +81,14 @@ came-runs T is_end first name old w s' w' came runs s v names sees may =
     let h = came s v names sees may in
     runs-append T is_end s v h.state h.at s' w' h.runs (runs h.state h.at h.names h.sees h.may)
 
--- and more behind it
+-- and more after it
 pub runs-then : (T : Step) (is_end : Bool) (first : StateName) (old : World) (t : State) (u : World) (s' : State)
     (w' : World) →
     RunsFrom T is_end first old t u → Runs T is_end t u s' w' → RunsFrom T is_end first old s' w'
 runs-then T is_end first old t u s' w' before after s v names sees may =
     runs-append T is_end s v t u s' w' (before s v names sees may) after
 
--- one has come to a state that may be called again, where what stands there is seen
+-- one has reached a state that may be called again, where what is there is seen
 pub came-on : (T : Step) (is_end : Bool) (first next : StateName) (old u w : World) →
     RunsFrom T is_end first old (Next next) u → (is_end ≡ true) ⊎ (u.point.index < u.setting.limit) → w ≡ reading u →
     Came T is_end first old next w
@@ -101,7 +101,7 @@ came-on T is_end first next old u w runs may is s v names sees here' = record {
   runs = runs s v names sees here';
 }
 
--- what stays at what stands here still sees it
+-- what stays at what is here still sees it
 pub still-sees : (next : StateName) (w w' : World) → Remains (Retry next) w w' → w'.setting ≡ w.setting →
     w.current ≡ looks w → w'.current ≡ looks w'
 still-sees next w w' r same seen =
@@ -124,7 +124,7 @@ call-sees Error w w' r same seen = tt
 call-sees (Next n) w w' r same seen = tt
 call-sees (Retry n) w w' r same seen = (still-sees n w w' r same seen, inl r.0)
 
--- and so one has come to a state that stays
+-- and so one has reached a state that stays
 pub came-stays : (T : Step) (first name next : StateName) (old w w' : World) → CameHere T first old name w →
     RunsHere T name w (Retry next) w' → SeesOn (Retry next) w w' → w'.setting ≡ w.setting →
     CameHere T first old next w'

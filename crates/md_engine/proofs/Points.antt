@@ -46,7 +46,7 @@ later-after x p =
         record { index = omega arith; cells = omega (arith, more) }
     go false y false t k = record { index = omega arith; cells = omega arith }
 
--- behind what stands here, fewer are left
+-- after what is here, fewer are left
 pub cells-fall : (x : Setting) (p : Point) → p.index < x.limit →
     cells_left x.limit (after x p) + 1 ≤ cells_left x.limit p
 cells-fall x p lt = let h = later-after x p in omega (arith, h.index, h.cells)
@@ -75,7 +75,7 @@ then_reaches limit l p q r le a b = record { cells = go a.cells b.cells; before 
         let h : P q = (lt.0, omega (arith, lt.1)) in inr (subst P k h)
     go (inr lt) (inr k) = inr (omega (arith, lt.0, k.0), omega (arith, lt.1))
 
--- behind what stands here
+-- after what is here
 pub takes_past : (x : Setting) (p : Point) → p.index < x.limit → Passes x.limit p (after x p)
 takes_past x p lt = let more = cells-grow x p in record { cells = omega (arith, more); inside = lt }
 

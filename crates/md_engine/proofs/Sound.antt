@@ -249,7 +249,7 @@ pub same-popped : {X : Type 0} (see : List Frame → X) (o : Option Frame) (fram
 same-popped see None frames new is = ap see (sym (is ∙ append-nil new))
 same-popped see (Some f) frames new is = tt
 
--- the frames of a world stand the other way round
+-- the frames of a world are the other way round
 pub All-unreverse : {X : Type 0} (P : X → Type 0) (xs : List X) → All P (reverse xs) → All P xs
 All-unreverse P xs h = rw reverse-reverse at (All-reverse P (reverse xs) h)
 

@@ -1,4 +1,4 @@
--- A run from where a table stands keeps what the tokenizer comes to.
+-- A run from where a table is keeps what the tokenizer becomes.
 use Rattle.std.proofs.Common.{◌≡◌, Bool, refl, sym, ◌∙◌, ap, subst}
 use Rattle.md_engine.specs.declared.state.State.{State}
 use Rattle.md_engine.specs.declared.state.State.TheVariants.{Next}

@@ -49,7 +49,7 @@ in-line c b h = go (nat_eq b 10) refl
     go false e = e
     go true e = let not_both : true ≡ false = rw e at (no-ending c b h).0 in cc
 
--- all that some take, and what others take behind it
+-- all that some take, and what others take after it
 pub some-all : (k : Stay) (w v u : World) → SeesSome k w v → SeesSome k v u → SeesSome k w u
 some-all k w v _ a Nothing = a
 some-all k w v _ a (OneMore u b here) = OneMore u (some-all k w v u a b) here
@@ -98,7 +98,7 @@ span-some k c w (suc n) is h =
 pub span-sees : (k : Stay) (c : Class) (w v : World) → Spans k c → SeesSpan c w v → SeesSome k w v
 span-sees k c w v is h = subst (SeesSome k w) (sym h.new) (span-some k c w h.count is h.each)
 
--- where no byte of a class without spaces stands, nothing stands there that is taken
+-- where no byte of a class without spaces is, nothing is there that is taken
 pub span-ends : (k : Stay) (c : Class) (w : World) →
     ((s : Scratch) (b : ℕ) → takes k s b ≡ true → has c b ≡ true) →
     has c 32 ≡ false →
@@ -171,7 +171,7 @@ one-more k w v u v' b some e is to more =
 
 -- Whitespace, column by column.
 
--- what is seen where a space or a column of a tab stands
+-- what is seen where a space or a column of a tab is
 white-seen : (w : World) → SeesWhite w → (b : ℕ) × (looks w ≡ Some b) × (is_white b ≡ true)
 white-seen w h = go (nat_eq r 32) (nat_eq r 9) (nat_lt 0 w.point.vs) refl refl refl
   where
@@ -188,7 +188,7 @@ white-seen w h = go (nat_eq r 32) (nat_eq r 9) (nat_lt 0 w.point.vs) refl refl r
     go false true false a b c = let e : r ≡ 9 = grind (arith, nat_tests) in (9, rw (inside, e, c) refl, refl)
     go false false z a b c = let no : false ≡ true = rw (a, b) at h.1 in cc
 
--- and what stands where whitespace is seen
+-- and what is where whitespace is seen
 seen-white : (w : World) (b : ℕ) → looks w ≡ Some b → is_white b ≡ true → SeesWhite w
 seen-white w b e is = (lt, go (is_ending r) (nat_eq r 9) refl refl)
   where
@@ -341,7 +341,7 @@ white-sees w v v' n room h new =
         go true false a c = let no : false ≡ true = rw (a, c) at is.2 in cc
         go false y a c = let no : false ≡ true = rw a at is.2 in cc
 
--- where no whitespace stands, none is taken,
+-- where no whitespace is, none is taken,
 pub white-none : (w : World) → ¬ SeesWhite w → SeesAll stay.White w w
 white-none w none = record { some = Nothing; ends = ends }
   where
@@ -366,7 +366,7 @@ white-full w le = record { some = Nothing; ends = ends }
         go true a = let no : false ≡ true = rw (a, full) at is.2 in cc
         go false a = let no : false ≡ true = rw a at is.2 in cc
 
--- a tab on a line, and the text behind it
+-- a tab on a line, and the text after it
 pub tab-taken : (w v u v' : World) (n : ℕ) → SeesSome stay.Line w v → v.point.index < v.setting.limit →
     slice_index v.setting.bytes v.point.index ≡ 9 → SeesColumns (2 ^ 64 - 1) v n u → SeesSpan class.Text u v' →
     SeesSome stay.Line w v' × (cells_left v'.setting.limit v'.point < cells_left v.setting.limit v.point)
@@ -385,7 +385,7 @@ tab-taken w v u v' n some lt e columns span =
     go zero x h = absurd (h.ends (omega arith) (subst SeesWhite (sym (first x h.some)) (lt, rw e refl)))
     go (suc k) x h = omega arith
 
--- a state that stays: what it comes to behind so many bytes
+-- a state that stays: what it becomes after so many bytes
 pub record Stayed (T : Step) (S : Scheme) (s : State) (w w' : World) : Type 0 where
   pub runs : (is_end : Bool) → Runs T is_end s w s w'
   pub ready : stands S w' (plain s)
@@ -393,7 +393,7 @@ pub record Stayed (T : Step) (S : Scheme) (s : State) (w w' : World) : Type 0 wh
   pub setting : w'.setting ≡ w.setting
   pub within : All (λ (f : Frame). f.events_len ≤ length w'.events) w'.frames
 
--- it may stand at its own scheme
+-- it may be at its own scheme
 fits-own : (S : Scheme) (n : StateName) → Fits S S n
 fits-own S n = record { ready = λ x K h. h; level = refl; rank = λ x. refl; tries = refl }
 

@@ -1,4 +1,4 @@
--- The cells of a text follow it, and what a whole run comes to.
+-- The cells of a text follow it, and what a whole run becomes.
 use Rattle.std.proofs.Common.{◌≡◌, ℕ, zero, suc, ◌^◌, ◌<◌, ◌≤◌, Bool, true, false, cond, nat_lt, List, [], ◌∷◌, length}
 use Rattle.std.proofs.Common.{refl, sym, ◌∙◌, ap, arith}
 use Rattle.std.proofs.lemmas.Bool.Decides.{nat_tests}
@@ -98,7 +98,7 @@ text-follows x limit is_end small le end = record {
   none = λ e p past. cells-none x p (let same = end e in omega arith);
 }
 
--- what a tokenizer comes to is where it has come to at the end
+-- what a tokenizer becomes is where it has become at the end
 pub flush-means : (T : Step) (R : Resolution) (S : Scheme) (B : Behaviour) (feed : Feed) (s : State) (w : World)
     (resolve : Bool) (found : Found) (new : World) →
     MeansAt T S w.setting B true → StandsOn T S → Follows feed w.setting true → stands S w (plain s) →

@@ -1,4 +1,4 @@
--- Runs call by call: what one has come to from a state, and that all of it keeps what a table needs.
+-- Runs call by call: what one has reached from a state, and that all of it keeps what a table needs.
 use Rattle.std.proofs.Common.{◌≡◌, ◌≢◌, ℕ, zero, suc, ◌<◌, ◌≤◌, Bool, true, false, List, ◌∷◌, ◌++◌, length, refl}
 use Rattle.std.proofs.Common.{sym, ◌∙◌, ap, arith, subst, inl, inr, ◌⊎◌, Some}
 use Rattle.std.specs.List.{All}
@@ -36,7 +36,7 @@ pub within-one : (f : Frame) (fs : List Frame) (n : ℕ) → f.events_len ≤ n 
 within-one f fs n le h zero d lt = le
 within-one f fs n le h (suc k) d lt = h k d (omega (arith, lt))
 
--- One has come to a state. It is called,
+-- One has reached a state. It is called,
 pub then-run : (T : Step) (is_end : Bool) (s : State) (v : World) (name : StateName) (w : World) (s' : State)
     (w' : World) →
     CameTo T is_end s v name w → T name w s' w' → s' ≢ Error → w'.setting ≡ w.setting → Within w →
@@ -55,7 +55,7 @@ then-run T is_end s v name w s' w' h step fine same within =
       within = subst Q (sym h.sees) within;
     })
 
--- and stays at what stands here,
+-- and stays at what is here,
 pub then-stays : (T : Step) (is_end : Bool) (s : State) (v : World) (name next : StateName) (w w' : World) →
     CameTo T is_end s v name w → T name w (Retry next) w' → w'.setting ≡ w.setting → Within w →
     w'.point ≡ w.point → w'.current ≡ looks w' → CameTo T is_end s v next w'
@@ -71,7 +71,7 @@ then-stays T is_end s v name next w w' h step same within there seen =
       runs = then-run T is_end s v name w (Retry next) w' h step (not_error (Retry next) next refl) same within;
     }
 
--- or takes it, and what stands behind it is seen,
+-- or takes it, and what follows it is seen,
 pub then-takes : (T : Step) (is_end : Bool) (s : State) (v : World) (name next : StateName) (w u : World) →
     CameTo T is_end s v name w → T name w (Next next) u → u.setting ≡ w.setting → Within w →
     u.point.index < u.setting.limit → CameTo T is_end s v next (reading u)
@@ -150,7 +150,7 @@ then-some T is_end s v name k w _ each h seen within (OneMore u some here) =
           within = good;
         })
 
--- So one comes to it again, where something stands behind,
+-- So one reaches it again, where something is after,
 pub then-seen : (T : Step) (is_end : Bool) (s : State) (v : World) (name : StateName) (k : Stay) (w u : World) →
     TakesSo T name k → CameTo T is_end s v name w → w.current ≡ looks w → Within w → SeesSome k w u →
     u.point.index < u.setting.limit → CameTo T is_end s v name (reading u)
@@ -218,7 +218,7 @@ runs-keep T S is_end s w s' w' each at (ThenCalls t v t' v' r c) =
         subst Q e.1 (subst P e.0 less)
     go (inr lt) less = omega (arith, lt, less)
 
--- a run from a state that sees what stands here has called it once at least
+-- a run from a state that sees what is here has called it once at least
 pub here-keeps : (T : Step) (S : Scheme) (name : StateName) (w : World) (s' : State) (w' : World) → EachKeeps T S →
     w.current ≡ looks w → stands S w (Next name) → RunsHere T name w s' w' →
     stands S w' (plain s') × (work S w' (plain s') < work S w (Next name)) × (w'.setting ≡ w.setting)

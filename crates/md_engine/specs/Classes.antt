@@ -5,7 +5,7 @@ use Rattle.md_engine.specs.declared.class.Class.{Class}
 use Rattle.md_engine.specs.declared.class.Class.TheVariants.{Plain, Text, Word}
 use Rattle.md_engine.specs.Place.{is_ending}
 
--- behind such a byte the line goes on, one column further
+-- after such a byte the line continues, one column further
 abbrev pub goes_on : ℕ → Bool
 goes_on b = not (is_ending b || (b == 9))
 
@@ -28,7 +28,7 @@ has c b = goes_on b && admits c b
 abbrev pub is_white : ℕ → Bool
 is_white b = (b == 32) || (b == 9)
 
--- so many bytes of a class stand in front, and no more
+-- so many bytes of a class are in front, and no more
 pub record IsSpan (c : Class) (bytes : List ℕ) (n : ℕ) : Type 0 where
   pub within : n ≤ length bytes
   pub each : (k : ℕ) → k < n → has c (slice_index bytes k) ≡ true

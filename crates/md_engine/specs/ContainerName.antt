@@ -1,4 +1,4 @@
--- The kinds of containers: the names of their events, and what else the engine tells by the kind.
+-- The kinds of containers: the names of their events, and what else the engine shows by the kind.
 use Rattle.std.specs.Prelude.{Bool, false, not, true}
 use Rattle.md_engine.specs.declared.event.Name.{Name}
 use Rattle.md_engine.specs.declared.event.Name.TheVariants as n
@@ -15,7 +15,7 @@ name_of kind.GfmFootnoteDefinition = n.GfmFootnoteDefinition
 abbrev pub first_kind : ContainerKind
 first_kind = kind.BlockQuote
 
--- whether a container of a kind goes on over an empty line, by whether it started blank: a list item that did not
+-- whether a container of a kind continues over an empty line, by whether it started blank: a list item that did not
 -- (CommonMark 5.2), and each footnote definition
 abbrev pub kind_goes_over : ContainerKind → Bool → Bool
 kind_goes_over kind.BlockQuote blank = false

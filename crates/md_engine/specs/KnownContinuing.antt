@@ -1,4 +1,4 @@
--- Open containers that go on over an empty line.
+-- Open containers that continue over an empty line.
 use Rattle.std.specs.Prelude.{◌≡◌, ℕ, ◌<◌, ◌≤◌, Bool, true, false, List, length, get_or}
 use Rattle.md_engine.specs.declared.tokenizer.container.Container.{Container}
 use Rattle.md_engine.specs.declared.known_continuing.KnownContinuing.{KnownContinuing}
@@ -17,7 +17,7 @@ pub record IsKnownContinuing (cs : List Container) (o : KnownContinuing) : Type 
   pub within : o.to ≤ length cs
   pub each : AreContinuing cs o.from o.to
 
--- the containers from an index on go on over an empty line up to another, and the one there does not
+-- the containers from an index on continue over an empty line up to another, and the one there does not
 pub record EndsContinuing (cs : List Container) (from n : ℕ) : Type 0 where
   pub behind : from ≤ n
   pub within : n ≤ length cs

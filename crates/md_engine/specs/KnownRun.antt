@@ -3,11 +3,11 @@ use Rattle.std.specs.Prelude.{◌≡◌, ℕ, ◌<◌, ◌≤◌, Bool, true, fa
 use Rattle.md_engine.specs.Classes.{is_white}
 use Rattle.md_engine.specs.declared.known_run.KnownRun.{KnownRun}
 
--- whether a run of a marker and whitespace goes on with a byte
+-- whether a run of a marker and whitespace continues with a byte
 abbrev pub is_of_run : ℕ → ℕ → Bool
 is_of_run marker b = (b == marker) || is_white b
 
--- it goes on with each byte from an index up to another
+-- it continues with each byte from an index up to another
 abbrev pub AreOfRun : List ℕ → ℕ → ℕ → ℕ → Type 0
 AreOfRun bytes marker from end = (k : ℕ) → from ≤ k → k < end → is_of_run marker (slice_index bytes k) ≡ true
 

@@ -11,8 +11,8 @@ use Rattle.md_engine.specs.declared.tokenizer.Scratch.{Scratch}
 use Rattle.md_engine.specs.Place.{seen_at}
 use Rattle.md_engine.specs.World.{Flags, Setting, World, after}
 
--- what a state is fed: a byte, `\n` for each line ending, or a column of a tab; the point behind it; and what the
--- parent says of its line
+-- what a state is fed: a byte, `\n` for each line ending, or a column of a tab; the point after it; and what the parent
+-- says of its line
 pub record Cell : Type 0 where
   pub byte : ℕ
   pub after : Point
@@ -42,7 +42,7 @@ pub data Outcome : Type 0 where
 abbrev pub Behaviour : Type 0
 Behaviour = StateName → List Cell → Here → Outcome
 
--- what a state comes to
+-- what a state becomes
 abbrev pub goes : Behaviour → State → List Cell → Here → Outcome
 goes B Ok cells h = Accepts h cells
 goes B Nok cells h = Refuses h.scratch h.flags
@@ -54,7 +54,7 @@ goes B (Retry name) cells h = B name cells h
 abbrev pub restored : List Event → Frame → Scratch → Flags → Here
 restored events f s g = record { events = take f.events_len events; point = f.point; scratch = s; flags = g }
 
--- what an attempt comes to, once what it tried has ended
+-- what an attempt becomes, once what it tried has ended
 abbrev pub resume : Behaviour → Feed → List Event → Frame → Outcome → Outcome
 resume B feed events f (Accepts h rest) =
     if f.is_check then goes B f.ok (feed f.point) (restored events f h.scratch h.flags) else goes B f.ok rest h
@@ -66,11 +66,11 @@ abbrev pub resume_all : Behaviour → Feed → List Event → List Frame → Out
 resume_all B feed events [] o = o
 resume_all B feed events (f ∷ fs) o = resume_all B feed events fs (resume B feed events f o)
 
--- what the whole tokenizer comes to from a state
+-- what the whole tokenizer becomes from a state
 abbrev pub comes_to : Behaviour → Feed → State → World → Outcome
 comes_to B feed state w = resume_all B feed w.events w.frames (goes B state (feed w.point) (here w))
 
--- the line of the next cell, which only a feed that goes on has
+-- the line of the next cell, which only a feed that continues has
 abbrev pub line_of : Line → List Cell → Line
 line_of none [] = none
 line_of none (c ∷ cs) = c.line

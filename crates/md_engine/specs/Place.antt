@@ -17,7 +17,7 @@ seen_at bytes p =
     else if (slice_index bytes p.index == 9) && nat_lt 0 p.vs then 32
     else slice_index bytes p.index
 
--- the point behind a line ending, a column of a tab, or another byte
+-- the point after a line ending, a column of a tab, or another byte
 abbrev pub stepped : ℕ → Bool → Point → Point
 stepped byte pair p =
     if is_ending byte
@@ -25,24 +25,24 @@ stepped byte pair p =
     else if (byte == 9) && not (p.column % 4 == 0) then record p { column = p.column + 1; vs = p.vs + 1 }
     else record p { column = p.column + 1; index = p.index + 1; vs = 0 }
 
--- the point behind what is seen at a point
+-- the point after what is seen at a point
 abbrev pub next_point : List ℕ → Point → Point
 next_point bytes p = stepped (slice_index bytes p.index) (is_pair bytes p.index) p
 
 abbrev pub first_point : Point
 first_point = record { line = 1; column = 1; index = 0; vs = 0 }
 
--- the point that one comes to from the first by so many steps
+-- the point that one reaches from the first by so many steps
 unfoldable pub walked : List ℕ → ℕ → Point
 walked bytes zero = first_point
 walked bytes (suc n) = next_point bytes (walked bytes n)
 
--- one of the points of a text: one comes to it, so its line is 1 plus the endings before it, and its column 1 plus the
+-- one of the points of a text: one reaches it, so its line is 1 plus the endings before it, and its column 1 plus the
 -- columns before it on its line
 abbrev pub IsReached : List ℕ → Point → Type 0
 IsReached bytes p = (n : ℕ) × (p ≡ walked bytes n)
 
--- a point within a text, with numbers that leave room to go on
+-- a point within a text, with numbers that leave room to continue
 pub record IsPlaced (bytes : List ℕ) (p : Point) : Type 0 where
   pub sized : length bytes < 2 ^ 61
   pub index : p.index ≤ length bytes

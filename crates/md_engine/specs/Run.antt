@@ -1,4 +1,4 @@
--- What the loop that goes from state to state comes to.
+-- What the loop that goes from state to state becomes.
 use Rattle.std.specs.Prelude.{◌≡◌, ◌≢◌, ◌<◌, ◌≤◌, ◌⊎◌, Bool, true, false, List, [], ◌∷◌, ◌++◌, Option, length, take}
 use Rattle.std.specs.Prelude.{if◌then◌else◌}
 use Rattle.std.specs.List.{All}
@@ -18,7 +18,7 @@ Step = StateName → World → State → World → Type 0
 abbrev pub Resolution : Type 1
 Resolution = ResolveName → World → Option Found → World → Type 0
 
--- a state without the choice between taking what stands here and staying at it, which no meaning needs
+-- a state without the choice between taking what is here and staying at it, which no meaning needs
 abbrev pub plain : State → State
 plain (Retry name) = Next name
 plain Error = Error
@@ -26,7 +26,7 @@ plain Ok = Ok
 plain Nok = Nok
 plain (Next name) = Next name
 
--- a state that stays at what stands here has gone nowhere, and still sees it
+-- a state that stays at what is here has gone nowhere, and still sees it
 abbrev pub Remains : State → World → World → Type 0
 Remains (Retry name) w w' = (w'.point ≡ w.point) × (w'.current ≡ w.current)
 Remains _ w w' = Unit {0}
@@ -36,7 +36,7 @@ IsEnd Ok = Unit {0}
 IsEnd Nok = Unit {0}
 IsEnd _ = ⊥
 
--- a tokenizer that has seen what stands at its point
+-- a tokenizer that has seen what is at its point
 abbrev pub reading : World → World
 reading w = record w { current = looks w }
 
@@ -65,7 +65,7 @@ pub record Leaves (s : State) (w : World) (s' : State) (w' : World) : Type 0 whe
   -- the attempts around it go back to no more events
   pub below : All (λ g. g.events_len ≤ frame.events_len) outer
 
--- a state is called, at what stands at the point or at the end
+-- a state is called, at what is at the point or at the end
 pub record Calls (T : Step) (is_end : Bool) (s : State) (w : World) (s' : State) (w' : World) : Type 0 where
   pub name : StateName
   pub names : plain s ≡ Next name
@@ -76,7 +76,7 @@ pub record Calls (T : Step) (is_end : Bool) (s : State) (w : World) (s' : State)
   -- all attempts go back to events that are there
   pub within : All (λ f. f.events_len ≤ length w.events) w.frames
 
--- what one comes to, from a state and a world, by leaving attempts and calling states
+-- what one reaches, from a state and a world, by leaving attempts and calling states
 pub data Runs (T : Step) (is_end : Bool) (s : State) (w : World) : State → World → Type 0 where
   Stays : Runs T is_end s w s w
   ThenLeaves : (t : State) (v : World) (t' : State) (v' : World) → Runs T is_end s w t v → Leaves t v t' v' →
@@ -84,7 +84,7 @@ pub data Runs (T : Step) (is_end : Bool) (s : State) (w : World) : State → Wor
   ThenCalls : (t : State) (v : World) (t' : State) (v' : World) → Runs T is_end s w t v → Calls T is_end t v t' v' →
       Runs T is_end s w t' v'
 
--- what one comes to from a state of this name, which may be called and has seen what stands here
+-- what one reaches from a state of this name, which may be called and has seen what is here
 abbrev pub RunsFrom : Step → Bool → StateName → World → State → World → Type 0
 RunsFrom T is_end name w s' w' =
     (s : State) (v : World) → plain s ≡ Next name → reading v ≡ w →

@@ -1,7 +1,7 @@
--- When a tokenizer stands at a state, and why going from state to state ends.
+-- When a tokenizer is at a state, and why going from state to state ends.
 --
--- A construct says what each of its states needs, and how far it is from taking what stands here. What follows an
--- attempt is told to it as an `After`: what is asked where it ends. So no construct looks at the attempts around it.
+-- A construct says what each of its states needs, and how far it is from taking what is here. What follows an attempt
+-- is given to it as an `After`: what is asked where it ends. So no construct looks at the attempts around it.
 use Rattle.std.specs.Prelude.{◌≡◌, refl, ℕ, zero, suc, ◌+◌, ◌-◌, ◌*◌, ◌%◌, ◌<◌, ◌≤◌, nat_lt, ◌⊎◌, true, false}
 use Rattle.std.specs.Prelude.{if◌then◌else◌, List, [], ◌∷◌, Option}
 use Rattle.md_engine.specs.declared.event.Point.{Point}
@@ -13,7 +13,7 @@ use Rattle.md_engine.specs.declared.tokenizer.Scratch.{Scratch}
 use Rattle.md_engine.specs.Run.{Remains, plain}
 use Rattle.md_engine.specs.World.{Setting, World, looks_at}
 
--- where a construct stands
+-- where a construct is
 pub record Position : Type 0 where
   pub setting : Setting
   pub point : Point
@@ -34,7 +34,7 @@ pub record Grown (old new : Setting) : Type 0 where
   pub options : new.options ≡ old.options
   pub limit : old.limit ≤ new.limit
 
--- what stands here
+-- what is here
 abbrev pub seen : Position → Option ℕ
 seen x = looks_at x.setting x.point
 
@@ -55,14 +55,14 @@ abbrev pub ranked : (number : ℕ) → nat_lt number 64 ≡ true → Rank
 ranked number low = record { number = number; low = low }
 
 -- what the states of a table need, and how far each is from the next byte among the states of its level; a frame that
--- goes on with a state counts as many as it has tries
+-- continues with a state counts as many as it has tries
 pub record Scheme : Type 1 where
   pub ready : StateName → Position → After → Type 0
   pub level : StateName → ℕ
   pub rank : StateName → Position → Rank
   pub tries : StateName → Rank
 
--- at most so many bytes and columns are left, and one fewer behind each
+-- at most so many bytes and columns are left, and one fewer after each
 abbrev pub cells_left : ℕ → Point → ℕ
 cells_left limit p = 4 * (limit - p.index) + (3 - (p.column + 3) % 4)
 
@@ -85,7 +85,7 @@ state_number T (Next n) x = 64 * cells_left x.setting.limit x.point + (T.rank n 
 state_number T (Retry n) x = 64 * cells_left x.setting.limit x.point + (T.rank n x).number + 1
 state_number T _ x = 0
 
--- an attempt is known by what it goes on with
+-- an attempt is known by what it continues with
 abbrev pub keyed : (StateName → ℕ) → State → State → ℕ
 keyed g (Next n) _ = g n
 keyed g (Retry n) _ = g n
@@ -128,7 +128,7 @@ holds T Ok x K = K.ok x
 holds T Nok x K = K.nok x
 holds T Error x K = Unit {0}
 
--- an attempt may go on here, below what it set aside
+-- an attempt may continue here, below what it set aside
 pub record Resumes (T : Scheme) (f : Frame) (st : State) (x : Position) (K : After) : Type 0 where
   pub stands : holds T st x K
   pub level : state_level T st ≤ frame_level T f
@@ -149,7 +149,7 @@ abbrev pub after_all : Scheme → List Frame → After
 after_all T [] = top
 after_all T (f ∷ fs) = after_frame T f (after_all T fs)
 
--- the tokenizer stands at a state
+-- the tokenizer is at a state
 abbrev pub stands : Scheme → World → State → Type 0
 stands T w st = holds T st (position w) (after_all T w.frames)
 
@@ -163,19 +163,19 @@ pub record Passes (limit : ℕ) (p q : Point) : Type 0 where
   pub cells : cells_before p < cells_before q
   pub inside : p.index < limit
 
--- wherever a construct ends with such scratch, one may go on
+-- wherever a construct ends with such scratch, one may continue
 pub record Ends (P Q : Scratch → Type 0) (x : Position) (K : After) : Type 0 where
   pub ok : (s : Scratch) (q : Point) (t : Setting) → P s → Grown x.setting t → Reaches t.limit x.point q →
       K.ok (spot_at t q s)
   pub nok : (s : Scratch) (q : Point) (t : Setting) → Q s → Grown x.setting t → K.nok (spot_at t q s)
 
--- the same of a construct that accepts only behind the point where it begins
+-- the same of a construct that accepts only after the point where it begins
 pub record EndsLater (P Q : Scratch → Type 0) (x : Position) (K : After) : Type 0 where
   pub ok : (s : Scratch) (q : Point) (t : Setting) → P s → Grown x.setting t → Passes t.limit x.point q →
       K.ok (spot_at t q s)
   pub nok : (s : Scratch) (q : Point) (t : Setting) → Q s → Grown x.setting t → K.nok (spot_at t q s)
 
--- what an attempt owes when it begins: what it goes on with is ready, and below what it sets aside
+-- what an attempt owes when it begins: what it continues with is ready, and below what it sets aside
 pub record Tries (T : Scheme) (f : Frame) (P Q : Scratch → Type 0) (x : Position) (K : After) : Type 0 where
   pub ok : (s : Scratch) (q : Point) (t : Setting) → P s → Grown x.setting t → Reaches t.limit x.point q →
       holds T f.ok (if f.is_check then spot_at t x.point s else spot_at t q s) K
@@ -187,8 +187,8 @@ pub record Tries (T : Scheme) (f : Frame) (P Q : Scratch → Type 0) (x : Positi
   pub nok_rank : (s : Scratch) (t : Setting) → Q s → Grown x.setting t →
       state_rank T f.nok (spot_at t x.point s) < frame_rank T f + 1
 
--- what an attempt that is no check owes, where what it tries accepts only behind the point where it begins: there so
--- much less is left that what it goes on with may have any rank
+-- what an attempt that is no check owes, where what it tries accepts only after the point where it begins: there so
+-- much less is left that what it continues with may have any rank
 pub record TriesLater (T : Scheme) (f : Frame) (P Q : Scratch → Type 0) (x : Position) (K : After) : Type 0 where
   pub moves_on : f.is_check ≡ false
   pub ok : (s : Scratch) (q : Point) (t : Setting) → P s → Grown x.setting t → Passes t.limit x.point q →

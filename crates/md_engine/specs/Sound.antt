@@ -12,7 +12,7 @@ pub record IsSaved (bytes : List ℕ) (events : ℕ) (f : Frame) : Type 0 where
   pub within : f.events_len ≤ events
 
 -- the point, all events, what attempts go back to, and where lines begin are places of the text; what may be read lies
--- in the text; an inner attempt goes back to no fewer events than an outer one (the innermost stands last)
+-- in the text; an inner attempt goes back to no fewer events than an outer one (the innermost is last)
 pub record IsSound (bytes : List ℕ) (point : Point) (limit : ℕ) (events : List Event) (frames : List Frame)
     (skips : List Point) : Type 0 where
   pub placed : IsPlaced bytes point

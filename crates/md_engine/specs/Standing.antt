@@ -8,7 +8,7 @@ use Rattle.md_engine.specs.Run.{Step, plain, reading}
 use Rattle.md_engine.specs.Scheme.{Scheme, stands}
 use Rattle.md_engine.specs.World.{Setting, World}
 
--- a call is at what stands at the point or at the end, in this setting, and the tokenizer stands at the state
+-- a call is at what is at the point or at the end, in this setting, and the tokenizer is at the state
 pub record IsCalled (S : Scheme) (under : Setting) (is_end : Bool) (name : StateName) (w : World) : Type 0 where
   pub may : (is_end ≡ true) ⊎ (w.point.index < w.setting.limit)
   pub setting : w.setting ≡ under
@@ -21,7 +21,7 @@ MeansAt T S under B is_end =
     IsCalled S under is_end name w →
     T name (reading w) to new → Steps B feed (Next name) (reading w) to new
 
--- where the tokenizer stands at a state, a step comes to where it stands
+-- where the tokenizer is at a state, a step reaches where it is
 abbrev pub StandsOn : Step → Scheme → Type 0
 StandsOn T S =
     (name : StateName) (w : World) (to : State) (new : World) → stands S w (Next name) → T name (reading w) to new →

@@ -1,4 +1,4 @@
--- What states take and count one after another, to stay where they are, and what all of it comes to.
+-- What states take and count one after another, to stay where they are, and what all of it becomes.
 use Rattle.std.specs.Prelude.{◌≡◌, ℕ, zero, suc, ◌+◌, ◌-◌, ◌^◌, ◌<◌, ◌≤◌, nat_lt, Bool, true, ◌&&◌, ◌==◌, not}
 use Rattle.std.specs.Prelude.{List, slice_index, Some}
 use Rattle.md_engine.specs.declared.class.Class.{Class}
@@ -14,23 +14,23 @@ use Rattle.md_engine.specs.Run.{Step, reading}
 use Rattle.md_engine.specs.Scheme.{Scheme, stands}
 use Rattle.md_engine.specs.World.{Setting, World, after, looks}
 
--- a byte of a class stands at a point, in front of the index `end`
+-- a byte of a class is at a point, before the index `end`
 abbrev pub IsOf : Class → List ℕ → ℕ → Point → Type 0
 IsOf c bytes end p = (p.index < end) × (has c (slice_index bytes p.index) ≡ true)
 
--- the point that one comes to by so many steps
+-- the point that one reaches by so many steps
 unfoldable pub along : Setting → ℕ → Point → Point
 along x zero p = p
 along x (suc n) p = after x (along x n p)
 
--- all bytes of a class that stand here are taken, one after another, up to the index `end` at most
+-- all bytes of a class that are here are taken, one after another, up to the index `end` at most
 pub record TakesAll (c : Class) (end : ℕ) (w w' : World) : Type 0 where
   pub count : ℕ
   pub new : w' ≡ record w { point = along w.setting count w.point }
   pub each : (k : ℕ) → k < count → IsOf c w.setting.bytes end (along w.setting k w.point)
   pub ends : ¬ IsOf c w.setting.bytes end w'.point
 
--- what stands at the point is seen and taken,
+-- what is at the point is seen and taken,
 abbrev pub took : World → World
 took w = record w { current = looks w; point = after w.setting w.point }
 
@@ -39,7 +39,7 @@ unfoldable pub took_all : ℕ → World → World
 took_all zero w = w
 took_all (suc n) w = took (took_all n w)
 
--- all bytes of a class that stand here are seen and taken, one after another, as far as the text may be read
+-- all bytes of a class that are here are seen and taken, one after another, as far as the text may be read
 abbrev pub IsSeen : Class → World → Type 0
 IsSeen c w = IsOf c w.setting.bytes w.setting.limit w.point
 
@@ -49,7 +49,7 @@ pub record SeesSpan (c : Class) (w w' : World) : Type 0 where
   pub each : (k : ℕ) → k < count → IsSeen c (took_all k w)
   pub ends : ¬ IsSeen c w'
 
--- so many spaces and columns of tabs that stand here are seen and taken, one after another,
+-- so many spaces and columns of tabs that are here are seen and taken, one after another,
 abbrev pub SeesWhite : World → Type 0
 SeesWhite w = (w.point.index < w.setting.limit) × (is_white (slice_index w.setting.bytes w.point.index) ≡ true)
 
@@ -63,7 +63,7 @@ pub record SeesColumns (most : ℕ) (w : World) (count : ℕ) (w' : World) : Typ
   pub within : count ≤ most
   pub ends : count < most → ¬ SeesWhite w'
 
--- what a state takes that stays, behind what was counted
+-- what a state takes that stays, after what was counted
 abbrev pub takes : Stay → Scratch → ℕ → Bool
 takes stay.Line s b = not (b == 10)
 takes stay.Word s b = has class.Word b
@@ -92,7 +92,7 @@ pub data SeesSome (k : Stay) (w : World) : World → Type 0 where
   Nothing : SeesSome k w w
   OneMore : (v : World) → SeesSome k w v → Sees k v → SeesSome k w (stayed k v)
 
--- and as often as it stands here, as far as the text may be read
+-- and as often as it is here, as far as the text may be read
 pub record SeesAll (k : Stay) (w w' : World) : Type 0 where
   pub some : SeesSome k w w'
   pub ends : ¬ Sees k w'

@@ -31,23 +31,23 @@ pub record Setting : Type 0 where
   pub skips : List Point
   pub line : Line
 
--- what a construct tells the containers around it, and what is known of these
+-- what a construct shows the containers around it, and what is known of these
 pub record Flags : Type 0 where
-  -- the leaf that is open behind what was read
+  -- the leaf that is open after what was read
   pub leaf : HeldLeaf
-  -- whether nothing but whitespace stands on the line that was read
+  -- whether nothing but whitespace is on the line that was read
   pub blank : Bool
   -- the leaf that was open before the line that is read
   pub leaf_before : HeldLeaf
   -- the open containers, the outermost first
   pub containers : List Container
-  -- how many of them went on, or opened, on this line
+  -- how many of them continued, or opened, on this line
   pub continued : ℕ
-  -- the one that is asked whether it goes on, or that is tried, as it is held if it goes on or opens; and the column
-  -- where it begins
+  -- the one that is asked whether it continues, or that is tried, as it is held if it continues or opens; and the
+  -- column where it begins
   pub asked : Container
   pub asked_column : ℕ
-  -- the index of the first event behind the line that was read last
+  -- the index of the first event after the line that was read last
   pub line_end : ℕ
 
 pub record World : Type 0 where
@@ -95,18 +95,18 @@ world t = record {
   resolvers = t.resolvers.items;
 }
 
--- what stands at a point, as far as the text may be read
+-- what is at a point, as far as the text may be read
 abbrev pub looks_at : Setting → Point → Option ℕ
 looks_at x p = if nat_lt p.index x.limit then Some (seen_at x.bytes p) else None
 
 abbrev pub looks : World → Option ℕ
 looks w = looks_at w.setting w.point
 
--- a line is begun at its first byte, or behind the prefixes of its containers
+-- a line is begun at its first byte, or after the prefixes of its containers
 abbrev pub line_begun : Setting → Point → Point
 line_begun x p = begun_at (slice_get x.skips (p.line - x.first_line)) p
 
--- the point behind what stands at a point
+-- the point after what is at a point
 abbrev pub after : Setting → Point → Point
 after x p =
     if is_ending (slice_index x.bytes p.index) then line_begun x (next_point x.bytes p) else next_point x.bytes p
@@ -151,7 +151,7 @@ skipping w p = record w {
   point = if w.point.line == p.line then begun_at (Some p) w.point else w.point;
 }
 
--- behind those that are registered, or before them; each once
+-- after those that are registered, or before them; each once
 abbrev pub registered : List ResolveName → ResolveName → List ResolveName
 registered names name =
     if list_any (λ (other : ResolveName). same_name other name) names then names else names ++ name ∷ []
@@ -164,8 +164,7 @@ registered_before names name =
 abbrev pub reads_to : World → ℕ → World
 reads_to w to = record w { setting = record w.setting { limit = to } }
 
--- the containers behind so many end in front of the event at an index, and at its point; where there is none, at this
--- point
+-- the containers after so many end before the event at an index, and at its point; where there is none, at this point
 abbrev pub closed_events : ℕ → ℕ → List Container → List Event → Point → List Event
 closed_events keep at containers events p = put at (ends_at (drop keep containers) (point_of (drop at events) p)) events
 

@@ -1,6 +1,6 @@
 // Classes of bytes, of which a state takes many at once.
 //
-// No class has a line ending or a tab: behind each of its bytes the line goes on, one column further.
+// No class has a line ending or a tab: after each of its bytes the line continues, one column further.
 
 ghost use Rattle.std.specs.Prelude.{◌≡◌, ◌<◌, ◌≤◌, ◌==◌, if◌then◌else◌, length, nat_lt, take};
 ghost use Rattle.std.specs.Int.{trailing_zeros, w64};
@@ -16,7 +16,7 @@ pub enum Class {
     Text,
     /// All others but spaces: a word.
     Word,
-    /// Those behind the space that nothing gives a meaning: all but `"'()<>[\]|` and U+007F.
+    /// Those after the space that nothing gives a meaning: all but `"'()<>[\]|` and U+007F.
     Plain,
 }
 
@@ -115,7 +115,7 @@ pub fn above_cr_len(bytes: &[u8]) -> usize
     last + above_cr_of_16(&bytes[last..])
 }
 
-/// How many bytes of text stand in front: many at once, then byte by byte.
+/// How many bytes of text are in front: many at once, then byte by byte.
 fn text_span(bytes: &[u8]) -> usize
     ensures { IsSpan Class.Text bytes.now result }
 {
@@ -128,7 +128,7 @@ impl Class {
     pub fn has(self, byte: u8) -> bool
         ensures { result ≡ has self byte }
     {
-        // Most bytes come behind all that a line or a word may lack.
+        // Most bytes come after all that a line or a word may lack.
         match self {
             Class::Text => byte > b' ' || !matches!(byte, b'\n' | b'\r' | b'\t'),
             Class::Word => byte > b' ' || !matches!(byte, b'\n' | b'\r' | b'\t' | b' '),
@@ -136,7 +136,7 @@ impl Class {
         }
     }
 
-    /// How many bytes of the class stand in front.
+    /// How many bytes of the class are in front.
     pub fn span(self, bytes: &[u8]) -> usize
         ensures { IsSpan self bytes.now result }
     {

@@ -1,4 +1,4 @@
-// Events, and the points of the text that they stand at.
+// Events, and the points of the text that they are at.
 //
 // The result of a parse is a list of events: an `Enter` and an `Exit` of each part, in the order of the text. Enters
 // and exits match by name like brackets.
@@ -41,21 +41,21 @@ pub enum Content {
 
 /// What a part that is read later is linked by.
 ///
-/// Parts are read as one where nothing but container prefixes stands between them. So a link says only what whoever
-/// adds the part knows of its neighbours, and not where they stand.
+/// Parts are read as one where nothing but container prefixes is between them. So a link says only what whoever adds
+/// the part knows of its neighbours, and not where they are.
 #[derive(Clone, Copy, Debug, PartialEq, Eq)]
 pub struct Link {
     /// Whether a part before this one is known to be read as one with it.
     pub previous: bool,
-    /// Whether a part behind this one is known to be read as one with it.
+    /// Whether a part after this one is known to be read as one with it.
     pub next: bool,
     pub content: Content,
 }
 
 /// The begin or the end of a part.
 ///
-/// Fields lie in memory in the order in which they stand here. The small ones stand together, so that little room is
-/// lost between.
+/// Fields lie in memory in the order in which they are here. The small ones are together, so that little room is lost
+/// between.
 #[derive(Clone, Copy, Debug, PartialEq, Eq)]
 pub struct Event {
     pub kind: Kind,

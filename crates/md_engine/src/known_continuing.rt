@@ -1,7 +1,7 @@
-// Open containers that go on over an empty line, and up to which they are known to.
+// Open containers that continue over an empty line, and up to which they are known to.
 //
-// Where a line ends, each open container goes on by what is held of it. What was found of them is kept, so that on many
-// blank lines in many containers none is asked again unless it has changed.
+// Where a line ends, each open container continues by what is held of it. What was found of them is kept, so that on
+// many blank lines in many containers none is asked again unless it has changed.
 
 ghost use Rattle.std.specs.Prelude.{◌≡◌, ◌<◌, ◌≤◌, List, false, get_or, length, slice_set, take};
 ghost use Rattle.md_engine.specs.KnownContinuing.{AreContinuing, EndsContinuing, IsKnownContinuing, goes_over_empty};
@@ -9,14 +9,14 @@ ghost use Rattle.md_engine.specs.declared.tokenizer.container.Container.{Contain
 
 use crate::tokenizer::container::Container;
 
-/// All open containers from an index up to another go on over an empty line.
+/// All open containers from an index up to another continue over an empty line.
 #[derive(Clone, Copy)]
 pub struct KnownContinuing {
     pub from: usize,
     pub to: usize,
 }
 
-/// Up to which these go on over an empty line, from an index on and up to another at most.
+/// Up to which these continue over an empty line, from an index on and up to another at most.
 fn asked(containers: &[Container], from: usize, until: usize) -> usize
     requires { (from ≤ until) × (until ≤ length containers.now) }
     ensures within { (from ≤ result) × (result ≤ until) }
@@ -34,7 +34,7 @@ impl KnownContinuing {
     /// Before anything is known.
     pub const NONE: KnownContinuing = KnownContinuing { from: 0, to: 0 };
 
-    /// What is known from an index on: what is kept, also where those in front of it are found to go on up to there; or
+    /// What is known from an index on: what is kept, also where those before it are found to continue up to there; or
     /// what is found of these.
     fn known(self, containers: &[Container], index: usize) -> KnownContinuing
         requires kept { IsKnownContinuing containers.now self }
@@ -59,7 +59,7 @@ impl KnownContinuing {
         }
     }
 
-    /// Up to which the containers from an index on go on over an empty line: none is asked of which it is known.
+    /// Up to which the containers from an index on continue over an empty line: none is asked of which it is known.
     pub fn found(self, containers: &[Container], index: usize) -> KnownContinuing
         requires kept { IsKnownContinuing containers.now self }
         requires inside { index ≤ length containers.now }
@@ -73,7 +73,7 @@ impl KnownContinuing {
         }
     }
 
-    /// What stays known where the containers behind the first `keep` end.
+    /// What stays known where the containers after the first `keep` end.
     pub fn cut(self, keep: usize) -> KnownContinuing
         ensures { (cs : List Container) → IsKnownContinuing cs self → IsKnownContinuing (take keep cs) result }
     {

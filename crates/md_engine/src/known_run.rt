@@ -1,8 +1,8 @@
 // Runs of one marker and whitespace, and how far one is known to go.
 //
-// On a line with many markers each asks what stands first behind all of its kind and the whitespace between them, and
-// each container what stands first behind the whitespace of its line. So how far such a run goes is kept, and no byte
-// is gone over twice.
+// On a line with many markers each asks what is first after all of its kind and the whitespace between them, and each
+// container what is first after the whitespace of its line. So how far such a run goes is kept, and no byte is gone
+// over twice.
 
 ghost use Rattle.std.specs.Prelude.{◌≡◌, ◌≤◌, ℕ, List, length};
 ghost use Rattle.md_engine.specs.KnownRun.{EndsRun, IsKnownRun, is_of_run};
@@ -17,7 +17,7 @@ pub struct KnownRun {
     pub end: usize,
 }
 
-/// Whether a run of this marker and whitespace goes on with a byte.
+/// Whether a run of this marker and whitespace continues with a byte.
 fn spreads(marker: u8, byte: u8) -> bool
     ensures { result ≡ is_of_run marker byte }
 {
@@ -50,7 +50,7 @@ impl KnownRun {
         }
     }
 
-    /// How far the run of this marker goes from an index on, as far as the text may be read: it is looked for behind
+    /// How far the run of this marker goes from an index on, as far as the text may be read: it is looked for after
     /// what is known of it.
     pub fn found(self, bytes: &[u8], marker: u8, index: usize, limit: usize) -> KnownRun
         requires kept { IsKnownRun bytes.now self }

@@ -1,8 +1,8 @@
 // States of the tokenizer.
 //
 // A construct is a small machine: each of its states looks at the byte that is current, adds events, and answers which
-// state comes next. The names stand here for all constructs, so that a tokenizer can hold one, in an attempt or while
-// it waits for more of the text.
+// state comes next. The names are here for all constructs, so that a tokenizer can hold one, in an attempt or while it
+// waits for more of the text.
 
 pub mod blank_line;
 pub mod block_quote;

@@ -28,7 +28,7 @@ pub enum Stay {
 }
 
 impl Stay {
-    /// Whether this is taken, behind what was counted.
+    /// Whether this is taken, after what was counted.
     #[inline(always)]
     pub fn takes(self, scratch: &Scratch, byte: u8) -> bool
         ensures { result ≡ takes self scratch.now byte }

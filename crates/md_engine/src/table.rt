@@ -1,6 +1,6 @@
 // Tables of states, and the loop that feeds them.
 //
-// A table says which function each state name stands for. `push` reads a part of the text and answers the state that
+// A table says which function each state name represents. `push` reads a part of the text and answers the state that
 // waits for more; `flush` reads the end, and runs the resolvers that were registered.
 ghost use Rattle.std.specs.Prelude.{Bool, ◌≡◌, ◌≢◌, ◌<◌, ◌≤◌, [], length, IfOk, IfNone, IfSome, OnOk, false, true};
 ghost use Rattle.std.specs.Option.{option_map};
@@ -25,13 +25,13 @@ pub trait Table {
     /// What a call of each state may do.
     ghost step: { Step };
 
-    /// What each state needs, and how far it is from taking what stands here.
+    /// What each state needs, and how far it is from taking what is here.
     ghost scheme: { Scheme };
 
     /// What each resolver may do.
     ghost resolves: { Resolution };
 
-    /// Calls the state of this name, at what stands at the point, and maybe some that follow it, one after another.
+    /// Calls the state of this name, at what is at the point, and maybe some that follow it, one after another.
     fn call(tokenizer: &mut Tokenizer, name: StateName) -> State
         requires current { (world tokenizer.old).current ≡ looks (world tokenizer.old) }
         requires stands { stands scheme (world tokenizer.old) (State.Next name) }
@@ -80,7 +80,7 @@ pub fn leave(tokenizer: &mut Tokenizer, state: State) -> Option<State>
     }
 }
 
-/// Takes what a state that has taken something goes on to take, where it stays.
+/// Takes what a state that has taken something continues to take, where it stays.
 fn stay<T: Table>(tokenizer: &mut Tokenizer, state: State)
     requires { stands T.scheme (world tokenizer.old) (plain state) }
     ensures runs { (is_end : Bool) → Runs T.step is_end state (world tokenizer.old) state (world tokenizer.new) }
@@ -104,7 +104,7 @@ fn stay<T: Table>(tokenizer: &mut Tokenizer, state: State)
     }
 }
 
-/// Calls the state of this name, and then each that stays at what stands here, which is seen already.
+/// Calls the state of this name, and then each that stays at what is here, which is seen already.
 #[inline(always)]
 fn call_here<T: Table>(tokenizer: &mut Tokenizer, first: StateName) -> State
     requires current { (world tokenizer.old).current ≡ looks (world tokenizer.old) }
@@ -125,7 +125,7 @@ fn call_here<T: Table>(tokenizer: &mut Tokenizer, first: StateName) -> State
     }
 }
 
-/// Calls states one after another, from that of this name, which sees what stands here, until one ends or waits.
+/// Calls states one after another, from that of this name, which sees what is here, until one ends or waits.
 fn call_on<T: Table>(tokenizer: &mut Tokenizer, first: StateName, is_end: bool) -> State
     requires current { (world tokenizer.old).current ≡ looks (world tokenizer.old) }
     requires stands { stands T.scheme (world tokenizer.old) (State.Next first) }

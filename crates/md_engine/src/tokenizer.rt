@@ -57,13 +57,13 @@ pub struct Scratch {
     pub end: usize,
     /// Whether something was met.
     pub seen: bool,
-    /// Whether a part goes on from the line before.
+    /// Whether a part continues from the line before.
     pub connect: bool,
     pub whitespace: Whitespace,
 }
 
 impl Scratch {
-    /// What stands there between constructs.
+    /// What is there between constructs.
     pub const REST: Scratch = Scratch {
         marker: 0,
         marker_b: 0,
@@ -82,24 +82,24 @@ impl Scratch {
     };
 }
 
-/// What a construct tells the containers around it, and what the document knows of these.
+/// What a construct shows the containers around it, and what the document knows of these.
 #[derive(Clone, Copy)]
 pub struct Flags {
-    /// The leaf that is open behind what was read: whether a container would interrupt it, or cannot open in it, is
-    /// read off it.
+    /// The leaf that is open after what was read: whether a container would interrupt it, or cannot open in it, is read
+    /// off it.
     pub leaf: HeldLeaf,
-    /// Whether nothing but whitespace stands on the line that was read.
+    /// Whether nothing but whitespace is on the line that was read.
     pub blank: bool,
     /// The leaf that was open before the line that is read.
     pub leaf_before: HeldLeaf,
-    /// How many containers went on, or opened, on this line.
+    /// How many containers continued, or opened, on this line.
     pub continued: usize,
-    /// The container that is asked whether it goes on, or that is tried: as it is held if it goes on or opens. Else it
-    /// means nothing.
+    /// The container that is asked whether it continues, or that is tried: as it is held if it continues or opens. Else
+    /// it means nothing.
     pub asked: Container,
     /// The column where it begins.
     pub asked_column: usize,
-    /// The index of the first event behind the line that was read last: of its ending, if it has one.
+    /// The index of the first event after the line that was read last: of its ending, if it has one.
     pub line_end: usize,
 }
 
@@ -108,11 +108,11 @@ pub struct Flags {
 pub struct Line {
     /// The index from which on this holds.
     pub start: usize,
-    /// Whether the line is lazy: not all containers went on, and none opened.
+    /// Whether the line is lazy: not all containers continued, and none opened.
     pub lazy: bool,
 }
 
-/// Where an attempt goes on, and what it goes back to.
+/// Where an attempt continues, and what it goes back to.
 #[derive(Clone, Copy)]
 pub struct Frame {
     pub ok: State,
@@ -130,7 +130,7 @@ pub struct Tokenizer<'a> {
     pub bytes: &'a [u8],
     pub options: &'a ParseOptions,
     pub point: Point,
-    /// What stands at the point: a byte, `\n` for each line ending, or nothing at the end.
+    /// What is at the point: a byte, `\n` for each line ending, or nothing at the end.
     pub current: Option<u8>,
     pub events: Vec<Event>,
     pub frames: Vec<Frame>,
@@ -140,7 +140,7 @@ pub struct Tokenizer<'a> {
     pub containers: Vec<Container>,
     /// The line of the first of `skips`.
     pub first_line: usize,
-    /// Where each line begins, behind the prefixes of its containers.
+    /// Where each line begins, after the prefixes of its containers.
     pub skips: Vec<Point>,
     /// How far the text may be read now.
     pub limit: usize,
@@ -150,7 +150,7 @@ pub struct Tokenizer<'a> {
     white: KnownRun,
     /// How far a run of a marker and whitespace is known to go.
     marks: KnownRun,
-    /// Which open containers are known to go on over an empty line.
+    /// Which open containers are known to continue over an empty line.
     over: KnownContinuing,
     ghost sound: { IsSound bytes.now point limit events.items frames.items skips.items },
     ghost spread: { IsKnownRun bytes.now white × IsKnownRun bytes.now marks },
@@ -167,7 +167,7 @@ macro_rules! or_error {
     };
 }
 
-/// Whether CR LF stands at `index`.
+/// Whether CR LF is at `index`.
 fn is_pair(bytes: &[u8], index: usize) -> bool
     requires { index < length bytes.now }
     ensures { result ≡ is_pair bytes.now index }
@@ -175,7 +175,7 @@ fn is_pair(bytes: &[u8], index: usize) -> bool
     bytes[index] == b'\r' && index + 1 < bytes.len() && bytes[index + 1] == b'\n'
 }
 
-/// The point behind this byte, or behind the pair CR LF.
+/// The point after this byte, or after the pair CR LF.
 fn step(point: Point, byte: u8, pair: bool) -> Point
     requires { (point.index < 2 ^ 61) × (point.line < 2 ^ 62) × (point.column < 2 ^ 63 + 99) × (point.vs < 4) }
     ensures { result ≡ stepped byte pair point }
@@ -230,7 +230,7 @@ fn further(point: Point, count: usize) -> Point
     }
 }
 
-/// Adds the ends of containers at a point behind the last event, the innermost first; or changes nothing.
+/// Adds the ends of containers at a point after the last event, the innermost first; or changes nothing.
 fn add_ends(events: &mut Vec<Event>, containers: &[Container], point: Point) -> Result<(), Message>
     ensures { events.new.items ≡
         (if is_ok result then events.old.items ++ ends_at containers.now point else events.old.items) }
@@ -278,7 +278,7 @@ fn turn_one(events: &mut [Event])
     events[0] = moved;
 }
 
-/// Moves the last `count` events in front of the one at `at`.
+/// Moves the last `count` events before the one at `at`.
 fn turn(events: &mut Vec<Event>, at: usize, count: usize)
     requires { at + count ≤ length events.old.items }
     ensures { events.new.items ≡
@@ -346,8 +346,8 @@ impl<'a> Tokenizer<'a> {
         }
     }
 
-    /// Adds an event at the point where the list may have no room for it, or changes nothing. This is rare, so it
-    /// stands apart.
+    /// Adds an event at the point where the list may have no room for it, or changes nothing. This is rare, so it is
+    /// apart.
     #[inline(never)]
     #[tactic(auto, unfolding(crate::specs::Full::IsFull))]
     fn add_growing(&mut self, kind: Kind, name: Name, link: Option<Link>) -> Result<(), Message>
@@ -439,7 +439,7 @@ impl<'a> Tokenizer<'a> {
         self.add(Kind::Exit, name, None)
     }
 
-    /// What stands at the point, as far as the text may be read.
+    /// What is at the point, as far as the text may be read.
     #[inline(always)]
     pub fn look(&self) -> Option<u8>
         ensures { result ≡ looks (world self.now) }
@@ -472,7 +472,7 @@ impl<'a> Tokenizer<'a> {
         point
     }
 
-    /// The point behind what stands at the point, before any prefix is left out.
+    /// The point after what is at the point, before any prefix is left out.
     fn next_point(&self) -> Point
         requires { (world self.now).point.index < length (world self.now).setting.bytes }
         ensures value { result ≡ next_point (world self.now).setting.bytes (world self.now).point }
@@ -497,7 +497,7 @@ impl<'a> Tokenizer<'a> {
         }
     }
 
-    /// Moves the point by all bytes of a class that stand here, up to the index `end` at most.
+    /// Moves the point by all bytes of a class that are here, up to the index `end` at most.
     pub fn consume_all(&mut self, class: Class, end: usize)
         requires { end ≤ length (world self.old).setting.bytes }
         ensures { TakesAll class end (world self.old) (world self.new) }
@@ -544,8 +544,8 @@ impl<'a> Tokenizer<'a> {
         Ok(())
     }
 
-    /// Begins an attempt, or changes nothing: what follows goes on with `ok` where it holds, and else is taken back and
-    /// goes on with `nok`. Neither takes back the scratch or the flags.
+    /// Begins an attempt, or changes nothing: what follows continues with `ok` where it holds, and else is taken back
+    /// and continues with `nok`. Neither takes back the scratch or the flags.
     pub fn attempt(&mut self, ok: State, nok: State) -> Result<(), Message>
         ensures world { world self.new ≡
             record (world self.old) {
@@ -616,8 +616,8 @@ impl<'a> Tokenizer<'a> {
         self.limit = limit;
     }
 
-    /// Has the next line begin at `point`, behind the prefixes of its containers, and goes there if the tokenizer
-    /// stands at the line's first byte; or changes nothing.
+    /// Has the next line begin at `point`, after the prefixes of its containers, and goes there if the tokenizer is at
+    /// the line's first byte; or changes nothing.
     #[tactic(auto, unfolding(crate::specs::Full::IsFull))]
     pub fn define_skip(&mut self, point: Point) -> Result<(), Message>
         requires { IsPlaced (world self.old).setting.bytes point }
@@ -634,7 +634,7 @@ impl<'a> Tokenizer<'a> {
         Ok(())
     }
 
-    /// Has a resolver run at the end, behind those that are registered; or changes nothing.
+    /// Has a resolver run at the end, after those that are registered; or changes nothing.
     #[tactic(auto, unfolding(crate::specs::Full::IsFull))]
     pub fn register_resolver(&mut self, name: ResolveName) -> Result<(), Message>
         ensures world { world self.new ≡
@@ -712,7 +712,8 @@ impl<'a> Tokenizer<'a> {
         self.containers[index] = container;
     }
 
-    /// Up to which the open containers from an index on go on over an empty line: the index of the first that does not.
+    /// Up to which the open containers from an index on continue over an empty line: the index of the first that does
+    /// not.
     pub fn over_end(&mut self, index: usize) -> usize
         requires { index ≤ length (world self.old).flags.containers }
         ensures ends { EndsContinuing (world self.old).flags.containers index result }
@@ -722,8 +723,7 @@ impl<'a> Tokenizer<'a> {
         self.over.to
     }
 
-    /// Where containers end that end in front of the event at `at`: at its point, or at the tokenizer's if there is
-    /// none.
+    /// Where containers end that end before the event at `at`: at its point, or at the tokenizer's if there is none.
     fn end_point(&self, at: usize) -> Point
         ensures value { result ≡ point_of (drop at (world self.now).events) (world self.now).point }
         ensures placed { IsPlaced self.now.bytes.now result }
@@ -735,8 +735,8 @@ impl<'a> Tokenizer<'a> {
         }
     }
 
-    /// Ends the containers behind the first `keep`, the innermost first, in front of the event at `at` and at its
-    /// point, or at the tokenizer's point behind the last event; or changes nothing.
+    /// Ends the containers after the first `keep`, the innermost first, before the event at `at` and at its point, or
+    /// at the tokenizer's point after the last event; or changes nothing.
     #[inline(always)]
     pub fn close(&mut self, keep: usize, at: usize) -> Result<(), Message>
         ensures world { world self.new ≡ (if is_ok result then closed (world self.old) keep at else world self.old) }

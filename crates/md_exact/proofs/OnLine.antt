@@ -1,4 +1,4 @@
--- Where the rests of a line stand: each at one point of the text, which is its place.
+-- Where the rests of a line are: each at one point of the text, which is its place.
 use Rattle.std.proofs.Common.{◌≡◌, ℕ, zero, suc, ◌+◌, ◌-◌, ◌%◌, ◌<◌, ◌≤◌, Bool, true, false, cond, not, List, [], ◌∷◌}
 use Rattle.std.proofs.Common.{◌++◌, length, take, drop, refl, sym, ap, ◌∙◌, subst, append_assoc, arith}
 use Rattle.std.specs.Prelude.{◌==◌, slice_index}
@@ -31,7 +31,7 @@ pub record LineIn (text behind : List ℕ) (line : TextLine) : Type 0 where
   pub plain : NoEnding line.bytes
   pub begins : Placed text (line_start line)
 
--- a rest of it stands at a point of it
+-- a rest of it is at a point of it
 pub record OnLine (text behind : List ℕ) (line : TextLine) (r : Rest) (p : Point) : Type 0 where
   pub stands : RestAt text behind r p
   pub placed : Placed text p
@@ -64,7 +64,7 @@ inside zero (c ∷ bytes) b rest e = omega arith
 inside (suc index) [] b rest e = cc
 inside (suc index) (c ∷ bytes) b rest e = let more = inside index bytes b rest e in omega arith
 
--- the point behind a column of a tab, and behind a space
+-- the point after a column of a tab, and after a space
 tab-point : (text : List ℕ) (p : Point) → slice_index text p.index ≡ 9 →
     next_point text p ≡ cond (not (p.column % 4 == 0)) (next_column p) (behind_last p)
 tab-point text p is = rw is refl
@@ -96,7 +96,7 @@ first_after p (c ∷ cs) = c.after
 abbrev rest : ℕ → ℕ → List ℕ → Rest
 rest column spaces bytes = record { column = column; spaces = spaces; bytes = bytes }
 
--- behind one column stands the next point, and the text goes on there
+-- after one column is the next point, and the text continues there
 record IsNext (text : List ℕ) (p at : Point) : Type 0 where
   is : at ≡ next_point text p
   inside : p.index < length text

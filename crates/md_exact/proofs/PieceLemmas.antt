@@ -1,4 +1,4 @@
--- The pieces of a line by the points where its rests stand.
+-- The pieces of a line by the points where its rests are.
 use Rattle.std.proofs.Common.{◌≡◌, ℕ, zero, suc, ◌+◌, ◌-◌, ◌%◌, ◌<◌, ◌≤◌, Bool, true, false, cond, ◌&&◌, ◌||◌, List, []}
 use Rattle.std.proofs.Common.{◌++◌, length, drop, refl, sym, ap, ap₂, ◌∙◌, subst, arith}
 use Rattle.std.specs.Prelude.{◌==◌, nat_lt}
@@ -61,7 +61,7 @@ same-vs text (suc n) p q a b index cut cut' =
         same-columns c p.vs q.vs small small'
         (ap (λ (k : ℕ). 3 - (k + 3) % 4) (sym e) ∙ more ∙ ap (λ (k : ℕ). 3 - (k + 3) % 4) f)
 
--- what is left of a tab is told by its point
+-- what is left of a tab is known from its point
 pub same-spaces : (a b : ℕ) (p : Point) → Cut a p → Cut b p → a ≡ b
 same-spaces zero zero p h k = refl
 same-spaces zero (suc m) p h k = absurd (omega (arith, h, k.0))

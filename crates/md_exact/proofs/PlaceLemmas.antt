@@ -1,4 +1,4 @@
--- Where a rest of a line stands in the text: `place` is the point that the lemmas on cells have.
+-- Where a rest of a line is in the text: `place` is the point that the lemmas on cells have.
 use Rattle.std.proofs.Common.{◌≡◌, ℕ, zero, suc, ◌+◌, ◌-◌, ◌≤◌, List, ◌++◌, length, take, drop, refl, sym, ap}
 use Rattle.std.proofs.Common.{arith, cond, min, [], ◌∷◌, ◌∙◌}
 use Rattle.std.specs.Prelude.{◌==◌}
@@ -14,7 +14,7 @@ use Rattle.md_meaning.proofs.TextsLemmas.{NoEnding}
 use Rattle.md_seam.proofs.RestCells.{RestAt}
 use Rattle.md_exact.specs.Places.{TextLine, place}
 
--- a line stands in a text, with this behind its bytes
+-- a line is in a text, with this after its bytes
 pub record StandsIn (text behind : List ℕ) (line : TextLine) : Type 0 where
   pub index : line.index ≤ length text
   pub text_is : drop line.index text ≡ line.bytes ++ behind
@@ -28,7 +28,7 @@ length-cut zero = refl
 length-cut (suc n) =
     sym (ap (λ x. cond x 0 1) (false_from_ne_true (suc n == 0) (λ e. absurd (omega (arith, eqb-true (suc n) 0 e)))))
 
--- how many bytes stand before a rest
+-- how many bytes are before a rest
 abbrev pub before : TextLine → Rest → ℕ
 before line r = length line.bytes - length r.bytes - cut_len r.spaces
 
@@ -54,7 +54,7 @@ before-is text behind line r p line_at at onward inside =
 abbrev pub columns_at : TextLine → ℕ → ℕ
 columns_at line size = columns_from line.column (take size line.bytes)
 
--- A rest that stands at a point has that point as its place, if the columns of the line in front of it are known there.
+-- A rest that is at a point has that point as its place, if the columns of the line before it are known there.
 pub place-is : (text behind : List ℕ) (line : TextLine) (r : Rest) (p : Point) → StandsIn text behind line →
     RestAt text behind r p → line.index ≤ p.index → p.index ≤ length text → p.line ≡ line.number →
     p.column ≡ columns_at line (p.index - line.index) + p.vs + 1 → place line r ≡ p
@@ -129,7 +129,7 @@ columns-in text behind line size line_at plain placed le =
         before ≡ columns_at line size
     by before column vs e f g = omega arith
 
--- So a rest that stands at a point of the text, on a line that begins at one, has it as its place.
+-- So a rest that is at a point of the text, on a line that begins at one, has it as its place.
 pub placed-place : (text behind : List ℕ) (line : TextLine) (r : Rest) (p : Point) → StandsIn text behind line →
     NoEnding line.bytes → Placed text (line_start line) → RestAt text behind r p → Placed text p →
     line.index ≤ p.index → p.index ≤ line.index + length line.bytes → p.line ≡ line.number → place line r ≡ p

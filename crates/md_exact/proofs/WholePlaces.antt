@@ -1,4 +1,4 @@
--- Places on a line that is told by its bytes: behind so many of them stands the point behind these.
+-- Places on a line that is known from its bytes: after so many of them is the point after these.
 use Rattle.std.proofs.Common.{◌≡◌, ℕ, ◌+◌, ◌-◌, List, [], ◌++◌, length, take, drop}
 use Rattle.std.proofs.Common.{refl, sym, ap, ◌∙◌, arith, append-nil}
 use Rattle.std.proofs.lemmas.List.{length-append, take-append-drop}
@@ -12,7 +12,7 @@ use Rattle.md_exact.specs.Places.{TextLine, line_end, past, place, whole}
 use Rattle.md_exact.proofs.OnLine.{past-line}
 use Rattle.md_exact.proofs.PlaceLemmas.{before, columns_at, cut_len, line_start, past-column}
 
--- a rest behind these bytes, in front of those
+-- a rest after these bytes, before those
 pub place-at : (line : TextLine) (r : Rest) (front rest : List ℕ) → line.bytes ≡ front ++ rest → r.bytes ≡ rest →
     r.spaces ≡ 0 → r.column ≡ columns_from line.column front → place line r ≡ past_text front (line_start line)
 place-at line r front rest are left none column =

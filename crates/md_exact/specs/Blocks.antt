@@ -23,7 +23,7 @@ use Rattle.md_exact.specs.Texts.{text}
 
 -- The front of a text.
 
--- its lines behind its mark, whose bytes are a column each
+-- its lines after its mark, whose bytes are a column each
 abbrev pub text_lines : List ℕ → List TextLine
 text_lines source =
     let size = first_column source in lines_from 1 size size (full_lines_of (without_mark source))
@@ -48,7 +48,7 @@ front_line m line r =
     (piece line n.FrontmatterSequence r (past 3 r) ++ white line (past 3 r) (line_end line))
     else piece line n.FrontmatterChunk r (line_end line)
 
--- a line that stands in no container
+-- a line that is in no container
 abbrev pub front_row : TextLine → Row
 front_row line = record {
   line = line;
@@ -62,7 +62,7 @@ front_row line = record {
 
 -- Leaves.
 
--- whether a line goes on the leaf of the line in front of it
+-- whether a line continues the leaf of the line before it
 abbrev pub goes_on : Role → Bool
 goes_on (Further leaf) = true
 goes_on FurtherText = true
@@ -70,7 +70,7 @@ goes_on Underline = true
 goes_on Delimiter = true
 goes_on role = false
 
--- a line in front of others that are put together: one with the first of them, if that goes on it
+-- a line before others that are put together: one with the first of them, if that continues it
 abbrev pub onto : Row → List (List Row) → List (List Row)
 onto row ((next ∷ rows) ∷ groups) =
     if goes_on next.role then (row ∷ next ∷ rows) ∷ groups else (row ∷ []) ∷ (next ∷ rows) ∷ groups
@@ -91,7 +91,7 @@ leaf_events options (Opened (OpenHtml kind lines)) rows = leaf n.HtmlFlow (conte
 leaf_events options (Finished (Html lines)) rows = leaf n.HtmlFlow (content_line n.HtmlFlowData 0) rows
 leaf_events options came rows = []
 
--- any, by what its first line is: a blank line behind code is cut like a line of it
+-- any, by what its first line is: a blank line after code is cut like a line of it
 abbrev pub events_by : ParseOptions → Role → List Row → List Event
 events_by options Blank rows = joined (content_line n.SpaceOrTab 0) rows
 events_by options BehindCode rows = joined (content_line n.SpaceOrTab 4) rows
@@ -101,8 +101,8 @@ events_by options role rows = text options rows
 
 -- The body of a text.
 
--- behind the last of these lines: the containers that end there, and its ending. That of a line on which nothing at all
--- stands is that of a blank line, also where a leaf takes the line.
+-- after the last of these lines: the containers that end there, and its ending. That of a line on which nothing at all
+-- is is that of a blank line, also where a leaf takes the line.
 abbrev pub tail : List Row → List Event
 tail [] = []
 tail (row ∷ []) =
@@ -110,7 +110,7 @@ tail (row ∷ []) =
     ++ ending (if is_blank_role row.role || is_end row.line.bytes then n.BlankLineEnding else n.LineEnding) row.line
 tail (row ∷ next ∷ rows) = tail (next ∷ rows)
 
--- what stands in front of a leaf, the leaf, and what stands behind it
+-- what is before a leaf, the leaf, and what follows it
 abbrev pub group_events : ParseOptions → List Row → List Event
 group_events options [] = []
 group_events options (row ∷ rows) = row.front ++ events_by options row.role (row ∷ rows) ++ tail (row ∷ rows)

@@ -1,4 +1,4 @@
--- The events of leaves: lines one after the other in one leaf, and what stands in a line of each leaf.
+-- The events of leaves: lines one after the other in one leaf, and what is in a line of each leaf.
 use Rattle.std.specs.Prelude.{ℕ, zero, suc, ◌+◌, Bool, true, false, ◌==◌, if◌then◌else◌, List, [], ◌∷◌, ◌++◌, length}
 use Rattle.std.specs.Prelude.{take}
 use Rattle.md_engine.specs.declared.configuration.ParseOptions.{ParseOptions}
@@ -39,12 +39,12 @@ last_end (row ∷ next ∷ rows) = last_end (next ∷ rows)
 abbrev pub span : Name → List Row → List Row → List Event → List Event
 span name rows ends inside = around name (start rows) (start ends) inside
 
--- on to the next line: an ending, and the prefixes behind it
+-- on to the next line: an ending, and the prefixes after it
 abbrev pub onto_next : List Row → List Event
 onto_next (row ∷ next ∷ rows) = ending n.LineEnding row.line ++ next.front
 onto_next rows = []
 
--- what stands in these lines, with the way from each to the next
+-- what is in these lines, with the way from each to the next
 abbrev pub joined : (TextLine → Rest → List Event) → List Row → List Event
 joined inside [] = []
 joined inside (row ∷ rows) = inside row.line row.rest ++ onto_next (row ∷ rows) ++ joined inside rows
@@ -56,7 +56,7 @@ leaf name inside (row ∷ rows) = span name (row ∷ rows) (last_end (row ∷ ro
 
 -- Thematic breaks and underlines (CommonMark 4.1, 4.3).
 
--- at most so many runs of one marker, with whitespace before each and behind them
+-- at most so many runs of one marker, with whitespace before each and after them
 abbrev pub runs : ℕ → Name → TextLine → Rest → List Event
 runs zero name line r = []
 runs (suc size) name line r =
@@ -70,7 +70,7 @@ runs_line name line r = runs (length r.bytes) name line r
 
 -- ATX headings (CommonMark 4.2).
 
--- the opening run behind its indent, the text, and perhaps a closing run behind whitespace
+-- the opening run after its indent, the text, and perhaps a closing run after whitespace
 abbrev pub heading_line : TextLine → Rest → List Event
 heading_line line r =
     let opening = behind_indent r in
@@ -98,14 +98,14 @@ content_line name columns line r =
 abbrev pub for_marker : ℕ → Name → Name → Name
 for_marker m code math = if m == dollar then math else code
 
--- a fence from its first marker on, and what stands between its run and the end of the line
+-- a fence from its first marker on, and what is between its run and the end of the line
 abbrev pub fence_part : ℕ → TextLine → Rest → (Rest → List Event) → List Event
 fence_part m line r inside =
     let after = past (run_len m r.bytes) r in
     part line (for_marker m n.CodeFencedFence n.MathFlowFence) r (line_end line)
     (piece line (for_marker m n.CodeFencedFenceSequence n.MathFlowFenceSequence) r after ++ inside after)
 
--- behind the run of an opening fence: for code the first word and what follows it, for math all as one
+-- after the run of an opening fence: for code the first word and what follows it, for math all as one
 abbrev pub info_parts : ℕ → TextLine → Rest → List Event
 info_parts m line r =
     let text = behind_indent r in
@@ -117,7 +117,7 @@ info_parts m line r =
     ++ white line behind_word meta
     ++ text_part line String n.CodeFencedFenceMeta meta (line_end line))
 
--- a further line behind this opening fence: a closing fence behind its indent, or content
+-- a further line after this opening fence: a closing fence after its indent, or content
 abbrev pub fenced_line : ParseOptions → Opening → TextLine → Rest → List Event
 fenced_line options o line r =
     if closes options o r
@@ -125,7 +125,7 @@ fenced_line options o line r =
     ++ fence_part o.marker line (behind_indent r) (λ after. white line after (line_end line))
     else content_line (for_marker o.marker n.CodeFlowChunk n.MathFlowChunk) o.indent line r
 
--- all lines: the indent of the opening fence stands in front of the leaf
+-- all lines: the indent of the opening fence is before the leaf
 abbrev pub fence : ParseOptions → Opening → List Row → List Event
 fence options o [] = []
 fence options o (row ∷ rows) =
@@ -137,17 +137,17 @@ fence options o (row ∷ rows) =
 
 -- Tables (GFM 4.10).
 
--- how many bytes stand in front of the next pipe; `escaped` says that a backslash takes the byte that is next
+-- how many bytes are before the next pipe; `escaped` says that a backslash takes the byte that is next
 abbrev pub cell_len : Bool → List ℕ → ℕ
 cell_len escaped [] = 0
 cell_len true (b ∷ bytes) = 1 + cell_len false bytes
 cell_len false (b ∷ bytes) = if b == pipe then 0 else 1 + cell_len (b == backslash) bytes
 
--- behind this byte, if it comes first
+-- after this byte, if it comes first
 abbrev pub past_optional : ℕ → Rest → Rest
 past_optional b r = if begins_with b r.bytes then past 1 r else r
 
--- What stands in a cell, from one rest to another.
+-- What is in a cell, from one rest to another.
 abbrev pub Inner : Type 0
 Inner = TextLine → Rest → Rest → List Event
 
@@ -164,7 +164,7 @@ cell_dashes line r s =
     ++ piece line n.GfmTableDelimiterFiller dashes after
     ++ piece line n.GfmTableDelimiterMarker after s)
 
--- so many bytes between two rests: whitespace, or what stands in a cell with whitespace around it
+-- so many bytes between two rests: whitespace, or what is in a cell with whitespace around it
 abbrev pub cell_content : Inner → ℕ → TextLine → Rest → Rest → List Event
 cell_content inner size line r s =
     let bytes = take size r.bytes in
@@ -172,8 +172,8 @@ cell_content inner size line r s =
     let end = past (length (trim_end bytes)) r in
     if is_blank bytes then white line r s else white line r begin ++ inner line begin end ++ white line end s
 
--- Cells from a rest on, at most so many. Each has the pipe in front of it; the last has also the pipe behind it, and
--- whitespace behind that stands behind the cells.
+-- Cells from a rest on, at most so many. Each has the pipe before it; the last has also the pipe after it, and
+-- whitespace after that is after the cells.
 abbrev pub cells : ℕ → Name → Inner → TextLine → Rest → List Event
 cells zero name inner line r = []
 cells (suc size) name inner line r =
@@ -188,7 +188,7 @@ cells (suc size) name inner line r =
     ++ piece line n.GfmTableCellDivider bar end)
     ++ (if is_last then white line end (line_end line) else cells size name inner line bar)
 
--- a row, its cells behind its indent
+-- a row, its cells after its indent
 abbrev pub row_line : Name → Name → Inner → TextLine → Rest → List Event
 row_line name cell inner line r =
     part line name r (line_end line)

@@ -31,7 +31,7 @@ line_at number index column full = record {
   ending = drop (length (without_ending full)) full;
 }
 
--- the lines from here on, given with their endings: behind the last ending stands one more line, which is empty
+-- the lines from here on, given with their endings: after the last ending is one more line, which is empty
 abbrev pub lines_from : ℕ → ℕ → ℕ → List (List ℕ) → List TextLine
 lines_from number index column [] = line_at number index column [] ∷ []
 lines_from number index column (full ∷ more) =
@@ -45,7 +45,7 @@ whole line = record { column = line.column; spaces = 0; bytes = line.bytes }
 abbrev pub line_end : TextLine → Rest
 line_end line = record { column = columns_from line.column line.bytes; spaces = 0; bytes = [] }
 
--- behind so many bytes of a rest
+-- after so many bytes of a rest
 abbrev pub past : ℕ → Rest → Rest
 past size r = record {
   column = columns_from (r.column + r.spaces) (take size r.bytes);
@@ -55,8 +55,8 @@ past size r = record {
 
 -- Points.
 
--- The point where a rest of a line begins: at its first byte, or at the tab of which columns are left, behind as many
--- of its columns as were taken.
+-- The point where a rest of a line begins: at its first byte, or at the tab of which columns are left, after as many of
+-- its columns as were taken.
 abbrev pub place : TextLine → Rest → Point
 place line r =
     let before = length line.bytes - length r.bytes - (if r.spaces == 0 then 0 else 1) in
@@ -67,7 +67,7 @@ place line r =
       vs = r.column - columns_from line.column (take before line.bytes);
     }
 
--- behind the ending of a line, or where it ends if it has none
+-- after the ending of a line, or where it ends if it has none
 abbrev pub next_line : TextLine → Point
 next_line line =
     if is_end line.ending then place line (line_end line)

@@ -1,4 +1,4 @@
--- The containers of a line: those that go on, those that open, and what they take of it.
+-- The containers of a line: those that continue, those that open, and what they take of it.
 use Rattle.std.specs.Prelude.{ℕ, zero, suc, Bool, false, ◌&&◌, ◌||◌, ◌==◌, if◌then◌else◌, List, [], ◌∷◌, ◌++◌, length}
 use Rattle.std.specs.Prelude.{Option, Some, None}
 use Rattle.md_engine.specs.declared.configuration.ParseOptions.{ParseOptions}
@@ -22,8 +22,8 @@ abbrev pub containers : Path → List Container
 containers (At s) = []
 containers (Within before container p) = container ∷ containers p
 
--- the open containers that go on, each with the rest behind its prefix: each is asked, from the outermost in, until one
--- does not
+-- the open containers that continue, each with the rest after its prefix: each is asked, from the outermost in, until
+-- one does not
 abbrev pub gone_on : ParseOptions → Path → Rest → List Taken
 gone_on options (At s) r = []
 gone_on options (Within before container p) r = elim (continues options container r) [
@@ -39,21 +39,21 @@ opened options interrupting (suc n) r = elim (opens options interrupting r) [
   | None ↦ []
 ]
 
--- The containers that open on a line behind those that went on: none in fences, math and HTML where all did, and there
+-- The containers that open on a line after those that continued: none in fences, math and HTML where all did, and there
 -- the first may interrupt a paragraph. Each takes a byte.
 abbrev pub new_containers : ParseOptions → Path → Bool → Rest → List Taken
 new_containers options p all r =
     if all && is_concrete (spot p).leaf then []
     else opened options (all && is_open_text (spot p).leaf) (length r.bytes) r
 
--- the rest behind all of these
+-- the rest after all of these
 abbrev pub behind_all : Rest → List Taken → Rest
 behind_all r [] = r
 behind_all r (t ∷ ts) = behind_all t.rest ts
 
--- Prefixes, from a rest to the one behind them.
+-- Prefixes, from a rest to the one after them.
 
--- of an alert, behind the column of whitespace that belongs to the `>`: the marker of its kind between whitespace
+-- of an alert, after the column of whitespace that belongs to the `>`: the marker of its kind between whitespace
 abbrev pub alert_part : TextLine → Option AlertKind → Rest → Rest → List Event
 alert_part line None r s = []
 alert_part line (Some kind) r s =
@@ -61,7 +61,7 @@ alert_part line (Some kind) r s =
     let after = past (length (marker_of kind)) bracket in
     white line r bracket ++ piece line n.BlockQuoteMarker bracket after ++ white line after s
 
--- of a quote: `>` behind its indent, and the column of whitespace behind that; where it opens as an alert, also the
+-- of a quote: `>` after its indent, and the column of whitespace after that; where it opens as an alert, also the
 -- marker of its kind
 abbrev pub quote_prefix : TextLine → Option AlertKind → Rest → Rest → List Event
 quote_prefix line kind r s =
@@ -74,7 +74,7 @@ quote_prefix line kind r s =
     ++ white line after behind_column
     ++ alert_part line kind behind_column s)
 
--- of an item that opens: the digits and the marker behind its indent, and the whitespace that belongs to it
+-- of an item that opens: the digits and the marker after its indent, and the whitespace that belongs to it
 abbrev pub item_prefix : TextLine → List ℕ → Rest → Rest → List Event
 item_prefix line digits r s =
     let value = behind_indent r in
@@ -84,7 +84,7 @@ item_prefix line digits r s =
     ++ part line n.ListItemPrefix value s
     (piece line n.ListItemValue value marker ++ piece line n.ListItemMarker marker after ++ white line after s)
 
--- of a footnote definition that opens: `[^`, its label, `]:` and the whitespace behind that
+-- of a footnote definition that opens: `[^`, its label, `]:` and the whitespace after that
 abbrev pub footnote_prefix : TextLine → List ℕ → Rest → Rest → List Event
 footnote_prefix line label r s =
     let bracket = behind_indent r in
@@ -102,12 +102,12 @@ footnote_prefix line label r s =
     ++ piece line n.GfmFootnoteDefinitionLabelMarker close colon)
     ++ piece line n.DefinitionMarker colon after ++ white line after s)
 
--- of a container that goes on: that of a quote, and of others the columns that they lose
+-- of a container that continues: that of a quote, and of others the columns that they lose
 abbrev pub further_prefix : TextLine → Container → Rest → Rest → List Event
 further_prefix line (InQuote kind) r s = quote_prefix line None r s
 further_prefix line container r s = white line r s
 
--- of all containers that go on
+-- of all containers that continue
 abbrev pub further_prefixes : TextLine → Rest → List Taken → List Event
 further_prefixes line r [] = []
 further_prefixes line r (t ∷ ts) = further_prefix line t.container r t.rest ++ further_prefixes line t.rest ts
@@ -129,14 +129,14 @@ end_in_item marker End = false
 end_in_item marker (More b End) = is_item marker b
 end_in_item marker (More b (More next bs)) = end_in_item marker (More next bs)
 
--- the blocks in front of the open container that has so many around it
+-- the blocks before the open container that has so many around it
 abbrev pub blocks_before : ℕ → Path → Blocks
 blocks_before depth (At s) = End
 blocks_before zero (Within before container p) = before
 blocks_before (suc depth) (Within before container p) = blocks_before depth p
 
--- Containers that open, where this is open behind the line: an item begins a list, unless one with its marker stands in
--- front of it.
+-- Containers that open, where this is open after the line: an item begins a list, unless one with its marker is before
+-- it.
 abbrev pub begin : TextLine → Path → ℕ → Container → Rest → Rest → List Event
 begin line after depth (InQuote kind) r s = enter n.BlockQuote (place line r) ∷ quote_prefix line kind r s
 begin line after depth (InItem digits marker width starts_blank) r s =

@@ -1,4 +1,4 @@
--- The lines of a body, one by one: what each is where it meets what is open, and which containers end behind it.
+-- The lines of a body, one by one: what each is where it meets what is open, and which containers end after it.
 use Rattle.std.specs.Prelude.{ℕ, suc, Bool, true, false, ◌&&◌, ◌==◌, nat_lt, not, if◌then◌else◌, List, [], ◌∷◌, ◌++◌}
 use Rattle.std.specs.Prelude.{length, drop, Option, Some, None}
 use Rattle.std.specs.Option.{is_some}
@@ -18,7 +18,7 @@ use Rattle.md_exact.specs.Places.{TextLine, line_end, place, whole}
 use Rattle.md_exact.specs.Prefixes.{begins, behind_all, containers, further_prefixes, gone_on, list_name}
 use Rattle.md_exact.specs.Prefixes.{new_containers}
 
--- What a line is, behind the prefixes of its containers.
+-- What a line is, after the prefixes of its containers.
 pub data Role : Type 0 where
   Blank : Role
   -- the first line of a leaf that is no text, and a further line of such a leaf
@@ -31,7 +31,7 @@ pub data Role : Type 0 where
   -- the head of a table, which would be text by itself, and its delimiter row
   Head : Role
   Delimiter : Role
-  -- a blank line behind indented code, which does not belong to it (CommonMark 4.4)
+  -- a blank line after indented code, which does not belong to it (CommonMark 4.4)
   BehindCode : Role
 
 -- A line by what is open.
@@ -55,8 +55,8 @@ role_on options leaf r =
     if is_some (goes_on options leaf r) then Further leaf else if is_blank r.bytes then Blank
     else fresh_role options leaf r
 
--- A line by what the next line is: text is a head in front of a delimiter row, and a blank line in code belongs to it
--- only where a further line does.
+-- A line by what the next line is: text is a head before a delimiter row, and a blank line in code belongs to it only
+-- where a further line does.
 abbrev pub role_before : Role → Rest → Role → Role
 role_before Delimiter r role = Head
 role_before (Further leaf) r role = role
@@ -66,17 +66,17 @@ role_before next r role = role
 -- A line that was read.
 pub record Row : Type 0 where
   pub line : TextLine
-  -- how many of the containers that were open before it are still open behind it, and all that are
+  -- how many of the containers that were open before it are still open after it, and all that are
   pub stays : ℕ
   pub held : List Container
-  -- what its containers have in front of its rest, the rest, and what that is
+  -- what its containers have before its rest, the rest, and what that is
   pub front : List Event
   pub rest : Rest
   pub role : Role
-  -- the ends of the containers that end behind it
+  -- the ends of the containers that end after it
   pub ends : List Event
 
--- Containers that end behind a line, by the lines behind it.
+-- Containers that end after a line, by the lines after it.
 
 -- how many containers stay open on the next line, and what it is; the text ends as at a blank line that closes all
 abbrev pub next_stays : List Row → ℕ
@@ -98,7 +98,7 @@ abbrev pub begin_with_item : ℕ → List Container → Bool
 begin_with_item marker (InItem digits m width starts_blank ∷ cs) = m == marker
 begin_with_item marker cs = false
 
--- whether the next block in the container that has so many around it is an item with this marker: blank lines may stand
+-- whether the next block in the container that has so many around it is an item with this marker: blank lines may be
 -- before it
 abbrev pub list_goes_on : ℕ → ℕ → List Row → Bool
 list_goes_on depth marker [] = false
@@ -113,7 +113,7 @@ container_name (InQuote kind) = n.BlockQuote
 container_name (InItem digits marker width starts_blank) = n.ListItem
 container_name (InFootnote label) = n.GfmFootnoteDefinition
 
--- the end of a list behind its last item
+-- the end of a list after its last item
 abbrev pub list_ends : ℕ → Container → Point → List Row → List Event
 list_ends depth (InItem digits marker width starts_blank) p below =
     if list_goes_on depth marker below then [] else exit (list_name marker) p ∷ []
@@ -127,8 +127,8 @@ ends_from depth (c ∷ cs) p below =
 
 -- The lines.
 
--- a line in front of these, where this is open: a lazy one goes on the paragraph although not all containers go on
--- (CommonMark 5.1), and any other meets the leaf where all go on and none opens
+-- a line before these, where this is open: a lazy one continues the paragraph although not all containers continue
+-- (CommonMark 5.1), and any other meets the leaf where all continue and none opens
 abbrev pub row_of : ParseOptions → Path → TextLine → List Row → Row
 row_of options p line below =
     let on = gone_on options p (whole line) in

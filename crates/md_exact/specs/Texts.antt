@@ -22,7 +22,7 @@ use Rattle.md_exact.specs.Rows.{Role, Row, Underline}
 
 -- Places in a text.
 
--- what is left as lines, without the whitespace in front of each further one
+-- what is left as lines, without the whitespace before each further one
 abbrev pub lines_left : List Row → List (List ℕ)
 lines_left rows = trim_further (map (λ (row : Row). row.rest.bytes) rows)
 
@@ -36,11 +36,11 @@ abbrev pub on_first : (Rest → Rest) → List Row → List Row
 on_first f [] = []
 on_first f (row ∷ rows) = record row { rest = f row.rest } ∷ rows
 
--- where so many rows are left behind one, and so many bytes of that one
+-- where so many rows are left after one, and so many bytes of that one
 abbrev pub ahead : List Row → ℕ → ℕ → List Row
 ahead rows others size = on_first (λ r. past (length r.bytes - size) r) (drop (length rows - (others + 1)) rows)
 
--- where these lines are left, and in front of the last byte of a text that ends here
+-- where these lines are left, and before the last byte of a text that ends here
 abbrev pub left : List Row → List (List ℕ) → List Row
 left rows [] = []
 left rows (bytes ∷ more) = ahead rows (length more) (length bytes)
@@ -56,14 +56,14 @@ abbrev pub mark : Name → List Row → List Event
 mark name [] = []
 mark name (row ∷ rows) = piece row.line name row.rest (past 1 row.rest)
 
--- whitespace, which may go on over line endings
+-- whitespace, which may continue over line endings
 abbrev pub gap : List Row → List Row → List Event
 gap (row ∷ rows) (end ∷ ends) =
     if length rows == length ends then white row.line row.rest end.rest
     else white row.line row.rest (line_end row.line) ++ onto_next (row ∷ rows) ++ gap rows (end ∷ ends)
 gap rows ends = []
 
--- the chunks of a text part: one a line, with its ending where the part goes on behind it, and then the prefixes there
+-- the chunks of a text part: one a line, with its ending where the part continues after it, and then the prefixes there
 abbrev pub chunks : Content → List Row → List Row → List Event
 chunks c (row ∷ rows) (end ∷ ends) =
     if length rows == length ends
@@ -85,7 +85,7 @@ text_span c name rows ends = around_chunks (chunks c rows ends)
 
 -- Definitions (CommonMark 4.7).
 
--- behind the label, the destination and the title that is next, and behind whitespace with at most one ending
+-- after the label, the destination and the title that is next, and after whitespace with at most one ending
 abbrev pub behind_label : List Row → List Row
 behind_label rows = elim (label_at (lines_left rows)) [ Some label ↦ left rows label.rest | None ↦ [] ]
 
@@ -155,7 +155,7 @@ definition rows =
     else [])
     ++ gap end (first_end end))
 
--- at most so many definitions, each behind its indent and with the way to the next line, and what remains of the text
+-- at most so many definitions, each after its indent and with the way to the next line, and what remains of the text
 abbrev pub text_events : (List Row → List Event) → ℕ → List Row → List Event
 text_events remain zero rows = remain rows
 text_events remain (suc n) rows =
@@ -176,7 +176,7 @@ remaining (under ∷ unders) (row ∷ rows) =
     ++ onto_next (end ++ under ∷ [])
     ++ leaf n.HeadingSetextUnderline (runs_line n.HeadingSetextUnderlineSequence) (under ∷ []))
 
--- whether a line underlines the text in front of it
+-- whether a line underlines the text before it
 abbrev pub is_underline : Role → Bool
 is_underline Underline = true
 is_underline role = false

@@ -1,5 +1,5 @@
--- The rows of a leaf of several lines behind its first one: those up to the last that is a pair of its own, which are
--- in the leaf, and the others.
+-- The rows of a leaf of several lines after its first one: those up to the last that is a pair of its own, which are in
+-- the leaf, and the others.
 use Rattle.std.proofs.Common.{◌≡◌, ℕ, Bool, true, false, cond, ◌||◌, List, [], ◌∷◌, ◌++◌, refl, sym, ap, ◌∙◌, subst}
 use Rattle.md_engine.specs.declared.configuration.ParseOptions.{ParseOptions}
 use Rattle.md_frame.specs.LeafName.{LeafName}
@@ -10,7 +10,7 @@ use Rattle.md_registry.proofs.SpanLeaves.{further-is}
 use Rattle.md_rows.proofs.GroupLines.{AreSpan, IsSpanLine, line-further, line-of, span-begins}
 use Rattle.md_exact_lines.proofs.Spans.{EndsFramed, own}
 
--- Each goes on the leaf that the one in front of it has left open, and no container ends between them.
+-- Each continues the leaf that the one before it has left open, and no container ends between them.
 abbrev pub GoOn : LeafName → Row → List Row → Type 0
 GoOn l row [] = Unit {0}
 GoOn l row (next ∷ rows) =
@@ -37,7 +37,7 @@ span-goes options bytes l row (next ∷ rows) same are e =
       span-goes options bytes l next rows same are.8 (ap further_of name ∙ same),
     )
 
--- the rows in front, and those behind the last of them
+-- the rows in front, and those after the last of them
 pub front-goes : (l : LeafName) (row : Row) (rows more : List Row) → GoOn l row (rows ++ more) → GoOn l row rows
 front-goes l row [] more are = tt
 front-goes l row (next ∷ rows) more are = (are.0, are.1, are.2, are.3, front-goes l next rows more are.4)
@@ -47,7 +47,7 @@ pub behind-goes : (l : LeafName) (row : Row) (rows more : List Row) → GoOn l r
 behind-goes l row [] more are = are
 behind-goes l row (next ∷ rows) more are = behind-goes l next rows more are.4
 
--- Those in the leaf and those behind it are all,
+-- Those in the leaf and those after it are all,
 pub inner-outer : (rows : List Row) → inner own rows ++ outer own rows ≡ rows
 inner-outer [] = refl
 inner-outer (row ∷ rows) = go (any_framed own (row ∷ rows)) (inner-outer rows)
@@ -57,7 +57,7 @@ inner-outer (row ∷ rows) = go (any_framed own (row ∷ rows)) (inner-outer row
     go true more = ap (λ (l : List Row). row ∷ l) more
     go false more = refl
 
--- none behind it is a pair of its own,
+-- none after it is a pair of its own,
 pub outer-none : (rows : List Row) → any_framed own (outer own rows) ≡ false
 outer-none [] = refl
 outer-none (row ∷ rows) = go (any_framed own (row ∷ rows)) refl (outer-none rows)

@@ -19,7 +19,7 @@ pub behind-put : (ess : List (List Row)) → AllPut ess → ArePut ess
 behind-put [] put = tt
 behind-put (es ∷ ess) put = (put.1, put.2)
 
--- a group in front of others, where the first lines that are put together are its
+-- a group before others, where the first lines that are put together are its
 group-step : (options : ParseOptions) (bytes : List ℕ) (g : Group) (r : FrameRow) (rs : List FrameRow)
     (More : List (List Row) → Type 0) (events : List Event) (ess : List (List Row)) →
     TakesLines (Fit options bytes) (r ∷ rs) More ess → ArePut ess →

@@ -33,7 +33,7 @@ use Rattle.md_exact_roles.proofs.RowRoles.{behind_code, in_code, is_headed, row_
 use Rattle.md_exact_rows.proofs.Fit.{Fit}
 use Rattle.md_exact_tables.proofs.Tables.{IsTableLine, table-line}
 
--- with other events in front of it
+-- with other events before it
 abbrev pub with_front : List Event → Row → Row
 with_front front x = record x { front = front }
 
@@ -53,7 +53,7 @@ pub line-is : (options : ParseOptions) (bytes : List ℕ) (x : Row) (r : FrameRo
     row_line bytes r ≡ rest_bytes x.rest
 line-is options bytes x r fit = fit.is.text ∙ own-is options bytes x r fit
 
--- a line that goes on a leaf, and a first line, if in front of it stands what the row has there
+-- a line that continues a leaf, and a first line, if before it is what the row has there
 pub further-same : (options : ParseOptions) (bytes : List ℕ) (x : Row) (r : FrameRow) → Fit options bytes x r →
     goes_on x.role ≡ true → SameLine x r
 further-same options bytes x r fit goes =
@@ -150,7 +150,7 @@ text-further options bytes x r fit l e goes at on =
     ∙ on-text fit.open_leaf (leaf l).heads r fit.below
     (ap takes_lazy (sym (fit.met (ap may_go_on on)) ∙ on))
 
--- a line of code that does not go on it stands behind it
+-- a line of code that does not continue it is after it
 alone-code : (open_leaf : Leaf) (r : FrameRow) (below : List FrameRow) → kind_of_leaf open_leaf ≡ held_leaf.Code →
     goes_on (behind_code (further_role open_leaf false) r below) ≡ false →
     behind_code (further_role open_leaf false) r below ≡ BehindCode
@@ -202,7 +202,7 @@ text-role options bytes x r fit e =
     go false true = tt
     go false false = tt
 
--- What stands behind it.
+-- What follows it.
 
 -- it may be the last line of a leaf: it is no blank line within code
 abbrev pub MayEnd : Row → FrameRow → Type 0

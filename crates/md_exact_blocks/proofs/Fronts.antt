@@ -1,4 +1,4 @@
--- What stands in front of the first line of a text is in no event of its leaf, so it may be anything there.
+-- What is before the first line of a text is in no event of its leaf, so it may be anything there.
 use Rattle.std.proofs.Common.{◌≡◌, ℕ, suc, List, [], ◌∷◌, ◌++◌, drop, take, length, refl, ap, ap₂, ◌∙◌}
 use Rattle.std.specs.Prelude.{Option, Some, None}
 use Rattle.md_engine.specs.declared.configuration.ParseOptions.{ParseOptions}
@@ -13,7 +13,7 @@ use Rattle.md_rows.specs.Rows.{behind_cut, cut_at_most, cut_by, further_lines, l
 use Rattle.md_rows.proofs.GroupLines.{AreLines}
 use Rattle.md_rows.proofs.RowFacts.{IsRow}
 
--- with other events in front of it
+-- with other events before it
 abbrev pub row_with : List Event → Row → Row
 row_with front r = record r { front = front }
 

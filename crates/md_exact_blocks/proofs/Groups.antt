@@ -1,4 +1,4 @@
--- The events of a group, and of the groups behind it: that of a leaf on one line, and in general.
+-- The events of a group, and of the groups after it: that of a leaf on one line, and in general.
 use Rattle.std.proofs.Common.{◌≡◌, ℕ, true, false, List, [], ◌∷◌, ◌++◌, refl, sym, ap, ap₂, ◌∙◌, append-nil}
 use Rattle.std.proofs.lemmas.Bool.{and_parts}
 use Rattle.std.specs.Prelude.{◌&&◌, not}
@@ -26,7 +26,7 @@ use Rattle.md_exact_lists.specs.Unlisted.{unlisted_group, without_lists}
 use Rattle.md_exact_rows.proofs.Fit.{Fit}
 use Rattle.md_exact_blocks.proofs.FitLines.{MayEnd, blank-role, first-role, leaf-starts, line-is, read-as, tail-same}
 
--- A group, by what stands behind it and by its leaf.
+-- A group, by what follows it and by its leaf.
 pub group-same : (options : ParseOptions) (bytes : List ℕ) (x : Row) (xs : List Row) (g : Group) →
     Fit options bytes x (first_row g) →
     without_lists (tail (x ∷ xs)) ≡ tail_events (group_ending g) (final_row g) →

@@ -85,7 +85,7 @@ lone-same options bytes l x r xs rs fit pairs are other first events =
     group-same options bytes x xs (LeafLines r rs) fit
     (tails-same options bytes x r xs rs fit pairs (λ e. absurd (other-ends l r rs other first are e))) events
 
--- Code, with the blank lines behind it.
+-- Code, with the blank lines after it.
 
 last-row : (r : FrameRow) (rs more : List FrameRow) → last_row r (rs ++ more) ≡ last_row (last_row r rs) more
 last-row r [] more = refl
@@ -135,7 +135,7 @@ last-fit options bytes x r (y ∷ ys) (next ∷ rs) fit pairs = last-fit options
 last-fit options bytes x r [] (next ∷ rs) fit pairs = absurd pairs
 last-fit options bytes x r (y ∷ ys) [] fit pairs = absurd pairs
 
--- where it stands among the groups
+-- where it is among the groups
 within-false : (rows : List FrameRow) → within_leaf false rows ≡ rows
 within-false [] = refl
 within-false (row ∷ rows) = refl

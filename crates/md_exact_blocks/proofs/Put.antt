@@ -1,5 +1,5 @@
--- How the lines of the exact list are put together: all lines of a group but the first go on the one in front of them,
--- and a line is a head just if a delimiter row is behind it.
+-- How the lines of the exact list are put together: all lines of a group but the first continue the one before them,
+-- and a line is a head just if a delimiter row is after it.
 use Rattle.std.proofs.Common.{◌≡◌, Bool, true, false, cond, List, [], ◌∷◌, refl, ap, sym, ◌∙◌, subst}
 use Rattle.std.specs.Option.{is_some}
 use Rattle.md_engine.specs.declared.configuration.ParseOptions.{ParseOptions}
@@ -15,19 +15,19 @@ use Rattle.md_exact.specs.Rows.{Underline, fresh_role, next_role, role_before, r
 use Rattle.md_exact_lists.proofs.LeafLast.{fresh-cases}
 use Rattle.md_exact_roles.proofs.GroupRuns.{behind_run, grouped-run, run}
 
--- A line in front of one with this role.
+-- A line before one with this role.
 pub record HeadBy (role next : Role) : Type 0 where
   pub head : role ≡ Head → next ≡ Delimiter
   pub delimiter : next ≡ Delimiter → role ≡ Head
 
--- all of some lines, one in front of the other
+-- all of some lines, one before the other
 abbrev pub AreHeads : List Row → Type 0
 AreHeads [] = Unit {0}
 AreHeads (row ∷ rows) = HeadBy row.role (next_role rows) × AreHeads rows
 
 -- Groups.
 
--- all of these go on the line in front of them
+-- all of these continue the line before them
 abbrev pub AllGo : List Row → Type 0
 AllGo [] = Unit {0}
 AllGo (row ∷ rows) = (goes_on row.role ≡ true) × AllGo rows
@@ -36,7 +36,7 @@ abbrev pub IsPut : List Row → Type 0
 IsPut [] = Unit {0}
 IsPut (row ∷ rows) = HeadBy row.role (next_role rows) × AllGo rows
 
--- the first line of a group goes on none
+-- the first line of a group continues none
 abbrev pub Starts : List Row → Type 0
 Starts [] = Unit {0}
 Starts (row ∷ rows) = goes_on row.role ≡ false
@@ -45,7 +45,7 @@ abbrev pub AllPut : List (List Row) → Type 0
 AllPut [] = Unit {0}
 AllPut (rows ∷ groups) = Starts rows × IsPut rows × AllPut groups
 
--- of the lines of a text, whatever the first of them goes on
+-- of the lines of a text, whatever the first of them continues
 abbrev pub ArePut : List (List Row) → Type 0
 ArePut [] = Unit {0}
 ArePut (rows ∷ groups) = IsPut rows × AllPut groups
@@ -60,7 +60,7 @@ all-go (row ∷ rows) = go (goes_on row.role) refl (all-go rows)
     go true e more = (e, more)
     go false e more = tt
 
--- the next line behind a line is the next one of its group, if it goes on
+-- the next line after a line is the next one of its group, if it continues
 run-head : (role : Role) (rows : List Row) → HeadBy role (next_role rows) → HeadBy role (next_role (run rows))
 run-head role [] by = by
 run-head role (row ∷ rows) by = go (goes_on row.role) refl
@@ -72,7 +72,7 @@ run-head role (row ∷ rows) by = go (goes_on row.role) refl
       delimiter = λ h. cc;
     }
 
--- the groups from the first line on that goes on none
+-- the groups from the first line on that continues none
 abbrev FirstStarts : List Row → Type 0
 FirstStarts [] = Unit {0}
 FirstStarts (row ∷ rows) = goes_on row.role ≡ false
@@ -120,7 +120,7 @@ code-by : (next : Role) (lines : List Line) → (next ≡ Delimiter → ⊥) →
 code-by next lines other true = other-by BehindCode next tt other
 code-by next lines other false = other-by (Further (OpenCode lines)) next tt other
 
--- what a line is in front of one that is this
+-- what a line is before one that is this
 by-before : (next : Role) (r : Rest) (role : Role) → NoHead role → HeadBy (role_before next r role) next
 by-before Delimiter r role h = record { head = λ e. refl; delimiter = λ e. refl }
 by-before (Further leaf) r role h = other-by role (Further leaf) h (λ e. cc)

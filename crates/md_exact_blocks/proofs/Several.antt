@@ -1,5 +1,5 @@
 -- Leaves of several lines: what the lines of HTML, of fenced code and math, and of indented code have in them, and what
--- stands behind the last of them.
+-- follows the last of them.
 use Rattle.std.proofs.Common.{◌≡◌, ◌⊎◌, inl, inr, ℕ, zero, suc, ◌≤◌, Bool, true, false, cond, ◌||◌, List, [], ◌∷◌, ◌++◌}
 use Rattle.std.proofs.Common.{refl, sym, ap, ap₂, ◌∙◌, append_assoc, append-nil, arith, map, subst}
 use Rattle.std.specs.Prelude.{◌==◌, nat_le, not, Option, Some, None}
@@ -57,7 +57,7 @@ use Rattle.md_exact_blocks.proofs.FitLines.{MayEnd, code-alone, first-role, firs
 use Rattle.md_exact_blocks.proofs.FitLines.{leaf-behind, leaf-starts, read-as, tail-same, with_front}
 use Rattle.md_exact_blocks.proofs.Put.{AllGo, AllPut}
 
--- What stands in front of the first line is in no leaf.
+-- What is before the first line is in no leaf.
 
 leaf-front : (name : Name) (inside : TextLine → Rest → List Event) (front : List Event) (x : Row) (xs : List Row) →
     leaf_lines name inside (with_front front x ∷ xs) ≡ leaf_lines name inside (x ∷ xs)
@@ -99,7 +99,7 @@ lines-framed options bytes l framed r (y ∷ z ∷ ys) (next ∷ []) pairs are =
 lines-framed options bytes l framed r [] (next ∷ rs) pairs are = absurd pairs
 lines-framed options bytes l framed r (y ∷ ys) [] pairs are = absurd pairs
 
--- Behind the last line.
+-- After the last line.
 
 pub tails-same : (options : ParseOptions) (bytes : List ℕ) (x : Row) (r : FrameRow) (xs : List Row)
     (rs : List FrameRow) →
@@ -210,7 +210,7 @@ opening-some options r h =
     let text : List ℕ = trim_start r.bytes in
     some-least (first_byte text) (run_len (first_byte text) text) (fence-starts options r h).fence.size
 
--- what is open behind a line of a block that this fence has opened: that block, or none
+-- what is open after a line of a block that this fence has opened: that block, or none
 abbrev Left : Opening → HeldLeaf → Type 0
 Left o on = (on ≡ held_of o) ⊎ (on ≡ held_leaf.None)
 
@@ -263,7 +263,7 @@ fence-group options bytes x r xs rs fit kind pairs goes are =
     some : 1 ≤ o.size
     some = opening-some options x.rest (leaf-starts options bytes x r fit Fence kind)
 
--- Indented code: the lines up to the last that has text, and those behind it.
+-- Indented code: the lines up to the last that has text, and those after it.
 
 pub code-lines : (options : ParseOptions) (bytes : List ℕ) (x : Row) (r : FrameRow) (xs : List Row)
     (rs more : List FrameRow) →
@@ -324,7 +324,7 @@ or-parts : (x y : Bool) → (x || y) ≡ false → (x ≡ false) × (y ≡ false
 or-parts true y e = absurd (cc)
 or-parts false y e = (refl, e)
 
--- Blank lines behind it, in front of what is behind them: each is alone.
+-- Blank lines after it, before what is after them: each is alone.
 pub behind-same : (options : ParseOptions) (bytes : List ℕ) (x : Row) (r : FrameRow) (more : List FrameRow)
     (More : List (List Row) → Type 0) (events : List Event) →
     ((ess : List (List Row)) → More ess → AllPut ess → events ≡ unlisted_groups options ess) →

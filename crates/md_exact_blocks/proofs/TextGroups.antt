@@ -1,4 +1,4 @@
--- Groups of lines of text: a paragraph behind its definitions, and what an underline makes of it.
+-- Groups of lines of text: a paragraph after its definitions, and what an underline makes of it.
 use Rattle.std.proofs.Common.{◌≡◌, ℕ, ◌^◌, ◌<◌, suc, Bool, true, false, List, [], ◌∷◌, ◌++◌, length, refl, sym, ap}
 use Rattle.std.proofs.Common.{◌∙◌, subst, arith}
 use Rattle.std.proofs.lemmas.Bool.Decides.{nat_tests}
@@ -203,7 +203,7 @@ lines-same options bytes x r xs rs small fit pairs put are =
 
 -- What an underline makes of it.
 
--- the lines of a text in front of the last one
+-- the lines of a text before the last one
 pub record WithLast (Fit : Row → FrameRow → Type 0) (es : List Row) (rs : List FrameRow)
     (under : FrameRow) : Type 0 where
   pub xs : List Row

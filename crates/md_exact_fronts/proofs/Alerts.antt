@@ -51,7 +51,7 @@ marker-some kind.Important = omega arith
 marker-some kind.Warning = omega arith
 marker-some kind.Caution = omega arith
 
--- The marker of an alert, behind the prefix.
+-- The marker of an alert, after the prefix.
 record HasMarker (options : ParseOptions) (text behind : List ℕ) (line : TextLine) (r : Rest) (cells : List Cell)
     (p : Point) (alert : AlertKind) : Type 0 where
   events : alert_part line (Some alert) r (behind_alert_of alert r) ≡ alert_events options (Some alert) cells p
@@ -235,7 +235,7 @@ pub record HasOpening (options : ParseOptions) (text behind : List ℕ) (line : 
   pub events : quote_prefix line (opening_kind options cells) r t.rest ≡ opening_events options cells p
   pub on : OnLine text behind line t.rest (opening_end options cells p)
 
--- the events in front of the end of the prefix, and those up to it
+-- the events before the end of the prefix, and those up to it
 regrouped : (white_before inside alert end : List Event) (e : Event) →
     white_before ++ (e ∷ ((inside ++ alert) ++ end)) ≡ ((white_before ++ (e ∷ inside)) ++ alert) ++ end
 regrouped white_before inside alert end e =
@@ -266,7 +266,7 @@ opening-same options cell_line text behind line r p stop t is on plain k short e
     Goal : Taken → Type 0
     Goal u = HasOpening options text behind line r cells p u
 
-    -- behind the prefix of any quote
+    -- after the prefix of any quote
     whole : (u : Taken) → quote_taken options None r ≡ Some u →
         HasPrefix options cell_line text behind (past_rest r p) stop cells p u.rest →
         Goal (taken_as u (alert_at options u.rest))

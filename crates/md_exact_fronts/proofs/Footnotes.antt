@@ -116,7 +116,7 @@ footnote-opens cell_line text behind line r p stop passed t is on plain k has = 
     b5 : BehindBytes text behind line colon at_colon (58 ∷ []) more
     b5 = behind-bytes text behind line colon at_colon (58 ∷ []) more b4.on refl b4.bytes_are b4.plain
 
-    -- the rest behind `:` is the one whose whitespace belongs to the prefix
+    -- the rest after `:` is the one whose whitespace belongs to the prefix
     after_is : after ≡ rest has.padded.column more
     after_is =
         ap₂ (λ (c : ℕ) (l : List ℕ). rest c l)

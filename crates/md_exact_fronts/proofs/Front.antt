@@ -46,7 +46,7 @@ use Rattle.md_exact.proofs.WholePlaces.{place-end, place-past, place-whole}
 abbrev rest : ℕ → List ℕ → Rest
 rest column bytes = record { column = column; spaces = 0; bytes = bytes }
 
--- what stands from a rest to the end of the line
+-- what is from a rest to the end of the line
 over-same : (line : TextLine) (name : Name) (column : ℕ) (bytes : List ℕ) (p q : Point) →
     place line (rest column bytes) ≡ p → place line (line_end line) ≡ q →
     piece line name (rest column bytes) (line_end line) ≡ part_over name bytes p q
@@ -126,7 +126,7 @@ fence-same m line fence =
         over-same line n.SpaceOrTab (past 3 (whole line)).column (drop 3 line.bytes) q r (place-past line 3)
         (place-end line)
 
--- The ending of a line, and the point behind it.
+-- The ending of a line, and the point after it.
 
 next-same : (line : TextLine) → next_line line ≡ past_ending line.ending (past_text line.bytes (line_start line))
 next-same line = go line.ending
@@ -198,7 +198,7 @@ front_rest m lines =
     let rows = map front_row lines in
     joined (front_line m) rows ++ exit n.Frontmatter (start (last_end rows)) ∷ tail rows
 
--- one more in front of them
+-- one more before them
 front_rest-more : (m : ℕ) (line next : TextLine) (lines : List TextLine) →
     front_rest m (line ∷ next ∷ lines) ≡
     (front_line m line (whole line) ++ exact.ending n.LineEnding line) ++ front_rest m (next ∷ lines)
@@ -220,7 +220,7 @@ front_rest-more m line next lines =
 abbrev pub begin : ℕ → ℕ → ℕ → Point
 begin number index column = record { line = number; column = column + 1; index = index; vs = 0 }
 
--- behind a line with an ending begins the next one
+-- after a line with an ending begins the next one
 pub begins-next : (number index column : ℕ) (full : List ℕ) → is_end (ending_of full) ≡ false →
     past_ending (ending_of full) (past_text (without_ending full) (begin number index column)) ≡
     begin (number + 1) (index + length full) 0
@@ -251,7 +251,7 @@ begins-next number index column full some =
             let size = length-prefix_len (λ (b : ℕ). not (is_ending b)) l in
             let most = prefix_len-le-length (λ (b : ℕ). not (is_ending b)) l in omega (arith, size, most)
 
--- Lines in front of others that are read: this is what the first one has.
+-- Lines before others that are read: this is what the first one has.
 more-same : (m number index column : ℕ) (full : List ℕ) (ls : List (List ℕ)) (first : List Event) (g : FrontRead) →
     let line = line_at number index column full in
     let q = past_text line.bytes (line_start line) in
@@ -500,7 +500,7 @@ front-by options text column (full ∷ more) is = go options.constructs.frontmat
         }))
         None
 
-    -- of so many lines, one at least behind the first
+    -- of so many lines, one at least after the first
     some : (m : ℕ) (f : FrontRead) → is_front_fence m line.bytes ≡ true →
         lines_read m more (past_ending line.ending q) ≡ Some f →
         (enter n.Frontmatter p ∷ fence_part line.bytes p ++ ending_part line.ending q) ++ f.events ≡
@@ -552,7 +552,7 @@ front-by options text column (full ∷ more) is = go options.constructs.frontmat
     go true = by (front_marker line.bytes) refl
     go false = refl
 
--- So the events in front of the body are those of the mark and of the first lines.
+-- So the events before the body are those of the mark and of the first lines.
 pub front-same : (options : ParseOptions) (text : List ℕ) →
     rooms.front_events options text ≡
     exact_blocks.mark_events text

@@ -1,4 +1,4 @@
--- Where the body of a text begins: at its first line behind the frontmatter, or where the text ends with that.
+-- Where the body of a text begins: at its first line after the frontmatter, or where the text ends with that.
 use Rattle.std.proofs.Common.{◌≡◌, ℕ, suc, ◌+◌, Bool, true, false, cond, List, [], ◌∷◌, ◌++◌, length, map, drop, refl}
 use Rattle.std.proofs.Common.{sym, ap, ◌∙◌, subst}
 use Rattle.std.specs.Prelude.{Option, Some, None}
@@ -34,7 +34,7 @@ abbrev point_of : Point → Option FrontRead → Point
 point_of other None = other
 point_of other (Some f) = f.point
 
--- behind a line the next one begins, if it has an ending
+-- after a line the next one begins, if it has an ending
 behind-line : (number index column : ℕ) (full : List ℕ) (more : List (List ℕ)) →
     Body (past_ending (ending_of full) (past_text (without_ending full) (begin number index column)))
     (cond (is_end (ending_of full)) [] (lines_from (number + 1) (index + length full) 0 more))
@@ -48,7 +48,7 @@ behind-line number index column full more = go (is_end (ending_of full)) refl
         subst (λ (q : Point). Body q (lines_from (number + 1) (index + length full) 0 more))
         (sym (begins-next number index column full e)) (Goes (number + 1) (index + length full) 0 more)
 
--- behind lines that are read the body begins
+-- after lines that are read the body begins
 abbrev BodyBehind : ℕ → List (List ℕ) → List TextLine → FrontRead → Type 0
 BodyBehind m fulls lines f = Body f.point (drop (upto (is_front_fence m) (map without_ending fulls)) lines)
 
@@ -182,7 +182,7 @@ body-by options text column (full ∷ more) is = go options.constructs.frontmatt
     go true = by (front_marker line.bytes)
     go false = Goes 1 column column (full ∷ more)
 
--- The lines behind the front of a text begin where its body does.
+-- The lines after the front of a text begin where its body does.
 pub front-body : (options : ParseOptions) (text : List ℕ) →
     Body (body_point options text) (drop (front_size options text) (text_lines text))
 unfolding text_front

@@ -1,4 +1,4 @@
--- What items and footnote definitions that go on take of a line: its events are those of its cells.
+-- What items and footnote definitions that continue take of a line: its events are those of its cells.
 use Rattle.std.proofs.Common.{◌≡◌, ℕ, ◌≤◌, Bool, true, false, cond, not, ◌||◌, List, [], ◌∷◌, ◌++◌, refl, sym, ap, ◌∙◌}
 use Rattle.std.proofs.Common.{subst, arith}
 use Rattle.std.specs.Prelude.{Option, Some, None, nat_le}
@@ -30,7 +30,7 @@ pub record HasFurther (text behind : List ℕ) (line : TextLine) (r : Rest) (pas
     pub events : white line r left ≡ passed.events
     pub on : OnLine text behind line left passed.point
 
--- it ends behind the columns that it loses, also where nothing is left to lose
+-- it ends after the columns that it loses, also where nothing is left to lose
 further-point : (digits : List ℕ) (marker width : ℕ) (blank : Bool) (cells : List Cell) (p : Point)
     (passed : ItemPassed) →
     item_further digits marker width blank cells p ≡ Some passed → passed.point ≡ white_end width cells p
@@ -93,7 +93,7 @@ abbrev taken_rest : Taken → Option Taken → Rest
 taken_rest t None = t.rest
 taken_rest t (Some u) = u.rest
 
--- An item goes on with the events of its cells,
+-- An item continues with the events of its cells,
 pub item-same : (digits : List ℕ) (marker width : ℕ) (blank : Bool) → 1 ≤ width → (cell_line : Line)
     (text behind : List ℕ) (line : TextLine) (r : Rest) (p : Point) (stop : List Cell) (passed : ItemPassed)
     (t : Taken) →

@@ -31,7 +31,7 @@ use Rattle.md_exact.proofs.PieceLemmas.{part-on, piece-on, white-on}
 abbrev pub rest : ℕ → List ℕ → Rest
 rest column bytes = record { column = column; spaces = 0; bytes = bytes }
 
--- Behind the indent of a rest: where that is, and that its bytes are those of the text there.
+-- After the indent of a rest: where that is, and that its bytes are those of the text there.
 pub record BehindIndent (text behind : List ℕ) (line : TextLine) (r : Rest) (p v : Point) (bytes : List ℕ) : Type 0
   where
     pub on : OnLine text behind line (behind_indent r) v
@@ -78,7 +78,7 @@ behind-indent cell_line text behind line r p v stop bytes is on plain k at text_
         append_cancel_right m.bytes bytes behind
         (sym (ap (λ (s : ℕ). cut_tab s ++ m.bytes ++ behind) spaces) ∙ sym on_v.stands.text_is ∙ text_is)
 
--- Behind so many bytes of a rest where no tab is cut.
+-- After so many bytes of a rest where no tab is cut.
 pub record BehindBytes (text behind : List ℕ) (line : TextLine) (r : Rest) (p : Point) (front more : List ℕ) : Type 0
   where
     pub on : OnLine text behind line (past (length front) r) (past_text front p)
@@ -97,7 +97,7 @@ behind-bytes text behind line r p front more on none are plain = record {
   plain = subst NoEnding (drop-append_seam front more) (no_ending-drop (length front) (front ++ more) plain);
 }
 
--- a piece over some bytes stands
+-- a piece over some bytes is
 pub over-some : (p : Point) (b : ℕ) (bytes : List ℕ) → same_place p (past_text (b ∷ bytes) p) ≡ false
 over-some p b bytes =
     let index = past-index (b ∷ bytes) p in
@@ -188,7 +188,7 @@ item-opens cell_line text behind line r p stop passed t is on plain k has = reco
     marked =
         behind-bytes text behind line marker at_marker (byte ∷ []) more valued.on refl valued.bytes_are valued.plain
 
-    -- the rest behind the marker is the one that is padded
+    -- the rest after the marker is the one that is padded
     after_is : after ≡ rest has.padded.column more
     after_is =
         ap₂ (λ (c : ℕ) (l : List ℕ). rest c l)

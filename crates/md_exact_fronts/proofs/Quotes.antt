@@ -94,7 +94,7 @@ one-column cell_line text behind r p stop at k = go (indent r) refl
 
 -- Where the `>` is the next byte.
 
--- what stands of a prefix there, up to its end
+-- what is of a prefix there, up to its end
 record FromMarker (text behind : List ℕ) (line : TextLine) (m : Rest) (cells : List Cell) (p : Point) : Type 0 where
   marker : piece line n.BlockQuoteMarker m (past 1 m) ++ white line (past 1 m) (lose 1 (past 1 m)) ≡
       pair n.BlockQuoteMarker p (past_byte 62 p) ++ pair_unless_empty n.SpaceOrTab (past_byte 62 p) (marker_end cells p)
@@ -263,7 +263,7 @@ has-front options kind cell_line text behind line r p stop t is on plain k short
             marked true h g =
                 done (fits e) bytes (same ∙ ap (λ (c : ℕ). rest m.column 0 (c ∷ bytes)) (eqb-true b 62 h)) g
 
--- A quote goes on with the events of its prefix.
+-- A quote continues with the events of its prefix.
 pub quote-same : (options : ParseOptions) (kind : Option AlertKind) (cell_line : Line) (text behind : List ℕ)
     (line : TextLine) (r : Rest) (p : Point) (stop : List Cell) (t : Taken) →
     LineIn text behind line → OnLine text behind line r p → NoEnding r.bytes → Stops stop →

@@ -58,7 +58,7 @@ use Rattle.md_exact_texts.proofs.Strands.{NextOn, next-on}
 
 -- The same lines.
 
--- a line of a text stands where its row does
+-- a line of a text is where its row does
 pub record IsAt (text : List ℕ) (x : Row) (r : FrameRow) : Type 0 where
   pub behind : List ℕ
   pub line_in : LineIn text behind x.line
@@ -128,7 +128,7 @@ some-ending x r q line after = go (is_end x.line.ending) refl
         cc
     go false e = refl
 
--- So these lines stand where the cells of the rows do.
+-- So these lines are where the cells of the rows do.
 along-are : (options : ParseOptions) (text : List ℕ) (x : Row) (xs : List Row) (r : FrameRow) (rs : List FrameRow) →
     (h : AreLines options text r rs) → AreAt text x xs r rs → AreTexts x xs r rs →
     Along text (x ∷ xs) r.first (lines_are options text r rs h) (turns_of options text r rs)
@@ -172,7 +172,7 @@ along-are options text x (y ∷ ys) r (next ∷ rs) h here are =
 along-are options text x [] r (next ∷ rs) h here are = absurd are
 along-are options text x (y ∷ ys) r [] h here are = absurd are
 
--- behind the first of them stand as many as there are turns
+-- after the first of them are as many as there are turns
 along-length : (text : List ℕ) (x : Row) (xs : List Row) (p : Point) (cells : List Cell) (turns : List Turn) →
     Along text (x ∷ xs) p cells turns → length xs ≡ length turns
 along-length text x [] p cells turns h = sym (ap (λ (l : List Turn). length l) h.behind.1)
@@ -189,7 +189,7 @@ turns-length options text r (next ∷ rs) = let more = turns-length options text
 
 -- The lines of a definition.
 
--- what holds of lines holds of those behind so many
+-- what holds of lines holds of those after so many
 abbrev pub Relation : Type 1
 Relation = Row → List Row → FrameRow → List FrameRow → Type 0
 
@@ -222,11 +222,11 @@ Same options text Agree before more =
     (x : Row) (xs : List Row) (r : FrameRow) (rs : List FrameRow) → Stands options text Agree x xs r rs →
     before (x ∷ xs) ≡ more r rs
 
--- Behind a definition: nothing, or the ending of its line and the other lines.
+-- After a definition: nothing, or the ending of its line and the other lines.
 module _ (options : ParseOptions) (text : List ℕ) (Agree : Relation) (kept : IsKept Agree)
     (before : List Row → List Event) (none : before [] ≡ []) (more : FrameRow → List FrameRow → List Event)
     (same : Same options text Agree before more) where
-  -- the lines behind its last line, by the cells and turns behind it
+  -- the lines after its last line, by the cells and turns after it
   behind-step : (last : Point) (d : DefinitionParts) (x : Row) (passed : List Row) (end : Row) (others : List Row)
       (size : ℕ) (left : List Turn) (r : FrameRow) (own below : List FrameRow) →
       Walk text last (definition_end d) (definition_rest d) left →
@@ -322,7 +322,7 @@ module _ (options : ParseOptions) (text : List ℕ) (Agree : Relation) (kept : I
               ∙ ap₂ (λ (p q : Point). pair n.LineEnding p q) (at_end ∙ ends) after
               ∙ sym (ending-is n.LineEnding f split.3 split.4)) front
 
-  -- a definition in front of lines
+  -- a definition before lines
   definition-step : length text < 2 ^ 61 → (x : Row) (xs : List Row) (r : FrameRow) (rs : List FrameRow)
       (d : DefinitionParts) →
       Stands options text Agree x xs r rs → definition_parts (lines_cells options text r rs) ≡ Some d →

@@ -1,4 +1,4 @@
--- What remains of a text behind its definitions: a paragraph, or what an underline turns it into.
+-- What remains of a text after its definitions: a paragraph, or what an underline turns it into.
 use Rattle.std.proofs.Common.{◌≡◌, false, List, [], ◌∷◌, ◌++◌, sym, ap, ap₂, append_assoc, ◌∙◌}
 use Rattle.md_engine.specs.declared.event.Content.TheVariants.{Text}
 use Rattle.md_engine.specs.declared.event.Event.{Event}

@@ -1,4 +1,4 @@
--- What stands behind a leaf: the ends of containers behind its last line, and the ending of that.
+-- What follows a leaf: the ends of containers after its last line, and the ending of that.
 use Rattle.std.proofs.Common.{◌≡◌, ◌||◌, List, [], ◌∷◌, refl, if◌then◌else◌}
 use Rattle.md_engine.specs.declared.event.Name.{Name}
 use Rattle.md_engine.specs.declared.event.Name.TheVariants as n
@@ -7,7 +7,7 @@ use Rattle.md_exact.specs.Blocks.{tail}
 use Rattle.md_exact.specs.Rows.{Row, is_blank_role}
 use Rattle.md_exact_lines.proofs.TextLines.{last_of}
 
--- the ending of a line behind which a leaf ends
+-- the ending of a line after which a leaf ends
 abbrev pub last_ending : Row → Name
 last_ending x = if is_blank_role x.role || is_end x.line.bytes then n.BlankLineEnding else n.LineEnding
 

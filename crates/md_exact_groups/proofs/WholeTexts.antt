@@ -1,4 +1,4 @@
--- A text as a whole, as the exact list has it: definitions, and a paragraph or a heading behind them.
+-- A text as a whole, as the exact list has it: definitions, and a paragraph or a heading after them.
 use Rattle.std.proofs.Common.{◌≡◌, ℕ, ◌^◌, ◌<◌, Bool, true, false, List, [], ◌∷◌, ◌++◌, length, drop, refl, sym, ap}
 use Rattle.std.proofs.Common.{◌∙◌, append-nil}
 use Rattle.std.specs.List.{before_first}
@@ -17,7 +17,7 @@ use Rattle.md_exact_lines.proofs.Spans.{SameLine}
 use Rattle.md_exact_groups.proofs.CutTexts.{AreAt, IsKept, most, texts-cut}
 use Rattle.md_exact_groups.proofs.Remaining.{IsText, heading-is, paragraph-is}
 
--- What remains behind definitions.
+-- What remains after definitions.
 
 text-kept : IsKept IsText
 text-kept x y ys r next rs is = record { are = is.are.2; some = is.some }
@@ -38,12 +38,12 @@ heading-cut options text small x xs u us r rs under lines here is line inside =
     texts-cut options text small (remaining (u ∷ us)) (heading_unread under) IsText text-kept refl
     (λ y ys s ss own. heading-is y ys u us s ss under own line inside) x xs r rs lines here is.are is
 
--- The lines in front of an underline.
+-- The lines before an underline.
 
 abbrev underlines : Row → Bool
 underlines row = is_underline row.role
 
--- none of these underlines what stands in front of it
+-- none of these underlines what is before it
 abbrev pub NoUnderline : List Row → Type 0
 NoUnderline [] = Unit {0}
 NoUnderline (x ∷ xs) = (is_underline x.role ≡ false) × NoUnderline xs

@@ -1,5 +1,5 @@
--- Where a rest of a line begins, by the bytes in front of it: its place is that point, and so is what stands behind
--- more bytes of it.
+-- Where a rest of a line begins, by the bytes before it: its place is that point, and so is what follows more bytes of
+-- it.
 use Rattle.std.proofs.Common.{◌≡◌, ℕ, zero, suc, ◌+◌, ◌-◌, ◌%◌, ◌<◌, Bool, false, cond, List, [], ◌∷◌, ◌++◌, length}
 use Rattle.std.proofs.Common.{take, drop, refl, sym, ap, ◌∙◌, subst, append_assoc, append-nil, length-append, arith}
 use Rattle.std.specs.Prelude.{◌==◌}
@@ -12,7 +12,7 @@ use Rattle.md_seam.proofs.RestCells.{Cut}
 use Rattle.md_exact.proofs.PlaceLemmas.{before}
 use Rattle.md_exact.specs.Places.{TextLine, line_end, past, place}
 
--- the rest of a line as it stands in the text, and one without a cut tab
+-- the rest of a line as it is in the text, and one without a cut tab
 abbrev pub rest_bytes : Rest → List ℕ
 rest_bytes r = cut_tab r.spaces ++ r.bytes
 
@@ -73,14 +73,14 @@ begins-place line r p is =
         ∙ ap (λ (n : ℕ). point p.line p.column n v) (sym is.index)
         ∙ ap (λ (n : ℕ). point p.line p.column p.index n) e
 
--- Behind more of it.
+-- After more of it.
 
 pub columns-snoc : (column b : ℕ) (bytes : List ℕ) →
     columns_from column (bytes ++ b ∷ []) ≡ column_past b (columns_from column bytes)
 columns-snoc column b [] = refl
 columns-snoc column b (c ∷ bytes) = columns-snoc (column_past c column) b bytes
 
--- behind a byte
+-- after a byte
 begins-byte : (line : TextLine) (c b : ℕ) (bytes : List ℕ) (p : Point) → BeginsAt line (rest_at c (b ∷ bytes)) p →
     BeginsAt line (rest_at (column_past b c) bytes) (past_byte b p)
 begins-byte line c b bytes p is =
@@ -104,14 +104,14 @@ begins-byte line c b bytes p is =
     plus : (n : ℕ) → n + 1 ≡ n + 0 + 1
     plus n = omega arith
 
--- behind some bytes
+-- after some bytes
 pub begins-bytes : (line : TextLine) (c : ℕ) (xs ys : List ℕ) (p : Point) → BeginsAt line (rest_at c (xs ++ ys)) p →
     BeginsAt line (rest_at (columns_from c xs) ys) (past_text xs p)
 begins-bytes line c [] ys p is = is
 begins-bytes line c (b ∷ xs) ys p is =
     begins-bytes line (column_past b c) xs ys (past_byte b p) (begins-byte line c b (xs ++ ys) p is)
 
--- behind what is left of a cut tab
+-- after what is left of a cut tab
 pub begins-cut : (line : TextLine) (r : Rest) (p : Point) → BeginsAt line r p →
     BeginsAt line (rest_at (r.column + r.spaces) r.bytes) (past_text (cut_tab r.spaces) p)
 begins-cut line r p is = go r.spaces is.bytes_are is.cut
@@ -152,7 +152,7 @@ begins-cut line r p is = go r.spaces is.bytes_are is.cut
             (column - 1) + (4 - (column - 1) % 4) + 1 ≡ before + (4 - before % 4) + 0 + 1
         stop before column vs e f = omega arith
 
--- behind so many bytes
+-- after so many bytes
 pub begins-past : (line : TextLine) (r : Rest) (p : Point) (n : ℕ) → BeginsAt line r p →
     BeginsAt line (past n r) (past_text (take n r.bytes) (past_text (cut_tab r.spaces) p))
 begins-past line r p n is =
@@ -160,7 +160,7 @@ begins-past line r p n is =
     (subst (λ (l : List ℕ). BeginsAt line (rest_at (r.column + r.spaces) l) (past_text (cut_tab r.spaces) p))
     (sym (take-append-drop n r.bytes)) (begins-cut line r p is))
 
--- behind all of it the line ends
+-- after all of it the line ends
 pub begins-end : (line : TextLine) (r : Rest) (p : Point) → BeginsAt line r p →
     BeginsAt line (line_end line) (past_text r.bytes (past_text (cut_tab r.spaces) p))
 begins-end line r p is =

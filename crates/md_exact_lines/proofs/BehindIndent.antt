@@ -1,4 +1,4 @@
--- The indent of a rest of a line is the whitespace that comes first, and so is what is behind it.
+-- The indent of a rest of a line is the whitespace that comes first, and so is what is after it.
 use Rattle.std.proofs.Common.{◌≡◌, ℕ, zero, suc, ◌+◌, ◌-◌, Bool, true, false, cond, ◌||◌, List, [], ◌∷◌, take, drop}
 use Rattle.std.proofs.Common.{refl, sym, ap, ◌∙◌, arith}
 use Rattle.std.specs.Prelude.{◌==◌}
@@ -24,7 +24,7 @@ lose-spaces (suc n) more all column bytes e =
     ∙ lose-spaces n more (n + more) (column + 1) bytes refl
     ∙ ap (λ (c : ℕ). lose more (rest_at c bytes)) (omega arith)
 
--- behind the whitespace at the front of some bytes
+-- after the whitespace at the front of some bytes
 abbrev behind_white : ℕ → List ℕ → Rest
 behind_white column bytes =
     rest_at (columns_from column (take (prefix_len is_white bytes) bytes)) (drop (prefix_len is_white bytes) bytes)
@@ -89,7 +89,7 @@ lose-white column (b ∷ bytes) = by (λ c. lose-white c bytes) (b == 9) refl (b
         ∙ ap (λ (n : ℕ). rest_at (columns_from column (take n (b ∷ bytes))) (drop n (b ∷ bytes)))
         (sym (count-none is_white b bytes (rw (e, f) refl)))
 
--- Behind its indent a rest stands behind its whitespace.
+-- After its indent a rest is after its whitespace.
 pub indent-past : (r : Rest) → behind_indent r ≡ past (prefix_len is_white r.bytes) r
 indent-past r =
     lose-spaces r.spaces (white_columns (r.column + r.spaces) r.bytes) (indent r) r.column r.bytes refl

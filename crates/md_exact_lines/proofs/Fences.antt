@@ -65,11 +65,11 @@ text-linked : (name : Name) (bytes : List ℕ) (p : Point) →
 text-linked name [] p = refl
 text-linked name (b ∷ bytes) p = refl
 
--- the first word, and what is behind it
+-- the first word, and what is after it
 word-take : (text : List ℕ) → take (length (first_word text)) text ≡ first_word text
 word-take text = ap (λ (k : ℕ). take k text) (length-prefix_len (λ (b : ℕ). not (is_white b)) text)
 
--- What stands behind the run of an opening fence: as words,
+-- What follows the run of an opening fence: as words,
 word-parts : (m : ℕ) (line : TextLine) (t : Rest) (text : List ℕ) (p : Point) → Stands line text p t →
     (m == 36) ≡ false →
     let behind : Rest = past (length (first_word t.bytes)) t in
@@ -156,7 +156,7 @@ info-parts m line r bytes p is =
         (past_white bytes p)) (sym e)
     go false e = word-parts m line text (trim_start bytes) (past_white bytes p) at e
 
--- a fence from its first marker on, where what stands behind its run is known
+-- a fence from its first marker on, where what follows its run is known
 fence-around : (m : ℕ) (line : TextLine) (r : Rest) (bytes : List ℕ) (p : Point) (inside : Rest → List Event)
     (es : List Event) →
     Stands line bytes p r → 1 ≤ run_len m bytes →
@@ -196,7 +196,7 @@ fence-around m line r bytes p inside es is some known =
         go [] (suc k) some le = absurd (omega (arith, le))
         go (b ∷ bytes) (suc k) some le = refl
 
--- The opening line behind its indent, with this marker.
+-- The opening line after its indent, with this marker.
 pub opening-fence : (m : ℕ) (line : TextLine) (r : Rest) (p : Point) → BeginsAt line r p →
     let text : List ℕ = trim_start (rest_bytes r) in
     let q : Point = past_white (rest_bytes r) p in
@@ -281,7 +281,7 @@ closing-part m line r p at some =
         sym (past_text-append (take size text) (drop size text) q)
         ∙ ap (λ (l : List ℕ). past_text l q) (take-append-drop size text) ∙ end
 
--- A further line behind an opening fence.
+-- A further line after an opening fence.
 pub further-line : (options : ParseOptions) (o : Opening) (line : TextLine) (r : Rest) (p : Point) →
     BeginsAt line r p → 1 ≤ o.size →
     fenced_line options o line r ≡ further_parts options (held_of o) r p (past_text (rest_bytes r) p)

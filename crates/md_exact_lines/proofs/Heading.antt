@@ -1,4 +1,4 @@
--- The line of an ATX heading (CommonMark 4.2): what stands in it is the parts of the heading on that line.
+-- The line of an ATX heading (CommonMark 4.2): what is in it is the parts of the heading on that line.
 use Rattle.std.proofs.Common.{◌≡◌, ℕ, suc, ◌+◌, Bool, false, cond, List, [], ◌∷◌, ◌++◌, length, take, drop, refl, sym}
 use Rattle.std.proofs.Common.{ap, ap₂, ◌∙◌, append_assoc, Some, None, take-add, arith}
 use Rattle.std.specs.Prelude.{◌==◌}

@@ -63,7 +63,7 @@ pub ends-at : (line : TextLine) (r : Rest) (p : Point) → BeginsAt line r p →
 ends-at line r p at =
     begins-place line (line_end line) (end_at r p) (end-behind line r p (rest_bytes r) at refl).stands.at
 
--- a leaf on a line is what stands in it, from its begin to the end of the line
+-- a leaf on a line is what is in it, from its begin to the end of the line
 pub leaf-one : (name : Name) (inside : TextLine → Rest → List Event) (row : Row) (p : Point) →
     BeginsAt row.line row.rest p →
     leaf name inside (row ∷ []) ≡ around name p (end_at row.rest p) (inside row.line row.rest)
@@ -96,7 +96,7 @@ pass-marks f m (b ∷ bytes) more h =
     and_from (is_mark m b) (list_all (is_mark m) bytes) (more b (pass-first f b bytes h))
     (pass-marks f m bytes more (pass-rest f b bytes h))
 
--- the bytes behind the whitespace of a rest, with a tab that is cut or without
+-- the bytes after the whitespace of a rest, with a tab that is cut or without
 trim-cut : (r : Rest) → trim_start (rest_bytes r) ≡ trim_start r.bytes
 trim-cut r = go r.spaces
   where
@@ -223,7 +223,7 @@ code-further row p at =
     inside : List Event
     inside = content_line n.CodeFlowChunk 4 row.line row.rest
 
--- behind code its chunks are whitespace
+-- after code its chunks are whitespace
 pub code-behind : (row : Row) (p : Point) → BeginsAt row.line row.rest p →
     map (renamed Outside) (content_line n.CodeFlowChunk 4 row.line row.rest) ≡
     content_line n.SpaceOrTab 4 row.line row.rest

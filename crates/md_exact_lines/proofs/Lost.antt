@@ -22,12 +22,12 @@ use Rattle.md_exact_lines.proofs.Parts.{end-behind, piece-end}
 abbrev rest : ℕ → ℕ → List ℕ → Rest
 rest column spaces bytes = record { column = column; spaces = spaces; bytes = bytes }
 
--- A column further: within a tab, and behind a byte.
+-- A column further: within a tab, and after a byte.
 
 abbrev Next : TextLine → Rest → Point → Type 0
 Next line r p = BeginsAt line (without_first r) (next_point (without_first r) p)
 
--- behind the last column of a byte
+-- after the last column of a byte
 behind_byte : (line : TextLine) (column spaces b : ℕ) (more bytes : List ℕ) (p : Point) →
     (is : BeginsAt line (rest column spaces more) p) → cut_tab spaces ++ more ≡ b ∷ bytes →
     columns_from line.column (is.front ++ b ∷ []) ≡ p.column →
@@ -45,7 +45,7 @@ behind_byte line column spaces b more bytes p is e columns =
       within = omega arith;
     }
 
--- within a tab of which so many columns are left behind that
+-- within a tab of which so many columns are left after that
 within_tab : (line : TextLine) (column spaces n : ℕ) (more bytes : List ℕ) (p : Point) →
     (is : BeginsAt line (rest column spaces more) p) → cut_tab spaces ++ more ≡ 9 ∷ bytes → suc n ≡ columns_more p →
     BeginsAt line (rest (column + 1) (suc n) bytes) (record p { column = p.column + 1; vs = p.vs + 1 })
@@ -65,7 +65,7 @@ within_tab line column spaces n more bytes p is e left =
         suc n ≡ 3 - (column + 3) % 4 → vs + 1 < 4 - before % 4
     inside before column vs e f g = omega arith
 
--- the last column of a tab is in front of its stop
+-- the last column of a tab is before its stop
 tab-stops : (line : TextLine) (r : Rest) (p : Point) → (is : BeginsAt line r p) → columns_more p ≡ 0 →
     columns_from line.column (is.front ++ 9 ∷ []) ≡ p.column
 tab-stops line r p is none =
@@ -129,7 +129,7 @@ begins-column line r p = go r.column r.spaces r.bytes
         by false e false f =
             let none : white_columns (column + 0) (b ∷ bytes) ≡ 0 = rw (e, f) refl in absurd (omega (arith, some, none))
 
--- Behind so many columns, or as many as there are.
+-- After so many columns, or as many as there are.
 
 lose-none : (n : ℕ) (r : Rest) → indent r ≡ 0 → lose n r ≡ r
 lose-none zero r e = refl

@@ -1,4 +1,4 @@
--- A rest that stands at a point of the text begins there by the bytes of its line, and is what is read there.
+-- A rest that is at a point of the text begins there by the bytes of its line, and is what is read there.
 use Rattle.std.proofs.Common.{◌≡◌, ℕ, ◌+◌, ◌-◌, ◌<◌, ◌≤◌, Bool, true, false, ◌&&◌, ◌||◌, List, [], ◌++◌, length, take}
 use Rattle.std.proofs.Common.{drop, refl, sym, ap, ◌∙◌, append-nil, arith}
 use Rattle.std.specs.Prelude.{◌==◌, nat_lt, replicate}

@@ -56,7 +56,7 @@ pub record Stands (line : TextLine) (bytes : List ℕ) (p : Point) (r : Rest) : 
   pub whole : r.spaces ≡ 0
   pub bytes_are : r.bytes ≡ bytes
 
--- a rest stands behind some bytes of another
+-- a rest is after some bytes of another
 pub record IsBehind (line : TextLine) (r : Rest) (xs ys : List ℕ) (p : Point) (s : Rest) : Type 0 where
   pub stands : Stands line ys (past_text xs p) s
   pub fewer : length s.bytes ≤ length r.bytes
@@ -84,7 +84,7 @@ append-cut : (spaces n : ℕ) (bytes : List ℕ) →
 append-cut zero n bytes = take-append-drop n bytes
 append-cut (suc k) n bytes = ap (λ (l : List ℕ). 9 ∷ l) (take-append-drop n bytes)
 
--- behind whitespace
+-- after whitespace
 pub white-behind : (line : TextLine) (r : Rest) (p : Point) (xs ys : List ℕ) → BeginsAt line r p →
     rest_bytes r ≡ xs ++ ys → AllPass is_white xs → begins is_white ys ≡ false →
     IsBehind line r xs ys p (behind_indent r)
@@ -96,7 +96,7 @@ white-behind line r p xs ys at e white none =
     subst (IsBehind line r xs ys p) (sym (indent-past r))
     (past-behind line r p n xs ys at same.front_is same.back_is)
 
--- behind a run
+-- after a run
 pub run-behind : (f : ℕ → Bool) (line : TextLine) (r : Rest) (p : Point) (xs ys : List ℕ) →
     Stands line (xs ++ ys) p r → AllPass f xs → begins f ys ≡ false →
     IsBehind line r xs ys p (past (prefix_len f r.bytes) r)
@@ -130,7 +130,7 @@ stands-bytes line bytes p r is = ap (λ (k : ℕ). cut_tab k ++ r.bytes) is.whol
 
 -- The bytes between, by what they are of those that are left.
 
--- behind all whitespace
+-- after all whitespace
 pub white-front : (line : TextLine) (r : Rest) (p : Point) (bytes : List ℕ) → BeginsAt line r p →
     rest_bytes r ≡ bytes → let w : ℕ = prefix_len is_white bytes in
     IsBehind line r (take w bytes) (drop w bytes) p (behind_indent r)
@@ -139,7 +139,7 @@ white-front line r p bytes at e =
     white-behind line r p (take w bytes) (drop w bytes) at (e ∙ sym (take-append-drop w bytes))
     (front-passes is_white bytes) (front-stops is_white bytes)
 
--- behind so many bytes
+-- after so many bytes
 pub taken-front : (line : TextLine) (r : Rest) (p : Point) (n : ℕ) (bytes : List ℕ) → Stands line bytes p r →
     IsBehind line r (take n bytes) (drop n bytes) p (past n r)
 taken-front line r p n bytes is =
@@ -147,7 +147,7 @@ taken-front line r p n bytes is =
     (ap (λ (k : ℕ). cut_tab k ++ take n r.bytes) is.whole ∙ ap (take n) is.bytes_are)
     (ap (drop n) is.bytes_are)
 
--- behind a run
+-- after a run
 pub run-front : (f : ℕ → Bool) (line : TextLine) (r : Rest) (p : Point) (bytes : List ℕ) → Stands line bytes p r →
     let k : ℕ = prefix_len f bytes in
     IsBehind line r (take k bytes) (drop k bytes) p (past (prefix_len f r.bytes) r)
@@ -158,7 +158,7 @@ run-front f line r p bytes is =
 
 -- Parts.
 
--- two rests begin at one point where nothing stands between them
+-- two rests begin at one point where nothing is between them
 pub same-end : (line : TextLine) (r s : Rest) (p : Point) (xs ys : List ℕ) → rest_bytes r ≡ xs ++ ys →
     IsBehind line r xs ys p s → is_same r s ≡ is_end xs
 same-end line r s p xs ys e behind = go r.spaces xs e
@@ -235,6 +235,6 @@ text-end line kind name r p xs is =
     (subst (λ (l : List ℕ). Stands line l p r) (sym (append-nil xs)) is)
     (end-behind line r p xs is.at (stands-bytes line xs p r is))
 
--- three groups of events, one behind the other
+-- three groups of events, one after the other
 pub three-joined : {a b c i j k : List Event} → i ≡ a → j ≡ b → k ≡ c → (i ++ j) ++ k ≡ a ++ (b ++ c)
 three-joined {a} {b} {c} first second third = rw (first, second, third) (append_assoc a b c)

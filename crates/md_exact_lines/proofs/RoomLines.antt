@@ -33,7 +33,7 @@ use Rattle.md_exact_lines.proofs.Lost.{line-lost}
 use Rattle.md_exact_lines.proofs.Parts.{white-front}
 use Rattle.md_exact_lines.proofs.Spans.{Adds, Bare, Framed, SameLine}
 
--- A line that flow has read begins where the rest of a line of the exact list does, and ends behind its bytes.
+-- A line that flow has read begins where the rest of a line of the exact list does, and ends after its bytes.
 pub record ReadAs (x : Row) (r : FrameRow) : Type 0 where
   pub at : BeginsAt x.line x.rest r.first
   pub end : r.end ≡ end_at x.rest r.first
@@ -94,7 +94,7 @@ further-code x r is adds = go (is_blank x.rest.bytes) refl
     go false e =
         Framed (whole ∙ ap (λ (t : Bool). cond t inside (linked_around n.CodeIndented r.first r.end inside)) e)
 
--- a blank line, as it stands behind code
+-- a blank line, as it is after code
 pub behind-blank : (x : Row) (r : FrameRow) → ReadAs x r →
     r.inside ≡ code.further_events (rest_bytes x.rest) r.first → is_blank x.rest.bytes ≡ true →
     map (renamed Outside) r.inside ≡ content_line n.SpaceOrTab 4 x.line x.rest

@@ -144,7 +144,7 @@ marks-left name m (b ∷ marks) rest p h e =
     let here : (b == m) ≡ true = pass-first (λ (x : ℕ). x == m) b marks h in
     rw here (marks-left name m marks rest (past_byte b p) (pass-rest (λ (x : ℕ). x == m) b marks h) e)
 
--- the next two runs, and what is left behind them
+-- the next two runs, and what is left after them
 next-marks : (name : Name) (m : ℕ) (marks more : List ℕ) (p : Point) → AllPass (λ (b : ℕ). b == m) marks →
     begins (λ (b : ℕ). b == m) more ≡ false →
     mark_runs name Apart m (marks ++ more) p ≡
@@ -167,7 +167,7 @@ next-white name m (b ∷ white) rest p dark w h e =
     (ap (λ (es : List Event). enter n.SpaceOrTab p ∷ es)
     (white-left name m white rest (past_byte b p) dark (pass-rest is_white b white w) h e))
 
--- Behind the indent the marker comes first, if anything does.
+-- After the indent the marker comes first, if anything does.
 first-marks : (m : ℕ) (bytes : List ℕ) → AreMarks m bytes → begins is_white bytes ≡ false →
     run_len (first_byte bytes) bytes ≡ run_len m bytes
 first-marks m [] h e = refl
@@ -175,7 +175,7 @@ first-marks m (b ∷ bytes) h e =
     let is : (b == m) ≡ true = marker m b (and_parts (is_mark m b) (list_all (is_mark m) bytes) h).0 e in
     ap (λ (k : ℕ). run_len k (b ∷ bytes)) (eqb-true b m is)
 
--- The runs of a rest, where those of what is left behind the next two are known.
+-- The runs of a rest, where those of what is left after the next two are known.
 runs-next : (name : Name) (m size : ℕ) (line : TextLine) (r : Rest) (p : Point) → BeginsAt line r p →
     is_white m ≡ false → AreMarks m (rest_bytes r) → length r.bytes ≤ suc size →
     ((s : Rest) (q : Point) (bytes : List ℕ) → Stands line bytes q s → AreMarks m bytes → length bytes ≤ size →

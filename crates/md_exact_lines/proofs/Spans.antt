@@ -23,15 +23,15 @@ use Rattle.md_exact.specs.Places.{TextLine, ending, line_end, place, white}
 use Rattle.md_exact.specs.Rows.{Row}
 use Rattle.md_exact_lines.proofs.LeafLines.{linked_around}
 
--- A line as the exact list has it, and as flow reads it: where its rest begins and ends, its ending, and what stands in
--- front of it.
+-- A line as the exact list has it, and as flow reads it: where its rest begins and ends, its ending, and what is before
+-- it.
 pub record SameLine (x : Row) (r : FrameRow) : Type 0 where
   pub begin : place x.line x.rest ≡ r.first
   pub end : place x.line (line_end x.line) ≡ r.end
   pub ending : (name : Name) → ending name x.line ≡ ending_events name r
   pub front : x.front ≡ r.front
 
--- What a further line of a leaf adds: what stands in it, between a begin and an end, or bare.
+-- What a further line of a leaf adds: what is in it, between a begin and an end, or bare.
 pub data Adds (name : Name) (inside : List Event) (r : FrameRow) : Type 0 where
   Framed : r.inside ≡ linked_around name r.first r.end inside → Adds name inside r
   Bare : r.inside ≡ inside → is_framed inside ≡ false → Adds name inside r
@@ -58,7 +58,7 @@ any-framed r [] more h = or_left (is_framed r.inside) (any_framed own more) h
 any-framed r (next ∷ rs) more h =
     or_right (is_framed r.inside) (any_framed own ((next ∷ rs) ++ more)) (any-framed next rs more h)
 
--- what stands in a line, and its end where it has one
+-- what is in a line, and its end where it has one
 inside-is : (name : Name) (inside : List Event) (r : FrameRow) → has_lines (role name) ≡ true → Adds name inside r →
     inside_leaf r.inside ≡ inside
 inside-is name inside r lines (Framed is) =
@@ -77,7 +77,7 @@ end-framed name inside r (Framed is) framed =
     ap end_of is ∙ end-is (enter_link name r.first further_link ∷ inside) (exit name r.end)
 end-framed name inside r (Bare is none) framed = let same = ap is_framed is ∙ none in cc
 
--- Further lines behind one: the next of them,
+-- Further lines after one: the next of them,
 next-joined : (name : Name) (inside : TextLine → Rest → List Event) (x : Row) (r : FrameRow) (y : Row) (next : FrameRow)
     (ys : List Row) (more : List FrameRow) (end : List Event) →
     has_lines (role name) ≡ true → SameLine x r → SameLine y next → Adds name (inside y.line y.rest) next →
@@ -99,7 +99,7 @@ next-joined name inside x r y next ys more end lines same line adds framed =
     onto : gap ≡ onto_next (x ∷ y ∷ ys)
     onto = ap₂ (λ (es fs : List Event). es ++ fs) (sym (same.ending n.LineEnding)) (sym line.front)
 
--- and all up to the last with an end, which are in the leaf; what is behind stands outside
+-- and all up to the last with an end, which are in the leaf; what is after is outside
 rest-joined : (name : Name) (inside : TextLine → Rest → List Event) (x : Row) (r : FrameRow) (y : Row) (next : FrameRow)
     (ys : List Row) (rs more : List FrameRow) (end : List Event) →
     has_lines (role name) ≡ true → SameLine x r → AreLines name inside (y ∷ ys) (next ∷ rs) →
@@ -131,7 +131,7 @@ rest-joined name inside x r y next (z ∷ ys) (further ∷ rs) more end lines sa
 rest-joined name inside x r y next [] (further ∷ rs) more end lines same are ends none = absurd are.2
 rest-joined name inside x r y next (z ∷ ys) [] more end lines same are ends none = absurd are.2
 
--- The lines of a leaf, where this is what stands in front of it and behind its begin on the first line.
+-- The lines of a leaf, where this is what is before it and after its begin on the first line.
 pub span-joined : (name : Name) (inside : TextLine → Rest → List Event) (x : Row) (r : FrameRow)
     (xs : List Row) (rs more : List FrameRow) (lead first : List Event) (at : Point) →
     has_lines (role name) ≡ true → SameLine x r → r.inside ≡ lead ++ around name at r.end first →
@@ -188,7 +188,7 @@ last-ends name inside x r (y ∷ ys) (next ∷ rs) is are = last-ends name insid
 last-ends name inside x r [] (next ∷ rs) is are = absurd are
 last-ends name inside x r (y ∷ ys) [] is are = absurd are
 
--- Code and HTML: the leaf, and what is behind it.
+-- Code and HTML: the leaf, and what is after it.
 pub leaf-joined : (name : Name) (inside : TextLine → Rest → List Event) (x : Row) (r : FrameRow)
     (xs : List Row) (rs more : List FrameRow) →
     has_lines (role name) ≡ true → SameLine x r → r.inside ≡ around name r.first r.end (inside x.line x.rest) →

@@ -18,7 +18,7 @@ use Rattle.md_exact.specs.Rows.{Row}
 use Rattle.md_exact.specs.Texts.{chunks, text_span}
 use Rattle.md_exact_lines.proofs.Spans.{SameLine}
 
--- lines of a text: behind the ending of each the next one begins
+-- lines of a text: after the ending of each the next one begins
 abbrev pub AreTexts : Row → List Row → FrameRow → List FrameRow → Type 0
 AreTexts x [] r [] = SameLine x r
 AreTexts x (y ∷ ys) r (next ∷ rs) = SameLine x r × (next_line x.line ≡ behind_row r) × AreTexts y ys next rs

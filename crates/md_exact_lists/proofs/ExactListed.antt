@@ -42,7 +42,7 @@ line-text options p line h =
     by-new options p line (λ t ts e. (begins-facts options p line [] h t ts e).opens.ends.text)
     (λ e. (remains-facts options p line [] h e).text)
 
--- a line that goes on a leaf meets one that is open
+-- a line that continues a leaf meets one that is open
 pub open-follows : (options : ParseOptions) (p : Path) (lines : List TextLine) → HasLine (spot p).leaf →
     blocks.goes_on (next_role (rows_of options p lines)) ≡ true →
     Follows (spot p).leaf (next_role (rows_of options p lines))
@@ -58,7 +58,7 @@ pub opened-last : (options : ParseOptions) (p : Path) (lines : List TextLine) �
 opened-last options p lines h goes =
     follows-last (spot p).leaf (spot p).here (next_role (rows_of options p lines)) (open-follows options p lines h goes)
 
--- no line goes on a blank line
+-- no line continues a blank line
 blank-alone : (options : ParseOptions) (p : Path) (line : TextLine) (lines : List TextLine) → HasLine (spot p).leaf →
     let below = rows_of options (after options p line) lines in
     is_blank_role (row_of options p line below).role ≡ true → blocks.goes_on (next_role below) ≡ false
@@ -82,14 +82,14 @@ blank-alone options p line lines h e = go (blocks.goes_on (next_role below)) ref
     go true goes = absurd (none goes)
     go false goes = refl
 
--- A line that goes on a leaf.
+-- A line that continues a leaf.
 
 goes-filled : (role : Role) → blocks.goes_on role ≡ true → is_blank_role role ≡ false
 goes-filled Blank e = absurd (cc)
 goes-filled BehindCode e = absurd (cc)
 goes-filled _ e = refl
 
--- it leaves the place of the walk behind it as it was
+-- it leaves the place of the walk after it as it was
 further-place : (options : ParseOptions) (bytes : List ℕ) (p : Path) (line : TextLine) (lines : List TextLine) →
     HasLine (spot p).leaf →
     let below = rows_of options (after options p line) lines in
@@ -136,7 +136,7 @@ record AreListed (options : ParseOptions) (bytes : List ℕ) (p : Path) (lines :
       LeavesStand options bytes (grouped (rows_of options p lines)) → NextTold options bytes (rows_of options p lines)
   behind : LeavesStand options bytes (rest_groups (rows_of options p lines)) → BehindFirst options bytes p lines
 
--- behind the leaf that the first of these lines goes on
+-- after the leaf that the first of these lines continues
 joined-behind : (options : ParseOptions) (bytes : List ℕ) (p : Path) (lines : List TextLine) → HasLine (spot p).leaf →
     blocks.goes_on (next_role (rows_of options p lines)) ≡ true → BehindFirst options bytes p lines →
     BehindListed options bytes p (rows_of options p lines)
@@ -147,7 +147,7 @@ joined-behind options bytes p (line ∷ lines) h goes is =
     (further-place options bytes p line lines h goes (unlisted_behind options (rows_of options p (line ∷ lines))))
     ∙ is
 
--- behind the leaf of a line
+-- after the leaf of a line
 line-behind : (options : ParseOptions) (bytes : List ℕ) (p : Path) (line : TextLine) (lines : List TextLine) →
     HasLine (spot p).leaf → AreListed options bytes (after options p line) lines →
     LeavesStand options bytes (rest_groups (rows_of options p (line ∷ lines))) →
@@ -200,7 +200,7 @@ line-stands options bytes p line lines h stands =
     row : Row
     row = row_of options p line below
 
--- in front of a line
+-- before a line
 line-front : (options : ParseOptions) (bytes : List ℕ) (p : Path) (line : TextLine) (lines : List TextLine) →
     HasLine (spot p).leaf → LinesStand options bytes p (line ∷ lines) →
     AreListed options bytes (after options p line) lines →
@@ -283,7 +283,7 @@ begun = At (spot_of End)
 abbrev pub body_rows : ParseOptions → List TextLine → List Row
 body_rows options lines = rows_of options begun lines
 
--- the walk over what stands in front of them and over their events without lists gives their exact list
+-- the walk over what is before them and over their events without lists gives their exact list
 pub body-listed : (options : ParseOptions) (bytes : List ℕ) (front : List Event) (lines : List TextLine) →
     NoneIs is_item front → LinesStand options bytes begun lines →
     LeavesStand options bytes (grouped (body_rows options lines)) →

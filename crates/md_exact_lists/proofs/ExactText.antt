@@ -25,7 +25,7 @@ use Rattle.md_exact_lists.proofs.LeavesStand.{leaves-stand}
 use Rattle.md_exact_lists.proofs.ListWalk.{none-items, none-part, none-piece}
 use Rattle.md_exact_lists.proofs.Markers.{AreIn, IsIn, lines-stand}
 
--- The lines of a text stand in it.
+-- The lines of a text are in it.
 
 lines-onto : (b : ℕ) (lines : List (List ℕ)) → concat (onto_first b lines) ≡ b ∷ concat lines
 lines-onto b [] = refl

@@ -1,4 +1,4 @@
--- The events of lines from the first on: in front of its leaf, the leaf, and all behind it, with lists and without.
+-- The events of lines from the first on: before its leaf, the leaf, and all after it, with lists and without.
 use Rattle.std.proofs.Common.{◌≡◌, ℕ, suc, Bool, true, false, cond, List, [], ◌∷◌, ◌++◌, refl, ap, ap₂, sym}
 use Rattle.std.proofs.Common.{◌∙◌, subst, append_assoc, flat_map}
 use Rattle.std.specs.Prelude.{◌||◌}
@@ -99,7 +99,7 @@ ends-without depth (c ∷ cs) p below =
     without-append (ends_from (suc depth) cs p below) (exit (container_name c) p ∷ list_ends depth c p below)
     ∙ ap₂ (λ (a b : List Event). a ++ b) (ends-without (suc depth) cs p below) (end-without depth c p below)
 
--- The ending behind the lines of a leaf.
+-- The ending after the lines of a leaf.
 
 abbrev pub tail_name : Row → Name
 tail_name row =
@@ -118,7 +118,7 @@ ending-none row = go (is_end row.line.ending) (is_blank_role row.role || is_end 
 
 -- Groups.
 
--- the lines of the first leaf, and the leaves behind it
+-- the lines of the first leaf, and the leaves after it
 abbrev pub first_group : List Row → List Row
 first_group [] = []
 first_group (row ∷ below) = row ∷ cond (goes_on (next_role below)) (first_group below) []
@@ -151,7 +151,7 @@ all_events options rows = flat_map (group_events options) (grouped rows)
 abbrev pub all_unlisted : ParseOptions → List Row → List Event
 all_unlisted options rows = unlisted_groups options (grouped rows)
 
--- behind the leaf of the first line
+-- after the leaf of the first line
 abbrev pub behind_leaf : ParseOptions → List Row → List Event
 behind_leaf options [] = []
 behind_leaf options (row ∷ below) =
@@ -222,7 +222,7 @@ unlisted-all options row below =
     ∙ append_assoc (without_lists row.front) leaf (without_lists (tail group) ++ more)
     ∙ ap (λ (l : List Event). without_lists row.front ++ (leaf ++ l)) (unlisted-first options row below)
 
--- behind a line on which the leaf ends: what ends there, and its ending
+-- after a line on which the leaf ends: what ends there, and its ending
 pub behind-last : (options : ParseOptions) (row : Row) (below : List Row) → goes_on (next_role below) ≡ false →
     behind_leaf options (row ∷ below)
     ≡ row.ends ++ (ending (tail_name row) row.line ++ all_events options below)

@@ -55,7 +55,7 @@ item-text line content name r s h = go (is_same r s)
 
 -- Several lines.
 
--- what stands in front of lines is of no block
+-- what is before lines is of no block
 abbrev pub Plain : List Row → Type 0
 Plain [] = Unit {0}
 Plain (row ∷ rows) = NoneIs is_block row.front × Plain rows
@@ -232,7 +232,7 @@ fence-items options o row rows h =
 
 -- Tables.
 
--- what stands in a cell
+-- what is in a cell
 abbrev OfCells : Inner → Type 0
 OfCells inner = (line : TextLine) (r s : Rest) → NoItem (inner line r s)
 

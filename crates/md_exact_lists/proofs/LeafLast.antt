@@ -1,4 +1,4 @@
--- Behind a line that opens no container: what is the last block of the innermost container.
+-- After a line that opens no container: what is the last block of the innermost container.
 use Rattle.std.proofs.Common.{◌≡◌, ℕ, Bool, true, false, cond, ◌&&◌, List, [], ◌∷◌, ◌++◌, drop, length, refl, ap, ap₂}
 use Rattle.std.proofs.Common.{sym, subst, ◌∙◌}
 use Rattle.std.specs.Prelude.{◌||◌, ◌==◌, nat_le, nat_lt, reverse, Option, Some, None}
@@ -246,7 +246,7 @@ leaf-last options bs (OpenFence o lines) h = last-then bs _ ∙ fence_block-come
 leaf-last options bs (OpenHtml kind lines) h = last-then bs _
 leaf-last options bs (OpenTable delimiter rows) h = last-then bs _
 
--- What is innermost behind a line.
+-- What is innermost after a line.
 
 -- the last block there is no item, and an open paragraph has a line
 pub record Ends (s : Innermost) : Type 0 where
@@ -268,7 +268,7 @@ fresh-by : (options : ParseOptions) (bs : Blocks) (r : Rest) (c : Option LeafRes
 fresh-by options bs r None h = line-ends bs [] r
 fresh-by options bs r (Some c) h = came-ends bs c (h c refl)
 
--- of a line behind these blocks
+-- of a line after these blocks
 pub fresh-ends : (options : ParseOptions) (bs : Blocks) (r : Rest) → is_blank r.bytes ≡ false →
     Ends (fresh_line options bs r)
 unfolding fresh_line
@@ -349,7 +349,7 @@ text-ends options bs lines r e =
 
 -- Any line.
 
--- one that goes on the leaf that is open
+-- one that continues the leaf that is open
 on-ends : (options : ParseOptions) (s : Innermost) (r : Rest) (o : Option LeafResult) → Finds o Comes →
     is_some o ≡ true → Ends (on_or_fresh options s r o)
 on-ends options s r None h e = absurd (cc)
@@ -410,7 +410,7 @@ first-cases : (P : Role → Type 0) (o : Option LeafResult) → Finds o (λ (c :
 first-cases P None first role h = h
 first-cases P (Some c) first role h = first c refl
 
--- one that goes on no leaf and is not blank
+-- one that continues no leaf and is not blank
 pub fresh-cases : (P : Role → Type 0) (options : ParseOptions) (leaf : Leaf) (r : Rest) →
     ((against : ParagraphContext) → Finds (starts options against r) (λ (c : LeafResult). P (First c))) →
     P FirstText → P FurtherText → P Underline → P Delimiter → P (fresh_role options leaf r)
@@ -439,7 +439,7 @@ fresh-cases P options (OpenHtml kind lines) r first text further under row =
 fresh-cases P options (OpenTable delimiter rows) r first text further under row =
     first-cases P (starts options NoText r) (first NoText) FirstText text
 
--- what is open behind a line that is this: no leaf behind a blank one, and code behind one of code
+-- what is open after a line that is this: no leaf after a blank one, and code after one of code
 abbrev pub IsCode : Leaf → Type 0
 IsCode (OpenCode lines) = Unit {0}
 IsCode leaf = ⊥
@@ -466,7 +466,7 @@ further-leaves options s r (OpenFence o lines) e = tt
 further-leaves options s r (OpenHtml kind lines) e = tt
 further-leaves options s r (OpenTable delimiter rows) e = tt
 
--- what is innermost behind a line that meets this: a blank line leaves the last block as it is
+-- what is innermost after a line that meets this: a blank line leaves the last block as it is
 pub record Met (options : ParseOptions) (s : Innermost) (r : Rest) : Type 0 where
   pub last : last_in (leaf_line options s r)
       ≡ cond (is_blank_role (role_on options s.leaf r)) (last_in s) None

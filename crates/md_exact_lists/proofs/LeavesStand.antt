@@ -1,4 +1,4 @@
--- Each leaf of the lines of a body holds no item, and is the next block for what stands in front of it.
+-- Each leaf of the lines of a body holds no item, and is the next block for what is before it.
 use Rattle.std.proofs.Common.{◌≡◌, ℕ, Bool, true, false, cond, List, [], ◌∷◌, ◌++◌, refl, ap, sym, ◌∙◌}
 use Rattle.std.proofs.Common.{subst, append-nil}
 use Rattle.std.specs.Prelude.{◌==◌, None}
@@ -56,7 +56,7 @@ role-met options leaf r = go (is_some (goes_on options leaf r)) (is_blank r.byte
     go false false e =
         fresh-cases (IsMet r) options leaf r (λ against. leaf-starts options against r) e tt tt tt
 
--- and after: a head has a delimiter row behind it
+-- and after: a head has a delimiter row after it
 abbrev Needs : Role → Rest → Role → Type 0
 Needs next r (First c) = Starts c
 Needs next r FirstText = is_blank r.bytes ≡ false
@@ -185,7 +185,7 @@ first-is options bytes (Finished (Html lines)) row rows h k = record {
 }
 first-is options bytes (Finished _) row rows h k = absurd h
 
--- the leaf of a line and of those that go on it
+-- the leaf of a line and of those that continue it
 leaf-is : (options : ParseOptions) (bytes : List ℕ) (next role : Role) (row : Row) (rows : List Row) →
     row.role ≡ role → Needs next row.rest role → blocks.goes_on role ≡ false → is_blank_role role ≡ false →
     (blocks.goes_on next ≡ true → (rows ≡ [] → ⊥)) → Plain rows →
@@ -207,7 +207,7 @@ leaf-is options bytes next Delimiter row rows same needs first filled some plain
 
 -- Lines.
 
--- what stands in front of lines that go on a leaf
+-- what is before lines that continue a leaf
 group-plain : (options : ParseOptions) (p : Path) (lines : List TextLine) → HasLine (spot p).leaf →
     blocks.goes_on (next_role (rows_of options p lines)) ≡ true → Plain (first_group (rows_of options p lines))
 group-plain options p [] h goes = tt

@@ -1,7 +1,7 @@
 -- The walk that puts lists around items, line by line.
 --
--- It knows, in front of each line, the markers of the items that are open, and whether a list goes
--- on: whether the next block is an item with the marker of the block that is last there.
+-- It knows, before each line, the markers of the items that are open, and whether a list continues: whether the next
+-- block is an item with the marker of the block that is last there.
 use Rattle.std.proofs.Common.{◌≡◌, ℕ, suc, ◌≤◌, ◌<◌, Bool, true, false, cond, ◌&&◌, List, [], ◌∷◌, ◌++◌, length}
 use Rattle.std.proofs.Common.{take, drop, refl, ap, ap₂, sym, ◌∙◌, subst, arith, rules, append_assoc, append-nil}
 use Rattle.std.specs.Prelude.{◌-◌, ◌==◌, nat_lt, if◌then◌else◌, Option, None}
@@ -74,35 +74,35 @@ ended-not options deep m (row ∷ below) h = ap (λ (x : Bool). x && more) (fewe
 abbrev pub at : Bool → List ℕ → Place
 at within markers = record { within = within; markers = markers }
 
--- in front of these lines, where this is open before the first
+-- before these lines, where this is open before the first
 abbrev pub front_place : ParseOptions → List ℕ → Path → List Row → Place
 front_place options bytes p rows =
     at (goes_between (last_at (next_stays rows) p) (next_item bytes (all_unlisted options rows)))
     (markers_from [] (take (next_stays rows) (containers p)))
 
--- behind the leaf of a line, where this is open behind it and these events follow
+-- after the leaf of a line, where this is open after it and these events follow
 abbrev pub behind_place : List ℕ → Path → List Event → Place
 behind_place bytes p es = at (goes_between (last_in (spot p)) (next_item bytes es)) (markers_from [] (containers p))
 
--- In front of these lines the walk gives their lists,
+-- Before these lines the walk gives their lists,
 abbrev pub FrontListed : ParseOptions → List ℕ → Path → List Row → Type 0
 FrontListed options bytes p rows =
     listed_from bytes (front_place options bytes p rows) (all_unlisted options rows) ≡ all_events options rows
 
--- and it does so behind the leaf of the first, behind which this is open.
+-- and it does so after the leaf of the first, after which this is open.
 abbrev pub BehindListed : ParseOptions → List ℕ → Path → List Row → Type 0
 BehindListed options bytes after rows =
     listed_from bytes (behind_place bytes after (unlisted_behind options rows)) (unlisted_behind options rows)
     ≡ behind_leaf options rows
 
--- whether a list goes on at these lines is what the next block says
+-- whether a list continues at these lines is what the next block says
 abbrev pub NextTold : ParseOptions → List ℕ → List Row → Type 0
 NextTold options bytes rows =
     (m : ℕ) → list_goes_on (next_stays rows) m rows ≡ goes_on m (next_item bytes (all_unlisted options rows))
 
--- Behind a leaf that ends with its line.
+-- After a leaf that ends with its line.
 
--- what a row has behind its leaf
+-- what a row has after its leaf
 pub record Ending (after : Path) (line : TextLine) (below : List Row) (row : Row) : Type 0 where
   pub ends : row.ends
       ≡ ends_from (next_stays below) (drop (next_stays below) (containers after)) (place line (line_end line)) below
@@ -236,7 +236,7 @@ leaf-stands options bytes role row further alone leaf = go (is_blank_role role) 
       block = λ f. (leaf e).next;
     }
 
--- In front of a line.
+-- Before a line.
 
 abbrev pub after : ParseOptions → Path → TextLine → Path
 after options p line = step options p (whole line)
@@ -325,7 +325,7 @@ begins-listed options bytes p line below row t ts is markers leaf behind =
         ∙ sym (markers-append [] (held_in (on_of options p line)) (held_in (t ∷ ts)))
         ∙ ap (markers_from []) (sym is.opens.held)
 
--- where none opens: a blank line stands between blocks, and a leaf is a block
+-- where none opens: a blank line is between blocks, and a leaf is a block
 pub remains-listed : (options : ParseOptions) (bytes : List ℕ) (p : Path) (line : TextLine) (below : List Row)
     (row : Row) →
     Remains options p line below row → row.held ≡ containers (after options p line) →
@@ -470,7 +470,7 @@ begins-told options bytes p line below row t ts is held markers m =
         ∙ next-passes bytes front (opening ++ rest) (further-none line (whole line) on)
         ∙ begins-next bytes line (behind_all (whole line) on) t ts rest markers
 
--- behind a blank line
+-- after a blank line
 ended-told : (options : ParseOptions) (bytes : List ℕ) (after : Path) (line : TextLine) (below : List Row) (row : Row) →
     Ending after line below row → NextTold options bytes below → (m : ℕ) →
     list_goes_on (length (containers after)) m below

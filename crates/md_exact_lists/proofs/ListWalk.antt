@@ -249,7 +249,7 @@ further-none line r (t ∷ ts) =
 
 -- Markers of open items.
 
--- the markers of the items among these containers, the innermost first, in front of others
+-- the markers of the items among these containers, the innermost first, before others
 abbrev pub markers_from : List ℕ → List Container → List ℕ
 markers_from markers [] = markers
 markers_from markers (c ∷ cs) = markers_from (pushed markers (marker_in c)) cs
@@ -271,7 +271,7 @@ last-item m (More (Item k d x) End) = refl
 last-item m (More _ End) = refl
 last-item m (More b (More next bs)) = last-item m (More next bs)
 
--- an item that opens is told by its marker
+-- an item that opens is known from its marker
 pub begin-next : (bytes : List ℕ) (line : TextLine) (c : Container) (r s : Rest) (rest : List Event) →
     MarkerStands bytes line c r → next_item bytes (plain_begin line c r s ++ rest) ≡ marker_in c
 begin-next bytes line (InQuote kind) r s rest h = refl
@@ -279,7 +279,7 @@ begin-next bytes line (InItem digits marker width starts_blank) r s rest h =
     ap (λ (m : ℕ). Some m) (item-marker bytes line digits marker r s rest h)
 begin-next bytes line (InFootnote label) r s rest h = refl
 
--- where a list goes on in front of it as the blocks there say
+-- where a list continues before it as the blocks there say
 pub begin-walk : (bytes : List ℕ) (line : TextLine) (after : Path) (depth : ℕ) (c : Container) (r s : Rest)
     (within : Bool) (ms : List ℕ) (rest : List Event) → MarkerStands bytes line c r →
     within ≡ goes_between (last_of (blocks_before depth after)) (marker_in c) →
@@ -319,7 +319,7 @@ begin-walk bytes line after depth (InFootnote label) r s within ms rest h e =
     ∙ ap (λ (w : Bool). footnote_prefix line label r s ++ listed_from bytes (record { within = w; markers = ms }) rest)
     (e ∙ none-between (last_of (blocks_before depth after))))
 
--- those that open in one that opens: nothing stands in front of them
+-- those that open in one that opens: nothing is before them
 inner-walk : (bytes : List ℕ) (line : TextLine) (after : Path) (depth : ℕ) (r : Rest) (ts : List Taken)
     (ms : List ℕ) (rest : List Event) → MarkersStand bytes line r ts →
     ((deep : ℕ) → depth ≤ deep → blocks_before deep after ≡ End) →
@@ -369,7 +369,7 @@ some-goes : (m : ℕ) (next : Option ℕ) → goes_on m next ≡ goes_between (S
 some-goes m None = refl
 some-goes m (Some k) = refl
 
--- one of them: where it is an item, its list goes on as the lines below say
+-- one of them: where it is an item, its list continues as the lines below say
 pub end-walk : (bytes : List ℕ) (depth : ℕ) (c : Container) (p : Point) (below : List Row) (ms : List ℕ)
     (rest : List Event) → ((m : ℕ) → list_goes_on depth m below ≡ goes_on m (next_item bytes rest)) →
     listed_from bytes (record { within = false; markers = pushed ms (marker_in c) })
@@ -421,7 +421,7 @@ inner-ends bytes depth (c ∷ cs) p below ms rest e deeper =
     (ap (goes_between (marker_in c)) e ∙ none-between (marker_in c)))
     ∙ sym (append_assoc ends (exit (container_name c) p ∷ list_ends depth c p below) _)
 
--- all of them: only the list of the outermost may go on
+-- all of them: only the list of the outermost may continue
 pub ends-walk : (bytes : List ℕ) (depth : ℕ) (c : Container) (cs : List Container) (p : Point) (below : List Row)
     (ms : List ℕ) (rest : List Event) → ((m : ℕ) → list_goes_on depth m below ≡ goes_on m (next_item bytes rest)) →
     ((deep m : ℕ) → suc depth ≤ deep → list_goes_on deep m below ≡ false) →

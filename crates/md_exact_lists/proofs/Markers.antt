@@ -1,4 +1,4 @@
--- The marker of an item that opens stands in the text, a byte behind its digits: what is left of a line is its end.
+-- The marker of an item that opens is in the text, a byte after its digits: what is left of a line is its end.
 use Rattle.std.proofs.Common.{◌≡◌, ℕ, zero, suc, ◌+◌, ◌-◌, Bool, true, false, cond, ◌&&◌, not, List, [], ◌∷◌, ◌++◌}
 use Rattle.std.proofs.Common.{length, take, drop, refl, ap, sym, ◌∙◌, arith, append_assoc}
 use Rattle.std.specs.Prelude.{◌==◌, ◌||◌, get_or, nat_eq, nat_le, Option, Some, None}
@@ -69,14 +69,14 @@ lose-end (suc n) r =
 behind-end : (n : ℕ) (r : Rest) → EndsWith r.bytes (behind n r).bytes
 behind-end n r = drop-end n r.bytes
 
--- behind so many bytes of it, and then so many columns
+-- after so many bytes of it, and then so many columns
 behind-lose : (n m : ℕ) (r : Rest) → EndsWith r.bytes (lose m (behind n r)).bytes
 behind-lose n m r = ends-on r.bytes (behind n r).bytes (lose m (behind n r)).bytes (behind-end n r)
     (lose-end m (behind n r))
 
 -- Containers.
 
--- the marker behind digits
+-- the marker after digits
 record Marked (bytes digits : List ℕ) (marker : ℕ) : Type 0 where
   more : List ℕ
   is : drop (length digits) bytes ≡ marker ∷ more
@@ -263,7 +263,7 @@ opens-leaves options interrupting r =
     (first-found (Leaves r) (opens_item options interrupting r) (opens_footnote options r)
     (opens-item options interrupting r) (opens-footnote options r))
 
--- one that goes on leaves an end of the rest too
+-- one that continues leaves an end of the rest too
 abbrev Ends : Rest → Taken → Type 0
 Ends r t = EndsWith r.bytes t.rest.bytes
 
@@ -303,7 +303,7 @@ gone-end options (Within before c p) r = go (gone-end options p) (continues opti
 
 -- Markers.
 
--- a line stands in a text
+-- a line is in a text
 pub record IsIn (text : List ℕ) (line : TextLine) : Type 0 where
   pub behind : List ℕ
   pub is : drop line.index text ≡ line.bytes ++ behind

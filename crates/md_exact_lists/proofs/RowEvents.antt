@@ -1,4 +1,4 @@
--- What a row has in front and behind it without lists: the containers that open and those that end.
+-- What a row has in front and after it without lists: the containers that open and those that end.
 use Rattle.std.proofs.Common.{◌≡◌, List, ◌++◌, drop, ap₂, ◌∙◌, length}
 use Rattle.std.specs.Prelude.{◌==◌}
 use Rattle.md_engine.specs.declared.configuration.ParseOptions.{ParseOptions}
@@ -14,7 +14,7 @@ use Rattle.md_exact_lists.specs.Unlisted.{plain_begins, plain_ends, without_list
 use Rattle.md_exact_lists.proofs.GroupEvents.{begins-without, ends-without, without-append, without-none}
 use Rattle.md_exact_lists.proofs.ListWalk.{further-none}
 
--- the prefixes of those that go on, and those that open
+-- the prefixes of those that continue, and those that open
 pub front-plain : (options : ParseOptions) (p : Path) (line : TextLine) (below : List Row) →
     let on = gone_on options p (whole line) in
     let inner = behind_all (whole line) on in

@@ -1,4 +1,4 @@
--- A row, by whether containers open on it: how many stay open, which items are open behind it, and what is last there.
+-- A row, by whether containers open on it: how many stay open, which items are open after it, and what is last there.
 use Rattle.std.proofs.Common.{◌≡◌, ℕ, zero, suc, ◌≤◌, Bool, true, false, cond, ◌&&◌, not, List, [], ◌∷◌, ◌++◌}
 use Rattle.std.proofs.Common.{length, take, drop, refl, ap, ap₂, sym, ◌∙◌, subst, arith, rules}
 use Rattle.std.specs.Prelude.{◌==◌, Option, Some, None}
@@ -40,7 +40,7 @@ last-drop (suc depth) (At s) c cs e = absurd (cc)
 last-drop zero (Within before d p) c cs e = let same : d ≡ c = cc in ap marker_in same
 last-drop (suc depth) (Within before d p) c cs e = last-drop depth p c cs e
 
--- Containers that go on.
+-- Containers that continue.
 
 abbrev HasMarker : Option ℕ → Taken → Type 0
 HasMarker marker t = marker_in t.container ≡ marker
@@ -133,7 +133,7 @@ first-goes : (o : Option LeafResult) → blocks.goes_on (first_or FirstText o) �
 first-goes None = refl
 first-goes (Some c) = refl
 
--- what goes on a leaf meets one that is open
+-- what continues a leaf meets one that is open
 role-open : (options : ParseOptions) (leaf : Leaf) (r : Rest) → blocks.goes_on (role_on options leaf r) ≡ true →
     IsOpen leaf
 role-open options NoLeaf r e = go (is_blank r.bytes) e
@@ -155,7 +155,7 @@ lazy-open options (OpenFence o lines) r e = absurd (cc)
 lazy-open options (OpenHtml kind lines) r e = absurd (cc)
 lazy-open options (OpenTable delimiter rows) r e = absurd (cc)
 
--- in front of a line that goes on none: a blank line of code is behind it
+-- before a line that continues none: a blank line of code is after it
 abbrev behind_code : Rest → Role → Role
 behind_code r (Further (OpenCode lines)) = cond (is_blank r.bytes) BehindCode (Further (OpenCode lines))
 behind_code r role = role
@@ -189,7 +189,7 @@ code-before Underline r _ h = refl
 code-before (Further leaf) r role h = absurd h
 code-before Delimiter r role h = absurd h
 
--- whether a line stands between two blocks: it is then a blank line, and the last block stays the same
+-- whether a line is between two blocks: it is then a blank line, and the last block stays the same
 behind-last : (r : Rest) (role : Role) (x : Option ℕ) → (blocks.goes_on role ≡ true → x ≡ None) →
     cond (is_blank_role role) x None ≡ cond (is_blank_role (behind_code r role)) x None
 behind-last r (Further (OpenCode lines)) x h = go (is_blank r.bytes)
@@ -206,7 +206,7 @@ before-last next r role x e h =
     behind-last r role x h
     ∙ ap (λ (a : Role). cond (is_blank_role a) x None) (sym (code-before next r role (none-back next e)))
 
--- a line goes on a leaf by what it meets alone
+-- a line continues a leaf by what it meets alone
 before-goes : (next : Role) (r : Rest) (role : Role) → blocks.goes_on (role_before next r role) ≡ true →
     blocks.goes_on role ≡ true
 before-goes next r role e = go next e
@@ -234,7 +234,7 @@ before-goes next r role e = go next e
     go FurtherText e = code role (ap blocks.goes_on (sym (code-before FurtherText r role tt)) ∙ e)
     go Underline e = code role (ap blocks.goes_on (sym (code-before Underline r role tt)) ∙ e)
 
--- a leaf that is open may go on in a line that is this
+-- a leaf that is open may continue in a line that is this
 abbrev IsFurther : Role → Type 0
 IsFurther (Further leaf) = Unit {0}
 IsFurther role = ⊥
@@ -338,14 +338,14 @@ before-filled BehindCode r role e f = ap is_blank_role (code-before BehindCode r
 before-filled FurtherText r role e f = ap is_blank_role (code-before FurtherText r role tt) ∙ f
 before-filled Underline r role e f = ap is_blank_role (code-before Underline r role tt) ∙ f
 
--- A line where nothing goes on is blank or is text, or a leaf begins there.
+-- A line where nothing continues is blank or is text, or a leaf begins there.
 first-blank : (next : Role) (r : Rest) (x : Bool) (o : Option LeafResult) →
     is_blank_role (role_before next r (cond x Blank (first_or FirstText o))) ≡ true → x ≡ true
 first-blank next r true o e = refl
 first-blank next r false None e = let filled = before-filled next r FirstText refl refl in absurd (cc)
 first-blank next r false (Some c) e = let filled = before-filled next r (First c) refl refl in absurd (cc)
 
--- and none goes on a blank line
+-- and none continues a blank line
 blank-follows : (next : Role) (r : Rest) (role : Role) (leaf : Leaf) → Leaves role leaf →
     is_blank_role (role_before next r role) ≡ true → blocks.goes_on next ≡ true → Follows leaf next → ⊥
 blank-follows next r role leaf left e goes h = go next e goes h
@@ -529,10 +529,10 @@ pub record Remains (options : ParseOptions) (p : Path) (line : TextLine) (below 
   pub text : HasLine (spot (step options p (whole line))).leaf
   pub last : blocks.goes_on (next_role below) ≡ false →
       last_in (spot (step options p (whole line))) ≡ cond (is_blank_role row.role) (last_at row.stays p) None
-  -- a line that goes on a leaf meets the innermost container
+  -- a line that continues a leaf meets the innermost container
   pub all_stay : blocks.goes_on row.role ≡ true → row.stays ≡ length (containers p)
   pub met : blocks.goes_on row.role ≡ true → Follows (spot p).leaf row.role
-  -- no line goes on a blank line
+  -- no line continues a blank line
   pub shut : is_blank_role row.role ≡ true → blocks.goes_on (next_role below) ≡ true →
       Follows (spot (step options p (whole line))).leaf (next_role below) → ⊥
 

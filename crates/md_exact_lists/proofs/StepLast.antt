@@ -1,4 +1,4 @@
--- Behind a line: the containers that are open, and the last block where the next one may come.
+-- After a line: the containers that are open, and the last block where the next one may come.
 use Rattle.std.proofs.Common.{◌≡◌, ℕ, zero, suc, ◌≤◌, Bool, true, false, cond, ◌&&◌, not, List, [], ◌∷◌, ◌++◌}
 use Rattle.std.proofs.Common.{length, map, drop, refl, ap, sym, ◌∙◌, subst, arith, rules}
 use Rattle.std.specs.Prelude.{◌==◌, ◌||◌, Option, Some, None}
@@ -88,7 +88,7 @@ opened-first options interrupting r = go (length r.bytes) refl
     go zero e = none (opens options interrupting r) (opens-leaves options interrupting r) e
     go (suc n) e = some n (opens options interrupting r) (opens-leaves options interrupting r) e
 
--- what is open in the innermost container that went on: these containers, with no block in front of any of them
+-- what is open in the innermost container that continued: these containers, with no block before any of them
 record Inside (r : Rest) (p : Path) (ts : List Taken) : Type 0 where
   held : containers p ≡ held_in ts
   blank : is_blank (behind_all r ts).bytes ≡ true → (spot p).leaf ≡ NoLeaf
@@ -134,9 +134,9 @@ opened-inside options (suc n) r = go (opened-inside options n) (opens options fa
           before = before-within t.container (step.opened options n t.rest) inside.before;
         }
 
--- What is open behind a line.
+-- What is open after a line.
 
--- whether all of the open containers go on
+-- whether all of the open containers continue
 abbrev goes_all : ParseOptions → Path → Rest → Bool
 goes_all options (At s) r = true
 goes_all options (Within before c p) r = elim (continues options c r) [
@@ -144,7 +144,7 @@ goes_all options (Within before c p) r = elim (continues options c r) [
   | None ↦ false
 ]
 
--- the containers that open behind those that go on, and the rest of the line behind all
+-- the containers that open after those that continue, and the rest of the line after all
 abbrev pub new_of : ParseOptions → Path → Bool → Rest → List Taken → List Taken
 new_of options p all r on = new_containers options p all (behind_all r on)
 
@@ -163,7 +163,7 @@ pub record Opens (p : Path) (on new : List Taken) (rest : Rest) (after : Path) :
   pub before : last_of (blocks_before (length on) after) ≡ last_at (length on) p
   pub inside : (depth : ℕ) → suc (length on) ≤ depth → blocks_before depth after ≡ End
 
--- none opens, and the line is not lazy: behind the containers that go on it meets a leaf
+-- none opens, and the line is not lazy: after the containers that continue it meets a leaf
 pub record Keeps (options : ParseOptions) (p : Path) (all : Bool) (on : List Taken) (rest : Rest)
     (after : Path) : Type 0 where
   pub met : Innermost
@@ -193,7 +193,7 @@ deeper : (bs : Blocks) (c : Container) (p : Path) → ((depth : ℕ) → blocks_
 deeper bs c p h zero le = absurd (omega arith)
 deeper bs c p h (suc depth) le = h depth
 
--- where a container opens behind these blocks
+-- where a container opens after these blocks
 enter-facts : (options : ParseOptions) (p : Path) (all : Bool) (r : Rest) (bs : Blocks) (t : Taken) →
     last_of bs ≡ last_at 0 p →
     Facts options p all r [] (first_new options (Some t)) (entered options bs t)
@@ -212,7 +212,7 @@ enter-facts options p all r bs t e =
       stays = λ none. some-new t (opened options false (length t.rest.bytes) t.rest) none;
     }
 
--- all containers go on
+-- all containers continue
 all-facts : (options : ParseOptions) (s : Innermost) (r : Rest) → HasLine s.leaf → (o : Option Taken) →
     Facts options (At s) true r [] (first_new options o) (all_continued_by options s r o)
 all-facts options s r h (Some t) =
@@ -223,7 +223,7 @@ all-facts options s r h None = record {
   stays = λ none lazy. absurd (cc);
 }
 
--- a container does not go on
+-- a container does not continue
 
 spot-at : (p : Path) (s : Innermost) → spot (at_spot p s) ≡ s
 spot-at (At t) s = refl
@@ -294,7 +294,7 @@ stopped-facts options before c p r o = by o
     by (Some t) = enter-facts options (Within before c p) false r bs t last
     by None = lazy (with_lazy options (spot p).leaf r) refl
 
--- one goes on
+-- one continues
 
 further : (bs : Blocks) (c : Container) (p : Path) (n : ℕ) → ((depth : ℕ) → suc n ≤ depth →
     blocks_before depth p ≡ End) →
@@ -329,7 +329,7 @@ within-facts options before c p r t all on new after facts = record {
       record { held = ap (λ (cs : List Container). t.container ∷ cs) is.held; ends = is.ends };
 }
 
--- What is open behind any line.
+-- What is open after any line.
 
 no-size : (n : ℕ) → false ≡ (0 == suc n)
 no-size n = search rules
@@ -380,7 +380,7 @@ facts-by options (Within before c p) r h = go (λ s. facts-by options p s h) (co
         within-facts options before c p r t all on (new_of options p all t.rest on) (step options p t.rest)
         (below t.rest)
 
--- all go on if they are as many as were open
+-- all continue if they are as many as were open
 all-went : (options : ParseOptions) (p : Path) (r : Rest) →
     goes_all options p r ≡ (length (gone_on options p r) == length (containers p))
 all-went options (At s) r = refl

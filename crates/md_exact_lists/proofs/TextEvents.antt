@@ -31,7 +31,7 @@ use Rattle.md_exact_lists.proofs.ListWalk.{next-passes, none-append, none-items,
 
 -- Places in a text.
 
--- what stands in front of all lines but the first is of no block
+-- what is before all lines but the first is of no block
 abbrev pub Further : List Row → Type 0
 Further [] = Unit {0}
 Further (row ∷ rows) = Plain rows
@@ -362,7 +362,7 @@ text_events-items remain h (suc size) rows k =
 
 -- The first block.
 
--- whatever stands behind these events, the next block in front of them is in them, and no item
+-- whatever is after these events, the next block before them is in them, and no item
 abbrev pub Leads : List ℕ → List Event → Type 0
 Leads bytes es = (rest : List Event) → next_item bytes (es ++ rest) ≡ None
 

@@ -1,4 +1,4 @@
--- The item that is last where a block may come: the list behind it goes on there, if that block is an item with its
+-- The item that is last where a block may come: the list after it continues there, if that block is an item with its
 -- marker.
 use Rattle.std.specs.Prelude.{ℕ, zero, suc, Bool, false, ◌==◌, [], Option, Some, None}
 use Rattle.md_meaning.specs.State.{At, Container, InFootnote, InItem, InQuote, Innermost, Leaf, NoLeaf, OpenParagraph}
@@ -36,7 +36,7 @@ last_at depth (At s) = last_in s
 last_at zero (Within before container p) = marker_in container
 last_at (suc depth) (Within before container p) = last_at depth p
 
--- whether a list goes on between an item that is last and one that is next
+-- whether a list continues between an item that is last and one that is next
 abbrev pub goes_between : Option ℕ → Option ℕ → Bool
 goes_between (Some last) (Some next) = last == next
 goes_between last next = false

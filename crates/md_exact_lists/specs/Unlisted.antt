@@ -1,4 +1,5 @@
--- The exact list of lines without the lists around its items, and what its rows owe so that these lists can be told.
+-- The exact list of lines without the lists around its items, and what its rows owe so that these lists can be
+-- determined.
 use Rattle.std.specs.Prelude.{◌≡◌, ℕ, Bool, true, false, ◌==◌, if◌then◌else◌, List, [], ◌∷◌, ◌++◌, length, get_or, map}
 use Rattle.std.specs.Prelude.{take, drop, Option, Some, None}
 use Rattle.md_engine.specs.declared.configuration.ParseOptions.{ParseOptions}
@@ -34,7 +35,7 @@ abbrev pub without_lists : List Event → List Event
 without_lists [] = []
 without_lists (e ∷ es) = if is_list e.name then without_lists es else e ∷ without_lists es
 
--- of the lines of a leaf: what stands in front of it, the leaf, and what stands behind it
+-- of the lines of a leaf: what is before it, the leaf, and what follows it
 abbrev pub unlisted_group : ParseOptions → List Row → List Event
 unlisted_group options [] = []
 unlisted_group options (row ∷ rows) =
@@ -80,7 +81,7 @@ abbrev pub NoneIs : (Role → Bool) → List Event → Type 0
 NoneIs f [] = Unit {0}
 NoneIs f (e ∷ es) = (f (role e.name) ≡ false) × NoneIs f es
 
--- a leaf holds no item, and is the next block for what stands in front of it
+-- a leaf holds no item, and is the next block for what is before it
 pub record IsLeaf (bytes : List ℕ) (events : List Event) : Type 0 where
   pub items : NoneIs is_item events
   pub next : (rest : List Event) → next_item bytes (events ++ rest) ≡ None
@@ -94,7 +95,7 @@ abbrev pub LeavesStand : ParseOptions → List ℕ → List (List Row) → Type 
 LeavesStand options bytes [] = Unit {0}
 LeavesStand options bytes (group ∷ groups) = LeafStands options bytes group × LeavesStand options bytes groups
 
--- the marker of an item that opens stands in the text, a byte behind its digits
+-- the marker of an item that opens is in the text, a byte after its digits
 pub record MarkerAt (bytes : List ℕ) (line : TextLine) (digits : List ℕ) (marker : ℕ) (r : Rest) : Type 0 where
   pub byte : get_or bytes (place line (past (length digits) (behind_indent r))).index 0 ≡ marker
   pub one : is_same (past (length digits) (behind_indent r)) (past 1 (past (length digits) (behind_indent r))) ≡ false
@@ -115,7 +116,7 @@ LinesStand options bytes p (line ∷ lines) =
     MarkersStand bytes line inner (new_containers options p (length on == length (containers p)) inner)
     × LinesStand options bytes (step options p (whole line)) lines
 
--- The markers of the items among these containers, the innermost first, in front of those that were there.
+-- The markers of the items among these containers, the innermost first, before those that were there.
 
 abbrev pub pushed : List ℕ → Option ℕ → List ℕ
 pushed markers None = markers

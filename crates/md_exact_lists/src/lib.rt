@@ -1,2 +1,2 @@
-// That the lists of the exact list of a text are those that stand around its items.
+// That the lists of the exact list of a text are those that are around its items.
 #![tactic(auto)]

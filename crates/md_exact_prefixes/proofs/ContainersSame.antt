@@ -1,4 +1,4 @@
--- A container on a line: where it goes on, and where it opens, it has the events of its cells.
+-- A container on a line: where it continues, and where it opens, it has the events of its cells.
 use Rattle.std.proofs.Common.{◌≡◌, ℕ, zero, suc, ◌^◌, ◌<◌, Bool, true, false, cond, not, ◌&&◌, ◌||◌, List, ◌∷◌, ◌++◌}
 use Rattle.std.proofs.Common.{length, refl, sym, ap, ap₂, ◌∙◌, subst, arith}
 use Rattle.std.specs.Prelude.{Option, Some, None, nat_le}
@@ -43,7 +43,7 @@ use Rattle.md_exact_fronts.proofs.Items.{item-opens}
 use Rattle.md_exact_fronts.proofs.Quotes.{has-front, quote-same}
 use Rattle.md_exact_lists.specs.Unlisted.{plain_begin}
 
--- these events are those of a container on a line, and its rest stands where they end
+-- these events are those of a container on a line, and its rest is where they end
 pub record HasEvents (text behind : List ℕ) (line : TextLine) (es : List Event) (left : Rest) (passed : Passed) : Type 0
   where
     pub events : es ≡ passed.events
@@ -53,7 +53,7 @@ abbrev passed_of : Passed → Option Passed → Passed
 passed_of other None = other
 passed_of other (Some u) = u
 
--- as an item, and as a footnote definition, goes on
+-- as an item, and as a footnote definition, continues
 item-goes_on : (digits : List ℕ) (marker width : ℕ) (blank : Bool) (r : Rest) (t : Taken) →
     item_continues digits marker width blank r ≡ Some t → t.container ≡ InItem digits marker width false
 unfolding item_continues
@@ -84,7 +84,7 @@ footnote-goes_on label r t e = go (is_blank r.bytes || nat_le 4 (indent r)) e
     go true f = sym (ap container_of f)
     go false f = absurd (cc)
 
--- A container that goes on has the events of its cells.
+-- A container that continues has the events of its cells.
 pub goes-same : (options : ParseOptions) (c : Container) (cell_line : Line) (text behind : List ℕ) (line : TextLine)
     (r : Rest) (p : Point) (stop : List Cell) (passed : Passed) (t : Taken) →
     IsRead c → LineIn text behind line → OnLine text behind line r p → NoEnding r.bytes → Stops stop →
@@ -226,7 +226,7 @@ opens-same options interrupting cell_line text behind line r p stop passed t is 
     new : Passed
     new = quote_new options cells p
 
-    -- what is opened is what is told
+    -- what is opened is what is said
     told : (u : Passed) (v : Taken) → u ≡ passed → v ≡ t → Opens text behind line r v u →
         Opens text behind line r t passed
     told u v g h has =

@@ -1,4 +1,4 @@
--- All containers of a line: those that go on, and those that open, have the events of its cells.
+-- All containers of a line: those that continue, and those that open, have the events of its cells.
 use Rattle.std.proofs.Common.{◌≡◌, ℕ, zero, suc, ◌^◌, ◌<◌, Bool, false, List, [], ◌∷◌, ◌++◌, length, map, refl, sym, ap}
 use Rattle.std.proofs.Common.{ap₂, subst, arith}
 use Rattle.std.specs.Prelude.{Option, Some, None}
@@ -60,7 +60,7 @@ more-front cell_line text behind line stop t ts es fs left u f c e has = record 
   short = has.short;
 }
 
--- Those that go on have the events of the cells.
+-- Those that continue have the events of the cells.
 pub continued-same : (options : ParseOptions) (cell_line : Line) (text behind : List ℕ) (line : TextLine) (q : Path)
     (r : Rest) (p : Point) (stop : List Cell) →
     AreRead (containers_of q) → LineIn text behind line → OnLine text behind line r p → NoEnding r.bytes → Stops stop →

@@ -52,7 +52,7 @@ contained-unlazy options cs still r e = go new.containers
     go [] = met-unlazy (is_none others) still e
     go (c ∷ opens) = refl
 
--- A line behind another.
+-- A line after another.
 
 line-below : (options : ParseOptions) (bytes : List ℕ) (p : Path) (line : TextLine) (row next : Row) →
     still_of p ≡ row.behind → row.closed_after ≡ next.change.closes → IsMet options bytes p line next →
@@ -75,7 +75,7 @@ first-below options bytes p row [] (next ∷ rows) behind ends are = absurd are
 first-below options bytes p row (line ∷ lines) (next ∷ rows) behind ends are =
     line-below options bytes p line row next behind ends are.0
 
--- It goes on the leaf in front of it by its role just where its row says so.
+-- It continues the leaf before it by its role just where its row says so.
 
 code-kind : (open_leaf : Leaf) → is_code (kind_of_leaf open_leaf) ≡ is_open_code open_leaf
 code-kind NoLeaf = refl

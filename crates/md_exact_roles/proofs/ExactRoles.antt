@@ -1,4 +1,4 @@
--- The lines of the exact list are behind their containers what their rows are.
+-- The lines of the exact list are after their containers what their rows are.
 use Rattle.std.proofs.Common.{◌≡◌, ℕ, Bool, false, cond, List, [], ◌∷◌, length, refl, ap, ap₂, sym, ◌∙◌, subst, arith}
 use Rattle.std.proofs.lemmas.Bool.Decides.{nat_tests}
 use Rattle.std.specs.Prelude.{◌==◌}
@@ -29,7 +29,7 @@ use Rattle.md_exact_roles.proofs.RowRoles.{IsNext, MeetsLeaf, next-line, next-no
 abbrev pub contained_at : ParseOptions → Path → Rest → Contained
 contained_at options p r = contained options (containers_of p) (still_of p) r
 
--- What the line meets, and its rest, by the containers that go on and open.
+-- What the line meets, and its rest, by the containers that continue and open.
 
 pub none-new : (ts : List Taken) → is_none (held_in ts) ≡ (length ts == 0)
 none-new [] = refl
@@ -49,7 +49,7 @@ contained-by options p line plain =
     (contained_of options (containers_of p) (still_of p) (prefixed (whole line) (gone_on options p (whole line))))
     (new-same options p (whole line) plain)
 
--- A line of the exact list by itself, in front of these.
+-- A line of the exact list by itself, before these.
 pub role-alone : (options : ParseOptions) (p : Path) (line : TextLine) (below : List exact.Row) → IsPlain p →
     let c = contained_at options p (whole line) in
     (row_of options p line below).role ≡
@@ -86,7 +86,7 @@ role-alone options p line below plain =
         ∙ ap₂ (λ (x y : Bool). cond x (met_by y (still_of p)) held_leaf.None) (none-new new)
         (sym (all-same options p (whole line)))
 
--- What is known of a line where this path is open: it is this row, and what is open behind it is what the row holds.
+-- What is known of a line where this path is open: it is this row, and what is open after it is what the row holds.
 pub record IsMet (options : ParseOptions) (bytes : List ℕ) (p : Path) (line : TextLine) (row : Row) : Type 0 where
   pub plain : IsPlain p
   pub own : List ℕ
@@ -96,7 +96,7 @@ pub record IsMet (options : ParseOptions) (bytes : List ℕ) (p : Path) (line : 
   pub change : row.change ≡ (contained_at options p (whole line)).change
   pub behind : still_of (step options p (whole line)) ≡ row.behind
 
--- the containers that end behind it are those that end in front of the next
+-- the containers that end after it are those that end before the next
 abbrev pub EndsTo : Row → List Row → Type 0
 EndsTo row [] = Unit {0}
 EndsTo row (next ∷ rows) = row.closed_after ≡ next.change.closes
@@ -117,7 +117,7 @@ meets-leaf options bytes p line row is = record {
       ∙ contained-still options (containers_of p) (still_of p) (whole line) (ap may_go_on (sym is.on) ∙ may);
 }
 
--- The first of these lines is what its row is in front of the others.
+-- The first of these lines is what its row is before the others.
 abbrev pub HasRole : (options : ParseOptions) (bytes : List ℕ) (p : Path) (lines : List TextLine) (rows : List Row) →
     AreMet options bytes p lines rows → Type 0
 HasRole options bytes p (line ∷ lines) (row ∷ rows) are =

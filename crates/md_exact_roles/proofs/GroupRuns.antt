@@ -1,4 +1,4 @@
--- The lines of the exact list that are put together: a line, and those behind it that go on the leaf in front of them.
+-- The lines of the exact list that are put together: a line, and those after it that continue the leaf before them.
 use Rattle.std.proofs.Common.{◌≡◌, Bool, true, false, cond, List, [], ◌∷◌, refl, ap, sym, ◌∙◌}
 use Rattle.std.specs.Prelude.{◌&&◌, ◌||◌, not, if◌then◌else◌}
 use Rattle.md_engine.specs.declared.configuration.ParseOptions.{ParseOptions}
@@ -14,7 +14,7 @@ use Rattle.md_registry.specs.Registry.{leaf}
 use Rattle.md_exact_roles.proofs.KindRoles.{further_role}
 use Rattle.md_exact_roles.proofs.RowRoles.{behind_code, in_code, is_headed, row_role, row_role_by}
 
--- Those behind a line that are put together with it, and the others.
+-- Those after a line that are put together with it, and the others.
 abbrev pub run : List exact.Row → List exact.Row
 run [] = []
 run (row ∷ rows) = if goes_on row.role then row ∷ run rows else []
@@ -36,7 +36,7 @@ grouped-run row (next ∷ rows) =
     go true below = refl
     go false below = ap (λ (gs : List (List exact.Row)). (row ∷ []) ∷ gs) below
 
--- Whether a line goes on the leaf in front of it, by its row and those behind it, where this leaf is open before it: a
+-- Whether a line continues the leaf before it, by its row and those after it, where this leaf is open before it: a
 -- further line of code does if it belongs to the code, and text if it is no head.
 abbrev pub is_open_code : Leaf → Bool
 is_open_code (OpenCode lines) = true

@@ -1,5 +1,5 @@
--- The lines of the exact list are put together as their rows are grouped, but for blank lines behind code, each of
--- which is alone.
+-- The lines of the exact list are put together as their rows are grouped, but for blank lines after code, each of which
+-- is alone.
 use Rattle.std.proofs.Common.{◌≡◌, ℕ, Bool, true, false, cond, List, [], ◌∷◌, ◌++◌, refl, ap, ap₂, sym, ◌∙◌, subst}
 use Rattle.std.specs.Prelude.{◌&&◌, ◌||◌, not, if◌then◌else◌}
 use Rattle.md_engine.specs.declared.configuration.ParseOptions.{ParseOptions}
@@ -50,7 +50,7 @@ abbrev pub TakesEach : Fits → List Row → (List (List exact.Row) → Type 0) 
 TakesEach Fit [] More ess = More ess
 TakesEach Fit (row ∷ rows) More ess = TakesLines Fit (row ∷ []) (TakesEach Fit rows More) ess
 
--- of the further lines of a leaf those that belong to it, and those behind it: blank lines behind code
+-- of the further lines of a leaf those that belong to it, and those after it: blank lines after code
 abbrev pub within_leaf : Bool → List Row → List Row
 within_leaf code [] = []
 within_leaf code (row ∷ rows) = if code then inner row_unread (row ∷ rows) else row ∷ rows
@@ -70,9 +70,9 @@ GroupsMatch Fit (LeafLines row rows ∷ gs) ess =
     TakesLines Fit (row ∷ within_leaf (is_code row.behind) rows)
     (TakesEach Fit (behind_leaf (is_code row.behind) rows) (GroupsMatch Fit gs)) ess
 
--- What is known of a line and of those behind it.
+-- What is known of a line and of those after it.
 
--- whether it goes on the leaf in front of it
+-- whether it continues the leaf before it
 abbrev pub goes_kind : Row → List Row → RowKind → Bool
 goes_kind row rows BlankRow = false
 goes_kind row rows (LeafRow l) = (leaf l).further row.on && (not (is_code row.on) || in_code row rows)
@@ -85,8 +85,8 @@ pub record IsAligned (options : ParseOptions) (bytes : List ℕ) (Fit : Fits) (e
   pub goes : goes_on_role e.role ≡ goes_kind row rows row.kind
   pub fits : Fit e row
 
--- and of the line behind it: what it meets is what this one has left open, and it goes on text where no container opens
--- on it
+-- and of the line after it: what it meets is what this one has left open, and it continues text where no container
+-- opens on it
 pub record IsBelow (row next : Row) : Type 0 where
   pub met : may_go_on next.on ≡ true → next.on ≡ row.behind
   pub unlazy : takes_lazy row.behind ≡ false → takes_lazy next.on ≡ false
@@ -102,7 +102,7 @@ AreAligned options bytes Fit (e ∷ es) (row ∷ rows) =
     (is : IsAligned options bytes Fit e row rows) × (below : FirstBelow row rows) × AreAligned options bytes Fit es rows
 AreAligned options bytes Fit es rows = ⊥
 
--- Blank lines behind code.
+-- Blank lines after code.
 
 inside-false : (rows : List Row) → within_leaf false rows ≡ rows
 inside-false [] = refl
@@ -132,7 +132,7 @@ framed-none : (x y : Bool) → (x || y) ≡ false → y ≡ false
 framed-none true y e = cc
 framed-none false y e = e
 
--- A line that goes on a leaf.
+-- A line that continues a leaf.
 
 pub code-held : (on : HeldLeaf) → is_code on ≡ true → on ≡ held_leaf.Code
 code-held held_leaf.Code e = refl
@@ -196,7 +196,7 @@ and-none : (x : Bool) → (x && false) ≡ false
 and-none true = refl
 and-none false = refl
 
--- where no text is open, only a line that goes on what is open is put together with the line in front of it
+-- where no text is open, only a line that continues what is open is put together with the line before it
 unlazy-goes : (row next : Row) (rows : List Row) → IsBelow row next → takes_lazy row.behind ≡ false →
     is_further next.kind next.on ≡ false → goes_kind next rows next.kind ≡ false
 unlazy-goes row next rows below unlazy begins = go next.kind begins
@@ -207,7 +207,7 @@ unlazy-goes row next rows below unlazy begins = go next.kind begins
     go TextRow e =
         ap (λ (x : Bool). not (is_headed rows) && x) (below.unlazy unlazy) ∙ and-none (not (is_headed rows))
 
--- A line in front of others, of which the first are put together.
+-- A line before others, of which the first are put together.
 
 abbrev joined : exact.Row → exact.Row → List exact.Row → List (List exact.Row) → Bool → List (List exact.Row)
 joined e f fs ess x = cond x ((e ∷ f ∷ fs) ∷ ess) ((e ∷ []) ∷ (f ∷ fs) ∷ ess)
@@ -266,7 +266,7 @@ head-step Fit e f fs ess row next rows More false fit other below = (
   subst (λ (l : List Row). TakesEach Fit l More ess) (outside-false rows) below.1,
 )
 
--- Text in front of text that is no head.
+-- Text before text that is no head.
 
 abbrev IsTextFirst : Row → List Group → Type 0
 IsTextFirst next (Lines row rows ∷ gs) = row ≡ next
@@ -335,7 +335,7 @@ text-step Fit e f fs ess row next g (Single first ∷ gs) fit goes same more = a
 text-step Fit e f fs ess row next g (Headed first under rows ∷ gs) fit goes same more = absurd same
 text-step Fit e f fs ess row next g (LeafLines first rows ∷ gs) fit goes same more = absurd same
 
--- text in front of a line of a leaf of several that takes no head: no line goes on that
+-- text before a line of a leaf of several that takes no head: no line continues that
 stops-further : (options : ParseOptions) (bytes : List ℕ) (Fit : Fits) (next : Row) (es : List exact.Row)
     (rows : List Row) → FirstBelow next rows → AreAligned options bytes Fit es rows → may_go_on next.behind ≡ false →
     further_rows rows ≡ []
@@ -374,7 +374,7 @@ match-step options bytes Fit e f es fs ess row next rows are more = go row.kind 
     fit : Fit e row
     fit = are.0.fits
 
-    -- the further lines of the leaf of the next line, and the groups behind them
+    -- the further lines of the leaf of the next line, and the groups after them
     further : List Row
     further = further_rows rows
 
@@ -384,7 +384,7 @@ match-step options bytes Fit e f es fs ess row next rows are more = go row.kind 
     Done : List Group → Bool → Type 0
     Done groups_here x = GroupsMatch Fit groups_here (joined e f fs ess x)
 
-    -- nothing is open behind the line
+    -- nothing is open after the line
     closed : row.behind ≡ held_leaf.None → g ≡ false
     closed none =
         unlazy-goes row next rows below (ap takes_lazy none)
@@ -436,7 +436,7 @@ match-step options bytes Fit e f es fs ess row next rows are more = go row.kind 
         ((f ∷ fs) ∷ ess)) (further-code options bytes are.2.0.line next m below_is k y ∙ code)
         (subst (λ (l : List Group). GroupsMatch Fit l ((f ∷ fs) ∷ ess)) same more))))
 
-    -- text in front of a line that begins something
+    -- text before a line that begins something
     alone : (first : List Group) → gs ≡ first → onto_groups row TextRow first ≡ Lines row [] ∷ first → g ≡ false →
         Done (onto_groups row TextRow gs) g
     alone first same onto_first none =
@@ -461,7 +461,7 @@ match-step options bytes Fit e f es fs ess row next rows are more = go row.kind 
         begins false y = refl
         begins true y = let bad : true ≡ false = sym ends ∙ further-several m next.on y in cc
 
-    -- or a line of a leaf of several: it begins that, or goes on the text
+    -- or a line of a leaf of several: it begins that, or continues the text
     underlined : Bool → Bool → List Row → List Group
     underlined y h more_rows =
         cond (y && h) (Headed row next more_rows ∷ behind)

@@ -1,4 +1,4 @@
--- What a line is behind its containers, by the kind of its row and the leaf that it meets.
+-- What a line is after its containers, by the kind of its row and the leaf that it meets.
 use Rattle.std.proofs.Common.{◌≡◌, ℕ, Bool, true, false, cond, List, [], ◌∷◌, ◌++◌, length, refl, ap, sym, ◌∙◌, subst}
 use Rattle.std.proofs.Common.{arith}
 use Rattle.std.proofs.lemmas.Bool.Decides.{nat_tests}
@@ -39,12 +39,12 @@ use Rattle.md_rows.proofs.RegistryFound.{or_table, other_at, table-last, untable
 use Rattle.md_rows.proofs.TextFound.{Ended, behind-text, ended, knows-head, lazy_on, may-left, text-others, text_on}
 use Rattle.md_rows.proofs.TextFound.{underlined-untabled, unturned-setext}
 
--- a line that goes on this open leaf: on text it is an underline, or a delimiter row, which takes a head
+-- a line that continues this open leaf: on text it is an underline, or a delimiter row, which takes a head
 abbrev pub further_role : Leaf → Bool → Role
 further_role (OpenParagraph lines) heads = if heads then Delimiter else Underline
 further_role open_leaf heads = Further open_leaf
 
--- a line of a leaf that is no text: one that goes on the open leaf, or the first of another
+-- a line of a leaf that is no text: one that continues the open leaf, or the first of another
 abbrev pub leaf_role : ParseOptions → Leaf → HeldLeaf → Rest → LeafName → Role
 leaf_role options open_leaf on r l =
     if (leaf l).further on then further_role open_leaf (leaf l).heads else First ((leaf l).comes options NoLeaf r)
@@ -160,7 +160,7 @@ left-size [] = refl
 left-size (line ∷ left) =
     let some : nat_lt 0 (length (line ∷ left)) ≡ true = grind (arith, nat_tests) in some
 
--- a delimiter row stands where the leaf of tables starts
+-- a delimiter row is where the leaf of tables starts
 delimiter-starts : (options : ParseOptions) (bs : Blocks) (k : ParagraphLine) (ks : List ParagraphLine) (r : Rest) →
     is_some (table_at options bs (k ∷ ks) r) ≡ table_leaf.starts options (text_on (k ∷ ks)) r
 delimiter-starts options bs k ks r = subst Done (sym is.is) (at_end is.front is.last)
@@ -297,7 +297,7 @@ met-role options r open_leaf built =
     (none-role options NoLeaf r) (text-role options r) (λ l is. span-role options r l (further-span l is)) open_leaf
     built
 
--- Where not all containers go on and none opens: a line of text goes on the open text.
+-- Where not all containers continue and none opens: a line of text continues the open text.
 
 abbrev pub lazy_role : ParseOptions → Leaf → Rest → Role
 lazy_role options open_leaf r =
@@ -386,7 +386,7 @@ lazy-role options r open_leaf built =
         ∙ ap (λ (on : HeldLeaf). kind_role options l on r (line_kind options on r))
         (sym (met-none (kind_of_leaf l) (lines-unlazy (kind_of_leaf l) is.lines)))
 
--- What a line is, by whether all containers go on and whether none opens.
+-- What a line is, by whether all containers continue and whether none opens.
 pub line-role : (options : ParseOptions) (r : Rest) (open_leaf : Leaf) (all none : Bool) → IsBuiltLeaf open_leaf →
     let on = if none then met_by all (kind_of_leaf open_leaf) else held_leaf.None in
     (if not all && none && is_some (with_lazy options open_leaf r) then FurtherText

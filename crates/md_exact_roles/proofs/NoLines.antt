@@ -1,4 +1,4 @@
--- Where the exact list has no line behind the front of a text, the front is all of it, and its rows have no events.
+-- Where the exact list has no line after the front of a text, the front is all of it, and its rows have no events.
 use Rattle.std.proofs.Common.{◌≡◌, ℕ, suc, ◌+◌, ◌-◌, ◌^◌, ◌<◌, ◌≤◌, Bool, cond, List, [], ◌∷◌, ◌++◌, length, map}
 use Rattle.std.proofs.Common.{drop, Option, Some, None, refl, ap, sym, ◌∙◌, subst, arith}
 use Rattle.std.proofs.lemmas.List.{length-drop, length-map}

@@ -1,4 +1,4 @@
--- Which containers go on and open on a line: those that its row has, each with the rest behind its prefix.
+-- Which containers continue and open on a line: those that its row has, each with the rest after its prefix.
 use Rattle.std.proofs.Common.{◌≡◌, ℕ, zero, suc, ◌≤◌, Bool, true, false, cond, ◌&&◌, List, [], ◌∷◌, length, map}
 use Rattle.std.proofs.Common.{drop, refl, ap, ap₂, sym, ◌∙◌, arith}
 use Rattle.std.specs.Prelude.{◌==◌, Option, Some, None}
@@ -27,11 +27,11 @@ containers-same (Within before container p) = ap (λ (cs : List Container). cont
 abbrev pub held_in : List Taken → List Container
 held_in ts = map (λ (t : Taken). t.container) ts
 
--- them, and the rest behind them, as a row has both
+-- them, and the rest after them, as a row has both
 abbrev pub prefixed : Rest → List Taken → Prefixed
 prefixed r ts = record { containers = held_in ts; rest = behind_all r ts }
 
--- Those that go on.
+-- Those that continue.
 
 pub gone_on-same : (options : ParseOptions) (p : Path) (r : Rest) →
     prefixes_on options (containers_of p) r ≡ prefixed r (gone_on options p r)

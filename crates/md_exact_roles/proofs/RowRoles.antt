@@ -1,5 +1,5 @@
--- What the lines of a text are behind their containers, where the line behind each is known: text in front of a
--- delimiter row is the head of a table, and a blank line in code belongs to it only where a further line does.
+-- What the lines of a text are after their containers, where the line after each is known: text before a delimiter row
+-- is the head of a table, and a blank line in code belongs to it only where a further line does.
 use Rattle.std.proofs.Common.{◌≡◌, ℕ, Bool, true, false, cond, List, [], ◌∷◌, refl, ap, sym, ◌∙◌}
 use Rattle.std.specs.Prelude.{◌&&◌, ◌||◌, not, if◌then◌else◌}
 use Rattle.md_engine.specs.declared.configuration.ParseOptions.{ParseOptions}
@@ -25,12 +25,12 @@ use Rattle.md_rows.proofs.RowFacts.{IsRow}
 use Rattle.md_rows.proofs.RowLeaf.{row-as}
 use Rattle.md_exact_roles.proofs.KindRoles.{further_role, kind_role, leaf_role}
 
--- whether the first of these lines takes the line in front of it as its head
+-- whether the first of these lines takes the line before it as its head
 abbrev pub is_headed : List Row → Bool
 is_headed [] = false
 is_headed (next ∷ rows) = is_further next.kind next.on && takes_head next.kind
 
--- those of them that come first and go on a leaf
+-- those of them that come first and continue a leaf
 abbrev pub further_rows : List Row → List Row
 further_rows [] = []
 further_rows (row ∷ rows) = if is_further row.kind row.on then row ∷ further_rows rows else []
@@ -43,7 +43,7 @@ abbrev pub behind_code : Role → Row → List Row → Role
 behind_code (Further (OpenCode lines)) row rows = if in_code row rows then Further (OpenCode lines) else BehindCode
 behind_code role row rows = role
 
--- what a line of any kind is in front of these, where this leaf is open before it
+-- what a line of any kind is before these, where this leaf is open before it
 abbrev pub row_role_by : ParseOptions → Leaf → Rest → Row → List Row → RowKind → Role
 row_role_by options open_leaf r row rows BlankRow = Blank
 row_role_by options open_leaf r row rows (LeafRow l) =
@@ -54,7 +54,7 @@ row_role_by options open_leaf r row rows TextRow =
 abbrev pub row_role : ParseOptions → Leaf → Rest → Row → List Row → Role
 row_role options open_leaf r row rows = row_role_by options open_leaf r row rows row.kind
 
--- Roles by which what stands in front of a line changes.
+-- Roles by which what is before a line changes.
 
 abbrev is_delimiter : Role → Bool
 is_delimiter Delimiter = true
@@ -116,7 +116,7 @@ delimiter-by options open_leaf r row rows TextRow =
     go false true = refl
     go false false = refl
 
--- What a further line of code is in front of a line, where code is open behind it.
+-- What a further line of code is before a line, where code is open after it.
 code-before : (options : ParseOptions) (lines : List Line) (r : Rest) (next : Row) (rows : List Row) (kind : RowKind)
     (s : Rest) (before : List Line) →
     role_before (row_role_by options (OpenCode lines) r next rows kind) s (Further (OpenCode before)) ≡
@@ -149,7 +149,7 @@ code-before options lines r next rows TextRow s before = go (is_headed rows) (ta
     go false true = refl
     go false false = refl
 
--- What is known of the line behind one that leaves this leaf open; these lines begin with it.
+-- What is known of the line after one that leaves this leaf open; these lines begin with it.
 pub record IsNext (next : Role) (behind : HeldLeaf) (rows : List Row) : Type 0 where
   pub delimiter : is_delimiter next ≡ (takes_lazy behind && is_headed rows)
   pub code : behind ≡ held_leaf.Code → (r : Rest) (lines : List Line) →
@@ -212,10 +212,10 @@ next-line options open_leaf r next rows = record {
 pub record MeetsLeaf (options : ParseOptions) (bytes : List ℕ) (open_leaf : Leaf) (row : Row) : Type 0 where
   pub line : List ℕ
   pub is : IsRow options bytes line row
-  -- if it may go on what it meets, that is the open leaf
+  -- if it may continue what it meets, that is the open leaf
   pub met : may_go_on row.on ≡ true → row.on ≡ kind_of_leaf open_leaf
 
--- text is open behind it if it is text
+-- text is open after it if it is text
 pub behind-lazy : (options : ParseOptions) (bytes line : List ℕ) (row : Row) → IsRow options bytes line row →
     takes_lazy row.behind ≡ is_text row.kind
 behind-lazy options bytes line row is = ap takes_lazy is.behind ∙ go row.kind
@@ -237,7 +237,7 @@ code-further HeadingSetext e = cc
 code-further ThematicBreak e = cc
 code-further GfmTable e = cc
 
--- So it is in front of these lines what its kind says.
+-- So it is before these lines what its kind says.
 pub role-before : (options : ParseOptions) (bytes : List ℕ) (open_leaf : Leaf) (row : Row) (next : Role)
     (rows : List Row) → (meets : MeetsLeaf options bytes open_leaf row) → IsNext next row.behind rows →
     role_before next meets.is.rest (kind_role options open_leaf row.on meets.is.rest row.kind) ≡

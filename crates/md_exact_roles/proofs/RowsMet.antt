@@ -16,7 +16,7 @@ use Rattle.md_rows.specs.Stands.{IsPlain, containers_of, still_of}
 use Rattle.md_rows.proofs.RowFacts.{AreRows, IsLine}
 use Rattle.md_exact_roles.proofs.ExactRoles.{AreMet, IsMet, contained_at}
 
--- What is open behind a line by the step of the line definition is what the line leaves open: its containers, the leaf,
+-- What is open after a line by the step of the line definition is what the line leaves open: its containers, the leaf,
 -- and that this may be open.
 pub record KnowsStep (options : ParseOptions) : Type 0 where
   pub plain : (p : Path) (r : Rest) → IsPlain p → IsPlain (step options p r)

@@ -1,4 +1,4 @@
--- Where the lines of a leaf of several are a group: the first of them, and all behind it that go on a leaf.
+-- Where the lines of a leaf of several are a group: the first of them, and all after it that continue a leaf.
 use Rattle.std.proofs.Common.{◌≡◌, Bool, true, false, cond, List, [], ◌∷◌, refl, ap, sym, ◌∙◌}
 use Rattle.std.specs.Prelude.{◌&&◌, if◌then◌else◌}
 use Rattle.std.proofs.lemmas.Bool.{and_parts}
@@ -12,12 +12,12 @@ use Rattle.md_rows.specs.Rows.{onto_groups, onto_leaf, onto_span, takes_head}
 use Rattle.md_rows.proofs.GroupLines.{Begins, FirstIs, onto-first}
 use Rattle.md_exact_roles.proofs.RowRoles.{further_rows, is_headed}
 
--- those behind the lines that go on a leaf
+-- those after the lines that continue a leaf
 abbrev pub behind_further : List Row → List Row
 behind_further [] = []
 behind_further (row ∷ rows) = if is_further row.kind row.on then behind_further rows else row ∷ rows
 
--- a line that goes on a leaf is one of a leaf of several lines
+-- a line that continues a leaf is one of a leaf of several lines
 pub further-several : (l : LeafName) (on : HeldLeaf) → (leaf l).further on ≡ true → (leaf l).ends ≡ false
 further-several CodeIndented on e = refl
 further-several CodeFurther on e = refl
@@ -30,7 +30,7 @@ further-several HeadingSetext on e = refl
 further-several ThematicBreak on e = cc
 further-several GfmTable on e = refl
 
--- a line of a leaf of several in front of lines of which the first goes on no leaf
+-- a line of a leaf of several before lines of which the first continues no leaf
 pub span-alone : (row : Row) (gs : List Group) → FirstIs Begins gs → onto_span row gs ≡ LeafLines row [] ∷ gs
 span-alone row [] first = refl
 span-alone row (Single next ∷ gs) first = refl
@@ -42,7 +42,7 @@ span-alone row (LeafLines next rows ∷ gs) first =
     (λ (x : Bool). cond x (LeafLines row (next ∷ rows) ∷ gs) (LeafLines row [] ∷ LeafLines next rows ∷ gs))
     first
 
--- A line of a leaf of several lines, and all lines behind it that go on a leaf, are one group.
+-- A line of a leaf of several lines, and all lines after it that continue a leaf, are one group.
 pub span-group : (row : Row) (rows : List Row) (l : LeafName) → row.kind ≡ LeafRow l → (leaf l).ends ≡ false →
     groups (row ∷ rows) ≡ LeafLines row (further_rows rows) ∷ groups (behind_further rows)
 span-group row [] l e several =
@@ -84,7 +84,7 @@ span-group row (next ∷ rows) l e several =
     go is false begins kind k =
         span-alone row below (onto-first Begins next next.kind (groups rows) begins) ∙ ap to (sym begins)
 
--- Text in front of a line that takes it as its head is a group with it and with the lines that go on that.
+-- Text before a line that takes it as its head is a group with it and with the lines that continue that.
 pub head-group : (row next : Row) (rows : List Row) → row.kind ≡ TextRow → is_headed (next ∷ rows) ≡ true →
     groups (row ∷ next ∷ rows) ≡ Headed row next (further_rows rows) ∷ groups (behind_further rows)
 head-group row next rows e headed =

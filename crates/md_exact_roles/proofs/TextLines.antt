@@ -1,4 +1,4 @@
--- The lines behind the front of a text, by their bytes: they are those that rows are made of.
+-- The lines after the front of a text, by their bytes: they are those that rows are made of.
 use Rattle.std.proofs.Common.{◌≡◌, ◌≤◌, ◌⊎◌, inl, inr, ℕ, zero, suc, ◌+◌, ◌-◌, Bool, true, false, cond, List, [], ◌∷◌}
 use Rattle.std.proofs.Common.{◌++◌, length, drop, refl, ap, ap₂, sym, ◌∙◌, subst, subst₂, append_assoc}
 use Rattle.std.proofs.Common.{arith}
@@ -65,7 +65,7 @@ have-bytes number index column text fulls (NextLine line ending rest more h befo
 
 -- Where a line begins.
 
--- behind an ending, which an LF behind a CR belongs to
+-- after an ending, which an LF after a CR belongs to
 pub placed-behind : (text : List ℕ) (ending : Ending) (rest : List ℕ) (p : Point) →
     drop p.index text ≡ ending_bytes ending ++ rest → EndsBefore ending rest → Placed text p →
     Placed text (past_ending ending p)
@@ -88,7 +88,7 @@ first-placed text = go (has_mark text) refl
         (refl, (refl, (refl, tt)))
     go false e = none
 
--- Behind some of its lines.
+-- After some of its lines.
 
 pub record LinesLeft (text : List ℕ) (lines : List TextLine) : Type 0 where
   pub number : ℕ
@@ -116,7 +116,7 @@ lines-behind text full more fulls (NextLine line ending rest below h before is s
     ∙ ap (drop (length (line ++ ending_bytes ending))) (sym (append_assoc line (ending_bytes ending) rest))
     ∙ drop-append_seam (line ++ ending_bytes ending) rest)) others is
 
--- the next one begins behind the ending of one, at a point of the text if that does
+-- the next one begins after the ending of one, at a point of the text if that does
 pub begin-behind : (number index column : ℕ) (line : List ℕ) (ending : Ending) →
     past_ending ending (past_text line (begin number index column)) ≡
     begin (number + 1) (index + length (line ++ ending_bytes ending)) 0
@@ -190,7 +190,7 @@ lines-left text number index column (full ∷ more) are placed (suc k) =
         (lines-behind (drop index text) full more (full ∷ more) are refl e))
         (next-begins text (drop index text) number index column full more (full ∷ more) refl are refl e placed))
 
--- Behind its front.
+-- After its front.
 
 mark-left : (text : List ℕ) → without_mark text ≡ drop (first_column text) text
 mark-left text = go (has_mark text)

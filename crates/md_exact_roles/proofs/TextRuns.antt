@@ -1,4 +1,4 @@
--- A line of text goes on the text in front of it where no container opens on it; then none ends in front of it.
+-- A line of text continues the text before it where no container opens on it; then none ends before it.
 use Rattle.std.proofs.Common.{◌≡◌, Bool, true, false, List, [], ◌∷◌, refl, ap, ap₂, sym, ◌∙◌}
 use Rattle.std.specs.Prelude.{◌&&◌}
 use Rattle.md_engine.specs.declared.configuration.ParseOptions.{ParseOptions}
@@ -12,7 +12,7 @@ use Rattle.md_frame.specs.Row.{Row, RowKind, TextRow}
 use Rattle.md_rows.specs.Fronted.{Prefixed, contained, prefixes_behind, prefixes_on}
 use Rattle.md_rows.specs.Rows.{goes_on, is_lazy, is_text, line_kind}
 
--- also where not all containers go on
+-- also where not all containers continue
 met-lazy : (all : Bool) (still : HeldLeaf) → takes_lazy still ≡ true → takes_lazy (met_by all still) ≡ true
 met-lazy true still e = e
 met-lazy false (held_leaf.Text at) e = refl

@@ -1,4 +1,4 @@
--- The name of the ending of a line behind which a leaf ends: that of a blank line, or that of any other.
+-- The name of the ending of a line after which a leaf ends: that of a blank line, or that of any other.
 use Rattle.std.proofs.Common.{◌≡◌, ◌⊎◌, inl, inr, ℕ, zero, suc, ◌+◌, ◌-◌, ◌%◌, ◌≤◌, Bool, true, false, cond, ◌&&◌, ◌||◌}
 use Rattle.std.proofs.Common.{List, [], ◌∷◌, ◌++◌, length, refl, sym, ap, ap₂, ◌∙◌, arith}
 use Rattle.std.specs.Prelude.{◌==◌, not, Option, Some, None}
@@ -38,7 +38,7 @@ use Rattle.md_exact_roles.proofs.KindRoles.{further_role, leaf_role}
 use Rattle.md_exact_roles.proofs.RowRoles.{IsCode, behind_code, code-further, code-is, further_rows, is_headed}
 use Rattle.md_exact_roles.proofs.RowRoles.{row_role, row_role_by}
 
--- Whether nothing at all stands on a line: each byte is a column at least.
+-- Whether nothing at all is on a line: each byte is a column at least.
 
 column-more : (b c : ℕ) → c + 1 ≤ column_past b c
 column-more b c = go (b == 9)
@@ -52,7 +52,7 @@ columns-more [] c = omega arith
 columns-more (b ∷ bs) c =
     let more = columns-more bs (column_past b c) in let some = column-more b c in omega (arith, more, some)
 
--- something stands on a line if its rest is not blank
+-- something is on a line if its rest is not blank
 rest-filled : (r : Rest) → is_blank r.bytes ≡ false → is_end (cut_tab r.spaces ++ r.bytes) ≡ false
 rest-filled r dark = go r.spaces r.bytes dark
   where
@@ -114,7 +114,7 @@ text-filled options on r e =
     go true o f = cc
     go false o f = refl
 
--- a leaf that goes on is one on which a line may go
+-- a leaf that continues is one on which a line may go
 lines-may : (on : HeldLeaf) → has_lines on ≡ true → may_go_on on ≡ true
 lines-may held_leaf.None e = cc
 lines-may (held_leaf.Text at) e = refl
@@ -134,10 +134,10 @@ pub record IsNamed (options : ParseOptions) (bytes : List ℕ) (x : exact.Row) (
   pub below : List Row
   pub role : x.role ≡ row_role options open_leaf is.rest r below
   pub met : may_go_on r.on ≡ true → r.on ≡ kind_of_leaf open_leaf
-  -- only the first line of a text may begin in another column than the first, and that goes on no leaf
+  -- only the first line of a text may begin in another column than the first, and that continues no leaf
   pub first : may_go_on r.on ≡ true → x.line.column ≡ 0
 
--- nothing stands on a line of a leaf just if its row says so
+-- nothing is on a line of a leaf just if its row says so
 nothing-stands : (options : ParseOptions) (bytes : List ℕ) (x : exact.Row) (r : Row) → IsNamed options bytes x r →
     (l : LeafName) → r.kind ≡ LeafRow l →
     is_end x.line.bytes ≡ (is_empty_row r && (r.first.column == 1))
@@ -155,7 +155,7 @@ nothing-stands options bytes x r is l kind = go (has_lines r.on) refl
         empty-line x.line is.is.rest r.first is.at (is.first (lines-may r.on e))
         ∙ ap (λ (t : Bool). t && (r.first.column == 1)) (sym (row-empty options bytes is.own r is.is))
 
--- Which lines are blank, though a leaf takes them: those behind code.
+-- Which lines are blank, though a leaf takes them: those after code.
 
 stays-code : (l : LeafName) → (leaf l).stays_blank ≡ true → l ≡ CodeFurther
 stays-code CodeIndented e = cc
@@ -169,7 +169,7 @@ stays-code HeadingSetext e = cc
 stays-code ThematicBreak e = cc
 stays-code GfmTable e = cc
 
--- whether it is one behind code that does not belong to it, or is not known to belong to it
+-- whether it is one after code that does not belong to it, or is not known to belong to it
 abbrev pub IsLast : Role → Rest → RowKind → Type 0
 IsLast role r kind = kind ≡ LeafRow CodeFurther → (is_blank r.bytes ≡ false) ⊎ (role ≡ BehindCode)
 
@@ -265,7 +265,7 @@ blank-leaf options bytes x r is l kind last = go (leaf l).stays_blank refl
     go true e = code (stays-code l e)
     go false e = ap is_blank_role role ∙ other e ((leaf l).further r.on) refl is.open_leaf refl
 
--- So the ending behind a leaf has the same name.
+-- So the ending after a leaf has the same name.
 pub name-same : (options : ParseOptions) (bytes : List ℕ) (x : exact.Row) (r : Row) → (is : IsNamed options bytes x r) →
     IsLast x.role is.is.rest r.kind → last_ending x ≡ ending_of r.kind r
 name-same options bytes x r is last = to (go r.kind refl)

@@ -1,4 +1,4 @@
--- Which containers end behind a line: those that do not go on in the next one, unless that is lazy.
+-- Which containers end after a line: those that do not continue in the next one, unless that is lazy.
 use Rattle.std.proofs.Common.{◌≡◌, ℕ, Bool, true, false, cond, ◌&&◌, List, [], ◌∷◌, ◌++◌, length, drop, refl, sym, ap}
 use Rattle.std.proofs.Common.{ap₂, ◌∙◌}
 use Rattle.std.specs.Prelude.{◌==◌, not, Option, Some, None}
@@ -40,7 +40,7 @@ use Rattle.md_exact_roles.proofs.KindRoles.{further_role, kind_role, lazy-role, 
 use Rattle.md_exact_roles.proofs.Opened.{all-same, containers-same, held_in}
 use Rattle.md_exact_roles.proofs.RowsMet.{KnowsStep}
 
--- A line goes on the open text although not all containers go on, just if it is text.
+-- A line continues the open text although not all containers continue, just if it is text.
 
 abbrev is_further_text : Role → Bool
 is_further_text FurtherText = true
@@ -207,7 +207,7 @@ plain-same [] p = refl
 plain-same (c ∷ cs) p =
     ap₂ (λ (es : List Event) (name : Name). es ++ exit name p ∷ []) (plain-same cs p) (name-same c)
 
--- those that end behind a line, by the lines behind it
+-- those that end after a line, by the lines after it
 closed-same : (options : ParseOptions) (bytes : List ℕ) (p : Path) (lines : List TextLine) (rows : List Row)
     (open_now : List Container) →
     containers_of p ≡ open_now → AreMet options bytes p lines rows →

@@ -43,7 +43,7 @@ use Rattle.md_exact_rows.proofs.Fit.{Fit}
 use Rattle.md_exact_rows.proofs.Fronts.{IsFronted, further-front, line-fronted, line_cells}
 
 -- These are the cells of a line of a text, where these containers and this leaf are open before it, and this is their
--- row; behind its ending the next line begins.
+-- row; after its ending the next line begins.
 pub record IsFed (options : ParseOptions) (bytes : List ℕ) (open_before : List Container) (still : HeldLeaf)
     (line : TextLine) (row : Row) : Type 0 where
   pub said : Line
@@ -59,7 +59,7 @@ pub record IsFed (options : ParseOptions) (bytes : List ℕ) (open_before : List
   -- only the first line of a text may begin in another column than the first
   pub column : (line.column ≡ 0) ⊎ (still ≡ held_leaf.None)
 
--- So are these lines and rows; the containers that end behind a line are those that the next one ends.
+-- So are these lines and rows; the containers that end after a line are those that the next one ends.
 abbrev pub AreFed : ParseOptions → List ℕ → List Container → HeldLeaf → List TextLine → List Row → Type 0
 AreFed options bytes open_before still [] [] = Unit {0}
 AreFed options bytes open_before still (line ∷ lines) (row ∷ rows) =
@@ -125,7 +125,7 @@ line-fit options bytes p line row lines rows knows are fed closed = record {
         ends-at line met.is.rest row.first at
         ∙ sym (met.is.end ∙ ap (λ (l : List ℕ). past_text l row.first) met.is.line_is)
 
-    -- behind the line
+    -- after the line
     ending_by : Name → Option Point → List Event
     ending_by name after = elim after [ None ↦ [] | Some q ↦ pair name row.end q ]
 

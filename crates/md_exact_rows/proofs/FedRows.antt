@@ -41,7 +41,7 @@ use Rattle.md_exact_rows.proofs.Fronts.{line_cells}
 
 -- One line.
 
--- behind its cells these stand
+-- after its cells these are
 stops-fed : (options : ParseOptions) (said : Line) (bytes behind : List ℕ) (open_before : List Container)
     (still : HeldLeaf) (line : TextLine) (stop : List Cell) →
     IsWithoutMdx options → LineIn bytes behind line → AreRead open_before → Stops stop →
@@ -59,14 +59,14 @@ stops-fed options said bytes behind open_before still line stop built is read k 
           ∙ rest-ending said c.rest h.point stop has.no_ending k (omega (arith, column)) has.stands.cut,
     )
 
--- the rows behind a line, by the cells that stand behind its own
+-- the rows after a line, by the cells that are after its own
 abbrev behind_by : ParseOptions → ℕ → Held → List Cell → List Row
 behind_by options n h cells = elim cells [
   | [] ↦ []
   | c ∷ cs ↦ rows_at options n (open_behind h.change) (behind_held options h) cs c.after
 ]
 
--- so it is a line in front of those
+-- so it is a line before those
 onto-fed : (options : ParseOptions) (n : ℕ) (said : Line) (bytes behind : List ℕ) (open_before : List Container)
     (still : HeldLeaf) (line : TextLine) (lines : List TextLine) (cells stop : List Cell) →
     IsWithoutMdx options → LineIn bytes behind line → AreRead open_before → length cells < 2 ^ 63 → Stops stop →

@@ -22,22 +22,22 @@ pub record Fit (options : ParseOptions) (bytes : List ℕ) (x : Row) (r : FrameR
   pub own : List ℕ
   pub is : IsRow options bytes own r
   pub rest : is.rest ≡ x.rest
-  -- the line is one of the text, and its rest stands where the row begins
+  -- the line is one of the text, and its rest is where the row begins
   pub behind : List ℕ
   pub within : LineIn bytes behind x.line
   pub on : OnLine bytes behind x.line x.rest r.first
   -- its ending, and where the next line begins
   pub ending : (name : Name) → ending name x.line ≡ ending_events name r
   pub next : next_line x.line ≡ behind_row r
-  -- what stands in front of it, but for begins of lists; a line that goes on a leaf opens no container
+  -- what is before it, but for begins of lists; a line that continues a leaf opens no container
   pub front : without_lists x.front ≡ r.front
   pub further : goes_on x.role ≡ true → x.front ≡ r.front
-  -- what ends behind it, but for ends of lists, and the name of its ending where it may be the last line of a leaf: a
+  -- what ends after it, but for ends of lists, and the name of its ending where it may be the last line of a leaf: a
   -- blank line within code is not
   pub ends : without_lists x.ends ≡ ends_of r.closed_after r.end
   pub name : (r.kind ≡ LeafRow CodeFurther → (is_blank x.rest.bytes ≡ false) ⊎ (x.role ≡ BehindCode)) →
       last_ending x ≡ ending_of r.kind r
-  -- what it is, where this leaf is open before it and these rows are behind it
+  -- what it is, where this leaf is open before it and these rows are after it
   pub open_leaf : Leaf
   pub below : List FrameRow
   pub role : x.role ≡ row_role options open_leaf x.rest r below

@@ -1,4 +1,4 @@
--- What stands in front of a line, and where its rest begins: both are those of the cells of the line.
+-- What is before a line, and where its rest begins: both are those of the cells of the line.
 use Rattle.std.proofs.Common.{◌≡◌, ℕ, zero, suc, ◌+◌, ◌^◌, ◌<◌, ◌≤◌, Bool, true, false, cond, ◌&&◌, List, [], ◌∷◌, ◌++◌}
 use Rattle.std.proofs.Common.{length, refl, sym, ap, ap₂, ◌∙◌, subst, subst₂, arith}
 use Rattle.std.specs.Prelude.{◌==◌, not, Option, Some, None}
@@ -105,7 +105,7 @@ rest-long said r p stop = go r.spaces
         let all = length-append (tab_cells said n 32 p ++ spread said r.bytes (tab_end n p)) stop in
         omega (arith, long, tab, all)
 
--- The containers that open behind those that went on.
+-- The containers that open after those that continued.
 
 new-same : (options : ParseOptions) (said : Line) (bytes behind : List ℕ) (line : TextLine) (p : Path)
     (stop : List Cell) (went : Front) →
@@ -179,8 +179,8 @@ new-same options said bytes behind line p stop went plain is k has =
         (opened-same options said bytes behind line y (length went.cells) inner went.point stop is has.on has.plain k
         short))
 
--- So what stands in front of a line is what its cells have, but for the begins of lists, and its rest stands where the
--- cells behind that begin.
+-- So what is before a line is what its cells have, but for the begins of lists, and its rest is where the cells after
+-- that begin.
 pub record IsFronted (bytes behind : List ℕ) (line : TextLine) (x : exact.Row) (h : Held) : Type 0 where
   pub front : without_lists x.front ≡ h.front
   pub on : OnLine bytes behind line x.rest h.point
@@ -207,7 +207,7 @@ line-fronted options said bytes behind line p stop below plain read is k short =
       on = new.on;
     }
 
--- In front of a line that goes on a leaf no container opens.
+-- Before a line that continues a leaf no container opens.
 
 before-begins : (next : Role) (r : Rest) (role : Role) → goes_on role ≡ false →
     goes_on (role_before next r role) ≡ false

@@ -26,7 +26,7 @@ use Rattle.md_exact_lines.proofs.Parts.{IsBehind, Stands, past-behind, piece-is,
 use Rattle.md_exact_lines.proofs.Parts.{white-behind}
 use Rattle.md_exact_tables.proofs.FirstCell.{IsPiped}
 
--- two rests of known bytes, one behind the other
+-- two rests of known bytes, one after the other
 pub behind-from : (line : TextLine) (r s : Rest) (p : Point) (xs ys : List ℕ) → Stands line (xs ++ ys) p r →
     Stands line ys (past_text xs p) s → IsBehind line r xs ys p s
 behind-from line r s p xs ys is at = record {
@@ -45,7 +45,7 @@ pub over-white : (bytes : List ℕ) (p : Point) → part_over n.SpaceOrTab bytes
 over-white [] p = refl
 over-white (b ∷ bytes) p = refl
 
--- behind the whitespace in front nothing stands just in a blank one
+-- after the whitespace in front nothing is just in a blank one
 pub start-end : (x : List ℕ) → is_end (trim_start x) ≡ is_blank x
 start-end [] = refl
 start-end (b ∷ x) = go (is_white b) refl (start-end x)
@@ -73,12 +73,12 @@ blank-front x h = record {
     start : trim_start x ≡ []
     start = none (trim_start x) (start-end x ∙ h)
 
--- what stands there stays, in front of more
+-- what is there stays, before more
 dark-start : (x back : List ℕ) → is_end x ≡ false → begins is_white x ≡ false → begins is_white (x ++ back) ≡ false
 dark-start [] back some h = let no : true ≡ false = some in cc
 dark-start (b ∷ x) back some h = h
 
--- so in a cell that is not blank something stands between the whitespace
+-- so in a cell that is not blank something is between the whitespace
 pub trim-some : (x : List ℕ) → is_blank x ≡ false → is_end (trim x) ≡ false
 trim-some x h = by (trim_start x) (start-end x ∙ h) (front-stops is_white x)
   where
@@ -105,14 +105,14 @@ end-front x h =
 
 -- The events.
 
--- What stands in a cell between two rests, where it is these bytes.
+-- What is in a cell between two rests, where it is these bytes.
 pub record IsInner (inner : Inner) (part : List ℕ → Point → List Event) (Fits : List ℕ → Type 0) : Type 0 where
   pub nothing : (p : Point) → part [] p ≡ []
   pub held : (line : TextLine) (r s : Rest) (p : Point) (xs ys : List ℕ) → Stands line (xs ++ ys) p r →
       IsBehind line r xs ys p s → Fits xs → is_end xs ≡ false → begins (λ (b : ℕ). b == 45) ys ≡ false →
       inner line r s ≡ part xs p
 
--- behind it comes no hyphen, but whitespace, a pipe or nothing
+-- after it comes no hyphen, but whitespace, a pipe or nothing
 behind-apart : (tail back : List ℕ) → is_blank tail ≡ true → IsPiped back →
     begins (λ (b : ℕ). b == 45) (tail ++ back) ≡ false
 behind-apart [] [] blank piped = refl
@@ -218,7 +218,7 @@ dark-cell inner part Fits kind line r s p cell back is at piped dark fits =
         (ap (λ (l : List ℕ). past_text l p) (cell-whole cell) ∙ past_text-append front (text ++ tail) p
         ∙ past_text-append text tail q) at
 
--- What stands in a cell of some bytes, which the first so many of a rest are.
+-- What is in a cell of some bytes, which the first so many of a rest are.
 pub content-is : (inner : Inner) (part : List ℕ → Point → List Event) (Fits : List ℕ → Type 0) →
     IsInner inner part Fits →
     (line : TextLine) (r s : Rest) (p : Point) (size : ℕ) (cell back : List ℕ) → Stands line (cell ++ back) p r →

@@ -29,7 +29,7 @@ abbrev pub optional : ℕ → Bool → List ℕ
 optional b true = b ∷ []
 optional b false = []
 
--- behind nothing
+-- after nothing
 none-behind : (line : TextLine) (r : Rest) (p : Point) (bytes : List ℕ) → Stands line bytes p r →
     IsBehind line r [] bytes p r
 none-behind line r p bytes is = record { stands = is; fewer = omega arith }
@@ -51,7 +51,7 @@ optional-front b line r p (c ∷ bs) is =
         (taken-front line r p 1 (c ∷ bs) is)
     go false e = none-behind line r p (c ∷ bs) is
 
--- a pipe in front of a cell, if there is one
+-- a pipe before a cell, if there is one
 past-pipe : (piped : Bool) (p : Point) → past_text (optional 124 piped) p ≡ past_pipe piped p
 past-pipe true p = refl
 past-pipe false p = refl
@@ -80,14 +80,14 @@ first-fits Fits cell (b ∷ bs) h = go (is_blank bs) h
 
 -- Cells from the bar of one on, where its events are known up to there.
 
--- what the cells behind a bar are
+-- what the cells after a bar are
 abbrev Later : Name → Inner → (List ℕ → Point → List Event) → (List ℕ → Type 0) → ℕ → TextLine → ℕ → Type 0
 Later name inner held Fits size line most =
     (s : Rest) (q : Point) (bs : List ℕ) → Stands line (124 ∷ bs) q s → suc (length bs) ≤ most →
     EachFits Fits (cells_of false bs) →
     cells size name inner line s ≡ cells_by name held true (cells_of false bs) q
 
--- a cell, by what stands in it in front of its bar, and those behind it
+-- a cell, by what is in it before its bar, and those after it
 abbrev from_bar : ℕ → Name → Inner → TextLine → Rest → List Event → Rest → List Event
 from_bar size name inner line r inside bar =
     let after : Rest = past_optional 124 bar in
@@ -169,7 +169,7 @@ bar-is size name inner held Fits line r bar p inside piped cell (b ∷ bs) at pi
         ∙ ap (λ (es : List Event). es ++ cells_by name held true (cells_of false bs) e)
         (parts bar e (inside ++ []) (124 ∷ bs) stands ∙ ap (around name p e) (append-nil inside ∙ known))
 
--- behind a cell fewer bytes are left than in front of it
+-- after a cell fewer bytes are left than before it
 back-fewer : (bytes : List ℕ) → is_end bytes ≡ false →
     suc (length (drop (cell_len false (after_optional 124 bytes)) (after_optional 124 bytes))) ≤ length bytes
 back-fewer [] some = let no : true ≡ false = some in cc

@@ -12,7 +12,7 @@ abbrev pub from_first : List ℕ → List ℕ → Cells
 from_first cell [] = Ends cell
 from_first cell (b ∷ bs) = cond (is_blank bs) (Shut cell bs) (Divides cell (cells_of false bs))
 
--- a byte in front of the first
+-- a byte before the first
 onto-first : (b : ℕ) (cell back : List ℕ) → onto b (from_first cell back) ≡ from_first (b ∷ cell) back
 onto-first b cell [] = refl
 onto-first b cell (c ∷ bs) = go (is_blank bs)
@@ -40,7 +40,7 @@ len-other b bs e = rw e (one-more (cell_len (nat_eq b 92) bs))
 
 -- The cells of some bytes.
 
--- cut behind so many
+-- cut after so many
 abbrev cut_at : ℕ → List ℕ → Cells
 cut_at size bs = from_first (take size bs) (drop size bs)
 
@@ -66,7 +66,7 @@ first-cell false (b ∷ bs) = go (nat_eq b 124) refl (first-cell (nat_eq b 92) b
         cells-other b bs e ∙ ap (onto b) more ∙ onto-first b (take size bs) (drop size bs)
         ∙ ap (λ (k : ℕ). cut_at k (b ∷ bs)) (sym (len-other b bs e))
 
--- Behind the first stands a pipe, or nothing.
+-- After the first is a pipe, or nothing.
 
 abbrev pub IsPiped : List ℕ → Type 0
 IsPiped [] = Unit {0}

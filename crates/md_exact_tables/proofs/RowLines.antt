@@ -70,7 +70,7 @@ over-marker : (some : Bool) (p : Point) →
 over-marker true p = refl
 over-marker false p = refl
 
--- behind them comes none of them
+-- after them comes none of them
 no-dash : (right : Bool) (ys : List ℕ) → begins (λ (b : ℕ). b == 45) ys ≡ false →
     begins (λ (b : ℕ). b == 45) (colons right ++ ys) ≡ false
 no-dash true ys apart = refl

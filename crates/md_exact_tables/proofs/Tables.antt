@@ -37,7 +37,7 @@ pub record IsTableLine (bytes : List ℕ) (x : Row) (r : FrameRow) : Type 0 wher
   pub same : SameLine x r
   pub line : row_line bytes r ≡ rest_bytes x.rest
 
--- So it is where the rest of the line stands at a point of the text, from which flow has read the line to its end.
+-- So it is where the rest of the line is at a point of the text, from which flow has read the line to its end.
 pub table-line : (text behind : List ℕ) (x : Row) (r : FrameRow) → LineIn text behind x.line →
     OnLine text behind x.line x.rest r.first → r.end ≡ end_at x.rest r.first →
     ((name : Name) → ending name x.line ≡ ending_events name r) → x.front ≡ r.front → IsTableLine text x r

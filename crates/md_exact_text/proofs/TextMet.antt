@@ -19,7 +19,7 @@ use Rattle.md_exact_roles.proofs.GroupsMatch.{Fits, GroupsMatch, Pairs, groups-m
 use Rattle.md_exact_roles.proofs.RowsMet.{HaveBytes, KnowsStep, rows-met}
 use Rattle.md_exact_roles.proofs.TextLines.{body-bytes}
 
--- the lines behind the front of a text, and what is open in front of them
+-- the lines after the front of a text, and what is open before them
 abbrev pub body_lines : ParseOptions → List ℕ → List TextLine
 body_lines options text = drop (front_size options text) (text_lines text)
 

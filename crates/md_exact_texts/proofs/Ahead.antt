@@ -8,7 +8,7 @@ use Rattle.md_exact.specs.Places.{past}
 use Rattle.md_exact.specs.Rows.{Row}
 use Rattle.md_exact.specs.Texts.{ahead, back, left, lines_left, on_first}
 
--- Bytes behind others.
+-- Bytes after others.
 
 columns-two : (n a c : ℕ) (b : List ℕ) →
     columns_from (columns_from c (take n b) + 0) (take a (drop n b)) ≡ columns_from c (take (n + a) b)
@@ -38,7 +38,7 @@ past-past n a r =
 abbrev pub at : Row → Rest → Row
 at row r = record row { rest = r }
 
--- so many bytes of a row are passed, and all rows in front of it
+-- so many bytes of a row are passed, and all rows before it
 pub record Ahead (rows ends : List Row) : Type 0 where
   pub front : List Row
   pub row : Row
@@ -128,7 +128,7 @@ ahead-fewer rows ends h =
     let some = ap (λ (l : List Row). length l) h.ends_are in
     omega (arith, all, parts, some)
 
--- The place is told by how many rows and bytes are left.
+-- The place is known from how many rows and bytes are left.
 
 behind-front : (front : List Row) (row : Row) (more : List Row) →
     drop (length (front ++ row ∷ more) - (length more + 1)) (front ++ row ∷ more) ≡ row ∷ more
@@ -167,7 +167,7 @@ left-is rows (end ∷ ends) lines h e =
     (length-map (map (λ (row : Row). row.rest.bytes) ends) trim_start ∙ length-map ends (λ (row : Row). row.rest.bytes))
     ∙ ahead-is rows end ends h
 
--- in front of the last byte
+-- before the last byte
 pub back-is : (rows : List Row) (end : Row) (ends : List Row) → Ahead rows (end ∷ ends) →
     1 ≤ length end.rest.bytes → back rows (at end (past 1 end.rest) ∷ ends) ≡ end ∷ ends
 back-is rows end ends h some =
@@ -176,7 +176,7 @@ back-is rows end ends h some =
     size : length (drop 1 end.rest.bytes) + 1 ≡ length end.rest.bytes
     size = let all = length-drop 1 end.rest.bytes in omega (arith, all, some)
 
--- Rows that are passed: behind the first of these stand others, and then those behind the first of the ends.
+-- Rows that are passed: after the first of these are others, and then those after the first of the ends.
 pub record Onward (rows ends : List Row) : Type 0 where
   pub passed : List Row
   pub behind : drop 1 rows ≡ passed ++ drop 1 ends

@@ -1,4 +1,4 @@
--- Rows of a text that stand where the cells of its lines do.
+-- Rows of a text that are where the cells of its lines do.
 use Rattle.std.proofs.Common.{◌≡◌, ℕ, zero, suc, true, false, List, [], ◌∷◌, ◌++◌, map, refl, sym, ap, ◌∙◌, subst}
 use Rattle.std.proofs.Common.{arith, append-nil, inl, inr, ◌≤◌}
 use Rattle.std.proofs.lemmas.Bool.{eqb-true}
@@ -47,7 +47,7 @@ row-plain text row p is = go row.rest.spaces
         tab n p (spread no_line row.rest.bytes (tab_end n p))
         (no_feed-spread no_line row.rest.bytes (tab_end n p) is.plain)
 
--- behind a row stands its ending, and the next row with what its containers have in front of it
+-- after a row is its ending, and the next row with what its containers have before it
 pub record Over (Next : Point → List Cell → List Turn → Type 0) (row further : Row) (stop : List Cell)
     (turns : List Turn) : Type 0 where
   pub d : Cell
@@ -69,7 +69,7 @@ pub record Stopped (text : List ℕ) (row : Row) (p : Point) (cells : List Cell)
   pub cells_are : cells ≡ rest_cells no_line row.rest p ++ stop
   pub behind : Next stop
 
--- these rows stand from a point on, where these cells are left and these turns are still to come
+-- these rows are from a point on, where these cells are left and these turns are still to come
 abbrev pub Along : List ℕ → List Row → Point → List Cell → List Turn → Type 0
 Along text [] p cells turns = ⊥
 Along text (row ∷ []) p cells turns = Stopped text row p cells (λ stop. (stop ≡ []) × (turns ≡ []))

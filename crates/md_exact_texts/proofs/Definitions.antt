@@ -1,5 +1,5 @@
--- A definition, by the rows that it stands in: where its cells stand in front of rows, the exact list finds it there
--- and has its events in the places of their lines.
+-- A definition, by the rows that it is in: where its cells are before rows, the exact list finds it there and has its
+-- events in the places of their lines.
 use Rattle.std.proofs.Common.{◌≡◌, ℕ, ◌≤◌, Bool, true, false, cond, nat_eq, List, [], ◌∷◌, ◌++◌, length}
 use Rattle.std.proofs.Common.{refl, sym, ap, ap₂, ◌∙◌, subst, arith, Option, Some, None}
 use Rattle.std.specs.Prelude.{◌==◌}
@@ -53,7 +53,7 @@ use Rattle.md_exact_texts.proofs.Marks.{LabelOn, label-on, mark-on}
 
 -- The indent.
 
--- two rests of a line that stand at one point are the same
+-- two rests of a line that are at one point are the same
 same-rest : (text behind : List ℕ) (line : TextLine) (r s : Rest) (p : Point) → OnLine text behind line r p →
     OnLine text behind line s p → r ≡ s
 same-rest text behind line r s p h k =
@@ -75,7 +75,7 @@ same-rest text behind line r s p h k =
 same-behind : (text a b : List ℕ) (line : TextLine) → LineIn text a line → LineIn text b line → a ≡ b
 same-behind text a b line h k = append_cancel_left line.bytes a b (sym h.stands.text_is ∙ k.stands.text_is)
 
--- the first of some rows stands in their cells
+-- the first of some rows is in their cells
 record FirstIn (text : List ℕ) (row : Row) (p : Point) (cells : List Cell) : Type 0 where
   begins : Begins text row p
   stop : List Cell
@@ -90,7 +90,7 @@ first-in text row (next ∷ rows) p cells turns h =
     let o = h.behind in
     record { begins = h.begins; stop = h.stop; cells_are = h.cells_are; stops = subst Stops (sym o.stop_is) o.ten }
 
--- behind whitespace it stands behind its indent
+-- after whitespace it is after its indent
 indent-is : (text : List ℕ) (last : Point) (row : Row) (rows : List Row) (p : Point) (cells : List Cell)
     (turns : List Turn) → Walk text last p cells turns → Along text (row ∷ rows) p cells turns →
     (on : WhiteOn text row rows p cells turns) → behind_indent row.rest ≡ past on.size row.rest
@@ -256,7 +256,7 @@ end-at text last (row ∷ rows) p cells turns ends walk along =
 
 -- Up to the end of its destination.
 
--- where its value begins, behind the colon, and its destination, behind a gap
+-- where its value begins, after the colon, and its destination, after a gap
 abbrev value_of : List Row → List Row
 value_of rows = on_first (past 1) (behind_label rows)
 
@@ -518,7 +518,7 @@ inner-on text last x d turns rows are label_is walk along = record {
 
 -- With its indent.
 
--- what a definition has of rows; behind it these stand, behind whitespace, at the end of a line
+-- what a definition has of rows; after it these are, after whitespace, at the end of a line
 pub record DefinitionOn (text : List ℕ) (last p : Point) (d : DefinitionParts) (turns : List Turn) (rows : List Row) :
     Type 0 where
   pub left : List Turn

@@ -1,4 +1,4 @@
--- Destinations, by their cells: which of the two kinds one is, and where the rows stand behind it.
+-- Destinations, by their cells: which of the two kinds one is, and where the rows are after it.
 use Rattle.std.proofs.Common.{◌≡◌, ℕ, suc, Bool, true, false, cond, List, [], ◌∷◌, ◌++◌, length, take, drop, map}
 use Rattle.std.proofs.Common.{refl, sym, ap, ◌∙◌, subst, arith, append_assoc}
 use Rattle.std.specs.Prelude.{◌==◌, Option, Some, None}
@@ -45,9 +45,9 @@ use Rattle.md_exact_texts.proofs.Gaps.{first-byte}
 use Rattle.md_exact_texts.proofs.Strands.{chunks-one}
 use Rattle.md_exact_texts.proofs.Targets.{LiteralOn, RawOn, literal-on, literal_events, raw-on, raw_events}
 
--- What stands in front of cells where a destination is found there.
+-- What is before cells where a destination is found there.
 
--- bytes that may stand in one, or a text between angle brackets
+-- bytes that may be in one, or a text between angle brackets
 data Found (cells : List Cell) (d : Destination) : Type 0 where
   Raw : (c : Cell) (text rest : List Cell) → (c ∷ text) ++ rest ≡ cells → NoFeed (c ∷ text) →
       is_white c.byte ≡ false → (c.byte == less_than) ≡ false → bytes_of (c ∷ text) ≡ d.text → Found cells d
@@ -159,7 +159,7 @@ destination-first cells d e = go (found-of cells d e)
       plain = rw opens refl;
     }
 
--- Behind it a byte begins, or all ends.
+-- After it a byte begins, or all ends.
 pub destination-whole : (text : List ℕ) (last p : Point) (cells : List Cell) (turns : List Turn) (d : Destination) →
     destination_at (line_bytes cells) ≡ Some d → AreAt p cells → Walk text last p cells turns →
     (destination_last d cells p).vs ≡ 0
@@ -174,7 +174,7 @@ destination-whole text last p cells turns d e at walk = go (destination_left d c
 
 -- Where it is found in rows.
 
--- the bytes of what follows it on the first line, in front of the other lines
+-- the bytes of what follows it on the first line, before the other lines
 destination-rest : (row : Row) (rows : List Row) (lines : List (List ℕ)) (text : List (List ℕ)) →
     destination_on (lines_left (row ∷ rows)) ≡ Some (record { text = text; rest = lines }) →
     behind_destination (row ∷ rows) ≡ Texts.left (row ∷ rows) lines
@@ -222,7 +222,7 @@ destination-found text row rows p cells turns d along whole at e ends left behin
 
 -- Its events.
 
--- what a destination has of rows, up to where these stand behind it
+-- what a destination has of rows, up to where these are after it
 record PartOn (text : List ℕ) (last p : Point) (cells : List Cell) (d : Destination) (turns : List Turn)
     (rows : List Row) : Type 0 where
   ends : List Row

@@ -1,4 +1,4 @@
--- Whitespace, and a gap with at most one line ending in it, by the rows that they stand in.
+-- Whitespace, and a gap with at most one line ending in it, by the rows that they are in.
 use Rattle.std.proofs.Common.{◌≡◌, ℕ, zero, suc, ◌+◌, ◌-◌, Bool, true, false, cond, List, [], ◌∷◌, ◌++◌, length, take}
 use Rattle.std.proofs.Common.{drop, refl, sym, ap, ap₂, ◌∙◌, subst, arith, append_assoc, append-nil}
 use Rattle.std.specs.Prelude.{◌==◌, ◌&&◌}
@@ -47,7 +47,7 @@ use Rattle.md_exact_texts.proofs.Strands.{LineOn, NextOn, line-on, next-on}
 
 -- The end of a line.
 
--- where nothing is left of a line its end stands
+-- where nothing is left of a line its end is
 pub end-place : (text behind : List ℕ) (line : TextLine) (r : Rest) (q : Point) → LineIn text behind line →
     OnLine text behind line r q → r.bytes ≡ [] → r.spaces ≡ 0 → place line (line_end line) ≡ q
 end-place text behind line r q is on none uncut =
@@ -96,7 +96,7 @@ end-place text behind line r q is on none uncut =
     vs : e.vs ≡ q.vs
     vs = at_end.stands.cut ∙ sym (subst (λ (k : ℕ). Cut k q) uncut on.stands.cut)
 
--- nothing is left where no cell or that of an ending comes next, and the end of the line stands there
+-- nothing is left where no cell or that of an ending comes next, and the end of the line is there
 ending-bytes : (text : List ℕ) (row : Row) (r : Rest) (q : Point) (l stop : List Cell) → Begins text (at row r) q →
     r.spaces ≡ 0 → Stops l → l ≡ rest_cells no_line r q ++ stop → r.bytes ≡ []
 ending-bytes text row r q l stop is uncut stops e = bytes r.bytes cells

@@ -1,4 +1,4 @@
--- What follows a destination, by the rows that it stands in: a title behind a gap, or none.
+-- What follows a destination, by the rows that it is in: a title after a gap, or none.
 use Rattle.std.proofs.Common.{◌≡◌, ◌≤◌, ℕ, Bool, true, false, cond, List, [], ◌∷◌, ◌++◌, length, refl, sym, ap, ap₂}
 use Rattle.std.proofs.Common.{◌∙◌, subst, arith}
 use Rattle.std.specs.Prelude.{◌==◌, Option, Some, None}
@@ -62,7 +62,7 @@ lone-some t are small =
     by true = refl
     by false = refl
 
--- in front of cells
+-- before cells
 title-lone : (p : Point) (cells : List Cell) → AreAt p cells → length cells ≤ any_size →
     is_some (found.title_at (cell_lines false (whole_cells p cells))) ≡ is_some (lone (title_parts cells))
 title-lone p cells at small = ap is_some (texts p cells at) ∙ go (title_parts cells) refl
@@ -79,7 +79,7 @@ title-lone p cells at small = ap is_some (texts p cells at) ∙ go (title_parts 
         let fewer = behind.fewer in
         lone-some t behind.at.are (omega (arith, fewer))
 
--- and behind a gap
+-- and after a gap
 title-some : (p : Point) (cells : List Cell) (line : List ℕ) (lines : List (List ℕ)) → AreAt p cells →
     length cells ≤ any_size → cell_lines false (whole_cells p cells) ≡ line ∷ lines →
     is_some (title_after line lines) ≡ is_some (title_behind cells)
@@ -140,7 +140,7 @@ gap-at text last p cells turns rows walk along whole c cs e dark plain = record 
     is : behind_gap rows ≡ on.ends
     is = gap-found text last p cells turns rows walk along whole c cs e dark plain on
 
--- A title with the gap in front of it, or nothing.
+-- A title with the gap before it, or nothing.
 
 -- where a title that follows a destination ends, and what it has, by whether there is one
 abbrev end_by : Bool → List Row → List Row

@@ -1,4 +1,4 @@
--- Marks, and a text between two of them, by the rows that they stand in: labels and titles.
+-- Marks, and a text between two of them, by the rows that they are in: labels and titles.
 use Rattle.std.proofs.Common.{◌≡◌, ◌≢◌, ℕ, ◌≤◌, Bool, true, false, cond, List, [], ◌∷◌, ◌++◌, length, refl, sym}
 use Rattle.std.proofs.Common.{ap, ap₂, ◌∙◌, subst, arith, append_assoc}
 use Rattle.std.specs.Prelude.{◌==◌, Option, Some, None}

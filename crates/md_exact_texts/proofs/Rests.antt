@@ -1,4 +1,4 @@
--- Cells of a line that end where a byte does: the rest of the line behind them stands there.
+-- Cells of a line that end where a byte does: the rest of the line after them is there.
 use Rattle.std.proofs.Common.{◌≡◌, ◌≢◌, ℕ, zero, suc, ◌+◌, ◌-◌, ◌<◌, ◌≤◌, Bool, true, false, cond, List, [], ◌∷◌, ◌++◌}
 use Rattle.std.proofs.Common.{length, take, drop, refl, sym, ap, ◌∙◌, subst, arith, append_assoc}
 use Rattle.std.specs.Prelude.{◌==◌}
@@ -24,7 +24,7 @@ use Rattle.md_content_rooms.proofs.Defined.Along.{Stands, Steps, no_line}
 use Rattle.md_content_rooms.proofs.Defined.Runs.{RunOf, run-of}
 use Rattle.md_content_rooms.proofs.Defined.Strands.{run-some}
 
--- Behind so many bytes of a rest, what is left of a cut tab in front of them.
+-- After so many bytes of a rest, what is left of a cut tab before them.
 
 -- the columns of what is left of it
 cut-columns : (spaces c : ℕ) (p : Point) (bytes : List ℕ) → p.column ≡ c + 1 → Cut spaces p →
@@ -67,7 +67,7 @@ past-cut text behind line n r p on plain whole = record {
         ∙ ap (λ (l : List ℕ). (cut_tab r.spaces ++ l) ++ behind) (sym (take-append-drop n r.bytes))
         ∙ simp append_assoc
 
--- The bytes of cells in front of others.
+-- The bytes of cells before others.
 
 pub first-none : (xs ys : List Cell) → xs ++ ys ≡ [] → xs ≡ []
 first-none [] ys e = refl
@@ -81,7 +81,7 @@ byte-some line b p = go (b == 9) (columns_more p)
     go true (suc n) e = cc
     go false n e = cc
 
--- where cells of a line go on it has not ended
+-- where cells of a line continue it has not ended
 fed : (xs rest stop : List Cell) → NoFeed xs → xs ≢ [] → Stops stop → stop ≡ xs ++ rest → ⊥
 fed [] rest stop none some stops e = some refl
 fed (x ∷ xs) rest [] none some stops e = cc
@@ -126,7 +126,7 @@ front-of line (b ∷ bs) (c ∷ cs) tail behind rest stop p none stops e k =
 
 -- Cells of a line.
 
--- behind what is left of a cut tab
+-- after what is left of a cut tab
 cut-end : (spaces : ℕ) (p : Point) (bytes : List ℕ) → 1 ≤ p.column → Cut spaces p →
     past_text bytes (past_cut spaces p) ≡ past_text (cut_tab spaces ++ bytes) p
 cut-end zero p bytes one cut = refl
@@ -143,7 +143,7 @@ cut-cells (suc n) bytes text p stop rest e =
     append_cancel_left front (spread no_line bytes q ++ stop) (spread no_line text q ++ rest)
     (sym (append_assoc front (spread no_line bytes q) stop) ∙ e ∙ append_assoc front (spread no_line text q) rest)
 
--- Some cells of it, and those of the rest behind them.
+-- Some cells of it, and those of the rest after them.
 pub record RestOn (text behind : List ℕ) (line : TextLine) (r : Rest) (p q : Point) (xs rest stop : List Cell) :
     Type 0 where
   pub size : ℕ

@@ -1,5 +1,4 @@
--- A text over lines, by the rows that it stands in: its chunks are those of these rows, up to where they stand behind
--- it.
+-- A text over lines, by the rows that it is in: its chunks are those of these rows, up to where they are after it.
 use Rattle.std.proofs.Common.{◌≡◌, ◌≢◌, ℕ, zero, suc, ◌+◌, ◌<◌, ◌≤◌, Bool, true, false, cond, ◌&&◌, List, [], ◌∷◌, ◌++◌}
 use Rattle.std.proofs.Common.{length, take, refl, sym, ap, ap₂, ◌∙◌, subst, arith, append_assoc, append-nil}
 use Rattle.std.specs.Prelude.{◌==◌}
@@ -33,7 +32,7 @@ use Rattle.md_exact_texts.proofs.Ahead.{Ahead, ahead-fewer, ahead-here, ahead-ne
 use Rattle.md_exact_texts.proofs.Along.{Along, Begins, Over, begins-place, row-place, row-plain, same-split}
 use Rattle.md_exact_texts.proofs.Rests.{RestOn, rest-on}
 
--- Behind cells of a line.
+-- After cells of a line.
 
 over-at : (Next : Point → List Cell → List Turn → Type 0) (row next : Row) (r : Rest) (stop : List Cell)
     (turns : List Turn) → Over Next row next stop turns → Over Next (at row r) next stop turns
@@ -51,7 +50,7 @@ over-at Next row next r stop turns o = record {
   along = o.along;
 }
 
--- a row stands behind them too
+-- a row is after them too
 pub record Further (text : List ℕ) (row : Row) (p q : Point) (xs rest stop : List Cell) : Type 0 where
   pub size : ℕ
   pub fits : size ≤ length row.rest.bytes
@@ -91,7 +90,7 @@ further-on text row p xs rest stop h stands steps whole stops e = record {
         e ∙ ap (λ (n : ℕ). p.index + n) (length-take-le on.size row.rest.bytes on.fits)
     uncut (suc n) cut whole_here e = let some = cut.0 in absurd (omega (arith, some, whole_here))
 
--- where these rows stand behind them
+-- where these rows are after them
 pub record LineOn (text : List ℕ) (row : Row) (rows : List Row) (p q : Point) (xs rest : List Cell)
     (turns : List Turn) : Type 0 where
   pub size : ℕ
@@ -136,7 +135,7 @@ line-on text row (next ∷ rows) p xs rest turns h stands steps whole =
       bytes = f.bytes;
     }
 
--- Behind the ending of a line.
+-- After the ending of a line.
 
 pub record NextOn (text : List ℕ) (row : Row) (rows : List Row) (d : Cell) (more : List Cell) (turn : Turn)
     (left : List Turn) : Type 0 where
@@ -256,7 +255,7 @@ rows-over row next rows (end ∷ ends) p q h e k =
 
 -- The text.
 
--- what is taken of it from rows: their chunks up to where they stand behind it
+-- what is taken of it from rows: their chunks up to where they are after it
 pub record TextOn (text : List ℕ) (last p : Point) (cells : List Cell) (turns : List Turn) (rest : List Cell)
     (rows : List Row) : Type 0 where
   pub ends : List Row
@@ -328,7 +327,7 @@ text-here text last p cells turns rest row rows none walk along whole = record {
         apart : p.index < (point_after (c ∷ cs) p).index → same_place p (point_after (c ∷ cs) p) ≡ false
         apart lt = grind (arith, nat_tests)
 
--- a line, and a text behind its ending
+-- a line, and a text after its ending
 text-next : (text : List ℕ) (last p : Point) (line : List Cell) (d : Cell) (ds : List Cell) (turns : List Turn)
     (rest : List Cell) (row : Row) (rows : List Row) →
     NoFeed line → (d.byte == 10) ≡ true → Walk text last p ((line ++ d ∷ ds) ++ rest) turns →
@@ -382,7 +381,7 @@ text-next text last p line d ds turns rest row rows none ten walk along whole mo
         takes-then text last p turns e (d ∷ ds ++ rest) turns [] [] d.after (ds ++ rest) over.left
         (exit n.Data d.after ∷ []) front on.takes over.takes
 
-    -- with what stands behind
+    -- with what follows
     both : (left : List Turn) (fs : List Event) →
         Takes text last d.after over.left (point_after ds d.after) rest left (chunks false ds d.after) fs →
         Takes text last p turns q rest left (chunks false (line ++ d ∷ ds) p) (begin ++ (front ++ fs))

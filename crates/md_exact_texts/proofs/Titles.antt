@@ -1,4 +1,4 @@
--- Titles, by the rows that they stand in.
+-- Titles, by the rows that they are in.
 use Rattle.std.proofs.Common.{◌≡◌, ℕ, Bool, true, false, cond, List, [], ◌∷◌, ◌++◌, refl, sym, ap, ◌∙◌, subst, arith}
 use Rattle.std.specs.Prelude.{◌==◌, Option, Some, None}
 use Rattle.std.proofs.lemmas.Bool.Decides.{nat_tests}
@@ -58,7 +58,7 @@ closed-texts closer c text (d ∷ ds) = go (d.byte == closer)
     go true = refl
     go false = refl
 
--- by the lines behind its opening mark
+-- by the lines after its opening mark
 abbrev by_lines : List Row → Option Lines → List Row
 by_lines rows o = elim o [ Some text ↦ Texts.left rows text.rest | None ↦ [] ]
 

@@ -63,7 +63,7 @@ some-order w _ (OneMore v some here) =
     let before = some-order w v some in
     let step = whole-behind v.setting v.point here.0 (not-ending here.0 here.2) here.1 in omega (arith, before, step)
 
--- and there the line ends, where something stands.
+-- and there the line ends, where something is.
 pub line-over : (u : World) → u.point.index < u.setting.limit → ¬ Sees Line u → ends_line (looks u) ≡ true
 line-over u lt none = ap ends_line there ∙ go (nat_eq (seen_at u.setting.bytes u.point) 10) refl
   where
@@ -82,7 +82,7 @@ abbrev begins_in : World → World → World
 begins_in w =
     with (w.events ++ first_event w ∷ []) (line_frame (length w.events) w.point ∷ w.frames) (begun w.point w.scratch)
 
--- to which one comes in front of it.
+-- to which one comes before it.
 begins : (w : World) → w.current ≡ looks w → Within w →
     CameHere FlowStep (n.Flow flow.BeforeContent) w (n.Content content.ChunkInside) (begins_in w w)
 begins w seen within is_end s v named from may =

@@ -23,7 +23,7 @@ break-leaves : (w : World) (x : Bool) → Leaves (at_non_lazy_break_code w x) w
 break-leaves w true = ((refl, refl), refl)
 break-leaves w false = ((refl, refl), refl)
 
--- by whether whitespace stands there that does not belong to it,
+-- by whether whitespace is there that does not belong to it,
 start-leaves : (w : World) (x : Bool) → Leaves (content_start_code w x) w
 start-leaves w true = ((refl, refl), refl)
 start-leaves w false = ((refl, refl), refl)
@@ -70,7 +70,7 @@ befores w to new seen within to_is new_is fine =
     leaves-once (n.RawFlow its.BeforeContentChunk) w to new (before-leaves w (ends_line w.current)) (to_is fine)
     (new_is fine) fine seen within
 
--- What stands at the point is still seen where another state is called next.
+-- What is at the point is still seen where another state is called next.
 pub still-seen : (first next : StateName) (w u : World) (s : State) → s ≡ Retry next →
     (s ≢ Error → Goes first w s u) → u.current ≡ looks u
 still-seen first next w u s is goes =

@@ -26,7 +26,7 @@ further-leaves : (w : World) (x : Bool) → Leaves (further_code w x) w
 further-leaves w true = ((refl, refl), refl)
 further-leaves w false = ((refl, refl), refl)
 
--- and in one that may be blank, by what stands there.
+-- and in one that may be blank, by what is there.
 blank-leaves : (w : World) (x y : Bool) → Leaves (moved w (blank_move w.scratch x y)) w
 blank-leaves w true y = (tt, refl)
 blank-leaves w false true = (tt, refl)

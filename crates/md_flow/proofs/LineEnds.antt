@@ -42,7 +42,7 @@ pub on-ok : {T E : Type 0} → (x : Result T E) (P : Type 0) → is_ok x ≡ tru
 on-ok (result.Ok v) P e h = h
 on-ok (result.Err v) P e h = cc
 
--- Behind a leaf.
+-- After a leaf.
 
 -- the last of the frames is the innermost attempt,
 last-first : (fs : List Frame) (f : Frame) → slice_get fs (length fs - 1) ≡ Some f →
@@ -105,7 +105,7 @@ end-sees w to is from new =
 
 -- The rest of a line.
 
--- where the line does not end something stands here
+-- where the line does not end something is here
 pub inside-line : (w : World) → w.current ≡ looks w → ends_line w.current ≡ false → w.point.index < w.setting.limit
 inside-line w seen is = go w.current seen is
   where
@@ -127,14 +127,14 @@ line-waits name w u each seen within all lt le is_end s v named from may =
     then-waits FlowStep is_end s v name Line w u (takes-so name each)
     (came-first FlowStep name w is_end s v named from may) seen within all.some lt le
 
--- or one comes to it again at the end
+-- or one reaches it again at the end
 pub line-taken : (name : StateName) (w u : World) → TakesEach Line name (flow_transition name) → w.current ≡ looks w →
     Within w → SeesAll Line w u → u.point.index < u.setting.limit → CameHere FlowStep name w name (reading u)
 line-taken name w u each seen within all lt is_end s v named from may =
     then-seen FlowStep is_end s v name Line w u (takes-so name each)
     (came-first FlowStep name w is_end s v named from may) seen within all.some lt
 
--- an answer that accepts goes on with what runs from there
+-- an answer that accepts continues with what runs from there
 pub accepts-on : (w : World) (to : State) (new : World) → ((is_end : Bool) → Runs FlowStep is_end Ok w to new) →
     ((from : World) → SeesOn to from new) → GoesOn Ok w to new
 accepts-on w to new runs sees first old seen goes =

@@ -1,4 +1,4 @@
--- A further line of fenced code or math behind whitespace: a closing fence refuses it by what stands first behind that.
+-- A further line of fenced code or math after whitespace: a closing fence refuses it by what is first after that.
 use Rattle.std.proofs.Common.{◌≡◌, ◌∙◌, ◌<◌, ◌⊎◌, inl, inr, Bool, true, false, ◌&&◌, ◌||◌, ℕ, List, ◌∷◌}
 use Rattle.std.proofs.Common.{[], Option, Some, None, ap, ap₂, append_assoc, arith, length, nat_eq, nat_lt, refl}
 use Rattle.std.proofs.Common.{sym}
@@ -33,7 +33,7 @@ use Rattle.md_flow.specs.AtOnce.{IsNoClose, unclosed}
 use Rattle.md_flow.proofs.TakenBack.{stepped-as, taken-back}
 use Rattle.md_flow.proofs.WhiteEnds.{Ended, reached, white-ends}
 
--- what stands first behind whitespace that stands here
+-- what is first after whitespace that is here
 found-behind : (w : World) (b : ℕ) → sees_white w.current ≡ true → looks_behind w ≡ Some b →
     first_behind (left_at w.setting w.point) ≡ Some b
 unfolding looks_behind

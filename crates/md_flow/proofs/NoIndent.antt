@@ -1,4 +1,4 @@
--- A container that goes on by an indent ends where none stands: an attempt at its indent refuses what stands here.
+-- A container that continues by an indent ends where none is: an attempt at its indent refuses what is here.
 use Rattle.std.proofs.Common.{◌≡◌, ◌≢◌, ◌+◌, ◌<◌, Bool, true, false, cond, ℕ, suc, List, length, nat_lt, take}
 use Rattle.std.proofs.Common.{Option, None, Some, refl, sym, ◌∙◌, ap, arith, subst}
 use Rattle.std.proofs.lemmas.Bool.Decides.{nat_tests}
@@ -37,7 +37,7 @@ use Rattle.md_registry.proofs.AtOnce.{asked, asked_taken}
 use Rattle.md_flow.specs.AtOnce.{EndsAtOnce, SeesAhead}
 use Rattle.md_flow.proofs.TakenBack.{stepped-as}
 
--- such a container is tried, whatever stands here
+-- such a container is tried, whatever is here
 always-tried : (k : ContainerKind) → goes_on_with k ≡ n.ListItem its.ContStart → (o : Option ℕ) →
     may_with (may_go_on k) o ≡ true
 always-tried kind.BlockQuote e o = cc
@@ -116,7 +116,7 @@ container-ends is_end s v w ends seen within came =
         ∙ ap (λ (o : Option ℕ). indent_code its.ContFilled (least_width c) begun (sees_white o)) ends.out.here
         ∙ ap (indent_code its.ContFilled (least_width c) begun) ends.out.dark
 
--- What stands here may be read.
+-- What is here may be read.
 pub ends-ahead : (w : World) → EndsAtOnce w → w.current ≡ looks w → SeesAhead (asking_next w)
 ends-ahead w ends seen =
     subst SeesAhead (sym (ap (λ (o : Option Container). asking_by o w) ends.next)) (seen, inside)
@@ -130,7 +130,7 @@ ends-ahead w ends seen =
     inside : w.point.index < w.setting.limit
     inside = go (nat_lt w.point.index w.setting.limit) refl (sym seen ∙ ends.out.here)
 
--- A container that goes on is held as it was, unless it started blank,
+-- A container that continues is held as it was, unless it started blank,
 held-by : (k : ContainerKind) (c : Container) (w : World) → c.starts_blank ≡ false →
     ((prefix_taken c k (asking c w)).flags.asked ≡ c) ×
     (next_container (prefix_taken c k (asking c w)).flags ≡ next_container w.flags)
@@ -151,7 +151,7 @@ taken-held w at_once filled = subst P (sym (asked w at_once)) one filled
     one : P (asking c w)
     one e = let kept = held-by c.kind c w e in kept.1 ∙ at_once.next ∙ ap Some (sym kept.0)
 
--- and then only one more has gone on.
+-- and then only one more has continued.
 pub held_on : (w : World) → next_container w.flags ≡ Some w.flags.asked →
     record w { flags = record w.flags { continued = w.flags.continued + 1 } } ≡ record w { flags = went_on w.flags }
 held_on w next = ap (λ (g : Flags). record w { flags = g }) (same w.flags next)
@@ -174,7 +174,7 @@ held_on w next = ap (λ (g : Flags). record w { flags = g }) (same w.flags next)
           continued = cond x (suc g.continued) g.continued;
         }) (sym inside)
 
--- What is answered in front of a container stays.
+-- What is answered before a container stays.
 code-stays : (w : World) (ends : Bool) (o : Option Container) (name : StateName) →
     (existing_before_code w ends o).to ≢ Next name
 code-stays w true o name = λ e. cc

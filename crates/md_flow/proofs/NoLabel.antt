@@ -1,4 +1,4 @@
--- Lines that begin with a bracket behind which no caret stands: each container refuses them.
+-- Lines that begin with a bracket after which no caret is: each container refuses them.
 use Rattle.std.proofs.Common.{◌≡◌, ◌∙◌, ◌+◌, ◌<◌, ◌≤◌, inl, inr, Bool, true, false, cond, ℕ, List, ◌∷◌, ◌++◌, []}
 use Rattle.std.proofs.Common.{Option, Some, None, ap, append_assoc, arith, length, nat_eq, nat_lt, refl, subst, sym}
 use Rattle.std.specs.List.{All}
@@ -59,7 +59,7 @@ refuses is_end s v x k w tries none here seen within came =
     then-stays FlowStep is_end s v (n.Document x) (n.Document (next_opener k)) w a came
     (stepped-as (n.Document x) w _ is) refl within refl seen
 
--- the byte that stands here is the bracket itself
+-- the byte that is here is the bracket itself
 bracket-byte : (w : World) → w.current ≡ Some left_bracket → w.current ≡ looks w →
     slice_index w.setting.bytes w.point.index ≡ left_bracket
 bracket-byte w here seen = at (nat_lt w.point.index w.setting.limit) (sym here ∙ seen)
@@ -80,7 +80,7 @@ bracket-byte w here seen = at (nat_lt w.point.index w.setting.limit) (sym here �
     at true e = by (is_white byte) refl (let same : left_bracket ≡ seen_at w.setting.bytes w.point = cc in sym same)
     at false e = cc
 
--- behind it the next byte stands
+-- after it the next byte is
 behind-bracket : (x : Setting) (p : Point) → slice_index x.bytes p.index ≡ left_bracket →
     (after x p).index ≡ p.index + 1
 behind-bracket x p e = rw e refl
@@ -216,7 +216,7 @@ passes-label is_end s v w h seen within came =
     footnote-refuses is_end s v b (record { bracket = h.bracket; inside = h.inside; other = h.other }) seen within
     behind-item
 
--- So where none opens one comes to the leaf that is asked first, or to the rest of the line.
+-- So where none opens one reaches the leaf that is asked first, or to the rest of the line.
 pub passes-to-front : (is_end : Bool) (s : State) (v w : World) → OpensNone w → w.current ≡ looks w → Within w →
     CameTo FlowStep is_end s v (n.Document (opener_front openers)) w →
     CameTo FlowStep is_end s v (leaf_front (is_some (asked_first (openers_passed w).flags.leaf))) (openers_passed w)

@@ -18,7 +18,7 @@ sound-tried bytes p limit events f frames skips h k len =
     (sound-begun bytes f.point limit events f frames skips (sound-moved bytes p f.point limit events frames skips h k) refl
     len) h.placed
 
--- behind a line feed the next line begins
+-- after a line feed the next line begins
 abbrev pub behind_feed : Point → Point
 behind_feed p = record { line = p.line + 1; column = 1; index = p.index + 1; vs = 0 }
 

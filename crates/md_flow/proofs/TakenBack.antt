@@ -1,4 +1,4 @@
--- Attempts that refuse: one goes on where they began, and nothing is left of them.
+-- Attempts that refuse: one continues where they began, and nothing is left of them.
 use Rattle.std.proofs.Common.{◌≡◌, ◌≢◌, ◌∙◌, ◌<◌, ◌≤◌, Bool, true, false, cond, ℕ, List, ◌∷◌, ◌++◌, length, take, ap}
 use Rattle.std.proofs.Common.{inr, nat_eq, refl, subst, sym}
 use Rattle.std.specs.List.{All}
@@ -33,7 +33,7 @@ stepped-as name w a is = record {
 abbrev pub back_from : World → World → World
 back_from w x = record x { events = w.events; frames = w.frames; point = w.point; current = w.current }
 
--- It refuses, and one goes on where it began.
+-- It refuses, and one continues where it began.
 pub taken-back : (is_end : Bool) (s : State) (v : World) (name next : StateName) (w u x : World) (f : Frame)
     (more : List Event) →
     CameTo FlowStep is_end s v name u → FlowStep name u Nok x → x.setting ≡ u.setting → Within u →
@@ -84,7 +84,7 @@ taken-back is_end s v name next w u x f more came step kept inner text events fr
         ap (λ (y : Setting). record back { current = looks_at y w.point }) text
         ∙ ap (λ o. record back { current = o }) (sym seen)
 
--- What is seen at a point is no other byte than stands there, unless that is whitespace or ends the line.
+-- What is seen at a point is no other byte than is there, unless that is whitespace or ends the line.
 pub seen-other : (x : Setting) (p : Point) (m : ℕ) → is_white m ≡ false → nat_eq 10 m ≡ false →
     nat_eq (slice_index x.bytes p.index) m ≡ false → nat_eq (seen_at x.bytes p) m ≡ false
 seen-other x p m dark no_end other = go (is_white byte) refl

@@ -1,4 +1,4 @@
--- Whitespace that is taken column by column, where it is known what stands first behind it.
+-- Whitespace that is taken column by column, where it is known what is first after it.
 use Rattle.std.proofs.Common.{◌≡◌, ◌∙◌, ◌+◌, ◌<◌, ◌≤◌, ◌⊎◌, inl, inr, Bool, true, false, cond, ◌&&◌, ℕ, zero, suc}
 use Rattle.std.proofs.Common.{List, ◌∷◌, length, Option, Some, None, ap, arith, nat_lt, refl, subst, sym}
 use Rattle.std.specs.Prelude.{slice_index, slice_range}
@@ -26,13 +26,13 @@ use Rattle.md_seam.proofs.PlainSteps.{range-next}
 use Rattle.md_registry.specs.States.{FlowStep}
 use Rattle.md_flow.proofs.TakenBack.{stepped-as}
 
--- what stands in front of the limit is seen
+-- what is before the limit is seen
 pub looks-inside : (x : Setting) (p : Point) → p.index < x.limit → looks_at x p ≡ Some (seen_at x.bytes p)
 looks-inside x p lt =
     let inner : nat_lt p.index x.limit ≡ true = grind (arith, nat_tests) in
     ap (λ (y : Bool). cond y (Some (seen_at x.bytes p)) None) inner
 
--- A byte stands first behind whitespace: behind one column of it still, or here.
+-- A byte is first after whitespace: after one column of it still, or here.
 abbrev IsBehind : Setting → Point → ℕ → Type 0
 IsBehind x p b = (is_white (slice_index x.bytes p.index) ≡ true) × (first_behind (left_at x (after x p)) ≡ Some b)
 

@@ -38,7 +38,7 @@ use Rattle.md_flow.proofs.LineEnds.{inside-line, line-waits, takes-so}
 use Rattle.md_flow.proofs.NoClose.{closes-none}
 use Rattle.md_flow.proofs.TakenBack.{stepped-as}
 
--- Such a line has begun, and what stands on it, and an attempt at it;
+-- Such a line has begun, and what is on it, and an attempt at it;
 abbrev begins_in : World → World → World
 begins_in w =
     with ((w.events ++ line_event w.flags.leaf w.point ∷ []) ++ chunk_event w.flags.leaf w.point ∷ [])
@@ -74,7 +74,7 @@ no-close w g fs e h = record {
   dark = ap (λ (l : HeldLeaf). is_white (held_marker l)) e ∙ h.dark;
 }
 
--- So one comes to what stands on it.
+-- So one reaches what is on it.
 begins : (w : World) → IsWhole w → w.current ≡ looks w → Within w →
     CameHere FlowStep (n.Document document.FlowInside) w (n.RawFlow its.ContentChunk) (begins_in (settled w) (settled w))
 begins w h seen within is_end s v named from may =

@@ -1,4 +1,4 @@
--- What functions that take several states in one call know of the states in front of them and behind them.
+-- What functions that take several states in one call know of the states before them and after them.
 use Rattle.std.specs.Prelude.{◌≡◌, ℕ, ◌+◌, ◌<◌, ◌⊎◌, ◌==◌, Bool, true, false, List, [], ◌∷◌, ◌++◌, Option, Some, length}
 use Rattle.std.specs.Prelude.{slice_index}
 use Rattle.md_engine.specs.declared.state.Name.{Name as StateName}
@@ -30,19 +30,19 @@ use Rattle.md_registry.specs.Registry.{goes_on_with}
 use Rattle.md_registry.specs.Flow.{leaf_end}
 use Rattle.md_registry.specs.States.{FlowStep}
 
--- what stands at the point may be read, and is seen
+-- what is at the point may be read, and is seen
 abbrev pub SeesAhead : World → Type 0
 SeesAhead w = (w.current ≡ looks w) × (w.point.index < w.setting.limit)
 
--- something else than whitespace stands here, which does not end the line
+-- something else than whitespace is here, which does not end the line
 pub record StandsOut (o : Option ℕ) : Type 0 where
   pub byte : ℕ
   pub here : o ≡ Some byte
   pub dark : is_white byte ≡ false
   pub filled : (byte == 10) ≡ false
 
--- A container is open that was not asked yet, whose further lines begin with an indent; none stands here, on a line that
--- is not blank, and of no whitespace a part was counted.
+-- A container is open that was not asked yet, whose further lines begin with an indent; none is here, on a line that is
+-- not blank, and of no whitespace a part was counted.
 pub record EndsAtOnce (w : World) : Type 0 where
   pub held : Container
   pub next : next_container w.flags ≡ Some held
@@ -50,7 +50,7 @@ pub record EndsAtOnce (w : World) : Type 0 where
   pub out : StandsOut w.current
   pub rest : w.scratch.whitespace.max ≡ 0
 
--- The innermost attempt is one at a leaf: where it holds, the line ends, and the leaf is shut or may be open behind it.
+-- The innermost attempt is one at a leaf: where it holds, the line ends, and the leaf is shut or may be open after it.
 pub record IsTried (shuts : Bool) (w : World) : Type 0 where
   pub frame : Frame
   pub outer : List Frame
@@ -58,7 +58,7 @@ pub record IsTried (shuts : Bool) (w : World) : Type 0 where
   pub moves_on : frame.is_check ≡ false
   pub ok : frame.ok ≡ Next (n.Flow (leaf_end shuts))
 
--- an attempt at a line of content that begins behind so many events, at this point
+-- an attempt at a line of content that begins after so many events, at this point
 abbrev pub line_frame : ℕ → Point → Frame
 line_frame count p = record {
   ok = Next (n.Flow flow.After);
@@ -68,7 +68,7 @@ line_frame count p = record {
   point = p;
 }
 
--- it has begun, and the line, at a point in front of that where the tokenizer stands
+-- it has begun, and the line, at a point before that where the tokenizer is
 abbrev pub line_tried : Point → World → World
 line_tried p w = record w {
   events = w.events
@@ -77,7 +77,7 @@ line_tried p w = record w {
   scratch = begun p w.scratch;
 }
 
--- a line of content stands from a point up to where the tokenizer stands, and is held as text
+-- a line of content is from a point up to where the tokenizer is, and is held as text
 abbrev pub line_added : Point → World → World
 line_added p w = record w {
   events = w.events
@@ -94,21 +94,21 @@ line_added p w = record w {
 abbrev pub Goes : StateName → World → State → World → Type 0
 Goes name w to new = RunsHere FlowStep name w to new × SeesOn to w new
 
--- each run that comes to an answer goes on to another
+-- each run that becomes an answer continues to another
 abbrev pub GoesOn : State → World → State → World → Type 0
 GoesOn s w to new = (first : StateName) (old : World) → old.current ≡ looks old → Goes first old s w → Goes first old to new
 
--- A bracket stands here, and something else than a caret behind it: no footnote definition opens.
+-- A bracket is here, and something else than a caret after it: no footnote definition opens.
 pub record IsNoLabel (w : World) : Type 0 where
   pub bracket : w.current ≡ Some left_bracket
   pub inside : w.point.index + 1 < w.setting.limit
   pub other : (slice_index w.setting.bytes (w.point.index + 1) == caret) ≡ false
 
--- no container opens, by what stands here or by the byte behind it
+-- no container opens, by what is here or by the byte after it
 abbrev pub OpensNone : World → Type 0
 OpensNone w = (opens_none w.current ≡ true) ⊎ IsNoLabel w
 
--- Whitespace stands here where fenced code or math may go on, and something else than its marker first behind it: no
+-- Whitespace is here where fenced code or math may continue, and something else than its marker first after it: no
 -- fence closes it.
 pub record IsNoClose (w : World) : Type 0 where
   pub white : sees_white w.current ≡ true

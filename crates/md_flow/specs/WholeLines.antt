@@ -16,7 +16,7 @@ use Rattle.md_seam.specs.Events.Nested.{enter, exit}
 use Rattle.md_seam.specs.Spaces.{calmed, ends_line, is_current, sees_white}
 use Rattle.md_flow.specs.AtOnce.{IsNoClose}
 
--- A line of an open block closes nothing by what stands first on it, and no whitespace in front of it is taken away.
+-- A line of an open block closes nothing by what is first on it, and no whitespace before it is taken away.
 pub record IsWhole (w : World) : Type 0 where
   pub opened : is_open w.flags.leaf ≡ true
   pub inside : ends_line w.current ≡ false
@@ -30,7 +30,7 @@ settled w = record w {
   flags = blank_here false w.flags;
 }
 
--- it begins, linked to the line before, and so does what stands on it
+-- it begins, linked to the line before, and so does what is on it
 abbrev pub line_event : HeldLeaf → Point → Event
 line_event on p =
     record { kind = Enter; name = block_name (held_marker on); point = p; link = Some further_link }
@@ -38,7 +38,7 @@ line_event on p =
 abbrev pub chunk_event : HeldLeaf → Point → Event
 chunk_event on p = enter (chunk_name (held_marker on)) p
 
--- an attempt at it has begun behind so many events, at this point
+-- an attempt at it has begun after so many events, at this point
 abbrev pub whole_frame : ℕ → Point → Frame
 whole_frame count p = record {
   ok = Next (n.Flow flow.After);
@@ -48,14 +48,14 @@ whole_frame count p = record {
   point = p;
 }
 
--- and the line, at a point in front of that where the tokenizer stands
+-- and the line, at a point before that where the tokenizer is
 abbrev pub whole_tried : Point → World → World
 whole_tried p w = record w {
   events = w.events ++ line_event w.flags.leaf p ∷ chunk_event w.flags.leaf p ∷ [];
   frames = whole_frame (length w.events) p ∷ w.frames;
 }
 
--- it stands from a point up to where the tokenizer stands
+-- it is from a point up to where the tokenizer is
 abbrev pub whole_added : Point → World → World
 whole_added p w = record w {
   events = w.events

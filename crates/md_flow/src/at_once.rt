@@ -1,10 +1,10 @@
 // Lines, prefixes and leaves that take several states in one call.
 //
-// The states of the document, of flow and of constructs are called one after another. Where one look tells what several
+// The states of the document, of flow and of constructs are called one after another. Where one look shows what several
 // of them do (a prefix is taken as a whole, no container opens with a byte, a line is content), these functions do the
-// same in one call; each has in its contract that it is a run of those states (`RunsHere`). A line of content is
-// taken as a whole and ends in the same call; where its end can be read no attempt begins. The next line begins in it
-// too. The pages of the states can be read without them.
+// same in one call; each has in its contract that it is a run of those states (`RunsHere`). A line of content is taken
+// as a whole and ends in the same call; where its end can be read no attempt begins. The next line begins in it too.
+// The pages of the states can be read without them.
 
 ghost use Rattle.std.specs.Prelude.{Bool, IfSome, OnOk, Some, false, length, true, ◌≡◌, ◌≢◌, ◌<◌, ◌≤◌, ◌^◌};
 ghost use Rattle.md_content.specs.Chunks.{begun};
@@ -57,7 +57,7 @@ use md_seam::space_or_tab;
 use md_tables::row::{Row, place_of};
 use md_tables::{gfm_table, row_words};
 
-/// Whether the next container goes on, with a prefix that can be taken at once.
+/// Whether the next container continues, with a prefix that can be taken at once.
 fn goes_on_at_once(tokenizer: &mut Tokenizer) -> bool
     ensures goes { result ≡ true → GoesAtOnce (world tokenizer.old) }
     ensures same { world tokenizer.new ≡ world tokenizer.old }
@@ -78,7 +78,7 @@ fn ask_next(tokenizer: &mut Tokenizer)
     }
 }
 
-/// The container that was asked goes on, and is held as it is behind its prefix: as it was, unless it changes there.
+/// The container that was asked continues, and is held as it is after its prefix: as it was, unless it changes there.
 #[inline(always)]
 fn went_on(tokenizer: &mut Tokenizer, changes: bool)
     requires current { (world tokenizer.old).current ≡ looks (world tokenizer.old) }
@@ -104,7 +104,7 @@ fn reads_indent(state: StateName) -> bool
     }
 }
 
-/// Whether something else than whitespace stands here, which does not end the line.
+/// Whether something else than whitespace is here, which does not end the line.
 #[inline(always)]
 fn stands_out(current: Option<u8>) -> bool
     ensures { result ≡ true → StandsOut current }
@@ -115,8 +115,7 @@ fn stands_out(current: Option<u8>) -> bool
     }
 }
 
-/// Whether the further lines of the next container begin with an indent, and none stands here, on a line that is not
-/// blank.
+/// Whether the further lines of the next container begin with an indent, and none is here, on a line that is not blank.
 #[inline(always)]
 fn has_no_indent(tokenizer: &Tokenizer) -> bool
     ensures { result ≡ true → EndsAtOnce (world tokenizer.now) }
@@ -131,7 +130,7 @@ fn has_no_indent(tokenizer: &Tokenizer) -> bool
     }
 }
 
-/// At the same place: goes at once over prefixes of containers that go on, as the states do one after another. Where
+/// At the same place: goes at once over prefixes of containers that continue, as the states do one after another. Where
 /// one ends for want of an indent, the first container that may open is next.
 #[inline(always)]
 pub fn containers_existing(tokenizer: &mut Tokenizer) -> State
@@ -155,7 +154,7 @@ pub fn containers_existing(tokenizer: &mut Tokenizer) -> State
     document::container_existing_before(tokenizer)
 }
 
-/// Passes all containers that may open, where none does by what stands here, as the states do one after another.
+/// Passes all containers that may open, where none does by what is here, as the states do one after another.
 #[inline(always)]
 pub fn pass_openers(tokenizer: &mut Tokenizer)
     ensures { world tokenizer.new ≡ openers_passed (world tokenizer.old) }
@@ -186,7 +185,7 @@ const CONTENT_LINK: Link = Link {
     content: Content::Content,
 };
 
-/// Begins an attempt at a line of content, and the line, at a point in front of that where the tokenizer stands.
+/// Begins an attempt at a line of content, and the line, at a point before that where the tokenizer is.
 #[inline(never)]
 fn content_tried(tokenizer: &mut Tokenizer, from: Point) -> Result<(), Message>
     requires { IsPlaced (world tokenizer.old).setting.bytes from }
@@ -216,7 +215,7 @@ fn content_tried(tokenizer: &mut Tokenizer, from: Point) -> Result<(), Message>
     Ok(())
 }
 
-/// The bytes of a line from a point up to where the tokenizer stands.
+/// The bytes of a line from a point up to where the tokenizer is.
 #[inline(always)]
 fn line_from<'a>(tokenizer: &Tokenizer<'a>, from: Point) -> &'a [u8]
     requires placed { IsPlaced (world tokenizer.now).setting.bytes from }
@@ -229,7 +228,7 @@ fn line_from<'a>(tokenizer: &Tokenizer<'a>, from: Point) -> &'a [u8]
     &bytes[whole_from(from)..whole_from(tokenizer.point)]
 }
 
-/// Adds a line of content from a point up to where the tokenizer stands, and holds it as text.
+/// Adds a line of content from a point up to where the tokenizer is, and holds it as text.
 #[inline(always)]
 fn content_added(tokenizer: &mut Tokenizer, from: Point) -> Result<(), Message>
     requires placed { IsPlaced (world tokenizer.old).setting.bytes from }
@@ -248,7 +247,7 @@ fn content_added(tokenizer: &mut Tokenizer, from: Point) -> Result<(), Message>
     Ok(())
 }
 
-/// Before content: its line is taken at once, and ends. An attempt begins only where the line may continue behind what
+/// Before content: its line is taken at once, and ends. An attempt begins only where the line may continue after what
 /// may be read; then the point stays where that ends, so that nothing is seen twice.
 #[inline(always)]
 fn content_begins(tokenizer: &mut Tokenizer) -> State
@@ -271,7 +270,7 @@ fn content_begins(tokenizer: &mut Tokenizer) -> State
     line_end(tokenizer)
 }
 
-/// At the start of an ATX heading: its line is taken in the same call where one space is behind its opening sequence.
+/// At the start of an ATX heading: its line is taken in the same call where one space is after its opening sequence.
 #[inline(always)]
 pub fn heading_begins(tokenizer: &mut Tokenizer) -> State
     requires { IsAt NeedsNothing (StateName.HeadingAtx HeadingState.Start) (world tokenizer.old) }
@@ -310,7 +309,7 @@ fn is_heading(state: State) -> bool
     }
 }
 
-/// At the start of the rest of a line: content begins at once where one look tells so, and a heading is taken with its
+/// At the start of the rest of a line: content begins at once where one look shows so, and a heading is taken with its
 /// line.
 #[inline(always)]
 fn rest_begins(tokenizer: &mut Tokenizer) -> State
@@ -334,7 +333,7 @@ fn rest_begins(tokenizer: &mut Tokenizer) -> State
     state
 }
 
-/// Whether a bracket stands here, and something else than a caret behind it.
+/// Whether a bracket is here, and something else than a caret after it.
 #[inline(always)]
 fn is_no_label(tokenizer: &Tokenizer) -> bool
     ensures { result ≡ true → IsNoLabel (world tokenizer.now) }
@@ -343,7 +342,7 @@ fn is_no_label(tokenizer: &Tokenizer) -> bool
     tokenizer.current == Some(b'[') && next < tokenizer.limit && tokenizer.bytes[next] != b'^'
 }
 
-/// Whether no container opens, by what stands here or by the byte behind it.
+/// Whether no container opens, by what is here or by the byte after it.
 #[inline(always)]
 fn opens_none(tokenizer: &Tokenizer) -> bool
     ensures { result ≡ true → OpensNone (world tokenizer.now) }
@@ -351,7 +350,7 @@ fn opens_none(tokenizer: &Tokenizer) -> bool
     choices::opens_none(tokenizer.current) || is_no_label(tokenizer)
 }
 
-/// Before the first container that may open: where none may by what stands here, the leaf of the line is next; and one
+/// Before the first container that may open: where none may by what is here, the leaf of the line is next; and one
 /// opens at once whose prefix can be taken so.
 #[inline(always)]
 fn containers_new(tokenizer: &mut Tokenizer) -> State
@@ -375,7 +374,7 @@ fn containers_new(tokenizer: &mut Tokenizer) -> State
     }
 }
 
-/// Behind all containers of a line: where nothing is left of it, it ends at once, and else may be blank.
+/// After all containers of a line: where nothing is left of it, it ends at once, and else may be blank.
 #[inline(always)]
 fn behind_containers(tokenizer: &mut Tokenizer) -> State
     requires { IsAt NeedsNothing (StateName.Document DocumentState.ContainersAfter) (world tokenizer.old) }
@@ -395,7 +394,7 @@ fn behind_containers(tokenizer: &mut Tokenizer) -> State
     }
 }
 
-/// At the begin of a line, or behind a prefix: goes on behind the containers that go on.
+/// At the begin of a line, or after a prefix: continues after the containers that continue.
 #[inline(always)]
 fn containers(tokenizer: &mut Tokenizer) -> State
     requires { IsAt NeedsNothing (StateName.Document DocumentState.ContainerExistingBefore) (world tokenizer.old) }
@@ -429,7 +428,7 @@ fn awaits_line(state: State) -> bool
     }
 }
 
-/// At the begin of a line: goes on at once with the lines behind it, each of which ends where the next may be read.
+/// At the begin of a line: continues at once with the lines after it, each of which ends where the next may be read.
 #[inline(always)]
 fn lines(tokenizer: &mut Tokenizer) -> State
     requires current { (world tokenizer.old).current ≡ looks (world tokenizer.old) }
@@ -451,7 +450,7 @@ fn lines(tokenizer: &mut Tokenizer) -> State
     }
 }
 
-/// Behind a leaf on one line: the line ends.
+/// After a leaf on one line: the line ends.
 #[inline(always)]
 fn leaf_end(tokenizer: &mut Tokenizer) -> State
     requires { IsAt NeedsNothing (StateName.Flow FlowState.LeafAfter) (world tokenizer.old) }
@@ -464,7 +463,7 @@ fn leaf_end(tokenizer: &mut Tokenizer) -> State
     document::flow_end(tokenizer)
 }
 
-/// Behind a line of text: the line ends.
+/// After a line of text: the line ends.
 #[inline(always)]
 pub fn line_end(tokenizer: &mut Tokenizer) -> State
     requires { IsAt NeedsNothing (StateName.Flow FlowState.After) (world tokenizer.old) }
@@ -477,7 +476,7 @@ pub fn line_end(tokenizer: &mut Tokenizer) -> State
     document::flow_end(tokenizer)
 }
 
-/// Behind a leaf, which is shut or may be open: the line ends.
+/// After a leaf, which is shut or may be open: the line ends.
 #[inline(always)]
 fn line_ends(tokenizer: &mut Tokenizer, shuts: bool) -> State
     requires { IsAt NeedsNothing (StateName.Flow (leaf_end shuts)) (world tokenizer.old) }
@@ -492,7 +491,7 @@ fn line_ends(tokenizer: &mut Tokenizer, shuts: bool) -> State
     }
 }
 
-/// Whether a state is that behind a leaf, and then whether the leaf is shut there.
+/// Whether a state is that after a leaf, and then whether the leaf is shut there.
 #[inline(always)]
 fn behind_leaf(state: State) -> Option<bool>
     ensures { IfSome result (λ shuts. state ≡ State.Next (StateName.Flow (leaf_end shuts))) }
@@ -504,7 +503,7 @@ fn behind_leaf(state: State) -> Option<bool>
     }
 }
 
-/// Whether the innermost attempt is one at a leaf, and then whether the leaf is shut behind it.
+/// Whether the innermost attempt is one at a leaf, and then whether the leaf is shut after it.
 #[inline(always)]
 fn tried_leaf(tokenizer: &Tokenizer) -> Option<bool>
     ensures { IfSome result (λ shuts. IsTried shuts (world tokenizer.now)) }
@@ -556,7 +555,7 @@ pub fn end(tokenizer: &mut Tokenizer, to: State) -> State
     }
 }
 
-/// Calls a state of the containers of a line; prefixes are taken at once, and so is what refuses the byte behind them.
+/// Calls a state of the containers of a line; prefixes are taken at once, and so is what refuses the byte after them.
 #[inline(always)]
 pub fn call_document(tokenizer: &mut Tokenizer, state: DocumentState) -> State
     requires current { (world tokenizer.old).current ≡ looks (world tokenizer.old) }
@@ -573,7 +572,7 @@ pub fn call_document(tokenizer: &mut Tokenizer, state: DocumentState) -> State
     }
 }
 
-/// Calls a state of flow; leaves that refuse the byte that stands here are passed at once.
+/// Calls a state of flow; leaves that refuse the byte that is here are passed at once.
 #[inline(always)]
 pub fn call_flow(tokenizer: &mut Tokenizer, state: FlowState) -> State
     requires current { (world tokenizer.old).current ≡ looks (world tokenizer.old) }

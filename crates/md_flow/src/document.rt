@@ -1,15 +1,15 @@
-// The document: what stands in front of its lines, and the containers of each.
+// The document: what is before its lines, and the containers of each.
 //
 //     document ::= [ byte_order_mark ] [ frontmatter line_ending ] line *( line_ending line )
 //     line     ::= *prefix *container flow
 //
-// Its table takes the mark and the frontmatter, if they stand there. The lines that follow are read by the table of
-// flow, which has the states of containers too. On each line the containers that are open are asked from the outermost
-// in whether they go on, then others may open, and flow reads the rest of the line. Only then is it known whether the
-// line goes on the open paragraph, so that all containers stay open although not all went on (CommonMark 5.1,
-// "laziness"). Else those that did not go on end: their ends are put where the line before ended, in front of its
-// ending. Where nothing is left of a line no container is asked, and none opens: what is held of each tells whether it
-// goes on there.
+// Its table takes the mark and the frontmatter, if they are there. The lines that follow are read by the table of flow,
+// which has the states of containers too. On each line the containers that are open are asked from the outermost in
+// whether they continue, then others may open, and flow reads the rest of the line. Only then is it known whether the
+// line continues the open paragraph, so that all containers stay open although not all continued (CommonMark 5.1,
+// "laziness"). Else those that did not continue end: their ends are put where the line before ended, before its ending.
+// Where nothing is left of a line no container is asked, and none opens: what is held of each shows whether it
+// continues there.
 
 ghost use Rattle.std.specs.Prelude.{◌≡◌, ◌≢◌, ◌⊎◌, ◌<◌, length, true};
 ghost use Rattle.md_engine.specs.Full.{IsFull, OnError};
@@ -78,7 +78,7 @@ pub fn start(tokenizer: &mut Tokenizer) -> State
     State::Retry(StateName::Bom(BomState::Start))
 }
 
-/// Behind the mark: before frontmatter, if there is some. The lines of the text begin behind it.
+/// After the mark: before frontmatter, if there is some. The lines of the text begin after it.
 ///
 /// ```markdown
 /// > | ---
@@ -100,14 +100,14 @@ pub fn before_frontmatter(tokenizer: &mut Tokenizer) -> State
     State::Retry(StateName::Frontmatter(FrontState::Start))
 }
 
-/// The outermost container that was not asked yet whether it goes on.
+/// The outermost container that was not asked yet whether it continues.
 pub(crate) fn next_container(tokenizer: &Tokenizer) -> Option<Container>
     ensures { result ≡ next_container (world tokenizer.now).flags }
 {
     tokenizer.containers.get(tokenizer.flags.continued).copied()
 }
 
-/// A container is asked whether it goes on, or tried, where the tokenizer stands.
+/// A container is asked whether it continues, or tried, where the tokenizer is.
 pub(crate) fn ask(tokenizer: &mut Tokenizer, container: Container)
     ensures { world tokenizer.new ≡ asking container (world tokenizer.old) }
 {
@@ -115,7 +115,7 @@ pub(crate) fn ask(tokenizer: &mut Tokenizer, container: Container)
     tokenizer.flags.asked_column = tokenizer.point.column;
 }
 
-/// Where the line ends no container is asked: those go on that take nothing of it.
+/// Where the line ends no container is asked: those continue that take nothing of it.
 #[inline(always)]
 fn pass_over(tokenizer: &mut Tokenizer)
     ensures { world tokenizer.new ≡ record (world tokenizer.old) { flags = ended_on (world tokenizer.old).flags } }
@@ -126,7 +126,7 @@ fn pass_over(tokenizer: &mut Tokenizer)
     }
 }
 
-/// The state where all containers went on: none is tried where a leaf is open in which none opens.
+/// The state where all containers continued: none is tried where a leaf is open in which none opens.
 #[inline(always)]
 fn behind_all(tokenizer: &Tokenizer) -> DocumentState
     ensures { result ≡ behind_all (bars_containers (world tokenizer.now).flags.leaf) }
@@ -138,7 +138,7 @@ fn behind_all(tokenizer: &Tokenizer) -> DocumentState
     }
 }
 
-/// At the begin of a line, or behind the prefix of a container that went on: before the next one that is open.
+/// At the begin of a line, or after the prefix of a container that continued: before the next one that is open.
 ///
 /// ```markdown
 ///   | > a
@@ -176,7 +176,7 @@ pub fn container_existing_before(tokenizer: &mut Tokenizer) -> State
     }
 }
 
-/// Behind the prefix of a container that went on.
+/// After the prefix of a container that continued.
 ///
 /// ```markdown
 ///   | > a
@@ -266,7 +266,7 @@ pub fn container_new_before_not_list(tokenizer: &mut Tokenizer) -> State
     try_new(tokenizer, ContainerKind::GfmFootnoteDefinition)
 }
 
-/// Behind all containers that may open, where none does: all containers of the line are known.
+/// After all containers that may open, where none does: all containers of the line are known.
 ///
 /// ```markdown
 /// > | a
@@ -284,7 +284,7 @@ pub fn container_new_before_not_footnote_definition(_tokenizer: &mut Tokenizer) 
     State::Retry(StateName::Document(DocumentState::ContainersAfter))
 }
 
-/// Calls the state of the document in front of a container that may open; those of containers that are not built refuse.
+/// Calls the state of the document before a container that may open; those of containers that are not built refuse.
 #[inline(always)]
 pub fn before_opener(tokenizer: &mut Tokenizer, state: DocumentState) -> State
     requires { IsAt NeedsNothing (StateName.Document state) (world tokenizer.old) }
@@ -323,7 +323,7 @@ pub(crate) fn try_new(tokenizer: &mut Tokenizer, kind: ContainerKind) -> State
     State::Retry(choices::opens_with(kind))
 }
 
-/// Behind the first prefix of a container that opens: those that did not go on end before it.
+/// After the first prefix of a container that opens: those that did not continue end before it.
 ///
 /// ```markdown
 /// > | > a
@@ -351,7 +351,7 @@ pub fn container_new_after(tokenizer: &mut Tokenizer) -> State
     State::Retry(StateName::Document(choices::first_opener()))
 }
 
-/// Behind all containers of a line.
+/// After all containers of a line.
 ///
 /// ```markdown
 /// > | > a
@@ -373,8 +373,8 @@ pub fn containers_after(tokenizer: &mut Tokenizer) -> State
     }
 }
 
-/// Behind all containers of a line, where a leaf is open that is asked first whether the line goes on it. It may do so
-/// over a line on which nothing stands, no prefix either, whose ending is that of a blank line.
+/// After all containers of a line, where a leaf is open that is asked first whether the line continues it. It may do so
+/// over a line on which nothing is, no prefix either, whose ending is that of a blank line.
 ///
 /// ```markdown
 ///   | ~~~
@@ -403,7 +403,7 @@ pub fn flow_inside(tokenizer: &mut Tokenizer) -> State
     }
 }
 
-/// Keeps the leaf that is open behind the containers of a line, and what the line meets of it.
+/// Keeps the leaf that is open after the containers of a line, and what the line meets of it.
 #[inline(always)]
 pub(crate) fn begin_line(tokenizer: &mut Tokenizer)
     ensures { world tokenizer.new ≡ record (world tokenizer.old) { flags = begun_line (world tokenizer.old).flags } }
@@ -426,7 +426,7 @@ fn lazy_of(leaf: HeldLeaf) -> HeldLeaf
     }
 }
 
-/// Whether a line that starts no other leaf goes on this one, although not all containers went on (CommonMark 5.1,
+/// Whether a line that starts no other leaf continues this one, although not all containers continued (CommonMark 5.1,
 /// "laziness").
 #[inline(always)]
 fn takes_lazy(leaf: HeldLeaf) -> bool
@@ -438,7 +438,8 @@ fn takes_lazy(leaf: HeldLeaf) -> bool
     }
 }
 
-/// How many containers are still open behind a line: all of them if it goes on the open text, else those that went on.
+/// How many containers are still open after a line: all of them if it continues the open text, else those that
+/// continued.
 #[inline(always)]
 fn kept_containers(tokenizer: &Tokenizer) -> usize
     ensures { result ≡ kept_containers (world tokenizer.now).flags }
@@ -462,7 +463,7 @@ fn ending_name(blank: bool) -> Name
     }
 }
 
-/// Takes the line ending at the point. Most are LF, and no line begins behind a prefix that is known.
+/// Takes the line ending at the point. Most are LF, and no line begins after a prefix that is known.
 #[inline(always)]
 fn take_ending(tokenizer: &mut Tokenizer)
     requires { (world tokenizer.old).point.index < length (world tokenizer.old).setting.bytes }
@@ -481,8 +482,8 @@ fn take_ending(tokenizer: &mut Tokenizer)
     };
 }
 
-/// Behind the leaf of a line, at its ending or the end of the text: containers end that did not go on, unless the line
-/// goes on the open paragraph; at the end of the text all do.
+/// After the leaf of a line, at its ending or the end of the text: containers end that did not continue, unless the
+/// line continues the open paragraph; at the end of the text all do.
 ///
 /// ```markdown
 /// > | > a
@@ -522,7 +523,7 @@ pub fn flow_end(tokenizer: &mut Tokenizer) -> State
     }
 }
 
-/// Calls a state of the document: in front of its lines, or between the containers of a line.
+/// Calls a state of the document: before its lines, or between the containers of a line.
 #[inline(always)]
 #[tactic(auto, using(md_registry::proofs::FlowSteps::document_rule))]
 pub fn call(tokenizer: &mut Tokenizer, state: DocumentState) -> State

@@ -1,9 +1,9 @@
 // Further lines of fenced code and math that are taken in one call.
 //
-// A line that closes no fence goes from state to state up to its end. Here these states are called one behind the
-// other, what is left of the line is taken at once between them, and the line ends. A line that closes nothing by its
-// first byte, and loses no indent, is content as a whole: its events are added at once, and where its end can be read
-// no attempt begins. Each function is a run of the states (`RunsHere`), so the pages of the states can be read without
+// A line that closes no fence goes from state to state up to its end. Here these states are called one after the other,
+// what is left of the line is taken at once between them, and the line ends. A line that closes nothing by its first
+// byte, and loses no indent, is content as a whole: its events are added at once, and where its end can be read no
+// attempt begins. Each function is a run of the states (`RunsHere`), so the pages of the states can be read without
 // this one.
 
 ghost use Rattle.std.specs.Prelude.{◌≡◌, ◌≢◌, OnOk, true};
@@ -184,7 +184,7 @@ fn block_name(marker: u8) -> Name
     }
 }
 
-/// Whether whitespace stands here, and something else than the marker first behind it.
+/// Whether whitespace is here, and something else than the marker first after it.
 #[inline(always)]
 fn closes_none(tokenizer: &mut Tokenizer) -> bool
     ensures none { result ≡ true → IsNoClose (world tokenizer.old) }
@@ -258,7 +258,7 @@ fn tried(tokenizer: &mut Tokenizer) -> State
     to
 }
 
-/// Before a further line: one that closes no fence by what stands first behind whitespace is taken at once, and ends.
+/// Before a further line: one that closes no fence by what is first after whitespace is taken at once, and ends.
 #[inline(always)]
 fn further(tokenizer: &mut Tokenizer) -> State
     requires { IsAt FenceNeeds (StateName.RawFlow RawState.AtNonLazyBreak) (world tokenizer.old) }
@@ -297,7 +297,7 @@ fn chunk_name(marker: u8) -> Name
     }
 }
 
-/// Whether a further line of fenced code or math is content as a whole, by what stands first on it.
+/// Whether a further line of fenced code or math is content as a whole, by what is first on it.
 #[inline(always)]
 fn is_whole(tokenizer: &mut Tokenizer) -> bool
     ensures whole { result ≡ true → IsWhole (world tokenizer.old) }
@@ -314,7 +314,7 @@ fn is_whole(tokenizer: &mut Tokenizer) -> bool
     }
 }
 
-/// In front of a line that is content as a whole: it is not blank, and nothing is kept of a closing fence.
+/// Before a line that is content as a whole: it is not blank, and nothing is kept of a closing fence.
 #[inline(always)]
 fn settle(tokenizer: &mut Tokenizer)
     ensures { world tokenizer.new ≡ settled (world tokenizer.old) }
@@ -346,7 +346,7 @@ fn opening(leaf: HeldLeaf, point: Point) -> (Event, Event)
     (first, second)
 }
 
-/// Begins an attempt at a line, and the line, at a point in front of that where the tokenizer stands.
+/// Begins an attempt at a line, and the line, at a point before that where the tokenizer is.
 #[inline(never)]
 fn whole_tried(tokenizer: &mut Tokenizer, from: Point) -> Result<(), Message>
     requires { IsPlaced (world tokenizer.old).setting.bytes from }
@@ -369,7 +369,7 @@ fn whole_tried(tokenizer: &mut Tokenizer, from: Point) -> Result<(), Message>
     Ok(())
 }
 
-/// Adds a line from a point up to where the tokenizer stands.
+/// Adds a line from a point up to where the tokenizer is.
 #[inline(always)]
 fn whole_added(tokenizer: &mut Tokenizer, from: Point) -> Result<(), Message>
     requires { IsPlaced (world tokenizer.old).setting.bytes from }
@@ -399,7 +399,7 @@ fn whole_added(tokenizer: &mut Tokenizer, from: Point) -> Result<(), Message>
 }
 
 /// A further line that is content as a whole: it is taken at once, and ends. An attempt begins only where the line may
-/// continue behind what may be read; then the point stays where that ends, so that nothing is seen twice.
+/// continue after what may be read; then the point stays where that ends, so that nothing is seen twice.
 #[inline(never)]
 fn whole(tokenizer: &mut Tokenizer) -> State
     requires at { IsAt NeedsNothing (StateName.Document DocumentState.FlowInside) (world tokenizer.old) }
@@ -436,7 +436,7 @@ fn by_states(tokenizer: &mut Tokenizer) -> State
     to
 }
 
-/// Behind all containers of a line, where a leaf is open: a further line of a fence is taken at once.
+/// After all containers of a line, where a leaf is open: a further line of a fence is taken at once.
 #[inline(always)]
 pub fn inside(tokenizer: &mut Tokenizer) -> State
     requires { IsAt NeedsNothing (StateName.Document DocumentState.FlowInside) (world tokenizer.old) }

@@ -3,9 +3,9 @@
 //     flow ::= blank_line | code_indented | raw_flow | html_flow | heading_atx | heading_setext
 //            | thematic_break | gfm_table | content
 //
-// The first byte of the rest of a line, behind the prefixes of its containers, chooses the leaves that are tried
-// (`choices::row`); behind whitespace all are tried, in this order. Each state in front of a leaf tries that one, and passes
-// it without an attempt where it may not begin by what stands first behind whitespace. A line of an open leaf of several
+// The first byte of the rest of a line, after the prefixes of its containers, chooses the leaves that are tried
+// (`choices::row`); after whitespace all are tried, in this order. Each state before a leaf tries that one, and passes
+// it without an attempt where it may not begin by what is first after whitespace. A line of an open leaf of several
 // lines is read before (`document::flow_inside`). The line then ends in the document.
 
 ghost use Rattle.std.specs.Prelude.{◌≡◌, ◌≢◌, List, false, true, ℕ};
@@ -47,7 +47,8 @@ use md_leaves::blank_line;
 use md_registry::choices::{self, FirstLeaf};
 use md_seam::space_or_tab::{self, look_behind};
 
-/// At the start of the rest of a line: its first byte chooses what is tried (`choices::row`); a virtual space is a space.
+/// At the start of the rest of a line: its first byte chooses what is tried (`choices::row`); a virtual space is a
+/// space.
 ///
 /// ```markdown
 /// > | a
@@ -106,7 +107,7 @@ pub fn blank_line_before(tokenizer: &mut Tokenizer) -> State
     State::Retry(StateName::BlankLine(BlankState::Start))
 }
 
-/// Before indented code: where no whitespace stands none begins.
+/// Before indented code: where no whitespace is none begins.
 ///
 /// ```markdown
 /// > |     a
@@ -223,7 +224,7 @@ pub fn before_thematic_break(tokenizer: &mut Tokenizer) -> State
     try_leaf(tokenizer, FlowState::BeforeThematicBreak)
 }
 
-/// Before a line of a table: a delimiter row behind text, or a row of the body.
+/// Before a line of a table: a delimiter row after text, or a row of the body.
 ///
 /// ```markdown
 ///   | | a |
@@ -264,7 +265,7 @@ fn try_leaf(tokenizer: &mut Tokenizer, state: FlowState) -> State
     try_start(tokenizer, FirstLeaf { start, end, next })
 }
 
-/// Tries a leaf by its first state: flow continues behind its line, or in front of the next leaf where it refuses.
+/// Tries a leaf by its first state: flow continues after its line, or before the next leaf where it refuses.
 #[inline(always)]
 fn try_start(tokenizer: &mut Tokenizer, first: FirstLeaf) -> State
     ensures to { result ≢ State.Error →
@@ -302,7 +303,7 @@ pub fn before_content(tokenizer: &mut Tokenizer) -> State
     State::Retry(StateName::Content(ContentState::ChunkStart))
 }
 
-/// Behind a blank line, at its ending or the end of the text.
+/// After a blank line, at its ending or the end of the text.
 ///
 /// ```markdown
 /// > |
@@ -319,7 +320,7 @@ pub fn blank_line_after(tokenizer: &mut Tokenizer) -> State
     leaf_after(tokenizer)
 }
 
-/// Behind a leaf on one line, at its ending or the end of the text: no leaf is open.
+/// After a leaf on one line, at its ending or the end of the text: no leaf is open.
 ///
 /// ```markdown
 /// > | ***
@@ -336,7 +337,7 @@ pub fn leaf_after(tokenizer: &mut Tokenizer) -> State
     State::Retry(StateName::Document(DocumentState::FlowEnd))
 }
 
-/// Behind a line of text, at its ending or the end of the text.
+/// After a line of text, at its ending or the end of the text.
 ///
 /// ```markdown
 /// > | a

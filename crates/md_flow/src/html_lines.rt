@@ -1,6 +1,6 @@
 // Lines of HTML that are taken in one call.
 //
-// The states of HTML are called one behind the other, up to one that refuses, or that may stay: the table takes what
+// The states of HTML are called one after the other, up to one that refuses, or that may stay: the table takes what
 // such a one takes. What is left of a line is taken at once, and the line ends. Each function is a run of the states
 // (`RunsHere`), so the pages of the states can be read without this one.
 
@@ -69,7 +69,7 @@ fn is_over(state: State) -> bool
     }
 }
 
-/// In a line of the last two kinds, or behind an end: the rest of the line is taken at once.
+/// In a line of the last two kinds, or after an end: the rest of the line is taken at once.
 #[inline(always)]
 fn rest(tokenizer: &mut Tokenizer) -> State
     requires { IsAt HtmlNeeds (StateName.HtmlFlow HtmlState.ContinuationClose) (world tokenizer.old) }
@@ -104,7 +104,7 @@ fn rest_done(tokenizer: &mut Tokenizer) -> State
     to
 }
 
-/// In a further line that may be blank: where no whitespace stands here, the line is taken at once.
+/// In a further line that may be blank: where no whitespace is here, the line is taken at once.
 #[inline(always)]
 fn further_inside(tokenizer: &mut Tokenizer) -> State
     requires { IsAt HtmlNeeds (StateName.HtmlFlow HtmlState.BlankLineBefore) (world tokenizer.old) }
@@ -120,7 +120,7 @@ fn further_inside(tokenizer: &mut Tokenizer) -> State
     to
 }
 
-/// Before a further line: one of the last two kinds is taken at once, where no whitespace stands here.
+/// Before a further line: one of the last two kinds is taken at once, where no whitespace is here.
 #[inline(always)]
 fn further(tokenizer: &mut Tokenizer) -> State
     requires { IsAt HtmlNeeds (StateName.HtmlFlow HtmlState.ContinuationStart) (world tokenizer.old) }
@@ -152,7 +152,7 @@ fn call_state(tokenizer: &mut Tokenizer, state: HtmlState) -> State
     }
 }
 
-/// Whether much may be taken at once where this state goes on.
+/// Whether much may be taken at once where this state continues.
 #[inline(always)]
 fn may_stay(state: HtmlState) -> bool {
     matches!(
@@ -161,8 +161,8 @@ fn may_stay(state: HtmlState) -> bool {
     )
 }
 
-/// The state of HTML that is called at once behind this answer, if there is one: where it stays at what stands here, or
-/// has taken something and more stands behind it, which is seen then.
+/// The state of HTML that is called at once after this answer, if there is one: where it stays at what is here, or has
+/// taken something and more is after it, which is seen then.
 #[inline(always)]
 fn next(tokenizer: &mut Tokenizer, to: State) -> Option<HtmlState>
     ensures none { result ≡ None → world tokenizer.new ≡ world tokenizer.old }

@@ -16,8 +16,8 @@ use md_engine::tokenizer::Tokenizer;
 use md_registry::choices;
 pub use md_resolve::pass::pass;
 
-/// Runs the resolver of this name; changes nothing for names of the inline layer. Events that nest still do, if what the
-/// resolver gets fits it; of content that is not said.
+/// Runs the resolver of this name; changes nothing for names of the inline layer. Events that nest still do, if what
+/// the resolver gets fits it; of content that is not said.
 ///
 /// After an `Err`, which says that memory ran out, the parse has failed and the tokenizer is only dropped.
 pub fn call(tokenizer: &mut Tokenizer, name: Name) -> Result<Option<Subresult>, Message>

@@ -1,4 +1,4 @@
--- Places between two characters of a text, and events that stand there.
+-- Places between two characters of a text, and events that are there.
 use Rattle.std.proofs.Common.{◌≡◌, ℕ, ◌+◌, ◌-◌, ◌<◌, ◌≤◌, Bool, true, false, cond, List, [], ◌∷◌, ◌++◌, length}
 use Rattle.std.proofs.Common.{get_or, drop, slice_range, refl, ap, sym, ◌∙◌, subst, arith}
 use Rattle.std.specs.Prelude.{◌==◌, nat_lt, slice_index}
@@ -54,11 +54,11 @@ low-at bytes line a e i text size low h k =
 pub between-end : (bytes : List ℕ) (i : ℕ) → i ≡ length bytes → is_between bytes i ≡ true
 between-end bytes i e = grind (arith, nat_tests)
 
--- so is one behind a byte of ASCII
+-- so is one after a byte of ASCII
 pub between-behind : (bytes : List ℕ) (i : ℕ) → is_low (slice_index bytes (i - 1)) ≡ true → is_between bytes i ≡ true
 between-behind bytes i h = grind (arith, nat_tests)
 
--- and one in front of it
+-- and one before it
 pub between-before : (bytes : List ℕ) (i : ℕ) → is_low (slice_index bytes i) ≡ true → is_between bytes i ≡ true
 between-before bytes i h = grind (arith, nat_tests)
 
@@ -85,7 +85,7 @@ ending-behind bytes p q is =
     (low-at bytes (ending_bytes is.ending) p.index q.index (q.index - 1) is.text is.size facts.0 (omega arith)
     (omega arith))
 
--- all these events stand between characters
+-- all these events are between characters
 abbrev pub AreBetween : List ℕ → List Event → Type 0
 AreBetween bytes events = list_all (λ (e : Event). is_between bytes e.point.index) events ≡ true
 
@@ -128,7 +128,7 @@ around-between bytes name p q inside h k i =
     between-more bytes (enter name p) (inside ++ exit name q ∷ []) h
     (between-append bytes inside (exit name q ∷ []) i (between-more bytes (exit name q) [] k refl))
 
--- a byte of whitespace in a part of the text, or behind its end
+-- a byte of whitespace in a part of the text, or after its end
 pub white-at : (bytes : List ℕ) (a e i : ℕ) → is_blank (slice_range bytes a e) ≡ true → a ≤ i → i < e →
     is_low (slice_index bytes i) ≡ true
 white-at bytes a e i h k l = go (nat_lt (i - a) (length line)) refl

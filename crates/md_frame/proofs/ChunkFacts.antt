@@ -1,4 +1,4 @@
--- What the plain layer gives for a chunk: its pieces stand, and it keeps the grammar of a text.
+-- What the plain layer gives for a chunk: its pieces are, and it keeps the grammar of a text.
 use Rattle.std.proofs.Common.{◌≡◌, ℕ, suc, ◌+◌, ◌<◌, Bool, true, false, cond, List, [], ◌∷◌, ◌++◌, length, drop}
 use Rattle.std.proofs.Common.{slice_range, refl, ap, sym, ◌∙◌, subst, append_assoc, append-nil, arith}
 use Rattle.std.specs.Prelude.{◌==◌, not, IsTrue}
@@ -153,7 +153,7 @@ chunked-ended bytes line p q some none slice is =
 
 -- Its events are a word of a text.
 
--- what is left of a text at the begin of a line: of the first one, and behind an ending
+-- what is left of a text at the begin of a line: of the first one, and after an ending
 abbrev pub text_left : Bool → Expression
 text_left true = plain_text
 text_left false = behind n.LineEnding plain_text

@@ -1,4 +1,4 @@
--- Events in which leaf blocks hold no block, and behind which none of these is open.
+-- Events in which leaf blocks hold no block, and after which none of these is open.
 use Rattle.std.proofs.Common.{◌≡◌, Bool, true, false, cond, ◌&&◌, List, [], ◌∷◌, ◌++◌, refl, ap, sym, subst}
 use Rattle.std.proofs.Common.{append_assoc, append-nil, subst₂}
 use Rattle.std.proofs.lemmas.Bool.{and_right}
@@ -14,7 +14,7 @@ use Rattle.md_frame.proofs.EventNames.{front-opens}
 use Rattle.md_frame.proofs.EachEvent.{Each, each-as}
 use Rattle.md_frame.proofs.PrefixNames.{AreFront, ArePrefixes, IsFrontEvent, IsNamed}
 
--- what stands behind them may stand there
+-- what follows them may be there
 abbrev pub IsClosed : List Event → Type 0
 IsClosed es = (behind : List Event) → HoldNoBlock Nothing behind → HoldNoBlock Nothing (es ++ behind)
 
@@ -22,7 +22,7 @@ pub closed-append : (xs ys : List Event) → IsClosed xs → IsClosed ys → IsC
 closed-append xs ys h k = λ zs l.
     subst (HoldNoBlock Nothing) (sym (append_assoc xs ys zs)) (h (ys ++ zs) (k zs l))
 
--- so nothing need stand there
+-- so nothing need are there
 pub closed-holds : (es : List Event) → IsClosed es → HoldNoBlock Nothing es
 closed-holds es h = subst (HoldNoBlock Nothing) (append-nil es) (h [] tt)
 
@@ -67,7 +67,7 @@ prefix-unset _ h = cc
 pub prefixes-unset : (es : List Event) → ArePrefixes es → Each IsUnset es
 prefixes-unset es h = each-as (IsNamed is_prefix) IsUnset (λ e is. prefix-unset e.name is.0) es h
 
--- A block with this name: such events may stand in it, and it goes on behind them; behind its end none is open.
+-- A block with this name: such events may be in it, and it continues after them; after its end none is open.
 pub record IsBlock (name : Name) : Type 0 where
   pub inside : Open
   pub opens : opened_by name ≡ inside

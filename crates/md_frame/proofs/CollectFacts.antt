@@ -1,4 +1,4 @@
--- What a text that is being read comes to, event by event.
+-- What a text that is being read becomes, event by event.
 use Rattle.std.proofs.Common.{◌≡◌, ℕ, ◌-◌, ◌≤◌, true, List, [], ◌∷◌, ◌++◌, take, drop, slice_range, ap, ◌∙◌}
 use Rattle.std.proofs.Common.{append_assoc, arith}
 use Rattle.std.proofs.lemmas.Bool.{and_from, and_parts}
@@ -8,11 +8,11 @@ use Rattle.md_seam.specs.Events.Spelled.{Text, text_to}
 use Rattle.md_seam.proofs.FeedLines.{slice-split}
 use Rattle.md_seam.proofs.SpelledLemmas.{QuietOrEnding, Roles, text-inline, text_after, text_after-append}
 
--- no bytes stand between a place and itself
+-- no bytes are between a place and itself
 pub slice-none : (bytes : List ℕ) (i : ℕ) → slice_range bytes i i ≡ []
 slice-none bytes i = let none : i - i ≡ 0 = omega arith in ap (λ (k : ℕ). take k (drop i bytes)) none
 
--- From a byte on, a text that is being read comes to these bytes with these events; what stands before is kept.
+-- From a byte on, a text that is being read becomes these bytes with these events; what is before is kept.
 abbrev pub Collects : List ℕ → List Event → ℕ → ℕ → List ℕ → Type 0
 Collects bytes es from end all =
     (t : Text) → t.from ≤ from →
@@ -25,7 +25,7 @@ collects-inline bytes es from end inline le =
     λ t h. ap (text_to bytes end) (text-inline bytes t es inline)
     ∙ ap (λ (l : List ℕ). t.front ++ l) (slice-split bytes t.from from end h le)
 
--- and what comes behind it
+-- and what comes after it
 pub collects-behind : (bytes : List ℕ) (xs ys : List Event) (from end : ℕ) (all : List ℕ) → Roles QuietOrEnding xs →
     Collects bytes ys from end all → Collects bytes (xs ++ ys) from end all
 collects-behind bytes xs ys from end all inline c =
@@ -43,12 +43,12 @@ collects-back bytes es i from end all le c = λ t h.
 
 -- Whitespace.
 
--- what is whitespace is so behind some of it
+-- what is whitespace is so after some of it
 pub blank-behind : (xs ys : List ℕ) → is_blank (xs ++ ys) ≡ true → is_blank ys ≡ true
 blank-behind [] ys h = h
 blank-behind (b ∷ xs) ys h = blank-behind xs ys (and_parts (is_white b) (is_blank (xs ++ ys)) h).1
 
--- whitespace behind whitespace is whitespace
+-- whitespace after whitespace is whitespace
 pub blank-append : (xs ys : List ℕ) → is_blank xs ≡ true → is_blank ys ≡ true → is_blank (xs ++ ys) ≡ true
 blank-append [] ys h k = k
 blank-append (b ∷ xs) ys h k =

@@ -28,7 +28,7 @@ use Rattle.md_frame.specs.ContainerNames.{IsOf}
 use Rattle.md_frame.proofs.PassedFacts.{Agree, HasFurther, HasOpening}
 use Rattle.md_frame.proofs.PrefixNames.{AreFront}
 
--- one that goes on or opens is of its kind, takes a cell at least where the line does not end here, and adds events
+-- one that continues or opens is of its kind, takes a cell at least where the line does not end here, and adds events
 -- with names of prefixes and of containers
 pub record IsPassed (k : ContainerKind) (cells : List Cell) (t : Passed) : Type 0 where
   pub one : IsOf k t.container
@@ -37,7 +37,7 @@ pub record IsPassed (k : ContainerKind) (cells : List Cell) (t : Passed) : Type 
   pub within : length t.cells ≤ length cells
   pub front : AreFront t.events
 
--- what holds of the rest of a line and its cells, behind which others stand: of any rest at any point
+-- what holds of the rest of a line and its cells, after which others are: of any rest at any point
 abbrev pub ByRest : ((line : Line) (text past : List ℕ) (r : Rest) (stop : List Cell) (p : Point) → Type 0) → Type 0
 ByRest P = (line : Line) (text past : List ℕ) (r : Rest) (stop : List Cell) (p : Point) →
     RestAt text past r p → NoEnding r.bytes → Stops stop → length (rest_cells line r p ++ stop) < 2 ^ 63 →
@@ -53,8 +53,8 @@ pub record ContainerLaws (k : ContainerKind) (rules : ContainerRules) : Type 1 w
       IsRest h.scratch → h.flags.asked ≡ held → h.flags.asked_column ≡ h.point.column → IsOf k c →
       rules.holds held c →
       rules.continues options cells h ≡ passed_by (rules.goes options c cells h.point) h
-  -- Where what stands first behind whitespace may not begin it, or not its prefix on a further line, it is refused, and
-  -- all is left as it was.
+  -- Where what is first after whitespace may not begin it, or not its prefix on a further line, it is refused, and all
+  -- is left as it was.
   pub begins_looked : (options : ParseOptions) (cells : List Cell) (h : Here) (b : ℕ) → IsRest h.scratch →
       seen_behind cells ≡ Some b → rules.may_open b ≡ false →
       rules.begins options cells h ≡ Refuses h.scratch h.flags
@@ -69,12 +69,12 @@ pub record ContainerLaws (k : ContainerKind) (rules : ContainerRules) : Type 1 w
       rules.opens options interrupting cells p ≡ Some t → IsPassed k cells t
   pub went : (options : ParseOptions) (c : Container) (cells : List Cell) (p : Point) (t : Passed) → IsOf k c →
       rules.goes options c cells p ≡ Some t → IsPassed k cells t
-  -- The tokenizer holds what it opens as, and goes on to.
+  -- The tokenizer holds what it opens as, and continues to.
   pub held_new : (options : ParseOptions) (interrupting : Bool) (cells : List Cell) (p : Point) (t : Passed) →
       rules.opens options interrupting cells p ≡ Some t → rules.holds t.held t.container
   pub held_on : (options : ParseOptions) (held : Held) (c : Container) (cells : List Cell) (p : Point) (t : Passed) →
       rules.holds held c → rules.goes options c cells p ≡ Some t → rules.holds t.held t.container
-  -- It opens and goes on where the line definition says, and leaves what it says.
+  -- It opens and continues where the line definition says, and leaves what it says.
   pub opens_agrees : (options : ParseOptions) (interrupting : Bool) → ByRest (λ line text past r stop p.
       let cells = rest_cells line r p ++ stop in
       Agree (HasOpening line text past p (past_rest r p) stop cells) (rules.opens options interrupting cells p)
@@ -83,8 +83,8 @@ pub record ContainerLaws (k : ContainerKind) (rules : ContainerRules) : Type 1 w
       let cells = rest_cells line r p ++ stop in
       Agree (HasFurther line text past p (past_rest r p) stop cells) (rules.goes options c cells p)
       (continues options c r))
-  -- Where the line ends none opens, and an open one goes on by what is held of it, and takes nothing. So it does by the
-  -- line definition, on an empty line; each of its kind may be held.
+  -- Where the line ends none opens, and an open one continues by what is held of it, and takes nothing. So it does by
+  -- the line definition, on an empty line; each of its kind may be held.
   pub opens_not : (options : ParseOptions) (interrupting : Bool) (cells : List Cell) (p : Point) →
       ends_line (first_seen cells) ≡ true → rules.opens options interrupting cells p ≡ None
   pub goes_over : (options : ParseOptions) (held : Held) (c : Container) (cells : List Cell) (p : Point) → IsOf k c →
@@ -94,7 +94,7 @@ pub record ContainerLaws (k : ContainerKind) (rules : ContainerRules) : Type 1 w
       rules.holds held c →
       continues options c (rest_at column []) ≡
       cond (rules.over_empty held) (Some (record { container = c; rest = rest_at column [] })) None
-  -- the kind of what is held tells that
+  -- the kind of what is held shows that
   pub over_kind : (held : Held) → kind_goes_over k held.starts_blank ≡ rules.over_empty held
   pub may_hold : (c : Container) → IsOf k c → (held : Held) × rules.holds held c
   -- By the line definition what opens is of its kind; and an outline can show its block, if it can those in it.

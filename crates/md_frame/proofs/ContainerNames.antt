@@ -1,5 +1,5 @@
 -- A table of the containers of the line definition, built or not: what is known of the names of their events, and of
--- what these tell. It is the one place of the frame's proofs that goes through them.
+-- what these show. It is the one place of the frame's proofs that goes through them.
 use Rattle.std.proofs.Common.{◌≡◌, Bool, true, false, cond, List, [], ◌∷◌, ◌++◌, refl, ap, map, ℕ, zero, suc}
 use Rattle.std.specs.Prelude.{None}
 use Rattle.md_engine.specs.declared.event.Event.{Event}
@@ -34,7 +34,7 @@ use Rattle.md_frame.proofs.PlainFacts.{Untold}
 -- Each container.
 
 pub record ContainerFacts (c : Container) : Type 0 where
-  -- its name is one of those that stand in front of a line, and not that of a prefix
+  -- its name is one of those that are before a line, and not that of a prefix
   pub front : is_front (container_name c) ≡ true
   pub no_prefix : is_prefix (container_name c) ≡ false
   pub begin_stops : (p : Point) (ys : List Event) → content_behind (enter (container_name c) p ∷ ys) ≡ false
@@ -123,7 +123,7 @@ container-facts (InFootnote label) = record {
     held-is kind.ListItem e = cc
     held-is kind.GfmFootnoteDefinition e = refl
 
--- lines of content do not go on over its end
+-- lines of content do not continue over its end
 pub end-stops : (c : Container) (p : Point) (ys : List Event) →
     content_behind (exit (container_name c) p ∷ ys) ≡ false
 end-stops c p ys = ap (λ (x : Bool). cond x (content_behind ys) false) (container-facts c).no_prefix
@@ -135,7 +135,7 @@ abbrev pub open_names : List Container → List Name
 open_names [] = []
 open_names (c ∷ cs) = open_names cs ++ container_name c ∷ []
 
--- the events of a container tell its name by its shape
+-- the events of a container show its name by its shape
 abbrev pub shape_names : List Shape → List Name
 shape_names [] = []
 shape_names (s ∷ ss) = shape_names ss ++ shape_name s ∷ []
@@ -146,10 +146,10 @@ names-shapes (c ∷ cs) = ap (λ (l : List Name). l ++ container_name c ∷ []) 
 
 -- In the grammar of events.
 
--- what may stand here takes what containers add to a line, and is left as it is
+-- what may be here takes what containers add to a line, and is left as it is
 abbrev pub TakesPrefixes : Expression → Type 0
 TakesPrefixes x = (behind n.SpaceOrTab x ≡ x) × (behind n.BlockQuotePrefix x ≡ x)
 
--- a text part of one piece may stand, where this stands in text parts
+-- a text part of one piece may be, where this is in text parts
 abbrev pub TakesData : Expression → Type 0
 TakesData text = may_end (behind n.Data text) ≡ true

@@ -1,4 +1,4 @@
--- Events in which no content stands.
+-- Events in which no content is.
 use Rattle.std.proofs.Common.{◌≡◌, Bool, true, false, List, [], ◌∷◌, ◌++◌, refl, ap}
 use Rattle.std.specs.Prelude.{None, not}
 use Rattle.md_engine.specs.declared.event.Content.{Content}

@@ -32,7 +32,7 @@ each-drop P zero es o = o
 each-drop P (suc k) [] o = tt
 each-drop P (suc k) (e ∷ es) o = each-drop P k es o.1
 
--- What holds of each wherever it stands goes on to hold.
+-- What holds of each wherever it is continues to hold.
 
 -- once lines end where their chunks do
 pub settled-each : (P : Event → Type 0) → ((e : Event) (q : Point) → P e → P (record e { point = q })) →

@@ -1,4 +1,4 @@
--- What is known of the ending of a line where it stands, whatever its name: that of a blank line, or that of any other.
+-- What is known of the ending of a line where it is, whatever its name: that of a blank line, or that of any other.
 use Rattle.std.proofs.Common.{◌≡◌, ℕ, Bool, true, false, List, [], ◌∷◌, refl}
 use Rattle.std.specs.Prelude.{not}
 use Rattle.md_engine.specs.declared.event.Name.{Name}
@@ -54,7 +54,7 @@ pub ending-no_parts : (blank : Bool) (p q : Point) → NoParts (pair (ending_nam
 ending-no_parts blank p q =
     ending-each (λ (name : Name). NoParts (pair name p q)) (refl, (refl, tt)) (refl, (refl, tt)) blank
 
--- It goes forward, and stands over what its name says: whatever ends a line is one of either name.
+-- It goes forward, and is over what its name says: whatever ends a line is one of either name.
 pub ending-nested : (bytes : List ℕ) (name : Name) (p q : Point) → IsEnding bytes p q → Nested_in p q (pair name p q)
 ending-nested bytes name p q is = around-nested name p q [] (balanced-none, (tt, ending-order bytes p q is))
 
@@ -83,7 +83,7 @@ stretch-ended R bytes blank p q quiet ending whole is =
     (ending-unlinked blank p q) (between-pair bytes name p q)
     (sits-still bytes (pair name p q) (ended-roles Still blank p q tt tt))
 
--- Behind it blocks may stand, as behind one or not,
+-- After it blocks may be, as after one or not,
 pub ending-word : (text : Expression) (blank : Bool) (p q : Point) (block : Bool) →
     grammar.Leads text (blocks_behind block ∷ []) (blocks ∷ []) (pair (ending_name blank) p q)
 ending-word text true p q true outer = refl
@@ -98,7 +98,7 @@ ending-unlists text blank p q block =
     (between-unlisted (pair (ending_name blank) p q) (ended-roles Between blank p q tt tt))
     (ending-word text blank p q block)
 
--- and it has the right name behind a leaf with something on its last line, or with nothing.
+-- and it has the right name after a leaf with something on its last line, or with nothing.
 pub ending-leads : (blank : Bool) (p q : Point) →
     ending.Leads (spot_behind (not blank)) line_start (pair (ending_name blank) p q)
 ending-leads true p q ys = refl

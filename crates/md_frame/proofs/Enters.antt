@@ -1,4 +1,4 @@
--- Begins of containers, one behind another.
+-- Begins of containers, one after another.
 use Rattle.std.proofs.Common.{List, [], ◌∷◌}
 use Rattle.md_seam.specs.Events.Spelled.{Reading}
 use Rattle.md_meaning.specs.State.{Container}

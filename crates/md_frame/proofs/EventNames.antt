@@ -1,4 +1,4 @@
--- Tables of names of events, and of the roles that they have: which are in front of a line, which in a leaf of several
+-- Tables of names of events, and of the roles that they have: which are before a line, which in a leaf of several
 -- lines, which in neither, and that names of one table are in another, or in none of those by which resolvers ask.
 --
 -- Here, where containers are listed (`ContainerNames`), and where leaves are (`LeafName`, `HeldNames`), the frame names
@@ -23,7 +23,7 @@ use Rattle.md_seam.specs.Events.Spelled.{AsTitle, ContainerRole, IsCell, IsFence
 use Rattle.md_seam.specs.Events.Spelled.{OfCode, OfDefinition, OfFence, OfFrontmatter, OfHeadingSetext, OfHtml, OfMath}
 use Rattle.md_seam.specs.Events.Spelled.{OfTable, Role, TextRole, role}
 
--- Content, and what is told of it.
+-- Content, and what is said of it.
 
 abbrev pub is_told : Name → Bool
 is_told n.Content = true
@@ -43,7 +43,7 @@ told-label _ h = refl
 abbrev pub is_own : Name → Bool
 is_own name = is_heading name
 
--- In front of a line: prefixes and containers, and what they tell where they open.
+-- Before a line: prefixes and containers, and what they show where they open.
 
 abbrev pub is_front : Name → Bool
 is_front n.BlockQuote = true

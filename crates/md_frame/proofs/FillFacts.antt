@@ -19,7 +19,7 @@ use Rattle.md_frame.specs.Linked.{linked}
 use Rattle.md_frame.proofs.PartFacts.{NoLinks, NoParts, kind-no_part, part-inside}
 use Rattle.md_frame.proofs.PartsStand.{Inside}
 
--- The same, whatever stands behind them: the events have these parts, and each is read.
+-- The same, whatever is after them: the events have these parts, and each is read.
 pub record PartsRead (bytes : List ℕ) (blocks events : List Event) : Type 0 where
   pub own : List Part
   pub each : EachRead (reads_plain bytes) own (plain_lists bytes own)
@@ -27,7 +27,7 @@ pub record PartsRead (bytes : List ℕ) (blocks events : List Event) : Type 0 wh
   pub read : (ys : List Event) (more : List (List Event)) →
       filled_from false (blocks ++ ys) (together (plain_lists bytes own) ++ more) ≡ events ++ filled_from false ys more
 
--- what is read of parts, and of others behind them
+-- what is read of parts, and of others after them
 pub lists-append : (bytes : List ℕ) (ps qs : List Part) →
     plain_lists bytes (ps ++ qs) ≡ plain_lists bytes ps ++ plain_lists bytes qs
 lists-append bytes [] qs = refl
@@ -92,7 +92,7 @@ fill-same bytes xs h k = record {
   read = λ ys more. passes-filled xs ys more h;
 }
 
--- and so does what stands around others
+-- and so does what is around others
 pub fill-around : (bytes : List ℕ) (name : Name) (p q : Point) (xs zs : List Event) → part_kind name ≡ None →
     PartsRead bytes xs zs → PartsRead bytes (around name p q xs) (around name p q zs)
 fill-around bytes name p q xs zs other h =
@@ -125,7 +125,7 @@ Filled bytes list inside out =
     (ys : List Event) (more : List (List Event)) →
     filled_from false (inside ++ ys) (plain_chunks bytes list ++ more) ≡ out ++ filled_from false ys more
 
--- a part whose chunks stand in order is read
+-- a part whose chunks are in order is read
 pub fill-part : (bytes : List ℕ) (name : Name) (kind : PartKind) (p q : Point) (list : List Chunk)
     (inside out : List Event) →
     part_kind name ≡ Some kind → Inside bytes kind list inside → Fills list (plain_chunks bytes list) →
@@ -156,7 +156,7 @@ fill-part bytes name kind p q list inside out is h fills into = record {
       (sym (append_assoc out (exit name q ∷ []) (filled_from false ys more)));
 }
 
--- so it is with what stands alone
+-- so it is with what is alone
 pub filled-read : (bytes : List ℕ) (blocks events : List Event) → PartsRead bytes blocks events →
     plain_read bytes blocks ≡ events
 filled-read bytes blocks events fill =

@@ -7,7 +7,7 @@ use Rattle.md_seam.specs.Events.Nested.{around, enter, exit}
 use Rattle.md_seam.proofs.EndingsLemmas.{AreOthers, Filling, filling-append, in_leaf, leads-append, others-lead}
 use Rattle.md_seam.proofs.EndingsLemmas.{stays-others}
 
--- with others behind them,
+-- with others after them,
 pub filling-then : (xs ys : List Event) → Filling xs → AreOthers ys → Filling (xs ++ ys)
 filling-then xs ys h others =
     λ from. leads-append (in_leaf from) (in_leaf true) (in_leaf true) xs ys (h from)

@@ -1,4 +1,4 @@
--- What stands in front of a line: the prefixes of its containers, and the begins of those that open on it.
+-- What is before a line: the prefixes of its containers, and the begins of those that open on it.
 use Rattle.std.proofs.Common.{◌≡◌, ℕ, List, [], ◌∷◌, ◌++◌, refl, sym, subst}
 use Rattle.md_engine.specs.declared.event.Event.{Event}
 use Rattle.md_engine.specs.declared.event.Point.{Point}
@@ -22,7 +22,7 @@ pub data LinePrefix (bytes : List ℕ) : List Container → Point → Point → 
       LinePrefix bytes opens q r fs →
       LinePrefix bytes (c ∷ opens) p r (enter (container_name c) p ∷ es ++ fs)
 
--- What stands there once text parts are read.
+-- What is there once text parts are read.
 pub record ReadFront (bytes : List ℕ) (opens : List Container) (p q : Point) (front : List Event) : Type 0 where
   pub is : LinePrefix bytes opens p q (plain_read bytes front)
   pub reads : ReadAs bytes front (plain_read bytes front)

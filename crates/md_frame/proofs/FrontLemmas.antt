@@ -1,4 +1,4 @@
--- What stands in front of a line goes forward, and opens the containers that begin in it.
+-- What is before a line goes forward, and opens the containers that begin in it.
 use Rattle.std.proofs.Common.{◌≡◌, ℕ, List, [], ◌∷◌, ◌++◌, map, refl, ap, sym, ◌∙◌, subst, append_assoc, append-nil}
 use Rattle.std.specs.Prelude.{IsTrue}
 use Rattle.md_engine.specs.declared.event.Event.{Event}
@@ -19,7 +19,7 @@ use Rattle.md_frame.specs.ContainerNames.{container_name, shape_of}
 
 -- Prefixes.
 
--- What stands in front of the content of a container.
+-- What is before the content of a container.
 
 -- LinePrefix.
 
@@ -81,7 +81,7 @@ turns-append a b c xs ys h k = record {
   opened = open_after-append a xs ys ∙ ap (λ (l : List Name). open_after l ys) h.opened ∙ k.opened;
 }
 
--- what stands in front of a line opens the containers that begin in it
+-- what is before a line opens the containers that begin in it
 pub fronts-turn : (bytes : List ℕ) (opens : List Container) (names : List Name) (p q : Point) (front : List Event) →
     LinePrefix bytes opens p q front → Turns names (open_names opens ++ names) front
 fronts-turn bytes _ names p _ _ (Behind _) = turns-balanced names [] balanced-none

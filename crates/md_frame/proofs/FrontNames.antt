@@ -1,4 +1,4 @@
--- What holds of the events in front of a line: they are prefixes and begins of containers. So it is with the ends of
+-- What holds of the events before a line: they are prefixes and begins of containers. So it is with the ends of
 -- containers, of which nothing is read later, and with prefixes where no container begins.
 use Rattle.std.proofs.Common.{◌≡◌, ℕ, Bool, false, cond, ◌&&◌, List, [], ◌∷◌, ◌++◌, refl, ap, sym, ◌∙◌, subst}
 use Rattle.std.proofs.Common.{append_assoc}
@@ -22,7 +22,7 @@ use Rattle.md_frame.proofs.PrefixNames.{IsFrontEvent, IsNamed}
 use Rattle.md_frame.proofs.PartFacts.{IsNoPart, IsUnlinked, NoLinks, NoParts}
 use Rattle.md_frame.specs.ContainerNames.{container_name}
 
--- what stands in front of a line are prefixes and begins of containers, and so it is once text parts are read
+-- what is before a line are prefixes and begins of containers, and so it is once text parts are read
 abbrev pub HasFront : List ℕ → Row → Type 0
 HasFront bytes row =
     (p : Point) × (is : LinePrefix bytes row.change.opens p row.first row.front)
@@ -74,9 +74,9 @@ ends-first P c (d ∷ cs) p es h =
     subst P (sym (append_assoc (ends_of (d ∷ cs) p) (exit (container_name c) p ∷ []) es))
     (ends-first P d cs p (exit (container_name c) p ∷ es) h)
 
--- What goes on behind them.
+-- What continues after them.
 
--- a line of content goes on over prefixes
+-- a line of content continues over prefixes
 pub prefixes-content : (xs ys : List Event) → ArePrefixes xs → content_behind (xs ++ ys) ≡ content_behind ys
 prefixes-content [] ys h = refl
 prefixes-content (e ∷ xs) ys h =

@@ -1,4 +1,4 @@
--- What stands in front of a line goes forward, stays on its line, and takes columns, if there is anything.
+-- What is before a line goes forward, stays on its line, and takes columns, if there is anything.
 use Rattle.std.proofs.Common.{◌≡◌, ℕ, ◌≤◌, Bool, List, [], ◌∷◌, ◌++◌, ◌∙◌, refl, sym, ap₂, arith}
 use Rattle.std.specs.Prelude.{◌&&◌, ◌==◌}
 use Rattle.std.proofs.lemmas.Bool.{eq-eqb}
@@ -15,7 +15,7 @@ use Rattle.md_seam.specs.Events.Nested.{last_point}
 spans-grow : (p q : Point) (es : List Event) → Spans p q es → p.index ≤ q.index
 spans-grow p q es h = order-grows p q (at_or_before-trans p (last_point p es) q (forward-last p es h.0) h.1)
 
--- a point does not come behind where the front ends
+-- a point does not come after where the front ends
 pub fronts-grow : (bytes : List ℕ) (opens : List Container) (p q : Point) (es : List Event) →
     LinePrefix bytes opens p q es → p.index ≤ q.index
 fronts-grow bytes opens p q es (Behind at) = omega arith

@@ -1,5 +1,4 @@
--- What is known of all that stands in front of a line: the prefixes of its containers, and the begins of those that
--- open on it.
+-- What is known of all that is before a line: the prefixes of its containers, and the begins of those that open on it.
 use Rattle.std.proofs.Common.{◌≡◌, ◌≢◌, ℕ, true, List, [], ◌∷◌, ◌++◌, refl, ap, ◌∙◌, append_assoc}
 use Rattle.std.specs.Prelude.{Some}
 use Rattle.std.proofs.lemmas.Bool.{and_from}
@@ -32,13 +31,13 @@ use Rattle.md_frame.proofs.PrefixNames.{prefixes-roles}
 use Rattle.md_seam.specs.Events.Endings.{on_line}
 use Rattle.md_seam.proofs.EndingsLemmas.{AreOthers, others-append, is_other}
 
--- the begin of a container in front of events
+-- the begin of a container before events
 pub begun-tiled : (name : Name) (p q : Point) (xs ys : List Event) → xs ≢ [] → Covered p q (xs ++ ys) →
     Covered p q (enter name p ∷ xs ++ ys)
 begun-tiled name p q [] ys some h = absurd (some refl)
 begun-tiled name p q (e ∷ xs) ys some h = tiled-within (enter name p) e q (xs ++ ys) refl h
 
--- so what stands in front of a line covers it
+-- so what is before a line covers it
 pub fronts-tiled : (bytes : List ℕ) (opens : List Container) (p q : Point) (es : List Event) →
     LinePrefix bytes opens p q es → Covered p q es
 fronts-tiled bytes opens p q es (Behind at) = tiled-none at at (same-refl at)
@@ -48,7 +47,7 @@ fronts-tiled bytes opens first last es (Begins c before p q r xs ys is more) =
     begun-tiled (container_name c) p r xs ys is.some
     (tiled-append p q r xs ys is.common.tiled (fronts-tiled bytes before q r ys more))
 
--- what stands in front of a further line of a text
+-- what is before a further line of a text
 pub fronts-inside : (bytes : List ℕ) (kind : PartKind) (opens : List Container) (p q : Point) (es : List Event) →
     opens ≡ [] → LinePrefix bytes opens p q es → Inside bytes kind [] es
 fronts-inside bytes kind opens p q es none (Behind at) = record {
@@ -63,7 +62,7 @@ fronts-inside bytes kind opens first last es none (Goes same p q r xs ys is more
     inside-append bytes kind [] [] xs ys (is.inside kind) (fronts-inside bytes kind same q r ys none more)
 fronts-inside bytes kind opens first last es none (Begins c before p q r xs ys is more) = cc
 
--- the begin of a container in front of what stands behind it
+-- the begin of a container before what follows it
 pub begun-stood : (bytes : List ℕ) (name : Name) (p q : Point) (es : List Event) → es ≢ [] → Covered p q es →
     PiecesValid bytes es →
     PiecesValid bytes (enter name p ∷ es)
@@ -73,7 +72,7 @@ begun-stood bytes name p q (e ∷ es) some tiled h = record {
   stand = ap (pieces_stand bytes) (pieces-before (enter name p) (e ∷ es) tiled.begins) ∙ h.stand;
 }
 
--- all that stands in front of a line
+-- all that is before a line
 pub fronts-stood : (bytes : List ℕ) (opens : List Container) (p q : Point) (es : List Event) →
     LinePrefix bytes opens p q es → PiecesValid bytes es
 fronts-stood bytes opens p q es (Behind at) = stood-none bytes
@@ -85,7 +84,7 @@ fronts-stood bytes opens first last es (Begins c before p q r xs ys is more) =
     (begun-stood bytes (container_name c) p q xs facts.some facts.common.tiled facts.common.stood)
     (fronts-stood bytes before q r ys more)
 
--- and what stands in front of a line
+-- and what is before a line
 pub fronts-between : (bytes : List ℕ) (opens : List Container) (p q : Point) (front : List Event) →
     is_between bytes p.index ≡ true → LinePrefix bytes opens p q front →
     AreBetween bytes front × (is_between bytes q.index ≡ true)
@@ -99,7 +98,7 @@ fronts-between bytes _ p r _ from (Begins c opens _ q _ es fs is more) =
     let rest = fronts-between bytes opens q r fs here.1 more in
     (between-more bytes (enter (container_name c) p) (es ++ fs) from (between-append bytes es fs here.0 rest.0), rest.1)
 
--- what stands in front of a line
+-- what is before a line
 pub plain-front : (bytes : List ℕ) (opens : List Container) (p q : Point) (front : List Event) →
     LinePrefix bytes opens p q front → ArePlain bytes front
 plain-front bytes _ p _ _ (Behind _) = plain-nil bytes
@@ -120,7 +119,7 @@ container-others c e same =
     and_from (is_other (on_line e.name)) true
     (ap (λ (name : Name). is_other (on_line name)) same ∙ (container-facts c).other) refl
 
--- what stands in front of a line
+-- what is before a line
 pub fronts-others : (bytes : List ℕ) (opens : List Container) (p q : Point) (es : List Event) →
     LinePrefix bytes opens p q es → AreOthers es
 fronts-others bytes opens p q es (Behind at) = refl
@@ -130,7 +129,7 @@ fronts-others bytes opens first last es (Begins c below p q r xs ys is more) =
     others-append (enter (container_name c) p ∷ []) (xs ++ ys) (container-others c (enter (container_name c) p) refl)
     (others-append xs ys is.common.others (fronts-others bytes below q r ys more))
 
--- what stands in front of a line begins at such a point, if its rest does
+-- what is before a line begins at such a point, if its rest does
 pub fronts-clear : (bytes : List ℕ) (opens : List Container) (p q : Point) (front : List Event) →
     LinePrefix bytes opens p q front → clear bytes q ≡ true → clear bytes p ≡ true
 fronts-clear bytes _ p _ _ (Behind _) h = h
@@ -139,7 +138,7 @@ fronts-clear bytes opens p r _ (Goes _ _ q _ es fs is more) h =
 fronts-clear bytes _ p r _ (Begins c opens _ q _ es fs is more) h =
     is.common.clear (fronts-clear bytes opens q r fs more h)
 
--- a text that begins in what stands in front of a line ends in it
+-- a text that begins in what is before a line ends in it
 pub fronts-sit : (bytes : List ℕ) (opens : List Container) (p q : Point) (front : List Event) →
     LinePrefix bytes opens p q front → PrefixesAtLineStart bytes front
 fronts-sit bytes _ p _ _ (Behind _) = sits-still bytes [] tt
@@ -151,7 +150,7 @@ fronts-sit bytes _ p r _ (Begins c opens _ q _ es fs is more) =
     (sits-still bytes (enter (container_name c) p ∷ []) ((container-facts c).still, tt))
     (sits-append bytes es fs is.sits (fronts-sit bytes opens q r fs more))
 
--- behind what stands in front of a further line of a text, the text goes on
+-- after what is before a further line of a text, the text continues
 pub fronts-parted : (bytes : List ℕ) (opens : List Container) (p q : Point) (front : List Event) (span : OpenTextSpan)
     (rest : List Event) →
     LinePrefix bytes opens p q front → opens ≡ [] → is_between bytes p.index ≡ true → clear bytes q ≡ true →

@@ -1,4 +1,4 @@
--- What is in front of a line and behind it keeps the grammar of events around which nothing is put yet.
+-- What is before a line and after it keeps the grammar of events around which nothing is put yet.
 use Rattle.std.proofs.Common.{◌≡◌, Bool, true, false, cond, ℕ, List, [], ◌∷◌, ◌++◌, refl, ap, sym, ◌∙◌, append_assoc}
 use Rattle.md_engine.specs.declared.event.Event.{Event}
 use Rattle.md_engine.specs.declared.event.Name.{Name}
@@ -38,7 +38,7 @@ behinds-around xs name outer =
 
 -- LinePrefix.
 
--- in front of blocks, what stands there opens the containers that begin in it
+-- before blocks, what is there opens the containers that begin in it
 pub front-leads : (text : Expression) (bytes : List ℕ) (opens : List Container) (p q : Point) (front : List Event) →
     TakesData text → LinePrefix bytes opens p q front →
     Unlists text (blocks ∷ []) (blocks ∷ behinds (open_names opens)) front
@@ -56,7 +56,7 @@ front-leads text bytes _ p r _ takes (Begins c opens _ q _ es fs is more) =
     (blocks ∷ behinds (open_names opens ++ container_name c ∷ [])) (enter (container_name c) p ∷ es) fs
     (is.leads text takes) further
 
--- in front of a further line of a leaf, where prefixes may stand
+-- before a further line of a leaf, where prefixes may be
 pub front-stays : (text x : Expression) (bytes : List ℕ) (opens : List Container) (p q : Point) (front : List Event) →
     TakesPrefixes x → LinePrefix bytes opens p q front → opens ≡ [] →
     Leads text (x ∷ []) (x ∷ []) front
@@ -66,9 +66,9 @@ front-stays text x bytes opens p r _ takes (Goes _ _ q _ es fs is more) none =
     (front-stays text x bytes opens q r fs takes more none)
 front-stays text x bytes _ p r _ takes (Begins c opens _ q _ es fs is more) none = cc
 
--- Behind a line.
+-- After a line.
 
--- what is left of blocks behind a block, and behind a blank line
+-- what is left of blocks after a block, and after a blank line
 abbrev pub blocks_behind : Bool → Expression
 blocks_behind true = behind_block
 blocks_behind false = blocks

@@ -1,4 +1,4 @@
--- Lines that lose columns of whitespace in front of a part that reaches to their end.
+-- Lines that lose columns of whitespace before a part that reaches to their end.
 pub mod Columns
 pub mod Placed
 pub mod Places

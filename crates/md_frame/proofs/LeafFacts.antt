@@ -1,7 +1,7 @@
 -- What is known of the events of a leaf, from the point where its line begins to the one where it ends.
 --
--- The frame joins what stands in front of a line, its leaf and what stands behind it, and needs no more of a leaf than
--- stands here. A blank line is such a leaf too, without a block.
+-- The frame joins what is before a line, its leaf and what follows it, and needs no more of a leaf than is here. A
+-- blank line is such a leaf too, without a block.
 use Rattle.std.proofs.Common.{◌≡◌, ℕ, Bool, true, false, List, [], ◌∷◌, ◌+◌, length, ◌≤◌}
 use Rattle.std.specs.Prelude.{Option, Some, None, slice_range}
 use Rattle.md_engine.specs.declared.event.Event.{Event}
@@ -25,8 +25,7 @@ use Rattle.md_frame.proofs.EventNames.{NoContainer}
 use Rattle.md_frame.proofs.PlainFacts.{ArePlain}
 use Rattle.md_frame.proofs.Stretch.{Stretch}
 
--- a rest of a line, as it stands in a text: its bytes, a tab that a prefix has cut among them, and where it begins and
--- ends
+-- a rest of a line, as it is in a text: its bytes, a tab that a prefix has cut among them, and where it begins and ends
 pub record LineAt (bytes : List ℕ) (r : Rest) (line : List ℕ) (p q : Point) : Type 0 where
   pub line_is : line ≡ rest_line r
   pub no_ending : NoEnding line
@@ -39,7 +38,7 @@ pub record LineAt (bytes : List ℕ) (r : Rest) (line : List ℕ) (p q : Point) 
   pub cut_first : CutsFirst p line
   pub cut : Cut r.spaces p
 
--- where the line stands behind a leaf, as its ending asks: behind one that fills its last line, or where it began
+-- where the line is after a leaf, as its ending asks: after one that fills its last line, or where it began
 abbrev pub spot_behind : Bool → EndingPlace
 spot_behind true = ending.behind_leaf
 spot_behind false = line_start
@@ -49,11 +48,11 @@ abbrev pub shown : Option Block → Reading → Reading
 shown None r = r
 shown (Some block) r = add_block block r
 
--- These events stand from a point to a point before text parts are read, and those once they are, as a leaf does
--- whatever it is read as; something stands on their last line, or nothing does.
+-- These events are from a point to a point before text parts are read, and those once they are, as a leaf does whatever
+-- it is read as; something is on their last line, or nothing does.
 pub record StandFacts (bytes : List ℕ) (full : Bool) (p q : Point) (unread done : List Event) : Type 0 where
   pub stretch : Stretch NoContainer bytes p q unread done
-  -- whether the grammar stands behind a block there, or where blocks may begin as at first
+  -- whether the grammar is after a block there, or where blocks may begin as at first
   pub behind : Bool
   -- they keep the grammar
   pub unread_word : grammar.Leads unread_text (blocks ∷ []) (blocks_behind behind ∷ []) unread

@@ -52,16 +52,16 @@ Shrinks n (Accepts h rest) = (length rest ≤ n) × (from_ending rest ≡ rest)
 Shrinks n (Refuses s g) = Unit {0}
 Shrinks n Fails = ⊥
 
--- the same of what one of two outcomes comes to
+-- the same of what one of two outcomes becomes
 pub cond-shrinks : (n : ℕ) (x : Bool) (a b : Outcome) → Shrinks n a → Shrinks n b → Shrinks n (cond x a b)
 cond-shrinks n true a b p q = p
 cond-shrinks n false a b p q = q
 
 pub record LeafLaws (resolver : LineResolver) (l : LineLeaf) : Type 1 where
-  -- It takes no line where it may not begin, by what stands first behind whitespace, and whether such stands in front.
+  -- It takes no line where it may not begin, by what is first after whitespace, and whether such is in front.
   pub looked : (options : ParseOptions) (on : HeldLeaf) (cells : List Cell) (b : ℕ) → seen_behind cells ≡ Some b →
       l.may_begin on (begins_white cells) b ≡ false → l.takes options on cells ≡ false
-  -- A line of it that goes on a leaf meets one on which a line may go on.
+  -- A line of it that continues a leaf meets one on which a line may continue.
   pub meets : (options : ParseOptions) (on : HeldLeaf) (r : Rest) → l.starts options on r ≡ true →
       l.further on ≡ true → may_go_on on ≡ true
   -- Where it is tried, it takes a line to its end, or refuses it and leaves all as it was.
@@ -86,7 +86,7 @@ pub record LeafLaws (resolver : LineResolver) (l : LineLeaf) : Type 1 where
       RestAt text behind r p → NoEnding r.bytes → Stops stop → length (rest_cells said r p ++ stop) < 2 ^ 63 →
       l.starts options on r ≡ true →
       l.adds options on (rest_cells said r p ++ stop) p ≡ l.added options on (rest_line r) p
-  -- What is held behind it is what the line definition has there; nothing, where it always ends on its line.
+  -- What is held after it is what the line definition has there; nothing, where it always ends on its line.
   pub keeps_is : (options : ParseOptions) (on : HeldLeaf) (said : Line) (text behind : List ℕ) (r : Rest) (p : Point)
       (stop : List Cell) →
       RestAt text behind r p → NoEnding r.bytes → Stops stop → length (rest_cells said r p ++ stop) < 2 ^ 63 →
@@ -94,20 +94,20 @@ pub record LeafLaws (resolver : LineResolver) (l : LineLeaf) : Type 1 where
   pub shut : l.ends ≡ true → (options : ParseOptions) (on : HeldLeaf) →
       ((cells : List Cell) (p : Point) → l.keeps options on cells p ≡ held_leaf.None)
       × ((r : Rest) → l.holds options on r ≡ held_leaf.None)
-  -- Where it always ends on its line it comes to its block; else what is held behind it is the leaf that it comes to.
+  -- Where it always ends on its line it becomes its block; else what is held after it is the leaf that it becomes.
   pub finishes : l.ends ≡ true → (options : ParseOptions) (leaf : Leaf) (r : Rest) →
       l.comes options leaf r ≡ Finished (l.block r)
   pub holds_is : (options : ParseOptions) (leaf : Leaf) (r : Rest) → l.starts options (kind_of_leaf leaf) r ≡ true →
       kind_of_leaf (left_by (l.comes options leaf r)) ≡ l.holds options (kind_of_leaf leaf) r
-  -- No line goes on it lazily.
+  -- No line continues it lazily.
   pub not_lazy : (options : ParseOptions) (on : HeldLeaf) →
       ((cells : List Cell) (p : Point) → takes_lazy (l.keeps options on cells p) ≡ false)
       × ((r : Rest) → takes_lazy (l.holds options on r) ≡ false)
-  -- No content stands in what it adds: its links are to text, to strings, and to the line in front.
+  -- No content is in what it adds: its links are to text, to strings, and to the line in front.
   pub no_content : (wants : Content → Bool) → WantsContent wants →
       (options : ParseOptions) (on : HeldLeaf) (cells : List Cell) (p : Point) →
       NoContent wants (l.adds options on cells p)
-  -- If it is open behind its line, goes on no text and takes no head, it has the events of a leaf of several lines.
+  -- If it is open after its line, continues no text and takes no head, it has the events of a leaf of several lines.
   pub lined : l.ends ≡ false → l.heads ≡ false → (options : ParseOptions) (on : HeldLeaf) (r : Rest) (p : Point) →
       l.starts options on r ≡ true → (l.further on ≡ true → has_lines on ≡ true) →
       AreLined (l.added options on (rest_line r) p)
@@ -121,7 +121,7 @@ pub record LeafLaws (resolver : LineResolver) (l : LineLeaf) : Type 1 where
   pub set : l.ends ≡ true → (options : ParseOptions) (on : HeldLeaf) (r : Rest) (p : Point) (es : List Event) →
       l.starts options on r ≡ true →
       resolver.resolved (l.added options on (rest_line r) p ++ es) ≡ l.unread (rest_line r) p ++ resolver.resolved es
-  -- and those behind it pass what it has set;
+  -- and those after it pass what it has set;
   pub unturned : l.ends ≡ true → (options : ParseOptions) (on : HeldLeaf) (r : Rest) (p : Point) →
       l.starts options on r ≡ true → AreUnturned (l.unread (rest_line r) p)
   pub unspanned : l.ends ≡ true → (options : ParseOptions) (on : HeldLeaf) (r : Rest) (p : Point) →

@@ -1,4 +1,4 @@
--- What is tried in front of all leaves on one line, and behind them: blank lines and content, by the cells of a line.
+-- What is tried before all leaves on one line, and after them: blank lines and content, by the cells of a line.
 use Rattle.std.proofs.Common.{◌≡◌, Bool, true, false, cond, List, [], ◌∷◌, ◌++◌, ap, append_assoc}
 use Rattle.md_engine.specs.declared.event.Event.{Event}
 use Rattle.md_engine.specs.declared.event.Name.TheVariants as n

@@ -26,7 +26,7 @@ use Rattle.md_frame.specs.Row.{Row, ending_events}
 abbrev pub site_of : List Bool → Inner → Site
 site_of held inner = record { held = held; inner = inner }
 
--- an event with this role may stand where one is open, and the other is open behind it
+-- an event with this role may be where one is open, and the other is open after it
 pub record Moves (bytes : List ℕ) (from to : Site) (kind : Kind) (x : Role) (p : Point) : Type 0 where
   pub may : MayStand bytes from kind x p
   pub behind : site_after from kind x p ≡ to
@@ -45,7 +45,7 @@ roles-stand bytes site P stays (e ∷ es) h =
     (moves-stand bytes site site e (stays e.kind (role e.name) e.point h.0))
     (roles-stand bytes site P stays es h.1)
 
--- what stands between blocks does,
+-- what is between blocks does,
 between-stays : (bytes : List ℕ) (held : List Bool) (kind : Kind) (x : Role) (p : Point) → Between x →
     Moves bytes (among held) (among held) kind x p
 between-stays bytes held Enter IsQuiet p h = record { may = tt; behind = refl }
@@ -74,7 +74,7 @@ part-stays bytes held Exit _ p h = record { may = tt; behind = refl }
 
 -- Leaves.
 
--- a leaf with this role may stand between blocks: in it this is innermost
+-- a leaf with this role may be between blocks: in it this is innermost
 pub record Encloses (bytes : List ℕ) (held : List Bool) (inner : Inner) (x : Role) : Type 0 where
   pub begins : (p : Point) → Moves bytes (among held) (site_of held inner) Enter x p
   pub ends : (p : Point) → Moves bytes (site_of held inner) (among held) Exit x p
@@ -112,7 +112,7 @@ roles-unlisted (e ∷ es) h = (name-unlisted e.name h.0, roles-unlisted es h.1)
 pub parts-unlisted : (es : List Event) → Roles IsPart es → NoListing es
 parts-unlisted es h = roles-unlisted es (roles-as part-no_container es h)
 
--- nor does any stand between blocks
+-- nor is any between blocks
 pub between-part : (x : Role) → Between x → IsPart x
 between-part IsQuiet h = tt
 between-part IsPrefix h = tt
@@ -128,7 +128,7 @@ pub quiet-part : (x : Role) → Quiet x → IsPart x
 quiet-part IsQuiet h = tt
 quiet-part _ h = absurd h
 
--- and stands between blocks
+-- and is between blocks
 pub quiets-between : (es : List Event) → Roles Quiet es → Roles Between es
 quiets-between es h = roles-as one es h
   where
@@ -149,7 +149,7 @@ pub around-unlisted : (name : Name) (p q : Point) (inside : List Event) → in_p
 around-unlisted name p q inside e parts =
     (e, unlisted-both inside (exit name q ∷ []) (parts-unlisted inside parts) (e, tt))
 
--- Endings of lines, and the mark in front of a text.
+-- Endings of lines, and the mark before a text.
 
 pub ending-roles : (P : Role → Type 0) (name : Name) (row : Row) → P (role name) → Roles P (ending_events name row)
 ending-roles P name row h = go row.after

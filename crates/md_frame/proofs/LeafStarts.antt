@@ -1,4 +1,4 @@
--- The start of a leaf behind a small indent, as flow knows it: what is left of a line is no longer than it was.
+-- The start of a leaf after a small indent, as flow knows it: what is left of a line is no longer than it was.
 use Rattle.std.proofs.Common.{ℕ, ◌≤◌, Bool, List, length, arith}
 use Rattle.md_engine.specs.declared.configuration.ParseOptions.{ParseOptions}
 use Rattle.md_engine.specs.declared.event.Name.{Name}

@@ -1,4 +1,4 @@
--- The bytes of a line: its parts, its ending, and where it stands in a text.
+-- The bytes of a line: its parts, its ending, and where it is in a text.
 use Rattle.std.proofs.Common.{◌≡◌, ℕ, zero, suc, ◌-◌, ◌<◌, ◌≤◌, Bool, true, false, cond, List, [], ◌∷◌, ◌++◌, length}
 use Rattle.std.proofs.Common.{drop, slice_range, refl, ap, sym, ◌∙◌, append-nil, drop-drop, arith}
 use Rattle.std.specs.Prelude.{nat_lt, not}
@@ -63,21 +63,21 @@ one-next line ending h ends =
     go [] = refl
     go (b ∷ line) = refl
 
--- a piece of a text, and what stands behind it
+-- a piece of a text, and what follows it
 pub piece : (bytes : List ℕ) (i j : ℕ) → i ≤ j → drop i bytes ≡ slice_range bytes i j ++ drop j bytes
 piece bytes i j le =
     sym (take-append-drop (j - i) (drop i bytes))
     ∙ ap (λ (l : List ℕ). slice_range bytes i j ++ l)
     (drop-drop (j - i) i bytes ∙ ap (λ (k : ℕ). drop k bytes) (omega arith))
 
--- a line stands there, and what follows behind it
+-- a line is there, and what follows after it
 pub line-stands : (bytes : List ℕ) (r : Rest) (line : List ℕ) (p q : Point) → LineAt bytes r line p q →
     drop p.index bytes ≡ line ++ drop q.index bytes
 line-stands bytes r line p q is =
     piece bytes p.index q.index (omega (arith, is.size))
     ∙ ap (λ (l : List ℕ). l ++ drop q.index bytes) is.text
 
--- where something stands on a line, the text goes on with it
+-- where something is on a line, the text continues with it
 pub some-text : (r : Rest) → is_blank r.bytes ≡ false → 0 < length (rest_line r)
 some-text r dark = go r.spaces r.bytes dark
   where
@@ -102,7 +102,7 @@ text-behind bytes r p q at some = go (nat_lt p.index (length bytes)) refl
         (over (rest_line r) (drop q.index bytes) some
         (sym (line-stands bytes r (rest_line r) p q at) ∙ drop_all p.index bytes le))
 
--- behind some bytes no tab is cut
+-- after some bytes no tab is cut
 pub past-whole : (line : List ℕ) (p : Point) → 0 < length line → (past_text line p).vs ≡ 0
 past-whole [] p h = absurd (omega arith)
 past-whole (b ∷ bs) p h = past_text-whole bs (past_byte b p) refl

@@ -6,7 +6,7 @@ use Rattle.md_seam.specs.Events.Places.{past_text}
 use Rattle.md_seam.proofs.FeedLines.{drop-past}
 use Rattle.md_seam.proofs.InlineLemmas.{past-index}
 
--- Bytes of a line that stand at a point of a text, which cuts no tab.
+-- Bytes of a line that are at a point of a text, which cuts no tab.
 pub record At (bytes xs : List ℕ) (p : Point) (rest : List ℕ) : Type 0 where
   pub stands : drop p.index bytes ≡ xs ++ rest
   pub none : NoEnding xs

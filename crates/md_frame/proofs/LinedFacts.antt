@@ -41,8 +41,8 @@ lined-unturned e is = lined-passes e.name is
 pub lined-opens : (e : Event) → IsLined e → OpensNothing e
 lined-opens e is = lined-opened e.name is
 
--- What holds of such events, of endings, and of events one behind the other holds of what is between lines: a blank
--- line has such events, and whitespace in the place of others.
+-- What holds of such events, of endings, and of events one after the other holds of what is between lines: a blank line
+-- has such events, and whitespace in the place of others.
 pub lined-gaps : (L : List Event → Type 0) → ((es : List Event) → AreLined es → L es) →
     ((xs ys : List Event) → L xs → L ys → L (xs ++ ys)) → ((p q : Point) → L (pair n.LineEnding p q)) →
     OfGaps IsLined L

@@ -1,4 +1,4 @@
--- Events that nest, in front of others: some begin or end containers, so what is open between two of them changes.
+-- Events that nest, before others: some begin or end containers, so what is open between two of them changes.
 use Rattle.std.proofs.Common.{List, [], ◌++◌, refl, ap, sym, ◌∙◌, subst}
 use Rattle.std.specs.Prelude.{IsTrue, Option, Some, None}
 use Rattle.md_engine.specs.declared.event.Event.{Event}
@@ -21,7 +21,7 @@ pub record Onward (p : Point) (events : List Event) : Type 0 where
 pub under-none : (p : Point) (events : List Event) → Under [] p events → Onward p events
 under-none p events h = record { balanced = record { matches = h.matches; closed = h.closed }; forward = h.forward }
 
--- events that begin or end containers, in front of such
+-- events that begin or end containers, before such
 pub under-turn : (from to : List Name) (p q : Point) (xs events : List Event) → Turns from to xs → Spans p q xs →
     Under to q events → Under from p (xs ++ events)
 under-turn from to p q xs events h spans on = record {
@@ -31,7 +31,7 @@ under-turn from to p q xs events h spans on = record {
   forward = forward-append p xs events spans.0 (forward-from (last_point p xs) q events spans.1 on.forward);
 }
 
--- nested events in front of such
+-- nested events before such
 pub under-before : (names : List Name) (p q : Point) (xs events : List Event) → Nested_in p q xs →
     Under names q events → Under names p (xs ++ events)
 under-before names p q xs events h on = under-turn names names p q xs events (turns-balanced names xs h.0) h.1 on

@@ -1,4 +1,4 @@
--- Texts that stand on one line.
+-- Texts that are on one line.
 use Rattle.std.proofs.Common.{◌≡◌, ℕ, true, List, [], ◌∷◌, refl, ap, ◌∙◌, arith}
 use Rattle.std.proofs.lemmas.Bool.{and_from}
 use Rattle.md_engine.specs.declared.event.Point.{Point}

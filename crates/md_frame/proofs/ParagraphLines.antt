@@ -18,7 +18,7 @@ use Rattle.md_frame.proofs.FrontFacts.{Behind, Begins, LinePrefix, Goes}
 use Rattle.md_frame.proofs.CollectFacts.{Collects, slice-none, blank-append}
 use Rattle.md_frame.proofs.PrefixNames.{prefixes-roles}
 
--- what stands in front of a line that goes on is quiet but for prefixes
+-- what is before a line that continues is quiet but for prefixes
 pub fronts-between : (bytes : List ℕ) (opens : List Container) (p q : Point) (es : List Event) →
     LinePrefix bytes opens p q es → opens ≡ [] → Roles Between es
 fronts-between bytes opens p q es (Behind r) none = tt
@@ -27,7 +27,7 @@ fronts-between bytes opens p q es (Goes many a b d xs ys further more) none =
     (fronts-between bytes many b d ys more none)
 fronts-between bytes opens p q es (Begins c many a b d xs ys opening more) none = cc
 
--- what stands in front of a line that goes on leaves whitespace alone
+-- what is before a line that continues leaves whitespace alone
 pub collects-fronts : (bytes : List ℕ) (opens : List Container) (p q : Point) (es ys : List Event) (end : ℕ)
     (all : List ℕ) →
     LinePrefix bytes opens p q es → opens ≡ [] → Collects bytes ys (byte_at q) end all →
@@ -44,7 +44,7 @@ collects-fronts bytes opens p q es ys end all (Goes many a b d xs zs further mor
     )
 collects-fronts bytes opens p q es ys end all (Begins container many a b d xs zs opening more) none c = absurd cc
 
--- bytes in front of the first line
+-- bytes before the first line
 abbrev pub onto_line : List ℕ → List (List ℕ) → List (List ℕ)
 onto_line white [] = []
 onto_line white (line ∷ lines) = (white ++ line) ∷ lines
@@ -107,7 +107,7 @@ pub record IsRead (bytes : List ℕ) (row : Row) (rows : List Row) (lines : List
   pub texts_are : texts lines ≡ trim_each own
   pub between : Roles Between (read_lines bytes row rows)
 
--- what is told of them is their lines
+-- what is said of them is their lines
 pub lines-told : (bytes : List ℕ) (row : Row) (rows : List Row) (lines : List ParagraphLine) →
     (is : IsRead bytes row rows lines) →
     IsOfLines is.own

@@ -18,7 +18,7 @@ use Rattle.md_outline.specs.Outlined.{OpenTextSpan, are_parted, parts_by, span_b
 use Rattle.md_frame.proofs.PlainRoles.{chunk-roles}
 use Rattle.md_frame.proofs.BetweenFacts.{between-behind, is_low}
 
--- a point that cuts no tab, or one behind whose tab is a place between characters
+-- a point that cuts no tab, or one after whose tab is a place between characters
 abbrev pub clear : List ℕ → Point → Bool
 clear bytes p = (p.vs == 0) || is_between bytes (byte_at p)
 
@@ -31,7 +31,7 @@ clear-between bytes p h k = go (p.vs == 0) h
     go true h = k
     go false h = h
 
--- behind a byte of ASCII
+-- after a byte of ASCII
 pub low-clear : (bytes : List ℕ) (p : Point) → ((p.vs == 0) ≡ false → is_low (slice_index bytes p.index) ≡ true) →
     clear bytes p ≡ true
 low-clear bytes p h = go (p.vs == 0) refl
@@ -87,7 +87,7 @@ pub quiets-still : (es : List Event) → Roles Quiet es → Roles Still es
 quiets-still [] h = tt
 quiets-still (e ∷ es) h = (quiet-still (role e.name) h.0, quiets-still es h.1)
 
--- what stands in a text and parts it not
+-- what is in a text and parts it not
 pub parts-quiet : (bytes : List ℕ) (kind : Kind) (x : Role) (p : Point) (s : Option OpenTextSpan) → QuietOrEnding x →
     parts_by bytes kind x p s ≡ true
 parts-quiet bytes kind x p None h = refl

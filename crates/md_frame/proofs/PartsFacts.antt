@@ -1,4 +1,4 @@
--- What is known of events that stand inside of a leaf: of each part, of some one behind the other, and with a name of
+-- What is known of events that are inside of a leaf: of each part, of some one after the other, and with a name of
 -- their own around them.
 use Rattle.std.proofs.Common.{◌≡◌, ℕ, Bool, true, false, cond, List, [], ◌∷◌, ◌++◌, length, refl, sym, ap, ◌∙◌, subst}
 use Rattle.std.specs.Prelude.{IsTrue, nat_lt, None, option_map, Option, Some}
@@ -31,13 +31,13 @@ use Rattle.md_frame.proofs.PieceFacts.{Starts, span}
 use Rattle.md_frame.proofs.PrefixNames.{prefixes-roles}
 use Rattle.md_frame.proofs.Stretch.{IsMiddle, Stretch, stretch-append, stretch-around, stretch-none, stretch-pair}
 
--- where this leaf is open and no text, that leaf is open behind these events
+-- where this leaf is open and no text, that leaf is open after these events
 abbrev pub ReadsLeaf : List ℕ → OpenLeaf → OpenLeaf → List Event → Type 0
 ReadsLeaf bytes from to es =
     (r : Reading) → r.text ≡ None → r.leaf ≡ Some from → read bytes r es ≡ record r { leaf = Some to }
 
--- Parts of a leaf stand from a point to a point, before text parts are read, and those once they are. Of the grammar of
--- the leaf this is left in front of them, and that behind them; they are read from this to that.
+-- Parts of a leaf are from a point to a point, before text parts are read, and those once they are. Of the grammar of
+-- the leaf this is left before them, and that after them; they are read from this to that.
 pub record PartsFacts (bytes : List ℕ) (p q : Point) (x y : Expression) (from to : OpenLeaf)
     (unread done : List Event) : Type 0 where
   pub stretch : Stretch IsPart bytes p q unread done
@@ -50,7 +50,7 @@ pub record PartsFacts (bytes : List ℕ) (p q : Point) (x y : Expression) (from 
   -- and they are read
   pub reads : ReadsLeaf bytes from to done
 
--- One behind the other.
+-- One after the other.
 pub parts-append : {bytes : List ℕ} {p q r : Point} {x y z : Expression} {from mid to : OpenLeaf}
     {us es vs fs : List Event} →
     PartsFacts bytes p q x y from mid us es → PartsFacts bytes q r y z mid to vs fs → IsMiddle bytes p q r →
@@ -108,7 +108,7 @@ parts-pair bytes name p q x leaf quiet others ends order stands = record {
 
 -- An ending between two lines.
 
--- it opens a line of the leaf, if the text goes on behind it
+-- it opens a line of the leaf, if the text continues after it
 abbrev pub behind_ending : List ℕ → Point → OpenLeaf → OpenLeaf
 behind_ending bytes q leaf = cond (nat_lt q.index (length bytes)) (next_line leaf) leaf
 
@@ -135,7 +135,7 @@ parts-ended bytes p q x leaf whole is = record {
   reads = ending-reads bytes p q leaf;
 }
 
--- Prefixes of containers that go on, in front of a further line.
+-- Prefixes of containers that continue, before a further line.
 pub parts-front : (bytes : List ℕ) (p q : Point) (x : Expression) (leaf : OpenLeaf) (front : List Event) →
     TakesPrefixes x → LinePrefix bytes [] p q front → PartsFacts bytes p q x x leaf leaf front front
 parts-front bytes p q x leaf front takes is = record {
@@ -161,7 +161,7 @@ pub record IsPartName (name : Name) (begin : Expression) : Type 0 where
   pub enters : (p : Point) → AreOthers (enter name p ∷ [])
   pub exits : (p : Point) → AreOthers (exit name p ∷ [])
 
--- with such a name that the tree does not show it is read as what stands in it
+-- with such a name that the tree does not show it is read as what is in it
 pub around-reads : (bytes : List ℕ) (name : Name) (p q : Point) (from to : OpenLeaf) (es : List Event) →
     Quiet (role name) → ReadsLeaf bytes from to es → ReadsLeaf bytes from to (around name p q es)
 around-reads bytes name p q from to es quiet h s text is_open =

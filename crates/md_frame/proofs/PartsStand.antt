@@ -1,4 +1,4 @@
--- Events whose text parts are whole, each of its chunks a line, and in which no chunk stands elsewhere.
+-- Events whose text parts are whole, each of its chunks a line, and in which no chunk is elsewhere.
 use Rattle.std.proofs.Common.{◌≡◌, ℕ, Bool, true, false, cond, not, ◌&&◌, List, [], ◌∷◌, ◌++◌, refl, ap, ◌∙◌}
 use Rattle.std.proofs.Common.{append_assoc}
 use Rattle.std.specs.Prelude.{Option, Some, None}
@@ -72,7 +72,7 @@ linked-kinds kind link (c ∷ cs) h =
     and_from (of_kind kind link.content) (list_all (links_kind kind) (linked n.Data link cs)) h
     (linked-kinds kind link cs h)
 
--- Events that may stand in a text part of this kind, with these chunks.
+-- Events that may be in a text part of this kind, with these chunks.
 pub record Inside (bytes : List ℕ) (kind : PartKind) (cs : List Chunk) (es : List Event) : Type 0 where
   pub outside : NoParts es
   pub ends : Ends Exit es
@@ -130,7 +130,7 @@ inside-append bytes kind cs ds xs ys h k = record {
   stand = λ zs. ap (chunks_stand 1) (append_assoc xs ys zs) ∙ h.stand (ys ++ zs) ∙ k.stand zs;
 }
 
--- Their text parts are whole, each of its chunks a line, and no chunk stands elsewhere.
+-- Their text parts are whole, each of its chunks a line, and no chunk is elsewhere.
 pub record PartsWhole (bytes : List ℕ) (xs : List Event) : Type 0 where
   pub parts : (ys : List Event) → parts_stand bytes (xs ++ ys) ≡ parts_stand bytes ys
   pub chunks : (ys : List Event) → chunks_stand 0 (xs ++ ys) ≡ chunks_stand 0 ys

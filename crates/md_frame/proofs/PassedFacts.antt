@@ -25,13 +25,13 @@ pub record HasPassed (line : Line) (text past : List ℕ) (end : Point) (stop ce
   pub no_ending : NoEnding taken.rest.bytes
   pub shorter : length passed.cells ≤ length cells
 
--- of one that goes on: this stands in front of its content
+-- of one that continues: this is before its content
 pub record HasFurther (line : Line) (text past : List ℕ) (p end : Point) (stop cells : List Cell) (passed : Passed)
     (taken : Taken) : Type 0 where
   pub passes : HasPassed line text past end stop cells passed taken
   pub further : Continues text p passed.point passed.events
 
--- of one that opens: this stands behind its begin; it takes a cell
+-- of one that opens: this is after its begin; it takes a cell
 pub record HasOpening (line : Line) (text past : List ℕ) (p end : Point) (stop cells : List Cell) (passed : Passed)
     (taken : Taken) : Type 0 where
   pub passes : HasPassed line text past end stop cells passed taken
@@ -40,7 +40,7 @@ pub record HasOpening (line : Line) (text past : List ℕ) (p end : Point) (stop
   pub opening : OpensRead text passed.container p passed.point inside
   pub fewer : length passed.cells < length cells
 
--- a container goes on, or opens, by the cells of a line where it does by its bytes
+-- a container continues, or opens, by the cells of a line where it does by its bytes
 abbrev pub Agree : (Passed → Taken → Type 0) → Option Passed → Option Taken → Type 0
 Agree Has None None = Unit {0}
 Agree Has (Some passed) (Some taken) = Has passed taken

@@ -1,4 +1,4 @@
--- Pieces that stand over their bytes, and events all of whose pieces do.
+-- Pieces that are over their bytes, and events all of whose pieces do.
 use Rattle.std.proofs.Common.{◌≡◌, ℕ, ◌+◌, ◌<◌, Bool, true, false, cond, ◌&&◌, ◌||◌, List, [], ◌∷◌, ◌++◌, length, drop}
 use Rattle.std.proofs.Common.{slice_range, refl, ap, ◌∙◌, arith}
 use Rattle.std.specs.Prelude.{◌==◌, not}
@@ -20,7 +20,7 @@ use Rattle.md_frame.proofs.PiecesLemmas.{Ends, ends-append, ends-exit, pieces-ar
 
 -- Bytes between two points.
 
--- these bytes stand from a point to another one, and no tab is cut behind them
+-- these bytes are from a point to another one, and no tab is cut after them
 pub record Over (bytes : List ℕ) (p q : Point) (text : List ℕ) : Type 0 where
   pub some : p.index < q.index
   pub whole : q.vs ≡ 0
@@ -36,7 +36,7 @@ pub whole-first : (p : Point) (bs : List ℕ) → p.vs ≡ 0 → CutsFirst p bs
 whole-first p [] e = tt
 whole-first p (b ∷ bs) e = ap (λ (x : ℕ). (x == 0) || (b == 9)) e
 
--- bytes of a line, behind a point
+-- bytes of a line, after a point
 pub over-front : (bytes : List ℕ) (p q : Point) (text rest : List ℕ) → drop p.index bytes ≡ text ++ rest →
     0 < length text → q ≡ past_text text p → Over bytes p q text
 over-front bytes p q [] rest e some end = absurd (omega (arith, some))
@@ -106,18 +106,18 @@ abbrev pub Starts : List Event → Type 0
 Starts [] = ⊥
 Starts (e ∷ es) = e.kind ≡ Enter
 
--- more may stand behind them
+-- more may be after them
 pub starts-append : (xs ys : List Event) → Starts xs → Starts (xs ++ ys)
 starts-append [] ys h = absurd h
 starts-append (e ∷ xs) ys h = h
 
--- pieces one behind the other
+-- pieces one after the other
 pub pieces-both : (bytes : List ℕ) (xs ys : List Piece) → pieces_stand bytes xs ≡ true → pieces_stand bytes ys ≡ true →
     pieces_stand bytes (xs ++ ys) ≡ true
 pieces-both bytes xs ys h k =
     list_all-append (piece_stands bytes) xs ys ∙ and_from (pieces_stand bytes xs) (pieces_stand bytes ys) h k
 
--- Events all of whose pieces stand, and which make no pair with an event behind them.
+-- Events all of whose pieces are, and which make no pair with an event after them.
 pub record PiecesValid (bytes : List ℕ) (es : List Event) : Type 0 where
   pub ends : Ends Exit es
   pub stand : pieces_stand bytes (pieces es) ≡ true
@@ -126,7 +126,7 @@ pub record PiecesValid (bytes : List ℕ) (es : List Event) : Type 0 where
 pub stood-none : (bytes : List ℕ) → PiecesValid bytes []
 stood-none bytes = record { ends = refl; stand = refl }
 
--- some, and others behind them
+-- some, and others after them
 pub stood-append : (bytes : List ℕ) (xs ys : List Event) → PiecesValid bytes xs → PiecesValid bytes ys →
     PiecesValid bytes (xs ++ ys)
 stood-append bytes xs ys h k = record {

@@ -64,7 +64,7 @@ abbrev may_cut : Run → Bool
 may_cut White = true
 may_cut _ = false
 
--- A run that has begun at a point, up to another one, with what is left behind it.
+-- A run that has begun at a point, up to another one, with what is left after it.
 record Begun (bytes : List ℕ) (run : Run) (m : ℕ) (p q : Point) (ys rest : List ℕ) : Type 0 where
   text : drop p.index bytes ≡ ys ++ rest
   some : 0 < length ys
@@ -83,7 +83,7 @@ begun-first bytes run m p b rest e h cut = record {
   cut = cut;
 }
 
--- and goes on with another
+-- and continues with another
 begun-next : (bytes : List ℕ) (run : Run) (m : ℕ) (p q : Point) (ys : List ℕ) (b : ℕ) (rest : List ℕ) →
     Begun bytes run m p q ys (b ∷ rest) → goes_on run m b ≡ true →
     Begun bytes run m p (past_byte b q) (ys ++ b ∷ []) rest
@@ -98,7 +98,7 @@ begun-next bytes run m p q ys b rest h on = record {
   cut = h.cut;
 }
 
--- what stands behind it
+-- what follows it
 begun-left : (bytes : List ℕ) (run : Run) (m : ℕ) (p q : Point) (ys rest : List ℕ) → Begun bytes run m p q ys rest →
     drop q.index bytes ≡ rest
 begun-left bytes run m p q ys rest h =
@@ -141,7 +141,7 @@ other-run m b h e = go (b == m) h e
     go true h e = cc
     go false h e = h
 
--- Runs that may stand in a text, where the role of each event is of this kind.
+-- Runs that may be in a text, where the role of each event is of this kind.
 pub record AreRuns (R : Role → Type 0) (bytes : List ℕ) (name : Name) (m : ℕ) : Type 0 where
   pub marker : IsMarker name m
   pub dark : is_white m ≡ false
@@ -162,7 +162,7 @@ begun-stretch R bytes name White m p q ys rest is ok h =
     stretch-pair R bytes n.SpaceOrTab p q (white-piece R bytes is.white)
     (begun-order bytes White m p q ys rest h) (begun-white bytes m p q ys rest h)
 
--- in front of a byte of a run is a place between characters
+-- before a byte of a run is a place between characters
 low-before : (bytes : List ℕ) (m b : ℕ) (q : Point) (rest : List ℕ) → is_low m ≡ true →
     ((b == m) || is_white b) ≡ true → drop q.index bytes ≡ b ∷ rest → is_between bytes q.index ≡ true
 low-before bytes m b q rest low mark text =
@@ -173,7 +173,7 @@ low-before bytes m b q rest low mark text =
     go true e h = subst (λ (c : ℕ). is_low c ≡ true) (sym (eqb-true b m e)) low
     go false e h = white-low b h
 
--- What is left of the runs, behind the begin of one, with this begin.
+-- What is left of the runs, after the begin of one, with this begin.
 abbrev Left : (Role → Type 0) → List ℕ → Name → Run → ℕ → List ℕ → Point → Point → Type 0
 Left R bytes name run m xs p q =
     Stretch R bytes p (past_text xs q) (enter (run_name name run) p ∷ mark_runs name run m xs q)

@@ -16,23 +16,23 @@ abbrev pub Begins : List Event → Type 0
 Begins [] = Unit {0}
 Begins (e ∷ es) = e.kind ≡ Enter
 
--- events behind one of a kind, so that the last of all is an exit
+-- events after one of a kind, so that the last of all is an exit
 abbrev pub Ends : Kind → List Event → Type 0
 Ends kind [] = kind ≡ Exit
 Ends kind (e ∷ es) = Ends e.kind es
 
--- Events that cover what stands between two points, and make no pair with an event before or behind them.
+-- Events that cover what is between two points, and make no pair with an event before or after them.
 pub record Covered (p q : Point) (es : List Event) : Type 0 where
   pub begins : Begins es
   pub ends : Ends Exit es
   pub covers : Covers p (pieces es) q
 
--- The same of events that stand behind an exit, if anything stands before them: they may begin with exits of their own.
+-- The same of events that are after an exit, if anything is before them: they may begin with exits of their own.
 pub record Follows (p q : Point) (es : List Event) : Type 0 where
   pub ends : Ends Exit es
   pub covers : Covers p (pieces es) q
 
--- Events behind an enter, which with it cover what stands between its point and another.
+-- Events after an enter, which with it cover what is between its point and another.
 pub record Shut (e : Event) (q : Point) (es : List Event) : Type 0 where
   pub ends : Ends e.kind es
   pub covers : Covers e.point (pieces_from e es) q
@@ -47,7 +47,7 @@ covers-append : (p q r : Point) (xs ys : List Piece) → Covers p xs q → Cover
 covers-append p q r [] ys h k = covers-from p q r ys h k
 covers-append p q r (x ∷ xs) ys h k = (h.0, covers-append x.after q r xs ys h.1 k)
 
--- no pair arises in front of an enter
+-- no pair arises before an enter
 pub pieces-before : (e : Event) (es : List Event) → Begins es → pieces_from e es ≡ pieces es
 pieces-before e [] h = refl
 pieces-before e (f ∷ es) h = go e.kind f.kind h
@@ -69,7 +69,7 @@ pieces-append : (xs ys : List Event) → Begins ys → pieces (xs ++ ys) ≡ pie
 pieces-append [] ys h = refl
 pieces-append (e ∷ xs) ys h = pieces_from-append e xs ys h
 
--- nor behind an exit
+-- nor after an exit
 pieces-left : (e : Event) (es : List Event) → e.kind ≡ Exit → pieces_from e es ≡ pieces es
 pieces-left e [] h = refl
 pieces-left e (f ∷ es) h = go e.kind f.kind h
@@ -86,12 +86,12 @@ pieces_from-ended e (f ∷ xs) ys h =
     ap (λ (l : List Piece). piece_of e f e.kind f.kind ++ l) (pieces_from-ended f xs ys h)
     ∙ sym (append_assoc (piece_of e f e.kind f.kind) (pieces_from f xs) (pieces ys))
 
--- the pieces of events that end with an exit, and of others behind them
+-- the pieces of events that end with an exit, and of others after them
 pub pieces-ended : (xs ys : List Event) → Ends Exit xs → pieces (xs ++ ys) ≡ pieces xs ++ pieces ys
 pieces-ended [] ys h = refl
 pieces-ended (e ∷ xs) ys h = pieces_from-ended e xs ys h
 
--- an exit more behind an exit
+-- an exit more after an exit
 pieces-behind : (e : Event) (xs : List Event) (f : Event) → Ends e.kind xs →
     pieces_from e (xs ++ f ∷ []) ≡ pieces_from e xs
 pieces-behind e [] f h = go e.kind f.kind h
@@ -167,13 +167,13 @@ tiled-two e f h k =
 pub tiled-pair : (name : Name) (p q : Point) → Covered p q (pair name p q)
 tiled-pair name p q = tiled-two (enter name p) (exit name q) refl refl
 
--- the pieces of a part are those of what it stands around, if anything
+-- the pieces of a part are those of what it is around, if anything
 pub pieces-around : (name : Name) (p q : Point) (e : Event) (es : List Event) → e.kind ≡ Enter → Ends e.kind es →
     pieces (around name p q (e ∷ es)) ≡ pieces (e ∷ es)
 pieces-around name p q e es h k =
     pieces-before (enter name p) ((e ∷ es) ++ exit name q ∷ []) h ∙ pieces-behind e es (exit name q) k
 
--- a part covers what it stands around, also if that is empty
+-- a part covers what it is around, also if that is empty
 pub tiled-around : (name : Name) (p q : Point) (es : List Event) → Covered p q es → Covered p q (around name p q es)
 tiled-around name p q [] h = tiled-pair name p q
 tiled-around name p q (e ∷ es) h = record {
@@ -182,7 +182,7 @@ tiled-around name p q (e ∷ es) h = record {
   covers = subst (λ (l : List Piece). Covers p l q) (sym (pieces-around name p q e es h.begins h.ends)) h.covers;
 }
 
--- an enter in front of events that begin with one
+-- an enter before events that begin with one
 pub tiled-within : (e f : Event) (q : Point) (es : List Event) → e.kind ≡ Enter → Covered e.point q (f ∷ es) →
     Covered e.point q (e ∷ f ∷ es)
 tiled-within e f q es h t = record {

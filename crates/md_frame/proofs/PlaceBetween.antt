@@ -1,4 +1,4 @@
--- Low bytes behind a place.
+-- Low bytes after a place.
 use Rattle.std.proofs.Common.{◌≡◌, ℕ, ◌-◌, true, List, ◌∷◌, ◌++◌, drop, refl, arith}
 use Rattle.std.specs.List.{list_all}
 use Rattle.md_engine.specs.declared.event.Point.{Point}
@@ -11,7 +11,7 @@ use Rattle.md_frame.proofs.PieceFacts.{over-front}
 abbrev pub IsPlace : List ℕ → Point → Type 0
 IsPlace bytes p = is_between bytes p.index ≡ true
 
--- behind bytes of ASCII
+-- after bytes of ASCII
 pub low-behind : (bytes : List ℕ) (b : ℕ) (bs rest : List ℕ) (p : Point) → drop p.index bytes ≡ (b ∷ bs) ++ rest →
     list_all is_low (b ∷ bs) ≡ true → IsPlace bytes (past_text (b ∷ bs) p)
 low-behind bytes b bs rest p is low =

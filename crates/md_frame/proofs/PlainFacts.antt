@@ -115,7 +115,7 @@ quiets-untold (e ∷ es) h = (quiet-untold (role e.name) h.0, quiets-untold es h
 pub plain-quiet : (bytes : List ℕ) (es : List Event) → Roles Quiet es → ArePlain bytes es
 plain-quiet bytes es h = plain-untold bytes es (quiets-untold es h)
 
--- wherever that stands
+-- wherever that is
 pub quiet-from : (bytes : List ℕ) (site : Site) (es : List Event) → Roles Quiet es → ArePlainFrom bytes site site es
 quiet-from bytes site es h = record { known = (plain-quiet bytes es h).known; lines = passes-quiet bytes site es h }
 
@@ -144,7 +144,7 @@ chunk-plain bytes chunk =
         plain-untold bytes (pair n.LineEnding (line_end bytes chunk) chunk.after)
         ((refl, refl), ((refl, refl), tt))
 
--- behind a piece of a line
+-- after a piece of a line
 pub past-clear : (bytes xs : List ℕ) (p : Point) → clear bytes p ≡ true → clear bytes (past_text xs p) ≡ true
 past-clear bytes [] p h = h
 past-clear bytes (b ∷ xs) p h = past-clear bytes xs (past_byte b p) refl

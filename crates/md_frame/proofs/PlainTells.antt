@@ -1,4 +1,4 @@
--- What plain events tell of themselves.
+-- What plain events show of themselves.
 use Rattle.md_outline.specs.Roles.{is_told}
 use Rattle.std.proofs.Common.{◌≡◌, ℕ, Bool, true, false, ◌||◌, not, List, [], ◌∷◌, refl}
 use Rattle.std.specs.List.{list_all}
@@ -11,7 +11,7 @@ use Rattle.md_outline.specs.Outlined.{tells_between}
 use Rattle.md_frame.proofs.PlainFacts.{is_clear}
 use Rattle.md_frame.proofs.PartedFacts.{clear, clear-between}
 
--- a text that begins and ends clear, and between characters, does so also behind a tab that is cut
+-- a text that begins and ends clear, and between characters, does so also after a tab that is cut
 tells-clear : (bytes : List ℕ) (told : Bool) (p : Point) → (not told || clear bytes p) ≡ true →
     is_between bytes p.index ≡ true → (not told || is_between bytes (byte_at p)) ≡ true
 tells-clear bytes false p h k = refl

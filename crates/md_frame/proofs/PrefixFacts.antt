@@ -1,5 +1,5 @@
--- What is known of the events that stand in front of the content of a container on a line, from the point where they
--- begin to the one where its content does: the frame needs no more of a container.
+-- What is known of the events that are before the content of a container on a line, from the point where they begin to
+-- the one where its content does: the frame needs no more of a container.
 use Rattle.std.proofs.Common.{◌≡◌, ◌≢◌, ℕ, ◌≤◌, Bool, true, false, List, [], ◌∷◌, ◌++◌}
 use Rattle.std.specs.Prelude.{◌==◌, None}
 use Rattle.md_engine.specs.declared.event.Event.{Event}
@@ -37,20 +37,20 @@ use Rattle.md_outline.specs.Roles.{is_plain}
 abbrev pub begins : Container → Reading → Reading
 begins c r = record r { outer = around_of c r.here ∷ r.outer; here = End }
 
--- where it goes on, and where it opens
+-- where it continues, and where it opens
 pub record PrefixFacts (bytes : List ℕ) (p q : Point) (es : List Event) : Type 0 where
   -- they nest, go forward, and stay on one line
   pub nested : Nested_in p q es
   pub line : q.line ≡ p.line
-  -- they cover what stands there
+  -- they cover what is there
   pub tiled : Covered p q es
   -- their pieces are over what their names say
   pub stood : PiecesValid bytes es
-  -- no ending stands in them, and no begin or end of a leaf
+  -- no ending is in them, and no begin or end of a leaf
   pub others : AreOthers es
   -- they begin where no tab of a character is cut, if they end so
   pub clear : clear bytes q ≡ true → clear bytes p ≡ true
-  -- they stand between characters, if they begin so
+  -- they are between characters, if they begin so
   pub between : is_between bytes p.index ≡ true → AreBetween bytes es × (is_between bytes q.index ≡ true)
 
 -- whether there are none
@@ -58,7 +58,7 @@ abbrev pub is_bare : List Event → Bool
 is_bare [] = true
 is_bare (e ∷ es) = false
 
--- where it goes on
+-- where it continues
 pub record Continues (bytes : List ℕ) (p q : Point) (es : List Event) : Type 0 where
   pub common : PrefixFacts bytes p q es
   -- they take columns, if there are any
@@ -67,17 +67,17 @@ pub record Continues (bytes : List ℕ) (p q : Point) (es : List Event) : Type 0
   -- they have names of prefixes, and none of them gives a quote a kind
   pub names : ArePrefixes es
   pub unmarked : Unmarked bytes es
-  -- they keep the grammar, in front of blocks and of a further line of a leaf
+  -- they keep the grammar, before blocks and of a further line of a leaf
   pub stays : (text x : Expression) → TakesPrefixes x → grammar.Leads text (x ∷ []) (x ∷ []) es
-  -- a text goes on behind them
+  -- a text continues after them
   pub parted : PartsText bytes p q es
-  -- they may stand in a text part
+  -- they may be in a text part
   pub inside : (kind : PartKind) → Inside bytes kind [] es
-  -- of a text that goes on behind them, they leave whitespace alone
+  -- of a text that continues after them, they leave whitespace alone
   pub collects : (ys : List Event) (end : ℕ) (all : List ℕ) → Collects bytes ys (byte_at q) end all →
       (white : List ℕ) × (is_blank white ≡ true) × Collects bytes (es ++ ys) (byte_at p) end (white ++ all)
 
--- where it opens, behind its begin, be the text parts of these events read or not
+-- where it opens, after its begin, be the text parts of these events read or not
 pub record Opens (bytes : List ℕ) (c : Container) (p q : Point) (es : List Event) : Type 0 where
   pub common : PrefixFacts bytes p q es
   pub names : AreFront es
@@ -87,12 +87,12 @@ pub record Opens (bytes : List ℕ) (c : Container) (p q : Point) (es : List Eve
   -- with the begin of the container, they keep the grammar of events around which nothing is put yet
   pub leads : (text : Expression) → TakesData text →
       Unlists text (blocks ∷ []) (blocks ∷ behind_block ∷ []) (enter (container_name c) p ∷ es)
-  -- blocks may follow in it, and they tell what its events are to tell
+  -- blocks may follow in it, and they show what its events are to show
   pub stands : (held : List Bool) →
       StandsTo bytes (among held) (among (is_listed c ∷ held)) (enter (container_name c) p ∷ es)
   -- nothing is put around any of them
   pub unlisted : NoListing es
-  -- in front of its blocks the container is read, and they tell its kind alone
+  -- before its blocks the container is read, and they show its kind alone
   pub read : (r : Reading) → r.text ≡ None → r.leaf ≡ None →
       read bytes r (enter (container_name c) p ∷ es) ≡ begins c r
   -- an outline shows the container

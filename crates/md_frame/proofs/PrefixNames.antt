@@ -33,7 +33,7 @@ abbrev pub is_alone : Option Link → Bool
 is_alone None = true
 is_alone (Some link) = is_string link.content && not link.previous
 
--- an event that may stand in front of a line, where a label may be a chunk
+-- an event that may be before a line, where a label may be a chunk
 abbrev pub IsFrontEvent : Event → Type 0
 IsFrontEvent e = (name : is_front e.name ≡ true) × (is_alone e.link ≡ true)
 

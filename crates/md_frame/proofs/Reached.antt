@@ -1,5 +1,5 @@
--- A text that is read reaches to a point of a line: it began no further, whole lines of it stand in front of this one,
--- and of this one whitespace alone. So prefixes of containers may be there, and the text continues behind them.
+-- A text that is read reaches to a point of a line: it began no further, whole lines of it are before this one, and of
+-- this one whitespace alone. So prefixes of containers may be there, and the text continues after them.
 use Rattle.std.proofs.Common.{◌≡◌, ℕ, zero, suc, ◌+◌, ◌-◌, ◌<◌, ◌≤◌, Bool, true, false, cond, ◌||◌, List, [], ◌∷◌, ◌++◌}
 use Rattle.std.proofs.Common.{get_or, take, drop, slice_range, refl, ap, sym, ◌∙◌, subst, arith}
 use Rattle.std.specs.Prelude.{◌==◌, nat_lt, not, slice_index, Some}
@@ -111,7 +111,7 @@ begins-fine bytes span j h = go span.is_parted h
 
 -- Where a text reaches to.
 
--- a prefix may stand behind whitespace from a point on
+-- a prefix may be after whitespace from a point on
 abbrev pub Marks : List ℕ → Point → OpenTextSpan → Type 0
 Marks bytes p span = (j : ℕ) → byte_at p ≤ j → is_blank (slice_range bytes p.index j) ≡ true →
     (begins_line span (slice_range bytes span.from j) ≡ true) ×
@@ -122,18 +122,18 @@ pub record Reaches (bytes : List ℕ) (p : Point) (span : OpenTextSpan) : Type 0
   pub marks : Marks bytes p span
   pub from : span.from ≤ byte_at p
 
--- the piece of a text behind a prefix
+-- the piece of a text after a prefix
 abbrev pub behind_prefix : Point → OpenTextSpan
 behind_prefix q = record { from = byte_at q; is_parted = true }
 
--- what may stand in a text that reaches to it: the text, or its next piece, reaches to its end
+-- what may be in a text that reaches to it: the text, or its next piece, reaches to its end
 abbrev pub PartsText : List ℕ → Point → Point → List Event → Type 0
 PartsText bytes p q es =
     (span : OpenTextSpan) (rest : List Event) → Reaches bytes p span → is_between bytes (byte_at q) ≡ true →
     ((next : OpenTextSpan) → Reaches bytes q next → are_parted bytes (Some next) rest ≡ true) →
     are_parted bytes (Some span) (es ++ rest) ≡ true
 
--- behind a prefix a further one may stand
+-- after a prefix a further one may be
 pub marks-behind : (bytes : List ℕ) (q : Point) → Marks bytes q (behind_prefix q)
 marks-behind bytes q j h blank =
     let white : is_blank (slice_range bytes (byte_at q) j) ≡ true = rest (q.vs == 0) h in
@@ -153,7 +153,7 @@ marks-behind bytes q j h blank =
 pub reaches-behind : (bytes : List ℕ) (q : Point) → Reaches bytes q (behind_prefix q)
 reaches-behind bytes q = record { marks = marks-behind bytes q; from = omega arith }
 
--- a line of text ends in front of an ending, behind which prefixes may stand
+-- a line of text ends before an ending, after which prefixes may be
 marks-ended : (bytes : List ℕ) (p q : Point) (span : OpenTextSpan) → IsEnding bytes p q → Fine bytes span →
     span.from ≤ p.index → Marks bytes q span
 marks-ended bytes p q span ending fine within j h blank =
@@ -182,7 +182,7 @@ reaches-ended bytes p q span ending fine within = record {
   from = let behind = byte-from q in omega (arith, within, behind, ending.size);
 }
 
--- Where the line goes on with its text.
+-- Where the line continues with its text.
 
 -- the first byte of a piece
 begins-first : (bytes : List ℕ) (i j : ℕ) → i < j →
@@ -198,7 +198,7 @@ begins-first bytes i j h =
     go (suc size) [] h = refl
     go (suc size) (b ∷ l) h = refl
 
--- what a point stands within is whitespace, if its byte is
+-- what a point is within is whitespace, if its byte is
 pub cut-white : (bytes : List ℕ) (p : Point) → ((p.vs == 0) ≡ false → is_white (slice_index bytes p.index) ≡ true) →
     is_blank (slice_range bytes p.index (byte_at p)) ≡ true
 cut-white bytes p h = go (p.vs == 0) h
@@ -223,7 +223,7 @@ cut-white bytes p h = go (p.vs == 0) h
     go false h =
         one (p.index + 1 - p.index) (drop p.index bytes) (omega arith) (ap is_white first ∙ h refl)
 
--- so a text that reaches to a line of text begins with no line feed behind a prefix
+-- so a text that reaches to a line of text begins with no line feed after a prefix
 pub reaches-fine : (bytes : List ℕ) (p : Point) (span : OpenTextSpan) → Reaches bytes p span →
     not (slice_index bytes (byte_at p) == 10) ≡ true → is_blank (slice_range bytes p.index (byte_at p)) ≡ true →
     Fine bytes span

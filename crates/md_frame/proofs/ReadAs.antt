@@ -50,7 +50,7 @@ pub data ReadAs (bytes : List ℕ) : List Event → List Event → Type 0 where
   Both : (xs zs more done : List Event) → ReadAs bytes xs zs → ReadAs bytes more done →
       ReadAs bytes (xs ++ more) (zs ++ done)
 
--- their parts stand as chunks,
+-- their parts are as chunks,
 pub read_as-stands : (bytes : List ℕ) (es done : List Event) → ReadAs bytes es done → PartsWhole bytes es
 read_as-stands bytes _ _ (Same es unlinked no_parts) = stands-outside bytes es no_parts unlinked
 read_as-stands bytes _ _ (Part name p q is) =

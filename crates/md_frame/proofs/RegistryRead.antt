@@ -27,13 +27,13 @@ pub read-append : (cs ds : List Container) → AreRead cs → AreRead ds → Are
 read-append [] ds h k = k
 read-append (c ∷ cs) ds h k = (h.0, read-append cs ds h.1 k)
 
--- those behind so many
+-- those after so many
 pub read-drop : (n : ℕ) (cs : List Container) → AreRead cs → AreRead (drop n cs)
 read-drop zero cs h = h
 read-drop (suc n) [] h = tt
 read-drop (suc n) (c ∷ cs) h = read-drop n cs h.1
 
--- those in front of others
+-- those before others
 pub read-front : (cs ds : List Container) → AreRead (cs ++ ds) → AreRead cs
 read-front [] ds h = tt
 read-front (c ∷ cs) ds h = (h.0, read-front cs ds h.1)

@@ -1,4 +1,4 @@
--- The rest of a line by its cells: where it ends, and what stands behind its indent.
+-- The rest of a line by its cells: where it ends, and what follows its indent.
 use Rattle.std.proofs.Common.{◌≡◌, ℕ, zero, suc, ◌+◌, ◌^◌, ◌<◌, ◌≤◌, true, false, List, ◌∷◌}
 use Rattle.std.proofs.Common.{◌++◌, length, refl, ap, ◌∙◌, arith}
 use Rattle.std.specs.List.{prefix_len}
@@ -28,7 +28,7 @@ spread-line_end line bytes p rest h k one =
     ap (λ (l : List Cell). point_after l p) (spread-line line bytes p rest h k)
     ∙ spread-end line bytes p one
 
--- What does not tell a space from a tab in the first cell has the same value on the rest of a line and on its bytes.
+-- What does not show a space from a tab in the first cell has the same value on the rest of a line and on its bytes.
 
 -- the first column of a cut tab
 first-same : (X : Type 0) (F : List Cell → X) (said : Line) →
@@ -79,7 +79,7 @@ rest-trim r = go r.spaces
     go zero = refl
     go (suc k) = trim-white 9 r.bytes refl
 
--- The cells behind a small indent: no whitespace is left, and they are fed as the bytes without whitespace in front.
+-- The cells after a small indent: no whitespace is left, and they are fed as the bytes without whitespace in front.
 pub record Indented (options : ParseOptions) (said : Line) (r : Rest) (p : Point) (stop : List Cell) : Type 0 where
   pub none : begins_white (white_rest (small_indent options) (rest_cells said r p ++ stop)) ≡ false
   pub bytes : line_bytes (white_rest (small_indent options) (rest_cells said r p ++ stop)) ≡
@@ -121,7 +121,7 @@ small-indented options said text behind r p stop is h k short small =
     taken : HasIndent said text behind room r p stop (behind_indent r)
     taken = indent-taken said text behind room r p stop is k fits
 
--- Behind a larger one whitespace is left.
+-- After a larger one whitespace is left.
 pub large-white : (options : ParseOptions) (said : Line) (text behind : List ℕ) (r : Rest) (p : Point)
     (stop : List Cell) →
     RestAt text behind r p → has_small_indent options r ≡ false →

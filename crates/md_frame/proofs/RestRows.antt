@@ -1,4 +1,4 @@
--- The rest of a line as a row: its bytes as they stand in the text, and its cells.
+-- The rest of a line as a row: its bytes as they are in the text, and its cells.
 use Rattle.std.proofs.Common.{◌≡◌, ℕ, zero, suc, ◌≤◌, Bool, true, false, cond, ◌==◌, List, [], ◌∷◌, ◌++◌, refl, sym, ap}
 use Rattle.std.proofs.Common.{◌∙◌, ◌+◌, length, arith}
 use Rattle.std.proofs.lemmas.Bool.Decides.{nat_tests}
@@ -77,7 +77,7 @@ rest-ending said r p stop h k one cut =
     ∙ from_ending-append (spread said (rest_line r) p) stop (no_feed-spread said (rest_line r) p (rest-no_ending r h))
     ∙ stops-rest stop k
 
--- nothing stands there if there are none
+-- nothing is there if there are none
 pub rest-empty : (said : Line) (r : Rest) (p : Point) (stop : List Cell) (q : ℕ) → NoEnding r.bytes → Stops stop →
     q ≡ p.index + length (rest_line r) →
     ends_line (first_seen (rest_cells said r p ++ stop)) ≡ (p.index == q)

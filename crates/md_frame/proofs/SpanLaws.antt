@@ -25,7 +25,7 @@ use Rattle.md_frame.proofs.SpannedFacts.{AreUnspanned}
 
 -- Lines.
 
--- A line of it, where it stands: its rest, what is added for it, and what is held behind it.
+-- A line of it, where it is: its rest, what is added for it, and what is held after it.
 pub record IsLineOf (options : ParseOptions) (bytes : List ℕ) (l : LineLeaf) (row : Row) : Type 0 where
   pub rest : Rest
   pub at : LineAt bytes rest (rest_line rest) row.first row.end
@@ -38,7 +38,7 @@ pub record IsLineOf (options : ParseOptions) (bytes : List ℕ) (l : LineLeaf) (
       ((l.stays_blank && is_blank rest.bytes) || (is_empty_row row && (row.first.column == 1)))
   pub ending : is_blank_row row ≡ row.empty
 
--- further lines behind one: each meets the leaf that the one before has left, behind prefixes of the containers alone
+-- further lines after one: each meets the leaf that the one before has left, after prefixes of the containers alone
 abbrev pub AreBehind : ParseOptions → List ℕ → LineLeaf → Row → List Row → Type 0
 AreBehind options bytes l row [] = Unit {0}
 AreBehind options bytes l row (next ∷ rows) =
@@ -47,8 +47,8 @@ AreBehind options bytes l row (next ∷ rows) =
     × (on : next.on ≡ row.behind) × (further : l.further next.on ≡ true)
     × (is : IsLineOf options bytes l next) × AreBehind options bytes l next rows
 
--- What the line definition comes to with them, behind what it came to before. An empty line behind the ending that the
--- text ends with is none of its lines.
+-- What the line definition becomes with them, after what it became before. An empty line after the ending that the text
+-- ends with is none of its lines.
 abbrev pub come_behind : (options : ParseOptions) (bytes : List ℕ) (l : LineLeaf) (row : Row) (rows : List Row) →
     AreBehind options bytes l row rows → LeafResult → LeafResult
 come_behind options bytes l row [] are c = c
@@ -56,14 +56,13 @@ come_behind options bytes l row (next ∷ rows) are c =
     come_behind options bytes l next rows are.7
     (if nat_lt are.0.index (length bytes) then l.comes options (left_by c) are.6.rest else c)
 
--- Events, as the resolver that joins them meets them: a line is a begin, what stands inside, and an end, or it stands
--- bare.
+-- Events, as the resolver that joins them meets them: a line is a begin, what is inside, and an end, or it is bare.
 
--- none stand there
+-- none are there
 abbrev pub IsNone : List Event → Type 0
 IsNone es = es ≡ []
 
--- with so much in front of the begin: what it passes, in front of a first line; in front of a further one nothing
+-- with so much before the begin: what it passes, before a first line; before a further one nothing
 pub record IsSpanned (Lead : List Event → Type 0) (Begins : Event → Type 0) (es : List Event) : Type 0 where
   pub lead : List Event
   pub begin : Event
@@ -83,8 +82,8 @@ pub record IsBare (es : List Event) : Type 0 where
 -- The laws.
 
 pub record SpanLaws (first further : LineLeaf) : Type 1 where
-  -- Each line is a block by itself at first; a further one says by the link of its begin that it goes on the one
-  -- before, or it stands bare.
+  -- Each line is a block by itself at first; a further one says by the link of its begin that it continues the one
+  -- before, or it is bare.
   pub first_spanned : (options : ParseOptions) (bytes : List ℕ) (row : Row) → IsLineOf options bytes first row →
       first.further row.on ≡ false → IsSpanned AreUnspanned IsBegin row.inside
   pub further_spanned : (options : ParseOptions) (bytes : List ℕ) (row : Row) → IsLineOf options bytes further row →

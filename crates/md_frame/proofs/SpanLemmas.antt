@@ -1,4 +1,4 @@
--- Events that nest between two points, one behind the other.
+-- Events that nest between two points, one after the other.
 use Rattle.std.proofs.Common.{ℕ, Bool, true, false, cond, List, [], ◌∷◌, ◌++◌, refl, sym, subst, ◌≡◌, ◌≤◌, arith}
 use Rattle.std.specs.Prelude.{IsTrue}
 use Rattle.std.proofs.lemmas.Bool.Decides.{nat_tests}
@@ -88,6 +88,6 @@ linked-nested link p q h =
 pub order-grows : (p q : Point) → IsTrue (at_or_before p q) → p.index ≤ q.index
 order-grows p q h = grind (arith, nat_tests)
 
--- and if it is in no tab, it stands behind the byte of the earlier one
+-- and if it is in no tab, it is after the byte of the earlier one
 pub byte-order : (p q : Point) → IsTrue (at_or_before p q) → q.vs ≡ 0 → byte_at p ≤ q.index
 byte-order p q h w = grind (arith, nat_tests)

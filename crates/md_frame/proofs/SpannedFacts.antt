@@ -9,7 +9,7 @@ use Rattle.md_frame.proofs.EventNames.{front-unspanned}
 use Rattle.md_frame.proofs.EachEvent.{Each, each-as}
 use Rattle.md_frame.proofs.PrefixNames.{AreFront, IsFrontEvent}
 
--- an event that no line of such a leaf begins or ends with, and that has the same name behind one
+-- an event that no line of such a leaf begins or ends with, and that has the same name after one
 abbrev pub IsUnspanned : Event → Type 0
 IsUnspanned e = passes Outside e ≡ true
 

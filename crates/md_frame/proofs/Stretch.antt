@@ -1,9 +1,9 @@
 -- A stretch of events: what is known of the events from a point of a text to a point, before text parts are read, and
 -- of those once they are.
 --
--- A leaf, a line of it, a part of a line, and what stands between two lines are such stretches; beside it stands what
--- else is known of each. So whatever holds of all events is said here, and shown once of events one behind the other,
--- of a pair, and of what has a pair around it.
+-- A leaf, a line of it, a part of a line, and what is between two lines are such stretches; beside it is what else is
+-- known of each. So whatever holds of all events is said here, and shown once of events one after the other, of a pair,
+-- and of what has a pair around it.
 use Rattle.std.proofs.Common.{◌≡◌, ℕ, true, List, [], ◌∷◌, ◌++◌, refl}
 use Rattle.std.specs.Prelude.{IsTrue, None}
 use Rattle.md_engine.specs.declared.event.Event.{Event}
@@ -28,15 +28,15 @@ use Rattle.md_frame.proofs.PieceFacts.{PiecesValid, Starts, span, stood-append, 
 use Rattle.md_frame.proofs.PiecesLemmas.{Covered, tiled-append, tiled-around, tiled-none, tiled-pair}
 use Rattle.md_frame.proofs.SpanLemmas.{Nested_in, around-nested, nested_in-append}
 
--- These events stand from a point to a point before text parts are read, and those once they are; the role of each is
--- of this kind.
+-- These events are from a point to a point before text parts are read, and those once they are; the role of each is of
+-- this kind.
 pub record Stretch (R : Role → Type 0) (bytes : List ℕ) (p q : Point) (unread done : List Event) : Type 0 where
   pub unread_roles : Roles R unread
   pub roles : Roles R done
   -- they nest, and go forward
   pub unread_nested : Nested_in p q unread
   pub nested : Nested_in p q done
-  -- they cover what stands there
+  -- they cover what is there
   pub tiled : Covered p q unread
   -- their pieces are over what their names say
   pub unread_stood : PiecesValid bytes unread
@@ -44,7 +44,7 @@ pub record Stretch (R : Role → Type 0) (bytes : List ℕ) (p q : Point) (unrea
   -- their text parts are whole, and are read in the places of their chunks
   pub parts : PartsWhole bytes unread
   pub filled : PartsRead bytes unread done
-  -- they stand between characters, and prefixes among them at the begin of a line
+  -- they are between characters, and prefixes among them at the begin of a line
   pub between : is_between bytes p.index ≡ true → is_between bytes q.index ≡ true → AreBetween bytes done
   pub parted : PrefixesAtLineStart bytes done
 
@@ -99,7 +99,7 @@ abbrev pub IsMiddle : List ℕ → Point → Point → Point → Type 0
 IsMiddle bytes p q r =
     is_between bytes p.index ≡ true → is_between bytes r.index ≡ true → is_between bytes q.index ≡ true
 
--- one behind the other
+-- one after the other
 pub stretch-append : {R : Role → Type 0} {bytes : List ℕ} {p q r : Point} {us es vs fs : List Event} →
     Stretch R bytes p q us es → Stretch R bytes q r vs fs → IsMiddle bytes p q r →
     Stretch R bytes p r (us ++ vs) (es ++ fs)
@@ -128,7 +128,7 @@ pub record IsPiece (R : Role → Type 0) (bytes : List ℕ) (name : Name) : Type
   pub no_part : part_kind name ≡ None
   pub parted : (p q : Point) → PrefixesAtLineStart bytes (pair name p q)
 
--- that of whitespace has it, where it may stand
+-- that of whitespace has it, where it may be
 pub white-piece : (R : Role → Type 0) (bytes : List ℕ) → R IsQuiet → IsPiece R bytes n.SpaceOrTab
 white-piece R bytes quiet = record { role_is = quiet; no_part = refl; parted = λ p q ys h. h }
 

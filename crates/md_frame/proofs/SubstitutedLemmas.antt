@@ -1,4 +1,4 @@
--- What stands in the places of parts, part by part.
+-- What is in the places of parts, part by part.
 use Rattle.std.proofs.Common.{◌≡◌, ℕ, ◌+◌, suc, Bool, true, false, cond, List, [], ◌∷◌, ◌++◌, length, take, drop}
 use Rattle.std.proofs.Common.{refl, ap, sym, ◌∙◌, subst, append_assoc, arith}
 use Rattle.std.specs.Prelude.{Option, Some, None}
@@ -69,14 +69,14 @@ keeps wants reads left chunks (e ∷ f ∷ es) h =
     subst (SubstitutedBy wants reads left chunks e f es (e ∷ f ∷ es)) (sym h.0)
     (f ∷ es, refl, keeps wants reads left chunks (f ∷ es) h.1)
 
--- what is left of a part stands in the places of its further chunks, however it is shared
+-- what is left of a part is in the places of its further chunks, however it is shared
 abbrev pub Rest : (Content → Bool) → Readings → List Event → List Event → List Event → Type 0
 Rest wants reads left ys out =
     (rest over : List Event) × (is : out ≡ left ++ rest) × Substituted wants reads over 0 ys rest
 
 -- Parts of lines with prefixes between them.
 
--- over prefixes a part goes on
+-- over prefixes a part continues
 pub prefixes-behind : (wants : Content → Bool) (xs ys : List Event) → ArePrefixes xs →
     chunks_behind wants (xs ++ ys) ≡ chunks_behind wants ys
 prefixes-behind wants [] ys h = refl
@@ -105,12 +105,12 @@ pub prefixes-unwanted : (wants : Content → Bool) (es : List Event) → ArePref
 prefixes-unwanted wants [] h = tt
 prefixes-unwanted wants (e ∷ es) h = (no_link-unwanted wants e h.0.1, prefixes-unwanted wants es h.1)
 
--- in front of each of these lines stand prefixes
+-- before each of these lines are prefixes
 abbrev pub EachPrefixed : List Row → Type 0
 EachPrefixed [] = Unit {0}
 EachPrefixed (row ∷ rows) = ArePrefixes row.front × EachPrefixed rows
 
--- where the chunk of a line ends: behind its ending if another line follows
+-- where the chunk of a line ends: after its ending if another line follows
 abbrev pub line_after : Row → List Row → Point
 line_after row [] = row.end
 line_after row (next ∷ rows) = behind_row row
@@ -129,7 +129,7 @@ chunks-many : (rows : List Row) → length (further_chunks rows) ≡ length rows
 chunks-many [] = refl
 chunks-many (next ∷ rows) = ap length (chunks-are next rows) ∙ ap suc (chunks-many rows)
 
--- further lines, each behind what stands in front of it
+-- further lines, each after what is before it
 abbrev further_lines : Name → Link → List Row → List Event → List Event
 further_lines name link [] ys = ys
 further_lines name link (next ∷ rows) ys = next.front ++ (linked_lines name link next rows ++ ys)
@@ -142,7 +142,7 @@ lines-are name link row (next ∷ rows) ys =
     ap (λ (l : List Event). enter_link name row.first link ∷ exit name (behind_row row) ∷ l)
     (append_assoc next.front (linked_lines name link next rows) ys)
 
--- the chunks that go on a part are those of its further lines
+-- the chunks that continue a part are those of its further lines
 chunks-further : (wants : Content → Bool) (name : Name) (link : Link) (rows : List Row) (ys : List Event) →
     wants link.content ≡ true → chunks_behind wants ys ≡ [] → EachPrefixed rows →
     chunks_behind wants (further_lines name link rows ys) ≡ further_chunks rows
@@ -169,8 +169,7 @@ abbrev pub NextBelongs : ℕ → List Event → Type 0
 NextBelongs end [] = Unit {0}
 NextBelongs end (e ∷ es) = belongs end e ≡ false
 
--- Of the events for the lines of a part, those of each line stand in its place, and between them what stands in front
--- of lines.
+-- Of the events for the lines of a part, those of each line are in its place, and between them what is before lines.
 abbrev pub CutAt : Row → List Row → List Event → List Event → Type 0
 CutAt row [] left done = done ≡ left
 CutAt row (next ∷ rows) left done =
@@ -187,7 +186,7 @@ belongs-cut end (x ∷ xs) ys h k =
     let more = belongs-cut end xs ys h.1 k in
     ap (λ (t : Bool). cond t (1 + prefix_len (belongs end) (xs ++ ys)) 0) h.0 ∙ omega arith
 
--- the events of a line, and what stands behind it
+-- the events of a line, and what follows it
 share-joins : (mine front more rest over left out done : List Event) → out ≡ mine ++ rest → rest ≡ front ++ over →
     over ≡ more ++ left → done ≡ mine ++ (front ++ more) → out ≡ done ++ left
 share-joins mine front more rest over left out done here between below all =
@@ -244,7 +243,7 @@ shares wants reads name link row (next ∷ rows) ys left done out rest w fits cu
       below.3,
     )
 
--- What is read of a part of lines stands in their places.
+-- What is read of a part of lines is in their places.
 pub places : (wants : Content → Bool) (reads : Readings) (left : List Event) (name : Name) (link : Link) (row : Row)
     (rows : List Row) (ys done out : List Event) →
     wants link.content ≡ true → chunks_behind wants ys ≡ [] → EachPrefixed rows →
@@ -270,7 +269,7 @@ places wants reads left name link row rows ys done out w none fits cuts s =
     (λ (k : ℕ).
     Substituted wants reads (drop (share k answer (line_after row rows).index) answer) k rest here.1) size here.4)
 
--- behind the end of a block no more of its part stands
+-- after the end of a block no more of its part is
 pub behind-exit : (wants : Content → Bool) (name : Name) (p : Point) (es : List Event) → is_prefix name ≡ false →
     chunks_behind wants (exit name p ∷ es) ≡ []
 behind-exit wants name p [] h = refl

@@ -1,5 +1,5 @@
 -- A line by its cells is its rest: of its text a tab counts once, and what is left of a tab that a prefix has cut does
--- not count; where it begins, its point tells.
+-- not count; where it begins, its point shows.
 use Rattle.std.proofs.Common.{◌≡◌, ℕ, zero, suc, ◌+◌, ◌-◌, ◌≤◌, Bool, true, false, cond, nat_eq, nat_lt, List, [], ◌∷◌}
 use Rattle.std.proofs.Common.{◌++◌, append-nil, refl, ap, ap₂, sym, ◌∙◌, arith}
 use Rattle.std.proofs.lemmas.Bool.Decides.{nat_tests}
@@ -57,7 +57,7 @@ rest-line_bytes line r p stop none cut one stops =
     ap (λ (l : List Cell). bytes_of (whole_cells p l)) (rest-line line r p stop none stops)
     ∙ rest-bytes line r.spaces r.bytes p none cut one
 
--- how many columns of a tab are left in front of it, its point tells
+-- how many columns of a tab are left before it, its point shows
 cut-spaces : (spaces column : ℕ) (p : Point) → p.column ≡ column + 1 → Cut spaces p →
     cond (nat_lt 0 p.vs) (tab_columns (p.column - 1)) 0 ≡ spaces
 cut-spaces zero column p at cut = rw cut refl

@@ -1,5 +1,5 @@
--- What stands in a text part: chunks, one for each line, before they are read, and what the plain layer gives for them,
--- once they are, with prefixes of containers in front of further lines.
+-- What is in a text part: chunks, one for each line, before they are read, and what the plain layer gives for them,
+-- once they are, with prefixes of containers before further lines.
 use Rattle.std.proofs.Common.{◌≡◌, ℕ, true, false, List, [], ◌∷◌, ◌++◌, refl, sym, ap, ◌∙◌, append_assoc}
 use Rattle.std.specs.Prelude.{IsTrue, Some}
 use Rattle.std.proofs.lemmas.Bool.{and_from}
@@ -35,7 +35,7 @@ use Rattle.md_frame.proofs.PlainRoles.{chunk-roles}
 use Rattle.md_frame.proofs.SpanLemmas.{Nested_in, around-nested, chunk-nested, linked-nested, nested_in-append}
 use Rattle.md_frame.proofs.Stretch.{IsMiddle, Stretch, roles-as}
 
--- These events stand in a text part of a kind from a point to a point, before it is read, with these chunks, and those
+-- These events are in a text part of a kind from a point to a point, before it is read, with these chunks, and those
 -- once it is.
 pub record TextInside (bytes : List ℕ) (kind : PartKind) (p q : Point) (chunks : List Chunk)
     (unread done : List Event) : Type 0 where
@@ -47,10 +47,10 @@ pub record TextInside (bytes : List ℕ) (kind : PartKind) (p q : Point) (chunks
   pub tiled : Covered p q unread
   pub unread_stood : PiecesValid bytes unread
   pub stood : PiecesValid bytes done
-  -- they may stand in such a part, and are read in the places of the chunks
+  -- they may be in such a part, and are read in the places of the chunks
   pub inside : Inside bytes kind chunks unread
   pub filled : Filled bytes chunks unread done
-  -- they stand between characters, and an outline shows nothing of them
+  -- they are between characters, and an outline shows nothing of them
   pub between : is_between bytes p.index ≡ true → is_between bytes q.index ≡ true → AreBetween bytes done
   pub plain : ArePlain bytes done
 
@@ -94,7 +94,7 @@ text-line bytes kind link p e q of chunked order end middle = record {
   plain = chunk-plain bytes (record { first = p; after = q });
 }
 
--- a line with others behind it, in front of which prefixes stand
+-- a line with others after it, before which prefixes are
 pub text-more : {bytes : List ℕ} {kind : PartKind} {link : Link} {p b r q : Point} {front : List Event}
     {cs : List Chunk} {us es : List Event} →
     TextInside bytes kind p b ((record { first = p; after = b }) ∷ []) (enter_link n.Data p link ∷ exit n.Data b ∷ [])

@@ -21,14 +21,14 @@ pub record TextLaws (t : TextLeaf) : Type 1 where
   pub cases : (IsSpan P : Leaf → Type 0) → P NoLeaf →
       ((k : ParagraphLine) (ks : List ParagraphLine) → P (t.held (k ∷ ks))) → ((leaf : Leaf) → IsSpan leaf → P leaf) →
       (leaf : Leaf) → IsNoneTextOr IsSpan leaf → P leaf
-  -- It is shut as what its lines come to, which an outline can show.
+  -- It is shut as what its lines become, which an outline can show.
   pub shut : (options : ParseOptions) (bs : Blocks) (ks : List ParagraphLine) →
       then_leaf options bs (t.held ks) ≡ t.behind options bs (texts ks)
   pub shallow : (options : ParseOptions) (bs : Blocks) (lines : List (List ℕ)) → are_shallow bs ≡ true →
       are_shallow (t.behind options bs lines) ≡ true
-  -- With what stands between blocks in it, it leaves open what is open where it stands.
+  -- With what is between blocks in it, it leaves open what is open where it is.
   pub stands : (bytes : List ℕ) (held : List Bool) (p q : Point) (inside : List Event) → Roles Between inside →
       StandsTo bytes (among held) (among held) (around t.name p q inside)
-  -- No part begins in what is read of it that a resolver behind that of content rewrites.
+  -- No part begins in what is read of it that a resolver after that of content rewrites.
   pub outside : (bytes : List ℕ) (options : ParseOptions) (chunks : List Chunk) →
       AreOutside (content_events bytes options chunks)

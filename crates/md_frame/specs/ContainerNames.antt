@@ -1,4 +1,4 @@
--- A table of the containers of the line definition, built or not: what the events tell of one, and as which kind it is
+-- A table of the containers of the line definition, built or not: what the events show of one, and as which kind it is
 -- held.
 use Rattle.std.specs.Prelude.{◌≡◌, ℕ, zero, suc, Bool, Option, Some, None}
 use Rattle.md_engine.specs.declared.event.Name.{Name}
@@ -9,7 +9,7 @@ use Rattle.md_containers.specs.ItemsStand.{is_item_shape}
 use Rattle.md_seam.specs.Events.Spelled.{FootnoteShape, ItemShape, OrderedShape, QuoteShape, Shape, UnorderedShape}
 use Rattle.md_meaning.specs.State.{Container, InFootnote, InItem, InQuote}
 
--- the width of an item, and whether it started blank, they do not tell
+-- the width of an item, and whether it started blank, they do not show
 abbrev pub shape_of : Container → Shape
 shape_of (InQuote alert) = QuoteShape alert
 shape_of (InItem digits marker width starts_blank) = ItemShape marker digits

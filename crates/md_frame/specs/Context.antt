@@ -1,4 +1,4 @@
--- What a line stands against, by the leaf that it meets: no text that is open, text, or text that it is lazy for.
+-- What a line is against, by the leaf that it meets: no text that is open, text, or text that it is lazy for.
 use Rattle.md_engine.specs.declared.tokenizer.held_leaf.HeldLeaf.{HeldLeaf}
 use Rattle.md_engine.specs.declared.tokenizer.held_leaf.HeldLeaf.TheVariants as held_leaf
 use Rattle.md_meaning.specs.Leaves.{ParagraphContext, NoText, Text, LazyText}

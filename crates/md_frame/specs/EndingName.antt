@@ -1,4 +1,4 @@
--- Under which name the ending of a line stands.
+-- Under which name the ending of a line is.
 use Rattle.std.specs.Prelude.{Bool, true, false}
 use Rattle.md_engine.specs.declared.event.Name.{Name}
 use Rattle.md_engine.specs.declared.event.Name.TheVariants.{BlankLineEnding, LineEnding}

@@ -11,8 +11,8 @@ use Rattle.md_meaning.specs.State.{Leaf, NoLeaf}
 use Rattle.md_frame.specs.HeldNames.{kind_of_other}
 use Rattle.md_frame.specs.Leaf.Paragraph.{IsTextOr, held_or}
 
--- whether a line that starts no other leaf goes on it although not all containers went on (CommonMark 5.1, "laziness"):
--- so it does on text, also where a lazy line meets it
+-- whether a line that starts no other leaf continues it although not all containers continued (CommonMark 5.1,
+-- "laziness"): so it does on text, also where a lazy line meets it
 abbrev pub takes_lazy : HeldLeaf → Bool
 takes_lazy (held_leaf.Text at) = true
 takes_lazy (held_leaf.LazyText at) = true
@@ -25,7 +25,8 @@ has_lines (held_leaf.Text at) = false
 has_lines (held_leaf.LazyText at) = false
 has_lines leaf = true
 
--- whether a line may go on it where all containers went on: a leaf of several lines, and text, which a line may turn
+-- whether a line may continue it where all containers continued: a leaf of several lines, and text, which a line may
+-- turn
 abbrev pub may_go_on : HeldLeaf → Bool
 may_go_on held_leaf.None = false
 may_go_on (held_leaf.LazyText at) = false
@@ -38,7 +39,7 @@ lazy_of (held_leaf.Text at) = held_leaf.LazyText at
 lazy_of (held_leaf.LazyText at) = held_leaf.LazyText at
 lazy_of _ = held_leaf.None
 
--- what a line meets of a leaf, where no container opens: the leaf itself where all containers went on, and else the
+-- what a line meets of a leaf, where no container opens: the leaf itself where all containers continued, and else the
 -- leaf as a lazy line meets it
 abbrev pub met_by : Bool → HeldLeaf → HeldLeaf
 met_by all leaf = if all then leaf else lazy_of leaf
@@ -47,7 +48,7 @@ met_by all leaf = if all then leaf else lazy_of leaf
 abbrev pub kind_of_leaf : Leaf → HeldLeaf
 kind_of_leaf leaf = held_or kind_of_other leaf
 
--- the leaf that is open behind a line, by what the line definition has with it
+-- the leaf that is open after a line, by what the line definition has with it
 abbrev pub left_by : LeafResult → Leaf
 left_by (Opened leaf) = leaf
 left_by (Finished block) = NoLeaf

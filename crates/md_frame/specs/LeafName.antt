@@ -31,7 +31,7 @@ number HeadingSetext = 7
 number ThematicBreak = 8
 number GfmTable = 9
 
--- the leaves that are tried behind one, where it has not taken the line
+-- the leaves that are tried after one, where it has not taken the line
 abbrev pub behind_in : ℕ → List LeafName → List LeafName
 behind_in k [] = []
 behind_in k (l ∷ ls) = if number l == k then ls else behind_in k ls

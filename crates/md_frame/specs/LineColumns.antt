@@ -1,4 +1,4 @@
--- Points of a line, column by column, and the parts that stand between them.
+-- Points of a line, column by column, and the parts that are between them.
 use Rattle.std.specs.Prelude.{ℕ, zero, suc, ◌+◌, ◌-◌, ◌&&◌, ◌==◌, nat_lt, if◌then◌else◌, List, [], ◌∷◌, ◌++◌, drop}
 use Rattle.md_engine.specs.declared.event.Event.{Event}
 use Rattle.md_engine.specs.declared.event.Name.{Name}
@@ -17,13 +17,13 @@ rest_of p line = record {
   bytes = if p.vs == 0 then line else drop 1 line;
 }
 
--- a column further, with this left behind it: within a tab while more of it is left, and else behind its byte
+-- a column further, with this left after it: within a tab while more of it is left, and else after its byte
 abbrev pub next_point : Rest → Point → Point
 next_point left p =
     if left.spaces == 0 then record p { column = p.column + 1; index = p.index + 1; vs = 0 }
     else record p { column = p.column + 1; vs = p.vs + 1 }
 
--- behind so many columns of whitespace, or as many as there are
+-- after so many columns of whitespace, or as many as there are
 abbrev pub past_columns : ℕ → Rest → Point → Point
 past_columns zero r p = p
 past_columns (suc n) r p =

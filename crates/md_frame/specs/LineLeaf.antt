@@ -18,30 +18,30 @@ use Rattle.md_meaning.specs.State.{Leaf}
 use Rattle.md_meaning.specs.Tree.{Block}
 
 pub record LineLeaf : Type 0 where
-  -- Its first state, and the state of flow in front of it; whether it always ends on its line, where flow shuts it.
+  -- Its first state, and the state of flow before it; whether it always ends on its line, where flow shuts it.
   pub start : StateName
   pub before : FlowState
   pub ends : Bool
   -- Whether a blank line that it takes stays blank, so that its ending is that of a blank line; else an ending is so
-  -- where nothing at all stands on the line.
+  -- where nothing at all is on the line.
   pub stays_blank : Bool
-  -- Whether a line of it, where it meets a leaf, goes on that leaf.
+  -- Whether a line of it, where it meets a leaf, continues that leaf.
   pub further : HeldLeaf → Bool
   -- Which leaf a line meets where this one is tried.
   pub asked : HeldLeaf → Bool
-  -- Whether a line of it that goes on text takes the last line of that as its head; else it turns all of the text.
+  -- Whether a line of it that continues text takes the last line of that as its head; else it turns all of the text.
   pub heads : Bool
-  -- Whether it may begin, by the leaf that the line meets, by whether whitespace stands here, and by what stands first
-  -- behind that: elsewhere it is refused at once.
+  -- Whether it may begin, by the leaf that the line meets, by whether whitespace is here, and by what is first after
+  -- that: elsewhere it is refused at once.
   pub may_begin : HeldLeaf → Bool → ℕ → Bool
   -- By the cells of the rest of a line: what is left of it at its first state, whether it takes the line, and then
-  -- which events it adds, and what is held behind it.
+  -- which events it adds, and what is held after it.
   pub trial : ParseOptions → List Cell → Here → Outcome
   pub takes : ParseOptions → HeldLeaf → List Cell → Bool
   pub adds : ParseOptions → HeldLeaf → List Cell → Point → List Event
   pub keeps : ParseOptions → HeldLeaf → List Cell → Point → HeldLeaf
-  -- By the rest of a line, as the line definition has it: whether it starts there, what is held behind it, what the
-  -- open leaf is with it, and its block, if it always ends on its line.
+  -- By the rest of a line, as the line definition has it: whether it starts there, what is held after it, what the open
+  -- leaf is with it, and its block, if it always ends on its line.
   pub starts : ParseOptions → HeldLeaf → Rest → Bool
   pub holds : ParseOptions → HeldLeaf → Rest → HeldLeaf
   pub comes : ParseOptions → Leaf → Rest → LeafResult

@@ -1,4 +1,4 @@
--- The rest of a line as it stands in the text.
+-- The rest of a line as it is in the text.
 use Rattle.std.specs.Prelude.{ℕ, List, ◌++◌}
 pub use Rattle.md_meaning.specs.Rest.{cut_tab}
 use Rattle.md_meaning.specs.Rest.{Rest}

@@ -21,7 +21,7 @@ use Rattle.md_frame.specs.LeafName.{LeafName}
 use Rattle.md_frame.specs.TurnLeaf.{TurnLeaf}
 use Rattle.md_frame.specs.Change.{Change}
 
--- what the rest of a line is, behind the prefixes of its containers
+-- what the rest of a line is, after the prefixes of its containers
 pub data RowKind : Type 0 where
   BlankRow : RowKind
   LeafRow : LeafName → RowKind
@@ -30,16 +30,16 @@ pub data RowKind : Type 0 where
 -- A line that was read.
 pub record Row : Type 0 where
   pub kind : RowKind
-  -- the leaf that it meets, and the one that is open behind it
+  -- the leaf that it meets, and the one that is open after it
   pub on : HeldLeaf
   pub behind : HeldLeaf
-  -- what stands in front of it: the prefixes of its containers, and the begins of those that open on it
+  -- what is before it: the prefixes of its containers, and the begins of those that open on it
   pub front : List Event
   -- what it does to the containers that were open before it
   pub change : Change
-  -- those that end behind it, the outermost first
+  -- those that end after it, the outermost first
   pub closed_after : List Container
-  -- behind its containers: where it begins, whether its ending is that of a blank line if a leaf takes it, what flow
+  -- after its containers: where it begins, whether its ending is that of a blank line if a leaf takes it, what flow
   -- adds for it unless it is text (the whitespace of a blank line, or a leaf from its begin to its end), where its
   -- ending begins, and where it has ended, if it has an ending
   pub first : Point
@@ -57,7 +57,7 @@ blank_line (b ∷ bs) p = pair n.SpaceOrTab p (past_text (b ∷ bs) p)
 abbrev pub ending_events : Name → Row → List Event
 ending_events name row = elim row.after [ None ↦ [] | Some q ↦ pair name row.end q ]
 
--- whether nothing stands on the rest of a line
+-- whether nothing is on the rest of a line
 abbrev pub is_empty_row : Row → Bool
 is_empty_row row = row.first.index == row.end.index
 
@@ -82,7 +82,7 @@ abbrev pub last_row : Row → List Row → Row
 last_row row [] = row
 last_row row (next ∷ rows) = last_row next rows
 
--- behind the ending of a line
+-- after the ending of a line
 abbrev pub behind_row : Row → Point
 behind_row row = elim row.after [ None ↦ row.end | Some q ↦ q ]
 
@@ -91,18 +91,18 @@ abbrev pub chunks_of : Row → List Row → List Chunk
 chunks_of row [] = (record { first = row.first; after = row.end }) ∷ []
 chunks_of row (next ∷ rows) = (record { first = row.first; after = behind_row row }) ∷ chunks_of next rows
 
--- the lines of a text, once they are read: in front of each further line stand the prefixes of its containers
+-- the lines of a text, once they are read: before each further line are the prefixes of its containers
 abbrev pub read_lines : List ℕ → Row → List Row → List Event
 read_lines bytes row [] = plain_chunk bytes (record { first = row.first; after = row.end })
 read_lines bytes row (next ∷ rows) =
     plain_chunk bytes (record { first = row.first; after = behind_row row }) ++ next.front ++ read_lines bytes next rows
 
--- between lines: where each ends, and what stands in front of the next
+-- between lines: where each ends, and what is before the next
 abbrev pub breaks_of : Row → List Row → List LineBreak
 breaks_of row [] = []
 breaks_of row (next ∷ rows) = (record { after = behind_row row; front = next.front }) ∷ breaks_of next rows
 
--- What a line turns these lines into: their text, the ending of the last, and that line behind the prefixes of its
+-- What a line turns these lines into: their text, the ending of the last, and that line after the prefixes of its
 -- containers.
 abbrev pub turned_by : TurnLeaf → List Event → Row → List Row → Row → List Event
 turned_by turn text row rows under =
@@ -139,14 +139,14 @@ inside_leaf es = if is_framed es then but_ends es else es
 abbrev pub end_by : List Event → List Event → List Event
 end_by end es = if is_framed es then end_of es else end
 
--- behind the leaf: bare lines, as whitespace, each behind the ending of the line in front
+-- after the leaf: bare lines, as whitespace, each after the ending of the line in front
 abbrev pub span_behind : (Row → List Event) → Row → List Row → List Event
 span_behind f row [] = []
 span_behind f row (next ∷ rows) =
     ending_events (ending_of row.kind row) row ++ next.front ++ map (renamed Outside) (f next)
     ++ span_behind f next rows
 
--- behind the first line, where this is the end of the leaf so far
+-- after the first line, where this is the end of the leaf so far
 abbrev pub span_rest : (Row → List Event) → List Event → Row → List Row → List Event
 span_rest f end row [] = end
 span_rest f end row (next ∷ rows) =

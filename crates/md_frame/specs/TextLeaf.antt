@@ -15,6 +15,6 @@ pub record TextLeaf : Type 0 where
   -- its block, by the texts of its lines, and what the line definition holds of it where it is open
   pub block : List (List ℕ) → Block
   pub held : List ParagraphLine → Leaf
-  -- blocks, with those of these lines behind them where it is shut: what is cut from its front, and its block of the
+  -- blocks, with those of these lines after them where it is shut: what is cut from its front, and its block of the
   -- lines that remain, if any do
   pub behind : ParseOptions → Blocks → List (List ℕ) → Blocks

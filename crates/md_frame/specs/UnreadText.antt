@@ -6,8 +6,7 @@ use Rattle.md_engine.specs.declared.event.Name.{Name}
 use Rattle.md_seam.specs.Events.Nested.{enter_link, exit}
 use Rattle.md_frame.specs.Row.{Row, behind_row}
 
--- the lines of a part that is not read yet, each a chunk; in front of each further one stand the prefixes of its
--- containers
+-- the lines of a part that is not read yet, each a chunk; before each further one are the prefixes of its containers
 abbrev pub linked_lines : Name → Link → Row → List Row → List Event
 linked_lines name link row [] = enter_link name row.first link ∷ exit name row.end ∷ []
 linked_lines name link row (next ∷ rows) =

@@ -50,7 +50,7 @@ pub record IsWhole (x : Setting) : Type 0 where
   pub all : x.limit ≡ length x.bytes
   pub skips : x.skips ≡ []
 
--- what frontmatter comes to, from this point on
+-- what frontmatter becomes, from this point on
 abbrev pub outcome : Setting → Here → Option FrontRead → Outcome
 outcome x h None = Refuses (cleared h.scratch) h.flags
 outcome x h (Some f) =
@@ -142,7 +142,7 @@ next-cells x line ending rest p is at bare before =
       };
     }
 
--- behind an ending, and the part over it
+-- after an ending, and the part over it
 pub past-same : (ending : Ending) (p : Point) → front.past_ending (ending_bytes ending) p ≡ past_ending ending p
 past-same LineFeed p = refl
 past-same Return p = refl
@@ -154,7 +154,7 @@ part-same LineFeed p = refl
 part-same Return p = refl
 part-same Both p = refl
 
--- what is left in front of a line, by the line and its ending
+-- what is left before a line, by the line and its ending
 abbrev pub lines_from : ℕ → List ℕ → List ℕ → List (List ℕ) → Point → Option FrontRead
 lines_from m line ending more p =
     let q = past_text line p in
@@ -178,7 +178,7 @@ behind-outcome x h front back p (Some f) =
     Accepts (record h { events = es; point = f.point; scratch = cleared h.scratch }) (text_feed x f.point))
     (simp append_assoc)
 
--- behind a line that is no fence, and its ending
+-- after a line that is no fence, and its ending
 abbrev behind_part : Setting → List ℕ → Ending → Here → Here
 behind_part x line ending h =
     let q = past_text line h.point in
@@ -315,7 +315,7 @@ opened m line h = record h {
   scratch = record h.scratch { marker = m; size = 0 };
 }
 
--- behind the opening fence of this line
+-- after the opening fence of this line
 abbrev behind_open : List Cell → Here → Outcome
 behind_open [] h = refuses h
 behind_open (c ∷ cs) h = at_line cs (behind_ending c h)
@@ -409,7 +409,7 @@ front-not : (cells : List Cell) (b : ℕ) (h : Here) → first_seen cells ≡ So
 front-not [] b h e marks = cc
 front-not (c ∷ cs) b h e marks = front-other c cs h (ap is_marker (some-same c.byte b e) ∙ marks)
 
--- What frontmatter comes to where it may begin, by the line that stands there.
+-- What frontmatter reaches where it may begin, by the line that is there.
 
 -- where it is none
 abbrev pub comes : Setting → Here → Option FrontRead → Outcome
@@ -489,7 +489,7 @@ last-comes x b line h is at rest bare =
     go false e =
         front-not (spread x.line (b ∷ line) h.point ++ []) b h (first-spread x.line b line h.point []) e
 
--- a line behind which another one may follow
+-- a line after which another one may follow
 next-comes : (x : Setting) (line : List ℕ) (ending : Ending) (text : List ℕ) (more : List (List ℕ)) (h : Here) →
     IsWhole x → Begins x (line ++ (ending_bytes ending ++ text)) h.point → IsRest h.scratch → NoEnding line →
     EndsBefore ending text → IsLines text more →

@@ -1,4 +1,4 @@
--- No chunk begins in front of the lines of a text: no event of its mark or of its frontmatter is linked.
+-- No chunk begins before the lines of a text: no event of its mark or of its frontmatter is linked.
 use Rattle.std.proofs.Common.{◌≡◌, ℕ, Bool, true, false, cond, List, [], ◌∷◌, ◌++◌, drop, take, Option, Some, None}
 use Rattle.std.proofs.Common.{refl, ap}
 use Rattle.std.specs.Prelude.{option_map, is_none}
@@ -47,7 +47,7 @@ ending-unlinked : (ending : List ℕ) (p : Point) → NoLinks (ending_part endin
 ending-unlinked [] p = tt
 ending-unlinked (b ∷ bs) p = (refl, (refl, tt))
 
--- nor is one in front of others
+-- nor is one before others
 these-unlinked : (es : List Event) (read : Option FrontRead) → NoLinks es → NoLinks (events_of read) →
     NoLinks (events_of (option_map (behind_these es) read))
 these-unlinked es None h k = tt

@@ -10,7 +10,7 @@ use Rattle.md_meaning.specs.Lines.{begins_with, full_lines_of, is_ending, withou
 use Rattle.md_meaning.proofs.TextsLemmas.{Both, Ending, EndsBefore, LineFeed, NoEnding, Return, ending_bytes}
 use Rattle.md_front_rooms.specs.Front.{ending_of}
 
--- What the lines of a text are: none, one without an ending, or one with its ending and those behind it.
+-- What the lines of a text are: none, one without an ending, or one with its ending and those after it.
 pub data IsLines : List ℕ → List (List ℕ) → Type 0 where
   NoLines : IsLines [] []
   LastLine : (b : ℕ) (line : List ℕ) → NoEnding (b ∷ line) → IsLines (b ∷ line) ((b ∷ line) ∷ [])
@@ -18,7 +18,7 @@ pub data IsLines : List ℕ → List (List ℕ) → Type 0 where
       EndsBefore ending rest → IsLines rest more → more ≡ full_lines_of rest →
       IsLines (line ++ (ending_bytes ending ++ rest)) ((line ++ ending_bytes ending) ∷ more)
 
--- one more byte in front of the first line
+-- one more byte before the first line
 onto-line : (b : ℕ) (text : List ℕ) (lines : List (List ℕ)) → is_ending b ≡ false → IsLines text lines →
     IsLines (b ∷ text) (onto_first b lines)
 onto-line b text lines e NoLines = LastLine b [] (e, tt)
@@ -33,7 +33,7 @@ not-feed c e = go (c == 10) (c == 13) e
     go true y e = cc
     go false y e = refl
 
--- a CR in front of an LF
+-- a CR before an LF
 return-line : (text : List ℕ) (lines : List (List ℕ)) → begins_with 10 text ≡ true → IsLines text lines →
     IsLines (13 ∷ text) (onto_first 13 lines)
 return-line text lines e NoLines = cc
@@ -64,7 +64,7 @@ full-lines (b ∷ bs) = go (b == 10) (b == 13) (begins_with 10 bs) refl refl ref
         (return-line bs (full_lines_of bs) g is)
     go false false z e f g is = onto-line b bs (full_lines_of bs) (rw (e, f) refl) is
 
--- A line and its ending, told from both.
+-- A line and its ending, distinguished from both.
 
 without-none : (line : List ℕ) → NoEnding line → without_ending line ≡ line
 without-none [] h = refl

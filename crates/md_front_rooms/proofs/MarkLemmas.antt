@@ -1,4 +1,4 @@
--- The byte order mark in front of a text: where the lines begin behind it.
+-- The byte order mark before a text: where the lines begin after it.
 use Rattle.std.proofs.Common.{◌≡◌, ℕ, ◌-◌, ◌/◌, ◌^◌, ◌≤◌, Bool, true, false, cond, nat_lt, ◌||◌, ◌==◌, List}
 use Rattle.std.proofs.Common.{length, drop, slice_index, refl, arith}
 use Rattle.md_engine.specs.Place.{IsPlaced, IsReached, first_point, walked}
@@ -9,7 +9,7 @@ use Rattle.md_front_rooms.specs.Front.{mark_point, mark_end}
 
 -- The text.
 
--- the lines of a text are those of what stands behind the mark
+-- the lines of a text are those of what follows the mark
 pub without-mark : (bytes : List ℕ) → without_mark bytes ≡ drop (mark_point bytes).index bytes
 without-mark bytes = go (has_mark bytes)
   where
@@ -55,7 +55,7 @@ placed-first bytes small = record {
   reached = ∣ first-reached bytes ∣₁;
 }
 
--- it stands between characters
+-- it is between characters
 either : (a b c d e : Bool) → e ≡ true → (a || b || c || d || e) ≡ true
 either true b c d e h = refl
 either false true c d e h = refl

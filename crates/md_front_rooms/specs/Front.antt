@@ -14,11 +14,11 @@ use Rattle.md_frame.specs.LineColumns.{part_over}
 
 -- The mark.
 
--- behind a mark: each of its bytes is a column
+-- after a mark: each of its bytes is a column
 abbrev pub mark_end : Point
 mark_end = record { line = 1; column = 4; index = 3; vs = 0 }
 
--- behind the mark of a text, or where the text begins
+-- after the mark of a text, or where the text begins
 abbrev pub mark_point : List ℕ → Point
 mark_point text = if has_mark text then mark_end else first_point
 
@@ -28,7 +28,7 @@ mark_events text = if has_mark text then pair n.ByteOrderMark first_point mark_e
 
 -- The parts of frontmatter.
 
--- a fence over this line: its three markers, and the whitespace behind them
+-- a fence over this line: its three markers, and the whitespace after them
 abbrev pub fence_part : List ℕ → Point → List Event
 fence_part line p =
     let q = past_text (take 3 line) p in
@@ -43,7 +43,7 @@ line_part line p = part_over n.FrontmatterChunk line p (past_text line p)
 abbrev pub ending_of : List ℕ → List ℕ
 ending_of full = drop (length (without_ending full)) full
 
--- behind an ending
+-- after an ending
 abbrev pub past_ending : List ℕ → Point → Point
 past_ending [] p = p
 past_ending (b ∷ bs) p = record { line = p.line + 1; column = 1; index = p.index + length (b ∷ bs); vs = 0 }
@@ -54,7 +54,7 @@ ending_part (b ∷ bs) p = pair n.LineEnding p (past_ending (b ∷ bs) p)
 
 -- The lines, each with its ending.
 
--- events, and where the body begins behind them
+-- events, and where the body begins after them
 pub record FrontRead : Type 0 where
   pub events : List Event
   pub point : Point
@@ -112,6 +112,6 @@ point_or p (Some f) = f.point
 abbrev pub body_point : ParseOptions → List ℕ → Point
 body_point options text = point_or (mark_point text) (text_front options text)
 
--- the events in front of them
+-- the events before them
 abbrev pub front_events : ParseOptions → List ℕ → List Event
 front_events options text = mark_events text ++ events_of (text_front options text)

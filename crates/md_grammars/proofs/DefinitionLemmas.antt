@@ -116,7 +116,7 @@ TextIn-byte {opener} {closer} {b} {escaped} {rest} {others} {line} t e stays nei
           ∙ (rw (enclosed-byte opener closer escaped b others stays neither) at goes);
     }
 
--- what is left of balanced text behind a byte
+-- what is left of balanced text after a byte
 abbrev pub balanced_behind : Option ℕ → Bool → List ℕ → Bool
 balanced_behind None escaped rest = false
 balanced_behind (Some depth) escaped rest = balanced depth escaped rest
@@ -197,7 +197,7 @@ texts-drop lines i d h = rw (add-one, drop-cons lines i d) refl
 pub texts-drop_all : (lines : List (Bor (List ℕ))) (i : ℕ) → length lines ≤ i → texts (drop i lines) ≡ []
 texts-drop_all lines i h = ap texts (drop_of_length-le lines h)
 
--- a text over lines, by how its first line goes on
+-- a text over lines, by how its first line continues
 abbrev lines_from : ℕ → ℕ → List ℕ → List (List ℕ) → Enclosed → Option Lines
 lines_from opener closer line lines (Closed text rest) = Some (record { text = text ∷ []; rest = rest ∷ lines })
 lines_from opener closer line lines Open = with_line line (enclosed_lines opener closer lines)

@@ -1,4 +1,4 @@
--- The closing fence of frontmatter, and the lines behind it.
+-- The closing fence of frontmatter, and the lines after it.
 use Rattle.std.proofs.Common.{◌≡◌, ℕ, zero, suc, ◌+◌, ◌<◌, ◌≤◌, Bool, true, false, cond, not, ◌||◌, List, [], ◌∷◌, map}
 use Rattle.std.proofs.Common.{length, take, drop, Some, None, refl, sym, ◌∙◌, ap, subst, arith}
 use Rattle.std.proofs.lemmas.List.{drop-map, take-map, length-map}
@@ -31,7 +31,7 @@ any-none f (x ∷ xs) all = by (f x) (any-none f xs) all
     by true h h' = absurd (omega (arith, h'))
     by false h h' = h (omega (arith, h'))
 
--- so many lines stand before the first fence
+-- so many lines are before the first fence
 abbrev pub fence_at : ℕ → List (List ℕ) → ℕ
 fence_at m ls = prefix_len (λ l. not (p.is_front_fence m l)) ls
 
@@ -86,7 +86,7 @@ front_by-some m n rests inside after count below einside eafter =
     })) None)
     (any-some (p.is_front_fence m) (lines_in rests) (omega (arith, below, lines, at))))
 
--- the lines behind the one at this place
+-- the lines after the one at this place
 pub drop-next : {A : Type 0} (n : ℕ) (xs after : List A) (x : A) → drop n xs ≡ x ∷ after → after ≡ drop (n + 1) xs
 drop-next zero [] after x e = absurd (cc)
 drop-next zero (y ∷ ys) after x e = sym (ap (drop 1) e)
@@ -106,7 +106,7 @@ drop-above zero xs e = omega (arith, e)
 drop-above (suc n) [] e = omega arith
 drop-above (suc n) (y ∷ ys) e = let above = drop-above n ys e in omega (arith, above)
 
--- the lines behind the first begin at column 0
+-- the lines after the first begin at column 0
 bytes-fresh : (ls : List (List ℕ)) → map (λ (x : r.Rest). x.bytes) (map (p.rest_at 0) ls) ≡ ls
 bytes-fresh [] = refl
 bytes-fresh (l ∷ ls) = ap (λ ks. l ∷ ks) (bytes-fresh ls)
@@ -133,7 +133,7 @@ fresh-end n rests after e is =
 tail-of : (x y : r.Rest) (xs ys : List r.Rest) → x ∷ xs ≡ y ∷ ys → xs ≡ ys
 tail-of x y xs ys e = ap (drop 1) e
 
--- and so those behind frontmatter
+-- and so those after frontmatter
 pub rests_behind : (column : ℕ) (ls : List (List ℕ)) (rests after : List Rest) →
     rest_meanings rests ≡ p.rests_at column ls → IsEnd (drop 1 rests) after →
     rest_meanings after ≡ p.rests_at 0 (lines_in after)

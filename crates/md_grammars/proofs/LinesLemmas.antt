@@ -14,7 +14,7 @@ use Rattle.md_grammars.specs.Rests.{after_ending, rest_meaning, rest_meanings}
 abbrev line_len : List ℕ → ℕ
 line_len text = prefix_len (λ b. not (is_ending b)) text
 
--- the first line, and those behind its ending
+-- the first line, and those after its ending
 abbrev Splits : List ℕ → Type 0
 Splits [] = Unit {0}
 Splits (b ∷ bytes) =
@@ -83,7 +83,7 @@ pub lines_of-first : (text : List ℕ) → (length text == 0) ≡ false →
 lines_of-first [] h = absurd (cc)
 lines_of-first (b ∷ bytes) h = splits (b ∷ bytes)
 
--- one line read, and those behind its ending
+-- one line read, and those after its ending
 pub rests_at-next : (before : List r.Rest) (c : ℕ) (text : List ℕ) → (length text == 0) ≡ false →
     before ++ rests_at c (lines_of text) ≡
     (before ++ rest_at c (take (line_len text) text) ∷ [])

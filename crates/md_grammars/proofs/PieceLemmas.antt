@@ -1,4 +1,4 @@
--- A row is its first piece, and then the pieces behind the pipe that ends it.
+-- A row is its first piece, and then the pieces after the pipe that ends it.
 use Rattle.std.proofs.Common.{◌≡◌, ℕ, ◌<◌, ◌≤◌, Bool, true, false, ◌==◌, if◌then◌else◌, List, [], ◌∷◌, ◌++◌, map}
 use Rattle.std.proofs.Common.{length, take, drop, Bor, refl, sym, ◌∙◌, arith, append_assoc, append-nil, eqb-true}
 use Rattle.std.proofs.lemmas.List.{map-append}

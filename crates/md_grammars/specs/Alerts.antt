@@ -4,6 +4,6 @@ use Rattle.md_meaning.specs.Alert.{marker_of}
 use Rattle.md_meaning.specs.Rest.{Rest, behind_indent}
 use Rattle.md_meaning.specs.declared.alert.AlertKind.{AlertKind}
 
--- a rest with at least as many bytes behind its indent as the marker of a kind has
+-- a rest with at least as many bytes after its indent as the marker of a kind has
 abbrev pub HasRoom : AlertKind → Rest → Type 0
 HasRoom kind r = length (marker_of kind) ≤ length (behind_indent r).bytes

@@ -56,7 +56,7 @@ cut_meaning x = (map defined_meaning x.definitions.items, texts x.remaining.item
 abbrev pub is_bare : Bool → ℕ → ℕ → Bool
 is_bare escaped byte mark = not escaped && (byte == mark)
 
--- how many parentheses are open behind this byte; none if it closes one too many
+-- how many parentheses are open after this byte; none if it closes one too many
 abbrev pub depth_behind : Bool → ℕ → ℕ → Option ℕ
 depth_behind escaped depth byte =
     if is_bare escaped byte 41 then (if depth == 0 then None else Some (depth - 1))

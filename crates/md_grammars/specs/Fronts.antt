@@ -1,4 +1,4 @@
--- The lines that rests are, and the frontmatter in front of them.
+-- The lines that rests are, and the frontmatter before them.
 use Rattle.std.specs.Prelude.{◌≡◌, ℕ, List, map, drop}
 use Rattle.md_meaning.specs.Preamble as p
 use Rattle.md_grammars.specs.declared.preamble.Front.{Front}

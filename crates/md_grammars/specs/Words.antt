@@ -1,7 +1,7 @@
--- Words, one behind another.
+-- Words, one after another.
 use Rattle.std.specs.Prelude.{ℕ, List, [], ◌∷◌, ◌++◌}
 
--- with a word at the end, behind a space unless it is the first
+-- with a word at the end, after a space unless it is the first
 abbrev pub with_word : List ℕ → List ℕ → List ℕ
 with_word [] word = word
 with_word (b ∷ text) word = (b ∷ text) ++ 32 ∷ word

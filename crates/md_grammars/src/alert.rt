@@ -33,7 +33,7 @@ fn has_marker(kind: AlertKind, bytes: &[u8]) -> bool
     is_name(marker, &bytes[..marker.len().min(bytes.len())])
 }
 
-/// Whether spaces and tabs alone are behind so many bytes as the marker of a kind has.
+/// Whether spaces and tabs alone are after so many bytes as the marker of a kind has.
 #[tactic(auto, using(std::proofs::lemmas::List::drop_min))]
 fn ends_behind(kind: AlertKind, bytes: &[u8]) -> bool
     ensures { result ≡ r.is_blank (drop (length (alert.marker_of kind)) bytes.now) }
@@ -41,7 +41,7 @@ fn ends_behind(kind: AlertKind, bytes: &[u8]) -> bool
     is_blank(&bytes[marker_of(kind).len().min(bytes.len())..])
 }
 
-/// Whether bytes are the marker of a kind, and spaces and tabs behind it.
+/// Whether bytes are the marker of a kind, and spaces and tabs after it.
 #[tactic(auto, using(crate::proofs::AlertLemmas::marker_fits))]
 fn is_marked(kind: AlertKind, bytes: &[u8]) -> bool
     ensures value { result ≡ alert.is_marked kind bytes.now }
@@ -84,7 +84,7 @@ pub fn alert_at(options: &ParseOptions, rest: &Rest) -> Option<AlertKind>
     }
 }
 
-/// What is left of a line behind the marker of a kind, and behind the whitespace there.
+/// What is left of a line after the marker of a kind, and after the whitespace there.
 pub fn behind_marker<'a>(kind: AlertKind, rest: &Rest<'a>) -> Rest<'a>
     requires { HasRoom kind (rest_meaning rest.now) }
     ensures { rest_meaning result ≡

@@ -18,7 +18,7 @@ pub fn is_blank(bytes: &[u8]) -> bool
     bytes.iter().all(|byte| is_white(*byte))
 }
 
-/// How many of this byte stand at the front.
+/// How many of this byte are at the front.
 pub fn run_len(marker: u8, bytes: &[u8]) -> usize
     ensures value { result ≡ rest.run_len marker bytes.now }
     ensures bound { result ≤ length bytes.now }
@@ -26,7 +26,7 @@ pub fn run_len(marker: u8, bytes: &[u8]) -> usize
     bytes.iter().take_while(|byte| **byte == marker).count()
 }
 
-/// How many spaces and tabs stand at the front.
+/// How many spaces and tabs are at the front.
 pub fn white_len(bytes: &[u8]) -> usize
     ensures value { result ≡ prefix_len rest.is_white bytes.now }
     ensures bound { result ≤ length bytes.now }
@@ -34,7 +34,7 @@ pub fn white_len(bytes: &[u8]) -> usize
     bytes.iter().take_while(|byte| is_white(**byte)).count()
 }
 
-/// How many spaces and tabs stand at the end.
+/// How many spaces and tabs are at the end.
 pub fn white_end_len(bytes: &[u8]) -> usize
     ensures value { result ≡ suffix_len rest.is_white bytes.now }
     ensures bound { result ≤ length bytes.now }

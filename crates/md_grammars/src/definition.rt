@@ -30,7 +30,7 @@ pub struct Cut<'a> {
     pub remaining: Vec<&'a [u8]>,
 }
 
-/// What is still to come: the rest of a line, and the index of the line behind it.
+/// What is still to come: the rest of a line, and the index of the line after it.
 #[derive(Clone, Copy)]
 struct Ahead<'a> {
     rest: &'a [u8],
@@ -44,18 +44,18 @@ pub enum Enclosed<'a> {
     Closed(&'a [u8], &'a [u8]),
     /// The line ends first.
     Open,
-    /// The opening mark stands in it unescaped.
+    /// The opening mark is in it unescaped.
     Broken,
 }
 
-/// A text over lines, and what is still to come behind its closing mark.
+/// A text over lines, and what is still to come after its closing mark.
 #[derive(Drop)]
 struct Text<'a> {
     lines: Vec<&'a [u8]>,
     ahead: Ahead<'a>,
 }
 
-/// A title, and the index of the line behind it.
+/// A title, and the index of the line after it.
 #[derive(Drop)]
 struct Title<'a> {
     lines: Vec<&'a [u8]>,
@@ -69,7 +69,7 @@ pub struct Destination<'a> {
     pub rest: &'a [u8],
 }
 
-/// A definition, and the index of the line behind it.
+/// A definition, and the index of the line after it.
 #[derive(Drop)]
 struct Found<'a> {
     defined: Defined<'a>,
@@ -250,7 +250,7 @@ fn raw_len(rest: &[u8]) -> usize
     rest.iter().take_while(|b| is_raw_byte(**b)).count()
 }
 
-/// How many parentheses are open behind this byte, with so many open before it; none if it closes one too many.
+/// How many parentheses are open after this byte, with so many open before it; none if it closes one too many.
 fn depth_behind(escaped: bool, depth: usize, byte: u8) -> Option<usize>
     requires { depth + 1 < 2 ^ 64 }
     ensures { result ≡ m.depth_behind escaped depth byte }
@@ -322,7 +322,7 @@ pub fn title_closer(b: u8) -> Option<u8>
     }
 }
 
-/// The title that comes first, and the lines behind it (CommonMark 6.3).
+/// The title that comes first, and the lines after it (CommonMark 6.3).
 #[tactic(auto, unfolding(md_meaning::specs::Definition::title_at))]
 fn title_at<'a>(
     alloc: Global,
@@ -361,7 +361,7 @@ fn title_at<'a>(
     }))
 }
 
-/// The title behind a destination, after whitespace with at most one line ending.
+/// The title after a destination, after whitespace with at most one line ending.
 #[tactic(auto, unfolding(md_meaning::specs::Definition::title_at))]
 fn title_after<'a>(
     alloc: Global,

@@ -25,7 +25,7 @@ fn ends_parted(text: &[u8]) -> bool
     }
 }
 
-/// The text of an ATX heading, from what follows its opening run: without a closing run that is all of it or stands behind
+/// The text of an ATX heading, from what follows its opening run: without a closing run that is all of it or is after
 /// whitespace (CommonMark 4.2).
 pub fn heading_text(after: &[u8]) -> &[u8]
     ensures { result.now ≡ leaves.heading_text after.now }

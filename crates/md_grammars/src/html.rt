@@ -236,7 +236,7 @@ fn is_raw_end(rest: &[u8]) -> bool
     RAW_ENDS.iter().any(|word| starts_in_any_case(rest, word))
 }
 
-/// Whether an end of `HtmlKind::Raw` stands somewhere in the line.
+/// Whether an end of `HtmlKind::Raw` is somewhere in the line.
 fn holds_raw_end(line: &[u8]) -> bool
     ensures { result ≡ h.holds h.is_raw_end line.now }
 {
@@ -250,7 +250,7 @@ fn holds_raw_end(line: &[u8]) -> bool
     false
 }
 
-/// Whether these bytes stand somewhere in the line.
+/// Whether these bytes are somewhere in the line.
 fn holds_word(word: &[u8], line: &[u8]) -> bool
     ensures { result ≡ h.holds_word word.now line.now }
 {

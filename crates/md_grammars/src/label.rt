@@ -24,7 +24,7 @@ fn word_len(rest: &[u8]) -> usize
     rest.iter().take_while(|b| !is_white(**b)).count()
 }
 
-/// Adds a word, behind a space unless it is the first. After an `Err` the text is cut off.
+/// Adds a word, after a space unless it is the first. After an `Err` the text is cut off.
 fn push_word(text: &mut Vec<u8>, word: &[u8]) -> Result<(), Message>
     ensures { OnOk result (text.new.items ≡ words.with_word text.old.items word.now) }
 {

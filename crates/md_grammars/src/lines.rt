@@ -11,7 +11,7 @@ use crate::rest::Rest;
 use md_engine::message::Message;
 use std::alloc::Global;
 
-/// How many bytes stand before the first line ending.
+/// How many bytes are before the first line ending.
 pub fn line_len(text: &[u8]) -> usize
     ensures value { result ≡ prefix_len (λ b. not (lines.is_ending b)) text.now }
     ensures bound { result ≤ length text.now }

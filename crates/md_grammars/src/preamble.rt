@@ -1,4 +1,4 @@
-// What stands before the body of a text: a byte order mark, and frontmatter (own choice: CommonMark knows neither).
+// What is before the body of a text: a byte order mark, and frontmatter (own choice: CommonMark knows neither).
 
 ghost use Rattle.std.specs.Prelude.{◌≡◌, ◌≤◌, not, length, drop, Some, IfOk, IfSome};
 ghost use Rattle.std.specs.List.{prefix_len};
@@ -49,7 +49,7 @@ fn front_marker(line: &[u8]) -> Option<u8>
     }
 }
 
-/// How many lines stand before the first fence with this marker.
+/// How many lines are before the first fence with this marker.
 fn lines_before_fence(marker: u8, rests: &[Rest]) -> usize
     ensures value { result ≡ prefix_len (λ x. not (preamble.is_front_fence marker x.bytes.now)) rests.now }
     ensures bound { result ≤ length rests.now }

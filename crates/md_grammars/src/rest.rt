@@ -14,7 +14,7 @@ pub struct Rest<'a> {
     pub column: usize,
     /// The virtual spaces there: columns left of a cut tab.
     pub spaces: usize,
-    /// The bytes behind them.
+    /// The bytes after them.
     pub bytes: &'a [u8],
     // A tab is at most 4 columns.
     ghost fits: { column + spaces + 4 * length bytes.now ≤ 2 ^ 63 },
@@ -88,7 +88,7 @@ impl<'a> Rest<'a> {
         self.lose(self.indent())
     }
 
-    /// Behind so many bytes that are neither spaces nor tabs.
+    /// After so many bytes that are neither spaces nor tabs.
     pub fn behind(&self, count: usize) -> Rest<'a>
         requires { count ≤ length self.now.bytes.now }
         ensures { rest_meaning result ≡ rest.behind count (rest_meaning self.now) }
@@ -110,7 +110,7 @@ impl<'a> Rest<'a> {
         }
     }
 
-    /// Its text, behind its leading spaces and tabs.
+    /// Its text, after its leading spaces and tabs.
     pub fn text(&self) -> &'a [u8]
         ensures { result.now ≡ rest.trim_start self.now.bytes.now }
     {

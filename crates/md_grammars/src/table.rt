@@ -17,7 +17,7 @@ fn divides(byte: u8, escaped: bool) -> bool
     byte == b'|' && !escaped
 }
 
-/// How many bytes of a row stand before its first pipe that no backslash takes.
+/// How many bytes of a row are before its first pipe that no backslash takes.
 fn piece_len(row: &[u8]) -> usize
     ensures value { result ≡ piece_len false row.now }
     ensures bound { result ≤ length row.now }

@@ -23,7 +23,7 @@ use Rattle.md_seam.specs.Transition.{taken}
 
 -- Where a line ends.
 
--- a byte stands here that passes a test
+-- a byte is here that passes a test
 pub sees-here : (feed : Feed) (w : World) (t : Option ℕ → Bool) → t None ≡ false → Sees feed w → t w.current ≡ true →
     (b : ℕ) × (w.current ≡ Some b) × (feed w.point ≡ cell_here feed w b ∷ feed (after w.setting w.point)) ×
     (t (Some b) ≡ true)
@@ -35,7 +35,7 @@ sees-here feed w t none s e = go w.current refl e s.next
     go None c e k = let bad : true ≡ false = sym e ∙ none in cc
     go (Some b) c e k = (b, c, k, e)
 
--- a byte of the line stands elsewhere
+-- a byte of the line is elsewhere
 pub line-goes : (feed : Feed) (w : World) → Sees feed w → ends_line w.current ≡ false →
     (b : ℕ) × (w.current ≡ Some b) × (feed w.point ≡ cell_here feed w b ∷ feed (after w.setting w.point)) ×
     (nat_eq b 10 ≡ false)
@@ -54,7 +54,7 @@ end-here feed w false s e = let saw = line-goes feed w s e in rw (saw.2, saw.3) 
 
 -- What comes first.
 
--- whether a byte stands here that passes
+-- whether a byte is here that passes
 abbrev sees_byte : (ℕ → Bool) → Option ℕ → Bool
 sees_byte t None = false
 sees_byte t (Some b) = t b
@@ -101,7 +101,7 @@ letter-dark b e = go (nat_lt 32 b) refl
         let lower : nat_le 97 b ≡ false = grind (arith, nat_tests) in
         let bad : false ≡ true = rw (upper, lower) at e in cc
 
--- a byte that is no whitespace is seen as it is, and the next one stands behind it
+-- a byte that is no whitespace is seen as it is, and the next one is after it
 pub record SeesDark (x : Setting) (p : Point) (b : ℕ) : Type 0 where
   pub byte : slice_index x.bytes p.index ≡ b
   pub behind : (after x p).index ≡ p.index + 1

@@ -40,7 +40,7 @@ use Rattle.md_seam.proofs.AheadLemmas.{white-no_ending}
 
 -- A line that is taken to its end.
 
--- what is open behind a line, by whether it held its end
+-- what is open after a line, by whether it held its end
 abbrev open_behind : Bool → HeldLeaf → HeldLeaf
 open_behind ends leaf = cond ends held_leaf.None leaf
 
@@ -62,7 +62,7 @@ goes-on-more front x c cs h e f = rw (e, f) refl
 
 -- What a state of a line's text does.
 
--- it goes on here
+-- it continues here
 stays_on : (B : Behaviour) (feed : Feed) (from to : HtmlState) (w : World) (s : Scratch) (front more : List ℕ) →
     s.marker ≡ w.scratch.marker → cleared s ≡ cleared w.scratch →
     B (n.HtmlFlow from) (feed w.point) (here w) ≡ goes_on front (feed w.point) (here w) →
@@ -74,7 +74,7 @@ stays_on : (B : Behaviour) (feed : Feed) (from to : HtmlState) (w : World) (s : 
 stays_on B feed from to w s front more m k old new e =
     passes B feed _ _ w (record w { scratch = s }) refl refl (old ∙ rw (m, k, e) refl ∙ sym new)
 
--- it takes what stands here
+-- it takes what is here
 takes_on : (B : Behaviour) (feed : Feed) (from to : HtmlState) (w : World) (s : Scratch) (front more : List ℕ) (b : ℕ) →
     s.marker ≡ w.scratch.marker → cleared s ≡ cleared w.scratch →
     B (n.HtmlFlow from) (feed w.point) (here w) ≡ goes_on front (feed w.point) (here w) →
@@ -187,7 +187,7 @@ pub continuation_means : (B : Behaviour) (feed : Feed) (w : World) → HasHtml B
     (html_transition its.Continuation w).world
 continuation_means B feed w has s = in_text_means B feed w _ has s refl
 
--- behind one of the two bytes with which an end of this marker begins
+-- after one of the two bytes with which an end of this marker begins
 twice_means : (B : Behaviour) (feed : Feed) (from : HtmlState) (w : World) (m : ℕ) (x : Bool) →
     HasHtml B w.setting.bytes w.setting.options → Sees feed w → w.scratch.marker ≡ m → (m ≡ 45) ⊎ (m ≡ 93) →
     B (n.HtmlFlow from) (feed w.point) (here w) ≡ goes_on (m ∷ []) (feed w.point) (here w) →
@@ -235,7 +235,7 @@ continuation_cdata_inside_means B feed w has s is =
     twice_means B feed its.ContinuationCdataInside w 93 _ has s is (inr refl)
     (has.each its.ContinuationCdataInside _ _) refl
 
--- behind all of an end but its last byte
+-- after all of an end but its last byte
 stop-line : (m : ℕ) → IsStop m → nat_eq 10 m ≡ false
 stop-line m (inl e) = rw e refl
 stop-line m (inr (inl e)) = rw e refl
@@ -350,7 +350,7 @@ pub continuation_raw_end_tag_means : (B : Behaviour) (feed : Feed) (w : World) �
     (html_transition its.ContinuationRawEndTag w).world
 continuation_raw_end_tag_means B feed w has s at name is = raw_end_means B feed w _ _ has s at name is refl refl
 
--- Behind an end, and behind the line.
+-- After an end, and after the line.
 
 close_means : (B : Behaviour) (feed : Feed) (w : World) (x : Bool) → HasHtml B w.setting.bytes w.setting.options →
     Sees feed w → ends_line w.current ≡ x →

@@ -64,7 +64,7 @@ letter-other a b e f =
 abbrev end_tag : List ℕ → List ℕ
 end_tag name = 60 ∷ 47 ∷ name ++ 62 ∷ []
 
--- a name with `>` behind it stands here if this is the name, and `>` follows
+-- a name with `>` after it is here if this is the name, and `>` follows
 name-ends : (known name rest : List ℕ) → are_letters known ≡ true → are_letters name ≡ true →
     begins is_ascii_alphabetic rest ≡ false →
     starts_in_any_case (name ++ rest) (known ++ 62 ∷ []) ≡
@@ -94,7 +94,7 @@ name-ends (k ∷ ks) (x ∷ xs) rest e f g =
     go true = refl
     go false = refl
 
--- one of the tags stands here if this is one of their names, and `>` follows
+-- one of the tags is here if this is one of their names, and `>` follows
 tags-end : (known : List (List ℕ)) (name rest : List ℕ) → list_all are_letters known ≡ true →
     are_letters name ≡ true → begins is_ascii_alphabetic rest ≡ false →
     list_any (λ word. starts_in_any_case (60 ∷ 47 ∷ name ++ rest) word) (map end_tag known) ≡
@@ -134,7 +134,7 @@ raw-name (x ∷ xs) rest e =
     let parts = and_parts (is_ascii_alphabetic x) (are_letters xs) e in
     rw (raw-other x (xs ++ rest) (other-byte is_ascii_alphabetic x 60 parts.0 refl)) (raw-name xs rest parts.1)
 
--- so behind a closing tag's name the end stands here, or in what follows
+-- so after a closing tag's name the end is here, or in what follows
 name-holds : (name rest : List ℕ) → are_letters name ≡ true → begins is_ascii_alphabetic rest ≡ false →
     holds is_raw_end (60 ∷ 47 ∷ name ++ rest) ≡
     (is_raw_name name && begins (λ b. nat_eq b 62) rest) || holds is_raw_end rest
@@ -198,7 +198,7 @@ unfolding ends_by
 ends-one m bs f g h k =
     let same : nat_eq m m ≡ true = grind (arith, nat_tests) in rw (f, g, h, k, same) refl
 
--- behind one of two bytes,
+-- after one of two bytes,
 pub ends-twice : (m : ℕ) (bs : List ℕ) → (m ≡ 45) ⊎ (m ≡ 93) → begins (λ b. nat_eq b m) bs ≡ false →
     ends_by m (m ∷ bs) ≡ ends_by m bs
 unfolding ends_by html_ends
@@ -207,7 +207,7 @@ ends-twice m [] (inr e) f = rw e refl
 ends-twice m (b ∷ bs) (inl e) f = rw e (rw (nat_eq-swap b 45 false (ap (nat_eq b) (sym e) ∙ f)) refl)
 ends-twice m (b ∷ bs) (inr e) f = rw e (rw (nat_eq-swap b 93 false (ap (nat_eq b) (sym e) ∙ f)) refl)
 
--- and behind all but the last: the end stands here,
+-- and after all but the last: the end is here,
 pub ends-stop : (m : ℕ) (bs : List ℕ) → IsStop m → ends_by m (stops m ++ 62 ∷ bs) ≡ true
 unfolding ends_by html_ends
 ends-stop m bs (inl e) = rw e refl

@@ -83,7 +83,7 @@ basic-none (b ∷ bs) e =
         (names-apart basic_names b (take_while is_tag_byte bs) refl e)
     go false = refl
 
--- behind a byte that passes, and in front of one that does not
+-- after a byte that passes, and before one that does not
 pub after-more : (t : ℕ → Bool) (b : ℕ) (bs : List ℕ) → t b ≡ true → after t (b ∷ bs) ≡ after t bs
 after-more t b bs e =
     let more : 1 + prefix_len t bs ≡ suc (prefix_len t bs) = omega arith in
@@ -111,9 +111,9 @@ run-front t (b ∷ bs) more a e =
     ∙ ap (λ (x : Bool). cond x (b ∷ take_while t (bs ++ more)) []) both.0
     ∙ ap (λ (l : List ℕ). b ∷ l) (run-front t bs more both.1 e)
 
--- The kind by what stands behind `<`.
+-- The kind by what follows `<`.
 
--- whether a tag of kind 6 may go on so behind its name
+-- whether a tag of kind 6 may continue so after its name
 abbrev pub ends_basic : List ℕ → Bool
 ends_basic more = ends_name more || starts_with nat_eq more (codes "/>")
 
@@ -148,7 +148,7 @@ unfolding html_kind
 start-none [] e = refl
 start-none (b ∷ bs) e = rw e refl
 
--- what may stand behind `<`
+-- what may be after `<`
 abbrev pub may_open : ℕ → Bool
 may_open b = (b == 33) || ((b == 47) || ((b == 63) || is_ascii_alphabetic b))
 
@@ -169,7 +169,7 @@ open-none (b ∷ bs) e =
 pub close-none : (rest : List ℕ) → begins is_ascii_alphabetic rest ≡ false → html_kind (60 ∷ 47 ∷ rest) ≡ None
 close-none rest e = kind-closing rest ∙ rw (basic-none rest e, e) refl
 
--- what may stand behind `<!`
+-- what may be after `<!`
 abbrev pub may_declare : ℕ → Bool
 may_declare b = (b == 45) || ((b == 91) || is_ascii_alphabetic b)
 
@@ -224,7 +224,7 @@ cdata-more (suc (suc (suc (suc (suc n))))) le = absurd (omega arith)
 
 -- Decisions.
 
--- the kind is known, and what stands in front of the rest holds no end of it
+-- the kind is known, and what is before the rest holds no end of it
 pub record Decided (k : HtmlKind) (front before rest : List ℕ) : Type 0 where
   pub kind : html_kind (front ++ rest) ≡ Some k
   pub ends : html_ends k (front ++ rest) ≡ html_ends k (before ++ rest)

@@ -1,4 +1,4 @@
--- HTML by the cells of a line: it begins, goes on and ends where the line definition says by the bytes of the line's
+-- HTML by the cells of a line: it begins, continues and ends where the line definition says by the bytes of the line's
 -- rest.
 use Rattle.std.proofs.Common.{◌≡◌, ℕ, zero, suc, ◌^◌, ◌<◌, Bool, true, false, cond, ◌&&◌, List, [], ◌∷◌, ◌++◌}
 use Rattle.std.proofs.Common.{length, Option, Some, None, inl, inr, ◌⊎◌, refl, sym, ap, ◌∙◌, subst, arith}
@@ -168,7 +168,7 @@ allowed-is on (Some Complete) = go (is_open_text on)
     go false = inr refl
 allowed-is on _ = inr refl
 
--- It is the kind that begins by the bytes, behind a small indent.
+-- It is the kind that begins by the bytes, after a small indent.
 pub kind-found : (options : ParseOptions) (on : HeldLeaf) (line : Line) (text past : List ℕ) (r : Rest) (p : Point)
     (stop : List Cell) (kind : HtmlKind) →
     RestAt text past r p → NoEnding r.bytes → Stops stop → length (rest_cells line r p ++ stop) < 2 ^ 63 →
@@ -191,9 +191,9 @@ kind-found options on line text past r p stop kind is h k short e =
         ((and_parts options.constructs.html_flow (has_small_indent options r) both).1, some (allowed-is on o) f)
     go false both f = cc
 
--- What is open behind a line.
+-- What is open after a line.
 
--- behind a small indent
+-- after a small indent
 pub left-cells : (options : ParseOptions) (line : Line) (text past : List ℕ) (r : Rest) (p : Point)
     (stop : List Cell) (kind : HtmlKind) →
     RestAt text past r p → NoEnding r.bytes → Stops stop → length (rest_cells line r p ++ stop) < 2 ^ 63 →
@@ -205,7 +205,7 @@ left-cells options line text past r p stop kind is h k short small =
     (sym (blind.same _ _ (behind-wide options line text past r p stop is h k short small))
     ∙ blind-trim (html_ends kind) blind r.bytes)
 
--- behind a first line
+-- after a first line
 pub keeps-cells : (options : ParseOptions) (on : HeldLeaf) (line : Line) (text past : List ℕ) (r : Rest) (p : Point)
     (stop : List Cell) →
     RestAt text past r p → NoEnding r.bytes → Stops stop → length (rest_cells line r p ++ stop) < 2 ^ 63 →
@@ -225,7 +225,7 @@ keeps-cells options on line text past r p stop is h k short some = go (kind_at o
         ∙ left-cells options line text past r p stop kind is h k short found.0
         ∙ ap (λ (o : Option HtmlKind). left_by o r.bytes) (sym found.1)
 
--- behind a further one
+-- after a further one
 blind-columns : (f : List ℕ → Bool) → Blind f → (line : Line) (n : ℕ) (p : Point) (cs : List Cell) →
     f (bytes_of (tab_cells line n 32 p ++ cs)) ≡ f (bytes_of cs)
 blind-columns f blind line zero p cs = blind.skips 32 (bytes_of cs) refl
@@ -253,7 +253,7 @@ keeps_on-cells (held_leaf.Html kind) line r p stop h k =
     ap (λ (x : Bool). cond x held_leaf.None (held_leaf.Html kind)) (ends-cells kind line r p stop h k)
 keeps_on-cells _ line r p stop h k = refl
 
--- A further line goes on by the cells where it does by the bytes.
+-- A further line continues by the cells where it does by the bytes.
 pub goes-cells : (on : HeldLeaf) (line : Line) (r : Rest) (p : Point) (stop : List Cell) → NoEnding r.bytes →
     Stops stop → html_goes on (rest_cells line r p ++ stop) ≡ not (ends_in_front on && is_blank r.bytes)
 goes-cells on line r p stop h k =

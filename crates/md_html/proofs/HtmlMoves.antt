@@ -1,4 +1,4 @@
--- A move of HTML as a step of its rule, and what is left of the rule behind a byte of the first line.
+-- A move of HTML as a step of its rule, and what is left of the rule after a byte of the first line.
 use Rattle.std.proofs.Common.{◌≡◌, ℕ, Bool, true, false, cond, nat_eq, List, [], ◌∷◌, ◌++◌, Option, Some, None, refl}
 use Rattle.std.proofs.Common.{sym, ◌∙◌, ap, append_assoc}
 use Rattle.std.specs.Prelude.{◌==◌}
@@ -26,7 +26,7 @@ use Rattle.md_seam.specs.Ahead.{line_bytes}
 
 -- A move.
 
--- what it comes to, here and behind what stands here
+-- what it becomes, here and after what is here
 abbrev pub comes : List ℕ → ParseOptions → List Cell → List Cell → Point → Here → Move → Outcome
 comes text options cells rest q h (Takes state s) =
     html_behaves text options state rest (record h { point = q; scratch = s })
@@ -44,7 +44,7 @@ comes_in feed w m =
     comes w.setting.bytes w.setting.options (feed w.point) (feed (after w.setting w.point)) (after w.setting w.point)
     (here w) m
 
--- a state that comes to what its move comes to takes one step
+-- a state that becomes what its move becomes takes one step
 pub moved-steps : (B : Behaviour) (feed : Feed) (state : HtmlState) (w : World) (m : Move) →
     HasHtml B w.setting.bytes w.setting.options →
     html_behaves w.setting.bytes w.setting.options state (feed w.point) (here w) ≡ comes_in feed w m →
@@ -64,7 +64,7 @@ moved-steps B feed state w (TurnsAs leaf next s) has same =
 moved-steps B feed state w Stops has same =
     passes B feed _ _ w (moved w Stops).world refl refl (has.each state _ _ ∙ same)
 
--- what a state comes to at the end of what is fed, and at a byte, by what it does with what it sees
+-- what a state becomes at the end of what is fed, and at a byte, by what it does with what it sees
 pub record MovesBy (text : List ℕ) (options : ParseOptions) (state : HtmlState) (h : Here) (move : Option ℕ → Move)
     : Type 0 where
   pub none : (rest : List Cell) (q : Point) →
@@ -118,7 +118,7 @@ not-ending t b none e = go (nat_eq b 10) refl
     go true k = let ten : b ≡ 10 = eqb-true b 10 k in let bad : true ≡ false = sym e ∙ ap t ten ∙ none in cc
     go false k = refl
 
--- Behind a byte.
+-- After a byte.
 
 -- what a part keeps is of no matter to the end of a line
 pub closes-taken : (leaf : HeldLeaf) (c : Cell) (cs : List Cell) (h : Here) (s : Scratch) → nat_eq c.byte 10 ≡ false →
@@ -158,7 +158,7 @@ pub opens-same : (line : List ℕ) (cells : List Cell) (h : Here) (s : Scratch) 
 unfolding opens
 opens-same line cells h s same = by-same (allowed h.flags.leaf (html_kind line)) line cells h s same
 
--- so much of the line stands in front
+-- so much of the line is in front
 pub behind-taken : (front : List ℕ) (c : Cell) (cs : List Cell) (h : Here) (s : Scratch) →
     nat_eq c.byte 10 ≡ false → cleared s ≡ cleared h.scratch →
     opens_behind front (c ∷ cs) h ≡

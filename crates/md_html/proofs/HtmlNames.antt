@@ -18,19 +18,19 @@ tag-dark b e = go (nat_lt 32 b) refl
     go true k = grind (arith, nat_tests)
     go false k = grind (arith, nat_tests)
 
--- behind it, a letter is still the first byte
+-- after it, a letter is still the first byte
 letter-kept : (name : List ℕ) (b : ℕ) (o : Option ℕ) → has_letter name (Some b) ≡ true →
     has_letter (name ++ b ∷ []) o ≡ true
 letter-kept [] b o e = e
 letter-kept (c ∷ cs) b o e = e
 
--- what is known of a name in which a state stands
+-- what is known of a name in which a state is
 abbrev pub Within : Position → Type 0
 Within x =
     (x.scratch.start ≤ x.point.index) × (has_letter (name_of x) (seen x) ≡ true) ×
     (list_all is_tag_byte (name_of x) ≡ true)
 
--- it stays behind one more byte of it
+-- it stays after one more byte of it
 pub name-kept : (x : Position) (b : ℕ) → seen x ≡ Some b → is_tag_byte b ≡ true → Within x →
     Within (moved_to x (after x.setting x.point) x.scratch)
 name-kept x b e tag (le, letter, bytes) =
@@ -43,7 +43,7 @@ name-kept x b e tag (le, letter, bytes) =
       ap (list_all is_tag_byte) more ∙ all-more is_tag_byte (name_of x) b bytes tag,
     )
 
--- and where a letter stands here, a name begins
+-- and where a letter is here, a name begins
 pub name-starts : (x : Position) → sees_letter (seen x) ≡ true → x.scratch.start ≡ x.point.index → Within x
 name-starts x e same =
     let none : name_of x ≡ [] =

@@ -1,4 +1,4 @@
--- Each state of HTML in front of the name of a tag takes one step of its rule (CommonMark 4.6).
+-- Each state of HTML before the name of a tag takes one step of its rule (CommonMark 4.6).
 use Rattle.std.proofs.Common.{◌≡◌, ℕ, zero, suc, ◌+◌, ◌-◌, ◌≤◌, Bool, true, false, cond, ◌&&◌, ◌||◌, nat_eq, nat_lt}
 use Rattle.std.proofs.Common.{List, [], ◌∷◌, ◌++◌, None, refl, sym, ◌∙◌, ap, ap₂, arith, append-nil, append_assoc}
 use Rattle.std.specs.Prelude.{◌==◌, codes}
@@ -38,9 +38,9 @@ use Rattle.md_seam.specs.Lent.{lent}
 use Rattle.md_seam.specs.Spaces.{is_current, sees_white, small_indent}
 use Rattle.md_seam.proofs.AheadLemmas.{none-rest, white-no_ending}
 
--- Behind some of the line.
+-- After some of the line.
 
--- what stands here begins no kind
+-- what is here begins no kind
 behind-stops : (front : List ℕ) (t : ℕ → Bool) (cells : List Cell) (h : Here) →
     ((rest : List ℕ) → begins t rest ≡ false → html_kind (front ++ rest) ≡ None) →
     begins t (line_bytes cells) ≡ false → opens_behind front cells h ≡ refuses h
@@ -83,7 +83,7 @@ pub ends-raw : (line : List ℕ) → html_ends Raw line ≡ ends_by 60 line
 unfolding ends_by html_ends
 ends-raw line = refl
 
--- what is open behind the line, where this says whether it holds the end
+-- what is open after the line, where this says whether it holds the end
 left-by : (kind : HtmlKind) (cs : List Cell) (h : Here) (q : Point) (s : Scratch) {x y : Bool} → x ≡ y →
     closes (cond x held_leaf.None (held_leaf.Html kind)) cs
     (record h { point = q; scratch = s; flags = record h.flags { leaf = held_leaf.Html kind } }) ≡
@@ -196,7 +196,7 @@ before-moves text options h = record {
     go c cs false e =
         behind-stops [] (λ (b : ℕ). b == 60) (c ∷ cs) h start-none (begins-line (λ (b : ℕ). b == 60) c cs refl ∙ e)
 
--- Behind `<`.
+-- After `<`.
 
 -- a name begins here
 name-begins : (text : List ℕ) (closing : Bool) (cells : List Cell) (h : Here) (s : Scratch) →
@@ -246,7 +246,7 @@ open-moves text options h = record {
         (begins-line may_open c cs refl
         ∙ ap₂ (λ (x y : Bool). x || y) e (ap₂ (λ (x y : Bool). x || y) f (ap₂ (λ (x y : Bool). x || y) g l)))
 
--- Behind `<!`.
+-- After `<!`.
 
 declaration-moves : (text : List ℕ) (options : ParseOptions) (h : Here) →
     MovesBy text options its.DeclarationOpen h (λ o. by_byte (declaration_byte h.scratch) Stops o)
@@ -298,7 +298,7 @@ comment-moves text options h = record {
         behind-stops (codes "<!-") (λ (b : ℕ). b == 45) (c ∷ cs) h comment-none
         (begins-line (λ (b : ℕ). b == 45) c cs refl ∙ e)
 
--- Behind `<![`, and no more of `CDATA[` than all but its last byte.
+-- After `<![`, and no more of `CDATA[` than all but its last byte.
 
 cdata-apart : (size : ℕ) → size ≤ 5 → nat_eq 10 (cdata_byte size) ≡ false
 cdata-apart zero le = refl
@@ -344,7 +344,7 @@ cdata-moves text options h le = record {
         (λ (rest : List ℕ) k. cdata-none s.size rest le k)
         (begins-line (λ (b : ℕ). b == cdata_byte s.size) c cs (cdata-apart s.size le) ∙ e)
 
--- Behind `</`.
+-- After `</`.
 
 close-moves : (text : List ℕ) (options : ParseOptions) (h : Here) →
     MovesBy text options its.TagCloseStart h (λ o. close_start_move h.scratch h.point.index (sees_letter o))
@@ -362,7 +362,7 @@ close-moves text options h = record {
         behind-stops (codes "</") is_ascii_alphabetic (c ∷ cs) h close-none
         (begins-line is_ascii_alphabetic c cs refl ∙ e)
 
--- Behind the slash of a tag of kind 6.
+-- After the slash of a tag of kind 6.
 
 self-moves : (text : List ℕ) (options : ParseOptions) (h : Here) →
     MovesBy text options its.BasicSelfClosing h (λ o. self_closing_move h.scratch (is_current 62 o))

@@ -136,7 +136,7 @@ wide-optional m d (wider a b bs cs p q h) =
     wide-by _ _ _ _ (optional-none m a bs (no-white m d a p)) (optional-none m b cs (no-white m d b q))
     (wider a b bs cs p q h)
 
--- what follows something, if it stands there
+-- what follows something, if it is there
 abbrev BothWide : Option (List ℕ) → Option (List ℕ) → Type 0
 BothWide None None = Unit {0}
 BothWide None (Some ys) = ⊥

@@ -166,7 +166,7 @@ name_after-moves text options h = record {
 
 -- Its value.
 
--- where no whitespace stands in front of it
+-- where no whitespace is before it
 dark : (c : Cell) (cs : List Cell) → nat_eq c.byte 10 ≡ false → is_white c.byte ≡ false →
     trim_start (line_bytes (c ∷ cs)) ≡ c.byte ∷ line_bytes cs
 dark c cs ne e = ap trim_start (line-more c cs ne) ∙ trim-none (c.byte ∷ line_bytes cs) e
@@ -357,7 +357,7 @@ unquoted_means B feed w has s =
     (λ o. by_byte (unquoted_byte w.scratch) (Turns its.CompleteAttributeNameBefore (cleared w.scratch)) o) has s
     (unquoted-moves _ _ (here w))
 
--- behind a value in quotes
+-- after a value in quotes
 pub quoted_after_means : (B : Behaviour) (feed : Feed) (w : World) → HasHtml B w.setting.bytes w.setting.options →
     Sees feed w →
     Steps B feed (Next (n.HtmlFlow its.CompleteAttributeValueQuotedAfter)) w

@@ -32,7 +32,7 @@ use Rattle.md_html.proofs.HtmlTags.{closes-none, opening-last, opening-slash, op
 use Rattle.md_seam.specs.Ahead.{line_bytes}
 use Rattle.md_seam.specs.Spaces.{is_current}
 
--- What stands behind the name.
+-- What follows the name.
 
 record Behind (o : Option ℕ) (more : List ℕ) : Type 0 where
   pub tag : begins is_tag_byte more ≡ sees_tag_byte o
@@ -85,7 +85,7 @@ and-false : (x : Bool) → x && false ≡ false
 and-false true = refl
 and-false false = refl
 
--- no more of a tag stands in front of what may not follow its name
+-- no more of a tag is before what may not follow its name
 completes-none : (closing : Bool) (more : List ℕ) → ends_name more ≡ false → begins_with 47 more ≡ false →
     completes closing more ≡ false
 completes-none closing more e f = by closing
@@ -103,12 +103,12 @@ completes-none closing more e f = by closing
         opening-last false more (dark more parts.0) (and-false (begins begins_attribute more))
         ∙ ap closes_tag (optional-none 47 more f) ∙ closes-none more parts.1
 
--- behind a slash
+-- after a slash
 completes-slash : (closing : Bool) (bs : List ℕ) → begins_with 62 bs ≡ false → completes closing (47 ∷ bs) ≡ false
 completes-slash true bs e = ap closes_tag (trim-none (47 ∷ bs) refl)
 completes-slash false bs e = opening-slash false bs ∙ closes-none bs e
 
--- The kind, by the name and what stands behind it.
+-- The kind, by the name and what follows it.
 
 abbrev tag_code : Bool → Bool → Bool → Bool → Bool → Bool → Option HtmlKind
 tag_code true raw basic ends self complete =
@@ -153,14 +153,14 @@ code-complete false slash false ends self complete e f = refl
 code-complete false true true ends self complete e f = rw (f refl) refl
 code-complete false false true ends self complete e f = cc
 
--- behind a slash no name ends
+-- after a slash no name ends
 slash-ends : (more : List ℕ) → begins_with 47 more ≡ true → ends_name more ≡ false
 slash-ends [] e = cc
 slash-ends (b ∷ bs) e = let slash : b ≡ 47 = eqb-true b 47 e in rw slash refl
 
 -- The step.
 
--- a name of a tag, with what stands behind it
+-- a name of a tag, with what follows it
 record Named (feed : Feed) (w : World) : Type 0 where
   pub is : IsTagName (name_here w)
   pub behind : Behind w.current (line_bytes (feed w.point))
@@ -178,7 +178,7 @@ kind-here : (feed : Feed) (w : World) → Named feed w →
     (self_ends (more_here feed w)) (completes w.scratch.seen (more_here feed w))
 kind-here feed w d = tag-kind w.scratch.seen (name_here w) (more_here feed w) d.is d.apart
 
--- what may not stand behind a name
+-- what may not be after a name
 stops-here : (feed : Feed) (w : World) → Named feed w → ends_tag_name w.current || is_current 47 w.current ≡ false →
     opens_behind (tag_begin w.scratch.seen ++ name_here w) (feed w.point) (here w) ≡ refuses (here w)
 stops-here feed w d e =
@@ -209,7 +209,7 @@ raw-here feed w d opens raw ends =
     (ap (λ (x : Bool). html_ends Raw ((tag_begin x ++ name_here w) ++ more_here feed w)) opens
     ∙ raw-ends (name_here w) (more_here feed w) d.is ∙ ends-raw (more_here feed w))
 
--- a name of kind 6 in front of a slash
+-- a name of kind 6 before a slash
 slash-here : (feed : Feed) (w : World) → Named feed w → Sees feed w → is_current 47 w.current ≡ true →
     is_basic_name (name_here w) ≡ true →
     opens_behind (tag_begin w.scratch.seen ++ name_here w) (feed w.point) (here w) ≡
@@ -248,7 +248,7 @@ slash-here feed w d s e basic =
     self : self_ends (more_here feed w) ≡ begins_with 62 (line_bytes cs)
     self = ap self_ends line ∙ self-some (line_bytes cs)
 
--- and in front of its end
+-- and before its end
 basic-here : (feed : Feed) (w : World) → Named feed w →
     not w.scratch.seen && not false && is_raw_name (name_here w) ≡ false → ends_name (more_here feed w) ≡ true →
     is_basic_name (name_here w) ≡ true →
@@ -334,7 +334,7 @@ name-takes feed w s sight le e = go w.current sight s.next e
         ∙ ap (λ (l : List ℕ). tag_begin w.scratch.seen ++ l)
         (sym (name-more w.setting w.point b w.scratch.start (tag-dark b e) (sym sight) le)))
 
--- where no more of it stands, a name was read
+-- where no more of it is, a name was read
 name-read : (o : Option ℕ) (name : List ℕ) → has_letter name o ≡ true → list_all is_tag_byte name ≡ true →
     sees_tag_byte o ≡ false → IsTagName name
 name-read None [] e a none = cc

@@ -1,4 +1,4 @@
--- What is left of a tag behind whitespace, a name, an attribute and a value (CommonMark 6.6).
+-- What is left of a tag after whitespace, a name, an attribute and a value (CommonMark 6.6).
 use Rattle.std.proofs.Common.{◌≡◌, ℕ, Bool, true, false, cond, ◌&&◌, ◌||◌, nat_eq, List, [], ◌∷◌, length, Option, Some}
 use Rattle.std.proofs.Common.{None, refl, sym, ◌∙◌, ap, ap₂, arith}
 use Rattle.std.specs.Prelude.{◌==◌}
@@ -20,7 +20,7 @@ trim-white b bs e = after-more is_white b bs e
 pub trim-none : (bytes : List ℕ) → begins is_white bytes ≡ false → trim_start bytes ≡ bytes
 trim-none bytes e = after-same is_white bytes e
 
--- behind whitespace that was taken or not
+-- after whitespace that was taken or not
 pub trim-behind : (seen : Bool) (bytes : List ℕ) → trim_start (behind_white seen bytes) ≡ trim_start bytes
 trim-behind true bytes = trim-white 32 bytes refl
 trim-behind false bytes = refl
@@ -49,7 +49,7 @@ opening-by rest = go (after_attribute rest) refl
     go (Some more) e =
         ap (λ (l : List ℕ). closes_tag (after_optional 47 (trim_start l))) (after_attributes-some rest more e)
 
--- an attribute needs whitespace in front of it
+-- an attribute needs whitespace before it
 attribute-none : (rest : List ℕ) → begins is_white rest && begins begins_attribute (trim_start rest) ≡ false →
     after_attribute rest ≡ None
 unfolding after_attribute
@@ -65,7 +65,7 @@ pub opening-none : (rest : List ℕ) → begins is_white rest && begins begins_a
     ends_opening rest ≡ closes_tag (after_optional 47 (trim_start rest))
 opening-none rest e = opening-by rest ∙ ap (λ (o : Option (List ℕ)). opening_by o rest) (attribute-none rest e)
 
--- it does not matter which whitespace stands there, and how much
+-- it does not matter which whitespace is there, and how much
 attribute-white : (xs ys : List ℕ) → begins is_white xs ≡ true → begins is_white ys ≡ true →
     trim_start xs ≡ trim_start ys → after_attribute xs ≡ after_attribute ys
 unfolding after_attribute
@@ -160,7 +160,7 @@ pub optional-none : (m : ℕ) (bytes : List ℕ) → begins_with m bytes ≡ fal
 optional-none m [] e = refl
 optional-none m (b ∷ bs) e = ap (λ (x : Bool). cond x bs (b ∷ bs)) e
 
--- Behind the name of an attribute.
+-- After the name of an attribute.
 
 assigned : (rest : List ℕ) → begins_with 61 (trim_start rest) ≡ true →
     after_assignment rest ≡ after_value (trim_start (after_optional 61 (trim_start rest)))

@@ -1,4 +1,4 @@
--- HTML stands and ends in any table that has it.
+-- HTML is and ends in any table that has it.
 use Rattle.std.proofs.Common.{◌≡◌, ℕ, ◌<◌, Bool, true, false, cond, ◌&&◌, nat_eq, nat_lt, Option, Some, None, refl}
 use Rattle.std.proofs.Common.{arith, ap, sym, ◌∙◌, inl, inr}
 use Rattle.std.specs.Prelude.{not, ◌||◌}
@@ -39,15 +39,15 @@ pub record HtmlFits (T : Scheme) : Type 1 where
 abbrev Stood : Scheme → World → Type 0
 Stood T w = in_html (position w) (after_all T w.frames)
 
--- something stands here
+-- something is here
 abbrev Inside : World → Type 0
 Inside w = w.point.index < w.setting.limit
 
--- as a test of what stands here shows
+-- as a test of what is here shows
 stands-here : (w : World) (t : Option ℕ → Bool) → w.current ≡ looks w → t None ≡ false → t w.current ≡ true → Inside w
 stands-here w t c end e = seen-in (position w) t end (ap t (sym c) ∙ e)
 
--- Where the next state stands: behind what stands here, or here.
+-- Where the next state is: after what is here, or here.
 
 behind : (T : Scheme) (w : World) (s : Scratch) → Inside w → Stood T w → IsRest (cleared s) →
     in_html (moved_to (position w) (after w.setting w.point) s) (after_all T w.frames)
@@ -59,7 +59,7 @@ here : (T : Scheme) (w : World) (s : Scratch) → Stood T w → IsRest (cleared 
 here T w s r is =
     (is, later IsRest IsRest (position w) (after_all T w.frames) w.point s (stays w.setting.limit w.point) r.1)
 
--- a state is ready behind what stands here; or it is ready here, and nearer to what it takes
+-- a state is ready after what is here; or it is ready here, and nearer to what it takes
 abbrev ReadyBehind : Scheme → World → HtmlState → Scratch → Type 0
 ReadyBehind T w state s =
     Inside w ×
@@ -110,7 +110,7 @@ either : (T : Scheme) (from : HtmlState) (w : World) (x : Bool) (a b : Move) →
     (x ≡ false → Asks T from w b) → Asks T from w (cond x a b)
 either T from w x a b = cond_both x a b (Asks T from w)
 
--- one by what stands here
+-- one by what is here
 by-current : (T : Scheme) (from : HtmlState) (w : World) (f : ℕ → Move) (none : Move) → w.current ≡ looks w →
     ((b : ℕ) → looks w ≡ Some b → Inside w → Asks T from w (f b)) → Asks T from w none →
     Asks T from w (by_byte f none w.current)
@@ -141,7 +141,7 @@ asks_before : (T : Scheme) (w : World) (x : Bool) → (x ≡ true → Inside w) 
 asks_before T w true inside r = (inside refl, behind T w w.scratch (inside refl) r r.0)
 asks_before T w false inside r = tt
 
--- where a letter stands here, a name begins
+-- where a letter is here, a name begins
 name-here : (T : Scheme) (w : World) (s : Scratch) → Stood T w → IsRest (cleared s) → s.start ≡ w.point.index →
     sees_letter (looks w) ≡ true → in_name (moved_to (position w) w.point s) (after_all T w.frames)
 name-here T w s r is same letter =
@@ -352,7 +352,7 @@ text_ends T w false has c r e =
     move_terminates T its.Continuation w (text_move w.scratch (is_current w.scratch.marker w.current)) has r
     (asks_text T w (is_current w.scratch.marker w.current) r (goes-on w c e))
 
--- behind one `-`, or one `]`
+-- after one `-`, or one `]`
 asks_twice : (T : Scheme) (from : HtmlState) (w : World) (x : Bool) →
     3 < (html_rank (n.HtmlFlow from) (position w)).number → (x ≡ true → Inside w) → IsStop w.scratch.marker →
     Stood T w → Asks T from w (twice_move w.scratch x)
@@ -375,7 +375,7 @@ raw_open_ends T w false has c m r e =
     move_terminates T its.ContinuationRawTagOpen w (Turns its.Continuation w.scratch) has r
     (here T w w.scratch r r.0, omega arith)
 
--- a letter goes on the name
+-- a letter continues the name
 letter-taken : (w : World) (o : Option ℕ) → w.current ≡ looks w → w.current ≡ o → sees_letter o ≡ true →
     in_letters (position w) → in_letters (position (taken w))
 letter-taken w None c here e at = cc

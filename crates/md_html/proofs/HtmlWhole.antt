@@ -23,7 +23,7 @@ use Rattle.md_seam.specs.Ahead.{from_ending, line_bytes, line_end, white_rest}
 use Rattle.md_seam.specs.Spaces.{IsRest, small_indent}
 use Rattle.md_seam.proofs.SpacesTermination.{rest-size}
 
--- a line that is taken to its end, by what it adds, and what is open behind it
+-- a line that is taken to its end, by what it adds, and what is open after it
 abbrev pub line_taken : List Event → HeldLeaf → List Cell → Here → Outcome
 line_taken added leaf cells h =
     Accepts
@@ -94,7 +94,7 @@ ends-kind Basic line e = cc
 ends-kind Complete line e = cc
 ends-kind _ line e = refl
 
--- and no line holds the end of one that ends in front of a blank line
+-- and no line holds the end of one that ends before a blank line
 pub ends-never : (kind : HtmlKind) (line : List ℕ) → ends_at_blank kind ≡ true → html_ends kind line ≡ false
 unfolding html_ends
 ends-never Basic line e = refl
@@ -107,7 +107,7 @@ unfolding html_ends
 ends-empty Raw = refl
 ends-empty _ = refl
 
--- so what is open behind a line stays open where no end stands on it, as in one of the last two kinds, or an empty one
+-- so what is open after a line stays open where no end is on it, as in one of the last two kinds, or an empty one
 keeps-front : (leaf : HeldLeaf) (line : List ℕ) → is_html leaf ≡ true → ends_in_front leaf ≡ true →
     left_of leaf line ≡ leaf
 keeps-front (held_leaf.Html kind) line on e = rw (ends-never kind line e) refl
@@ -129,7 +129,7 @@ text-goes : (line : List ℕ) → is_blank line ≡ false → is_end line ≡ fa
 text-goes [] e = cc
 text-goes (b ∷ bytes) e = refl
 
--- a line with text is taken behind its begin, and so is an empty one
+-- a line with text is taken after its begin, and so is an empty one
 text-taken : (leaf : HeldLeaf) (cells : List Cell) (h : Here) → IsRest h.scratch →
     is_end (line_bytes cells) ≡ false →
     closes leaf cells (entering (further_begun h)) ≡ line_taken (html_adds_on cells h.point) leaf cells h
@@ -140,7 +140,7 @@ end-taken : (cells : List Cell) (h : Here) → IsRest h.scratch → is_end (line
 end-taken cells h is e =
     let end = ended cells e in rw (e, end.line, end.ending, clear h.scratch is) (simp append_assoc)
 
--- what it comes to, by whether its kind ends in front of a blank line, whether it is blank, and whether it is empty
+-- what it becomes, by whether its kind ends before a blank line, whether it is blank, and whether it is empty
 further-blank : (cells : List Cell) (h : Here) → ends_in_front h.flags.leaf ≡ true →
     is_blank (line_bytes cells) ≡ true → further_at cells h ≡ Refuses (cleared h.scratch) h.flags
 unfolding further_at nonblank_at
@@ -165,7 +165,7 @@ further-line : (cells : List Cell) (h : Here) → ends_in_front h.flags.leaf ≡
 unfolding further_at line_at
 further-line cells h e k = rw (e, k) refl
 
--- a blank one is refused where its kind ends in front of it,
+-- a blank one is refused where its kind ends before it,
 pub further-refused : (cells : List Cell) (h : Here) → IsRest h.scratch → html_goes h.flags.leaf cells ≡ false →
     further_at cells h ≡ Refuses h.scratch h.flags
 further-refused cells h is e =

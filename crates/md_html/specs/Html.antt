@@ -24,7 +24,7 @@ use Rattle.md_seam.specs.Lent.{lent}
 use Rattle.md_seam.specs.Spaces.{IsRest, ends_line, is_current, rest_ready, sees_white, small_indent}
 use Rattle.md_seam.specs.Transition.{Transition, entered, entered_link, exited, taken}
 
--- what may stand first behind the indent
+-- what may be first after the indent
 abbrev pub may_begin : ℕ → Bool
 may_begin b = b == 60
 
@@ -33,7 +33,7 @@ abbrev pub is_html : HeldLeaf → Bool
 is_html (held_leaf.Html kind) = true
 is_html _ = false
 
--- whether it ends in front of a blank line
+-- whether it ends before a blank line
 abbrev pub ends_in_front : HeldLeaf → Bool
 ends_in_front (held_leaf.Html kind) = ends_at_blank kind
 ends_in_front _ = false
@@ -70,8 +70,8 @@ cdata_byte _ = 91
 abbrev pub cleared : Scratch → Scratch
 cleared s = record s { marker = 0; size = 0; start = 0; seen = false }
 
--- What a state does with what stands here: it takes it, or goes on here, to a state with this scratch; the same where
--- the leaf is known then; or it refuses.
+-- What a state does with what is here: it takes it, or continues here, to a state with this scratch; the same where the
+-- leaf is known then; or it refuses.
 pub data Move : Type 0 where
   Takes : HtmlState → Scratch → Move
   Turns : HtmlState → Scratch → Move
@@ -96,7 +96,7 @@ moved w Stops = record { to = Nok; world = record w { scratch = cleared w.scratc
 abbrev pub marked : ℕ → Scratch → Scratch
 marked m s = record (cleared s) { marker = m }
 
--- the kind is known: behind what stands here, or here
+-- the kind is known: after what is here, or here
 abbrev pub takes_as : HtmlKind → HtmlState → Scratch → Move
 takes_as kind state s = TakesAs (held_leaf.Html kind) state (marked (stop_byte kind) s)
 
@@ -107,7 +107,7 @@ turns_as kind state s = TurnsAs (held_leaf.Html kind) state (marked (stop_byte k
 abbrev pub shut : Scratch → Move
 shut s = TakesAs held_leaf.None its.ContinuationClose (cleared s)
 
--- by what stands here
+-- by what is here
 abbrev pub by_byte : (ℕ → Move) → Move → Option ℕ → Move
 by_byte f none None = none
 by_byte f none (Some b) = f b
@@ -119,7 +119,7 @@ start_code w true =
     record { to = Retry (n.HtmlFlow its.Indent); world = entered (entered w HtmlFlow) HtmlFlowData }
 start_code w false = record { to = Nok; world = w }
 
--- by whether whitespace stands here, and there is room for it
+-- by whether whitespace is here, and there is room for it
 abbrev pub indent_move : Scratch → Bool → Move
 indent_move s true = Takes its.Indent (record s { size = s.size + 1 })
 indent_move s false = Turns its.Before (cleared s)
@@ -128,7 +128,7 @@ abbrev pub before_move : Scratch → Bool → Move
 before_move s true = Takes its.Open s
 before_move s false = Stops
 
--- behind `<`: `!`, `/`, `?`, or a letter
+-- after `<`: `!`, `/`, `?`, or a letter
 abbrev pub open_byte : Scratch → ℕ → ℕ → Move
 open_byte s index b =
     if b == 33 then Takes its.DeclarationOpen s
@@ -137,7 +137,7 @@ open_byte s index b =
     else if is_ascii_alphabetic b then Turns its.TagName (record (cleared s) { start = index })
     else Stops
 
--- behind `<!`: `-`, `[`, or a letter
+-- after `<!`: `-`, `[`, or a letter
 abbrev pub declaration_byte : Scratch → ℕ → Move
 declaration_byte s b =
     if b == 45 then Takes its.CommentOpenInside s
@@ -145,18 +145,18 @@ declaration_byte s b =
     else if is_ascii_alphabetic b then takes_as Declaration its.Continuation s
     else Stops
 
--- behind `<!-`, by whether `-` stands here
+-- after `<!-`, by whether `-` is here
 abbrev pub comment_move : Scratch → Bool → Move
 comment_move s true = takes_as Comment its.ContinuationDeclarationInside s
 comment_move s false = Stops
 
--- behind `<![`, by whether the next byte of `CDATA[` stands here, and whether it is not the last one
+-- after `<![`, by whether the next byte of `CDATA[` is here, and whether it is not the last one
 abbrev pub cdata_move : Scratch → Bool → Bool → Move
 cdata_move s true true = Takes its.CdataOpenInside (record s { size = s.size + 1 })
 cdata_move s true false = takes_as Cdata its.Continuation s
 cdata_move s false more = Stops
 
--- behind `</`, by whether a letter stands here
+-- after `</`, by whether a letter is here
 abbrev pub close_start_move : Scratch → ℕ → Bool → Move
 close_start_move s index true = Turns its.TagName (record (cleared s) { start = index; seen = true })
 close_start_move s index false = Stops
@@ -174,7 +174,7 @@ name_here w = name_text w.setting.bytes w.scratch w.point.index
 abbrev pub are_letters : List ℕ → Bool
 are_letters name = list_all is_ascii_alphabetic name
 
--- what may stand behind one: a slash, or the end of the line, whitespace or `>`
+-- what may be after one: a slash, or the end of the line, whitespace or `>`
 abbrev pub ends_tag_name : Option ℕ → Bool
 ends_tag_name o = ends_line o || sees_white o || is_current 62 o
 
@@ -185,12 +185,12 @@ complete_name_code s closing true = Stops
 complete_name_code s true false = Turns its.CompleteClosingTagAfter (cleared s)
 complete_name_code s false false = Turns its.CompleteAttributeNameBefore (cleared s)
 
--- by whether a slash stands behind the name of kind 6
+-- by whether a slash is after the name of kind 6
 abbrev pub basic_name_code : Scratch → Bool → Move
 basic_name_code s true = Takes its.BasicSelfClosing (cleared s)
 basic_name_code s false = turns_as Basic its.ContinuationClose s
 
--- the whole name is known: by whether it is one of kind 1 that an opening tag has with no slash behind it, and whether
+-- the whole name is known: by whether it is one of kind 1 that an opening tag has with no slash after it, and whether
 -- it is one of kind 6
 abbrev pub name_code : Scratch → HeldLeaf → Bool → Bool → Bool → Move
 name_code s leaf slash true basic = turns_as Raw its.Continuation s
@@ -203,30 +203,30 @@ name_move w =
     name_code w.scratch w.flags.leaf slash (not w.scratch.seen && not slash && is_raw_name (name_here w))
     (is_basic_name (name_here w))
 
--- by whether a byte of a name stands here, and whether it may end here
+-- by whether a byte of a name is here, and whether it may end here
 abbrev pub tag_name_move : World → Bool → Bool → Move
 tag_name_move w true ends = Takes its.TagName w.scratch
 tag_name_move w false true = name_move w
 tag_name_move w false false = Stops
 
--- whether a byte of a name stands here
+-- whether a byte of a name is here
 abbrev pub sees_tag_byte : Option ℕ → Bool
 sees_tag_byte None = false
 sees_tag_byte (Some b) = is_tag_byte b
 
--- behind `/` of a tag of kind 6, by whether `>` stands here
+-- after `/` of a tag of kind 6, by whether `>` is here
 abbrev pub self_closing_move : Scratch → Bool → Move
 self_closing_move s true = TakesAs (held_leaf.Html Basic) its.ContinuationClose (cleared s)
 self_closing_move s false = Stops
 
 -- The rest of a complete tag.
 
--- behind the name of a closing tag, by whether whitespace stands here
+-- after the name of a closing tag, by whether whitespace is here
 abbrev pub closing_move : Scratch → Bool → Move
 closing_move s true = Takes its.CompleteClosingTagAfter s
 closing_move s false = Turns its.CompleteEnd s
 
--- before an attribute, of which whitespace has to stand in front
+-- before an attribute, of which whitespace has to be in front
 abbrev pub name_before_byte : Scratch → ℕ → Move
 name_before_byte s b =
     if is_white b then Takes its.CompleteAttributeNameBefore (record s { seen = true })
@@ -239,7 +239,7 @@ abbrev pub name_byte : Scratch → ℕ → Move
 name_byte s b =
     if is_attribute_byte b then Takes its.CompleteAttributeName s else Turns its.CompleteAttributeNameAfter (cleared s)
 
--- behind its name: whitespace, which may stand in front of the next attribute, or `=`
+-- after its name: whitespace, which may be before the next attribute, or `=`
 abbrev pub name_after_byte : Scratch → ℕ → Move
 name_after_byte s b =
     if is_white b then Takes its.CompleteAttributeNameAfter (record s { seen = true })
@@ -268,12 +268,12 @@ unquoted_byte s b =
     if not (b == 10) && is_value_byte b then Takes its.CompleteAttributeValueUnquoted s
     else Turns its.CompleteAttributeNameBefore (cleared s)
 
--- at the end of the tag, by whether `>` stands here
+-- at the end of the tag, by whether `>` is here
 abbrev pub end_move : Scratch → Bool → Move
 end_move s true = Takes its.CompleteAfter s
 end_move s false = Stops
 
--- behind it, by whether the line ends here, and whether whitespace stands here
+-- after it, by whether the line ends here, and whether whitespace is here
 abbrev pub complete_after_move : Scratch → Bool → Bool → Move
 complete_after_move s true white = turns_as Complete its.ContinuationClose s
 complete_after_move s false true = Takes its.CompleteAfter s
@@ -285,7 +285,7 @@ complete_after_move s false false = Stops
 abbrev pub data_ended : World → Transition
 data_ended w = record { to = Retry (n.HtmlFlow its.ContinuationAfter); world = exited w HtmlFlowData }
 
--- behind the byte with which an end may begin
+-- after the byte with which an end may begin
 abbrev pub stop_move : Scratch → Move
 stop_move s =
     if s.marker == 60 then Takes its.ContinuationRawTagOpen s
@@ -294,7 +294,7 @@ stop_move s =
     else if s.marker == 93 then Takes its.ContinuationCdataInside s
     else shut s
 
--- by whether this byte stands here
+-- by whether this byte is here
 abbrev pub text_move : Scratch → Bool → Move
 text_move s true = stop_move s
 text_move s false = Takes its.Continuation s
@@ -304,12 +304,12 @@ abbrev pub continuation_code : World → Bool → Transition
 continuation_code w true = data_ended w
 continuation_code w false = moved w (text_move w.scratch (is_current w.scratch.marker w.current))
 
--- behind one `-`, or one `]`, by whether another stands here
+-- after one `-`, or one `]`, by whether another is here
 abbrev pub twice_move : Scratch → Bool → Move
 twice_move s true = Takes its.ContinuationDeclarationInside s
 twice_move s false = Turns its.Continuation s
 
--- behind `<`, by whether a slash stands here: a name begins behind it
+-- after `<`, by whether a slash is here: a name begins after it
 abbrev pub raw_open_code : World → Bool → Transition
 raw_open_code w true = record {
   to = Next (n.HtmlFlow its.ContinuationRawEndTag);
@@ -317,7 +317,7 @@ raw_open_code w true = record {
 }
 raw_open_code w false = moved w (Turns its.Continuation w.scratch)
 
--- in this name, by whether a letter stands here, and whether `>` does behind a name of kind 1
+-- in this name, by whether a letter is here, and whether `>` does after a name of kind 1
 abbrev pub raw_end_move : Scratch → Bool → Bool → Move
 raw_end_move s true ends = Takes its.ContinuationRawEndTag s
 raw_end_move s false true = shut s
@@ -327,13 +327,13 @@ abbrev pub sees_letter : Option ℕ → Bool
 sees_letter None = false
 sees_letter (Some b) = is_ascii_alphabetic b
 
--- behind all of an end but its last byte, by whether `>` stands here, and whether the byte with which it begins does
+-- after all of an end but its last byte, by whether `>` is here, and whether the byte with which it begins does
 abbrev pub inside_move : Scratch → Bool → Bool → Move
 inside_move s true again = shut s
 inside_move s false true = Takes its.ContinuationDeclarationInside s
 inside_move s false false = Turns its.Continuation s
 
--- behind an end, or where none may stand: by whether the line ends here
+-- after an end, or where none may be: by whether the line ends here
 abbrev pub close_code : World → Bool → Transition
 close_code w true = data_ended w
 close_code w false = moved w (Takes its.ContinuationClose w.scratch)
@@ -358,7 +358,7 @@ line_before_code w false = record {
   world = record (entered w HtmlFlowData) { scratch = marked (stop_of w.flags.leaf) w.scratch };
 }
 
--- in a line of which nothing but whitespace was read yet, by whether it ends here, and whether whitespace stands here
+-- in a line of which nothing but whitespace was read yet, by whether it ends here, and whether whitespace is here
 abbrev pub blank_move : Scratch → Bool → Bool → Move
 blank_move s true white = Stops
 blank_move s false true = Takes its.BlankLineBefore s
@@ -441,7 +441,7 @@ continuation_transition w = continuation_code w (ends_line w.current)
 abbrev pub continuation_start_transition : World → Transition
 continuation_start_transition w = further_code w (ends_in_front w.flags.leaf)
 
--- in front of a further line of the first five kinds, where its ending before it is taken already
+-- before a further line of the first five kinds, where its ending before it is taken already
 abbrev pub continuation_start_non_lazy_transition : World → Transition
 continuation_start_non_lazy_transition w = record { to = Retry (n.HtmlFlow its.ContinuationBefore); world = w }
 
@@ -510,11 +510,11 @@ html_transition its.ContinuationClose w = continuation_close_transition w
 html_transition its.ContinuationAfter w = continuation_after_transition w
 html_transition its.BlankLineBefore w = blank_line_before_transition w
 
--- each state needs no more than to see what stands at its point
+-- each state needs no more than to see what is at its point
 abbrev pub HtmlNeeds : StateName → World → Type 0
 HtmlNeeds name w = Unit {0}
 
--- Where its states stand.
+-- Where its states are.
 
 -- at rest but for what a part keeps
 abbrev pub in_html : Position → After → Type 0
@@ -524,7 +524,7 @@ in_html x K = IsRest (cleared x.scratch) × Ends IsRest IsRest x K
 abbrev pub name_of : Position → List ℕ
 name_of x = name_text x.setting.bytes x.scratch x.point.index
 
--- a letter comes first of it, or stands here
+-- a letter comes first of it, or is here
 abbrev pub has_letter : List ℕ → Option ℕ → Bool
 has_letter [] o = sees_letter o
 has_letter (b ∷ bs) o = is_ascii_alphabetic b
@@ -541,7 +541,7 @@ abbrev pub in_letters : Position → Type 0
 in_letters x =
     (x.scratch.start ≤ x.point.index) × (are_letters (name_text x.setting.bytes x.scratch x.point.index) ≡ true)
 
--- behind the byte with which an end begins, or more of it
+-- after the byte with which an end begins, or more of it
 abbrev pub behind_stop : ℕ → Position → After → Type 0
 behind_stop m x K = (x.scratch.marker ≡ m) × in_html x K
 

@@ -1,4 +1,4 @@
--- A line of HTML as a whole, by its cells: whether it is taken, what it adds, and what is open behind it.
+-- A line of HTML as a whole, by its cells: whether it is taken, what it adds, and what is open after it.
 use Rattle.std.specs.Prelude.{ℕ, Bool, ◌&&◌, not, if◌then◌else◌, List, [], ◌∷◌, ◌++◌, Option, Some, None}
 use Rattle.md_engine.specs.declared.configuration.ParseOptions.{ParseOptions}
 use Rattle.md_engine.specs.declared.event.Event.{Event}
@@ -28,7 +28,7 @@ abbrev pub kind_at : ParseOptions → HeldLeaf → List Cell → Option HtmlKind
 kind_at options on cells =
     if options.constructs.html_flow then allowed on (html_kind (behind_indent options cells)) else None
 
--- what is open behind the line
+-- what is open after the line
 abbrev pub left_by : Option HtmlKind → List ℕ → HeldLeaf
 left_by None line = held_leaf.None
 left_by (Some kind) line = left kind line
@@ -42,11 +42,11 @@ html_adds cells p = around HtmlFlow p (line_end cells p) (pair HtmlFlowData p (l
 
 -- A further line.
 
--- whether it goes on this leaf
+-- whether it continues this leaf
 abbrev pub html_goes : HeldLeaf → List Cell → Bool
 html_goes on cells = not (ends_in_front on && is_blank (line_bytes cells))
 
--- what is open behind it
+-- what is open after it
 abbrev pub left_of : HeldLeaf → List ℕ → HeldLeaf
 left_of (held_leaf.Html kind) line = left kind line
 left_of _ line = held_leaf.None

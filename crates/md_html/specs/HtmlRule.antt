@@ -29,7 +29,7 @@ use Rattle.md_seam.specs.Spaces.{small_indent}
 abbrev pub entering : Here → Here
 entering h = record h { events = h.events ++ enter HtmlFlowData h.point ∷ [] }
 
--- a line is taken to its end, and this is open behind it
+-- a line is taken to its end, and this is open after it
 abbrev pub closes : HeldLeaf → List Cell → Here → Outcome
 closes leaf cells h =
     let q = line_end cells h.point in
@@ -52,7 +52,7 @@ abbrev pub allowed : HeldLeaf → Option HtmlKind → Option HtmlKind
 allowed on (Some Complete) = if is_open_text on then None else Some Complete
 allowed on kind = kind
 
--- what is open behind a line of a kind, by the line
+-- what is open after a line of a kind, by the line
 abbrev pub left : HtmlKind → List ℕ → HeldLeaf
 left kind line = if html_ends kind line then held_leaf.None else held_leaf.Html kind
 
@@ -64,11 +64,11 @@ opens_by (Some kind) line cells h = closes (left kind line) cells h
 unfoldable pub opens : List ℕ → List Cell → Here → Outcome
 opens line cells h = opens_by (allowed h.flags.leaf (html_kind line)) line cells h
 
--- behind so much of the line from its `<` on
+-- after so much of the line from its `<` on
 abbrev pub opens_behind : List ℕ → List Cell → Here → Outcome
 opens_behind front cells h = opens (front ++ line_bytes cells) cells h
 
--- in the indent: so many columns may stand there
+-- in the indent: so many columns may be there
 abbrev pub in_indent : ParseOptions → List Cell → Here → Outcome
 in_indent options cells h = opens (line_bytes (white_rest (small_indent options - h.scratch.size) cells)) cells h
 
@@ -92,19 +92,19 @@ abbrev pub tag_by : HtmlKind → Bool → List Cell → Here → Outcome
 tag_by kind true cells h = closes (held_leaf.Html kind) cells h
 tag_by kind false cells h = refuses h
 
--- behind whitespace, if some was taken
+-- after whitespace, if some was taken
 abbrev pub behind_white : Bool → List ℕ → List ℕ
 behind_white true bytes = 32 ∷ bytes
 behind_white false bytes = bytes
 
--- whether the rest of an opening tag follows what this comes to
+-- whether the rest of an opening tag follows what this becomes
 abbrev pub then_opening : Option (List ℕ) → Bool
 then_opening None = false
 then_opening (Some more) = ends_opening more
 
 -- The text of a line.
 
--- whether an end that begins with this byte stands somewhere in the line
+-- whether an end that begins with this byte is somewhere in the line
 unfoldable pub ends_by : ℕ → List ℕ → Bool
 ends_by m line =
     if m == 60 then html_ends Raw line
@@ -113,7 +113,7 @@ ends_by m line =
     else if m == 93 then html_ends Cdata line
     else holds_word (m ∷ []) line
 
--- behind so much of it
+-- after so much of it
 abbrev pub goes_on : List ℕ → List Cell → Here → Outcome
 goes_on front cells h =
     closes (if ends_by h.scratch.marker (front ++ line_bytes cells) then held_leaf.None else h.flags.leaf) cells h

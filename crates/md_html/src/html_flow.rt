@@ -17,8 +17,8 @@
 //     value       ::= '"' *any '"' | "'" *any "'" | 1*value_byte
 //
 // The first five kinds end with the line that holds their end (`</pre>` or one of the like, `-->`, `?>`, `>`, `]]>`),
-// which may be the first, the other two in front of a blank line. The last kind never begins against open text, unless
-// the line is lazy.
+// which may be the first, the other two before a blank line. The last kind never begins against open text, unless the
+// line is lazy.
 //
 // A block is read one line at a time: `start` is the first state of its first line, `continuation_start` that of each
 // further line. What is kept between them is `HeldLeaf::Html`. Each line is an `HtmlFlow` of its own, a further one
@@ -79,7 +79,7 @@ pub fn is_html(leaf: HeldLeaf) -> bool
     matches!(leaf, HeldLeaf::Html { .. })
 }
 
-/// Whether HTML may begin here, by what stands first behind whitespace: `<`, if that is known.
+/// Whether HTML may begin here, by what is first after whitespace: `<`, if that is known.
 pub fn may_begin(first: Option<u8>) -> bool
     ensures { result ≡ may_with may_begin first }
 {
@@ -132,7 +132,7 @@ pub fn indent(tokenizer: &mut Tokenizer) -> State
     }
 }
 
-/// Behind the indent, at `<`.
+/// After the indent, at `<`.
 ///
 /// ```markdown
 /// > | <x />
@@ -153,7 +153,7 @@ pub fn before(tokenizer: &mut Tokenizer) -> State
     }
 }
 
-/// Behind `<`.
+/// After `<`.
 ///
 /// ```markdown
 /// > | <x />
@@ -196,7 +196,7 @@ pub fn open(tokenizer: &mut Tokenizer) -> State
     }
 }
 
-/// Behind `<!`.
+/// After `<!`.
 ///
 /// ```markdown
 /// > | <!doctype>
@@ -231,7 +231,7 @@ pub fn declaration_open(tokenizer: &mut Tokenizer) -> State
     }
 }
 
-/// Behind `<!-`.
+/// After `<!-`.
 ///
 /// ```markdown
 /// > | <!--x-->
@@ -255,7 +255,7 @@ pub fn comment_open_inside(tokenizer: &mut Tokenizer) -> State
     }
 }
 
-/// Behind `<![`, and some of `CDATA[`.
+/// After `<![`, and some of `CDATA[`.
 ///
 /// ```markdown
 /// > | <![CDATA[x]]>
@@ -279,7 +279,7 @@ pub fn cdata_open_inside(tokenizer: &mut Tokenizer) -> State
     }
 }
 
-/// Behind `</`, at a tag name.
+/// After `</`, at a tag name.
 ///
 /// ```markdown
 /// > | </x>
@@ -304,7 +304,7 @@ pub fn tag_close_start(tokenizer: &mut Tokenizer) -> State
     }
 }
 
-/// Behind a name of the sixth kind.
+/// After a name of the sixth kind.
 fn basic_name(tokenizer: &mut Tokenizer) -> State
     requires { (world tokenizer.old).current ≡ looks (world tokenizer.old) }
     ensures to { result ≡
@@ -323,7 +323,7 @@ fn basic_name(tokenizer: &mut Tokenizer) -> State
     }
 }
 
-/// Behind a name of no other kind.
+/// After a name of no other kind.
 fn complete_name(tokenizer: &mut Tokenizer) -> State
     ensures to { result ≡
         (moved (world tokenizer.old)
@@ -346,7 +346,7 @@ fn complete_name(tokenizer: &mut Tokenizer) -> State
     }
 }
 
-/// Behind a whole name, of which the kind tells how to go on.
+/// After a whole name, of which the kind shows how to continue.
 #[inline(always)]
 fn name_ended(tokenizer: &mut Tokenizer) -> State
     requires { (world tokenizer.old).current ≡ looks (world tokenizer.old) }
@@ -389,7 +389,7 @@ pub fn tag_name(tokenizer: &mut Tokenizer) -> State
     }
 }
 
-/// Behind the slash of a tag of the sixth kind.
+/// After the slash of a tag of the sixth kind.
 ///
 /// ```markdown
 /// > | <div/>
@@ -433,7 +433,7 @@ fn at_stop(tokenizer: &mut Tokenizer) -> State
     State::Next(StateName::HtmlFlow(state))
 }
 
-/// In a line of the first five kinds, whose end may stand on it.
+/// In a line of the first five kinds, whose end may be on it.
 ///
 /// ```markdown
 /// > | <!--xxx-->
@@ -462,7 +462,7 @@ pub fn continuation(tokenizer: &mut Tokenizer) -> State
     }
 }
 
-/// Before a further line, which goes on the block of the line before.
+/// Before a further line, which continues the block of the line before.
 ///
 /// ```markdown
 ///   | <x>
@@ -489,7 +489,7 @@ pub fn continuation_start(tokenizer: &mut Tokenizer) -> State
     }
 }
 
-/// Before a further line of the first five kinds that is not lazy. The ending in front of it was taken by flow, so that
+/// Before a further line of the first five kinds that is not lazy. The ending before it was taken by flow, so that
 /// nothing is left to do here, and the line continues with `continuation_before`.
 ///
 /// ```markdown
@@ -534,7 +534,7 @@ pub fn continuation_before(tokenizer: &mut Tokenizer) -> State
     }
 }
 
-/// In a comment, behind one `-`.
+/// In a comment, after one `-`.
 ///
 /// ```markdown
 /// > | <!--xxx-->
@@ -555,7 +555,7 @@ pub fn continuation_comment_inside(tokenizer: &mut Tokenizer) -> State
     }
 }
 
-/// In the first kind, behind `<`.
+/// In the first kind, after `<`.
 ///
 /// ```markdown
 /// > | <script>x</script>
@@ -577,7 +577,7 @@ pub fn continuation_raw_tag_open(tokenizer: &mut Tokenizer) -> State
     }
 }
 
-/// In the first kind, behind `</`, in a name.
+/// In the first kind, after `</`, in a name.
 ///
 /// ```markdown
 /// > | <script>x</script>
@@ -601,7 +601,7 @@ pub fn continuation_raw_end_tag(tokenizer: &mut Tokenizer) -> State
     }
 }
 
-/// In CDATA, behind one `]`.
+/// In CDATA, after one `]`.
 ///
 /// ```markdown
 /// > | <![CDATA[x]]>
@@ -622,7 +622,7 @@ pub fn continuation_cdata_inside(tokenizer: &mut Tokenizer) -> State
     }
 }
 
-/// Behind all of an end but its `>`: more of the byte with which it begins may follow.
+/// After all of an end but its `>`: more of the byte with which it begins may follow.
 ///
 /// ```markdown
 /// > | <!--xxx-->
@@ -648,7 +648,7 @@ pub fn continuation_declaration_inside(tokenizer: &mut Tokenizer) -> State
     }
 }
 
-/// Behind an end, or in a line of the last two kinds: the rest of the line.
+/// After an end, or in a line of the last two kinds: the rest of the line.
 ///
 /// ```markdown
 /// > | <!doctype> x

@@ -1,4 +1,4 @@
--- ATX headings: what stands on their lines, and their laws.
+-- ATX headings: what is on their lines, and their laws.
 pub mod Cells
 pub mod Endings
 pub mod Found

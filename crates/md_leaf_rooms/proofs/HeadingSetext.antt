@@ -1,4 +1,4 @@
--- The underline of a setext heading: what stands on its line, and its laws.
+-- The underline of a setext heading: what is on its line, and its laws.
 pub mod Bytes
 pub mod Kinds
 pub mod Laws

@@ -1,4 +1,4 @@
--- Lines of runs of one marker and of whitespace, behind a small indent: thematic breaks, and underlines of setext
+-- Lines of runs of one marker and of whitespace, after a small indent: thematic breaks, and underlines of setext
 -- headings.
 pub mod Cells
 pub mod Line

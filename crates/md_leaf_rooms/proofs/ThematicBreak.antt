@@ -1,4 +1,4 @@
--- Thematic breaks: what stands on their lines, and their laws.
+-- Thematic breaks: what is on their lines, and their laws.
 pub mod Facts
 pub mod Found
 pub mod Kinds

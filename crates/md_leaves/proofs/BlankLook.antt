@@ -1,4 +1,4 @@
--- A line is blank where it ends, and it is not where another byte than its ending stands first behind whitespace.
+-- A line is blank where it ends, and it is not where another byte than its ending is first after whitespace.
 use Rattle.std.proofs.Common.{◌≡◌, ℕ, nat_eq, Some, Bool, true, false, cond, List, [], ◌∷◌, refl, ap, append-nil, arith}
 use Rattle.std.proofs.lemmas.Bool.Decides.{nat_tests}
 use Rattle.md_engine.specs.declared.event.Event.{Event}

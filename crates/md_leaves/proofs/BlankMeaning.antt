@@ -24,7 +24,7 @@ use Rattle.md_seam.specs.Spaces.{IsRest, any_size, asking, calmed, ends_line, se
 use Rattle.md_seam.proofs.WhiteMeaning.{begins-seen, behind_white, white-tried}
 use Rattle.md_seam.proofs.AheadLemmas.{white-no_ending}
 
--- behind whitespace that began here, with these events before it
+-- after whitespace that began here, with these events before it
 abbrev went_on : List Event → Here → ℕ → List Cell → Here
 went_on events h room cells = record h {
   events = events ++ exit SpaceOrTab (white_end room cells h.point) ∷ [];
@@ -39,7 +39,7 @@ blank_left events cells h =
     (from_ending cells))
     (Refuses h.scratch h.flags)
 
--- the rest of a line whose whitespace has begun is blank if the line ends behind the whitespace
+-- the rest of a line whose whitespace has begun is blank if the line ends after the whitespace
 blank-run : (room : ℕ) (events : List Event) (cells : List Cell) (h : Here) → length cells ≤ room →
     blank_left events cells h ≡ after_blank (white_rest room cells) (went_on events h room cells)
 unfolding after_blank
@@ -63,7 +63,7 @@ begun : (cells : List Cell) (h : Here) → begins_white cells ≡ true →
 unfolding blank_at
 begun cells h s = rw s (simp append_assoc)
 
--- what an attempt at whitespace without limit comes to
+-- what an attempt at whitespace without limit becomes
 blank-white : (B : Behaviour) (feed : Feed) (has : HasBlank B) (cells : List Cell) (h : Here) (f : Frame)
     (events : List Event) →
     length cells < 2 ^ 63 → begins_white cells ≡ true → IsRest h.scratch →

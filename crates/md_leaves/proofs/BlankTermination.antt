@@ -1,4 +1,4 @@
--- A blank line stands and ends in any table that has it.
+-- A blank line is and ends in any table that has it.
 use Rattle.std.proofs.Common.{Bool, true, false, refl, arith}
 use Rattle.md_engine.specs.declared.state.Name.TheVariants as n
 use Rattle.md_engine.specs.declared.state.blank_line.State.{State as BlankState}

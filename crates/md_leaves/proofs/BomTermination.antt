@@ -1,4 +1,4 @@
--- The byte order mark stands and ends in any table that has it.
+-- The byte order mark is and ends in any table that has it.
 use Rattle.std.proofs.Common.{◌≡◌, ◌<◌, Bool, true, false, nat_lt, refl, arith, ap, sym}
 use Rattle.std.proofs.lemmas.Bool.Decides.{nat_tests}
 use Rattle.md_engine.specs.declared.event.Name.TheVariants as parts

@@ -73,7 +73,7 @@ white-apart c m s k = go (nat_eq c m) refl
     go false e = refl
     go true e = let same : is_white m ≡ true = rw (eqb-true c m e) at s in let bad : true ≡ false = sym same ∙ k in cc
 
--- where whitespace ends, the rest is what is left behind it
+-- where whitespace ends, the rest is what is left after it
 white-ends : (c : Cell) (cs : List Cell) (h : Here) → is_white c.byte ≡ false →
     in_break White (c ∷ cs) h ≡ in_break Apart (c ∷ cs) (record h { events = h.events ++ exit SpaceOrTab h.point ∷ [] })
 unfolding in_break
@@ -86,7 +86,7 @@ white-ends c cs h k = go (nat_eq c.byte 10) (nat_eq c.byte h.scratch.marker) ref
     go false true e f = rw (e, f) (simp append_assoc)
     go false false e f = in_break-other White c cs h f k e ∙ sym (in_break-other Apart c cs _ f k e)
 
--- where markers end and no whitespace stands
+-- where markers end and no whitespace is
 pub marks-end : (c : Cell) (cs : List Cell) (h : Here) → is_white c.byte ≡ false →
     nat_eq c.byte h.scratch.marker ≡ false →
     in_break Marks (c ∷ cs) h ≡

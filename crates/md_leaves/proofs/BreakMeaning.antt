@@ -43,7 +43,7 @@ use Rattle.md_seam.proofs.WhiteMeaning.{begins-seen, white-tried}
 abbrev behind_marks : Here → Here
 behind_marks h = record h { events = h.events ++ exit parts.ThematicBreakSequence h.point ∷ [] }
 
--- neither a marker nor whitespace stands here
+-- neither a marker nor whitespace is here
 marks-stop : (feed : Feed) (w : World) (h : Here) (o : Option ℕ) → is_current h.scratch.marker o ≡ false →
     sees_white o ≡ false → in_break Marks (ahead feed w o) h ≡ at_break (ahead feed w o) (behind_marks h)
 unfolding at_break
@@ -96,7 +96,7 @@ sequence_means B options feed w false false has s r mark e f =
     ∙ marks-stop feed w (here w) w.current e f ∙ ap (λ (x : List Cell). at_break x (behind_marks (here w))) (sym s.next)
     ∙ sym (has.each its.AtBreak _ _))
 
--- no whitespace stands before a marker
+-- no whitespace is before a marker
 at_break-mark : (c : Cell) (cs : List Cell) (h : Here) → nat_eq c.byte h.scratch.marker ≡ true →
     is_marker h.scratch.marker ≡ true →
     at_break (c ∷ cs) h ≡
@@ -171,7 +171,7 @@ before-none : (options : ParseOptions) (h : Here) →
 unfolding before_marker
 before-none options h = refl
 
--- between two runs, where the marker stands
+-- between two runs, where the marker is
 at_break-apart : (c : Cell) (cs : List Cell) (h : Here) → is_marker c.byte ≡ true →
     in_break Apart (c ∷ cs) h ≡ at_break (c ∷ cs) h
 unfolding at_break
@@ -262,7 +262,7 @@ before_means B feed w has s r = go w.current s.next
 
 -- The first run, where it may be all of the line.
 
--- neither a marker nor whitespace stands here
+-- neither a marker nor whitespace is here
 run-stops : (feed : Feed) (w : World) (h : Here) (o : Option ℕ) → is_current h.scratch.marker o ≡ false →
     sees_white o ≡ false → in_one_run (ahead feed w o) h ≡ behind_one_run (ahead feed w o) (behind_marks h)
 run-stops feed w h None e f = one_run-none h

@@ -26,29 +26,29 @@ use Rattle.md_seam.proofs.AheadLemmas.{white-no_ending}
 
 -- The bytes of a line from here.
 
--- where it goes on
+-- where it continues
 line-on : (c : Cell) (cs : List Cell) → nat_eq c.byte 10 ≡ false → line_bytes (c ∷ cs) ≡ c.byte ∷ line_bytes cs
 line-on c cs e = rw e refl
 
--- its whitespace goes on,
+-- its whitespace continues,
 blank-more : (c : Cell) (cs : List Cell) → is_white c.byte ≡ true →
     is_blank (line_bytes (c ∷ cs)) ≡ is_blank (line_bytes cs)
 blank-more c cs white =
     ap is_blank (line-on c cs (white-no_ending c.byte white))
     ∙ ap (λ (x : Bool). x && is_blank (line_bytes cs)) white
 
--- or ends where something else stands,
+-- or ends where something else is,
 blank-none : (c : Cell) (cs : List Cell) → is_white c.byte ≡ false → nat_eq c.byte 10 ≡ false →
     is_blank (line_bytes (c ∷ cs)) ≡ false
 blank-none c cs white on =
     ap is_blank (line-on c cs on) ∙ ap (λ (x : Bool). x && is_blank (line_bytes cs)) white
 
--- the run goes on with its marker,
+-- the run continues with its marker,
 run-more : (m : ℕ) (c : Cell) (cs : List Cell) → nat_eq c.byte m ≡ true → nat_eq c.byte 10 ≡ false →
     is_run m (line_bytes (c ∷ cs)) ≡ is_run m (line_bytes cs)
 run-more m c cs is on = ap (is_run m) (line-on c cs on) ∙ is_run-one m c.byte (line_bytes cs) is
 
--- and behind it whitespace alone stands
+-- and after it whitespace alone is
 run-blank : (m : ℕ) (c : Cell) (cs : List Cell) → nat_eq c.byte m ≡ false →
     is_run m (line_bytes (c ∷ cs)) ≡ is_blank (line_bytes (c ∷ cs))
 run-blank m c cs other = go (nat_eq c.byte 10) refl
@@ -77,12 +77,12 @@ one_run-mark c cs h is on =
     ap₂ (λ (x : Bool) (o : Outcome). cond x (Refuses (without_marker h.scratch) h.flags) o)
     (run-more h.scratch.marker c cs is on) (in_break-mark c cs h is on)
 
--- In the whitespace behind it.
+-- In the whitespace after it.
 unfoldable pub in_one_white : List Cell → Here → Outcome
 in_one_white cells h =
     cond (is_blank (line_bytes cells)) (Refuses (without_marker h.scratch) h.flags) (in_break White cells h)
 
--- behind it, by whether the line ends here
+-- after it, by whether the line ends here
 pub behind-by : (cells : List Cell) (h : Here) (x : Bool) → ends_line (first_seen cells) ≡ x →
     behind_one_run cells h ≡ cond x (Refuses (without_marker h.scratch) h.flags) (at_break cells h)
 unfolding behind_one_run
@@ -143,7 +143,7 @@ one_run-white c cs h white other =
     ap₂ (λ (x : Bool) (o : Outcome). cond x (Refuses (without_marker h.scratch) h.flags) o)
     (run-blank h.scratch.marker c cs other) (marks-white c cs h white other)
 
--- where the run ends and no whitespace stands
+-- where the run ends and no whitespace is
 pub one_run-end : (c : Cell) (cs : List Cell) (h : Here) → is_white c.byte ≡ false →
     nat_eq c.byte h.scratch.marker ≡ false →
     in_one_run (c ∷ cs) h ≡
@@ -172,7 +172,7 @@ pub one_run-none : (h : Here) →
 unfolding in_one_run behind_one_run
 one_run-none h = refl
 
--- Behind the indent, at a marker.
+-- After the indent, at a marker.
 
 -- a line that begins with another marker than a hyphen is no underline
 other-no_underline : (c : Cell) (cs : List Cell) → is_marker c.byte ≡ true → (c.byte == 45) ≡ false →
@@ -184,7 +184,7 @@ other-no_underline c cs mark other =
     none : setext.is_marker c.byte ≡ false
     none = grind (arith, nat_tests)
 
--- so it is no underline with nothing to turn where the run is not to be told from one
+-- so it is no underline with nothing to turn where the run is not to be distinguished from one
 pub no-underline : (options : ParseOptions) (c : Cell) (cs : List Cell) (h : Here) (y x : Bool) →
     is_marker c.byte ≡ true → (c.byte == 45) ≡ y → turns_nothing options h.flags.leaf ≡ x → y && x ≡ false →
     turns_nothing options h.flags.leaf && is_underline (line_bytes (c ∷ cs)) ≡ false

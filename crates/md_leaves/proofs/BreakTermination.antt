@@ -1,4 +1,4 @@
--- A break stands and ends in any table that has it.
+-- A break is and ends in any table that has it.
 use Rattle.std.proofs.Common.{◌≡◌, ℕ, ◌<◌, ◌&&◌, ◌==◌, Bool, true, false, cond, Option}
 use Rattle.std.proofs.Common.{Some, None, refl, arith, ap, sym, ◌∙◌}
 use Rattle.md_engine.specs.declared.event.Name.TheVariants as parts
@@ -47,12 +47,12 @@ rest-marker s e = ap without_marker e ∙ sym e
 pub rest-white : (s : Scratch) → IsRest s → without_marker (calmed s) ≡ s
 rest-white s e = ap (λ (t : Scratch). without_marker (calmed t)) e ∙ sym e
 
--- behind a run the rank is low
+-- after a run the rank is low
 pub low-rank : (y : Bool) → (cond y (ranked 2 refl) (ranked 0 refl)).number < 3
 low-rank true = omega arith
 low-rank false = omega arith
 
--- at a marker it is below that in front of the marker,
+-- at a marker it is below that before the marker,
 marked-rank : (y : Bool) → (cond y (ranked 2 refl) (ranked 0 refl)).number < 4
 marked-rank true = omega arith
 marked-rank false = omega arith
@@ -62,7 +62,7 @@ run-rank : (y : Bool) → (cond y (ranked 1 refl) (ranked 3 refl)).number < 4
 run-rank true = omega arith
 run-rank false = omega arith
 
--- and behind that run it is above that between two runs
+-- and after that run it is above that between two runs
 after-rank : (y : Bool) →
     (cond y (ranked 2 refl) (ranked 0 refl)).number < (cond y (ranked 3 refl) (ranked 1 refl)).number
 after-rank true = omega arith

@@ -147,7 +147,7 @@ sequence-inside w seen is = go w.current seen is
     go None e k = cc
     go (Some b) e k = seen-inside w.setting w.point b (sym e)
 
--- Where one space stands behind the opening sequence, it ends, and the first run of the line begins.
+-- Where one space is after the opening sequence, it ends, and the first run of the line begins.
 abbrev pub opening_ended : World → World
 opening_ended w = record (exited w HeadingAtxSequence) { scratch = without_size w.scratch }
 
@@ -207,7 +207,7 @@ remains-of a s w w' e k h =
     let P : World → Type 0 = λ x. Remains s w x in
     subst P (sym k) (rw e h)
 
--- what stays here sees what stands here, from wherever one came
+-- what stays here sees what is here, from wherever one came
 pub sees-from : (s : State) (old w w' : World) → SeesOn s w w' → w'.setting ≡ w.setting →
     (w.point ≡ old.point) ⊎ (w.point.index < w.setting.limit) → SeesOn s old w'
 sees-from Ok old w w' h same may = tt

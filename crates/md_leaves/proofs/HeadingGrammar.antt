@@ -1,4 +1,4 @@
--- What stands in an ATX heading keeps the grammar of events.
+-- What is in an ATX heading keeps the grammar of events.
 use Rattle.std.proofs.Common.{◌≡◌, ℕ, Bool, true, false, ◌&&◌, List, [], ◌∷◌, ◌++◌, refl}
 use Rattle.std.specs.Prelude.{not}
 use Rattle.std.specs.List.{AllPass}
@@ -33,7 +33,7 @@ hashes-leads : (text x : Expression) (hashes : List ℕ) (p : Point) → AllPass
 hashes-leads text x [] p h outer = refl
 hashes-leads text x (b ∷ bs) p h outer = rw (hash-runs b bs p h) refl
 
--- What is left behind whitespace, a sequence and whitespace, each of which may stand there or not.
+-- What is left after whitespace, a sequence and whitespace, each of which may be there or not.
 abbrev behind_three : Bool → Bool → Bool → Expression → Expression
 behind_three white hashes more x =
     maybe more n.SpaceOrTab (maybe hashes n.HeadingAtxSequence (maybe white n.SpaceOrTab x))
@@ -63,7 +63,7 @@ each-of : (f : Bool → Bool) → of_both f ≡ true → (b : Bool) → f b ≡ 
 each-of f h true = (and_parts (f true) (f false) h).0
 each-of f h false = (and_parts (f true) (f false) h).1
 
--- what is left of a heading behind the whitespace that follows its opening sequence
+-- what is left of a heading after the whitespace that follows its opening sequence
 abbrev opened : Bool → Bool → Expression
 opened indent gap = behind_three indent true gap (inside Nothing n.HeadingAtx)
 
@@ -72,7 +72,7 @@ abbrev title_ends : Bool → Bool → Bool → Bool → Bool → Bool → Bool
 title_ends indent gap some white hashes more =
     may_end (behind_three white hashes more (maybe some n.HeadingAtxText (opened indent gap)))
 
--- whatever stands there
+-- whatever is there
 title-ends : (indent gap some white hashes more : Bool) → title_ends indent gap some white hashes more ≡ true
 title-ends indent gap some white hashes more =
     each-of (λ m. title_ends indent gap some white hashes m)

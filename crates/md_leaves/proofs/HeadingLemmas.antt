@@ -17,7 +17,7 @@ use Rattle.md_meaning.specs.Rest.{is_white, run_len}
 use Rattle.md_seam.proofs.AheadLemmas.{white-no_ending}
 use Rattle.md_seam.proofs.WhiteMeaning.{behind_white}
 
--- Behind the opening sequence.
+-- After the opening sequence.
 
 -- whitespace is taken
 pub opening-gap : (cells : List Cell) (h : Here) → begins_white cells ≡ true →
@@ -25,7 +25,7 @@ pub opening-gap : (cells : List Cell) (h : Here) → begins_white cells ≡ true
 unfolding behind_opening
 opening-gap cells h e = rw e refl
 
--- where none stands, the text
+-- where none is, the text
 pub opening-no_gap : (cells : List Cell) (h : Here) → begins_white cells ≡ false →
     behind_opening cells h ≡ at_break cells h
 unfolding behind_opening
@@ -75,7 +75,7 @@ opening-full c cs h is ending le =
     let over : nat_le (h.scratch.size + suc n) 6 ≡ false = grind (arith, nat_tests) in
     rw (ending, run_len-one 35 c.byte (line_bytes cs) is, over) refl
 
--- text behind it makes it no heading
+-- text after it makes it no heading
 pub opening-text : (c : Cell) (cs : List Cell) (h : Here) → nat_eq c.byte 35 ≡ false → nat_eq c.byte 10 ≡ false →
     is_white c.byte ≡ false → in_opening (c ∷ cs) h ≡ Refuses (without_size h.scratch) h.flags
 unfolding in_opening
@@ -106,7 +106,7 @@ behind_sequence h = record h {
   scratch = without_size h.scratch;
 }
 
--- behind it whitespace or the line's end stands
+-- after it whitespace or the line's end is
 pub opening-white : (c : Cell) (cs : List Cell) (h : Here) → is_white c.byte ≡ true → h.scratch.size ≤ 6 →
     in_opening (c ∷ cs) h ≡ behind_opening (c ∷ cs) (behind_sequence h)
 unfolding in_opening
@@ -130,7 +130,7 @@ pub opening-none : (h : Here) → h.scratch.size ≤ 6 → in_opening [] h ≡ b
 unfolding in_opening
 opening-none h le = rw (few h.scratch.size le) refl
 
--- Behind the indent.
+-- After the indent.
 
 -- it begins here
 abbrev pub sequence_begun : Here → Here

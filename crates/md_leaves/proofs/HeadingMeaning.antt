@@ -57,7 +57,7 @@ has_start : (B : Behaviour) (options : ParseOptions) (bytes : List ℕ) → HasH
     (n.HeadingAtx its.Before)
 has_start B options bytes has = record { white = has.white; start_is = has.each its.Start; next_is = has.each its.Before }
 
--- Behind the indent.
+-- After the indent.
 
 hash-no_ending : (b : ℕ) → nat_eq b 35 ≡ true → nat_eq b 10 ≡ false
 hash-no_ending b e = rw (eqb-true b 35 e) refl
@@ -89,9 +89,9 @@ heading_before_means B options bytes feed w true has s r e =
 heading_before_means B options bytes feed w false has s r e =
     passes B feed _ _ w w refl refl (has.each its.Before _ _ ∙ rw s.next (other-ahead feed w (here w) w.current e))
 
--- Behind the opening sequence.
+-- After the opening sequence.
 
--- what is left behind it where it ends
+-- what is left after it where it ends
 behind_means : (B : Behaviour) (options : ParseOptions) (bytes : List ℕ) (feed : Feed) (w : World) (x : Bool) →
     HasHeading B options bytes → Sees feed w → IsRest (without_size w.scratch) → sees_white w.current ≡ x →
     goes B (Next (n.HeadingAtx its.SequenceOpen)) (feed w.point) (here w) ≡
@@ -231,7 +231,7 @@ heading_at_break_means B options feed w false y false has s r e f g =
 
 -- In the text.
 
--- behind a byte of the line, where all of it is the same
+-- after a byte of the line, where all of it is the same
 text-passes : (front more : List ℕ) (c : Cell) (cs : List Cell) (h : Here) → nat_eq c.byte 10 ≡ false →
     front ++ whole_line h.point (c ∷ cs) ≡ more ++ whole_line c.after cs →
     in_text front (c ∷ cs) h ≡ in_text more cs (record h { point = c.after })

@@ -1,4 +1,4 @@
--- A heading stands and ends in any table that has it.
+-- A heading is and ends in any table that has it.
 use Rattle.std.proofs.Common.{◌≡◌, ℕ, ◌<◌, ◌≤◌, Bool, true, false, cond, ◌&&◌, nat_lt, Option, Some, None, List, refl, arith}
 use Rattle.std.proofs.Common.{ap, sym, ◌∙◌}
 use Rattle.std.proofs.lemmas.Bool.{and_parts, eqb-true}
@@ -64,7 +64,7 @@ heading_before_ends T w true has r = (
 heading_before_ends T w false has r =
     (refuses T _ w _ _ w.events w.scratch r.1 r.0, refl)
 
--- whitespace is no text, and what stands here still does when more may be read
+-- whitespace is no text, and what is here still does when more may be read
 white-no_text : (o : Option ℕ) → sees_white o ≡ true → sees_text o ≡ false
 white-no_text None e = cc
 white-no_text (Some b) e = rw e refl
@@ -77,7 +77,7 @@ still-white w t s up e = go (seen (position w)) refl e
     go None is e = cc
     go (Some b) is e = ap sees_text (seen_grows (position w) t s b up is) ∙ white-no_text (Some b) e
 
--- behind a run of the line, from a state whose rank is above that of what follows
+-- after a run of the line, from a state whose rank is above that of what follows
 good-behind : (T : Scheme) (w : World) (name : StateName) (events : List Event) (s : Scratch) (x : Bool) →
     HeadingFits T → Fits T heading_scheme name → IsRest s → Ends IsRest IsRest (position w) (after_all T w.frames) →
     sees_white (seen (position w)) ≡ x → 1 < (heading_scheme.rank name (position w)).number →
@@ -96,7 +96,7 @@ good-behind T w name events s false has fits r ends e lt less = (
   refl,
 )
 
--- `#` or text stands where the text may be read
+-- `#` or text is where the text may be read
 hash-in : (x : Position) (more : Bool) → is_current 35 (seen x) && more ≡ true → x.point.index < x.setting.limit
 hash-in x more e = seen-in x (λ (o : Option ℕ). is_current 35 o && more) refl e
 
@@ -161,7 +161,7 @@ heading_at_break_ends T w false y true has r e =
 heading_at_break_ends T w false y false has r e =
     (refuses T _ w _ _ w.events w.scratch r.1 r.0, refl)
 
--- a byte of the line lies in front of the point behind it
+-- a byte of the line lies before the point after it
 start-taken : (w : World) (o : Option ℕ) → o ≡ looks w → ends_line o ≡ false → w.scratch.start ≤ whole_from w.point →
     w.scratch.start ≤ whole_from (after w.setting w.point)
 start-taken w None c e le = cc

@@ -38,7 +38,7 @@ taken_line inside cells h =
     })
     (from_ending cells)
 
--- what stands in it behind its indent
+-- what is in it after its indent
 abbrev behind_indent : List Cell → Point → List Event
 behind_indent cells p = enter HeadingAtxSequence p ∷ hashes_inside cells p
 
@@ -89,7 +89,7 @@ gap-taken cells h at le = go (begins_white cells) refl
         (simp append_assoc)
     go false s = opening-no_gap cells h s ∙ text-taken cells h at s ∙ rw s refl
 
--- behind its sequence
+-- after its sequence
 sequence-taken : (cells : List Cell) (h : Here) → IsRest h.scratch → length cells ≤ any_size →
     behind_opening cells (record h { events = h.events ++ exit HeadingAtxSequence h.point ∷ [] }) ≡
     ended_line (exit HeadingAtxSequence h.point ∷ gap_inside cells h.point) cells h
@@ -132,7 +132,7 @@ taken-white : (room : ℕ) (cells : List Cell) (h : Here) → calmed h.scratch �
 taken-white room cells h calm =
     rw (white-ending room cells, white-line_end room cells h.point, calm) (simp append_assoc)
 
--- a line that holds a heading is taken, with its indent and what stands behind that
+-- a line that holds a heading is taken, with its indent and what follows that
 pub heading-taken : (options : ParseOptions) (cells : List Cell) (h : Here) → IsRest h.scratch →
     length cells ≤ any_size → is_heading_line options cells ≡ true →
     heading_at options cells h ≡ taken_line (heading_inside options cells h.point) cells h

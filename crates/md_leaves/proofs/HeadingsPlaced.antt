@@ -1,4 +1,4 @@
--- Where the texts of headings are set, events that stand at places of the text still do.
+-- Where the texts of headings are set, events that are at places of the text still do.
 use Rattle.std.proofs.Common.{◌≡◌, ℕ, Bool, true, false, cond, List, [], ◌∷◌, ◌++◌, Option, Some, None, refl}
 use Rattle.std.specs.Prelude.{IfSome}
 use Rattle.std.proofs.lemmas.List.Elements.{All-append, All-cons, All-head, All-nil, All-push, All-tail}

@@ -1,4 +1,4 @@
--- The start of a leaf behind a small indent takes one step of its rule, and stands in any table that has its states.
+-- The start of a leaf after a small indent takes one step of its rule, and is in any table that has its states.
 use Rattle.std.proofs.Common.{◌≡◌, ℕ, ◌<◌, ◌≤◌, ◌&&◌, ◌==◌, Bool, true, false, cond, List, [], ◌∷◌, map, Some}
 use Rattle.std.proofs.Common.{◌++◌, refl, sym, ◌∙◌, ap, ap₂, arith, ◌⊎◌, inl, inr}
 use Rattle.md_engine.specs.declared.configuration.ParseOptions.{ParseOptions}
@@ -36,7 +36,7 @@ pub at-off : (name : Name) (on : Bool) (behind : List Cell → Here → Outcome)
 unfolding start_at
 at-off name on behind options cells h off = rw off refl
 
--- behind whitespace,
+-- after whitespace,
 pub at-white : (name : Name) (on : Bool) (behind : List Cell → Here → Outcome) (options : ParseOptions)
     (cells : List Cell) (h : Here) →
     on ≡ true → begins_white cells ≡ true →
@@ -53,7 +53,7 @@ pub at-none : (name : Name) (on : Bool) (behind : List Cell → Here → Outcome
 unfolding start_at
 at-none name on behind options cells h is s = rw (is, s) refl
 
--- What stands in one that takes its line: with no indent,
+-- What is in one that takes its line: with no indent,
 pub indented-none : (inside : List Cell → Point → List Event) (room : ℕ) (cells : List Cell) (p : Point) →
     begins_white cells ≡ false →
     cond (begins_white cells) (pair SpaceOrTab p (white_end room cells p)) []
@@ -78,8 +78,8 @@ indented-white inside room cells p e =
     cond x (pair SpaceOrTab p (white_end room cells p)) []
     ++ inside (white_rest room cells) (white_end room cells p)) e
 
--- Where another byte than it may begin with stands first behind whitespace, no line is taken: such a rule holds of no
--- line that begins with such a byte, or with whitespace.
+-- Where another byte than it may begin with is first after whitespace, no line is taken: such a rule holds of no line
+-- that begins with such a byte, or with whitespace.
 pub rule-refused : (may : ℕ → Bool) (on : Bool) (rule : List ℕ → Bool) (room : ℕ) (cells : List Cell) (b : ℕ) →
     rule [] ≡ false → ((c : ℕ) (bytes : List ℕ) → may c ≡ false → rule (c ∷ bytes) ≡ false) →
     ((c : ℕ) → is_white c ≡ true → may c ≡ false) → seen_behind cells ≡ Some b → may b ≡ false →
@@ -105,7 +105,7 @@ rule-refused may on rule room cells b none other white seen e = by on
     by true = ends (white_rest room cells) first.0 first.1 (refused first.0 first.2)
     by false = refl
 
--- The rule has it at its first state, and what is left of it behind the indent at the next.
+-- The rule has it at its first state, and what is left of it after the indent at the next.
 pub record HasStart (B : Behaviour) (options : ParseOptions) (name : Name) (on : Bool)
     (behind : List Cell → Here → Outcome) (start next : StateName) : Type 0 where
   pub white : HasWhite B

@@ -75,14 +75,14 @@ ends-seen feed w s e = ended (feed w.point) (end-seen feed w s ∙ e)
 abbrev pub white_frame : State → World → List Event → Frame
 white_frame ok w events = record { ok = ok; nok = Nok; is_check = false; events_len = length events; point = w.point }
 
--- behind whitespace that ends
+-- after whitespace that ends
 unfoldable pub here_after : ℕ → List Cell → Here → Here
 here_after room cells h = record h {
   events = h.events ++ exit SpaceOrTab (white_end room cells h.point) ∷ [];
   point = white_end room cells h.point;
 }
 
--- behind whitespace that was begun here, its events written in another way
+-- after whitespace that was begun here, its events written in another way
 pub behind-joined : (room : ℕ) (cells : List Cell) (h : Here) → calmed h.scratch ≡ h.scratch →
     here_after room cells (record h { events = h.events ++ enter SpaceOrTab h.point ∷ [] }) ≡ behind_white room cells h
 unfolding here_after
@@ -92,7 +92,7 @@ behind-joined room cells h same =
     let r : Here = record h { events = es; point = white_end room cells h.point; scratch = t } in r)
     (append_assoc h.events (enter SpaceOrTab h.point ∷ []) _) (sym same)
 
--- A rule that takes whitespace byte by byte while its scratch passes a test, and what is left behind it.
+-- A rule that takes whitespace byte by byte while its scratch passes a test, and what is left after it.
 pub record TakesWhite (P : Scratch → Type 0) (inside behind : List Cell → Here → Outcome) : Type 0 where
   pub more : (c : Cell) (cs : List Cell) (h : Here) → P h.scratch → is_white c.byte ≡ true →
       inside (c ∷ cs) h ≡ inside cs (record h { point = c.after })
@@ -101,7 +101,7 @@ pub record TakesWhite (P : Scratch → Type 0) (inside behind : List Cell → He
   pub none : (h : Here) → P h.scratch →
       inside [] h ≡ behind [] (record h { events = h.events ++ exit SpaceOrTab h.point ∷ [] })
 
--- behind a run of whitespace, however long
+-- after a run of whitespace, however long
 pub white-run : (P : Scratch → Type 0) (inside behind : List Cell → Here → Outcome) (room : ℕ) (cells : List Cell)
     (h : Here) →
     TakesWhite P inside behind → P h.scratch → length cells ≤ room →

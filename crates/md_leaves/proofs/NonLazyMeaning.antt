@@ -63,7 +63,7 @@ non_lazy_start_means B none feed w false has s e =
     (has.each its.Start _ _ ∙ ap (λ (x : List Cell). continuation_at none x (here w)) s.next
     ∙ ending-none feed w none (here w) w.current e)
 
--- Behind the ending.
+-- After the ending.
 
 behind-lazy : (none : Line) (cells : List Cell) (h : Here) → is_lazy none cells ≡ true →
     after_ending none cells h ≡ Refuses h.scratch h.flags

@@ -1,4 +1,4 @@
--- The check that a further line is not lazy stands and ends in any table that has it.
+-- The check that a further line is not lazy is and ends in any table that has it.
 use Rattle.std.proofs.Common.{◌≡◌, Bool, true, false, refl, arith, ap, sym}
 use Rattle.md_engine.specs.declared.state.Name.TheVariants as n
 use Rattle.md_engine.specs.declared.state.non_lazy_continuation.State.{State as NonLazyState}

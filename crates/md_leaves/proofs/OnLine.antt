@@ -1,4 +1,4 @@
--- Pieces of a line of a text, and the points behind their bytes, which are points of the text.
+-- Pieces of a line of a text, and the points after their bytes, which are points of the text.
 use Rattle.std.proofs.Common.{◌≡◌, ℕ, zero, suc, ◌+◌, ◌-◌, ◌%◌, ◌^◌, ◌<◌, ◌≤◌, Bool, true, false, ◌&&◌, not, List, []}
 use Rattle.std.proofs.Common.{◌∷◌, ◌++◌, length, refl, sym, ◌∙◌, ap, subst, arith, append_assoc, length-drop}
 use Rattle.std.specs.Prelude.{◌==◌, slice_index}
@@ -33,7 +33,7 @@ column-same p some inside =
     omega (arith, some, apart) in
     ap (λ (c : ℕ). record { line = p.line; column = c; index = p.index + 1; vs = 0 }) same
 
--- the point behind a byte that ends no line: of a tab it is where the columns of that end
+-- the point after a byte that ends no line: of a tab it is where the columns of that end
 record IsByte (bytes : List ℕ) (b : ℕ) (p : Point) : Type 0 where
   placed : IsPlaced bytes p
   inside : p.index < length bytes
@@ -78,7 +78,7 @@ byte-placed (suc left) bytes b p is le =
     let apart : ¬ (p.column % 4 ≡ 0) = eqb-false (p.column % 4) 0 within in
     byte-placed left bytes b (next_column p) next (omega (arith, le, apart)))
 
--- behind a byte of a piece
+-- after a byte of a piece
 pub on-next : (bytes : List ℕ) (b : ℕ) (bs : List ℕ) (p : Point) → IsOnLine bytes (b ∷ bs) p →
     IsOnLine bytes bs (past_byte b p)
 on-next bytes b bs p on = record {
@@ -115,7 +115,7 @@ pub on-behind : (bytes xs ys : List ℕ) (p : Point) → IsOnLine bytes (xs ++ y
 on-behind bytes [] ys p on = on
 on-behind bytes (x ∷ xs) ys p on = on-behind bytes xs ys (past_byte x p) (on-next bytes x (xs ++ ys) p on)
 
--- its point leaves room to go on
+-- its point leaves room to continue
 pub record HasRoom (p : Point) : Type 0 where
   pub index : p.index < 2 ^ 61
   pub column : p.column ≤ 2 ^ 63

@@ -69,7 +69,7 @@ reached-line bytes p q (n, e) (m, f) h = elim (cases_lt n m) [
         let i : p.index ≡ q.index = ap (λ (r : Point). r.index) k in
         omega (arith, i, h)
 
--- a byte in front of a place on the same line ends none
+-- a byte before a place on the same line ends none
 no-ending-at : (bytes : List ℕ) (p q : Point) → IsPlaced bytes p → IsPlaced bytes q → p.index < q.index →
     p.line ≡ q.line → is_ending (slice_index bytes p.index) ≡ false
 no-ending-at bytes p q h k lt same = go (is_ending (slice_index bytes p.index)) refl
@@ -122,7 +122,7 @@ line-whole [] h = refl
 line-whole (b ∷ bs) h =
     take_while-cons (λ (c : ℕ). not (is_ending c)) b bs ∙ rw h.0 (ap (λ (l : List ℕ). b ∷ l) (line-whole bs h.1))
 
--- Behind bytes without a tab a point is so many bytes and columns further.
+-- After bytes without a tab a point is so many bytes and columns further.
 
 past-whole : (l : List ℕ) (p : Point) → p.vs ≡ 0 → (past_text l p).vs ≡ 0
 past-whole [] p e = e
@@ -157,7 +157,7 @@ past-plain (b ∷ bs) p e some none =
     ∙ ap (λ (c : ℕ). record { line = p.line; column = c; index = p.index + 1 + n; vs = 0 }) column
     ∙ ap (λ (i : ℕ). record { line = p.line; column = p.column + suc n; index = i; vs = 0 }) index
 
--- So the point behind the text is known by that behind all of it.
+-- So the point after the text is known by that after all of it.
 abbrev pub back_by : ℕ → Point → Point
 back_by n q = record { line = q.line; column = q.column - n; index = q.index - n; vs = 0 }
 

@@ -13,7 +13,7 @@ use Rattle.md_meaning.specs.Rest.{is_white}
 use Rattle.md_seam.specs.Events.Nested.{pair}
 use Rattle.md_seam.specs.Events.Places.{past_byte, past_text}
 
--- a run goes on to where it ends, and behind it stand the runs of the rest
+-- a run continues to where it ends, and after it are the runs of the rest
 run-left : (run : Run) (bs : List ℕ) (p : Point) →
     let n = prefix_len (goes_on run) bs in
     line_runs run bs p ≡
@@ -46,7 +46,7 @@ begun-first b = go (is_white b) refl
     go true e = e
     go false e = ap not e
 
--- the first run of a piece, and those behind it
+-- the first run of a piece, and those after it
 pub run-first : (b : ℕ) (bs : List ℕ) (p : Point) →
     let n = prefix_len (goes_on (begun b)) (b ∷ bs) in
     let q = past_text (take n (b ∷ bs)) p in
@@ -110,7 +110,7 @@ run-parted rest front back n white name p q lt is_first is_long is_name is_front
     (sym (end ∙ ap (λ (l : List ℕ). past_text l p) is_front))
     ∙ ap (λ (l : List ℕ). pair name p q ++ line_runs Apart l q) (sym is_back)
 
--- and behind the last nothing stands
+-- and after the last nothing is
 pub none-left : (rest : List ℕ) (p : Point) → (length rest == 0) ≡ true → line_runs Apart rest p ≡ []
 none-left [] p e = refl
 none-left (b ∷ bs) p e =

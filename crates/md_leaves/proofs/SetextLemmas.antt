@@ -27,11 +27,11 @@ marker-no_ending m h = grind (arith, nat_tests)
 pub marker-no_white : (m : ℕ) → is_marker m ≡ true → is_white m ≡ false
 marker-no_white m h = grind (arith, nat_tests)
 
--- the run goes on with its marker,
+-- the run continues with its marker,
 pub is_run-one : (m b : ℕ) (bs : List ℕ) → nat_eq b m ≡ true → is_run m (b ∷ bs) ≡ is_run m bs
 is_run-one m b bs e = ap (λ (k : ℕ). is_blank (drop k (b ∷ bs))) (run_len-one m b bs e)
 
--- and behind it stands whitespace
+-- and after it is whitespace
 pub is_run-other : (m b : ℕ) (bs : List ℕ) → nat_eq b m ≡ false → is_run m (b ∷ bs) ≡ is_blank (b ∷ bs)
 is_run-other m b bs e = ap (λ (k : ℕ). is_blank (drop k (b ∷ bs))) (run_len-other m b bs e)
 
@@ -44,7 +44,7 @@ unfolding in_run
 in_run-mark c cs h is ending =
     rw (ending, is_run-one h.scratch.marker c.byte (line_bytes cs) is, is) refl
 
--- In the whitespace behind the run of this marker.
+-- In the whitespace after the run of this marker.
 unfoldable pub in_white : ℕ → List Cell → Here → Outcome
 in_white m cells h =
     let p = line_end cells h.point in
@@ -64,7 +64,7 @@ in_white-more : (m : ℕ) (c : Cell) (cs : List Cell) (h : Here) → is_white m 
 unfolding in_white
 in_white-more m c cs h apart white = rw (white-no_ending c.byte white, white-apart c.byte m white apart, white) refl
 
--- where it ends, the line ends, or something else stands
+-- where it ends, the line ends, or something else is
 in_white-ends : (m : ℕ) (c : Cell) (cs : List Cell) (h : Here) → is_white c.byte ≡ false →
     in_white m (c ∷ cs) h ≡ behind_run (c ∷ cs) (record h { events = h.events ++ exit SpaceOrTab h.point ∷ [] })
 unfolding in_white behind_run
@@ -89,7 +89,7 @@ takes-white m apart = record {
   none = λ h is. in_white-none m h;
 }
 
--- behind the run
+-- after the run
 abbrev pub behind_sequence : Here → Here
 behind_sequence h = record h {
   events = h.events ++ exit HeadingSetextUnderlineSequence h.point ∷ [];
@@ -107,7 +107,7 @@ in_run-white c cs h white other =
     rw (white-no_ending c.byte white, is_run-other h.scratch.marker c.byte (line_bytes cs) other, other)
     (simp append_assoc)
 
--- where the run ends and no whitespace stands
+-- where the run ends and no whitespace is
 pub in_run-ends : (c : Cell) (cs : List Cell) (h : Here) → is_white c.byte ≡ false →
     nat_eq c.byte h.scratch.marker ≡ false → in_run (c ∷ cs) h ≡ behind_run (c ∷ cs) (behind_sequence h)
 unfolding in_run behind_run
@@ -122,7 +122,7 @@ pub in_run-none : (h : Here) → in_run [] h ≡ behind_run [] (behind_sequence 
 unfolding in_run behind_run
 in_run-none h = refl
 
--- Behind the indent.
+-- After the indent.
 
 -- the first marker begins the run, with no marker taken
 pub before-mark : (c : Cell) (cs : List Cell) (h : Here) → is_marker c.byte ≡ true →
@@ -153,7 +153,7 @@ before-mark c cs h mark rest = go (is_run c.byte (line_bytes cs)) refl
     go false e =
         rw (marker-no_ending c.byte mark, mark, one ∙ e) (ap (λ (t : Scratch). Refuses t h.flags) (sym rest))
 
--- where something else stands there is no underline,
+-- where something else is there is no underline,
 pub before-other : (c : Cell) (cs : List Cell) (h : Here) → is_marker c.byte ≡ false →
     before_run (c ∷ cs) h ≡ Refuses h.scratch h.flags
 unfolding before_run

@@ -33,7 +33,7 @@ use Rattle.md_seam.specs.Spaces.{IsRest, any_size, ends_line, is_current, sees_w
 use Rattle.md_seam.proofs.LookLemmas.{first-seen}
 use Rattle.md_seam.proofs.WhiteMeaning.{begins-seen, white-tried}
 
--- Behind the indent.
+-- After the indent.
 
 -- the state there
 before_means : (B : Behaviour) (options : ParseOptions) (feed : Feed) (w : World) → HasSetext B options → Sees feed w →
@@ -74,7 +74,7 @@ before_means B options feed w has s r = go w.current s.next
 
 -- In the run.
 
--- neither the marker nor whitespace stands here
+-- neither the marker nor whitespace is here
 run-stops : (feed : Feed) (w : World) (h : Here) (o : Option ℕ) → is_current h.scratch.marker o ≡ false →
     sees_white o ≡ false → in_run (ahead feed w o) h ≡ behind_run (ahead feed w o) (behind_sequence h)
 run-stops feed w h None e f = in_run-none h
@@ -117,7 +117,7 @@ inside_means B options feed w false false has s r mark e f =
     ∙ run-stops feed w (here w) w.current e f
     ∙ ap (λ (x : List Cell). behind_run x (behind_sequence (here w))) (sym s.next) ∙ sym (has.each its.After _ _))
 
--- Behind the run and whitespace.
+-- After the run and whitespace.
 
 -- where the line ends
 behind-ends : (cells : List Cell) (h : Here) → ends_line (first_seen cells) ≡ true →
@@ -131,7 +131,7 @@ behind-ends : (cells : List Cell) (h : Here) → ends_line (first_seen cells) �
 unfolding behind_run
 behind-ends cells h e = rw e refl
 
--- and where it goes on
+-- and where it continues
 behind-other : (cells : List Cell) (h : Here) → ends_line (first_seen cells) ≡ false →
     behind_run cells h ≡ Refuses h.scratch h.flags
 unfolding behind_run

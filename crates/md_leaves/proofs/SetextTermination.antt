@@ -1,4 +1,4 @@
--- The underline of a setext heading stands and ends in any table that has it.
+-- The underline of a setext heading is and ends in any table that has it.
 use Rattle.std.proofs.Common.{◌≡◌, ℕ, ◌<◌, Bool, true, false, cond, Option, Some, None, refl, arith, ap, sym}
 use Rattle.md_engine.specs.declared.event.Name.TheVariants as parts
 use Rattle.md_engine.specs.declared.state.Name.TheVariants as n
@@ -43,7 +43,7 @@ run-rank false = omega arith
 
 -- Each state.
 
--- behind the indent
+-- after the indent
 before_ends : (T : Scheme) (w : World) (o : Option ℕ) → SetextFits T → rest_ready (position w) (after_all T w.frames) →
     Does T (n.HeadingSetext its.Before) w (before_code w o)
 before_ends T w None has r =
@@ -98,7 +98,7 @@ inside_ends T w false false has r e = (
   refl,
 )
 
--- behind the run and whitespace
+-- after the run and whitespace
 after_ends : (T : Scheme) (w : World) (x : Bool) → SetextFits T → rest_ready (position w) (after_all T w.frames) →
     Does T (n.HeadingSetext its.After) w (after_code w x)
 after_ends T w true has r =

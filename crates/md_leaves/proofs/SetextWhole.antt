@@ -24,7 +24,7 @@ use Rattle.md_seam.specs.Spaces.{IsRest, calmed, small_indent}
 use Rattle.md_seam.proofs.AheadLemmas.{none-rest, white-ending, white-line_end}
 use Rattle.md_seam.proofs.WhiteMeaning.{behind_white}
 
--- the whole line is a part, with this inside, and no leaf is open behind it
+-- the whole line is a part, with this inside, and no leaf is open after it
 abbrev pub taken_line : List Event → List Cell → Here → Outcome
 taken_line inside cells h =
     let p = line_end cells h.point in
@@ -36,11 +36,11 @@ taken_line inside cells h =
     })
     (from_ending cells)
 
--- what stands in it behind its indent
+-- what is in it after its indent
 abbrev behind_indent : List Cell → Point → List Event
 behind_indent cells p = runs Apart (first_cell cells) (line_cells cells) p
 
--- Behind the indent an underline is taken to the end of the line,
+-- After the indent an underline is taken to the end of the line,
 before-is : (cells : List Cell) (h : Here) → is_underline (line_bytes cells) ≡ true →
     before_run cells h ≡ underlined Apart (first_cell cells) cells h
 unfolding before_run
@@ -73,7 +73,7 @@ taken-white : (room : ℕ) (cells : List Cell) (h : Here) → IsRest h.scratch �
 taken-white room cells h is =
     rw (white-ending room cells, white-line_end room cells h.point, rest-white h.scratch is) (simp append_assoc)
 
--- A line where another byte than a marker stands first behind whitespace is no underline.
+-- A line where another byte than a marker is first after whitespace is no underline.
 pub setext-looked : (options : ParseOptions) (cells : List Cell) (b : ℕ) → seen_behind cells ≡ Some b →
     may_begin b ≡ false → is_underline_line options cells ≡ false
 setext-looked options cells b seen e =

@@ -49,7 +49,7 @@ passes-given place e es h = go (has_lines (role e.name)) (is_renamed place e.nam
         stays-given place e es k
         ∙ ap (λ (name : Name). record e { name = name } ∷ spanned_from place es) (name-same place e.name l)
 
--- and so are some in front of the next that does not pass
+-- and so are some before the next that does not pass
 pub spanned-some : (place : Place) (es : List Event) (many : ℕ) → many ≤ prefix_len (passes place) es →
     spanned_from place es ≡ take many es ++ spanned_from place (drop many es)
 spanned-some place es zero le = refl
@@ -97,7 +97,7 @@ walk-passed place now given left new after all many le is kept same so_far =
     (append_assoc given (take many left) (spanned_from place (drop many left))
     ∙ ap (λ (l : List Event). given ++ l) (sym (spanned-some place left many le)) ∙ so_far)
 
--- and takes the event behind them.
+-- and takes the event after them.
 pub walk-stepped : (place now : Place) (so_far left new after all : List Event) (e : Event) → left ≡ e ∷ drop 1 left →
     new ≡ so_far ++ given place e (drop 1 left) → after ≡ drop 1 left → now ≡ place_after place e (drop 1 left) →
     so_far ++ spanned_from place left ≡ all → new ++ spanned_from now after ≡ all

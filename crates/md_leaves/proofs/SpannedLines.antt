@@ -1,6 +1,6 @@
 -- Blocks of several lines, line by line.
 --
--- A line is its begin, what stands inside, its end, and what stands between it and the next block.
+-- A line is its begin, what is inside, its end, and what is between it and the next block.
 use Rattle.std.proofs.Common.{◌≡◌, Bool, true, false, List, [], ◌∷◌, ◌++◌, refl, ap, ◌∙◌}
 use Rattle.std.specs.Prelude.{map}
 use Rattle.md_engine.specs.declared.event.Event.{Event}
@@ -29,7 +29,7 @@ NoBlocks (e ∷ es) = (is_block (role e.name) ≡ false) × NoBlocks es
 
 -- Events that pass.
 
--- events that pass stay as they are, in front of any others
+-- events that pass stay as they are, before any others
 pub spanned-passes : (place : Place) (es rest : List Event) → Pass place es →
     spanned_from place (es ++ rest) ≡ es ++ spanned_from place rest
 spanned-passes place [] rest h = refl
@@ -53,7 +53,7 @@ pub spanned-inside : (es rest : List Event) → NoLines es →
     spanned_from Inside (es ++ rest) ≡ es ++ spanned_from Inside rest
 spanned-inside es rest h = spanned-passes Inside es rest (inside-passes es h)
 
--- What stands ahead.
+-- What is ahead.
 
 -- lines are of blocks
 pub lines-block : (x : Role) → has_lines x ≡ true → is_block x ≡ true
@@ -89,7 +89,7 @@ pub record IsEnd (e : Event) : Type 0 where
   pub kind : e.kind ≡ Exit
   pub lines : has_lines (role e.name) ≡ true
 
--- the begin of a further line is seen from in front of it
+-- the begin of a further line is seen from before it
 further-seen : (e : Event) (es : List Event) → IsFurther e → goes_on (e ∷ es) ≡ true
 further-seen e es is =
     let block : is_block (role e.name) ≡ true = lines-block (role e.name) is.lines in
@@ -125,14 +125,14 @@ block-ends place e es is last =
     by-turn place e es Ends (end-turn e is)
     ∙ ap (λ (on : Bool). given_by Ends place on e ++ spanned_from (place_by Ends place on) es) last
 
--- a line ends, and its block goes on: nothing is left of its end
+-- a line ends, and its block continues: nothing is left of its end
 pub line-ends : (place : Place) (e : Event) (es : List Event) → IsEnd e → goes_on es ≡ true →
     spanned_from place (e ∷ es) ≡ spanned_from Between es
 line-ends place e es is on =
     by-turn place e es Ends (end-turn e is)
     ∙ ap (λ (on : Bool). given_by Ends place on e ++ spanned_from (place_by Ends place on) es) on
 
--- From the end of a line to the begin of the next: what stands between them is left, with the names that it has there.
+-- From the end of a line to the begin of the next: what is between them is left, with the names that it has there.
 pub lines-joined : (place : Place) (e : Event) (gap : List Event) (f : Event) (rest : List Event) → IsEnd e →
     NoBlocks gap → IsFurther f →
     spanned_from place (e ∷ (gap ++ f ∷ rest)) ≡ map (renamed Between) gap ++ spanned_from Inside rest
@@ -142,7 +142,7 @@ lines-joined place e gap f rest end free further =
     ∙ spanned-stays Between gap (f ∷ rest) (blocks-lines gap free)
     ∙ ap (λ (l : List Event). map (renamed Between) gap ++ l) (further-begins f rest further)
 
--- A line that goes on: what stands inside, what stands behind it, and then the next line.
+-- A line that continues: what is inside, what follows it, and then the next line.
 pub line-joined : (inside : List Event) (e : Event) (gap : List Event) (f : Event) (rest : List Event) →
     NoLines inside → IsEnd e → NoBlocks gap → IsFurther f →
     spanned_from Inside (inside ++ e ∷ (gap ++ f ∷ rest))

@@ -37,7 +37,7 @@ ends-white : (white : List ℕ) (p q first : Point) (after last : Option Point) 
 ends-white white p q first after last closing since es w =
     within-white white p first after last closing since (ended q es) w ∙ (simp append_assoc)
 
--- behind a text, if there is one: a closing sequence and whitespace, each of which may stand there or not
+-- after a text, if there is one: a closing sequence and whitespace, each of which may be there or not
 ends-hashes : (hashes more : List ℕ) (p q first : Point) (after : Option Point) (since es : List Event) →
     AllPass is_hash hashes → AllPass is_white more →
     let left = line_runs Apart more (past_text hashes p) in
@@ -50,7 +50,7 @@ ends-hashes (b ∷ bs) more p q first after since es h m =
     ∙ ends-white more r q first after (Some r) (since ++ line_runs Apart (b ∷ bs) p) [] es m
     ∙ (simp append_assoc)
 
--- Behind the whitespace that follows the opening sequence: the text, and what stands behind it.
+-- After the whitespace that follows the opening sequence: the text, and what follows it.
 ends-text : (text white hashes more : List ℕ) (p q : Point) (es : List Event) → AllPass is_white white →
     AllPass is_hash hashes → AllPass is_white more → begins is_white (hashes ++ more) ≡ false →
     begins is_white (text ++ (white ++ (hashes ++ more))) ≡ false →
@@ -125,7 +125,7 @@ parts-drop line x =
     ap (drop size) (parts-text line x)
     ∙ drop_at ((x.indent ++ (x.hashes ++ x.gap)) ++ text_of line) x.back size (parts-size line x)
 
--- the text stands behind the front, on the line
+-- the text is after the front, on the line
 pub title-text : (line : List ℕ) → take (length (text_of line)) (drop (front_len line) line) ≡ text_of line
 title-text line =
     let x = parted line in
@@ -144,7 +144,7 @@ title-fits line =
     front_len line + length (text_of line) = parts-size line x in
     omega arith
 
--- the runs in front of the text
+-- the runs before the text
 pub front-runs : (line : List ℕ) (x : Parted line) (p : Point) →
     line_runs Apart (x.indent ++ (x.hashes ++ x.gap)) p ≡ three_runs x.indent x.hashes x.gap p
 front-runs line x p = three-runs x.indent x.hashes x.gap p x.indent_is x.hashes_are x.gap_is x.apart
@@ -176,7 +176,7 @@ title-parts line x p as_events =
     end : past_text (front ++ text_of line) p ≡ past_text (text_of line) p3
     end = past_text-append front (text_of line) p ∙ ap (past_text (text_of line)) begin
 
--- without the whitespace in front of it
+-- without the whitespace before it
 trim-white : (white rest : List ℕ) → AllPass is_white white → begins is_white rest ≡ false →
     trim_start (white ++ rest) ≡ rest
 trim-white [] [] w e = refl
@@ -186,7 +186,7 @@ trim-white (b ∷ bs) rest w e =
     let one : 1 + prefix_len is_white (bs ++ rest) ≡ suc (prefix_len is_white (bs ++ rest)) = omega arith in
     rw (here, one) (trim-white bs rest (pass-rest is_white b bs w) e)
 
--- the text, and what stands behind it, have the same text
+-- the text, and what follows it, have the same text
 pub text-again : (line : List ℕ) (x : Parted line) → heading_text (text_of line ++ x.back) ≡ text_of line
 text-again line x =
     let rest = text_of line ++ x.back in
@@ -194,7 +194,7 @@ text-again line x =
     ∙ ap text_in (sym (trim-white x.gap rest x.gap_is x.behind_gap))
     ∙ sym x.text_is
 
--- the events that a heading adds: the runs in front of its text, and what is added from the text on
+-- the events that a heading adds: the runs before its text, and what is added from the text on
 pub title-whole : (line : List ℕ) (x : Parted line) (p : Point) →
     let p1 = past_text x.indent p in
     let p2 = past_text x.hashes p1 in
@@ -207,7 +207,7 @@ title-whole line x p =
     rw (text-again line x, take_at text x.back (length text) refl, drop_at text x.back (length text) refl)
     (title-parts line x p linked_data)
 
--- in a heading the walk sets the text, and goes on behind it
+-- in a heading the walk sets the text, and continues after it
 pub title-resolved : (line : List ℕ) (p q : Point) (es : List Event) → is_heading (trim_start line) ≡ true →
     resolved Before (flow_title (title_of line p) ++ exit n.HeadingAtx q ∷ es) ≡
     unread_title (title_of line p) ++ exit n.HeadingAtx q ∷ resolved Outside es
@@ -251,7 +251,7 @@ title-resolved line p q es heads =
         (ends-text (text_of line) s.white s.hashes s.more p3 q es s.white_is s.hashes_are s.more_is s.apart
         (rw s.is at x.behind_gap)))
 
--- Around the text stand whitespace and `#` alone.
+-- Around the text are whitespace and `#` alone.
 
 abbrev pub is_mark : ℕ → Bool
 is_mark b = is_white b || (b == 35)

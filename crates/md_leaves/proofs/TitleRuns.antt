@@ -69,7 +69,7 @@ run-alone run b bs p h =
     ap (λ (l : List ℕ). line_runs Apart (b ∷ l) p) (sym (append-nil bs)) ∙ run-whole run b bs [] p h refl
     ∙ append-nil (opens run p ++ closes run (past_text (b ∷ bs) p))
 
--- the runs behind it are those of what follows
+-- the runs after it are those of what follows
 pub runs-cut : (run : Run) (xs ys : List ℕ) (p : Point) → AllPass (goes_on run) xs →
     begins (goes_on run) ys ≡ false →
     line_runs Apart (xs ++ ys) p ≡ line_runs Apart xs p ++ line_runs Apart ys (past_text xs p)
@@ -91,14 +91,14 @@ pub hash-runs : (b : ℕ) (bs : List ℕ) (p : Point) → AllPass is_hash (b ∷
     line_runs Apart (b ∷ bs) p ≡ pair n.HeadingAtxSequence p (past_text (b ∷ bs) p)
 hash-runs b bs p h = run-alone Hashes b bs p (hashes-on (b ∷ bs) h)
 
--- `#`, and the whitespace behind them
+-- `#`, and the whitespace after them
 pub hashes-cut : (hashes white : List ℕ) (p : Point) → AllPass is_hash hashes → AllPass is_white white →
     line_runs Apart (hashes ++ white) p ≡ line_runs Apart hashes p ++ line_runs Apart white (past_text hashes p)
 hashes-cut hashes [] p h w = runs-cut Hashes hashes [] p (hashes-on hashes h) refl
 hashes-cut hashes (b ∷ bs) p h w =
     runs-cut Hashes hashes (b ∷ bs) p (hashes-on hashes h) (ap not (pass-first is_white b bs w))
 
--- whitespace, `#` and whitespace again, each of which may stand there or not
+-- whitespace, `#` and whitespace again, each of which may be there or not
 abbrev pub three_runs : List ℕ → List ℕ → List ℕ → Point → List Event
 three_runs white hashes more p =
     let q = past_text white p in
@@ -127,7 +127,7 @@ pub opened-white : (bs : List ℕ) (p : Point) (es : List Event) → AllPass is_
 opened-white [] p es h = refl
 opened-white (b ∷ bs) p es h = rw (white-runs b bs p h) refl
 
--- and behind it: whitespace stays where it is
+-- and after it: whitespace stays where it is
 pub within-white : (bs : List ℕ) (p first : Point) (after last : Option Point) (closing since es : List Event) →
     AllPass is_white bs →
     resolved (Within first after last closing since) (line_runs Apart bs p ++ es) ≡

@@ -1,5 +1,4 @@
--- The bytes of a heading's line: its opening sequence with the whitespace around it, its text, and what stands behind
--- that.
+-- The bytes of a heading's line: its opening sequence with the whitespace around it, its text, and what follows that.
 use Rattle.std.proofs.Common.{◌≡◌, ℕ, suc, ◌+◌, ◌-◌, Bool, true, false, cond, List, [], ◌∷◌, ◌++◌, length, take, drop}
 use Rattle.std.proofs.Common.{reverse, refl, sym, ◌∙◌, ap, arith, append_assoc, append-nil, length-append, length-drop}
 use Rattle.std.proofs.Common.{subst}
@@ -73,7 +72,7 @@ kept-ends f bytes =
     ap (begins f) (ap reverse (kept-is f bytes) ∙ reverse-reverse (drop (suffix_len f bytes) (reverse bytes)))
     ∙ front-stops f (reverse bytes)
 
--- What stands behind a text: whitespace, a closing sequence and whitespace, each of which may stand there or not.
+-- What follows a text: whitespace, a closing sequence and whitespace, each of which may be there or not.
 pub record Shape (back : List ℕ) : Type 0 where
   pub white : List ℕ
   pub hashes : List ℕ
@@ -85,7 +84,7 @@ pub record Shape (back : List ℕ) : Type 0 where
   -- the first whitespace is as long as it can be
   pub apart : begins is_white (hashes ++ more) ≡ false
 
--- the text and what stands behind it
+-- the text and what follows it
 pub record Ending (rest text : List ℕ) : Type 0 where
   pub back : List ℕ
   pub whole : rest ≡ text ++ back

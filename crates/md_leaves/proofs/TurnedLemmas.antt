@@ -57,7 +57,7 @@ passes-given on e es h =
 
 -- Events of which none is of an underline.
 
--- none stands behind prefixes,
+-- none is after prefixes,
 none-behind : (es : List Event) → HoldNoUnderline es → underline_behind es ≡ false
 none-behind [] h = refl
 none-behind (e ∷ es) h = rw h.0 (go (is_prefix e.name) (is_enter e.kind) (none-behind es h.1))
@@ -67,7 +67,7 @@ none-behind (e ∷ es) h = rw h.0 (go (is_prefix e.name) (is_enter e.kind) (none
     go false true k = refl
     go false false k = refl
 
--- nor behind the end of a paragraph,
+-- nor after the end of a paragraph,
 none-has : (es : List Event) → HoldNoUnderline es → has_underline es ≡ false
 none-has [] h = refl
 none-has (e ∷ []) h = refl
@@ -77,7 +77,7 @@ none-has (e ∷ f ∷ es) h = rw (none-behind es h.1.1) (go (is_line_ending e.na
     go true = refl
     go false = refl
 
--- nor behind the next paragraph
+-- nor after the next paragraph
 none-turned : (es : List Event) → HoldNoUnderline es → is_turned es ≡ false
 none-turned [] h = refl
 none-turned (e ∷ es) h = go (is_exit e.kind && is_paragraph e.name) (none-turned es h.1)
@@ -155,7 +155,7 @@ abbrev pub AreUnturned : List Event → Type 0
 AreUnturned [] = Unit {0}
 AreUnturned (e ∷ es) = (passes e ≡ true) × AreUnturned es
 
--- they stay as they are, in front of any others
+-- they stay as they are, before any others
 pub turned-passes : (on : Bool) (xs es : List Event) → AreUnturned xs →
     turned_from on (xs ++ es) ≡ xs ++ turned_from on es
 turned-passes on [] es h = refl
@@ -173,7 +173,7 @@ turned-past (e ∷ xs) es h =
     go true k = k
     go false k = k
 
--- whether a paragraph is turned is told by what stands behind it
+-- whether a paragraph is turned is known from what follows it
 turned-ahead : (q : Point) (inside es : List Event) → AreUnturned inside →
     is_turned ((inside ++ exit n.Paragraph q ∷ []) ++ es) ≡ has_underline es
 turned-ahead q inside es h =
@@ -205,7 +205,7 @@ turned-text p q inside es h none =
         given_by BeginsText false begins (enter n.Paragraph p) ++ turned_from (on_by BeginsText false begins) rest)
         k
 
--- the events of a heading, one behind the other, and as parts
+-- the events of a heading, one after the other, and as parts
 regrouped : (xs ys zs rest : List Event) (x y z w : Event) →
     xs ++ x ∷ (ys ++ y ∷ (zs ++ z ∷ w ∷ rest))
     ≡ (((xs ++ x ∷ []) ++ (ys ++ y ∷ (zs ++ z ∷ []))) ++ w ∷ []) ++ rest
@@ -245,7 +245,7 @@ turned-heading p q a b inside between under es h k l has =
         given_by BeginsText false begins (enter n.Paragraph p) ++ turned_from (on_by BeginsText false begins) rest)
         k
 
--- What stands behind a paragraph.
+-- What follows a paragraph.
 
 -- events of container prefixes
 abbrev pub ArePrefixes : List Event → Type 0
@@ -273,7 +273,7 @@ pub underline-past : (front es : List Event) → ArePrefixes front →
 underline-past [] es h = refl
 underline-past (e ∷ front) es h = rw h.0 (underline-past front es h.1)
 
--- behind an ending and prefixes an underline is seen
+-- after an ending and prefixes an underline is seen
 pub ending-underline : (x y a : Point) (front more : List Event) → ArePrefixes front →
     has_underline ((pair n.LineEnding x y ++ front) ++ enter n.HeadingSetextUnderline a ∷ more) ≡ true
 ending-underline x y a front more h = underline-past front (enter n.HeadingSetextUnderline a ∷ more) h
@@ -293,11 +293,11 @@ turned-underlined p q x y a b inside front under es h k l =
     (refl, (refl, prefixes-unturned front k)) l
     (ending-underline x y a front ((under ++ exit n.HeadingSetextUnderline b ∷ []) ++ es) k)
 
--- no underline begins behind the prefixes in front of these
+-- no underline begins after the prefixes before these
 abbrev pub Unlined : List Event → Type 0
 Unlined es = underline_behind es ≡ false
 
--- nor one that ends in front of anything but an ending
+-- nor one that ends before anything but an ending
 pub no-ending : (e : Event) (es : List Event) → is_line_ending e.name ≡ false → has_underline (e ∷ es) ≡ false
 no-ending e [] h = refl
 no-ending e (f ∷ es) h = rw h refl

@@ -10,11 +10,11 @@ use Rattle.md_engine.specs.World.{World}
 use Rattle.md_seam.specs.Spaces.{any_size, ends_line, rest_ready, sees_white, white_then}
 use Rattle.md_seam.specs.Transition.{Transition}
 
--- what may stand first behind the whitespace of a blank line: its ending
+-- what may be first after the whitespace of a blank line: its ending
 abbrev pub may_begin : ℕ → Bool
 may_begin b = b == 10
 
--- by whether whitespace stands here
+-- by whether whitespace is here
 abbrev pub start_code : World → Bool → Transition
 start_code w true = white_then w 1 any_size (Next (n.BlankLine its.After)) Nok
 start_code w false = record { to = Retry (n.BlankLine its.After); world = w }

@@ -16,7 +16,7 @@ use Rattle.md_meaning.specs.Bytes.{is_end}
 use Rattle.md_seam.specs.Events.Nested.{pair}
 use Rattle.md_meaning.specs.Rest.{is_blank}
 
--- behind the whitespace: the line ends
+-- after the whitespace: the line ends
 unfoldable pub after_blank : List Cell → Here → Outcome
 after_blank cells h = if is_end (line_bytes cells) then Accepts h cells else Refuses h.scratch h.flags
 

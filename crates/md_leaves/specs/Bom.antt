@@ -16,16 +16,16 @@ use Rattle.md_seam.specs.Transition.{Transition, entered, exited, taken}
 abbrev pub mark : List ℕ
 mark = 239 ∷ 187 ∷ 191 ∷ []
 
--- the byte of the mark behind so many of its bytes
+-- the byte of the mark after so many of its bytes
 abbrev pub mark_at : ℕ → ℕ
 mark_at size = get_or mark size 0
 
--- by whether the first byte of the mark stands here
+-- by whether the first byte of the mark is here
 abbrev pub start_code : World → Bool → Transition
 start_code w true = record { to = Retry (n.Bom its.Inside); world = entered w ByteOrderMark }
 start_code w false = record { to = Nok; world = w }
 
--- by whether the next byte of the mark stands here, and whether more of the mark follows
+-- by whether the next byte of the mark is here, and whether more of the mark follows
 abbrev pub inside_code : World → Bool → Bool → Transition
 inside_code w true true =
     record {

@@ -19,7 +19,7 @@ use Rattle.md_seam.specs.Transition.{Transition, entered, exited, taken}
 abbrev pub is_marker : ℕ → Bool
 is_marker b = (b == 42) || (b == 45) || (b == 95)
 
--- what may stand first behind the indent of a break
+-- what may be first after the indent of a break
 abbrev pub may_begin : ℕ → Bool
 may_begin b = is_marker b
 
@@ -37,13 +37,13 @@ marked_code w b false = record {
   world = record w { scratch = record w.scratch { marker = b } };
 }
 
--- by what stands here, and whether an underline has nothing to turn
+-- by what is here, and whether an underline has nothing to turn
 abbrev pub before_code : World → Bool → Option ℕ → Transition
 before_code w nothing None = record { to = Nok; world = w }
 before_code w nothing (Some b) =
     if is_marker b then marked_code w b ((b == 45) && nothing) else record { to = Nok; world = w }
 
--- by whether the marker stands here, and whether the line ends here with enough of it
+-- by whether the marker is here, and whether the line ends here with enough of it
 abbrev pub at_break_code : World → Bool → Bool → Transition
 at_break_code w true done =
     record { to = Retry (n.ThematicBreak its.Sequence); world = entered w ThematicBreakSequence }
@@ -51,7 +51,7 @@ at_break_code w false true =
     record { to = Ok; world = record (exited w ThematicBreak) { scratch = without_marker w.scratch } }
 at_break_code w false false = record { to = Nok; world = record w { scratch = without_marker w.scratch } }
 
--- by whether the marker stands here, and whether whitespace does
+-- by whether the marker is here, and whether whitespace does
 abbrev pub sequence_code : World → Bool → Bool → Transition
 sequence_code w true white =
     record {
@@ -63,7 +63,7 @@ sequence_code w false true =
 sequence_code w false false =
     record { to = Retry (n.ThematicBreak its.AtBreak); world = exited w ThematicBreakSequence }
 
--- in the first run, where it may not be all of the line: by whether the marker stands here, and whether whitespace does
+-- in the first run, where it may not be all of the line: by whether the marker is here, and whether whitespace does
 abbrev pub one_run_code : World → Bool → Bool → Transition
 one_run_code w true white =
     record {
@@ -75,7 +75,7 @@ one_run_code w false true =
 one_run_code w false false =
     record { to = Retry (n.ThematicBreak its.OneRunAfter); world = exited w ThematicBreakSequence }
 
--- behind it and whitespace, by whether the line ends here
+-- after it and whitespace, by whether the line ends here
 abbrev pub one_run_after_code : World → Bool → Transition
 one_run_after_code w true = record { to = Nok; world = record w { scratch = without_marker w.scratch } }
 one_run_after_code w false = record { to = Retry (n.ThematicBreak its.AtBreak); world = w }
@@ -110,7 +110,7 @@ break_transition its.Sequence w = sequence_transition w
 break_transition its.OneRun w = one_run_transition w
 break_transition its.OneRunAfter w = one_run_after_transition w
 
--- Behind the indent there is a marker, and those that were taken lie before the point.
+-- After the indent there is a marker, and those that were taken lie before the point.
 pub record IsMarked (x : Position) : Type 0 where
   pub marker : is_marker x.scratch.marker ≡ true
   pub size : x.scratch.size ≤ cells_before x.point

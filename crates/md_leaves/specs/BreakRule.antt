@@ -55,7 +55,7 @@ in_break run cells h =
     then broken run m cells h
     else Refuses (without_marker h.scratch) h.flags
 
--- behind a run
+-- after a run
 unfoldable pub at_break : List Cell → Here → Outcome
 at_break cells h = if begins_white cells then Refuses (without_marker h.scratch) h.flags else in_break Apart cells h
 
@@ -65,12 +65,12 @@ in_one_run cells h =
     if is_run h.scratch.marker (line_bytes cells) then Refuses (without_marker h.scratch) h.flags
     else in_break Marks cells h
 
--- behind that run, and the whitespace that follows it
+-- after that run, and the whitespace that follows it
 unfoldable pub behind_one_run : List Cell → Here → Outcome
 behind_one_run cells h =
     if ends_line (first_seen cells) then Refuses (without_marker h.scratch) h.flags else at_break cells h
 
--- behind the indent: no underline that has nothing to turn
+-- after the indent: no underline that has nothing to turn
 unfoldable pub before_marker : ParseOptions → List Cell → Here → Outcome
 before_marker options [] h = Refuses (without_marker h.scratch) h.flags
 before_marker options (c ∷ cs) h =
@@ -79,7 +79,7 @@ before_marker options (c ∷ cs) h =
     then broken Apart c.byte (c ∷ cs) h
     else Refuses (without_marker h.scratch) h.flags
 
--- the whole rule, if breaks are on: a small indent, and a rule behind it that is no underline with nothing to turn
+-- the whole rule, if breaks are on: a small indent, and a rule after it that is no underline with nothing to turn
 abbrev pub break_at : ParseOptions → List Cell → Here → Outcome
 break_at options cells h =
     start_at ThematicBreak options.constructs.thematic_break (before_marker options) options cells h

@@ -23,11 +23,11 @@ use Rattle.md_seam.specs.Spaces.{any_size, ends_line, IsRest, is_current, sees_w
 use Rattle.md_seam.specs.Transition.{Transition, entered, exited, taken}
 use Rattle.md_seam.specs.WholeLine.{line_taken}
 
--- what may stand first behind the indent of a heading: `#`
+-- what may be first after the indent of a heading: `#`
 abbrev pub may_begin : ℕ → Bool
 may_begin b = b == 35
 
--- whether something other than whitespace and the line's end stands here
+-- whether something other than whitespace and the line's end is here
 abbrev pub sees_text : Option ℕ → Bool
 sees_text None = false
 sees_text (Some b) = not (is_white b || (b == 10))
@@ -42,24 +42,24 @@ text_begun p s = record s { start = whole_from p }
 abbrev pub text_ended : Scratch → Scratch
 text_ended s = record s { start = 0 }
 
--- the text and what stands behind it, by the bytes of the line from where it began: that is the last event
+-- the text and what follows it, by the bytes of the line from where it began: that is the last event
 abbrev pub text_from : Point → Scratch → List ℕ → List Event
 text_from p s line = if (p.vs == 0) && (p.index == s.start) then text_events (without_ending line) p else []
 
 abbrev pub text_behind : List Event → Scratch → List ℕ → List Event
 text_behind events s line = text_from (last_point first_point events) s line
 
--- by whether `#` stands here
+-- by whether `#` is here
 abbrev pub before_code : World → Bool → Transition
 before_code w true = record { to = Retry (n.HeadingAtx its.SequenceOpen); world = entered w HeadingAtxSequence }
 before_code w false = record { to = Nok; world = w }
 
--- behind a run of the line, by whether whitespace stands here
+-- after a run of the line, by whether whitespace is here
 abbrev pub behind_part : World → Bool → Transition
 behind_part w true = white_then w 1 any_size (Next (n.HeadingAtx its.AtBreak)) Nok
 behind_part w false = record { to = Retry (n.HeadingAtx its.AtBreak); world = w }
 
--- by whether one more `#` is taken, and whether text or whitespace stands here
+-- by whether one more `#` is taken, and whether text or whitespace is here
 abbrev pub sequence_open_code : World → Bool → Bool → Bool → Transition
 sequence_open_code w true text white =
     record {
@@ -70,7 +70,7 @@ sequence_open_code w false true white = record { to = Nok; world = record w { sc
 sequence_open_code w false false white =
     behind_part (record (exited w HeadingAtxSequence) { scratch = without_size w.scratch }) white
 
--- behind the whitespace that follows the opening sequence, by whether text, `#` or the line's end stands here
+-- after the whitespace that follows the opening sequence, by whether text, `#` or the line's end is here
 abbrev pub at_break_code : World → Bool → Bool → Bool → Transition
 at_break_code w true true ending =
     record {
@@ -82,7 +82,7 @@ at_break_code w true false ending =
 at_break_code w false hash true = record { to = Ok; world = exited w HeadingAtx }
 at_break_code w false hash false = record { to = Nok; world = w }
 
--- by whether `#` stands here
+-- by whether `#` is here
 abbrev pub sequence_further_code : World → Bool → Transition
 sequence_further_code w true = record { to = Next (n.HeadingAtx its.SequenceFurther); world = taken w }
 sequence_further_code w false = record { to = Retry (n.HeadingAtx its.Data); world = w }

@@ -21,7 +21,7 @@ use Rattle.md_meaning.specs.Rest.{is_parted, run_len}
 use Rattle.md_seam.specs.Spaces.{any_size, calmed, small_indent}
 use Rattle.md_seam.specs.WholeLine.{line_taken, whole_line}
 
--- the rest of a line from its text on, behind these bytes of that
+-- the rest of a line from its text on, after these bytes of that
 unfoldable pub in_text : List ℕ → List Cell → Here → Outcome
 in_text taken cells h =
     let p = line_end cells h.point in
@@ -33,13 +33,13 @@ in_text taken cells h =
     })
     (from_ending cells)
 
--- behind the opening sequence and the whitespace that follows it
+-- after the opening sequence and the whitespace that follows it
 unfoldable pub at_break : List Cell → Here → Outcome
 at_break cells h =
     if begins_white cells then Refuses h.scratch h.flags
     else in_text [] cells (record h { scratch = text_begun h.point h.scratch })
 
--- behind the opening sequence
+-- after the opening sequence
 unfoldable pub behind_opening : List Cell → Here → Outcome
 behind_opening cells h =
     let p = white_end any_size cells h.point in
@@ -58,7 +58,7 @@ in_hashes (c ∷ cs) h =
     if c.byte == 35 then in_hashes cs (record h { point = c.after })
     else behind_opening (c ∷ cs) (record h { events = h.events ++ exit HeadingAtxSequence h.point ∷ [] })
 
--- whether a line goes on with `#`, at most six with those before it, and then whitespace or the line's end
+-- whether a line continues with `#`, at most six with those before it, and then whitespace or the line's end
 abbrev pub is_opening : ℕ → List ℕ → Bool
 is_opening size bytes = let depth = run_len 35 bytes in nat_le (size + depth) 6 && is_parted (drop depth bytes)
 
@@ -73,14 +73,14 @@ in_opening cells h =
 abbrev pub is_heading : List ℕ → Bool
 is_heading bytes = nat_le 1 (run_len 35 bytes) && is_opening 0 bytes
 
--- behind the indent
+-- after the indent
 unfoldable pub before_opening : List Cell → Here → Outcome
 before_opening cells h =
     if is_heading (line_bytes cells)
     then in_hashes cells (record h { events = h.events ++ enter HeadingAtxSequence h.point ∷ [] })
     else Refuses h.scratch h.flags
 
--- the whole rule, if headings are on: a small indent, and a heading behind it
+-- the whole rule, if headings are on: a small indent, and a heading after it
 abbrev pub heading_at : ParseOptions → List Cell → Here → Outcome
 heading_at options cells h = start_at HeadingAtx options.constructs.heading_atx before_opening options cells h
 
@@ -105,12 +105,12 @@ HeadingMeans state old to new =
 
 -- A line as a whole.
 
--- whether a heading stands on a line of these cells, with as much whitespace before it as there may be
+-- whether a heading is on a line of these cells, with as much whitespace before it as there may be
 abbrev pub is_heading_line : ParseOptions → List Cell → Bool
 is_heading_line options cells =
     options.constructs.heading_atx && is_heading (line_bytes (white_rest (small_indent options) cells))
 
--- what stands in it: its indent, its opening sequence and the whitespace behind that, its text, and what follows
+-- what is in it: its indent, its opening sequence and the whitespace after that, its text, and what follows
 abbrev pub text_inside : List Cell → Point → List Event
 text_inside cells p = text_from p (text_begun p REST) (whole_line p cells)
 

@@ -1,4 +1,4 @@
--- What stands on the line of an ATX heading, as events (CommonMark 4.2): runs of `#` and of whitespace, and the text.
+-- What is on the line of an ATX heading, as events (CommonMark 4.2): runs of `#` and of whitespace, and the text.
 use Rattle.std.specs.Prelude.{ℕ, Bool, false, ◌==◌, not, if◌then◌else◌, List, [], ◌∷◌, ◌++◌, length, take, drop}
 use Rattle.std.specs.Prelude.{Option, Some, None}
 use Rattle.md_engine.specs.declared.event.Content.TheVariants as content
@@ -19,11 +19,11 @@ pub data Run : Type 0 where
   White : Run
   Hashes : Run
 
--- the run that begins with this byte: around the text of a heading stand whitespace and `#` alone
+-- the run that begins with this byte: around the text of a heading are whitespace and `#` alone
 abbrev pub begun : ℕ → Run
 begun b = if is_white b then White else Hashes
 
--- whether a run goes on with this byte
+-- whether a run continues with this byte
 abbrev pub goes_on : Run → ℕ → Bool
 goes_on Apart b = false
 goes_on White b = is_white b
@@ -60,7 +60,7 @@ abbrev pub linked_data : Option Chunk → List Event
 linked_data None = []
 linked_data (Some chunk) = enter_link Data chunk.first heading_link ∷ exit Data chunk.after ∷ []
 
--- the rest of a line behind the opening sequence and its whitespace: the text, and the runs behind it
+-- the rest of a line after the opening sequence and its whitespace: the text, and the runs after it
 abbrev pub text_events : List ℕ → Point → List Event
 text_events line p =
     let size = length (heading_text line) in

@@ -1,5 +1,5 @@
--- The underline of a setext heading (CommonMark 4.3): it stands where text is open of which something is left behind
--- the definitions at its front.
+-- The underline of a setext heading (CommonMark 4.3): it is where text is open of which something is left after the
+-- definitions at its front.
 use Rattle.std.specs.Prelude.{◌≡◌, refl, ℕ, ◌+◌, ◌≤◌, Bool, true, false, ◌&&◌, ◌||◌, ◌==◌, not, if◌then◌else◌, Option}
 use Rattle.std.specs.Prelude.{Some, None}
 use Rattle.md_engine.specs.declared.configuration.ParseOptions.{ParseOptions}
@@ -23,7 +23,7 @@ use Rattle.md_seam.specs.Transition.{Transition, entered, exited, taken}
 abbrev pub is_marker : ℕ → Bool
 is_marker b = (b == 61) || (b == 45)
 
--- what may stand first behind the indent of an underline
+-- what may be first after the indent of an underline
 abbrev pub may_begin : ℕ → Bool
 may_begin b = is_marker b
 
@@ -32,7 +32,7 @@ abbrev pub is_text : HeldLeaf → Bool
 is_text (held_leaf.Text at) = true
 is_text _ = false
 
--- whether an underline that meets this leaf turns it: it is such text, and something is left behind its definitions
+-- whether an underline that meets this leaf turns it: it is such text, and something is left after its definitions
 abbrev pub may_turn : ParseOptions → HeldLeaf → Bool
 may_turn options (held_leaf.Text text) = not (options.constructs.definition && is_whole text.progress)
 may_turn options _ = false
@@ -46,7 +46,7 @@ turns_nothing options _ = false
 abbrev pub without_marker : Scratch → Scratch
 without_marker s = record s { marker = 0; size = 0 }
 
--- by what stands here
+-- by what is here
 abbrev pub before_code : World → Option ℕ → Transition
 before_code w None = record { to = Nok; world = w }
 before_code w (Some b) =
@@ -57,7 +57,7 @@ before_code w (Some b) =
     }
     else record { to = Nok; world = w }
 
--- by whether the marker stands here, and whether whitespace does
+-- by whether the marker is here, and whether whitespace does
 abbrev pub inside_code : World → Bool → Bool → Transition
 inside_code w true white = record {
   to = Next (n.HeadingSetext its.Inside);
@@ -71,7 +71,7 @@ inside_code w false false = record {
   world = record (exited w HeadingSetextUnderlineSequence) { scratch = without_marker w.scratch };
 }
 
--- by whether the line ends here: no leaf is open behind it
+-- by whether the line ends here: no leaf is open after it
 abbrev pub after_code : World → Bool → Transition
 after_code w true =
     record {

@@ -24,11 +24,11 @@ use Rattle.md_seam.specs.Look.{first_seen}
 use Rattle.md_seam.specs.Spaces.{ends_line, small_indent}
 use Rattle.md_meaning.specs.Rest.{is_blank, run_len}
 
--- the run of the marker, and the whitespace behind it
+-- the run of the marker, and the whitespace after it
 abbrev pub runs : Run → ℕ → List Cell → Point → List Event
 runs run m cells p = mark_runs HeadingSetextUnderlineSequence run m cells p
 
--- an underline to the end of the line; no leaf is open behind it
+-- an underline to the end of the line; no leaf is open after it
 abbrev pub underlined : Run → ℕ → List Cell → Here → Outcome
 underlined run m cells h =
     let p = line_end cells h.point in
@@ -41,7 +41,7 @@ underlined run m cells h =
     })
     (from_ending cells)
 
--- whether only the marker is left of a line, and whitespace behind it
+-- whether only the marker is left of a line, and whitespace after it
 abbrev pub is_run : ℕ → List ℕ → Bool
 is_run m bytes = is_blank (drop (run_len m bytes) bytes)
 
@@ -51,7 +51,7 @@ in_run cells h =
     if is_run h.scratch.marker (line_bytes cells) then underlined Marks h.scratch.marker cells h
     else Refuses (without_marker h.scratch) h.flags
 
--- behind the run, and the whitespace that follows it
+-- after the run, and the whitespace that follows it
 unfoldable pub behind_run : List Cell → Here → Outcome
 behind_run cells h =
     if ends_line (first_seen cells)
@@ -68,13 +68,13 @@ abbrev pub is_underline : List ℕ → Bool
 is_underline [] = false
 is_underline (m ∷ bytes) = is_marker m && is_run m (m ∷ bytes)
 
--- behind the indent
+-- after the indent
 unfoldable pub before_run : List Cell → Here → Outcome
 before_run [] h = Refuses h.scratch h.flags
 before_run (c ∷ cs) h =
     if is_underline (line_bytes (c ∷ cs)) then underlined Apart c.byte (c ∷ cs) h else Refuses h.scratch h.flags
 
--- the whole rule, if setext headings are on and one turns what is open: a small indent, and an underline behind it
+-- the whole rule, if setext headings are on and one turns what is open: a small indent, and an underline after it
 abbrev pub setext_at : ParseOptions → List Cell → Here → Outcome
 setext_at options cells h =
     start_at HeadingSetextUnderline (options.constructs.heading_setext && may_turn options h.flags.leaf) before_run
@@ -100,7 +100,7 @@ SetextMeans state old to new =
 
 -- A line as a whole.
 
--- whether an underline stands on a line of these cells, with as much whitespace before it as there may be
+-- whether an underline is on a line of these cells, with as much whitespace before it as there may be
 abbrev pub is_underline_line : ParseOptions → List Cell → Bool
 is_underline_line options cells =
     options.constructs.heading_setext && is_underline (line_bytes (white_rest (small_indent options) cells))
@@ -110,7 +110,7 @@ abbrev pub first_cell : List Cell → ℕ
 first_cell [] = 0
 first_cell (c ∷ cs) = c.byte
 
--- what stands in it: its indent, and its runs
+-- what is in it: its indent, and its runs
 abbrev pub underline_inside : ParseOptions → List Cell → Point → List Event
 underline_inside options cells p =
     let room = small_indent options in

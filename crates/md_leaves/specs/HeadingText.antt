@@ -1,4 +1,4 @@
--- The text of an ATX heading, among the events: one part from the run behind its opening sequence to the last run that
+-- The text of an ATX heading, among the events: one part from the run after its opening sequence to the last run that
 -- is no closing sequence (CommonMark 4.2).
 use Rattle.std.specs.Prelude.{Bool, true, false, ◌&&◌, ◌||◌, not, if◌then◌else◌, List}
 use Rattle.std.specs.Prelude.{[], ◌∷◌, ◌++◌, Option, Some, None}
@@ -46,18 +46,18 @@ abbrev pub text_between : Point → Option Point → List Event
 text_between first None = []
 text_between first (Some after) = linked_text (Some (record { first = first; after = after }))
 
--- Where a walk over the events stands.
+-- Where a walk over the events is.
 pub data Place : Type 0 where
   Outside : Place
   -- in a heading, before the end of its opening sequence
   Before : Place
-  -- behind it, before a further run
+  -- after it, before a further run
   Opened : Place
-  -- behind the begin of a further run: where the first such run begins; where the text ends, if there is text; where
-  -- the last run has ended; the events behind the text up to that end; and the events behind that end
+  -- after the begin of a further run: where the first such run begins; where the text ends, if there is text; where the
+  -- last run has ended; the events after the text up to that end; and the events after that end
   Within : Point → Option Point → Option Point → List Event → List Event → Place
 
--- what is left of the events from a place on: a run of `#` closes the heading, until another run begins behind it
+-- what is left of the events from a place on: a run of `#` closes the heading, until another run begins after it
 abbrev pub resolved : Place → List Event → List Event
 resolved Outside [] = []
 resolved Before [] = []

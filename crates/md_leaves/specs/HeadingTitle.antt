@@ -1,4 +1,4 @@
--- What stands in an ATX heading, by the bytes of its line (CommonMark 4.2).
+-- What is in an ATX heading, by the bytes of its line (CommonMark 4.2).
 use Rattle.std.specs.Prelude.{ℕ, ◌+◌, List, ◌++◌, length, take, drop, Option}
 use Rattle.std.specs.List.{prefix_len}
 use Rattle.md_engine.specs.declared.event.Event.{Event}
@@ -10,13 +10,13 @@ use Rattle.md_meaning.specs.Leaves.{heading_text}
 use Rattle.md_seam.specs.Events.Places.{past_text}
 use Rattle.md_meaning.specs.Rest.{is_white, run_len}
 
--- The parts of a heading: its opening sequence with the whitespace around it, its text, and what stands behind that.
+-- The parts of a heading: its opening sequence with the whitespace around it, its text, and what follows that.
 pub record Title : Type 0 where
   pub front : List Event
   pub text : Option Chunk
   pub back : List Event
 
--- how many bytes stand before the text
+-- how many bytes are before the text
 abbrev pub front_len : List ℕ → ℕ
 front_len line =
     let indent = prefix_len is_white line in

@@ -1,4 +1,4 @@
--- The start of a leaf that stands behind a small indent, as a heading: what is its own comes behind that.
+-- The start of a leaf that is after a small indent, as a heading: what is its own comes after that.
 use Rattle.std.specs.Prelude.{Bool, true, false, if◌then◌else◌, List, [], ◌∷◌, ◌++◌}
 use Rattle.md_engine.specs.declared.configuration.ParseOptions.{ParseOptions}
 use Rattle.md_engine.specs.declared.event.Name.{Name}
@@ -12,8 +12,8 @@ use Rattle.md_seam.specs.Events.Nested.{enter, exit}
 use Rattle.md_seam.specs.Spaces.{calmed, sees_white, small_indent, white_then}
 use Rattle.md_seam.specs.Transition.{Transition, entered}
 
--- What its first state does, by its name and its state behind the indent: by whether it is on, and whether whitespace
--- stands here.
+-- What its first state does, by its name and its state after the indent: by whether it is on, and whether whitespace is
+-- here.
 abbrev pub start_code : Name → StateName → World → Bool → Bool → Transition
 start_code name behind w false white = record { to = Nok; world = w }
 start_code name behind w true true = white_then (entered w name) 0 (small_indent w.setting.options) (Next behind) Nok
@@ -26,7 +26,7 @@ start_transition name behind on w = start_code name behind w on (sees_white w.cu
 abbrev pub entered_here : Name → Here → Here
 entered_here name h = record h { events = h.events ++ enter name h.point ∷ [] }
 
--- What is left of it there, if it is on: a small indent, and what is left of it behind that.
+-- What is left of it there, if it is on: a small indent, and what is left of it after that.
 unfoldable pub start_at : Name → Bool → (List Cell → Here → Outcome) → ParseOptions → List Cell → Here → Outcome
 start_at name on behind options cells h =
     let begun = entered_here name h in

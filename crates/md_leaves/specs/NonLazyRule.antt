@@ -16,11 +16,11 @@ use Rattle.md_seam.specs.Events.Nested.{pair}
 abbrev pub is_lazy : Line → List Cell → Bool
 is_lazy none cells = (line_of none cells).lazy
 
--- behind the ending: the line that begins here is not lazy
+-- after the ending: the line that begins here is not lazy
 unfoldable pub after_ending : Line → List Cell → Here → Outcome
 after_ending none cells h = if is_lazy none cells then Refuses h.scratch h.flags else Accepts h cells
 
--- the whole rule: an ending, and behind it a line that is not lazy
+-- the whole rule: an ending, and after it a line that is not lazy
 unfoldable pub continuation_at : Line → List Cell → Here → Outcome
 continuation_at none [] h = Refuses h.scratch h.flags
 continuation_at none (c ∷ cs) h =

@@ -4,7 +4,7 @@ use Rattle.md_engine.specs.declared.event.Point.{Point}
 use Rattle.md_engine.specs.Place.{IsPlaced}
 use Rattle.md_meaning.proofs.TextsLemmas.{NoEnding}
 
--- these bytes stand at a point of a text, and none of them ends the line
+-- these bytes are at a point of a text, and none of them ends the line
 pub record IsOnLine (bytes piece : List ℕ) (p : Point) : Type 0 where
   pub placed : IsPlaced bytes p
   pub rest : List ℕ

@@ -1,12 +1,12 @@
 -- Leaf blocks of several lines, among the events (CommonMark 4.4, 4.5, 4.6, GFM 4.10).
 --
--- At first each line of such a block stands as a block by itself; the begin of a further line says by its link that it
--- goes on the block of the line before. Where a block ends and the next one is such a line, neither that end nor the
--- begin of the line is left: the block goes on. So what stands between two of its lines (line endings, whitespace,
--- prefixes of containers) stands in the block, and what follows the last of them does not.
+-- At first each line of such a block is as a block by itself; the begin of a further line says by its link that it
+-- continues the block of the line before. Where a block ends and the next one is such a line, neither that end nor the
+-- begin of the line is left: the block continues. So what is between two of its lines (line endings, whitespace,
+-- prefixes of containers) is in the block, and what follows the last of them does not.
 --
--- Whether a blank line belongs to a block shows only behind it. Between two lines of the block it does: its ending is
--- a line ending like any other, and whitespace that is left of it behind the indent of code is a line of code. Else it
+-- Whether a blank line belongs to a block shows only after it. Between two lines of the block it does: its ending is a
+-- line ending like any other, and whitespace that is left of it after the indent of code is a line of code. Else it
 -- does not, and such whitespace is only whitespace.
 use Rattle.std.specs.Prelude.{Bool, true, false, ◌&&◌, not, if◌then◌else◌, List, [], ◌∷◌, ◌++◌, Option, Some, None}
 use Rattle.md_engine.specs.declared.event.Event.{Event}
@@ -42,9 +42,9 @@ abbrev pub is_blank_ending : Name → Bool
 is_blank_ending n.BlankLineEnding = true
 is_blank_ending _ = false
 
--- What stands ahead.
+-- What is ahead.
 
--- whether a link says that the part goes on the one before
+-- whether a link says that the part continues the one before
 abbrev pub links_back : Option Link → Bool
 links_back None = false
 links_back (Some link) = link.previous
@@ -76,7 +76,7 @@ turn_by Exit true further = Ends
 abbrev pub turn : Event → Turn
 turn e = turn_by e.kind (has_lines (role e.name)) (links_back e.link)
 
--- whether a part that stands at a place gets another name, and its name there
+-- whether a part that is at a place gets another name, and its name there
 abbrev pub is_renamed : Place → Name → Bool
 is_renamed Outside name = is_code_line name
 is_renamed Inside name = false
@@ -90,7 +90,7 @@ name_at Between name = if is_blank_ending name then n.LineEnding else name
 abbrev pub renamed : Place → Event → Event
 renamed place e = record e { name = name_at place e.name }
 
--- the begin of a further line: it is left only where no line of its block stands in front of it
+-- the begin of a further line: it is left only where no line of its block is before it
 abbrev pub further_begin : Place → Event → List Event
 further_begin Between e = []
 further_begin _ e = e ∷ []
@@ -102,7 +102,7 @@ given_by GoesOn place further e = further_begin place e
 given_by Ends place further e = if further then [] else e ∷ []
 given_by Stays place further e = renamed place e ∷ []
 
--- where one is behind it
+-- where one is after it
 abbrev pub place_by : Turn → Place → Bool → Place
 place_by Begins place further = Inside
 place_by GoesOn place further = Inside

@@ -1,8 +1,8 @@
 -- Setext headings, among the events (CommonMark 4.3).
 --
--- At first the text of such a heading stands as a paragraph, and its underline behind the ending of that and the
--- prefixes of containers. Where an underline follows a paragraph so, both are one heading: the paragraph is its text,
--- and the heading ends with the underline.
+-- At first the text of such a heading is as a paragraph, and its underline after the ending of that and the prefixes of
+-- containers. Where an underline follows a paragraph so, both are one heading: the paragraph is its text, and the
+-- heading ends with the underline.
 use Rattle.std.specs.Prelude.{◌≡◌, Bool, true, false, ◌&&◌, not, if◌then◌else◌, List, [], ◌∷◌, ◌++◌}
 use Rattle.md_engine.specs.declared.event.Event.{Event}
 use Rattle.md_engine.specs.declared.event.Kind.{Kind}
@@ -23,15 +23,15 @@ abbrev pub is_underline : Name → Bool
 is_underline n.HeadingSetextUnderline = true
 is_underline _ = false
 
--- What stands ahead.
+-- What is ahead.
 
--- whether an underline begins behind container prefixes
+-- whether an underline begins after container prefixes
 abbrev pub underline_behind : List Event → Bool
 underline_behind [] = false
 underline_behind (e ∷ es) =
     if is_prefix e.name then underline_behind es else is_enter e.kind && is_underline e.name
 
--- whether one follows a paragraph that ends before these events: behind its ending
+-- whether one follows a paragraph that ends before these events: after its ending
 abbrev pub has_underline : List Event → Bool
 has_underline (e ∷ f ∷ es) = is_line_ending e.name && underline_behind es
 has_underline _ = false
@@ -67,7 +67,7 @@ given_by EndsText on begins e = if on then exit n.HeadingSetextText e.point ∷ 
 given_by EndsUnderline on begins e = if on then e ∷ exit n.HeadingSetext e.point ∷ [] else e ∷ []
 given_by Stays on begins e = e ∷ []
 
--- whether one is open behind it
+-- whether one is open after it
 abbrev pub on_by : Turn → Bool → Bool → Bool
 on_by BeginsText on begins = begins
 on_by EndsText on begins = on

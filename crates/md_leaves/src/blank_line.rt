@@ -28,7 +28,7 @@ pub fn ends_line(current: Option<u8>) -> bool
     matches!(current, None | Some(b'\n'))
 }
 
-/// Whether the line may be blank, by what stands first behind whitespace: its ending, if that is known.
+/// Whether the line may be blank, by what is first after whitespace: its ending, if that is known.
 pub fn may_begin(first: Option<u8>) -> bool
     ensures { result ≡ may_with may_begin first }
 {
@@ -61,7 +61,7 @@ pub fn start(tokenizer: &mut Tokenizer) -> State
     }
 }
 
-/// Behind the whitespace.
+/// After the whitespace.
 ///
 /// ```markdown
 /// > | a

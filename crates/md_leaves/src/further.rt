@@ -1,8 +1,8 @@
-// What tells a line of a leaf that goes on.
+// What shows a line of a leaf that continues.
 
 use md_engine::event::{Content, Link};
 
-/// The link of the begin of a line that goes on the leaf of the line before.
+/// The link of the begin of a line that continues the leaf of the line before.
 pub const FURTHER: Link = Link {
     previous: true,
     next: false,

@@ -2,9 +2,9 @@
 //
 //     heading_atx ::= small_indent 1*6'#' [ 1*space_or_tab line [ 1*space_or_tab 1*'#' ] ] *space_or_tab
 //
-// The states add `HeadingAtx` around what stands on the line: `HeadingAtxSequence` and `SpaceOrTab` for the opening
+// The states add `HeadingAtx` around what is on the line: `HeadingAtxSequence` and `SpaceOrTab` for the opening
 // sequence and the whitespace beside it, one linked `Data` for the text, and the same names for a closing sequence and
-// the whitespace beside that. Where the text ends is known only at the end of the line, so there all events behind the
+// the whitespace beside that. Where the text ends is known only at the end of the line, so there all events after the
 // opening sequence are added. When all of the document is read, a resolver puts `HeadingAtxText` around the text.
 
 ghost use Rattle.std.specs.Prelude.{◌≡◌, ◌≢◌, IfSome};
@@ -40,7 +40,7 @@ use md_seam::space_or_tab::{is_one_space, is_space_or_tab, space_or_tab, take_on
 /// An opening sequence has at most so many `#`.
 const OPENING: usize = 6;
 
-/// Whether a heading may begin here, by what stands first behind whitespace: `#`, if that is known.
+/// Whether a heading may begin here, by what is first after whitespace: `#`, if that is known.
 pub fn may_begin(first: Option<u8>) -> bool
     ensures { result ≡ may_with may_begin first }
 {
@@ -72,7 +72,7 @@ pub fn start(tokenizer: &mut Tokenizer) -> State
     )
 }
 
-/// Behind the indent, at `#`.
+/// After the indent, at `#`.
 ///
 /// ```markdown
 /// > | ## aa
@@ -95,7 +95,7 @@ pub fn before(tokenizer: &mut Tokenizer) -> State
     }
 }
 
-/// Behind the opening sequence: takes the whitespace that stands here.
+/// After the opening sequence: takes the whitespace that is here.
 fn go_on(tokenizer: &mut Tokenizer) -> State
     ensures to { result ≢ State.Error →
         result ≡ (behind_part (world tokenizer.old) (sees_white tokenizer.old.current)).to }
@@ -154,7 +154,7 @@ fn begin_text(tokenizer: &mut Tokenizer)
     tokenizer.scratch.start = whole_from(tokenizer.point);
 }
 
-/// Behind the whitespace that follows the opening sequence: before the text, or at the line's end.
+/// After the whitespace that follows the opening sequence: before the text, or at the line's end.
 ///
 /// ```markdown
 /// > | ## aa ##
@@ -180,7 +180,7 @@ pub fn at_break(tokenizer: &mut Tokenizer) -> State
             or_error!(tokenizer.exit(Name::HeadingAtx));
             State::Ok
         }
-        // All whitespace lies behind.
+        // All whitespace lies after.
         Some(b'\t' | b' ') => State::Nok,
         Some(b'#') => {
             begin_text(tokenizer);
@@ -193,8 +193,8 @@ pub fn at_break(tokenizer: &mut Tokenizer) -> State
     }
 }
 
-/// In a further sequence, behind the whitespace that follows the opening one: it closes the heading, or is a part of
-/// the text.
+/// In a further sequence, after the whitespace that follows the opening one: it closes the heading, or is a part of the
+/// text.
 ///
 /// ```markdown
 /// > | ## ##
@@ -254,7 +254,7 @@ fn begins_text(current: Option<u8>) -> bool
     }
 }
 
-/// Behind the whitespace that follows the opening sequence: takes the rest of the line at once, as `at_break` and `data`
+/// After the whitespace that follows the opening sequence: takes the rest of the line at once, as `at_break` and `data`
 /// do one after another.
 ///
 /// ```markdown
@@ -281,8 +281,8 @@ pub fn text(tokenizer: &mut Tokenizer) -> State
     data(tokenizer)
 }
 
-/// In the opening sequence: where one space stands behind it, takes the rest of the line at once, as the states do one
-/// after another.
+/// In the opening sequence: where one space is after it, takes the rest of the line at once, as the states do one after
+/// another.
 ///
 /// ```markdown
 /// > | ## aa bb
@@ -314,7 +314,7 @@ fn begins_sequence(current: Option<u8>) -> bool
     current == Some(b'#')
 }
 
-/// Behind the indent, at `#`: takes the opening sequence at once, and the rest of the line where one space is behind it,
+/// After the indent, at `#`: takes the opening sequence at once, and the rest of the line where one space is after it,
 /// as the states do one after another.
 ///
 /// ```markdown

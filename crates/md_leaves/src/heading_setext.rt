@@ -3,10 +3,10 @@
 //     heading_setext ::= paragraph eol underline
 //     underline      ::= small_indent ( 1*'=' | 1*'-' ) *space_or_tab
 //
-// A line that is an underline turns the text that is open before it into a heading, or what is left of that behind its
-// definitions. Where nothing is left the line is a line of the text. The states add
-// `HeadingSetextUnderline` around the run, `HeadingSetextUnderlineSequence`, and `SpaceOrTab`. When all of the text is
-// read, a resolver puts `HeadingSetext` around that and the paragraph in front, which becomes `HeadingSetextText`.
+// A line that is an underline turns the text that is open before it into a heading, or what is left of that after its
+// definitions. Where nothing is left the line is a line of the text. The states add `HeadingSetextUnderline` around the
+// run, `HeadingSetextUnderlineSequence`, and `SpaceOrTab`. When all of the text is read, a resolver puts
+// `HeadingSetext` around that and the paragraph in front, which becomes `HeadingSetextText`.
 
 ghost use Rattle.std.specs.Prelude.{◌≡◌, ◌≢◌, ◌&&◌, IfSome};
 ghost use Rattle.md_leaves.specs.HeadingSetextRule.{SetextMeans};
@@ -48,7 +48,7 @@ pub fn is_whole(progress: Progress) -> bool
 }
 
 /// Whether an underline that meets this leaf turns it: it is text for which the line is not lazy, and something is left
-/// of it behind its definitions.
+/// of it after its definitions.
 pub fn may_turn(options: &ParseOptions, leaf: HeldLeaf) -> bool
     ensures { result ≡ may_turn options.now leaf }
 {
@@ -73,7 +73,7 @@ pub fn turns_nothing(options: &ParseOptions, leaf: HeldLeaf) -> bool
     }
 }
 
-/// Whether an underline may begin here, by what stands first behind whitespace: a marker, if that is known.
+/// Whether an underline may begin here, by what is first after whitespace: a marker, if that is known.
 pub fn may_begin(first: Option<u8>) -> bool
     ensures { result ≡ may_with may_begin first }
 {
@@ -109,7 +109,7 @@ pub fn start(tokenizer: &mut Tokenizer) -> State
     )
 }
 
-/// Behind the indent, at a marker.
+/// After the indent, at a marker.
 ///
 /// ```markdown
 ///   | aa
@@ -172,7 +172,7 @@ pub fn inside(tokenizer: &mut Tokenizer) -> State
     }
 }
 
-/// Behind the run and whitespace, at the end of the line.
+/// After the run and whitespace, at the end of the line.
 ///
 /// ```markdown
 ///   | aa

@@ -1,4 +1,4 @@
-// The text of an ATX heading, and what stands behind it (CommonMark 4.2).
+// The text of an ATX heading, and what follows it (CommonMark 4.2).
 //
 // At the end of the line of a heading all of it is known from where its text begins: the text, a closing sequence, and
 // the whitespace beside that. They are added in one go.
@@ -44,7 +44,7 @@ const FIRST: Point = Point {
     vs: 0,
 };
 
-/// The point behind a byte of a line.
+/// The point after a byte of a line.
 #[inline(always)]
 fn past_byte(byte: u8, point: Point) -> Point
     requires { (point.index < 2 ^ 61) × (point.column ≤ 2 ^ 63) }
@@ -60,7 +60,7 @@ fn past_byte(byte: u8, point: Point) -> Point
     }
 }
 
-/// The point behind a piece of a line.
+/// The point after a piece of a line.
 #[inline(always)]
 fn past_text(bytes: &[u8], piece: &[u8], from: Point) -> Point
     requires { IsOnLine bytes.now piece.now from }
@@ -148,8 +148,8 @@ fn has_tab(bytes: &[u8]) -> bool
     bytes.iter().any(|byte| *byte == b'\t')
 }
 
-/// The point behind the text of a heading. Where what follows it on the line reaches to the tokenizer's point and has no
-/// tab, it is so many bytes and columns in front of that point.
+/// The point after the text of a heading. Where what follows it on the line reaches to the tokenizer's point and has no
+/// tab, it is so many bytes and columns before that point.
 fn text_end(tokenizer: &Tokenizer, text: &[u8], rest: &[u8], from: Point) -> Point
     requires on { IsOnLine (world tokenizer.now).setting.bytes (text.now ++ rest.now) from }
     requires whole { from.vs ≡ 0 }
@@ -207,7 +207,7 @@ fn add_data(tokenizer: &mut Tokenizer, text: &[u8], from: Point, end: Point) -> 
     add_part(tokenizer, Name::Data, Some(TEXT_LINK), from, end)
 }
 
-/// Adds the text of the heading, whose line ends here, and what is behind it.
+/// Adds the text of the heading, whose line ends here, and what is after it.
 pub(crate) fn add_text(tokenizer: &mut Tokenizer) -> Result<(), Message>
     ensures world { OnOk result (world tokenizer.new ≡ text_added (world tokenizer.old)) }
     ensures full { is_err result ≡ true → IsFull tokenizer.new }

@@ -1,4 +1,4 @@
-// The start of a leaf that stands behind a small indent, as a heading.
+// The start of a leaf that is after a small indent, as a heading.
 
 ghost use Rattle.std.specs.Prelude.{◌≡◌, ◌≢◌};
 ghost use Rattle.md_engine.specs.Full.{IsFull, OnError};
@@ -12,7 +12,7 @@ use md_engine::state::{Name as StateName, State};
 use md_engine::tokenizer::Tokenizer;
 use md_seam::space_or_tab::{is_space_or_tab, small_indent, space_or_tab_min_max};
 
-/// Begins the leaf of this name, if it is on, takes a small indent, and goes on at this state.
+/// Begins the leaf of this name, if it is on, takes a small indent, and continues at this state.
 #[inline(always)]
 pub(crate) fn start_leaf(
     tokenizer: &mut Tokenizer,

@@ -1,8 +1,8 @@
-// The check that a block may go on with the next line: that the line is not lazy (CommonMark 5.1).
+// The check that a block may continue with the next line: that the line is not lazy (CommonMark 5.1).
 //
-//     non_lazy_continuation ::= line_ending      ; behind which no lazy line begins
+//     non_lazy_continuation ::= line_ending      ; after which no lazy line begins
 //
-// A line is lazy where not all containers went on, and none opened. It adds the `LineEnding` between the lines.
+// A line is lazy where not all containers continued, and none opened. It adds the `LineEnding` between the lines.
 
 ghost use Rattle.std.specs.Prelude.{◌≡◌, ◌≢◌};
 ghost use Rattle.md_leaves.specs.NonLazyRule.{NonLazyMeans};
@@ -46,7 +46,7 @@ pub fn start(tokenizer: &mut Tokenizer) -> State
     }
 }
 
-/// At the beginning of the next line, behind the prefixes of its containers.
+/// At the beginning of the next line, after the prefixes of its containers.
 ///
 /// ```markdown
 ///   | > ~~~ c

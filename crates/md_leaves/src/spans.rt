@@ -1,8 +1,8 @@
 // Leaf blocks of several lines, whose lines are joined in one walk over the events.
 //
-// At first each line is a block by itself. The walk looks at each event as it passes it, and else at most once
-// from an end of a block in front of it that asks for the next one. So it is linear. It only leaves out events and
-// renames some, so the events are moved down in their own list.
+// At first each line is a block by itself. The walk looks at each event as it passes it, and else at most once from an
+// end of a block before it that asks for the next one. So it is linear. It only leaves out events and renames some, so
+// the events are moved down in their own list.
 
 ghost use Rattle.std.specs.Prelude.{◌≡◌, ℕ, ◌≤◌, ◌<◌, ◌++◌, ◌∷◌, ◌||◌, [], IfOk, List, None, OnOk, drop};
 ghost use Rattle.std.specs.Prelude.{false, length, take, true};
@@ -64,7 +64,7 @@ fn is_blank_ending(name: Name) -> bool
     matches!(name, Name::BlankLineEnding)
 }
 
-/// Whether a link says that its part goes on the one before.
+/// Whether a link says that its part continues the one before.
 fn links_back(link: Option<Link>) -> bool
     ensures { result ≡ links_back link }
 {
@@ -151,7 +151,7 @@ impl Test for PassesAt {
     }
 }
 
-/// How many events are in front of the first that does not pass a place as it is, or is of an underline.
+/// How many events are before the first that does not pass a place as it is, or is of an underline.
 fn until_other(place: Place, events: &[Event]) -> usize
     ensures value { result ≡ prefix_len (passes_on place) events.now }
     ensures within { result ≤ length events.now }
@@ -181,7 +181,7 @@ fn until_other(place: Place, events: &[Event]) -> usize
 /// A walk over the events.
 #[derive(Drop)]
 struct Walk {
-    /// What is given for the events so far, those that are held behind it, which are given as they are, and those that
+    /// What is given for the events so far, those that are held after it, which are given as they are, and those that
     /// are left.
     all: Rewriting,
     place: Place,
@@ -229,7 +229,7 @@ impl Walk {
         self.all.push(Event { name, ..event })
     }
 
-    /// Gives the events in front of the first that does not pass here as it is.
+    /// Gives the events before the first that does not pass here as it is.
     fn pass(&mut self)
         ensures given { given_of self.new ≡ given_of self.old ++ take (passing self.old) (rest_of self.old) }
         ensures rest { rest_of self.new ≡ drop (passing self.old) (rest_of self.old) }
@@ -240,7 +240,7 @@ impl Walk {
         self.all.hold_many(many);
     }
 
-    /// Whether the next block behind the event that is left first is a further line.
+    /// Whether the next block after the event that is left first is a further line.
     fn goes_on_behind(&self) -> bool
         requires { 0 < length (rest_of self.now) }
         ensures { result ≡ goes_on (drop 1 (rest_of self.now)) }

@@ -40,7 +40,7 @@ fn is_marker(byte: u8) -> bool
     byte == b'*' || byte == b'-' || byte == b'_'
 }
 
-/// Whether a break may begin here, by what stands first behind whitespace: a marker, if that is known.
+/// Whether a break may begin here, by what is first after whitespace: a marker, if that is known.
 pub fn may_begin(first: Option<u8>) -> bool
     ensures { result ≡ may_with may_begin first }
 {
@@ -74,7 +74,7 @@ pub fn start(tokenizer: &mut Tokenizer) -> State
     )
 }
 
-/// Behind the indent, at a marker.
+/// After the indent, at a marker.
 ///
 /// ```markdown
 /// > | ***
@@ -205,7 +205,7 @@ pub fn one_run(tokenizer: &mut Tokenizer) -> State
     }
 }
 
-/// Behind that run, and the whitespace that follows it.
+/// After that run, and the whitespace that follows it.
 ///
 /// ```markdown
 ///   | [a]: b

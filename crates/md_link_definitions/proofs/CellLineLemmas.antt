@@ -1,4 +1,4 @@
--- What stands in front of a mark among cells is what is enclosed on their lines.
+-- What is before a mark among cells is what is enclosed on their lines.
 use Rattle.std.proofs.Common.{◌≡◌, ℕ, ◌||◌, ◌&&◌, Bool, true, false, cond, nat_eq, List, [], ◌∷◌, Option, Some, None}
 use Rattle.std.proofs.Common.{refl, sym, ◌∙◌, ap, arith, subst}
 use Rattle.std.specs.List.{onto_first}
@@ -142,7 +142,7 @@ closed-plain closer led c text (d ∷ ds) e k = go (nat_eq d.byte closer) refl
     go true m = rw (m, e, k) refl
     go false m = rw m refl
 
--- whitespace in front of a line
+-- whitespace before a line
 closed-white : (closer : ℕ) (c : Cell) (text rest : List Cell) → nat_eq c.byte 10 ≡ false → is_white c.byte ≡ true →
     lines_closed closer true (c ∷ text) rest ≡ lines_closed closer true text rest
 unfolding lines_closed cell_lines
@@ -169,7 +169,7 @@ pub lines-byte : (led : Bool) (c : Cell) (cs : List Cell) → nat_eq c.byte 10 �
 unfolding cell_lines
 lines-byte led c cs e k = rw (e, k) refl
 
--- whitespace in front of a line,
+-- whitespace before a line,
 pub lines-white : (c : Cell) (cs : List Cell) → nat_eq c.byte 10 ≡ false → is_white c.byte ≡ true →
     cell_lines true (c ∷ cs) ≡ cell_lines true cs
 unfolding cell_lines
@@ -190,7 +190,7 @@ not-mark opener closer b are e = go (nat_eq b opener) (nat_eq b closer) refl ref
     go false true k l = let no : is_other b ≡ false = rw (eqb-true b closer l) are.closes in cc
     go false false k l = refl
 
--- What is enclosed on the lines of these cells stands in front of the first mark.
+-- What is enclosed on the lines of these cells is before the first mark.
 abbrev pub AreEnclosed : ℕ → ℕ → Bool → Bool → List Cell → Type 0
 AreEnclosed opener closer led escaped cells =
     first_enclosed opener closer escaped (cell_lines led cells) ≡

@@ -27,7 +27,7 @@ use Rattle.md_seam.proofs.AheadLemmas.{white-ending, white-no_ending}
 use Rattle.md_seam.proofs.FeedLines.{bytes_of}
 use Rattle.md_seam.proofs.RestCells.{white-length}
 
--- Behind the mark that closes a text.
+-- After the mark that closes a text.
 
 -- what follows a part: a byte begins there, and fewer cells are left
 pub record Behind (p : Point) (rest cells : List Cell) : Type 0 where
@@ -143,7 +143,7 @@ gap-length cells =
 
 -- The end of a line.
 
--- it is blank from here on if it ends behind whitespace,
+-- it is blank from here on if it ends after whitespace,
 pub blank-ends : (room : ℕ) (p : Point) (cells : List Cell) → length cells ≤ room → AreWhole p cells →
     is_blank (bytes_of (whole_cells p (line_cells cells))) ≡ ends_line (first_seen (white_rest room cells))
 blank-ends room p [] le are = refl
@@ -165,7 +165,7 @@ blank-ends (suc room) p (c ∷ cs) le are =
     go false false z w e v on =
         let at : p.vs ≡ 0 = whole-at p c are.0 w in rw (w, e, at, w) refl
 
--- and then the lines behind it follow that whitespace
+-- and then the lines after it follow that whitespace
 pub ended-further : (cells : List Cell) → ends_behind cells ≡ true →
     further (from_ending cells) ≡ further (white_rest any_size cells)
 ended-further cells e =

@@ -38,12 +38,12 @@ use Rattle.md_seam.proofs.RestCells.{white-length}
 
 -- The title.
 
--- what is told of it
+-- what is said of it
 abbrev pub title_told : Option TitleParts → Option (List (List ℕ))
 title_told None = None
 title_told (Some t) = Some (cell_lines false (whole_cells t.opener.after t.text))
 
--- one that ends its line, and the lines behind it
+-- one that ends its line, and the lines after it
 abbrev lone_lines : Option TitleParts → Option Lines
 lone_lines None = None
 lone_lines (Some t) = Some (record {
@@ -87,7 +87,7 @@ title-lone p cells at small = texts p cells at ∙ go (title_parts cells) refl
         let fewer = behind.fewer in
         lone-texts t behind.at.are (omega (arith, fewer))
 
--- and the one behind a gap
+-- and the one after a gap
 title-gap : (p : Point) (cells : List Cell) (line : List ℕ) (lines : List (List ℕ)) → AreAt p cells →
     length cells ≤ any_size → cell_lines false (whole_cells p cells) ≡ line ∷ lines →
     title_after line lines ≡ lone_lines (title_behind cells)
@@ -113,7 +113,7 @@ title-gap p (c ∷ cs) line lines at small e = go (begins_gap (c ∷ cs)) refl
 
 -- What follows the destination.
 
--- the definition with this label and destination, and this title or none, and the lines behind it
+-- the definition with this label and destination, and this title or none, and the lines after it
 abbrev pub cut_by : List (List ℕ) → List ℕ → Option TitleParts → List Cell → Cut
 cut_by label text title cells = record {
   defined = record { label = label; destination = text; title = title_told title };
@@ -205,7 +205,7 @@ tail-lines label text p cells at small =
 
 -- The destination.
 
--- by the lines of its text, of which there is one, and those behind it
+-- by the lines of its text, of which there is one, and those after it
 abbrev from_text : List (List ℕ) → List (List ℕ) → List (List ℕ) → Option Cut
 from_text label (text ∷ more) (line ∷ lines) = with_title label (record { text = text; rest = line }) lines
 from_text label _ _ = None
@@ -229,7 +229,7 @@ text_bytes d cells p =
     let literal = begins_literal cells in
     bytes_of (whole_cells (text_first literal cells p) (text_cells literal d.text cells))
 
--- what it comes to
+-- what it becomes
 abbrev destination_cut : List (List ℕ) → Point → List Cell → Option Destination → Option Cut
 destination_cut label p cells None = None
 destination_cut label p cells (Some d) =
@@ -289,7 +289,7 @@ colon-lines p (c ∷ cs) at =
 
 -- The whole.
 
--- what a definition that was found tells, and the lines behind it
+-- what a definition that was found shows, and the lines after it
 abbrev pub cut_of : Option DefinitionParts → Option Cut
 cut_of None = None
 cut_of (Some d) =
@@ -325,7 +325,7 @@ cut-with cells label c cs (Some d) = go (ends_behind (parts_rest all))
     go true = refl
     go false = refl
 
--- behind the label
+-- after the label
 abbrev behind_colon : List (List ℕ) → Option (List (List ℕ)) → Option Cut
 behind_colon label None = None
 behind_colon label (Some more) = with_destination label (after_gap more)
@@ -380,7 +380,7 @@ labelled-is lines = go (found.label_at lines)
     go None = refl
     go (Some label) = by label (after_colon label.rest)
 
--- behind the indent
+-- after the indent
 definition-at : (cells : List Cell) (p : Point) (left : List Cell) → AreAt p left → length left ≤ any_size →
     found.definition_at (cell_lines false (whole_cells p left)) ≡ cut_of (parts_labelled cells (label_parts left))
 definition-at cells p left at small =
@@ -402,7 +402,7 @@ definition-at cells p left at small =
         ∙ behind-label cells label label.rest behind.at (omega (arith, fewer))
 
 -- A definition is found on the lines of cells, of which the first may be indented, where those cells begin with one:
--- with its label, its destination and its title, and in front of the lines behind it.
+-- with its label, its destination and its title, and before the lines after it.
 pub definition-lines : (p : Point) (cells : List Cell) → length cells ≤ any_size → AreWhole p cells →
     found.definition_at (cell_lines true (whole_cells p cells)) ≡ cut_of (definition_parts cells)
 unfolding definition_parts

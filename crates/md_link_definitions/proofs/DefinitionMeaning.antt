@@ -47,11 +47,11 @@ use Rattle.md_seam.proofs.WhiteMeaning.{begins-seen, white-tried}
 
 -- Attempts.
 
--- one that begins here, where a world stands
+-- one that begins here, where a world is
 abbrev frame_here : State → State → World → Frame
 frame_here ok nok w = record { ok = ok; nok = nok; is_check = false; events_len = length w.events; point = w.point }
 
--- what it comes to
+-- what it becomes
 tried-resumed : (B : Behaviour) (feed : Feed) (w : World) (ok nok : State) (o : Outcome)
     (onward : List Cell → Here → Outcome) (otherwise : Scratch → Flags → Outcome) →
     ((cells : List Cell) (h : Here) → goes B ok cells h ≡ onward cells h) →
@@ -82,7 +82,7 @@ part_means B feed options state first ok nok w onward otherwise has same a b =
     (has.each state _ _ ∙ same
     ∙ tried-resumed B feed w ok nok (B first (feed w.point) (here w)) onward otherwise a b)
 
--- a state that takes whitespace, if some stands here
+-- a state that takes whitespace, if some is here
 white_means : (B : Behaviour) (feed : Feed) (options : ParseOptions) (state next : DefinitionState) (w : World)
     (x : Bool) →
     HasDefinition B options → Sees feed w → IsRest w.scratch → sees_white w.current ≡ x →
@@ -144,7 +144,7 @@ label-tried : (cells : List Cell) (h : Here) →
 unfolding before_label
 label-tried cells h = refl
 
--- no label stands elsewhere
+-- no label is elsewhere
 label-none : (feed : Feed) (w : World) (h : Here) (o : Option ℕ) → is_current left_bracket o ≡ false →
     label_at (ahead feed w o) h ≡ Refuses h.scratch h.flags
 unfolding label_at
@@ -171,7 +171,7 @@ before_means B feed options w false has s e =
     (ap (λ (x : List Cell). label_at x (here (entered w Definition))) s.next
     ∙ label-none feed w (here (entered w Definition)) w.current e))
 
--- Behind the label.
+-- After the label.
 
 colon-taken : (c : Cell) (cs : List Cell) (h : Here) → nat_eq c.byte colon ≡ true →
     behind_label (c ∷ cs) h ≡
@@ -219,7 +219,7 @@ destination-tried : (cells : List Cell) (h : Here) →
 unfolding before_destination
 destination-tried cells h = refl
 
--- a title with the gap in front of it
+-- a title with the gap before it
 behind-tried : (cells : List Cell) (h : Here) →
     behind_destination cells h ≡
     tried (before_title cells h) behind_parts (λ s g. behind_parts cells (record h { scratch = s; flags = g }))
@@ -280,7 +280,7 @@ title-goes : (cells : List Cell) (h : Here) → ends_line (first_seen cells) ≡
 unfolding at_title_end
 title-goes cells h e = rw e refl
 
--- the state behind a title
+-- the state after a title
 title_end_means : (B : Behaviour) (feed : Feed) (options : ParseOptions) (w : World) (x : Bool) →
     HasDefinition B options → Sees feed w → ends_line w.current ≡ x →
     Steps B feed (Next (n.Definition its.TitleAfterOptionalWhitespace)) w (title_end_code w x).to

@@ -1,4 +1,4 @@
--- A definition stands and ends in any table that has it, and its parts.
+-- A definition is and ends in any table that has it, and its parts.
 use Rattle.std.proofs.Common.{◌≡◌, ◌<◌, ◌≤◌, Bool, true, false, length, refl, arith, ap, sym}
 use Rattle.md_meaning.specs.Ascii.{colon}
 use Rattle.md_engine.specs.declared.event.Name.TheVariants.{Definition}
@@ -41,7 +41,7 @@ pub record DefinitionFits (T : Scheme) : Type 1 where
   pub title : TitleFits T
   pub each : (state : DefinitionState) → Fits T definition_scheme (n.Definition state)
 
--- Whitespace that may be left out, in front of a state that is ready at rest.
+-- Whitespace that may be left out, before a state that is ready at rest.
 white-behind : (T : Scheme) (name next : DefinitionState) (w : World) (x : Bool) → DefinitionFits T →
     rest_ready (position w) (after_all T w.frames) →
     ((y : Position) (K : After) → rest_ready y K → definition_ready (n.Definition next) y K) →
@@ -63,7 +63,7 @@ white-behind T name next w false has r ready level some low falls =
       refl,
     )
 
--- A part that is tried where both states that it may go on with are ready at rest.
+-- A part that is tried where both states that it may continue with are ready at rest.
 part-tried : (T inner : Scheme) (name ok nok : DefinitionState) (first : StateName) (w : World) → DefinitionFits T →
     Fits T inner first → rest_ready (position w) (after_all T w.frames) →
     ((y : Position) (K : After) → rest_ready y K → inner.ready first y K) →
@@ -145,7 +145,7 @@ before_ends T w true has r =
     )
 before_ends T w false has r = (refuses_later T _ w _ _ w.events w.scratch r.1 r.0, refl)
 
--- behind the label
+-- after the label
 label_after_ends : (T : Scheme) (w : World) (x : Bool) → DefinitionFits T →
     rest_ready (position w) (after_all T w.frames) → is_current colon (seen (position w)) ≡ x →
     Does T (n.Definition its.LabelAfter) w (label_after_code w x)
@@ -158,7 +158,7 @@ label_after_ends T w true has r e =
     )
 label_after_ends T w false has r e = (refuses T _ w _ _ w.events w.scratch r.1 r.0, refl)
 
--- before the gap in front of a title
+-- before the gap before a title
 title_before_ends : (T : Scheme) (w : World) (x : Bool) → DefinitionFits T →
     rest_ready (position w) (after_all T w.frames) → Does T (n.Definition its.TitleBefore) w (title_before_code w x)
 title_before_ends T w true has r =
@@ -212,13 +212,13 @@ title_before_marker_ends T w has r =
       refl,
     )
 
--- behind a title and whitespace
+-- after a title and whitespace
 title_end_ends : (T : Scheme) (w : World) (x : Bool) → rest_ready (position w) (after_all T w.frames) →
     Does T (n.Definition its.TitleAfterOptionalWhitespace) w (title_end_code w x)
 title_end_ends T w true r = (accepts T _ w _ _ w.events w.scratch r.1 r.0, refl)
 title_end_ends T w false r = (refuses T _ w _ _ w.events w.scratch r.1 r.0, refl)
 
--- behind the definition and whitespace
+-- after the definition and whitespace
 end_ends : (T : Scheme) (w : World) (x : Bool) → rest_ready (position w) (after_all T w.frames) →
     Does T (n.Definition its.AfterWhitespace) w (end_code w x)
 end_ends T w true r = (accepts T _ w _ _ (exited w Definition).events w.scratch r.1 r.0, refl)

@@ -35,18 +35,18 @@ use Rattle.md_seam.specs.Look.{first_seen}
 use Rattle.md_seam.specs.Spaces.{IsRest, any_size, ends_line}
 use Rattle.md_seam.proofs.AheadLemmas.{none-end, none-rest}
 
--- behind what has these events, and ends here
+-- after what has these events, and ends here
 abbrev pub moved : Here → List Event → Point → Here
 moved h es p = record h { events = h.events ++ es; point = p }
 
--- what a definition that was found comes to
+-- what a definition that was found becomes
 abbrev pub taken_definition : Option DefinitionParts → Here → Outcome
 taken_definition None h = Refuses h.scratch h.flags
 taken_definition (Some d) h = Accepts (moved h (definition_events d h.point) (definition_end d)) (definition_rest d)
 
 -- Where all parts end.
 
--- by whether the line ends behind whitespace
+-- by whether the line ends after whitespace
 abbrev ended_here : Bool → List Cell → Here → Outcome
 ended_here true cells h =
     let p = white_end any_size cells h.point in
@@ -70,7 +70,7 @@ parts-is cells h = go (ends_behind cells)
     go true = refl
     go false = refl
 
--- where the line ends no whitespace stands
+-- where the line ends no whitespace is
 ends-dark : (cells : List Cell) → ends_line (first_seen cells) ≡ true → begins_white cells ≡ false
 ends-dark [] e = refl
 ends-dark (c ∷ cs) e = let ten : c.byte ≡ 10 = eqb-true c.byte 10 e in rw ten refl
@@ -88,7 +88,7 @@ parts-here cells h e =
 
 -- The title.
 
--- one that ends its line, with the whitespace behind it
+-- one that ends its line, with the whitespace after it
 abbrev lone_taken : Option TitleParts → Here → Outcome
 lone_taken None h = Refuses h.scratch h.flags
 lone_taken (Some t) h =
@@ -126,7 +126,7 @@ title-is cells h is =
     go None = refl
     go (Some t) = lone-is t h
 
--- and the gap in front of it
+-- and the gap before it
 abbrev title_taken : Option TitleParts → List Cell → Here → Outcome
 title_taken None cells h = Refuses h.scratch h.flags
 title_taken (Some t) cells h = lone_taken (Some t) (moved h (gap_part cells h.point) (gap_end cells h.point))
@@ -256,7 +256,7 @@ whole-destination cells h is =
     go None = refl
     go (Some d) = tail-is (destination_left d cells) _ is
 
--- Where no gap stands, none is taken.
+-- Where no gap is, none is taken.
 no-ending : (cells : List Cell) (p : Point) → begins_ending cells ≡ false →
     (ending_part cells p ≡ []) × (ending_end cells p ≡ p) × (ending_rest cells ≡ cells)
 no-ending [] p e = (refl, refl, refl)
@@ -292,7 +292,7 @@ joined : (a w l m g d t v : List Event) (e x : Event) →
     a ++ (w ++ e ∷ (l ++ m ++ g ++ d ++ t ++ v ++ x ∷ []))
 joined a w l m g d t v e x = simp append_assoc
 
--- at the destination, behind the label and the colon
+-- at the destination, after the label and the colon
 abbrev at_destination : List Cell → LabelParts → Cell → List Cell → Here → Here
 at_destination cells label c cs h =
     let a = white_end any_size cells h.point in
@@ -342,7 +342,7 @@ from-destination cells label c cs h (Some d) = go (ends_behind (parts_rest all))
         (exit Definition (definition_end all)))
     go false = refl
 
--- behind the label
+-- after the label
 from-label : (cells : List Cell) (label : LabelParts) (left : List Cell) (h : Here) → IsRest h.scratch →
     (let a = white_end any_size cells h.point in
     behind_label left
@@ -388,7 +388,7 @@ from-white cells h is =
     go None = refl
     go (Some label) = from-label cells label label.rest h is
 
--- A definition is taken where one stands, if definitions are on, and else nothing.
+-- A definition is taken where one is, if definitions are on, and else nothing.
 pub definition-whole : (options : ParseOptions) (cells : List Cell) (h : Here) → IsRest h.scratch →
     definition_at options cells h ≡
     taken_definition (cond options.constructs.definition (definition_parts cells) None) h

@@ -78,7 +78,7 @@ raw-means b = go (nat_eq b 40) (nat_eq b 41) (nat_eq b 92) (is_raw_byte b) refl 
 pub raw-is : (b : ℕ) (p : Piece) → raw_piece (Some b) ≡ p → RawMeans b p
 raw-is b p e = subst (RawMeans b) e (raw-means b)
 
--- What a backslash takes may stand in the text.
+-- What a backslash takes may be in the text.
 pub escaped-enclosed : (b : ℕ) → is_escaped (enclosed_piece (Some b)) ≡ true → nat_eq b 10 ≡ false
 escaped-enclosed b e = go (enclosed_piece (Some b)) e (enclosed-means b)
   where
@@ -114,7 +114,7 @@ line-ends c cs e = rw e refl
 abbrev ended : List ℕ → Point → Point → List Event
 ended text p q = text_end q
 
--- behind a byte of the text
+-- after a byte of the text
 behind-byte : (c : Cell) (cs : List Cell) (h : Here) (b : ℕ) (x : Enclosed) →
     literal_by ended (c ∷ cs) h (with_byte b x) ≡ literal_by ended cs (record h { point = c.after }) x
 behind-byte c cs h b (Closed text rest) = refl
@@ -142,7 +142,7 @@ unfolding in_literal enclosed
 literal-other c cs h (x, y, z, t) =
     rw (t, y, x, z) (behind-byte c cs h c.byte (enclosed less_than greater_than false (line_bytes cs)))
 
--- the text ends in front of a `>`,
+-- the text ends before a `>`,
 pub literal-closes : (c : Cell) (cs : List Cell) (h : Here) → nat_eq c.byte 62 ≡ true →
     in_literal false (c ∷ cs) h ≡ before_literal (c ∷ cs) (record h { events = h.events ++ text_end h.point })
 unfolding in_literal before_literal enclosed
@@ -155,13 +155,13 @@ pub before-closes : (c : Cell) (cs : List Cell) (h : Here) → nat_eq c.byte 62 
 unfolding before_literal enclosed
 before-closes c cs h e = rw (not-same c.byte 62 10 e refl, e, append-nil) refl
 
--- and a bare `<` stands in none,
+-- and a bare `<` is in none,
 pub literal-opens : (c : Cell) (cs : List Cell) (h : Here) → nat_eq c.byte 60 ≡ true →
     in_literal false (c ∷ cs) h ≡ Refuses h.scratch h.flags
 unfolding in_literal enclosed
 literal-opens c cs h e = rw (not-same c.byte 60 10 e refl, not-same c.byte 60 62 e refl, e) refl
 
--- nor an ending, also not behind a backslash.
+-- nor an ending, also not after a backslash.
 pub literal-ends : (escaped : Bool) (c : Cell) (cs : List Cell) (h : Here) → nat_eq c.byte 10 ≡ true →
     in_literal escaped (c ∷ cs) h ≡ Refuses h.scratch h.flags
 unfolding in_literal enclosed
@@ -192,7 +192,7 @@ literal-bare feed w h (Some b) e = go (enclosed_piece (Some b)) e (enclosed-mean
     go Other e means = literal-escaped c cs h means.3 ∙ sym (literal-other c cs h means)
     go Stops e means = literal-ends true c cs h means ∙ sym (literal-ends false c cs h means)
 
--- Where no `>` stands the text begins.
+-- Where no `>` is the text begins.
 
 -- what was found has a byte, or is no text
 abbrev HasByte : Enclosed → Type 0
@@ -201,13 +201,13 @@ HasByte (Closed (b ∷ text) rest) = ⊤
 HasByte Open = ⊤
 HasByte Broken = ⊤
 
--- behind one more it has one
+-- after one more it has one
 with-byte : (b : ℕ) (x : Enclosed) → HasByte (with_byte b x)
 with-byte b (Closed text rest) = tt
 with-byte b Open = tt
 with-byte b Broken = tt
 
--- so it is where no `>` stands
+-- so it is where no `>` is
 has-byte : (feed : Feed) (w : World) (o : Option ℕ) → is_current greater_than o ≡ false →
     HasByte (enclosed less_than greater_than false (line_bytes (ahead feed w o)))
 unfolding enclosed
@@ -230,7 +230,7 @@ part-begins cells h (Closed (b ∷ text) rest) has = simp append_assoc
 part-begins cells h Open has = refl
 part-begins cells h Broken has = refl
 
--- behind that the rule of the text says the same
+-- after that the rule of the text says the same
 pub before-text : (feed : Feed) (w : World) (h : Here) (o : Option ℕ) → is_current greater_than o ≡ false →
     before_literal (ahead feed w o) h ≡
     in_literal false (ahead feed w o) (record h { events = h.events ++ text_begin h.point })
@@ -243,7 +243,7 @@ before-text feed w h o e = part-begins (ahead feed w o) h _ (has-byte feed w o e
 pub raw-no_ending : (b : ℕ) → is_raw_byte b ≡ true → nat_eq b 10 ≡ false
 raw-no_ending b e = grind (arith, nat_tests)
 
--- the text goes on with such a byte, and ends in front of another
+-- the text continues with such a byte, and ends before another
 pub raw-cons : (c : Cell) (cs : List Cell) → is_raw_byte c.byte ≡ true →
     take_while is_raw_byte (line_bytes (c ∷ cs)) ≡ c.byte ∷ take_while is_raw_byte (line_bytes cs)
 raw-cons c cs e =
@@ -258,7 +258,7 @@ raw-ends c cs e = go (nat_eq c.byte 10) refl
     go true k = rw k refl
     go false k = rw k (take_while-cons is_raw_byte c.byte (line_bytes cs) ∙ rw e refl)
 
--- behind a byte of the text, so many parentheses are open
+-- after a byte of the text, so many parentheses are open
 pub raw-more : (escaped next : Bool) (size : ℕ) (c : Cell) (cs : List Cell) (h : Here) → is_raw_byte c.byte ≡ true →
     ((bytes : List ℕ) → balanced h.scratch.size escaped (c.byte ∷ bytes) ≡ balanced size next bytes) →
     in_raw escaped (c ∷ cs) h ≡
@@ -292,7 +292,7 @@ pub raw-refuses : (c : Cell) (cs : List Cell) (h : Here) → nat_eq c.byte 41 �
 unfolding in_raw balanced
 raw-refuses c cs h e none = rw (raw-cons c cs (rw (eqb-true c.byte 41 e) refl), eqb-true c.byte 41 e, none) refl
 
--- a backslash stands,
+-- a backslash is,
 pub raw-backslash : (c : Cell) (cs : List Cell) (h : Here) → nat_eq c.byte 92 ≡ true →
     in_raw false (c ∷ cs) h ≡ in_raw true cs (record h { point = c.after })
 unfolding balanced
@@ -334,7 +334,7 @@ unfolding in_raw balanced
 raw-left cells h e lt =
     let some : nat_eq h.scratch.size 0 ≡ false = grind (arith, nat_tests) in rw (e, some) refl
 
--- also behind a backslash.
+-- also after a backslash.
 raw-ended : (cells : List Cell) (h : Here) → take_while is_raw_byte (line_bytes cells) ≡ [] →
     in_raw true cells h ≡ in_raw false cells h
 unfolding in_raw balanced
@@ -399,7 +399,7 @@ pub begins-neither : (c : Cell) (cs : List Cell) (h : Here) → BeginMeans c.byt
 unfolding destination_at
 begins-neither c cs h (e, raw) = rw (e, raw) refl
 
--- as where nothing stands
+-- as where nothing is
 pub begins-none : (h : Here) → destination_at [] h ≡ Refuses h.scratch h.flags
 unfolding destination_at
 begins-none h = refl

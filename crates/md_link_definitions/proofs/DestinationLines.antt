@@ -32,7 +32,7 @@ use Rattle.md_seam.specs.Ahead.{from_ending, line_bytes, line_cells, point_after
 use Rattle.md_seam.proofs.RestLines.{count-none, count-one}
 use Rattle.md_seam.proofs.FeedLines.{NoFeed, Stops, bytes_of, point_after-append}
 
--- On the first of some lines: a destination, and what is left of the line, in front of the further lines.
+-- On the first of some lines: a destination, and what is left of the line, before the further lines.
 abbrev pub with_further : List (List ℕ) → Option Destination → Option Lines
 with_further lines None = None
 with_further lines (Some d) = Some (record { text = d.text ∷ []; rest = d.rest ∷ lines })
@@ -42,7 +42,7 @@ abbrev pub destination_on : List (List ℕ) → Option Lines
 destination_on [] = None
 destination_on (line ∷ lines) = with_further lines (definition.destination_at line)
 
--- One that is found in front of cells: the bytes of its text, and the lines behind it.
+-- One that is found before cells: the bytes of its text, and the lines after it.
 abbrev pub destination_lines : Point → List Cell → Option Destination → Option Lines
 destination_lines p cells None = None
 destination_lines p cells (Some d) =
@@ -52,7 +52,7 @@ destination_lines p cells (Some d) =
       rest = cell_lines false (whole_cells (destination_last d cells p) (destination_left d cells));
     })
 
--- What is found on the line is what is found in front of the cells, and a byte begins behind it.
+-- What is found on the line is what is found before the cells, and a byte begins after it.
 pub record OnLine (p : Point) (cells : List Cell) (found o : Option Destination) : Type 0 where
   pub lines : with_further (further (from_ending cells)) found ≡ destination_lines p cells o
   pub stands : (d : Destination) → o ≡ Some d → AreAt (destination_last d cells p) (destination_left d cells)
@@ -63,7 +63,7 @@ pub record OnLine (p : Point) (cells : List Cell) (found o : Option Destination)
 angles : NoWhite (is_mark less_than greater_than)
 angles = no-white less_than greater_than (record { opens = refl; closes = refl })
 
--- the cells up to a `>`, that one, and those behind it, by the cells behind the `<`
+-- the cells up to a `>`, that one, and those after it, by the cells after the `<`
 record LiteralCells (c d : Cell) (text more cs : List Cell) : Type 0 where
   front : take (length (bytes_of text)) cs ≡ text
   past : point_after (take (suc (length (bytes_of text))) cs) c.after ≡ d.after
@@ -91,8 +91,8 @@ literal-cells c d text more cs e = record {
     size : length (text ++ (d ∷ [])) ≡ suc (length (bytes_of text))
     size = let same = bytes-length text in let one = length-append text (d ∷ []) in omega (arith, same, one)
 
--- what is known of the cells behind a `<`: the text up to the first angle bracket, what follows it on the line, and
--- what follows the line
+-- what is known of the cells after a `<`: the text up to the first angle bracket, what follows it on the line, and what
+-- follows the line
 record IsCut (c : Cell) (cs text rest lines : List Cell) : Type 0 where
   cells : text ++ (rest ++ lines) ≡ cs
   first : IsMarkFirst (is_mark less_than greater_than) (point_after text c.after) rest
@@ -154,7 +154,7 @@ literal-lines p c cs text (d ∷ ds) lines e cut = rw at (go (nat_eq d.byte grea
     go true k = rw (k, e, known.front, known.past, known.left) (ap to (sym behind))
     go false k = rw k refl
 
--- and a byte begins behind it
+-- and a byte begins after it
 literal-stands : (p : Point) (c : Cell) (cs text rest lines : List Cell) (d : Destination) →
     nat_eq c.byte less_than ≡ true → IsCut c cs text rest lines →
     literal_found (enclosed_by greater_than text rest) ≡ Some d →
@@ -187,7 +187,7 @@ literal-stands p c cs text (x ∷ xs) lines d e cut is = go (nat_eq x.byte great
 
 -- Without angle brackets.
 
--- the bytes behind those of the text
+-- the bytes after those of the text
 after-raw : (b : ℕ) (bytes : List ℕ) → is_raw_byte b ≡ true → after is_raw_byte (b ∷ bytes) ≡ after is_raw_byte bytes
 after-raw b bytes e = ap (λ (n : ℕ). drop n (b ∷ bytes)) (count-one is_raw_byte b bytes e)
 
@@ -200,7 +200,7 @@ text-raw : (b : ℕ) (bytes : List ℕ) → is_raw_byte b ≡ true →
     take_while is_raw_byte (b ∷ bytes) ≡ b ∷ take_while is_raw_byte bytes
 text-raw b bytes e = take_while-cons is_raw_byte b bytes ∙ rw e refl
 
--- which ends in front of another byte
+-- which ends before another byte
 text-none : (b : ℕ) (bytes : List ℕ) → is_raw_byte b ≡ false → take_while is_raw_byte (b ∷ bytes) ≡ []
 text-none b bytes e = take_while-cons is_raw_byte b bytes ∙ rw e refl
 
@@ -315,7 +315,7 @@ raw-line p (c ∷ cs) at are =
 abbrev if_nested : Bool → List ℕ → List ℕ → Option Destination
 if_nested nests text rest = cond nests (Some (record { text = text; rest = rest })) None
 
--- so it is found, and a byte begins behind it
+-- so it is found, and a byte begins after it
 raw-nested : (p : Point) (cells text rest : List Cell) (more : List ℕ) (nests : Bool) → begins_literal cells ≡ false →
     RawLine p cells text rest →
     OnLine p cells
@@ -392,7 +392,7 @@ literal-on p c cs text rest e cut = record {
   stands = λ d k. literal-stands p c cs text rest (from_ending cs) d e cut k;
 }
 
--- The definition finds on the line of some cells what stands in front of them.
+-- The definition finds on the line of some cells what is before them.
 pub destination-lines : (p : Point) (cells : List Cell) → AreAt p cells →
     OnLine p cells (definition.destination_at (bytes_of (whole_cells p (line_cells cells))))
     (definition.destination_at (line_bytes cells))
@@ -452,14 +452,14 @@ destination-lines p (c ∷ cs) at =
         (ap definition.destination_at (line-more c cs e) ∙ found-neither c.byte (line_bytes cs) k r)
         (on-none p (c ∷ cs))
 
--- On the lines of cells a definition has the destination that stands in front of them.
+-- On the lines of cells a definition has the destination that is before them.
 pub destination-texts : (p : Point) (cells : List Cell) → AreAt p cells →
     destination_on (cell_lines false (whole_cells p cells)) ≡
     destination_lines p cells (definition.destination_at (line_bytes cells))
 destination-texts p cells at =
     ap destination_on (lines-first p cells at.are) ∙ (destination-lines p cells at).lines
 
--- Behind it a byte begins.
+-- After it a byte begins.
 pub destination-stands : (p : Point) (cells : List Cell) (d : Destination) → AreAt p cells →
     definition.destination_at (line_bytes cells) ≡ Some d →
     AreAt (destination_last d cells p) (destination_left d cells)

@@ -33,7 +33,7 @@ use Rattle.md_link_definitions.proofs.DestinationLemmas.{raw-other, raw-refuses,
 use Rattle.md_seam.specs.Spaces.{IsRest, is_current}
 use Rattle.md_seam.specs.Transition.{taken}
 
--- The cell that is here is taken, and the rule goes on behind it as the next state has it.
+-- The cell that is here is taken, and the rule continues after it as the next state has it.
 takes-steps : (B : Behaviour) (feed : Feed) (w : World) (from to : DestinationState) (s : Scratch) (b : ℕ) →
     HasDestination B → feed w.point ≡ ahead feed w (Some b) →
     destination_behaves from (ahead feed w (Some b)) (here w) ≡
@@ -45,7 +45,7 @@ takes-steps B feed w from to s b has next same =
     (has.each from _ _ ∙ ap (λ (x : List Cell). destination_behaves from x (here w)) next ∙ same
     ∙ sym (has.each to _ _))
 
--- The next state's rule says of what stands here what this one's says.
+-- The next state's rule says of what is here what this one's says.
 turns-steps : (B : Behaviour) (feed : Feed) (w : World) (from to : DestinationState) (o : Option ℕ) →
     HasDestination B → feed w.point ≡ ahead feed w o →
     destination_behaves from (ahead feed w o) (here w) ≡ destination_behaves to (ahead feed w o) (here w) →
@@ -55,7 +55,7 @@ turns-steps B feed w from to o has next same =
     (has.each from _ _ ∙ ap (λ (x : List Cell). destination_behaves from x (here w)) next ∙ same
     ∙ ap (λ (x : List Cell). destination_behaves to x (here w)) (sym next) ∙ sym (has.each to _ _))
 
--- There is no destination, by what stands here.
+-- There is no destination, by what is here.
 refuses-steps : (B : Behaviour) (feed : Feed) (w : World) (from : DestinationState) (s : Scratch) (o : Option ℕ) →
     HasDestination B → feed w.point ≡ ahead feed w o →
     destination_behaves from (ahead feed w o) (here w) ≡ Refuses s w.flags →
@@ -109,7 +109,7 @@ start_means B feed w Neither has s e = go w.current e s.next
         refuses-steps B feed w its.Start w.scratch (Some b) has next
         (begins-neither (cell_here feed w b) (feed (after w.setting w.point)) (here w) (begin-is b Neither f))
 
--- Behind `<`, or at `>`.
+-- After `<`, or at `>`.
 enclosed_before_means : (B : Behaviour) (feed : Feed) (w : World) (x : Bool) → HasDestination B → Sees feed w →
     is_current greater_than w.current ≡ x →
     Steps B feed (Next (n.Destination its.EnclosedBefore)) w (enclosed_before_code w x).to
@@ -187,7 +187,7 @@ enclosed_means B feed w p has s e = go w.current p e s.next
         refuses-steps B feed w its.Enclosed w.scratch (Some b) has next
         (literal-ends false (c b) cs (here w) (enclosed-is b Stops f))
 
--- Behind a backslash there.
+-- After a backslash there.
 enclosed_escape_means : (B : Behaviour) (feed : Feed) (w : World) (x : Bool) → HasDestination B → Sees feed w →
     is_escaped (enclosed_piece w.current) ≡ x →
     Steps B feed (Next (n.Destination its.EnclosedEscape)) w (escape_code its.Enclosed w x).to
@@ -261,7 +261,7 @@ raw_means B feed w p x has s rest e k = go w.current p x e k s.next
     go (Some b) Other x f k next =
         takes-steps B feed w its.Raw its.Raw w.scratch b has next (raw-other (c b) cs (here w) (raw-is b Other f))
 
--- Behind a backslash there.
+-- After a backslash there.
 raw_escape_means : (B : Behaviour) (feed : Feed) (w : World) (x : Bool) → HasDestination B → Sees feed w →
     is_escaped (raw_piece w.current) ≡ x →
     Steps B feed (Next (n.Destination its.RawEscape)) w (escape_code its.Raw w x).to (escape_code its.Raw w x).world

@@ -1,4 +1,4 @@
--- A destination stands and ends in any table that has it.
+-- A destination is and ends in any table that has it.
 use Rattle.std.proofs.Common.{◌≡◌, ℕ, ◌+◌, ◌-◌, ◌<◌, ◌≤◌, Bool, true, false, cond, nat_lt, Option, Some, None, refl}
 use Rattle.std.proofs.Common.{arith, ap, sym, ◌∙◌}
 use Rattle.std.proofs.lemmas.Bool.Decides.{nat_tests}
@@ -27,7 +27,7 @@ use Rattle.md_seam.proofs.SpacesTermination.{Does, accepts-behind, rest-size, se
 pub record DestinationFits (T : Scheme) : Type 1 where
   pub each : (state : DestinationState) → Fits T destination_scheme (n.Destination state)
 
--- What stands here.
+-- What is here.
 
 -- whether some of a destination does
 abbrev some : Piece → Bool
@@ -72,7 +72,7 @@ takes-literal T w from to has r inside ready =
     consumes T destination_scheme _ _ w w.events w.scratch (has.each from) (has.each to) inside
     (ready _ _ (r.0, later _ _ (position w) _ _ _ (takes w.setting w.point inside) r.1)) (omega arith)
 
--- and without them, where so many parentheses are open behind it
+-- and without them, where so many parentheses are open after it
 takes-raw : (T : Scheme) (w : World) (from to : DestinationState) (size : ℕ) → DestinationFits T →
     IsNested (position w) × Ends IsRest IsRest (position w) (after_all T w.frames) → w.point.index < w.setting.limit →
     size ≤ w.scratch.size + 1 →
@@ -106,7 +106,7 @@ start_ends T w Raw has r e = (
 )
 start_ends T w Neither has r e = (refuses T _ w _ _ w.events w.scratch r.1 r.0, refl)
 
--- behind `<`, or at `>`
+-- after `<`, or at `>`
 enclosed_before_ends : (T : Scheme) (w : World) (x : Bool) → DestinationFits T →
     rest_ready (position w) (after_all T w.frames) → is_current greater_than (seen (position w)) ≡ x →
     Does T (n.Destination its.EnclosedBefore) w (enclosed_before_code w x)
@@ -148,7 +148,7 @@ text-rank : (y : Bool) → (cond y (ranked 2 refl) (ranked 0 refl)).number < 3
 text-rank true = omega arith
 text-rank false = omega arith
 
--- behind a backslash there
+-- after a backslash there
 enclosed_escape_ends : (T : Scheme) (w : World) (x : Bool) → DestinationFits T →
     rest_ready (position w) (after_all T w.frames) → is_escaped (enclosed_piece (seen (position w))) ≡ x →
     Does T (n.Destination its.EnclosedEscape) w (escape_code its.Enclosed w x)
@@ -194,7 +194,7 @@ raw_ends T w Stops false has r e k = (
   refl,
 )
 
--- behind a backslash there
+-- after a backslash there
 raw_escape_ends : (T : Scheme) (w : World) (x : Bool) → DestinationFits T →
     destination_ready (n.Destination its.RawEscape) (position w) (after_all T w.frames) →
     is_escaped (raw_piece (seen (position w))) ≡ x →

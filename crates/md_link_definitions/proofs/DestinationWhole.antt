@@ -1,4 +1,4 @@
--- A destination stands in front of some cells where the definition of definitions finds one, and nowhere else.
+-- A destination is before some cells where the definition of definitions finds one, and nowhere else.
 use Rattle.std.proofs.Common.{◌≡◌, ℕ, Bool, true, false, cond, nat_eq, List, [], ◌∷◌, ◌++◌, Option, Some, None}
 use Rattle.std.proofs.Common.{refl, sym, ◌∙◌, ap, ap₂, append_assoc, drop, length}
 use Rattle.md_engine.specs.declared.event.Event.{Event}
@@ -21,7 +21,7 @@ use Rattle.md_seam.specs.Ahead.{line_bytes}
 use Rattle.md_seam.specs.Spaces.{IsRest}
 use Rattle.md_seam.proofs.SpacesTermination.{rest-size}
 
--- what an enclosed text comes to as a destination
+-- what an enclosed text becomes as a destination
 abbrev pub literal_found : Enclosed → Option Destination
 literal_found x = elim x [
   | Closed text rest ↦ Some (record { text = text; rest = rest })
@@ -43,7 +43,7 @@ literal-whole c cs h (Closed text rest) e = rw e (simp append_assoc)
 literal-whole c cs h Open e = refl
 literal-whole c cs h Broken e = refl
 
--- What the definition finds in front of these bytes: there,
+-- What the definition finds before these bytes: there,
 pub found-literal : (b : ℕ) (bytes : List ℕ) → nat_eq b less_than ≡ true →
     definition.destination_at (b ∷ bytes) ≡ literal_found (enclosed less_than greater_than false bytes)
 unfolding definition.destination_at
@@ -72,7 +72,7 @@ found-neither b bytes e raw =
     ap is_end (take_while-cons is_raw_byte b bytes) ∙ rw raw refl in
     rw (e, none) refl
 
--- where nothing stands it finds nothing
+-- where nothing is it finds nothing
 pub found-none : definition.destination_at [] ≡ None
 unfolding definition.destination_at
 found-none = refl
@@ -105,7 +105,7 @@ raw-whole c cs h e is = go (balanced 0 false (take_while is_raw_byte (line_bytes
         (append_assoc h.events (raw_begin h.point) (raw_end p)) same)
     go false k = rw (nests ∙ k, k) (ap (λ (t : Scratch). Refuses t h.flags) same)
 
--- The whole rule is what the definition finds in front of the bytes of the line.
+-- The whole rule is what the definition finds before the bytes of the line.
 pub destination-is : (cells : List Cell) (h : Here) → IsRest h.scratch →
     destination_at cells h ≡ destination_by cells h (definition.destination_at (line_bytes cells))
 destination-is [] h is = begins-none h ∙ ap (destination_by [] h) (sym found-none)

@@ -1,4 +1,4 @@
--- What follows whitespace with at most one line ending is what a definition has behind a gap on the lines of cells.
+-- What follows whitespace with at most one line ending is what a definition has after a gap on the lines of cells.
 use Rattle.std.proofs.Common.{◌≡◌, ℕ, zero, suc, ◌≤◌, Bool, true, false, ◌||◌, nat_eq, List, [], ◌∷◌, length, refl, sym}
 use Rattle.std.proofs.Common.{◌∙◌, ap, arith}
 use Rattle.std.specs.List.{onto_first}
@@ -17,14 +17,14 @@ use Rattle.md_seam.proofs.AheadLemmas.{white-no_ending}
 use Rattle.md_seam.proofs.RestCells.{white-length}
 use Rattle.md_seam.proofs.RestLines.{trim-white}
 
--- Whitespace in front of a further line.
+-- Whitespace before a further line.
 
 -- the cells, by the first: a byte begins there,
 pub whole-first : (p : Point) (c : Cell) (cs : List Cell) → p.vs ≡ 0 →
     whole_cells p (c ∷ cs) ≡ c ∷ whole_cells c.after cs
 whole-first p c cs at = rw at refl
 
--- what is left of the line behind whitespace is the line without it
+-- what is left of the line after whitespace is the line without it
 led-white : (p : Point) (c : Cell) (cs : List Cell) → is_white c.byte ≡ true →
     cell_lines true (whole_cells p (c ∷ cs)) ≡ cell_lines true (whole_cells c.after cs)
 led-white p c cs white = go (nat_eq p.vs 0) refl
@@ -69,12 +69,12 @@ lines-led (suc room) p (c ∷ cs) le are =
 
 -- The gap on lines.
 
--- what a definition has behind a gap, of a line that begins with whitespace, is what it has without that
+-- what a definition has after a gap, of a line that begins with whitespace, is what it has without that
 gap-white : (b : ℕ) (line : List ℕ) (lines : List (List ℕ)) → is_white b ≡ true →
     after_gap ((b ∷ line) ∷ lines) ≡ after_gap (line ∷ lines)
 gap-white b line lines white = rw (trim-white b line white, white) refl
 
--- in front of other lines, too
+-- before other lines, too
 gap-onto : (b : ℕ) (led : Bool) (cells : List Cell) → is_white b ≡ true →
     after_gap (onto_first b (cell_lines led cells)) ≡ after_gap (cell_lines led cells)
 gap-onto b led cells white =
@@ -87,7 +87,7 @@ gap-other : (b : ℕ) (line : List ℕ) (lines : List (List ℕ)) → is_white b
     after_gap ((b ∷ line) ∷ lines) ≡ (b ∷ line) ∷ lines
 gap-other b line lines other = rw other refl
 
--- in front of other lines, too
+-- before other lines, too
 gap-byte : (b : ℕ) (led : Bool) (cells : List Cell) → is_white b ≡ false →
     after_gap (onto_first b (cell_lines led cells)) ≡ onto_first b (cell_lines led cells)
 gap-byte b led cells other =
@@ -129,7 +129,7 @@ first-other p c cs at other e =
     ∙ ap after_gap (lines-byte false c left e refl) ∙ gap-byte c.byte false left other
     ∙ sym (ap (cell_lines false) first ∙ lines-byte false c left e refl)
 
--- The lines behind a gap, for what tells no line from none: behind whitespace of at most so many columns.
+-- The lines after a gap, for what shows no line from none: after whitespace of at most so many columns.
 gap-by : {A : Type 0} (f : List (List ℕ) → A) (room : ℕ) (p : Point) (cells : List Cell) → f [] ≡ f ([] ∷ []) →
     length cells ≤ room → length cells ≤ any_size → AreWhole p cells →
     let left = white_rest room cells in
@@ -168,7 +168,7 @@ gap-by f (suc room) p (c ∷ cs) none le small are =
     go true white on = ap f (first-white p c cs white) ∙ on ∙ rw white refl
     go false other on = by other (nat_eq c.byte 10) refl
 
--- The lines behind a gap are those of the cells behind it, for what tells no line from an empty one.
+-- The lines after a gap are those of the cells after it, for what shows no line from an empty one.
 pub gap-lines : {A : Type 0} (f : List (List ℕ) → A) (p : Point) (cells : List Cell) → f [] ≡ f ([] ∷ []) →
     length cells ≤ any_size → AreWhole p cells →
     f (after_gap (cell_lines false (whole_cells p cells))) ≡
@@ -190,7 +190,7 @@ at-none p = record { begins = λ c cs e. cc; are = tt }
 at-other : (p : Point) (c : Cell) (cs : List Cell) → is_white c.byte ≡ false → AreWhole p (c ∷ cs) → AreAt p (c ∷ cs)
 at-other p c cs other are = record { begins = λ d ds e. whole-at p c are.0 other; are = are }
 
--- behind whitespace,
+-- after whitespace,
 pub white-at : (room : ℕ) (p : Point) (cells : List Cell) → length cells ≤ room → AreWhole p cells →
     AreAt (white_end room cells p) (white_rest room cells)
 white-at room p [] le are = at-none p
@@ -223,7 +223,7 @@ ending-at p (c ∷ cs) other small are = go (nat_eq c.byte 10) refl
     go true e = rw e (white-at any_size c.after cs (omega arith) are.1)
     go false e = rw e (at-other p c cs other are)
 
--- Behind a gap a byte begins.
+-- After a gap a byte begins.
 pub gap-stands : (p : Point) (cells : List Cell) → length cells ≤ any_size → AreWhole p cells →
     AreAt (gap_end cells p) (gap_rest cells)
 gap-stands p cells small are =
@@ -233,7 +233,7 @@ gap-stands p cells small are =
 
 -- Where it begins.
 
--- whether it does, by the line: it does in front of whitespace or where the line ends, if the cells do not
+-- whether it does, by the line: it does before whitespace or where the line ends, if the cells do not
 pub gap-parted : (p : Point) (c : Cell) (cs : List Cell) (line : List ℕ) (lines : List (List ℕ)) → p.vs ≡ 0 →
     cell_lines false (whole_cells p (c ∷ cs)) ≡ line ∷ lines → is_parted line ≡ begins_gap (c ∷ cs)
 gap-parted p c cs line lines at e = go (nat_eq c.byte 10) refl

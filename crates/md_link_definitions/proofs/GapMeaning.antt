@@ -27,7 +27,7 @@ use Rattle.md_seam.proofs.WhiteMeaning.{begins-seen, behind_white, white-tried}
 
 -- Whitespace.
 
--- at rest, it is as it is behind an attempt that took some,
+-- at rest, it is as it is after an attempt that took some,
 pub past-some : (cells : List Cell) (h : Here) → IsRest h.scratch → begins_white cells ≡ true →
     past_white cells h ≡ behind_white any_size cells h
 unfolding past_white
@@ -40,7 +40,7 @@ pub past-none : (cells : List Cell) (h : Here) → begins_white cells ≡ false 
 unfolding past_white
 past-none cells h e = rw (e, none-end any_size cells h.point e, append-nil) refl
 
--- an attempt at whitespace that stands here, and goes on with this state
+-- an attempt at whitespace that is here, and continues with this state
 abbrev white_frame : GapState → World → List Event → Frame
 white_frame next w events = record {
   ok = Next (n.SpaceOrTabEol next);
@@ -52,7 +52,7 @@ white_frame next w events = record {
 
 -- Before whitespace.
 
--- what is left behind it,
+-- what is left after it,
 pub at-some : (cells : List Cell) (h : Here) → begins_white cells ≡ true →
     gap_at cells h ≡ after_first (white_rest any_size cells) (past_white cells h)
 unfolding gap_at
@@ -80,7 +80,7 @@ start_means B feed w false has s r e =
     passes B feed _ _ w w refl refl
     (has.each its.Start _ _ ∙ at-none (feed w.point) (here w) (begins-seen feed w s ∙ e) ∙ sym (has.each its.AtEol _ _))
 
--- Behind it.
+-- After it.
 after_first_means : (B : Behaviour) (feed : Feed) (w : World) → HasGap B →
     Steps B feed (Next (n.SpaceOrTabEol its.AfterFirst)) w (after_first_transition w).to
     (after_first_transition w).world
@@ -88,7 +88,7 @@ after_first_means B feed w has =
     passes B feed _ _ w (after_first_transition w).world refl refl
     (has.each its.AfterFirst _ _ ∙ sym (has.each its.AtEol _ _))
 
--- Where an ending may stand.
+-- Where an ending may be.
 
 -- one does,
 eol-taken : (c : Cell) (cs : List Cell) (h : Here) → nat_eq c.byte 10 ≡ true →
@@ -137,9 +137,9 @@ at_eol_means B feed w false false has s e k =
     passes B feed _ _ w (at_eol_code w false false).world refl refl
     (has.each its.AtEol _ _ ∙ rw s.next (eol-none feed w (here w) w.current false e k))
 
--- Behind the ending.
+-- After the ending.
 
--- whitespace stands here,
+-- whitespace is here,
 line-white : (cells : List Cell) (h : Here) → IsRest h.scratch → begins_white cells ≡ true →
     at_line cells h ≡
     Accepts (behind_white any_size cells (record h { events = h.events ++ exit LineEnding h.point ∷ [] }))

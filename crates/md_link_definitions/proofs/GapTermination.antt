@@ -1,4 +1,4 @@
--- Whitespace with at most one line ending stands and ends in any table that has it.
+-- Whitespace with at most one line ending is and ends in any table that has it.
 use Rattle.std.proofs.Common.{◌≡◌, Bool, true, false, refl, arith, ap, sym}
 use Rattle.md_engine.specs.declared.event.Name.TheVariants.{LineEnding}
 use Rattle.md_engine.specs.declared.state.Name.TheVariants as n
@@ -41,7 +41,7 @@ start_ends T w false has r = (
   refl,
 )
 
--- behind it
+-- after it
 after_first_ends : (T : Scheme) (w : World) → GapFits T → rest_ready (position w) (after_all T w.frames) →
     Does T (n.SpaceOrTabEol its.AfterFirst) w (after_first_transition w)
 after_first_ends T w has r = (
@@ -55,7 +55,7 @@ after_first_ends T w has r = (
   refl,
 )
 
--- where an ending may stand
+-- where an ending may be
 at_eol_ends : (T : Scheme) (w : World) (x y : Bool) → GapFits T →
     gap_ready (n.SpaceOrTabEol its.AtEol) (position w) (after_all T w.frames) → is_current 10 (seen (position w)) ≡ x →
     Does T (n.SpaceOrTabEol its.AtEol) w (at_eol_code w x y)
@@ -70,7 +70,7 @@ at_eol_ends T w true y has r e =
 at_eol_ends T w false true has r e = (accepts T _ w _ _ w.events (without_seen w.scratch) r.1 r.0, refl)
 at_eol_ends T w false false has r e = (refuses T _ w _ _ w.events (without_seen w.scratch) r.1 r.0, refl)
 
--- behind the ending
+-- after the ending
 after_eol_ends : (T : Scheme) (w : World) (x : Bool) → GapFits T → rest_ready (position w) (after_all T w.frames) →
     Does T (n.SpaceOrTabEol its.AfterEol) w (after_eol_code w x)
 after_eol_ends T w true has r =

@@ -1,4 +1,4 @@
--- Whitespace with at most one line ending stands where one of these comes first, and nowhere else.
+-- Whitespace with at most one line ending is where one of these comes first, and nowhere else.
 use Rattle.std.proofs.Common.{◌≡◌, Bool, true, false, ◌||◌, nat_eq, List, [], ◌∷◌, ◌++◌, refl, sym, ◌∙◌, ap, ap₂}
 use Rattle.std.proofs.Common.{append_assoc, append-nil}
 use Rattle.std.proofs.lemmas.Bool.{or_parts}
@@ -14,9 +14,9 @@ use Rattle.md_seam.specs.Ahead.{begins_white, white_end, white_rest}
 use Rattle.md_seam.specs.Spaces.{IsRest, any_size}
 use Rattle.md_seam.proofs.AheadLemmas.{none-end, none-rest}
 
--- Behind the first whitespace.
+-- After the first whitespace.
 
--- behind the ending that comes first, if one does
+-- after the ending that comes first, if one does
 abbrev behind_ending : List Cell → Here → Here
 behind_ending cells h = record h {
   events = h.events ++ ending_part cells h.point;
@@ -49,7 +49,7 @@ unfolding at_eol
 eol-refused [] h k e = rw k refl
 eol-refused (c ∷ cs) h k e = rw (e, k) refl
 
--- Behind whitespace, of which some was taken.
+-- After whitespace, of which some was taken.
 white-took : (cells : List Cell) (h : Here) →
     after_first (white_rest any_size cells) (past_white cells h) ≡
     Accepts

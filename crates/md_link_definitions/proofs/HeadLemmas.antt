@@ -46,7 +46,7 @@ unfolding row_cells
 cells-counted line =
     let row = after_optional 124 (trim line) in length-map (pieces false row) trim ∙ pieces-counted false row
 
--- Where no pipe stands.
+-- Where no pipe is.
 
 -- this byte is none
 abbrev IsNoPipe : ℕ → Type 0

@@ -41,7 +41,7 @@ label-broken led begun c cs h e k = rw (e, k) (go (is_text_of led [] h))
     go true = refl
     go false = refl
 
--- Where `]` ends it: the label ends, if something stands in it,
+-- Where `]` ends it: the label ends, if something is in it,
 pub label-ends : (led begun : Bool) (c : Cell) (cs : List Cell) (h : Here) → nat_eq c.byte 93 ≡ true →
     nat_eq c.byte 91 ≡ false → h.scratch.seen ≡ true → h.scratch.size ≤ most →
     in_label led begun false (c ∷ cs) h ≡
@@ -59,7 +59,7 @@ pub label-empty : (led begun : Bool) (c : Cell) (cs : List Cell) (h : Here) → 
 unfolding in_label
 label-empty led begun c cs h e k s = rw (e, k, s) refl
 
--- A chunk begins with a line, if something stands on it.
+-- A chunk begins with a line, if something is on it.
 pub label-line : (led : Bool) (c : Cell) (cs : List Cell) (h : Here) → is_bracket c.byte ≡ false →
     in_label led false false (c ∷ cs) h ≡
     in_label led true false (c ∷ cs) (record h { events = h.events ++ enter_link Data h.point string_link ∷ [] })
@@ -71,7 +71,7 @@ white-plain : (b : ℕ) → is_white b ≡ true →
     (is_bracket b ≡ false) × (nat_eq b 92 ≡ false) × (nat_eq b 10 ≡ false)
 white-plain b s = (grind (arith, nat_tests), grind (arith, nat_tests), grind (arith, nat_tests))
 
--- The whitespace in front of a further line: one column more,
+-- The whitespace before a further line: one column more,
 pub label-led : (c : Cell) (cs : List Cell) (h : Here) → is_white c.byte ≡ true →
     in_label true true false (c ∷ cs) h ≡ in_label true true false cs (record h { point = c.after })
 unfolding in_label

@@ -20,7 +20,7 @@ use Rattle.md_link_definitions.proofs.WholeCellLemmas.{texts_closed, texts-enclo
 
 -- The lines of a text.
 
--- With a byte in front of them one more counts,
+-- With a byte before them one more counts,
 onto-length : (b : ℕ) (lines : List (List ℕ)) → sum_by length (onto_first b lines) ≡ 1 + sum_by length lines
 onto-length b [] = refl
 onto-length b (line ∷ lines) =
@@ -76,7 +76,7 @@ unfolding cell_lines
 text-length led p [] are = refl
 text-length led p (c ∷ cs) are = length-by led p c cs are.0 (λ l. text-length l c.after cs are.1)
 
--- and something stands in it if they are not all blank.
+-- and something is in it if they are not all blank.
 blank-by : (led : Bool) (p : Point) (c : Cell) (cs : List Cell) → IsWhole p c →
     ((l : Bool) → not (list_all is_blank (cell_lines l (whole_cells c.after cs))) ≡ has_text cs) →
     not (list_all is_blank (cell_lines led (whole_cells p (c ∷ cs)))) ≡ has_text (c ∷ cs)
@@ -119,7 +119,7 @@ text-blank led p (c ∷ cs) are = blank-by led p c cs are.0 (λ l. text-blank l 
 
 -- A label that was found on lines.
 
--- the lines of its text, and those behind it
+-- the lines of its text, and those after it
 abbrev pub label_lines : Option LabelParts → Option Lines
 label_lines None = None
 label_lines (Some t) = Some (record {
@@ -161,7 +161,7 @@ label-closed c text (d ∷ ds) are = go (nat_eq d.byte 93) refl
     go true e = rw (e, label-text text c.after are) (fits (is_label_text text c.after))
     go false e = rw e (none (is_label_text text c.after))
 
--- behind `[`
+-- after `[`
 label-on : (b : ℕ) (line : List ℕ) (lines : List (List ℕ)) →
     label_at ((b ∷ line) ∷ lines) ≡ cond (nat_eq b 91) (if_label (enclosed_lines 91 93 (line ∷ lines))) None
 unfolding label_at

@@ -77,7 +77,7 @@ start_means B feed w false has s r e =
     (has.each its.Start _ _ ∙ ap (λ (x : List Cell). label_at x (here w)) s.next
     ∙ start-none feed w (here w) w.current e)
 
--- what comes next where a byte stands here
+-- what comes next where a byte is here
 seen-cells : (feed : Feed) (w : World) (b : ℕ) → Sees feed w → w.current ≡ Some b →
     feed w.point ≡ cell_here feed w b ∷ feed (after w.setting w.point)
 seen-cells feed w b s is = s.next ∙ ap (ahead feed w) is
@@ -88,7 +88,7 @@ seen-cells feed w b s is = s.next ∙ ap (ahead feed w) is
 bracket-apart : (b : ℕ) → nat_eq b 93 ≡ true → nat_eq b 91 ≡ false
 bracket-apart b e = let is : b ≡ 93 = eqb-true b 93 e in rw is refl
 
--- `]` behind the text, which the end of its chunk follows if one has begun
+-- `]` after the text, which the end of its chunk follows if one has begun
 closes : (B : Behaviour) (feed : Feed) (state : LabelState) (w : World) (led begun x : Bool) (b : ℕ)
     (events : List Event) →
     HasLabel B → Sees feed w → w.current ≡ Some b → nat_eq b 93 ≡ true → w.scratch.size ≤ most → w.scratch.seen ≡ x →
@@ -144,7 +144,7 @@ refuses_broken B feed state w led begun b has s is opens other rule =
 
 -- The begin of a line.
 
--- by what stands here
+-- by what is here
 at_break_means : (B : Behaviour) (feed : Feed) (w : World) (o : Option ℕ) → HasLabel B → Sees feed w →
     w.scratch.size ≤ most → w.current ≡ o →
     Steps B feed (Next (n.Label its.AtBreak)) w (at_break_code w o).to (at_break_code w o).world
@@ -185,9 +185,9 @@ at_break_means B feed w (Some b) has s le is = go (nat_eq b 93) (nat_eq b 91) re
     go false false k l =
         let plain : is_bracket b ≡ false = rw (k, l) refl in rw (k, l) (line w.scratch.connect refl plain)
 
--- Whitespace in front of a further line.
+-- Whitespace before a further line.
 
--- by whether whitespace stands here
+-- by whether whitespace is here
 eol_after_means : (B : Behaviour) (feed : Feed) (w : World) (x : Bool) → HasLabel B → Sees feed w →
     sees_white w.current ≡ x →
     Steps B feed (Next (n.Label its.EolAfter)) w (eol_after_code w x).to (eol_after_code w x).world
@@ -243,7 +243,7 @@ takes_means B feed state next w escaped pair b has s is t rule then = go (is_ful
         ∙ label-takes escaped pair (cell_here feed w b) (feed (after w.setting w.point)) w t ∙ sym (then _ _)
         ∙ sym (has.each next _ _)))
 
--- by what stands here
+-- by what is here
 inside_means : (B : Behaviour) (feed : Feed) (w : World) (o : Option ℕ) → HasLabel B → Sees feed w →
     w.scratch.size ≤ most → w.current ≡ o →
     Steps B feed (Next (n.Label its.Inside)) w (inside_code w o).to (inside_code w o).world
@@ -285,9 +285,9 @@ inside_means B feed w (Some b) has s le is = go (nat_eq b 93) (nat_eq b 91) (nat
     go false false false k l m =
         let plain : is_bracket b ≡ false = rw (k, l) refl in rw (k, l, m) (by (nat_eq b 92) refl plain m)
 
--- Behind a backslash.
+-- After a backslash.
 
--- by whether the backslash takes what stands here
+-- by whether the backslash takes what is here
 escape_means : (B : Behaviour) (feed : Feed) (w : World) (o : Option ℕ) → HasLabel B → Sees feed w → w.current ≡ o →
     Steps B feed (Next (n.Label its.Escape)) w (escape_code w o).to (escape_code w o).world
 escape_means B feed w None has s is =

@@ -1,4 +1,4 @@
--- A label stands and ends in any table that has it.
+-- A label is and ends in any table that has it.
 use Rattle.std.specs.Prelude.{nat_le}
 use Rattle.std.proofs.lemmas.Bool.Decides.{nat_tests}
 use Rattle.std.proofs.Common.{◌≤◌, ◌+◌, ◌&&◌, ◌≡◌, ℕ, ◌<◌, Bool, true, false, cond, nat_eq, List, Option, Some, None}
@@ -28,11 +28,11 @@ use Rattle.md_seam.proofs.SpacesTermination.{Does, accepts-behind, rest-size, se
 pub record LabelFits (T : Scheme) : Type 1 where
   pub each : (state : LabelState) → Fits T label_scheme (n.Label state)
 
--- what each state behind `[` is ready for
+-- what each state after `[` is ready for
 abbrev InText : Position → After → Type 0
 InText x K = IsInLabel x × Ends IsRest IsRest x K
 
--- what it owes stays owed behind what stands here
+-- what it owes stays owed after what is here
 moved : (w : World) (K : After) (s : Scratch) → w.point.index < w.setting.limit → Ends IsRest IsRest (position w) K →
     Ends IsRest IsRest (moved_to (position w) (after w.setting w.point) s) K
 moved w K s inside e = later _ _ (position w) K _ s (takes w.setting w.point inside) e
@@ -124,7 +124,7 @@ at_break_ends T w (Some b) has r e = go (nat_eq b 93) (nat_eq b 91) refl refl
     go false true k l = rw (k, l) (refused_ends T _ w r)
     go false false k l = rw (k, l) (begun w.scratch.connect refl)
 
--- in the whitespace in front of it,
+-- in the whitespace before it,
 eol_after_ends : (T : Scheme) (w : World) (x : Bool) → LabelFits T → InText (position w) (after_all T w.frames) →
     sees_white (seen (position w)) ≡ x → Does T (n.Label its.EolAfter) w (eol_after_code w x)
 eol_after_ends T w true has r e =
@@ -165,7 +165,7 @@ inside_ends T w (Some b) has r e = go (nat_eq b 93) (nat_eq b 91) (nat_eq b 10) 
         )
     go false false false k l m = rw (k, l, m) (by (nat_eq b 92))
 
--- and behind a backslash
+-- and after a backslash
 escape_ends : (T : Scheme) (w : World) (o : Option ℕ) → LabelFits T → InText (position w) (after_all T w.frames) →
     seen (position w) ≡ o → Does T (n.Label its.Escape) w (escape_code w o)
 escape_ends T w None has r e = (

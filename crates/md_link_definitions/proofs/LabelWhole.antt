@@ -10,7 +10,7 @@ use Rattle.md_link_definitions.specs.LabelRule.{label_from, is_text_of, label_en
 use Rattle.md_seam.specs.Ahead.{point_after}
 use Rattle.md_seam.specs.Spaces.{IsRest}
 
--- what a label that was found comes to
+-- what a label that was found becomes
 abbrev pub taken_label : Option LabelParts → Here → Outcome
 taken_label None h = Refuses h.scratch h.flags
 taken_label (Some t) h =
@@ -24,7 +24,7 @@ unlabelled-rest s e = ap unlabelled e ∙ sym e
 refused : (h : Here) → IsRest h.scratch → Refuses (unlabelled h.scratch) h.flags ≡ Refuses h.scratch h.flags
 refused h is = ap (λ (s : Scratch). Refuses s h.flags) (unlabelled-rest h.scratch is)
 
--- behind `[`, of which nothing was counted yet
+-- after `[`, of which nothing was counted yet
 abbrev behind_opener : Cell → Here → Here
 behind_opener c h = record h { events = h.events ++ label_opened c h.point; point = c.after }
 
@@ -71,7 +71,7 @@ whole-by c text (d ∷ ds) h is = rw (unlabelled-rest h.scratch is) (go (is_labe
     go true false = refl
     go false y = refl
 
--- The rule as a whole: a label is taken where one stands, and else nothing.
+-- The rule as a whole: a label is taken where one is, and else nothing.
 pub label-whole : (cells : List Cell) (h : Here) → IsRest h.scratch →
     label_at cells h ≡ taken_label (label_parts cells) h
 unfolding label_at label_parts in_label

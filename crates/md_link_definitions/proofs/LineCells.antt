@@ -51,7 +51,7 @@ abbrev pub enclosed_by : ℕ → List Cell → List Cell → Enclosed
 enclosed_by closer text [] = Open
 enclosed_by closer text (d ∷ ds) = cond (nat_eq d.byte closer) (Closed (bytes_of text) (bytes_of ds)) Broken
 
--- with one cell more in front of the mark
+-- with one cell more before the mark
 with-by : (closer : ℕ) (c : Cell) (text rest : List Cell) →
     with_byte c.byte (enclosed_by closer text rest) ≡ enclosed_by closer (c ∷ text) rest
 with-by closer c text [] = refl
@@ -109,7 +109,7 @@ pub no_feed-split : (xs ys : List Cell) → NoFeed (xs ++ ys) → NoFeed xs × N
 no_feed-split [] ys h = (tt, h)
 no_feed-split (c ∷ xs) ys h = let more = no_feed-split xs ys h.1 in ((h.0, more.0), more.1)
 
--- and behind it nothing comes, or an ending.
+-- and after it nothing comes, or an ending.
 pub line-stops : (cells : List Cell) → Stops (from_ending cells)
 line-stops [] = tt
 line-stops (c ∷ cs) = go (nat_eq c.byte 10) refl (line-stops cs)
@@ -124,7 +124,7 @@ pub whole-split : (xs ys : List Cell) (p : Point) → AreWhole p (xs ++ ys) →
 whole-split [] ys p are = (tt, are)
 whole-split (c ∷ xs) ys p are = let more = whole-split xs ys c.after are.1 in ((are.0, more.0), more.1)
 
--- The lines of cells: the first, and those behind it.
+-- The lines of cells: the first, and those after it.
 abbrev pub further : List Cell → List (List ℕ)
 further [] = []
 further (c ∷ cs) = cell_lines true (whole_cells c.after cs)
@@ -160,7 +160,7 @@ stops-left : (more : List Cell) → Stops more → from_ending more ≡ more
 stops-left [] stops = refl
 stops-left (c ∷ cs) stops = rw stops refl
 
--- for a line and what comes behind it
+-- for a line and what comes after it
 pub lines-behind : (p : Point) (line more : List Cell) → NoFeed line → Stops more → AreWhole p (line ++ more) →
     cell_lines false (whole_cells p (line ++ more)) ≡ bytes_of (whole_cells p line) ∷ further more
 lines-behind p line more none stops are =

@@ -1,4 +1,4 @@
--- The indent of a line, by the column where it begins: that tells it up to a multiple of 4, as tabs do.
+-- The indent of a line, by the column where it begins: that shows it up to a multiple of 4, as tabs do.
 use Rattle.std.proofs.Common.{◌≡◌, ℕ, ◌+◌, ◌-◌, ◌%◌, Bool, true, false, cond, nat_eq, List, [], ◌∷◌, refl, ap, ap₂, arith}
 use Rattle.md_meaning.specs.Rest.{indent, tab_columns, white_columns}
 use Rattle.md_link_definitions.specs.OpenText.{begun_rest}
@@ -22,7 +22,7 @@ white-turns m n (b ∷ bs) e =
     go false true columns behind next = ap (λ (k : ℕ). 1 + k) next
     go false false columns behind next = refl
 
--- behind what is left of a tab a multiple of 4 is come to
+-- after what is left of a tab a multiple of 4 is reached
 pub indent-cut : (column : ℕ) (line : List ℕ) →
     tab_columns column + white_columns 0 line ≡ indent (begun_rest column true line)
 indent-cut column line =

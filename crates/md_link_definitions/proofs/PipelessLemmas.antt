@@ -34,12 +34,12 @@ overlap line m n le =
     ∙ twice (is_pipeless (take m line)) (is_pipeless (take k behind)) (is_pipeless (drop k behind))
     ∙ sym (ap₂ (λ (x y : Bool). x && y) front rest)
 
--- what lies behind an index, as slicing gives it
+-- what lies after an index, as slicing gives it
 behind-whole : (line : List ℕ) (at : ℕ) → take (length line - at) (drop at line) ≡ drop at line
 behind-whole line at =
     take_all (length line - at) (drop at line) (let size = length-drop at line in omega (arith, size))
 
--- a line whose front has no pipe, by what lies behind an index in it
+-- a line whose front has no pipe, by what lies after an index in it
 pub pipeless-behind : (line : List ℕ) (at n : ℕ) (y : Bool) → at ≤ n → is_pipeless (take n line) ≡ true →
     y ≡ is_pipeless (take (length line - at) (drop at line)) → y ≡ is_pipeless line
 pipeless-behind line at n y le front behind =
@@ -54,7 +54,7 @@ neither : (x : Bool) → (x && false) ≡ false
 neither true = refl
 neither false = refl
 
--- a line that has a pipe behind an index
+-- a line that has a pipe after an index
 pub pipe-behind : (line : List ℕ) (at n : ℕ) → is_pipeless (take n (drop at line)) ≡ false → is_pipeless line ≡ false
 pipe-behind line at n some =
     cut line at

@@ -48,7 +48,7 @@ plain-taken (b ∷ bytes) h =
     ∙ ap (λ (t : Bool). cond t (b ∷ take_while is_raw_byte bytes) []) (plain b both.0).raw
     ∙ ap (λ (l : List ℕ). b ∷ l) (plain-taken bytes both.1)
 
--- behind which nothing is left,
+-- after which nothing is left,
 plain-after : (bytes : List ℕ) → list_all is_plain_byte bytes ≡ true → after is_raw_byte bytes ≡ []
 plain-after [] h = refl
 plain-after (b ∷ bytes) h =

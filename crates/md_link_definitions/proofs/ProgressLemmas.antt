@@ -1,4 +1,4 @@
--- How far definitions have come says whether anything is left behind them.
+-- How far definitions have come says whether anything is left after them.
 use Rattle.std.proofs.Common.{◌≡◌, ℕ, zero, suc, ◌+◌, ◌≤◌, ◌&&◌, ◌||◌, Bool, true, false, not, nat_le, length, List, []}
 use Rattle.std.proofs.Common.{◌∷◌, ◌++◌, Option, Some, None, if◌then◌else◌, refl, sym, ◌∙◌, ap, arith, zero-add}
 use Rattle.std.specs.List.{list_all}
@@ -25,7 +25,7 @@ use Rattle.md_link_definitions.specs.Progress.{begin, behind_colon, behind_desti
 use Rattle.md_link_definitions.specs.Progress.{destination_on, has_room, is_filled, is_none_left, is_whole, label_by, label_from}
 use Rattle.md_link_definitions.specs.Progress.{progress, step, steps, title_by, title_on, title_with}
 
--- More lines go on where the first ended.
+-- More lines continue where the first ended.
 pub steps-append : (p : Progress) (lines more : List (List ℕ)) → steps p (lines ++ more) ≡ steps (steps p lines) more
 unfolding steps
 steps-append p [] more = refl
@@ -37,7 +37,7 @@ pub progress-snoc : (lines : List (List ℕ)) (line : List ℕ) →
 unfolding steps
 progress-snoc lines line = steps-append Fresh lines (line ∷ [])
 
--- whether nothing is left behind these lines, so far already
+-- whether nothing is left after these lines, so far already
 abbrev whole_from : Progress → List (List ℕ) → Bool
 whole_from p lines = is_whole (steps p lines)
 
@@ -49,12 +49,12 @@ whole-left (line ∷ lines) = whole-left lines
 
 -- Titles.
 
--- whether nothing is left behind a title; where there is none, this
+-- whether nothing is left after a title; where there is none, this
 abbrev behind_title : Bool → Option Lines → Bool
 behind_title otherwise None = otherwise
 behind_title otherwise (Some title) = whole_from Fresh title.rest
 
--- The lines in front of its last do not matter.
+-- The lines before its last do not matter.
 alone-line : (line : List ℕ) (found : Option Lines) →
     behind_title false (alone (with_line line found)) ≡ behind_title false (alone found)
 alone-line line None = refl
@@ -141,7 +141,7 @@ whole-untitled ((b ∷ bs) ∷ lines) =
 
 -- Destinations.
 
--- whether nothing is left behind a definition, if there is one
+-- whether nothing is left after a definition, if there is one
 abbrev behind_cut : Option Cut → Bool
 behind_cut None = false
 behind_cut (Some cut) = whole_from Fresh cut.rest
@@ -200,7 +200,7 @@ whole-destination_on label line lines = go (destination_at line)
     go None = whole-left lines
     go (Some d) = whole-behind_destination d.rest lines ∙ cut-title label d lines
 
--- The lines behind a `:` that nothing follows on its line.
+-- The lines after a `:` that nothing follows on its line.
 whole-before_destination : (label : List (List ℕ)) (lines : List (List ℕ)) →
     whole_from BeforeDestination lines ≡ behind_cut (with_destination label lines)
 unfolding step steps
@@ -220,7 +220,7 @@ whole-behind_colon label rest lines = go (is_blank rest)
 
 -- Labels.
 
--- the definition with this label, behind its `:`
+-- the definition with this label, after its `:`
 abbrev cut_from : List (List ℕ) → Option (List (List ℕ)) → Option Cut
 cut_from label None = None
 cut_from label (Some more) = with_destination label (after_gap more)
@@ -236,7 +236,7 @@ whole-behind_label label rest lines = go (begins_with colon rest)
     go true = whole-behind_colon label (after_optional colon rest) lines
     go false = whole-left lines
 
--- whether nothing is left behind a label, by the lines that follow, first the rest of one
+-- whether nothing is left after a label, by the lines that follow, first the rest of one
 abbrev behind_close : List (List ℕ) → Bool
 behind_close [] = false
 behind_close (rest ∷ lines) = whole_from (behind_label rest) lines
@@ -246,11 +246,11 @@ close-cut : (label rest : List (List ℕ)) → behind_close rest ≡ behind_cut 
 close-cut label [] = refl
 close-cut label (rest ∷ lines) = whole-behind_label label rest lines
 
--- whether such a text, with what stood in front of it, is a label
+-- whether such a text, with what was before it, is a label
 abbrev fits : ℕ → Bool → List (List ℕ) → Bool
 fits size filled text = (filled || not (list_all is_blank text)) && nat_le (size + sum_by length text) 999
 
--- whether nothing is left behind a label, if there is one
+-- whether nothing is left after a label, if there is one
 abbrev behind_text : ℕ → Bool → Option Lines → Bool
 behind_text size filled None = false
 behind_text size filled (Some label) = if fits size filled label.text then behind_close label.rest else false
@@ -266,7 +266,7 @@ or-not true x y = refl
 or-not false true y = refl
 or-not false false y = refl
 
--- A test that another implies may stand in front of it.
+-- A test that another implies may be before it.
 and-part : (x whole part : Bool) → (whole ≡ true → part ≡ true) → (x && whole) ≡ (part && (x && whole))
 and-part true true part e = rw (e refl) refl
 and-part true false true e = refl
@@ -292,7 +292,7 @@ fits-line size filled line text =
     (nat_le (size + length line + sum_by length text) 999) (has_room size line)
     (room-part (size + length line) (sum_by length text))
 
--- A label goes on behind its first line, with its bytes counted.
+-- A label continues after its first line, with its bytes counted.
 text-line : (size : ℕ) (filled : Bool) (line : List ℕ) (found : Option Lines) →
     (if has_room size line then behind_text (size + length line) (is_filled filled line) found else false) ≡
     behind_text size filled (with_line line found)
@@ -394,7 +394,7 @@ whole-line line lines =
     go true further = further ∙ whole-label found
     go false further = whole-left lines
 
--- Behind a definition all begins anew.
+-- After a definition all begins anew.
 pub progress-some : (lines : List (List ℕ)) (cut : Cut) → definition_at lines ≡ Some cut →
     is_whole (progress lines) ≡ is_whole (progress cut.rest)
 progress-some [] cut e = absurd (omega (arith, length-definition_at [] cut e))
@@ -435,6 +435,6 @@ cut-at_most (suc n) (line ∷ lines) h = go (definition_at (line ∷ lines)) ref
         ∙ sym
         (ap (λ (x : List Defined × List (List ℕ)). is_none_left x.1) (cut_definitions-some (line ∷ lines) cut e))
 
--- Nothing is left behind the definitions of lines where the lines are whole definitions.
+-- Nothing is left after the definitions of lines where the lines are whole definitions.
 pub progress-cut : (lines : List (List ℕ)) → is_whole (progress lines) ≡ is_none_left (cut_definitions lines).1
 progress-cut lines = cut-at_most (length lines) lines (omega arith)

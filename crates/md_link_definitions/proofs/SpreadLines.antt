@@ -18,7 +18,7 @@ use Rattle.md_seam.proofs.FeedLines.{Stops, behind_last, byte-end, byte_cells, c
 use Rattle.md_seam.proofs.FeedLines.{past_text-whole, spread, spread-end, tab-end, tab_cells, tab_end}
 use Rattle.md_seam.proofs.RestCells.{Cut, cells_by, past_cut, past_rest, rest-end, rest_cells}
 
--- One piece behind another.
+-- One piece after another.
 
 -- they are as a text has them,
 pub whole-append : (xs ys : List Cell) (p : Point) → AreWhole p xs → AreWhole (point_after xs p) ys →
@@ -101,12 +101,12 @@ byte-begins line b p at = go (nat_eq b 9) refl
     go true e = subst (λ (c : ℕ). Begins line c p) (sym (eqb-true b 9 e)) (tab (columns_more p))
     go false e = (past_byte b p, rw (e, at) refl)
 
--- these bytes in front of the first line
+-- these bytes before the first line
 abbrev pub onto : List ℕ → List (List ℕ) → List (List ℕ)
 onto [] lines = lines
 onto (b ∷ bs) lines = onto_first b (onto bs lines)
 
--- in front of what stands there
+-- before what is there
 onto-line : (bytes line : List ℕ) (lines : List (List ℕ)) → onto bytes (line ∷ lines) ≡ (bytes ++ line) ∷ lines
 onto-line [] line lines = refl
 onto-line (b ∷ bs) line lines = ap (onto_first b) (onto-line bs line lines)
@@ -216,11 +216,11 @@ rest-led line r p more none cut one stops = go r.spaces cut
 onto-empty : (bytes : List ℕ) (lines : List (List ℕ)) → onto bytes ([] ∷ lines) ≡ bytes ∷ lines
 onto-empty bytes lines = onto-line bytes [] lines ∙ ap (λ (x : List ℕ). x ∷ lines) (append-nil bytes)
 
--- the ending of a line behind a byte
+-- the ending of a line after a byte
 ending-whole : (q : Point) (c : Cell) (cs : List Cell) → q.vs ≡ 0 → whole_cells q (c ∷ cs) ≡ c ∷ whole_cells c.after cs
 ending-whole q c cs at = let first : nat_eq q.vs 0 ≡ true = rw at refl in rw first refl
 
--- and the lines in front of it
+-- and the lines before it
 ending-next : (bytes : List ℕ) (c : Cell) (cs : List Cell) → nat_eq c.byte 10 ≡ true →
     onto bytes (cell_lines false (c ∷ cs)) ≡ bytes ∷ cell_lines true cs
 unfolding cell_lines

@@ -86,9 +86,9 @@ left-opens : (c : Cell) (text rest : List Cell) (h : Here) →
 left-opens c text [] h = refl
 left-opens c text (m ∷ rest) h = simp append_assoc
 
--- By what stands here.
+-- By what is here.
 
--- behind the mark that closes, with these events of the text in front of it
+-- after the mark that closes, with these events of the text before it
 abbrev pub closed_here : List Event → Cell → List Cell → Here → Outcome
 closed_here events c cs h =
     Accepts
@@ -110,7 +110,7 @@ text-closes begun c cs h e = go (nat_eq c.byte h.scratch.marker_b) refl
     go true k = rw (k, e) refl
     go false k = rw (k, e, e) refl
 
--- or stand at once behind that which opens
+-- or are at once after that which opens
 pub opener-closes : (c : Cell) (cs : List Cell) (h : Here) → nat_eq c.byte h.scratch.marker ≡ true →
     behind_opener (c ∷ cs) h ≡ closed_here [] c cs h
 unfolding behind_opener

@@ -13,7 +13,7 @@ use Rattle.md_link_definitions.specs.TitleRule.{TitleParts, parts_closed, parts_
 use Rattle.md_link_definitions.proofs.CellLineLemmas.{all-enclosed, cells-enclosed, lines-byte, lines-ending, lines-some}
 use Rattle.md_link_definitions.proofs.TitleLemmas.{title-marks}
 
--- the lines of its text, and those behind it
+-- the lines of its text, and those after it
 abbrev pub parts_lines : Option TitleParts → Option Lines
 parts_lines None = None
 parts_lines (Some t) = Some (record { text = cell_lines false t.text; rest = cell_lines false t.rest })

@@ -29,9 +29,9 @@ use Rattle.md_seam.specs.Events.Nested.{enter, enter_link, exit, pair}
 use Rattle.md_seam.specs.Spaces.{is_current}
 use Rattle.md_seam.specs.Transition.{entered, entered_link, exited, taken}
 
--- Steps by what they come to.
+-- Steps by what they become.
 
--- the closing mark is taken, behind these events
+-- the closing mark is taken, after these events
 closes : (B : Behaviour) (feed : Feed) (state : TitleState) (w : World) (b : ℕ) (new events : List Event) → HasTitle B →
     new ≡ w.events ++ events → feed w.point ≡ ahead feed w (Some b) →
     title_behaves state (ahead feed w (Some b)) (here w) ≡
@@ -42,7 +42,7 @@ closes B feed state w b new events has is e same =
     (events ++ title_end w.point (after w.setting w.point)) refl (rw is (simp append_assoc))
     (has.each state _ _ ∙ ap (λ (x : List Cell). title_behaves state x (here w)) e ∙ same ∙ rw is (simp append_assoc))
 
--- no title stands here
+-- no title is here
 refuses : (B : Behaviour) (feed : Feed) (state : TitleState) (w : World) (o : Option ℕ) → HasTitle B →
     feed w.point ≡ ahead feed w o →
     title_behaves state (ahead feed w o) (here w) ≡ Refuses (unmarked w.scratch) w.flags →
@@ -51,7 +51,7 @@ refuses B feed state w o has e same =
     passes B feed _ _ w (refused w).world refl refl
     (has.each state _ _ ∙ ap (λ (x : List Cell). title_behaves state x (here w)) e ∙ same)
 
--- it goes on with another state here
+-- it continues with another state here
 turns-to : (B : Behaviour) (feed : Feed) (state next : TitleState) (w : World) (o : Option ℕ) (added : List Event) →
     HasTitle B → feed w.point ≡ ahead feed w o →
     title_behaves state (ahead feed w o) (here w) ≡
@@ -73,7 +73,7 @@ turns-only B feed state next w o has e same =
     (has.each state _ _ ∙ ap (λ (x : List Cell). title_behaves state x (here w)) e ∙ same
     ∙ ap (λ (x : List Cell). title_behaves next x (here w)) (sym e) ∙ sym (has.each next _ _))
 
--- and behind what stands here
+-- and after what is here
 takes-to : (B : Behaviour) (feed : Feed) (state next : TitleState) (w : World) (b : ℕ) → HasTitle B →
     feed w.point ≡ ahead feed w (Some b) →
     title_behaves state (ahead feed w (Some b)) (here w) ≡
@@ -85,7 +85,7 @@ takes-to B feed state next w b has e same =
 
 -- Each state.
 
--- what stands before a title may open none
+-- what is before a title may open none
 start-none : (h : Here) → title_at [] h ≡ Refuses h.scratch h.flags
 unfolding title_at
 start-none h = refl
@@ -125,7 +125,7 @@ start_means B feed w (Some b) has e = go (title_closer b) refl
         (has.each its.Start _ _ ∙ same ∙ ap (λ (x : Option ℕ). title_from x c cs (here w)) k ∙ joined
         ∙ sym (has.each its.Begin _ _))
 
--- behind the opening mark
+-- after the opening mark
 begin_means : (B : Behaviour) (feed : Feed) (w : World) (o : Option ℕ) → HasTitle B → feed w.point ≡ ahead feed w o →
     Steps B feed (Next (n.Title its.Begin)) w (begin_code w (is_current w.scratch.marker o)).to
     (begin_code w (is_current w.scratch.marker o)).world
@@ -148,7 +148,7 @@ begin_means B feed w (Some b) has e = go (nat_eq b w.scratch.marker) refl
         turns-to B feed its.Begin its.AtBreak w (Some b) (enter DefinitionTitleString w.point ∷ []) has e
         (text-begins c cs (here w) k)
 
--- behind the ending of a line
+-- after the ending of a line
 behind-line : (cells : List Cell) (h : Here) →
     behind_ending cells h ≡ in_text false false cells (record h { events = h.events ++ exit Data h.point ∷ [] })
 unfolding behind_ending
@@ -220,7 +220,7 @@ inside_means B feed w (Some b) has e =
         (takes-to B feed its.Inside its.Inside w b has e
         (text-more c cs (here w) mark m ∙ ap (λ (x : Bool). in_text true x cs (here (taken w))) i))
 
--- behind a backslash
+-- after a backslash
 escape_means : (B : Behaviour) (feed : Feed) (w : World) (o : Option ℕ) → HasTitle B → IsMarked w.scratch →
     feed w.point ≡ ahead feed w o →
     Steps B feed (Next (n.Title its.Escape)) w (escape_code w (is_escaped w.scratch o)).to

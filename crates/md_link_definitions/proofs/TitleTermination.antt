@@ -1,4 +1,4 @@
--- The title of a definition stands and ends in any table that has it.
+-- The title of a definition is and ends in any table that has it.
 use Rattle.std.proofs.Common.{◌≡◌, ℕ, ◌<◌, Bool, true, false, nat_eq, Option, Some, None, List, refl, arith, ap, sym}
 use Rattle.md_meaning.specs.Ascii.{backslash}
 use Rattle.md_meaning.specs.Definition.{title_closer}
@@ -27,7 +27,7 @@ use Rattle.md_seam.proofs.SpacesTermination.{Does, accepts-behind, seen-in, seen
 pub record TitleFits (T : Scheme) : Type 1 where
   pub each : (state : TitleState) → Fits T title_scheme (n.Title state)
 
--- what each state behind the opening mark is ready for
+-- what each state after the opening mark is ready for
 abbrev Between : World → After → Type 0
 Between w K = title_ready (n.Title its.Inside) (position w) K
 
@@ -49,7 +49,7 @@ refused-here : (T : Scheme) (name : StateName) (w : World) → Between w (after_
     Does T name w (refused w)
 refused-here T name w r = (refuses T name w _ _ w.events (unmarked w.scratch) r.1 r.0.rest, refl)
 
--- what stands here is taken, and it goes on
+-- what is here is taken, and it continues
 goes-behind : (T : Scheme) (name next : TitleState) (w : World) → TitleFits T → Between w (after_all T w.frames) →
     w.point.index < w.setting.limit →
     (Between (taken w) (after_all T w.frames) →
@@ -84,7 +84,7 @@ start_ends T w (Some b) has r e = go (title_closer b) refl
       refl,
     )
 
--- behind the opening mark
+-- after the opening mark
 begin_ends : (T : Scheme) (w : World) (x : Bool) → TitleFits T → Between w (after_all T w.frames) →
     is_current w.scratch.marker (seen (position w)) ≡ x → Does T (n.Title its.Begin) w (begin_code w x)
 begin_ends T w true has r e =
@@ -95,7 +95,7 @@ begin_ends T w false has r e = (
   refl,
 )
 
--- behind the ending of a line
+-- after the ending of a line
 after_eol_ends : (T : Scheme) (w : World) → TitleFits T → Between w (after_all T w.frames) →
     Does T (n.Title its.AfterEol) w (after_eol_transition w)
 after_eol_ends T w has r = (
@@ -135,7 +135,7 @@ inside_ends T w (Some b) has r e =
     go false false false true k l m i = rw (k, l, m, i) (goes-behind T its.Inside its.Escape w has r inside (λ x. x))
     go false false false false k l m i = rw (k, l, m, i) (goes-behind T its.Inside its.Inside w has r inside (λ x. x))
 
--- behind a backslash
+-- after a backslash
 escape_ends : (T : Scheme) (w : World) (x : Bool) → TitleFits T → Between w (after_all T w.frames) →
     is_escaped w.scratch (seen (position w)) ≡ x → Does T (n.Title its.Escape) w (escape_code w x)
 escape_ends T w true has r e =

@@ -15,7 +15,7 @@ use Rattle.md_link_definitions.proofs.TitleLines.{parts_lines, title-lines}
 use Rattle.md_link_definitions.proofs.WholeCellLemmas.{IsMarkFirst, NoWhite, mark-at, no-white, rest-are, whole-before, whole-from}
 use Rattle.md_seam.specs.Ahead.{point_after}
 
--- the lines of its text, and those behind it
+-- the lines of its text, and those after it
 abbrev pub title_texts : Option TitleParts → Option Lines
 title_texts None = None
 title_texts (Some t) = Some (record {

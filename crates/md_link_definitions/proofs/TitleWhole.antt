@@ -10,7 +10,7 @@ use Rattle.md_link_definitions.specs.TitleRule.{TitleParts, behind_cell, behind_
 use Rattle.md_link_definitions.specs.TitleRule.{title_by, title_events, title_from, title_parts, title_text}
 use Rattle.md_seam.specs.Spaces.{IsRest}
 
--- what a title that was found comes to
+-- what a title that was found becomes
 abbrev pub taken_title : Option TitleParts → Here → Outcome
 taken_title None h = Refuses h.scratch h.flags
 taken_title (Some t) h =
@@ -31,7 +31,7 @@ whole-by closer c text (d ∷ ds) h is = go (nat_eq d.byte closer) refl
     go true e = rw (e, unmarked-rest h.scratch c.byte closer is) (simp append_assoc)
     go false e = rw e (ap (λ (s : Scratch). Refuses s h.flags) (unmarked-rest h.scratch c.byte closer is))
 
--- behind the opening mark
+-- after the opening mark
 whole-opened : (closer : ℕ) (c : Cell) (cs : List Cell) (h : Here) → IsRest h.scratch →
     behind_opener cs (behind_cell c closer h) ≡ taken_title (parts_from (Some closer) c cs) h
 unfolding behind_opener
@@ -44,7 +44,7 @@ whole-from : (o : Option ℕ) (c : Cell) (cs : List Cell) (h : Here) → IsRest 
 whole-from None c cs h is = refl
 whole-from (Some closer) c cs h is = whole-opened closer c cs h is
 
--- The rule as a whole: a title is taken where one stands, and else nothing.
+-- The rule as a whole: a title is taken where one is, and else nothing.
 pub title-whole : (cells : List Cell) (h : Here) → IsRest h.scratch →
     title_at cells h ≡ taken_title (title_parts cells) h
 unfolding title_at title_parts

@@ -18,14 +18,14 @@ use Rattle.md_seam.specs.Ahead.{point_after}
 abbrev pub NoWhite : (ℕ → Bool) → Type 0
 NoWhite is = (b : ℕ) → is_white b ≡ true → is b ≡ false
 
--- behind what is no whitespace and no line ending a byte begins
+-- after what is no whitespace and no line ending a byte begins
 pub whole-after : (p : Point) (c : Cell) → IsWhole p c → is_white c.byte ≡ false → nat_eq c.byte 10 ≡ false →
     c.after.vs ≡ 0
 whole-after p c (inl white) w e = cc
 whole-after p c (inr (at, inl ten)) w e = let bad : false ≡ true = rw ten at (sym e) in cc
 whole-after p c (inr (at, inr vs)) w e = vs
 
--- and one begins where it stands
+-- and one begins where it is
 pub whole-at : (p : Point) (c : Cell) → IsWhole p c → is_white c.byte ≡ false → p.vs ≡ 0
 whole-at p c (inl white) w = cc
 whole-at p c (inr (at, more)) w = at
@@ -168,7 +168,7 @@ pub no-white : (opener closer : ℕ) → AreMarks opener closer → NoWhite (is_
 no-white opener closer are b w =
     let other : is_other b ≡ true = grind (arith, nat_tests) in not-mark opener closer b are other
 
--- it stands in front of the first mark
+-- it is before the first mark
 pub texts-enclosed : (opener closer : ℕ) (p : Point) (cells : List Cell) → AreMarks opener closer → AreWhole p cells →
     let is = is_mark opener closer in
     enclosed_lines opener closer (cell_lines false (whole_cells p cells)) ≡

@@ -5,7 +5,7 @@ use Rattle.md_meaning.specs.Enclosed.{Lines}
 use Rattle.md_meaning.specs.Rest.{is_white}
 use Rattle.md_engine.specs.Meaning.{Cell}
 
--- What is left of them. `led` says that whitespace in front of a further line may come first.
+-- What is left of them. `led` says that whitespace before a further line may come first.
 unfoldable pub cell_lines : Bool → List Cell → List (List ℕ)
 cell_lines led [] = [] ∷ []
 cell_lines led (c ∷ cs) =
@@ -13,7 +13,7 @@ cell_lines led (c ∷ cs) =
     else if led && is_white c.byte then cell_lines true cs
     else onto_first c.byte (cell_lines false cs)
 
--- the text in front of a mark and what follows that, if it is the one that closes
+-- the text before a mark and what follows that, if it is the one that closes
 unfoldable pub lines_closed : ℕ → Bool → List Cell → List Cell → Option Lines
 lines_closed closer led text [] = None
 lines_closed closer led text (c ∷ cs) =

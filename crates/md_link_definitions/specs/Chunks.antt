@@ -13,8 +13,8 @@ use Rattle.md_seam.specs.Events.Nested.{enter_link, exit}
 abbrev pub string_link : Link
 string_link = record { previous = false; next = false; content = content.String }
 
--- The cells in front of the first mark. `escaped` says that a backslash takes the cell that is next; pairs are taken
--- from left to right.
+-- The cells before the first mark. `escaped` says that a backslash takes the cell that is next; pairs are taken from
+-- left to right.
 abbrev pub before_mark : (ℕ → Bool) → Bool → List Cell → List Cell
 before_mark is_mark escaped [] = []
 before_mark is_mark true (c ∷ cs) = c ∷ before_mark is_mark false cs
@@ -28,8 +28,8 @@ from_mark is_mark true (c ∷ cs) = from_mark is_mark false cs
 from_mark is_mark false (c ∷ cs) =
     if is_mark c.byte then c ∷ cs else from_mark is_mark (c.byte == backslash) cs
 
--- The chunks of a text from a point on: each line with its ending, of which the first may have begun. Where nothing
--- stands on the last line there is none.
+-- The chunks of a text from a point on: each line with its ending, of which the first may have begun. Where nothing is
+-- on the last line there is none.
 abbrev pub chunks : Bool → List Cell → Point → List Event
 chunks false [] p = []
 chunks true [] p = exit Data p ∷ []

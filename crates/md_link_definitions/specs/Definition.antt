@@ -17,7 +17,7 @@ use Rattle.md_engine.specs.World.{World}
 use Rattle.md_seam.specs.Spaces.{IsRest, any_size, ends_line, is_current, sees_white, white_then}
 use Rattle.md_seam.specs.Transition.{Transition, entered, exited, taken, tried}
 
--- it goes on with another state of it here
+-- it continues with another state of it here
 abbrev pub turned : World → DefinitionState → Transition
 turned w next = record { to = Retry (n.Definition next); world = w }
 
@@ -25,11 +25,11 @@ turned w next = record { to = Retry (n.Definition next); world = w }
 abbrev pub tries_part : World → StateName → State → State → Transition
 tries_part w first ok nok = record { to = Retry first; world = tried w ok nok }
 
--- whitespace is tried, and it goes on behind it
+-- whitespace is tried, and it continues after it
 abbrev pub white_first : World → DefinitionState → Transition
 white_first w next = white_then w 1 any_size (Next (n.Definition next)) Nok
 
--- by whether whitespace stands here
+-- by whether whitespace is here
 abbrev pub behind_white : World → DefinitionState → Bool → Transition
 behind_white w next true = white_first w next
 behind_white w next false = turned w next
@@ -37,19 +37,19 @@ behind_white w next false = turned w next
 abbrev pub refused : World → Transition
 refused w = record { to = Nok; world = w }
 
--- by whether definitions are on, and whether whitespace stands here
+-- by whether definitions are on, and whether whitespace is here
 abbrev pub start_code : World → Bool → Bool → Transition
 start_code w true white = behind_white w its.Before white
 start_code w false white = refused w
 
--- by whether `[` stands here, where the definition begins
+-- by whether `[` is here, where the definition begins
 abbrev pub before_code : World → Bool → Transition
 before_code w true =
     tries_part (entered w Definition) (n.Label label.Start) (Next (n.Definition its.LabelAfter))
     (Next (n.Definition its.LabelNok))
 before_code w false = refused w
 
--- by whether `:` stands here
+-- by whether `:` is here
 abbrev pub label_after_code : World → Bool → Transition
 label_after_code w true = record {
   to = Next (n.Definition its.MarkerAfter);
@@ -57,7 +57,7 @@ label_after_code w true = record {
 }
 label_after_code w false = refused w
 
--- whether whitespace or a line ending stands here
+-- whether whitespace or a line ending is here
 abbrev pub sees_gap : Option ℕ → Bool
 sees_gap o = sees_white o || is_current line_feed o
 
@@ -141,7 +141,7 @@ definition_transition its.TitleBeforeMarker w = title_before_marker_transition w
 definition_transition its.TitleAfter w = title_after_transition w
 definition_transition its.TitleAfterOptionalWhitespace w = title_after_optional_whitespace_transition w
 
--- It ends behind its `[`, and so behind the point where it begins.
+-- It ends after its `[`, and so after the point where it begins.
 abbrev pub definition_ends : StateName → Position → After → Type 0
 definition_ends (n.Definition its.Start) x K = EndsLater IsRest IsRest x K
 definition_ends (n.Definition its.Before) x K = EndsLater IsRest IsRest x K
@@ -151,7 +151,7 @@ definition_ends _ x K = Ends IsRest IsRest x K
 abbrev pub definition_ready : StateName → Position → After → Type 0
 definition_ready name x K = IsRest x.scratch × definition_ends name x K
 
--- A title is tried whole, with the gap in front of it, so its states are below the others.
+-- A title is tried whole, with the gap before it, so its states are below the others.
 abbrev pub definition_level : StateName → ℕ
 definition_level (n.Definition its.TitleBefore) = 2
 definition_level (n.Definition its.TitleBeforeMarker) = 2

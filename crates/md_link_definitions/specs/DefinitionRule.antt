@@ -24,7 +24,7 @@ use Rattle.md_seam.specs.Events.Nested.{around, enter, exit, pair}
 use Rattle.md_seam.specs.Look.{first_seen}
 use Rattle.md_seam.specs.Spaces.{IsRest, any_size, ends_line}
 
--- goes on by what a trial came to: behind what it took, or here
+-- continues by what a trial became: after what it took, or here
 abbrev pub tried : Outcome → (List Cell → Here → Outcome) → (Scratch → Flags → Outcome) → Outcome
 tried (Accepts h rest) onward otherwise = onward rest h
 tried (Refuses s g) onward otherwise = otherwise s g
@@ -43,7 +43,7 @@ at_end cells h =
     then Accepts (record h { events = h.events ++ exit Definition h.point ∷ [] }) cells
     else Refuses h.scratch h.flags
 
--- behind its parts, before whitespace
+-- after its parts, before whitespace
 unfoldable pub behind_parts : List Cell → Here → Outcome
 behind_parts cells h = at_end (white_rest any_size cells) (past_white cells h)
 
@@ -58,11 +58,11 @@ behind_title cells h = at_title_end (white_rest any_size cells) (past_white cell
 unfoldable pub at_title : List Cell → Here → Outcome
 at_title cells h = tried (title_at cells h) behind_title Refuses
 
--- and the gap in front of it
+-- and the gap before it
 unfoldable pub before_title : List Cell → Here → Outcome
 before_title cells h = tried (gap_at cells h) at_title Refuses
 
--- a title, if one stands there
+-- a title, if one is there
 unfoldable pub behind_destination : List Cell → Here → Outcome
 behind_destination cells h = or_none behind_parts (before_title cells h) cells h
 
@@ -70,7 +70,7 @@ behind_destination cells h = or_none behind_parts (before_title cells h) cells h
 unfoldable pub before_destination : List Cell → Here → Outcome
 before_destination cells h = tried (destination_at cells h) behind_destination Refuses
 
--- a gap, if one stands there
+-- a gap, if one is there
 unfoldable pub behind_marker : List Cell → Here → Outcome
 behind_marker cells h = or_none before_destination (gap_at cells h) cells h
 
@@ -118,14 +118,14 @@ pub record HasDefinition (B : Behaviour) (options : ParseOptions) : Type 0 where
   pub each : (state : DefinitionState) (cells : List Cell) (h : Here) →
       B (n.Definition state) cells h ≡ definition_behaves options state cells h
 
--- A definition as a whole: its parts, and where they stand.
+-- A definition as a whole: its parts, and where they are.
 
 pub record DefinitionParts : Type 0 where
   -- from its indent on
   pub cells : List Cell
   pub label : LabelParts
   pub colon : Cell
-  -- behind the colon
+  -- after the colon
   pub more : List Cell
   pub destination : Destination
   pub title : Option TitleParts
@@ -134,7 +134,7 @@ pub record DefinitionParts : Type 0 where
 abbrev pub label_begin : DefinitionParts → Point → Point
 label_begin d p = white_end any_size d.cells p
 
--- The destination stands behind a gap: where it begins, and whether it is between angle brackets,
+-- The destination is after a gap: where it begins, and whether it is between angle brackets,
 abbrev pub destination_begin : DefinitionParts → Point
 destination_begin d = gap_end d.more d.colon.after
 
@@ -148,7 +148,7 @@ destination_end d = destination_last d.destination (gap_rest d.more) (destinatio
 abbrev pub destination_rest : DefinitionParts → List Cell
 destination_rest d = destination_left d.destination (gap_rest d.more)
 
--- A title, if there is one, stands behind a gap: its events,
+-- A title, if there is one, is after a gap: its events,
 abbrev pub titled_part : Option TitleParts → List Cell → Point → List Event
 titled_part None cells p = []
 titled_part (Some t) cells p = gap_part cells p ++ title_events t (gap_end cells p)
@@ -169,7 +169,7 @@ parts_end d = titled_end d.title (destination_end d)
 abbrev pub parts_rest : DefinitionParts → List Cell
 parts_rest d = titled_rest d.title (destination_rest d)
 
--- and the definition behind it
+-- and the definition after it
 abbrev pub definition_end : DefinitionParts → Point
 definition_end d = white_end any_size (parts_rest d) (parts_end d)
 
@@ -186,7 +186,7 @@ definition_events d p =
     ++ destination_part (is_literal d) d.destination.text (gap_rest d.more) (destination_begin d)
     ++ titled_part d.title (destination_rest d) (destination_end d) ++ white_part (parts_rest d) (parts_end d))
 
--- whether the line ends behind whitespace
+-- whether the line ends after whitespace
 abbrev pub ends_behind : List Cell → Bool
 ends_behind cells = ends_line (first_seen (white_rest any_size cells))
 
@@ -195,15 +195,15 @@ abbrev pub lone : Option TitleParts → Option TitleParts
 lone None = None
 lone (Some t) = if ends_behind t.rest then Some t else None
 
--- the title behind a destination that these cells follow, if one stands there
+-- the title after a destination that these cells follow, if one is there
 abbrev pub title_behind : List Cell → Option TitleParts
 title_behind cells = if begins_gap cells then lone (title_parts (gap_rest cells)) else None
 
--- a definition whose line ends behind its parts
+-- a definition whose line ends after its parts
 abbrev pub ended : DefinitionParts → Option DefinitionParts
 ended d = if ends_behind (parts_rest d) then Some d else None
 
--- the definition from these cells on, with this label and colon, by the destination behind them
+-- the definition from these cells on, with this label and colon, by the destination after them
 abbrev pub parts_with : List Cell → LabelParts → Cell → List Cell → Option Destination → Option DefinitionParts
 parts_with cells label c cs None = None
 parts_with cells label c cs (Some found) =

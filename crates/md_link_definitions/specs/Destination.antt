@@ -24,7 +24,7 @@ without_size s = record s { size = 0 }
 abbrev pub with_size : ℕ → Scratch → Scratch
 with_size size s = record s { size = size }
 
--- What stands in a destination.
+-- What is in a destination.
 pub data Piece : Type 0 where
   -- an opening mark, and a closing one
   Opens : Piece
@@ -85,7 +85,7 @@ abbrev pub begins : Option ℕ → Begin
 begins None = Neither
 begins (Some b) = if b == less_than then Literal else if is_raw_byte b then Raw else Neither
 
--- by what stands here
+-- by what is here
 abbrev pub start_code : World → Begin → Transition
 start_code w Literal = record {
   to = Next (n.Destination its.EnclosedBefore);
@@ -97,7 +97,7 @@ start_code w Raw = record {
 }
 start_code w Neither = record { to = Nok; world = w }
 
--- by whether `>` stands here
+-- by whether `>` is here
 abbrev pub enclosed_before_code : World → Bool → Transition
 enclosed_before_code w true = record {
   to = Ok;
@@ -105,7 +105,7 @@ enclosed_before_code w true = record {
 }
 enclosed_before_code w false = record { to = Retry (n.Destination its.Enclosed); world = text_entered w }
 
--- by what stands here
+-- by what is here
 abbrev pub enclosed_code : World → Piece → Transition
 enclosed_code w Opens = record { to = Nok; world = w }
 enclosed_code w Closes = record { to = Retry (n.Destination its.EnclosedBefore); world = text_exited w }
@@ -113,12 +113,12 @@ enclosed_code w Escapes = record { to = Next (n.Destination its.EnclosedEscape);
 enclosed_code w Other = record { to = Next (n.Destination its.Enclosed); world = taken w }
 enclosed_code w Stops = record { to = Nok; world = w }
 
--- by whether the backslash takes what stands here
+-- by whether the backslash takes what is here
 abbrev pub escape_code : DestinationState → World → Bool → Transition
 escape_code inside w true = record { to = Next (n.Destination inside); world = taken w }
 escape_code inside w false = record { to = Retry (n.Destination inside); world = w }
 
--- by what stands here, and whether a parenthesis is open
+-- by what is here, and whether a parenthesis is open
 abbrev pub raw_code : World → Piece → Bool → Transition
 raw_code w Opens some = record {
   to = Next (n.Destination its.Raw);

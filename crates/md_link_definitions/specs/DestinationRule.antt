@@ -58,12 +58,12 @@ literal_by left cells h (Closed text rest) =
 literal_by left cells h Open = Refuses h.scratch h.flags
 literal_by left cells h Broken = Refuses h.scratch h.flags
 
--- in the text, by whether a backslash stands in front
+-- in the text, by whether a backslash is in front
 unfoldable pub in_literal : Bool → List Cell → Here → Outcome
 in_literal escaped cells h =
     literal_by (λ text p q. text_end q) cells h (enclosed less_than greater_than escaped (line_bytes cells))
 
--- behind the `<`, or at the `>`
+-- after the `<`, or at the `>`
 unfoldable pub before_literal : List Cell → Here → Outcome
 before_literal cells h = literal_by text_part cells h (enclosed less_than greater_than false (line_bytes cells))
 
@@ -75,7 +75,7 @@ raw_begin p = enter DefinitionDestination p ∷ enter DefinitionDestinationRaw p
 abbrev pub raw_end : Point → List Event
 raw_end p = text_end p ++ exit DefinitionDestinationRaw p ∷ exit DefinitionDestination p ∷ []
 
--- in the text, by whether a backslash stands in front: so many parentheses are open, and all are closed in it
+-- in the text, by whether a backslash is in front: so many parentheses are open, and all are closed in it
 unfoldable pub in_raw : Bool → List Cell → Here → Outcome
 in_raw escaped cells h =
     let text = take_while is_raw_byte (line_bytes cells) in
@@ -116,11 +116,11 @@ abbrev pub begins_literal : List Cell → Bool
 begins_literal [] = false
 begins_literal (c ∷ cs) = c.byte == less_than
 
--- behind so many cells
+-- after so many cells
 abbrev pub behind_cells : ℕ → List Cell → Point → Point
 behind_cells n cells p = point_after (take n cells) p
 
--- The events of a destination with this text that stands first: between angle brackets,
+-- The events of a destination with this text that is first: between angle brackets,
 abbrev pub literal_part : List ℕ → List Cell → Point → List Event
 literal_part text cells p =
     let q = behind_cells 1 cells p in
@@ -140,7 +140,7 @@ abbrev pub destination_size : Bool → List ℕ → ℕ
 destination_size true text = suc (suc (length text))
 destination_size false text = length text
 
--- the destination that is found in front of some cells, or none
+-- the destination that is found before some cells, or none
 abbrev pub destination_by : List Cell → Here → Option Destination → Outcome
 destination_by cells h None = Refuses h.scratch h.flags
 destination_by cells h (Some d) =

@@ -1,4 +1,4 @@
--- Whitespace with at most one line ending, as it stands between the parts of a definition (CommonMark 4.7).
+-- Whitespace with at most one line ending, as it is between the parts of a definition (CommonMark 4.7).
 use Rattle.std.specs.Prelude.{refl, Bool, true, false}
 use Rattle.md_engine.specs.declared.event.Name.TheVariants.{LineEnding}
 use Rattle.md_engine.specs.declared.state.Name.{Name as StateName}
@@ -19,12 +19,12 @@ with_seen s = record s { seen = true }
 abbrev pub without_seen : Scratch → Scratch
 without_seen s = record s { seen = false }
 
--- by whether whitespace stands here
+-- by whether whitespace is here
 abbrev pub start_code : World → Bool → Transition
 start_code w true = white_then w 1 any_size (Next (n.SpaceOrTabEol its.AfterFirst)) Nok
 start_code w false = record { to = Retry (n.SpaceOrTabEol its.AtEol); world = w }
 
--- by whether a line ending stands here, and whether something was taken
+-- by whether a line ending is here, and whether something was taken
 abbrev pub at_eol_code : World → Bool → Bool → Transition
 at_eol_code w true some = record {
   to = Next (n.SpaceOrTabEol its.AfterEol);
@@ -33,7 +33,7 @@ at_eol_code w true some = record {
 at_eol_code w false true = record { to = Ok; world = record w { scratch = without_seen w.scratch } }
 at_eol_code w false false = record { to = Nok; world = record w { scratch = without_seen w.scratch } }
 
--- by whether whitespace stands here
+-- by whether whitespace is here
 abbrev pub after_eol_code : World → Bool → Transition
 after_eol_code w true = white_then (exited w LineEnding) 1 any_size (Next (n.SpaceOrTabEol its.AfterMore)) Nok
 after_eol_code w false = record { to = Retry (n.SpaceOrTabEol its.AfterMore); world = exited w LineEnding }

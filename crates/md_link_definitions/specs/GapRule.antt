@@ -20,19 +20,19 @@ use Rattle.md_seam.specs.Spaces.{any_size}
 abbrev pub white_part : List Cell → Point → List Event
 white_part cells p = if begins_white cells then pair SpaceOrTab p (white_end any_size cells p) else []
 
--- behind it
+-- after it
 unfoldable pub past_white : List Cell → Here → Here
 past_white cells h =
     record h { events = h.events ++ white_part cells h.point; point = white_end any_size cells h.point }
 
--- where the next line begins, behind an ending: its whitespace
+-- where the next line begins, after an ending: its whitespace
 unfoldable pub at_line : List Cell → Here → Outcome
 at_line cells h =
     Accepts
     (past_white cells (record h { events = h.events ++ exit LineEnding h.point ∷ [] }))
     (white_rest any_size cells)
 
--- behind the first whitespace: an ending, and the whitespace behind it; with no ending it holds if there was some
+-- after the first whitespace: an ending, and the whitespace after it; with no ending it holds if there was some
 unfoldable pub at_eol : List Cell → Here → Outcome
 at_eol [] h =
     if h.scratch.seen then Accepts (record h { scratch = without_seen h.scratch }) []
@@ -47,7 +47,7 @@ at_eol (c ∷ cs) h =
     else if h.scratch.seen then Accepts (record h { scratch = without_seen h.scratch }) (c ∷ cs)
     else Refuses (without_seen h.scratch) h.flags
 
--- behind whitespace that was taken
+-- after whitespace that was taken
 abbrev pub after_first : List Cell → Here → Outcome
 after_first cells h = at_eol cells (record h { scratch = with_seen h.scratch })
 
@@ -76,7 +76,7 @@ abbrev pub begins_ending : List Cell → Bool
 begins_ending [] = false
 begins_ending (c ∷ cs) = c.byte == 10
 
--- it and the whitespace behind it: the events,
+-- it and the whitespace after it: the events,
 abbrev pub ending_part : List Cell → Point → List Event
 ending_part [] p = []
 ending_part (c ∷ cs) p = if c.byte == 10 then pair LineEnding p c.after ++ white_part cs c.after else []

@@ -9,18 +9,18 @@ use Rattle.md_meaning.specs.Table.{is_head, row_cells}
 abbrev pub head_columns : List ℕ → ℕ
 head_columns line = if is_head line then length (row_cells line) else 0
 
--- whether a pipe divides: no backslash takes it, and something stands behind it
+-- whether a pipe divides: no backslash takes it, and something is after it
 abbrev pub divides : ℕ → Bool → Bool → Bool
 divides b escaped is_last = (not escaped && (b == pipe)) && not is_last
 
 abbrev pub divided : ℕ → Bool → Bool → ℕ
 divided b escaped is_last = if divides b escaped is_last then 1 else 0
 
--- how many pieces stand between the pipes of a row
+-- how many pieces are between the pipes of a row
 abbrev pub pieces_len : Bool → List ℕ → ℕ
 pieces_len escaped [] = 1
 pieces_len escaped (b ∷ bs) = divided b escaped (is_end bs) + pieces_len (not escaped && (b == backslash)) bs
 
--- whether no pipe stands in a line
+-- whether no pipe is in a line
 abbrev pub is_pipeless : List ℕ → Bool
 is_pipeless line = list_all (λ b. not (b == pipe)) line

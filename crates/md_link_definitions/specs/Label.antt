@@ -53,7 +53,7 @@ taken_as w b state =
     if is_full w then refused w
     else record { to = Next (n.Label state); world = record (taken w) { scratch = counted w b } }
 
--- behind the text, by whether something else than whitespace stands in it
+-- after the text, by whether something else than whitespace is in it
 abbrev pub close_code : World → Bool → Transition
 close_code w true = record {
   to = Ok;
@@ -63,7 +63,7 @@ close_code w true = record {
 }
 close_code w false = refused w
 
--- by whether `[` stands here
+-- by whether `[` is here
 abbrev pub start_code : World → Bool → Transition
 start_code w true = record {
   to = Next (n.Label its.AtBreak);
@@ -73,7 +73,7 @@ start_code w true = record {
 }
 start_code w false = record { to = Nok; world = w }
 
--- by what stands here
+-- by what is here
 abbrev pub at_break_code : World → Option ℕ → Transition
 at_break_code w None = refused w
 at_break_code w (Some b) =
@@ -84,7 +84,7 @@ at_break_code w (Some b) =
       world = entered_link w Data string_link;
     }
 
--- by whether whitespace stands here
+-- by whether whitespace is here
 abbrev pub eol_after_code : World → Bool → Transition
 eol_after_code w true = record { to = Next (n.Label its.EolAfter); world = taken w }
 eol_after_code w false = record { to = Retry (n.Label its.Inside); world = w }
@@ -130,7 +130,7 @@ label_transition its.Inside w = inside_transition w
 label_transition its.Escape w = escape_transition w
 label_transition its.Nok w = record { to = Nok; world = w }
 
--- Behind `[` it keeps what it has counted, which is not too much.
+-- After `[` it keeps what it has counted, which is not too much.
 pub record IsInLabel (x : Position) : Type 0 where
   pub size : x.scratch.size ≤ most
   pub rest : IsRest (unlabelled x.scratch)
@@ -140,7 +140,7 @@ LabelInvariant (n.Label its.Start) x = IsRest x.scratch
 LabelInvariant (n.Label its.Nok) x = IsRest x.scratch
 LabelInvariant _ x = IsInLabel x
 
--- It ends behind `[`, and so behind the point where it begins.
+-- It ends after `[`, and so after the point where it begins.
 abbrev pub label_ends : StateName → Position → After → Type 0
 label_ends (n.Label its.Start) x K = EndsLater IsRest IsRest x K
 label_ends (n.Label its.Nok) x K = EndsLater IsRest IsRest x K

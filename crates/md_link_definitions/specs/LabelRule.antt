@@ -20,20 +20,20 @@ use Rattle.md_link_definitions.specs.Label.{LabelInvariant, is_bracket, most, un
 use Rattle.md_seam.specs.Ahead.{point_after}
 use Rattle.md_seam.specs.Events.Nested.{around, enter, exit, pair}
 
--- whether something else than whitespace and line endings stands among these cells
+-- whether something else than whitespace and line endings is among these cells
 abbrev pub has_text : List Cell → Bool
 has_text [] = false
 has_text (c ∷ cs) = not (is_white c.byte || (c.byte == 10)) || has_text cs
 
--- How many bytes of these cells count, from a point on: a tab at its first column, no line ending, and no whitespace in
--- front of a further line. `led` says that the cells may begin with such whitespace.
+-- How many bytes of these cells count, from a point on: a tab at its first column, no line ending, and no whitespace
+-- before a further line. `led` says that the cells may begin with such whitespace.
 abbrev pub text_size : Bool → List Cell → Point → ℕ
 text_size led [] p = 0
 text_size led (c ∷ cs) p =
     if (c.byte == 10) || (led && is_white c.byte) then text_size true cs c.after
     else (if p.vs == 0 then 1 else 0) + text_size false cs c.after
 
--- what stands around the text: the label begins at `[`, and ends at `]`
+-- what is around the text: the label begins at `[`, and ends at `]`
 abbrev pub label_opened : Cell → Point → List Event
 label_opened c p =
     enter DefinitionLabel p ∷ pair DefinitionLabelMarker p c.after ++ enter DefinitionLabelString c.after ∷ []
@@ -42,7 +42,7 @@ abbrev pub label_ended : Cell → Point → List Event
 label_ended c p =
     exit DefinitionLabelString p ∷ pair DefinitionLabelMarker p c.after ++ exit DefinitionLabel c.after ∷ []
 
--- behind the text
+-- after the text
 abbrev pub label_closed : List Cell → Here → Outcome
 label_closed [] h = Refuses h.scratch h.flags
 label_closed (c ∷ cs) h =
@@ -50,14 +50,13 @@ label_closed (c ∷ cs) h =
     then Accepts (record h { events = h.events ++ label_ended c h.point; point = c.after }) cs
     else Refuses h.scratch h.flags
 
--- Whether a text may be a label's, by what was read of it and by what is left: something stands in it, and not too
--- much.
+-- Whether a text may be a label's, by what was read of it and by what is left: something is in it, and not too much.
 abbrev pub is_text_of : Bool → List Cell → Here → Bool
 is_text_of led text h =
     (h.scratch.seen || has_text text) && nat_le (h.scratch.size + text_size led text h.point) most
 
--- What is left of a label in its text: in whitespace in front of a further line, or not; where a chunk has begun, or
--- not; and behind a backslash, or not.
+-- What is left of a label in its text: in whitespace before a further line, or not; where a chunk has begun, or not;
+-- and after a backslash, or not.
 unfoldable pub in_label : Bool → Bool → Bool → List Cell → Here → Outcome
 in_label led begun escaped cells h =
     let text = before_mark is_bracket escaped cells in
@@ -99,7 +98,7 @@ pub record LabelParts : Type 0 where
   pub closer : Cell
   pub rest : List Cell
 
--- whether these cells may be its text, from a point on: something stands in it, and not too much
+-- whether these cells may be its text, from a point on: something is in it, and not too much
 abbrev pub is_label_text : List Cell → Point → Bool
 is_label_text text p = has_text text && nat_le (text_size false text p) most
 

@@ -14,7 +14,7 @@ use Rattle.md_link_definitions.specs.Progress.{progress_of, step}
 abbrev pub open_text : Progress → ParagraphLine → OpenText
 open_text at k = record { progress = at; columns = head_columns k.text; indent = k.indent }
 
--- what is held of a text behind one more line, where the line meets this leaf
+-- what is held of a text after one more line, where the line meets this leaf
 abbrev pub text_behind : HeldLeaf → Rest → HeldLeaf
 text_behind on r = held_leaf.Text (open_text (step (progress_of on) (trim_start r.bytes)) (kept r))
 

@@ -15,7 +15,7 @@ use Rattle.md_engine.specs.declared.tokenizer.held_leaf.Progress.TheVariants.{Be
 use Rattle.md_engine.specs.declared.tokenizer.held_leaf.Progress.TheVariants.{InTitle, Left, Untitled}
 pub use Rattle.md_engine.specs.Progress.{is_whole}
 
--- by how the text of a title goes on
+-- by how the text of a title continues
 abbrev pub title_by : ℕ → ℕ → Enclosed → Progress
 title_by opener closer (Closed text rest) = if is_blank rest then Fresh else Left
 title_by opener closer Open = InTitle opener closer
@@ -35,7 +35,7 @@ abbrev pub title_on : List ℕ → Progress
 title_on [] = Left
 title_on (b ∷ bs) = title_with b bs (title_closer b)
 
--- behind a destination
+-- after a destination
 abbrev pub behind_destination : List ℕ → Progress
 behind_destination rest =
     if is_blank rest then Untitled else if is_parted rest then title_on (trim_start rest) else Left
@@ -49,15 +49,15 @@ destination_by (Some d) = behind_destination d.rest
 abbrev pub destination_on : List ℕ → Progress
 destination_on line = destination_by (destination_at line)
 
--- behind the `:`
+-- after the `:`
 abbrev pub behind_colon : List ℕ → Progress
 behind_colon rest = if is_blank rest then BeforeDestination else destination_on (trim_start rest)
 
--- behind the `]`
+-- after the `]`
 abbrev pub behind_label : List ℕ → Progress
 behind_label rest = if begins_with colon rest then behind_colon (after_optional colon rest) else Left
 
--- whether this text of a label, or what stood in front of it, is more than spaces and tabs
+-- whether this text of a label, or what was before it, is more than spaces and tabs
 abbrev pub is_filled : Bool → List ℕ → Bool
 is_filled filled text = filled || not (is_blank text)
 
@@ -65,7 +65,7 @@ is_filled filled text = filled || not (is_blank text)
 abbrev pub has_room : ℕ → List ℕ → Bool
 has_room size text = nat_le (size + length text) 999
 
--- by how the text of a label goes on, with so many bytes before it
+-- by how the text of a label continues, with so many bytes before it
 abbrev pub label_by : ℕ → Bool → List ℕ → Enclosed → Progress
 label_by size filled line (Closed text rest) =
     if is_filled filled text && has_room size text then behind_label rest else Left
@@ -85,7 +85,7 @@ begin line = if begins_with left_bracket line then label_from 0 false (after_opt
 abbrev pub begins_title : List ℕ → Bool
 begins_title line = begins (λ b. is_some (title_closer b)) line
 
--- behind one more line
+-- after one more line
 unfoldable pub step : Progress → List ℕ → Progress
 step Fresh line = begin line
 step (InLabel size filled) line = label_from size filled line
@@ -94,7 +94,7 @@ step Untitled line = if begins_title line then title_on line else begin line
 step (InTitle opener closer) line = in_title opener closer line
 step Left line = Left
 
--- behind these lines
+-- after these lines
 unfoldable pub steps : Progress → List (List ℕ) → Progress
 steps at [] = at
 steps at (line ∷ lines) = steps (step at line) lines

@@ -23,11 +23,11 @@ marked opener closer s = record s { marker = closer; marker_b = opener }
 abbrev pub unmarked : Scratch → Scratch
 unmarked s = record s { marker = 0; marker_b = 0 }
 
--- no title stands here
+-- no title is here
 abbrev pub refused : World → Transition
 refused w = record { to = Nok; world = record w { scratch = unmarked w.scratch } }
 
--- the title ends with the mark that stands here
+-- the title ends with the mark that is here
 abbrev pub closed : World → Transition
 closed w = record {
   to = Ok;
@@ -46,12 +46,12 @@ opened w b (Some closer) = record {
   };
 }
 
--- by what stands here
+-- by what is here
 abbrev pub start_code : World → Option ℕ → Transition
 start_code w None = record { to = Nok; world = w }
 start_code w (Some b) = opened w b (title_closer b)
 
--- by whether the closing mark stands here
+-- by whether the closing mark is here
 abbrev pub begin_code : World → Bool → Transition
 begin_code w true = closed w
 begin_code w false = record { to = Retry (n.Title its.AtBreak); world = entered w DefinitionTitleString }
@@ -60,7 +60,7 @@ abbrev pub at_break_code : World → Bool → Transition
 at_break_code w true = closed (exited w DefinitionTitleString)
 at_break_code w false = record { to = Retry (n.Title its.Inside); world = entered_link w Data string_link }
 
--- by what stands here: the end, a mark, a line ending, or a byte of the line
+-- by what is here: the end, a mark, a line ending, or a byte of the line
 abbrev pub inside_code : World → Option ℕ → Transition
 inside_code w None = refused w
 inside_code w (Some b) =
@@ -74,7 +74,7 @@ inside_code w (Some b) =
 abbrev pub is_mark : ℕ → ℕ → ℕ → Bool
 is_mark opener closer b = (b == opener) || (b == closer)
 
--- whether a backslash makes a pair with what stands here
+-- whether a backslash makes a pair with what is here
 abbrev pub is_escaped : Scratch → Option ℕ → Bool
 is_escaped s None = false
 is_escaped s (Some b) = is_mark s.marker_b s.marker b || (b == backslash)
@@ -113,7 +113,7 @@ title_transition its.Inside w = inside_transition w
 title_transition its.Escape w = escape_transition w
 title_transition its.Nok w = record { to = Nok; world = w }
 
--- Behind the opening mark both marks are known.
+-- After the opening mark both marks are known.
 pub record IsMarked (s : Scratch) : Type 0 where
   pub marks : title_closer s.marker_b ≡ Some s.marker
   pub rest : IsRest (unmarked s)
@@ -123,7 +123,7 @@ TitleInvariant (n.Title its.Start) x = IsRest x.scratch
 TitleInvariant (n.Title its.Nok) x = IsRest x.scratch
 TitleInvariant _ x = IsMarked x.scratch
 
--- It ends behind its opening mark, and so behind the point where it begins.
+-- It ends after its opening mark, and so after the point where it begins.
 abbrev pub title_ends : StateName → Position → After → Type 0
 title_ends (n.Title its.Start) x K = EndsLater IsRest IsRest x K
 title_ends (n.Title its.Nok) x K = EndsLater IsRest IsRest x K

@@ -22,7 +22,7 @@ use Rattle.md_seam.specs.Events.Nested.{around, enter, exit, pair}
 abbrev pub text_left : Bool → List Cell → Point → List Event
 text_left begun text p = chunks begun text p ++ exit DefinitionTitleString (point_after text p) ∷ []
 
--- the text part, if anything stands between the marks
+-- the text part, if anything is between the marks
 abbrev pub title_text : List Cell → Point → List Event
 title_text [] p = []
 title_text (c ∷ cs) p = enter DefinitionTitleString p ∷ text_left false (c ∷ cs) p
@@ -31,7 +31,7 @@ title_text (c ∷ cs) p = enter DefinitionTitleString p ∷ text_left false (c �
 abbrev pub title_end : Point → Point → List Event
 title_end p q = pair DefinitionTitleMarker p q ++ exit DefinitionTitle q ∷ []
 
--- a title that has this text left, with these events, and behind it cells that must begin with the closing mark
+-- a title that has this text left, with these events, and after it cells that must begin with the closing mark
 abbrev pub title_by : (List Cell → Point → List Event) → List Cell → List Cell → Here → Outcome
 title_by events text [] h = Refuses (unmarked h.scratch) h.flags
 title_by events text (c ∷ cs) h =
@@ -45,23 +45,23 @@ title_by events text (c ∷ cs) h =
     cs
     else Refuses (unmarked h.scratch) h.flags
 
--- behind the opening mark
+-- after the opening mark
 unfoldable pub behind_opener : List Cell → Here → Outcome
 behind_opener cells h =
     let is = is_mark h.scratch.marker_b h.scratch.marker in
     title_by title_text (before_mark is false cells) (from_mark is false cells) h
 
--- in the text, by whether a line has begun, and whether a backslash stands in front
+-- in the text, by whether a line has begun, and whether a backslash is in front
 unfoldable pub in_text : Bool → Bool → List Cell → Here → Outcome
 in_text begun escaped cells h =
     let is = is_mark h.scratch.marker_b h.scratch.marker in
     title_by (text_left begun) (before_mark is escaped cells) (from_mark is escaped cells) h
 
--- behind the ending of a line
+-- after the ending of a line
 unfoldable pub behind_ending : List Cell → Here → Outcome
 behind_ending cells h = in_text false false cells (record h { events = h.events ++ exit Data h.point ∷ [] })
 
--- behind this cell, which is the opening mark
+-- after this cell, which is the opening mark
 abbrev pub behind_cell : Cell → ℕ → Here → Here
 behind_cell c closer h = record h {
   events = h.events ++ enter DefinitionTitle h.point ∷ pair DefinitionTitleMarker h.point c.after;

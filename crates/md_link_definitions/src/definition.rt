@@ -3,10 +3,10 @@
 //     definition ::= *space_or_tab label ':' ?gap destination ?( gap title ) *space_or_tab
 //     gap        ::= 1*space_or_tab | *space_or_tab eol *space_or_tab
 //
-// The line ends behind it. A title that something else follows on its line is none, and the definition then ends with
+// The line ends after it. A title that something else follows on its line is none, and the definition then ends with
 // the line of the destination, if nothing else follows that. It adds `Definition`, from the `[` to the end of the line,
-// around the parts of the label, `DefinitionMarker`, those of the destination and of the title, and what stands between
-// them; its indent stands in front of it. That it may not interrupt a paragraph, the caller knows.
+// around the parts of the label, `DefinitionMarker`, those of the destination and of the title, and what is between
+// them; its indent is before it. That it may not interrupt a paragraph, the caller knows.
 
 ghost use Rattle.std.specs.Prelude.{◌≡◌, ◌≢◌};
 ghost use Rattle.md_link_definitions.specs.DefinitionRule.{DefinitionMeans};
@@ -54,7 +54,7 @@ fn try_part(tokenizer: &mut Tokenizer, first: StateName, ok: State, nok: State) 
     State::Retry(first)
 }
 
-/// Takes whitespace, if some stands here, and goes on behind it.
+/// Takes whitespace, if some is here, and continues after it.
 fn behind_white(tokenizer: &mut Tokenizer, next: DefinitionState) -> State
     ensures to { result ≢ State.Error →
         result ≡ (behind_white (world tokenizer.old) next (sees_white (world tokenizer.old).current)).to }
@@ -96,7 +96,7 @@ pub fn start(tokenizer: &mut Tokenizer) -> State
     }
 }
 
-/// Behind the indent, at `[`.
+/// After the indent, at `[`.
 ///
 /// ```markdown
 /// > |   [a]: b "c"
@@ -123,7 +123,7 @@ pub fn before(tokenizer: &mut Tokenizer) -> State
     )
 }
 
-/// Behind the label.
+/// After the label.
 ///
 /// ```markdown
 /// > | [a]: b "c"
@@ -163,7 +163,7 @@ pub fn label_nok(tokenizer: &mut Tokenizer) -> State
     State::Nok
 }
 
-/// Behind the colon.
+/// After the colon.
 ///
 /// ```markdown
 /// > | [a]: b "c"
@@ -211,7 +211,7 @@ pub fn destination_before(tokenizer: &mut Tokenizer) -> State
     )
 }
 
-/// Behind the destination.
+/// After the destination.
 ///
 /// ```markdown
 /// > | [a]: b "c"
@@ -251,7 +251,7 @@ pub fn destination_missing(tokenizer: &mut Tokenizer) -> State
     State::Nok
 }
 
-/// Before the gap in front of a title.
+/// Before the gap before a title.
 ///
 /// ```markdown
 /// > | [a]: b "c"
@@ -303,7 +303,7 @@ pub fn title_before_marker(tokenizer: &mut Tokenizer) -> State
     )
 }
 
-/// Behind a title.
+/// After a title.
 ///
 /// ```markdown
 /// > | [a]: b "c"
@@ -321,7 +321,7 @@ pub fn title_after(tokenizer: &mut Tokenizer) -> State
     behind_white(tokenizer, DefinitionState::TitleAfterOptionalWhitespace)
 }
 
-/// Behind a title and the whitespace that follows it.
+/// After a title and the whitespace that follows it.
 ///
 /// ```markdown
 /// > | [a]: b "c"
@@ -342,7 +342,7 @@ pub fn title_after_optional_whitespace(tokenizer: &mut Tokenizer) -> State
     }
 }
 
-/// Behind the parts of the definition.
+/// After the parts of the definition.
 ///
 /// ```markdown
 /// > | [a]: b
@@ -362,7 +362,7 @@ pub fn after(tokenizer: &mut Tokenizer) -> State
     behind_white(tokenizer, DefinitionState::AfterWhitespace)
 }
 
-/// Behind the parts of the definition and the whitespace that follows them.
+/// After the parts of the definition and the whitespace that follows them.
 ///
 /// ```markdown
 /// > | [a]: b

@@ -39,7 +39,7 @@ const TEXT_LINK: Link = Link {
     content: Content::String,
 };
 
-/// Whether this may stand in a destination without angle brackets: no space, and no control of ASCII but U+0000.
+/// Whether this may be in a destination without angle brackets: no space, and no control of ASCII but U+0000.
 fn is_raw(byte: u8) -> bool
     ensures { result ≡ is_raw_byte byte }
 {
@@ -83,7 +83,7 @@ pub fn start(tokenizer: &mut Tokenizer) -> State
     }
 }
 
-/// Behind `<`, or at the `>` behind the text.
+/// After `<`, or at the `>` after the text.
 ///
 /// ```markdown
 /// > | <aa>
@@ -145,7 +145,7 @@ pub fn enclosed(tokenizer: &mut Tokenizer) -> State
     }
 }
 
-/// Behind a backslash between angle brackets.
+/// After a backslash between angle brackets.
 ///
 /// ```markdown
 /// > | <a\>a>
@@ -218,7 +218,7 @@ pub fn raw(tokenizer: &mut Tokenizer) -> State
     }
 }
 
-/// Behind a backslash without angle brackets.
+/// After a backslash without angle brackets.
 ///
 /// ```markdown
 /// > | a\(a

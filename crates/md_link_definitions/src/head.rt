@@ -1,4 +1,4 @@
-// How many cells a line has as the head of a table (GFM 4.10). The delimiter row behind it has as many.
+// How many cells a line has as the head of a table (GFM 4.10). The delimiter row after it has as many.
 
 ghost use Rattle.std.specs.Prelude.{◌≡◌, ◌+◌, ◌<◌, ◌≤◌, false, length};
 ghost use Rattle.md_meaning.specs.Table.{row_cells};
@@ -8,7 +8,7 @@ use md_grammars::ahead::after_optional;
 use md_grammars::bytes::trim;
 use md_grammars::table::is_head;
 
-/// 1 where a pipe divides here, which no backslash takes and behind which something stands, and else 0.
+/// 1 where a pipe divides here, which no backslash takes and after which something is, and else 0.
 fn divided(byte: u8, escaped: bool, is_last: bool) -> usize
     ensures { result ≡ divided byte escaped is_last }
 {
@@ -19,7 +19,7 @@ fn divided(byte: u8, escaped: bool, is_last: bool) -> usize
     }
 }
 
-/// How many pieces stand between the pipes of a row.
+/// How many pieces are between the pipes of a row.
 fn pieces_len(row: &[u8]) -> usize
     ensures { result ≡ pieces_len false row.now }
 {

@@ -4,10 +4,10 @@
 //     text   ::= 1*( pair | eol | any but '[' and ']' )
 //     pair   ::= '\' ( '[' | ']' | '\' )
 //
-// Something else than whitespace stands in it, and at most 999 bytes: endings of lines are not counted, nor is the
-// whitespace in front of a further line. It may reach over lines, as those of a paragraph follow one another. It adds
+// Something else than whitespace is in it, and at most 999 bytes: endings of lines are not counted, nor is the
+// whitespace before a further line. It may reach over lines, as those of a paragraph follow one another. It adds
 // `DefinitionLabel` around `DefinitionLabelMarker`, `DefinitionLabelString` and `DefinitionLabelMarker`, and in the
-// string one linked `Data` a line, which reaches over the line's ending where the label goes on. There is none on the
+// string one linked `Data` a line, which reaches over the line's ending where the label continues. There is none on the
 // last line if `]` comes first on it.
 
 ghost use Rattle.std.specs.Prelude.{◌≡◌, ◌≢◌, ◌<◌, IfSome, false, length};
@@ -75,7 +75,7 @@ fn counted(tokenizer: &Tokenizer, byte: u8) -> Scratch
     scratch
 }
 
-/// Takes what stands here, counts it, and goes on; or refuses where there is no room for it.
+/// Takes what is here, counts it, and continues; or refuses where there is no room for it.
 fn take(tokenizer: &mut Tokenizer, byte: u8, state: LabelState) -> State
     requires { (world tokenizer.old).point.index < length (world tokenizer.old).setting.bytes }
     ensures to { result ≡ (taken_as (world tokenizer.old) byte state).to }
@@ -89,7 +89,7 @@ fn take(tokenizer: &mut Tokenizer, byte: u8, state: LabelState) -> State
     State::Next(StateName::Label(state))
 }
 
-/// At `]`: the label ends, if something else than whitespace stands in it.
+/// At `]`: the label ends, if something else than whitespace is in it.
 fn close(tokenizer: &mut Tokenizer) -> State
     requires { (world tokenizer.old).point.index < length (world tokenizer.old).setting.bytes }
     ensures to { result ≢ State.Error →
@@ -136,7 +136,7 @@ pub fn start(tokenizer: &mut Tokenizer) -> State
     State::Next(StateName::Label(LabelState::AtBreak))
 }
 
-/// At the begin of a line of a label, behind `[` or behind a line ending.
+/// At the begin of a line of a label, after `[` or after a line ending.
 ///
 /// ```markdown
 /// > | [a
@@ -172,7 +172,7 @@ pub fn at_break(tokenizer: &mut Tokenizer) -> State
     }
 }
 
-/// In the whitespace in front of a further line, which does not count.
+/// In the whitespace before a further line, which does not count.
 ///
 /// ```markdown
 ///   | [a
@@ -226,7 +226,7 @@ pub fn inside(tokenizer: &mut Tokenizer) -> State
     }
 }
 
-/// Behind `\`.
+/// After `\`.
 ///
 /// ```markdown
 /// > | [\]]: b

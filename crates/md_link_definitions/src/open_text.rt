@@ -13,7 +13,7 @@ use md_grammars::ahead::{begins_white, begins_with};
 use md_grammars::bytes::trim_start;
 use md_grammars::columns::{tab_columns, white_columns};
 
-/// The columns of whitespace in front of a line that begins at this column, from 0, perhaps within a tab.
+/// The columns of whitespace before a line that begins at this column, from 0, perhaps within a tab.
 fn indent(column: usize, cut: bool, line: &[u8]) -> usize
     requires { length line.now < 2 ^ 61 }
     ensures { result ≡ indent (begun_rest column cut line.now) }
@@ -25,7 +25,7 @@ fn indent(column: usize, cut: bool, line: &[u8]) -> usize
     }
 }
 
-/// How far the definitions of a text have come behind one more line. Where something is left already, the line is not
+/// How far the definitions of a text have come after one more line. Where something is left already, the line is not
 /// looked at; most lines begin no definition.
 #[inline(always)]
 #[tactic(auto, unfolding(crate::specs::Progress::step))]
@@ -39,7 +39,7 @@ fn further(leaf: HeldLeaf, text: &[u8]) -> Progress
     }
 }
 
-/// What is held of a text behind one more line, which begins at this column, from 0, perhaps within a tab; the line
+/// What is held of a text after one more line, which begins at this column, from 0, perhaps within a tab; the line
 /// meets this leaf. Most lines begin with no whitespace.
 pub fn text_behind(leaf: HeldLeaf, column: usize, cut: bool, line: &[u8]) -> HeldLeaf
     requires { length line.now < 2 ^ 61 }

@@ -1,5 +1,5 @@
 // How far the definitions at the front of a text have come (CommonMark 4.7), line by line. An underline asks whether
-// anything is left behind them; so this is kept of an open text, and no line of it is read again.
+// anything is left after them; so this is kept of an open text, and no line of it is read again.
 
 ghost use Rattle.std.specs.Prelude.{◌≡◌};
 ghost use Rattle.md_link_definitions.specs.Progress as progress;
@@ -13,7 +13,7 @@ use md_grammars::definition::{Enclosed, destination_at, title_closer, up_to_mark
 /// How many bytes a label may have.
 const LABEL_LEN: usize = 999;
 
-/// Behind a line in a title, or what stands on it behind the opening mark.
+/// After a line in a title, or what is on it after the opening mark.
 fn in_title(opener: u8, closer: u8, line: &[u8]) -> Progress
     ensures { result ≡ progress.in_title opener closer line.now }
 {
@@ -24,7 +24,7 @@ fn in_title(opener: u8, closer: u8, line: &[u8]) -> Progress
     }
 }
 
-/// Behind a line where a title is next.
+/// After a line where a title is next.
 fn title_on(line: &[u8]) -> Progress
     ensures { result ≡ progress.title_on line.now }
 {
@@ -37,7 +37,7 @@ fn title_on(line: &[u8]) -> Progress
     }
 }
 
-/// Behind a line, by what follows the destination on it.
+/// After a line, by what follows the destination on it.
 fn behind_destination(rest: &[u8]) -> Progress
     ensures { result ≡ progress.behind_destination rest.now }
 {
@@ -50,7 +50,7 @@ fn behind_destination(rest: &[u8]) -> Progress
     }
 }
 
-/// Behind a line where a destination is next. Most lines are one.
+/// After a line where a destination is next. Most lines are one.
 fn destination_on(line: &[u8]) -> Progress
     ensures { result ≡ progress.destination_on line.now }
 {
@@ -63,7 +63,7 @@ fn destination_on(line: &[u8]) -> Progress
     }
 }
 
-/// Behind a line, by what follows the `:` on it.
+/// After a line, by what follows the `:` on it.
 fn behind_colon(rest: &[u8]) -> Progress
     ensures { result ≡ progress.behind_colon rest.now }
 {
@@ -74,7 +74,7 @@ fn behind_colon(rest: &[u8]) -> Progress
     }
 }
 
-/// Behind a line, by what follows the `]` on it.
+/// After a line, by what follows the `]` on it.
 fn behind_label(rest: &[u8]) -> Progress
     ensures { result ≡ progress.behind_label rest.now }
 {
@@ -85,7 +85,7 @@ fn behind_label(rest: &[u8]) -> Progress
     }
 }
 
-/// Whether this text of a label, or what stood in front of it, is more than spaces and tabs.
+/// Whether this text of a label, or what was before it, is more than spaces and tabs.
 fn is_filled(filled: bool, text: &[u8]) -> bool
     ensures { result ≡ progress.is_filled filled text.now }
 {
@@ -99,7 +99,7 @@ fn has_room(size: usize, text: &[u8]) -> bool
     text.len() <= LABEL_LEN && size <= LABEL_LEN - text.len()
 }
 
-/// Behind a line in a label, or what stands on it behind the `[`.
+/// After a line in a label, or what is on it after the `[`.
 fn label_from(size: usize, filled: bool, line: &[u8]) -> Progress
     ensures { result ≡ progress.label_from size filled line.now }
 {
@@ -114,7 +114,7 @@ fn label_from(size: usize, filled: bool, line: &[u8]) -> Progress
     }
 }
 
-/// Behind a line where a definition is next.
+/// After a line where a definition is next.
 fn begin(line: &[u8]) -> Progress
     ensures { result ≡ progress.begin line.now }
 {
@@ -135,7 +135,7 @@ fn begins_title(line: &[u8]) -> bool
     }
 }
 
-/// Behind one more line, which is given without leading spaces and tabs.
+/// After one more line, which is given without leading spaces and tabs.
 ///
 /// ```markdown
 ///   | [a]:

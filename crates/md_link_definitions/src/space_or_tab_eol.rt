@@ -1,8 +1,8 @@
-// Whitespace with at most one line ending, as it stands between the parts of a definition (CommonMark 4.7).
+// Whitespace with at most one line ending, as it is between the parts of a definition (CommonMark 4.7).
 //
 //     space_or_tab_eol ::= 1*space_or_tab | *space_or_tab eol *space_or_tab
 //
-// It adds `SpaceOrTab`, `LineEnding` and `SpaceOrTab`, each where it stands, and holds only where something does.
+// It adds `SpaceOrTab`, `LineEnding` and `SpaceOrTab`, each where it is, and holds only where something does.
 
 ghost use Rattle.std.specs.Prelude.{◌≡◌, ◌≢◌};
 ghost use Rattle.md_link_definitions.specs.GapRule.{GapMeans};
@@ -50,7 +50,7 @@ pub fn start(tokenizer: &mut Tokenizer) -> State
     }
 }
 
-/// Behind whitespace.
+/// After whitespace.
 ///
 /// ```markdown
 /// > | [a]: b
@@ -67,7 +67,7 @@ pub fn after_first(tokenizer: &mut Tokenizer) -> State
     State::Retry(StateName::SpaceOrTabEol(GapState::AtEol))
 }
 
-/// Where a line ending may stand.
+/// Where a line ending may be.
 ///
 /// ```markdown
 /// > | [a]:
@@ -92,7 +92,7 @@ pub fn at_eol(tokenizer: &mut Tokenizer) -> State
     if has_some { State::Ok } else { State::Nok }
 }
 
-/// Behind the line ending, where the next line begins.
+/// After the line ending, where the next line begins.
 ///
 /// ```markdown
 ///   | [a]:
@@ -120,7 +120,7 @@ pub fn after_eol(tokenizer: &mut Tokenizer) -> State
     }
 }
 
-/// Behind the whitespace of the next line.
+/// After the whitespace of the next line.
 ///
 /// ```markdown
 ///   | [a]:

@@ -6,8 +6,8 @@
 //
 // It may reach over lines, as those of a paragraph follow one another. It adds `DefinitionTitle` around its marks, each
 // a `DefinitionTitleMarker`, and between them `DefinitionTitleString` around one linked `Data` a line, which reaches
-// over the line's ending where the title goes on. There is none on the last line if the mark that closes comes first on
-// it, and no `DefinitionTitleString` if nothing stands between the marks.
+// over the line's ending where the title continues. There is none on the last line if the mark that closes comes first
+// on it, and no `DefinitionTitleString` if nothing is between the marks.
 
 ghost use Rattle.std.specs.Prelude.{◌≡◌, ◌≢◌, Some};
 ghost use Rattle.md_link_definitions.specs.TitleRule.{TitleMeans};
@@ -28,7 +28,7 @@ use md_engine::state::{Name as StateName, State};
 use md_engine::tokenizer::{Scratch, Tokenizer};
 use md_grammars::definition::title_closer;
 
-/// Takes the marks back where no title stands.
+/// Takes the marks back where no title is.
 fn refuse(tokenizer: &mut Tokenizer) -> State
     ensures to { result ≡ (refused (world tokenizer.old)).to }
     ensures world { world tokenizer.new ≡ (refused (world tokenizer.old)).world }
@@ -38,7 +38,7 @@ fn refuse(tokenizer: &mut Tokenizer) -> State
     State::Nok
 }
 
-/// Ends a title with the closing mark, which stands here.
+/// Ends a title with the closing mark, which is here.
 fn close(tokenizer: &mut Tokenizer) -> State
     requires current { (world tokenizer.old).current ≡ looks (world tokenizer.old) }
     requires mark { (world tokenizer.old).current ≡ Some (world tokenizer.old).scratch.marker }
@@ -95,7 +95,7 @@ pub fn start(tokenizer: &mut Tokenizer) -> State
     State::Next(StateName::Title(TitleState::Begin))
 }
 
-/// Behind the opening mark.
+/// After the opening mark.
 ///
 /// ```markdown
 /// > | [a]: b "c"
@@ -117,7 +117,7 @@ pub fn begin(tokenizer: &mut Tokenizer) -> State
     State::Retry(StateName::Title(TitleState::AtBreak))
 }
 
-/// Behind the ending of a line, which belongs to it.
+/// After the ending of a line, which belongs to it.
 ///
 /// ```markdown
 ///   | [a]: b "c
@@ -137,7 +137,7 @@ pub fn after_eol(tokenizer: &mut Tokenizer) -> State
     State::Retry(StateName::Title(TitleState::AtBreak))
 }
 
-/// Before a line, or what stands of the title on it.
+/// Before a line, or what is of the title on it.
 ///
 /// ```markdown
 /// > | [a]: b "c
@@ -201,7 +201,7 @@ pub fn inside(tokenizer: &mut Tokenizer) -> State
     }))
 }
 
-/// Behind a backslash.
+/// After a backslash.
 ///
 /// ```markdown
 /// > | [a]: b "c\"d"

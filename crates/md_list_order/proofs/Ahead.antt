@@ -34,7 +34,7 @@ pub record SameAhead (bytes : List ℕ) (xs ys : List Event) : Type 0 where
   pub marker : marker_ahead bytes xs ≡ marker_ahead bytes ys
   pub next : next_item bytes xs ≡ next_item bytes ys
 
--- and so behind one more event
+-- and so after one more event
 ahead-on : (bytes : List ℕ) (e : Event) (xs ys : List Event) → SameAhead bytes xs ys →
     SameAhead bytes (e ∷ xs) (e ∷ ys)
 ahead-on bytes e xs ys h = record {
@@ -85,7 +85,7 @@ leaf-past e es h =
     ∙ ap tabled (off-given e (resolved Outside es) h.paragraph)
     ∙ tables-pass true e (turned_from false (resolved Outside es)) (λ k. tableless e.kind e.name h.table)
 
--- Any other block hides what is behind it, and what is given for it begins with such a block.
+-- Any other block hides what is after it, and what is given for it begins with such a block.
 
 record IsHidden (bytes : List ℕ) (es : List Event) : Type 0 where
   marker : marker_ahead bytes es ≡ 0

@@ -1,6 +1,6 @@
--- Where a setext heading is open, its underline follows, and no item, ATX heading or table is in front of the end of
--- that: the text of the heading is a paragraph, which holds no block, and behind it are only a line ending and the
--- prefixes of containers (CommonMark 4.3).
+-- Where a setext heading is open, its underline follows, and no item, ATX heading or table is before the end of that:
+-- the text of the heading is a paragraph, which holds no block, and after it are only a line ending and the prefixes of
+-- containers (CommonMark 4.3).
 use Rattle.std.proofs.Common.{◌≡◌, inr, Bool, true, false, cond, ◌&&◌, List, [], ◌∷◌, refl, ap, sym, ◌∙◌, subst}
 use Rattle.std.proofs.lemmas.Bool.{and_parts, and_right}
 use Rattle.md_engine.specs.declared.event.Event.{Event}
@@ -99,7 +99,7 @@ underline-awaited (e ∷ es) h = go (closes InUnderline e) refl (λ k. underline
         awaited-on e es (h.0 is)
         (more (subst (λ (x : Bool). HoldNoBlock (cond x Nothing InUnderline) es) is h.1))
 
--- Between the line ending behind the text and the underline.
+-- Between the line ending after the text and the underline.
 behind-awaited : (es : List Event) → MayStay (with_items true) es → underline_behind es ≡ true → Awaited es
 behind-awaited [] stay h = absurd (let no : false ≡ true = h in cc)
 behind-awaited (e ∷ es) stay h =
@@ -122,7 +122,7 @@ behind-awaited (e ∷ es) stay h =
     go false is here more =
         begun e.kind e.name here (λ a b. stay-opens (with_items true) e es stay a b)
 
--- In front of that line ending.
+-- Before that line ending.
 
 in-ending : (f : Event) → MayStand InEnding f → is_set f.name ≡ false
 in-ending f stands = go (closes InEnding f) refl
@@ -172,7 +172,7 @@ text-awaited (e ∷ es) h turned = go (closes InParagraph e) refl (λ k l. text-
         (sym (and_right (is_exit e.kind) (is_paragraph e.name) (unset-bare e.name (h.0 is)).paragraph))
         ∙ turned))
 
--- So what is asked holds behind each event.
+-- So what is asked holds after each event.
 pub turn-awaits : (on : Bool) (e : Event) (es : List Event) → MayStay (with_items true) (e ∷ es) → Awaits on (e ∷ es) →
     Awaits (on_by (turn e) on (is_turned es)) es
 turn-awaits on e es stay h = go (turn e) refl on (is_turned es) refl h

@@ -1,4 +1,4 @@
--- Lists may be put around items first of all, or behind headings and tables.
+-- Lists may be put around items first of all, or after headings and tables.
 --
 -- The proof goes over the events a segment at a time: an event of an item, of a paragraph or an underline, or of no
 -- block that is set, or a whole ATX heading or table. `md_order` says what is given for a segment, and that is the

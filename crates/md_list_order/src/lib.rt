@@ -1,2 +1,2 @@
-// Lists around items may be set first of all, or behind headings and tables.
+// Lists around items may be set first of all, or after headings and tables.
 #![tactic(auto)]

@@ -1,4 +1,4 @@
--- Indented code: what stands on its lines, and on blank ones where it is open, and their laws.
+-- Indented code: what is on its lines, and on blank ones where it is open, and their laws.
 pub mod Blank
 pub mod Cells
 pub mod Closed

@@ -1,4 +1,4 @@
--- Opening lines of fenced code and of math: what stands on them, and their laws.
+-- Opening lines of fenced code and of math: what is on them, and their laws.
 pub mod Adds
 pub mod Cells
 pub mod Each

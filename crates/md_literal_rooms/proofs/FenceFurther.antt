@@ -1,4 +1,4 @@
--- Further lines of fenced code and of math: what stands on them, and their laws.
+-- Further lines of fenced code and of math: what is on them, and their laws.
 pub mod Cells
 pub mod Definition
 pub mod Grammar

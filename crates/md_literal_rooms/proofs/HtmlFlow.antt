@@ -1,4 +1,4 @@
--- HTML: what its lines come to, the line that begins it and further ones, and their laws.
+-- HTML: what its lines become, the line that begins it and further ones, and their laws.
 pub mod Cells
 pub mod Found
 pub mod Laws

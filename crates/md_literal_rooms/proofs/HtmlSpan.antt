@@ -1,4 +1,4 @@
--- HTML with all its lines, joined: what stands on a line, what further lines come to, and the laws.
+-- HTML with all its lines, joined: what is on a line, what further lines become, and the laws.
 pub mod Laws
 pub mod Lines
 pub mod Rows

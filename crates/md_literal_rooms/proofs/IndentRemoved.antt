@@ -1,5 +1,4 @@
--- Lines that lose columns of whitespace in front of a part that reaches to their end: of fenced code, math, code and
--- HTML.
+-- Lines that lose columns of whitespace before a part that reaches to their end: of fenced code, math, code and HTML.
 pub mod Columns
 pub mod Facts
 pub mod Grammar

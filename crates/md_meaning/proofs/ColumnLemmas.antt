@@ -51,7 +51,7 @@ data BothTaken : Option Taken → Option Taken → Type 0 where
       BothTaken (Some (record { container = container; rest = rest_at c bytes }))
       (Some (record { container = container; rest = rest_at d bytes }))
 
--- Indents, and rests behind them.
+-- Indents, and rests after them.
 
 white_columns-any : (c d : ℕ) (bytes : List ℕ) → NoTab bytes → white_columns c bytes ≡ white_columns d bytes
 white_columns-any c d [] h = refl
@@ -105,7 +105,7 @@ first-alike : (o p q s : Option Taken) → BothTaken o p → BothTaken q s → B
 first-alike o p q s neither k = k
 first-alike o p q s (taken container c d bytes h) k = taken container c d bytes h
 
--- what is taken by the indent and by the rest behind it
+-- what is taken by the indent and by the rest after it
 at_indent : (F : ℕ → Rest → Option Taken) → ((k : ℕ) (r s : Rest) → Alike r s → BothTaken (F k r) (F k s)) →
     (c d : ℕ) (bytes : List ℕ) → NoTab bytes →
     BothTaken (F (indent (rest_at c bytes)) (behind_indent (rest_at c bytes)))
@@ -537,7 +537,7 @@ on_or_fresh-any : (options : ParseOptions) (s : Innermost) (o : Option LeafResul
 on_or_fresh-any options s (Some x) c d bytes h = refl
 on_or_fresh-any options s None c d bytes h = fresh_line-any options (shut options s) c d bytes h
 
--- with what an open leaf that is no paragraph comes to
+-- with what an open leaf that is no paragraph becomes
 leaf_on-any : (options : ParseOptions) (s : Innermost) (leaf : Leaf) (c d : ℕ) (bytes : List ℕ) → NoTab bytes →
     on_or_fresh options s (rest_at c bytes) (goes_on options leaf (rest_at c bytes)) ≡
     on_or_fresh options s (rest_at d bytes) (goes_on options leaf (rest_at d bytes))

@@ -198,7 +198,7 @@ length-definition_at lines cut e = go (label_at lines) refl e
     go None g f = cc
     go (Some label) g f = behind label g (after_colon label.rest) refl f
 
--- at most so many definitions behind the first
+-- at most so many definitions after the first
 abbrev then_cut : ℕ → List (List ℕ) → Option Cut → List Defined × List (List ℕ)
 then_cut n lines None = ([], lines)
 then_cut n lines (Some cut) = with_definition cut.defined (cut_at_most n cut.rest)

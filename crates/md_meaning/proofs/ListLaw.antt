@@ -49,7 +49,7 @@ item-opens options b bytes on white =
     )
     refl
 
--- it goes on, whether the line is blank or not
+-- it continues, whether the line is blank or not
 item-goes_on : (options : ParseOptions) (line : List ℕ) → GoesOn options item_wrap line
 unfolding item_continues
 item-goes_on options line =

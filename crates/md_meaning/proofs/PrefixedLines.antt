@@ -1,4 +1,4 @@
--- The lines of a text with a prefix before each line are those of the text, each behind its prefix.
+-- The lines of a text with a prefix before each line are those of the text, each after its prefix.
 use Rattle.std.proofs.Common.{◌≡◌, ℕ, Bool, true, false, cond, not, ◌==◌, ◌&&◌, ◌||◌, List, [], ◌∷◌, ◌++◌, map, refl}
 use Rattle.std.proofs.Common.{sym, ap, ◌∙◌, subst}
 use Rattle.std.specs.List.{concat, list_all, onto_first, take_while}
@@ -24,11 +24,11 @@ IsLinePrefix-no_ending : (prefix : List ℕ) → IsLinePrefix prefix → NoEndin
 IsLinePrefix-no_ending [] h = tt
 IsLinePrefix-no_ending (b ∷ bytes) h = h
 
--- a byte that ends no line, whatever comes behind it
+-- a byte that ends no line, whatever comes after it
 pub ends_line-no : (b : ℕ) (bytes : List ℕ) → is_ending b ≡ false → ends_line b bytes ≡ false
 ends_line-no b bytes e = let parts = or_parts (b == 10) (b == 13) e in rw (parts.0, parts.1) refl
 
--- these bytes in front of the first line
+-- these bytes before the first line
 abbrev onto : List ℕ → List (List ℕ) → List (List ℕ)
 onto [] lines = lines
 onto (b ∷ bytes) lines = onto_first b (onto bytes lines)
@@ -62,7 +62,7 @@ concat-onto : (b : ℕ) (lines : List (List ℕ)) → concat (onto_first b lines
 concat-onto b [] = refl
 concat-onto b (line ∷ lines) = refl
 
--- behind a prefix of the first line these lines come back
+-- after a prefix of the first line these lines come back
 full_lines_of-prefixed : (first further : List ℕ) (lines : List (List ℕ)) → NoEnding first →
     full_lines_of (concat (prefixed [] further lines)) ≡ prefixed [] further lines →
     full_lines_of (concat (prefixed first further lines)) ≡ prefixed first further lines
@@ -74,7 +74,7 @@ full_lines_of-prefixed first further (line ∷ lines) h e =
     ∙ ap (onto first) e
     ∙ onto-line first line behind
 
--- a prefix comes behind an ending, and no line feed
+-- a prefix comes after an ending, and no line feed
 not_fed : (further : List ℕ) (lines : List (List ℕ)) → IsLinePrefix further →
     begins_with 10 (concat (map (λ l. further ++ l) lines)) ≡ false
 not_fed further [] h = refl

@@ -21,7 +21,7 @@ use Rattle.md_meaning.proofs.WrapLaw.{GoesOn, Opens, Wrap, Wraps, labels-alone, 
 abbrev quote_wrap : Wrap
 quote_wrap = record { container = InQuote None; first = greater_than ∷ space ∷ []; further = greater_than ∷ space ∷ [] }
 
--- a line without tabs whose first rest is no marker of a kind is none behind the prefix either
+-- a line without tabs whose first rest is no marker of a kind is none after the prefix either
 quote-opens : (options : ParseOptions) (line : List ℕ) → options.constructs.block_quote ≡ true →
     alert_at options (rest_at 2 line) ≡ None → Opens options quote_wrap line
 unfolding opens_quote quote_taken alert_at

@@ -37,7 +37,7 @@ Leaves n t = length t.rest.bytes < n
 abbrev pub LeavesFewer : Option Taken → ℕ → Type 0
 LeavesFewer o n = Finds o (Leaves n)
 
--- what is taken behind an indent leaves fewer bytes than the line has
+-- what is taken after an indent leaves fewer bytes than the line has
 pub behind-leaves : (o : Option Taken) (r : Rest) → LeavesFewer o (length (behind_indent r).bytes) →
     LeavesFewer o (length r.bytes)
 behind-leaves o r h = λ t e. omega (arith, h t e, length-lose (indent r) r)

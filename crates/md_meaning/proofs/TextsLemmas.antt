@@ -16,7 +16,7 @@ no_ending-drop zero bytes h = h
 no_ending-drop (suc n) [] h = tt
 no_ending-drop (suc n) (b ∷ bs) h = no_ending-drop n bs h.1
 
--- a line ending in front of a text: LF, CR LF, or a CR that no LF follows (CommonMark 2.1)
+-- a line ending before a text: LF, CR LF, or a CR that no LF follows (CommonMark 2.1)
 pub data Ending : Type 0 where
   LineFeed : Ending
   Return : Ending
@@ -32,7 +32,7 @@ EndsBefore Return rest = begins_with 10 rest ≡ false
 EndsBefore LineFeed rest = Unit {0}
 EndsBefore Both rest = Unit {0}
 
--- a byte of a line goes in front of the first line
+-- a byte of a line goes before the first line
 pub split-byte : (b : ℕ) (bs : List ℕ) → is_ending b ≡ false → split_lines (b ∷ bs) ≡ onto_first b (split_lines bs)
 split-byte b bs h = go (b == 10) (b == 13) h
   where

@@ -9,11 +9,11 @@ use Rattle.md_meaning.specs.State.{At, Path, closed}
 use Rattle.md_meaning.specs.Step.{spot_of, steps}
 use Rattle.md_meaning.specs.Tree.{Blocks, End}
 
--- the tree of a text behind its preamble
+-- the tree of a text after its preamble
 abbrev pub tree_by : ParseOptions → Preamble → Blocks
 tree_by options p = with_frontmatter p.front (grouped (closed options (steps options (At (spot_of End)) p.body)))
 
--- what is open behind the lines of a text
+-- what is open after the lines of a text
 abbrev pub after_lines : ParseOptions → List (List ℕ) → Path
 after_lines options lines = steps options (At (spot_of End)) (map (rest_at 0) lines)
 

@@ -1,5 +1,5 @@
--- A text in a container: where one prefix opens it before the first line, and it goes on with another before each
--- further line, the tree of the text stands in it.
+-- A text in a container: where one prefix opens it before the first line, and it continues with another before each
+-- further line, the tree of the text is in it.
 use Rattle.std.proofs.Common.{◌≡◌, ℕ, zero, suc, ◌≤◌, Bool, true, false, cond, not, ◌==◌, List, [], ◌∷◌, ◌++◌, map}
 use Rattle.std.proofs.Common.{length, Option, Some, None, refl, sym, ap, ◌∙◌, subst, arith}
 use Rattle.std.specs.List.{concat, list_all}
@@ -64,7 +64,7 @@ opened-step options (suc n) r h = go (opens options false r) (opens-leaves optio
         ap (Within End t.container)
         (opened-enough options n (length t.rest.bytes) t.rest (omega (arith, h, less t refl)) (omega arith))
 
--- A container around a text, with what stands before the first line and before each other.
+-- A container around a text, with what is before the first line and before each other.
 pub record Wrap : Type 0 where
   pub container : Container
   pub first : List ℕ
@@ -73,20 +73,20 @@ pub record Wrap : Type 0 where
 abbrev pub wrapped : Wrap → List ℕ → List ℕ
 wrapped w text = concat (prefixed w.first w.further (full_lines_of text))
 
--- the container takes just the prefix in front of a line
+-- the container takes just the prefix before a line
 abbrev takes : Wrap → List ℕ → List ℕ → Option Taken
 takes w prefix line = Some (record { container = w.container; rest = rest_at (length prefix) line })
 
--- it opens in front of this line
+-- it opens before this line
 abbrev pub Opens : ParseOptions → Wrap → List ℕ → Type 0
 Opens options w line = opens options false (rest_at 0 (w.first ++ line)) ≡ takes w w.first line
 
--- it goes on in front of this line
+-- it continues before this line
 abbrev pub GoesOn : ParseOptions → Wrap → List ℕ → Type 0
 GoesOn options w line = continues options w.container (rest_at 0 (w.further ++ line)) ≡ takes w w.further line
 
--- The first prefix begins neither a mark nor frontmatter, and opens the container in front of this line; with the
--- further one it goes on in front of every line.
+-- The first prefix begins neither a mark nor frontmatter, and opens the container before this line; with the further
+-- one it continues before every line.
 pub record Wraps (options : ParseOptions) (w : Wrap) (line : List ℕ) : Type 0 where
   pub no_ending : NoEnding w.first
   pub no_mark : (bytes : List ℕ) → has_mark (w.first ++ bytes) ≡ false
@@ -180,6 +180,6 @@ both-none a =
     ap (λ (d : List (List ℕ)). record { definitions = d; footnotes = a.footnotes ++ [] }) (append-nil a.definitions)
     ∙ ap (λ (f : List (List ℕ)). record { definitions = a.definitions; footnotes = f }) (append-nil a.footnotes)
 
--- the labels of a block that stands alone
+-- the labels of a block that is alone
 pub labels-alone : (b : Block) → labels (More b End) ≡ block_labels b
 labels-alone b = both-none (block_labels b)

@@ -23,7 +23,7 @@ marker_of kind.Caution = codes "[!CAUTION]"
 abbrev pub has_marker : AlertKind → List ℕ → Bool
 has_marker kind bytes = str_eq_ignore_ascii_case (marker_of kind) (take (length (marker_of kind)) bytes)
 
--- and nothing but whitespace is behind it
+-- and nothing but whitespace is after it
 abbrev pub is_marked : AlertKind → List ℕ → Bool
 is_marked kind bytes = has_marker kind bytes && is_blank (drop (length (marker_of kind)) bytes)
 

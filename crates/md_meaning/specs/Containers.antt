@@ -35,7 +35,7 @@ item_continues digits marker width starts_blank r =
     then Some (record { container = InItem digits marker width false; rest = lose width r })
     else None
 
--- a footnote definition goes on with blank lines and with lines indented by 4 columns (own choice, as on GitHub)
+-- a footnote definition continues with blank lines and with lines indented by 4 columns (own choice, as on GitHub)
 unfoldable pub footnote_continues : List ℕ → Rest → Option Taken
 footnote_continues label r =
     if is_blank r.bytes || nat_le 4 (indent r)
@@ -65,7 +65,7 @@ unfoldable pub opens_quote : ParseOptions → Rest → Option Taken
 opens_quote options r =
     if options.constructs.block_quote then with_kind options (quote_taken options None r) else None
 
--- a list marker: the digits of an ordered one, and the byte behind them (CommonMark 5.2)
+-- a list marker: the digits of an ordered one, and the byte after them (CommonMark 5.2)
 pub record Marker : Type 0 where
   pub digits : List ℕ
   pub byte : ℕ
@@ -76,7 +76,7 @@ is_digit b = nat_le 48 b && nat_le b 57
 abbrev pub is_bullet : ℕ → Bool
 is_bullet b = (b == asterisk) || (b == plus) || (b == hyphen)
 
--- the `.` or `)` behind digits
+-- the `.` or `)` after digits
 abbrev pub marker_behind : List ℕ → List ℕ → Option Marker
 marker_behind digits [] = None
 marker_behind digits (b ∷ bytes) =
@@ -105,7 +105,7 @@ may_interrupt marker r = not (is_blank r.bytes) && is_one marker.digits
     is_one (b ∷ []) = b == 49
     is_one (b ∷ c ∷ digits) = false
 
--- an item with this marker: the columns before it, and the rests from the marker on and behind it
+-- an item with this marker: the columns before it, and the rests from the marker on and after it
 abbrev pub item_with : ParseOptions → Bool → ℕ → Rest → Rest → Marker → Option Taken
 item_with options interrupting before from after marker =
     let is_break = options.constructs.thematic_break && is_rule from.bytes in
@@ -129,7 +129,7 @@ opens_item options interrupting r =
     then item_by options interrupting (indent r) from (list_marker from.bytes)
     else None
 
--- a label, and the bytes behind the bracket that ends it
+-- a label, and the bytes after the bracket that ends it
 pub record Labelled : Type 0 where
   pub label : List ℕ
   pub after : List ℕ
@@ -158,7 +158,7 @@ footnote_by from (Some l) =
     then Some (record { container = InFootnote l.label; rest = behind_indent (behind (length l.label + 4) from) })
     else None
 
--- a small indent, `[^`, a label of 1 to 999 bytes, `]:`, and all whitespace behind it (own choice, as on GitHub)
+-- a small indent, `[^`, a label of 1 to 999 bytes, `]:`, and all whitespace after it (own choice, as on GitHub)
 unfoldable pub opens_footnote : ParseOptions → Rest → Option Taken
 opens_footnote options r =
     let from = behind_indent r in

@@ -53,7 +53,7 @@ pub record Destination : Type 0 where
 abbrev pub is_raw_byte : ℕ → Bool
 is_raw_byte b = (b == 0) || (nat_lt 32 b && not (b == 127))
 
--- how many parentheses are open behind this byte
+-- how many parentheses are open after this byte
 abbrev pub depth_after : ℕ → ℕ → ℕ
 depth_after depth b = if b == left_parenthesis then depth + 1 else if b == right_parenthesis then depth - 1 else depth
 
@@ -83,7 +83,7 @@ title_closer b =
     if (b == double_quote) || (b == single_quote) then Some b else if b == left_parenthesis then Some right_parenthesis
     else None
 
--- a text that nothing but spaces and tabs follows on its line, and the lines behind it
+-- a text that nothing but spaces and tabs follows on its line, and the lines after it
 abbrev pub alone : Option Lines → Option Lines
 alone None = None
 alone (Some found) = elim found.rest [
@@ -91,7 +91,7 @@ alone (Some found) = elim found.rest [
   | rest ∷ lines ↦ (if is_blank rest then Some (record { text = found.text; rest = lines }) else None)
 ]
 
--- the title that is next, and the lines behind it (CommonMark 6.3)
+-- the title that is next, and the lines after it (CommonMark 6.3)
 unfoldable pub title_at : List (List ℕ) → Option Lines
 title_at [] = None
 title_at ([] ∷ lines) = None
@@ -100,11 +100,11 @@ title_at ((b ∷ bs) ∷ lines) = elim (title_closer b) [
   | None ↦ None
 ]
 
--- the title behind a destination, after whitespace with at most one line ending
+-- the title after a destination, after whitespace with at most one line ending
 abbrev pub title_after : List ℕ → List (List ℕ) → Option Lines
 title_after rest lines = if is_parted rest then title_at (after_gap (rest ∷ lines)) else None
 
--- A definition, and the lines behind it.
+-- A definition, and the lines after it.
 pub record Cut : Type 0 where
   pub defined : Defined
   pub rest : List (List ℕ)

@@ -8,7 +8,7 @@ pub data Enclosed : Type 0 where
   Closed : List ℕ → List ℕ → Enclosed
   -- the line ends first
   Open : Enclosed
-  -- the opening mark stands in it unescaped
+  -- the opening mark is in it unescaped
   Broken : Enclosed
 
 -- with this byte before the text
@@ -18,7 +18,7 @@ with_byte b Open = Open
 with_byte b Broken = Broken
 
 -- The text up to the closing mark. `escaped` says that a backslash takes the byte that is next; a mark or a backslash
--- then stands for itself, and any other byte does so anyway (CommonMark 2.4). Pairs are taken from left to right.
+-- then represents itself, and any other byte does so anyway (CommonMark 2.4). Pairs are taken from left to right.
 unfoldable pub enclosed : ℕ → ℕ → Bool → List ℕ → Enclosed
 enclosed opener closer escaped [] = Open
 enclosed opener closer true (b ∷ bs) = with_byte b (enclosed opener closer false bs)

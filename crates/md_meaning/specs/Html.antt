@@ -161,7 +161,7 @@ abbrev pub holds : (List ℕ → Bool) → List ℕ → Bool
 holds test [] = false
 holds test (b ∷ bytes) = test (b ∷ bytes) || holds test bytes
 
--- whether these bytes stand somewhere in the line
+-- whether these bytes are somewhere in the line
 abbrev pub holds_word : List ℕ → List ℕ → Bool
 holds_word word line = holds (λ rest. starts_with nat_eq rest word) line
 

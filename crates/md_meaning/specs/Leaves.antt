@@ -1,4 +1,4 @@
--- Leaf blocks: where they start, and how they go on.
+-- Leaf blocks: where they start, and how they continue.
 use Rattle.std.specs.Prelude.{ℕ, ◌-◌, Bool, true, false, ◌&&◌, ◌||◌, ◌==◌, not, nat_le, if◌then◌else◌, List, [], ◌∷◌}
 use Rattle.std.specs.Prelude.{◌++◌, length, take, drop, reverse, count_by, Option, Some, None}
 use Rattle.std.specs.List.{list_all, list_any, suffix_len, take_while}
@@ -14,13 +14,13 @@ use Rattle.md_meaning.specs.State.{OpenTable, Innermost, then_block, then_defini
 use Rattle.md_meaning.specs.State.{fence_block}
 use Rattle.md_meaning.specs.Ascii.{asterisk, backtick, dollar, equals_sign, hash, hyphen, tilde, underscore}
 
--- what a leaf has come to with a line: it is open, or finished
+-- what a leaf has become with a line: it is open, or finished
 pub data LeafResult : Type 0 where
   Opened : Leaf → LeafResult
   Finished : Block → LeafResult
 
--- what a line that may start a leaf stands against: no open paragraph, one of its own containers, or one that it is
--- lazy for
+-- what a line that may start a leaf is against: no open paragraph, one of its own containers, or one that it is lazy
+-- for
 pub data ParagraphContext : Type 0 where
   NoText : ParagraphContext
   Text : ParagraphContext
@@ -59,7 +59,7 @@ break_at options r =
 abbrev pub without_closing : List ℕ → List ℕ
 without_closing text = take (length text - suffix_len (λ b. b == hash) text) text
 
--- what follows the opening run, without a closing run that is all of it or stands behind whitespace
+-- what follows the opening run, without a closing run that is all of it or is after whitespace
 abbrev pub heading_text : List ℕ → List ℕ
 heading_text after =
     let text = trim after in
@@ -208,7 +208,7 @@ table_goes_on options delimiter rows r =
     if is_blank r.bytes || is_some (starts options NoText r) then None
     else Some (Opened (OpenTable delimiter (rows ++ row_cells r.bytes ∷ [])))
 
--- what an open leaf comes to with this line; none if it ends before it
+-- what an open leaf becomes with this line; none if it ends before it
 abbrev pub goes_on : ParseOptions → Leaf → Rest → Option LeafResult
 goes_on options NoLeaf r = None
 goes_on options (OpenParagraph lines) r = None

@@ -90,7 +90,7 @@ abbrev mutual
   block_entries depth (Paragraph lines) = entry depth word.Paragraph ∷ entries (depth + 1) word.Line lines
   block_entries depth (Table delimiter rows) = table_entries depth delimiter rows
 
-  -- the lines of the blocks, which stand at this depth
+  -- the lines of the blocks, which are at this depth
   pub outline : ℕ → Blocks → List Entry
   outline depth End = []
   outline depth (More b bs) = block_entries depth b ++ outline depth bs

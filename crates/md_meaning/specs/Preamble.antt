@@ -1,4 +1,4 @@
--- What stands before the body of a text: a byte order mark, and frontmatter (own choice: CommonMark knows neither).
+-- What is before the body of a text: a byte order mark, and frontmatter (own choice: CommonMark knows neither).
 use Rattle.std.specs.Prelude.{ℕ, Bool, ◌&&◌, ◌==◌, nat_eq, if◌then◌else◌, List, [], ◌∷◌, map, drop, Option, Some, None}
 use Rattle.std.specs.List.{starts_with, list_any, before_first, after_first}
 use Rattle.md_engine.specs.declared.configuration.ParseOptions.{ParseOptions}
@@ -14,7 +14,7 @@ has_mark text = starts_with nat_eq text (239 ∷ 187 ∷ 191 ∷ [])
 abbrev pub without_mark : List ℕ → List ℕ
 without_mark text = if has_mark text then drop 3 text else text
 
--- each byte of the mark is a column of the line behind it (own choice)
+-- each byte of the mark is a column of the line after it (own choice)
 abbrev pub first_column : List ℕ → ℕ
 first_column text = if has_mark text then 3 else 0
 

@@ -6,7 +6,7 @@ use Rattle.md_engine.specs.declared.configuration.ParseOptions.{ParseOptions}
 use Rattle.md_meaning.specs.Tree.{Line}
 use Rattle.md_meaning.specs.Ascii.{space, tab}
 
--- the column from 0 at which it begins, the virtual spaces there (columns left of a cut tab), and the bytes behind them
+-- the column from 0 at which it begins, the virtual spaces there (columns left of a cut tab), and the bytes after them
 pub record Rest : Type 0 where
   pub column : ℕ
   pub spaces : ℕ
@@ -25,7 +25,7 @@ abbrev pub is_parted : List ℕ → Bool
 is_parted [] = true
 is_parted (b ∷ bytes) = is_white b
 
--- how many of this byte stand at the front
+-- how many of this byte are at the front
 abbrev pub run_len : ℕ → List ℕ → ℕ
 run_len m bytes = prefix_len (λ b. b == m) bytes
 
@@ -85,7 +85,7 @@ lose (suc n) r = lose n (without_column r.column r.spaces r.bytes)
 abbrev pub behind_indent : Rest → Rest
 behind_indent r = lose (indent r) r
 
--- behind so many bytes that are neither spaces nor tabs
+-- after so many bytes that are neither spaces nor tabs
 abbrev pub behind : ℕ → Rest → Rest
 behind n r = record { column = r.column + n; spaces = 0; bytes = drop n r.bytes }
 

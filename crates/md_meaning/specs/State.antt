@@ -19,7 +19,7 @@ pub data Container : Type 0 where
   InItem : List ℕ → ℕ → ℕ → Bool → Container
   InFootnote : List ℕ → Container
 
--- a line of an open paragraph: the columns of its indent, and the text behind it
+-- a line of an open paragraph: the columns of its indent, and the text after it
 pub record ParagraphLine : Type 0 where
   pub indent : ℕ
   pub text : List ℕ
@@ -43,12 +43,12 @@ pub data Leaf : Type 0 where
   -- the delimiter row, and the cells of each row, the head first
   OpenTable : List ℕ → List (List (List ℕ)) → Leaf
 
--- the finished blocks of a container, and the leaf behind them
+-- the finished blocks of a container, and the leaf after them
 pub record Innermost : Type 0 where
   pub here : Blocks
   pub leaf : Leaf
 
--- The open containers, outermost first: each behind the finished blocks of its parent.
+-- The open containers, outermost first: each after the finished blocks of its parent.
 pub data Path : Type 0 where
   At : Innermost → Path
   Within : Blocks → Container → Path → Path
@@ -100,7 +100,7 @@ abbrev pub fence_block : Opening → List Line → Bool → Block
 fence_block o lines closed =
     if o.marker == dollar then Math o.meta lines closed else Fence o.marker o.info o.meta lines closed
 
--- with what the leaf comes to when it is closed
+-- with what the leaf becomes when it is closed
 abbrev pub then_leaf : ParseOptions → Blocks → Leaf → Blocks
 then_leaf options bs NoLeaf = bs
 then_leaf options bs (OpenParagraph lines) = shut_paragraph options bs (texts lines)

@@ -15,7 +15,7 @@ use Rattle.md_meaning.specs.Leaves.{underline_depth, underlined, table_at, with_
 abbrev pub spot_of : Blocks → Innermost
 spot_of bs = record { here = bs; leaf = NoLeaf }
 
--- what a leaf came to, behind these blocks
+-- what a leaf became, after these blocks
 abbrev pub came : Blocks → LeafResult → Innermost
 came bs (Opened leaf) = record { here = bs; leaf = leaf }
 came bs (Finished block) = spot_of (then_block bs block)
@@ -37,7 +37,7 @@ abbrev pub text_by : ParseOptions → Blocks → List ParagraphLine → Rest →
 text_by options bs lines r (Some c) = came (then_leaf options bs (OpenParagraph lines)) c
 text_by options bs lines r None = row_or_text bs lines r (table_at options bs lines r)
 
--- An underline is none of the leaves that are tried before it; a break may look like one, and is tried behind it.
+-- An underline is none of the leaves that are tried before it; a break may look like one, and is tried after it.
 abbrev pub underline_or_text : ParseOptions → Blocks → List ParagraphLine → Rest → Option ℕ → Innermost
 underline_or_text options bs lines r (Some depth) = underlined options bs lines r depth
 underline_or_text options bs lines r None = text_by options bs lines r (starts options Text r)
@@ -48,7 +48,7 @@ text_line options bs lines r =
     if is_blank r.bytes then spot_of (then_leaf options bs (OpenParagraph lines))
     else underline_or_text options bs lines r (underline_depth options r)
 
--- a leaf that ends before the line is closed, and the line is read behind it
+-- a leaf that ends before the line is closed, and the line is read after it
 abbrev pub on_or_fresh : ParseOptions → Innermost → Rest → Option LeafResult → Innermost
 on_or_fresh options s r (Some c) = came s.here c
 on_or_fresh options s r None = fresh_line options (shut options s) r
@@ -71,7 +71,7 @@ opened options (suc n) r = elim (opens options false r) [
   | None ↦ At (fresh_line options End r)
 ]
 
--- a container, behind these blocks, that a line opens
+-- a container, after these blocks, that a line opens
 abbrev pub entered : ParseOptions → Blocks → Taken → Path
 entered options bs t = Within bs t.container (opened options (length t.rest.bytes) t.rest)
 
@@ -94,7 +94,7 @@ unfoldable pub all_continued : ParseOptions → Innermost → Rest → Path
 all_continued options s r =
     all_continued_by options s r (if is_concrete s.leaf then None else opens options (is_open_text s.leaf) r)
 
--- the open paragraph with a lazy line; none if the line does not go on it (CommonMark 5.1, "laziness")
+-- the open paragraph with a lazy line; none if the line does not continue it (CommonMark 5.1, "laziness")
 abbrev pub with_lazy : ParseOptions → Leaf → Rest → Option Leaf
 with_lazy options (OpenParagraph lines) r =
     if is_blank r.bytes || is_some (starts options LazyText r) then None

@@ -7,7 +7,7 @@ use Rattle.md_meaning.specs.Rest.{trim}
 use Rattle.md_meaning.specs.Bytes.{is_end, after, after_optional}
 use Rattle.md_meaning.specs.Ascii.{backslash, colon, hyphen, pipe}
 
--- what a byte of a row makes of the pieces behind it: a pipe divides, unless it is the last byte
+-- what a byte of a row makes of the pieces after it: a pipe divides, unless it is the last byte
 abbrev pub with_byte : ℕ → Bool → List (List ℕ) → List (List ℕ)
 with_byte b is_last pieces = if b == pipe then (if is_last then pieces else [] ∷ pieces) else onto_first b pieces
 

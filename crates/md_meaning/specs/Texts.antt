@@ -12,11 +12,11 @@ split_lines (b ∷ bs) =
     let rest : List (List ℕ) = split_lines bs in
     if ends_line b bs then [] ∷ rest else if is_ending b then rest else onto_first b rest
 
--- lines without the spaces and tabs in front of each
+-- lines without the spaces and tabs before each
 abbrev pub trim_each : List (List ℕ) → List (List ℕ)
 trim_each lines = map trim_start lines
 
--- lines without the spaces and tabs in front of each but the first
+-- lines without the spaces and tabs before each but the first
 abbrev pub trim_further : List (List ℕ) → List (List ℕ)
 trim_further [] = []
 trim_further (line ∷ lines) = line ∷ trim_each lines

@@ -2,7 +2,7 @@
 
 use crate::alert::AlertKind;
 
-/// What a line of the outline stands for: a block, which has no text of its own, or a part of one with its text.
+/// What a line of the outline represents: a block, which has no text of its own, or a part of one with its text.
 #[derive(Clone, Copy, Debug, PartialEq, Eq)]
 pub enum Word {
     /// Frontmatter, and the byte of its fences: `-` or `+`.

@@ -1,4 +1,4 @@
--- An ATX heading: it is set whole, in front of its end.
+-- An ATX heading: it is set whole, before its end.
 use Rattle.std.proofs.Common.{◌≡◌, ℕ, suc, ◌+◌, Bool, true, false, cond, not, ◌&&◌, List, [], ◌∷◌, ◌++◌, Option, Some}
 use Rattle.std.proofs.Common.{None, take, drop, refl, ap, sym, ◌∙◌, subst, append_assoc, append-nil, take-append-drop}
 use Rattle.std.proofs.Common.{arith}
@@ -29,7 +29,7 @@ quiet-append : (w : Wanted) (xs ys : List Event) → AreQuiet w xs → AreQuiet 
 quiet-append w [] ys h k = k
 quiet-append w (e ∷ xs) ys h k = (h.0, quiet-append w xs ys h.1 k)
 
--- Lists pass them, and so do the resolvers behind that of headings.
+-- Lists pass them, and so do the resolvers after that of headings.
 
 quiet-items : (w : Wanted) (bytes : List ℕ) (place : ListPlace) (xs es : List Event) → AreQuiet w xs →
     set_if w.items (listed_from bytes place) (xs ++ es) ≡ xs ++ set_if w.items (listed_from bytes place) es
@@ -129,7 +129,7 @@ resolved-quiet w (Within first after last closing since) (e ∷ es) h k =
         quiet-append w held (e ∷ resolved Outside es) (held-quiet w first after closing since h.0 h.1) (k.0, c)
     go false false false a b c d = d
 
--- What stands behind a heading that is cut in front of its end: nothing, or that end first.
+-- What follows a heading that is cut before its end: nothing, or that end first.
 abbrev MayFollow : List Event → Type 0
 MayFollow [] = Unit {0}
 MayFollow (d ∷ zs) = ends is_heading d ≡ true
@@ -231,7 +231,7 @@ heading-run w (e ∷ es) on h = go (ends is_heading e) refl (heading-run w es on
         subst (λ (m : ℕ). AreQuiet w (take m (e ∷ es))) (one-more (heading_len es))
         (quiet-inside w e es on h, more (heading-on w e es h is))
 
--- and behind lists, too, its end follows
+-- and after lists, too, its end follows
 heading-follows : (w : Wanted) (bytes : List ℕ) (place : ListPlace) (es : List Event) →
     MayFollow (set_if w.items (listed_from bytes place) (drop (heading_len es) es))
 heading-follows w bytes place [] = subst MayFollow (sym (items-none w.items bytes place)) tt

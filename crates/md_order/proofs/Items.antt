@@ -1,4 +1,4 @@
--- An event of an item, where one stands outside of headings.
+-- An event of an item, where one is outside of headings.
 use Rattle.std.proofs.Common.{◌≡◌, ℕ, Bool, true, false, cond, List, [], ◌∷◌, ◌++◌, refl, ap, sym, ◌∙◌}
 use Rattle.std.specs.Prelude.{Option}
 use Rattle.md_engine.specs.declared.event.Event.{Event}

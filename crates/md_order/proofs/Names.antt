@@ -1,4 +1,4 @@
--- What the names of events tell.
+-- What the names of events show.
 use Rattle.std.proofs.Common.{◌≡◌, ℕ, Bool, true, false, cond, refl}
 use Rattle.md_engine.specs.declared.event.Event.{Event}
 use Rattle.md_engine.specs.declared.event.Kind.{Kind}

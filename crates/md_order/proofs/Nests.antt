@@ -1,4 +1,4 @@
--- Events that nest still do behind the resolvers.
+-- Events that nest still do after the resolvers.
 pub mod All
 pub mod Cells
 pub mod Headings

@@ -58,7 +58,7 @@ pub tables-none : (x : Bool) → set_if x tabled [] ≡ []
 tables-none true = refl
 tables-none false = refl
 
--- The resolvers behind that of headings, and behind that of items.
+-- The resolvers after that of headings, and after that of items.
 
 abbrev pub behind_heads : Wanted → Bool → List Event → List Event
 behind_heads w on es = set_if w.tables tabled (set_if w.setext (turned_from on) es)
@@ -139,7 +139,7 @@ passed-one w bytes at e es h =
     first : (i ≡ false) × (a ≡ false)
     first = or_parts i a second.0
 
--- So do all in front of the next that does not.
+-- So do all before the next that does not.
 
 passed-run : (w : Wanted) (bytes : List ℕ) (at : Standing) (es : List Event) →
     left_in w bytes at es

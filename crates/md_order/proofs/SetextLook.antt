@@ -1,4 +1,4 @@
--- What stands ahead of a paragraph is seen through lists and the texts of ATX headings.
+-- What is ahead of a paragraph is seen through lists and the texts of ATX headings.
 use Rattle.std.proofs.Common.{◌≡◌, ℕ, Bool, true, false, cond, ◌&&◌, List, [], ◌∷◌, ◌++◌, refl, ap, sym, ◌∙◌, subst}
 use Rattle.std.proofs.lemmas.Bool.{and_parts, and_right}
 use Rattle.md_engine.specs.declared.event.Event.{Event}
@@ -101,7 +101,7 @@ item-starts bytes place e es more h = go (turn e.kind (role e.name))
     }
     go Stays = record { first = e; rest = more; is = refl; plain = itself }
 
--- What is seen behind an event that is no prefix is told by that event.
+-- What is seen after an event that is no prefix is known from that event.
 
 plain-unlined : (e : Event) (es : List Event) → IsPlain e.name → underline_behind (e ∷ es) ≡ false
 plain-unlined e es h = rw h.prefix (and_right (is_enter e.kind) (is_underline e.name) h.underline)
@@ -116,7 +116,7 @@ starts-unlined a es h =
       ap has_underline same ∙ no-ending h.first (heads_rest a h.first h.rest) h.plain.ending,
     )
 
--- So an item hides what stands behind it,
+-- So an item hides what follows it,
 item-hides : (a i : Bool) (bytes : List ℕ) (place : Place) (e : Event) (es : List Event) →
     is_item (role e.name) ≡ true →
     (underline_behind (ahead a i bytes place (e ∷ es)) ≡ false)
@@ -127,7 +127,7 @@ item-hides a true bytes place e es h =
 item-hides a false bytes place e es h =
     starts-unlined a (e ∷ es) (record { first = e; rest = es; is = refl; plain = item-plain e.name h })
 
--- and any other event stands first.
+-- and any other event is first.
 other-first : (a i : Bool) (bytes : List ℕ) (place : Place) (e : Event) (es : List Event) →
     is_item (role e.name) ≡ false →
     ahead a i bytes place (e ∷ es) ≡ e ∷ heads_rest a e (set_if i (listed_from bytes place) es)
@@ -160,7 +160,7 @@ underline-ahead a i bytes place (e ∷ es) =
         ap underline_behind (other-first a i bytes place e es item)
         ∙ other is (heads_rest a e (set_if i (listed_from bytes place) es)) ∙ sym (other is es)
 
--- behind the end of a paragraph
+-- after the end of a paragraph
 ending-item : (name : Name) → is_line_ending name ≡ true → is_item (role name) ≡ false
 ending-item n.LineEnding h = refl
 ending-item _ h = absurd (let no : false ≡ true = h in cc)
@@ -169,7 +169,7 @@ ending-heading : (name : Name) → is_line_ending name ≡ true → is_heading n
 ending-heading n.LineEnding h = refl
 ending-heading _ h = absurd (let no : false ≡ true = h in cc)
 
--- a line ending that stands where nothing is open begins there
+-- a line ending that is where nothing is open begins there
 pub ending-opens : (kind : Kind) (name : Name) → is_line_ending name ≡ true →
     (is_exit kind ≡ true → opened_by name ≡ Nothing) → cond (is_enter kind) (opened_by name) Nothing ≡ InEnding
 ending-opens Enter n.LineEnding h stands = refl
@@ -211,7 +211,7 @@ has-ahead a i bytes place (e ∷ es) h = go (is_line_ending e.name) refl (is_ite
         ap has_underline (other-first a i bytes place e es item)
         ∙ no-ending e (heads_rest a e (set_if i (listed_from bytes place) es)) is ∙ sym (no-ending e es is)
 
--- A look for the end of the paragraph that is open passes what stands in it.
+-- A look for the end of the paragraph that is open passes what is in it.
 
 -- an event of no paragraph
 past-one : (e : Event) (es : List Event) → is_paragraph e.name ≡ false → is_turned (e ∷ es) ≡ is_turned es

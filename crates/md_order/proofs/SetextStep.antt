@@ -1,4 +1,4 @@
--- An event of a paragraph or an underline, where one stands outside of ATX headings.
+-- An event of a paragraph or an underline, where one is outside of ATX headings.
 use Rattle.std.proofs.Common.{◌≡◌, inl, inr, ℕ, Bool, true, false, cond, List, [], ◌∷◌, ◌++◌, refl, ap, sym, ◌∙◌, subst}
 use Rattle.md_engine.specs.declared.event.Event.{Event}
 use Rattle.md_engine.specs.declared.event.Kind.{Kind}
@@ -68,7 +68,7 @@ look-same w bytes at es on (inl one) =
     ∙ ap (λ (x : Bool). is_turned (ahead false x bytes at.items es)) others.0
 look-same w bytes at es on (inr hold) = turned-ahead w.atx w.items bytes at.items es hold
 
--- what is told by it
+-- what is known from it
 record SameBy (t : Turn) (now x y : Bool) (e : Event) : Type 0 where
   given : given_by t now x e ≡ given_by t now y e
   on : on_by t now x ≡ on_by t now y

@@ -53,7 +53,7 @@ white-like _ _ (Same e xs ys h) =
     ∙ sym (white-first e ys)
 white-like _ _ (Dark e xs ys h) = dark-white e xs h ∙ sym (dark-white e ys h)
 
--- what comes behind whitespace
+-- what comes after whitespace
 second-like : (test : Event → Bool) (xs ys : List Event) → Like xs ys → first_is (λ f. is_white f.name) ys ≡ true →
     first_is test (drop 1 xs) ≡ first_is test (drop 1 ys)
 second-like test _ _ AtEnd w = refl

@@ -1,4 +1,4 @@
--- A table is set as it stands, whatever stands behind it.
+-- A table is set as it is, whatever is after it.
 use Rattle.std.proofs.Common.{◌≡◌, ℕ, suc, ◌+◌, Bool, true, false, cond, not, ◌&&◌, List, [], ◌∷◌, ◌++◌, take, drop}
 use Rattle.std.proofs.Common.{refl, ap, sym, ◌∙◌, append_assoc, append-nil, arith}
 use Rattle.std.specs.List.{prefix_len}
@@ -25,7 +25,7 @@ use Rattle.md_tables.proofs.TabledWalk.{outside-stage}
 use Rattle.md_order.specs.Left.{ends_table, table_len}
 use Rattle.md_order.proofs.TableLooks.{AtEnd, Dark, IsDark, Like, Same, looks-like, table-dark}
 
--- The events up to and with the first end of a table, and those behind it.
+-- The events up to and with the first end of a table, and those after it.
 
 abbrev pub slice : List Event → List Event
 slice [] = []
@@ -61,7 +61,7 @@ rest-is (e ∷ es) = go (ends_table e) (rest-is es)
         let one : 1 + prefix_len goes_on es ≡ suc (prefix_len goes_on es) = omega arith in
         ap (λ (m : ℕ). drop m es) one ∙ h
 
--- What stands behind them: nothing if no table ends.
+-- What follows them: nothing if no table ends.
 abbrev pub MayFollow : List Event → List Event → Type 0
 MayFollow [] ys = ys ≡ []
 MayFollow (e ∷ es) ys = ends_table e ≡ false → MayFollow es ys
@@ -122,7 +122,7 @@ end-cells Head stage e xs ys h = end-step stage e xs ys h
 end-cells Between stage e xs ys h = end-step stage e xs ys h
 end-cells Body stage e xs ys h = end-step stage e xs ys h
 
--- and behind it one is outside of tables
+-- and after it one is outside of tables
 end-bound : (kind : Kind) (name : Name) → (is_exit kind && is_table name) ≡ true → bound_by kind name ≡ EndsTable
 end-bound Exit n.GfmTable h = refl
 end-bound Exit _ h = absurd (let no : false ≡ true = h in cc)
@@ -134,7 +134,7 @@ end-next Head = refl
 end-next Between = refl
 end-next Body = refl
 
--- so what stands there is set on its own
+-- so what is there is set on its own
 pub tabled-slice : (es ys : List Event) (section : Section) (stage : Stage) → MayFollow es ys →
     tabled_from section stage (slice es ++ ys) ≡ tabled_from section stage (slice es) ++ tabled ys
 tabled-slice [] ys section stage h = ap (tabled_from section stage) h ∙ sym (ap tabled h)

@@ -1,4 +1,4 @@
--- A table, where one stands outside of ATX headings: it is set whole.
+-- A table, where one is outside of ATX headings: it is set whole.
 use Rattle.std.proofs.Common.{◌≡◌, inl, inr, ℕ, suc, Bool, true, false, cond, ◌&&◌, List, [], ◌∷◌}
 use Rattle.std.proofs.Common.{◌++◌, take, drop, refl, ap, sym, ◌∙◌, subst}
 use Rattle.std.proofs.lemmas.Bool.{and_left, and_parts}
@@ -25,7 +25,7 @@ use Rattle.md_order.proofs.SetextLook.{ahead, ahead-none, ahead-pass}
 use Rattle.md_order.proofs.Stay.{closed-table, one-table, stay-opens}
 use Rattle.md_order.proofs.TableSlice.{rest, rest-follows, rest-is, slice, slice-is, tabled-slice}
 
--- The events as the three in front of tables leave them.
+-- The events as the three before tables leave them.
 abbrev in_front : Wanted → List ℕ → Standing → List Event → List Event
 in_front w bytes at es = set_if w.setext (turned_from at.on) (ahead w.atx w.items bytes at.items es)
 
@@ -61,7 +61,7 @@ unset-other e h = record {
   text = bare-unturned e (unset-bare e.name h);
 }
 
--- What stands in a table passes them.
+-- What is in a table passes them.
 inside-passes : (w : Wanted) (bytes : List ℕ) (at : Standing) (es : List Event) → HoldNoBlock InTable es →
     in_front w bytes at es ≡ slice es ++ in_front w bytes at (rest es)
 inside-passes w bytes at [] h = refl

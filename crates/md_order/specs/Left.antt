@@ -1,4 +1,4 @@
--- What one pass gives for the events that are left, where it stands.
+-- What one pass gives for the events that are left, where it is.
 use Rattle.std.specs.Prelude.{◌≡◌, ◌⊎◌, ℕ, suc, Bool, true, ◌||◌, ◌&&◌, not, List}
 use Rattle.std.specs.List.{prefix_len}
 use Rattle.md_engine.specs.declared.event.Event.{Event}
@@ -13,7 +13,7 @@ use Rattle.md_order.specs.declared.wanted.Wanted.{Wanted}
 use Rattle.md_order.specs.Alone.{HoldNoBlock, Open, is_one}
 use Rattle.md_order.specs.InOrder.{set_if}
 
--- Where it stands: among items, and whether a setext heading is open. ATX headings and tables are set whole.
+-- Where it is: among items, and whether a setext heading is open. ATX headings and tables are set whole.
 pub record Standing : Type 0 where
   pub items : ListPlace
   pub on : Bool
@@ -52,6 +52,6 @@ ends_table e = is_exit e.kind && is_table e.name
 abbrev pub table_len : List Event → ℕ
 table_len es = suc (prefix_len (λ (e : Event). not (ends_table e)) es)
 
--- how many events there are in front of the first end of an ATX heading
+-- how many events there are before the first end of an ATX heading
 abbrev pub heading_len : List Event → ℕ
 heading_len es = prefix_len (λ (e : Event). not (ends is_heading e)) es

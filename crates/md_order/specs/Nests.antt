@@ -11,7 +11,7 @@ use Rattle.md_order.specs.InOrder.{set_if}
 use Rattle.md_order.specs.TablesNest.{TablesNest}
 use Rattle.md_order.specs.TurnsNest.{TurnsNest}
 
--- Lists may stand around items: each begins directly in a block, or outside of all.
+-- Lists may be around items: each begins directly in a block, or outside of all.
 abbrev pub ListsNest : List Event → Type 0
 ListsNest events = ItemsHeld [] events
 

@@ -1,5 +1,5 @@
--- Tables whose rows stand by themselves, and that end behind a delimiter row: where heads, bodies and cells are put
--- into them, the events nest as before.
+-- Tables whose rows are by themselves, and that end after a delimiter row: where heads, bodies and cells are put into
+-- them, the events nest as before.
 use Rattle.std.specs.Prelude.{◌≡◌, Bool, true, false, ◌||◌, if◌then◌else◌, List, [], ◌∷◌, Option, Some, None}
 use Rattle.md_engine.specs.declared.event.Event.{Event}
 use Rattle.md_engine.specs.declared.event.Kind.TheVariants.{Enter, Exit}
@@ -12,8 +12,8 @@ use Rattle.md_tables.specs.declared.cells.RowKind.TheVariants.{Delimiter, Text}
 use Rattle.md_order.specs.HeadingsNest.{StandsAlone}
 use Rattle.md_order.specs.Left.{ends_table}
 
--- Where one stands: outside of tables; in one, by whether a delimiter row has ended and what is open in the table; in a
--- row of it, by what is open in the row.
+-- Where one is: outside of tables; in one, by whether a delimiter row has ended and what is open in the table; in a row
+-- of it, by what is open in the row.
 pub data Place : Type 0 where
   Outside : Place
   InTable : Bool → List Name → Place
@@ -24,7 +24,7 @@ abbrev pub is_cell_part : RowKind → Name → Bool
 is_cell_part k name = is_divider name || is_inner k name
 
 -- A row begins where nothing is open in its table, and ends where nothing is open in it. A table ends outside of rows,
--- behind a delimiter row, where nothing is open. In a row each pipe and each part of what cells hold stands by itself.
+-- after a delimiter row, where nothing is open. In a row each pipe and each part of what cells hold is by itself.
 abbrev pub MayCome : Place → Event → Type 0
 MayCome Outside e = Unit {0}
 MayCome (InTable headed names) e =

@@ -9,8 +9,8 @@ use Rattle.md_engine.specs.declared.event.Kind.{Kind}
 use Rattle.md_engine.specs.declared.event.Kind.TheVariants.{Enter, Exit}
 use Rattle.md_leaves.specs.Turned.{is_paragraph, is_turned, is_underline}
 
--- Where one stands: in no heading; in its text; between that and its underline, with so many parts open that began
--- there; or in the underline.
+-- Where one is: in no heading; in its text; between that and its underline, with so many parts open that began there;
+-- or in the underline.
 pub data Spot : Type 0 where
   Apart : Spot
   InText : Spot
@@ -21,7 +21,7 @@ pub data Spot : Type 0 where
 abbrev pub IsOther : Bool → Bool → Type 0
 IsOther paragraph underline = (paragraph ≡ false) × (underline ≡ false)
 
--- what may stand there, by whether it is of a paragraph or of an underline
+-- what may be there, by whether it is of a paragraph or of an underline
 abbrev pub MayStandAt : Spot → Kind → Bool → Bool → Type 0
 MayStandAt Apart kind paragraph underline = Unit {0}
 MayStandAt (Between zero) Enter paragraph underline = paragraph ≡ false
@@ -29,7 +29,7 @@ MayStandAt (Between zero) Exit paragraph underline = ⊥
 MayStandAt spot Enter paragraph underline = IsOther paragraph underline
 MayStandAt spot Exit paragraph underline = Unit {0}
 
--- where one is behind it, by whether an underline follows the paragraph that begins here
+-- where one is after it, by whether an underline follows the paragraph that begins here
 abbrev pub spot_by : Spot → Kind → Bool → Bool → Bool → Spot
 spot_by Apart Enter paragraph underline turned = if paragraph && turned then InText else Apart
 spot_by Apart Exit paragraph underline turned = Apart

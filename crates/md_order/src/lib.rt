@@ -1,4 +1,4 @@
-// What the resolvers of items, headings and tables make of events, one behind the other.
+// What the resolvers of items, headings and tables make of events, one after the other.
 #![tactic(auto)]
 
 pub mod wanted;

@@ -42,7 +42,7 @@ list_word OrderedShape items = list_marker is_ordered items
 list_word UnorderedShape items = list_marker is_bullet items
 list_word _ items = 0
 
--- a list has told its marker
+-- a list has said its marker
 abbrev pub HasWord : Shape → Blocks → Type 0
 HasWord OrderedShape items = (list_marker is_ordered items == 0) ≡ false
 HasWord UnorderedShape items = (list_marker is_bullet items == 0) ≡ false
@@ -65,7 +65,7 @@ word-stays OrderedShape xs ys e h = ap (λ m. m == 0) e ∙ h
 word-stays UnorderedShape xs ys e h = ap (λ m. m == 0) e ∙ h
 word-stays _ xs ys e h = tt
 
--- the first item tells it
+-- the first item shows it
 first-told : (f : ℕ → Bool) (before : Blocks) (a b : Block) →
     list_marker f (More b End) ≡ list_marker f (More a End) →
     list_marker f (then_block before b) ≡ list_marker f (then_block before a)
@@ -80,7 +80,7 @@ first-word OrderedShape before a b e = first-told is_ordered before a b (e is_or
 first-word UnorderedShape before a b e = first-told is_bullet before a b (e is_bullet)
 first-word _ before a b e = refl
 
--- whatever stands in it
+-- whatever is in it
 inside-word : (f : ℕ → Bool) (shape : Shape) (xs ys : Blocks) →
     list_marker f (More (block_around shape ys) End) ≡ list_marker f (More (block_around shape xs) End)
 inside-word f OrderedShape xs ys = refl
@@ -94,7 +94,7 @@ around-word (list ∷ outer) around xs ys =
     first-word list.shape around.before (block_around around.shape xs) (block_around around.shape ys)
     (λ f. inside-word f around.shape xs ys)
 
--- and a block behind it changes nothing
+-- and a block after it changes nothing
 then-told : (f : ℕ → Bool) (here : Blocks) (b : Block) → (list_marker f here == 0) ≡ false →
     list_marker f (then_block here b) ≡ list_marker f here
 then-told f End b h = absurd (true≢false h)
@@ -142,7 +142,7 @@ opening-shown : (depth : ℕ) (shape : Shape) (here : Blocks) →
 opening-shown depth (QuoteShape kind) here = refl
 opening-shown depth _ here = refl
 
--- those in front of the innermost blocks
+-- those before the innermost blocks
 abbrev pub fronts : List OpenContainer → Blocks → List Entry
 fronts [] here = []
 fronts (around ∷ outer) here =
@@ -198,9 +198,9 @@ shown-then outer here b h =
     grown outer here (then_block here b) (block_entries (depth_of outer) b) (then-same outer here b h)
     (outline-then (depth_of outer) here b)
 
--- Items that are told something.
+-- Items that are said something.
 
--- only an item is told anything
+-- only an item is said anything
 abbrev ToldItem : Shape → Shape → Type 0
 ToldItem (ItemShape m d) (ItemShape k e) = Unit {0}
 ToldItem (ItemShape m d) _ = ⊥
@@ -231,7 +231,7 @@ named-same : (f : Shape → Shape) (outer : List OpenContainer) (around : OpenCo
 named-same f [] around here k h = tt
 named-same f (list ∷ outer) around here k h = k list.shape around.before around.shape h.0
 
--- a container that is shown as before, with what it tells of its list
+-- a container that is shown as before, with what it shows of its list
 renamed : (f : Shape → Shape) (around : OpenContainer) (outer : List OpenContainer) (here : Blocks) →
     ((depth : ℕ) → block_entries depth (block_around (f around.shape) here)
     ≡ block_entries depth (block_around around.shape here)) →
@@ -248,7 +248,7 @@ renamed f around outer here h e =
     ∙ sym (append-nil (outline (depth_of outer) (then_block around.before old))))
     ∙ append-nil (shown (around ∷ outer) here)
 
--- lists that have told their markers still have, and as many containers are open
+-- lists that have said their markers still have, and as many containers are open
 pub words-renamed : (f : Shape → Shape) (outer : List OpenContainer) (here : Blocks) →
     ((shape : Shape) → HasWord shape here → HasWord (f shape) here) → KeepsWord f here → HaveWords outer here →
     HaveWords (on_shape f outer) here
@@ -263,7 +263,7 @@ pub depth-renamed : (f : Shape → Shape) (outer : List OpenContainer) → depth
 depth-renamed f [] = refl
 depth-renamed f (around ∷ outer) = refl
 
--- What is told of the innermost container changes nothing that is shown.
+-- What is said of the innermost container changes nothing that is shown.
 pub record StaysShown (f : Shape → Shape) (outer : List OpenContainer) (here : Blocks) : Type 0 where
   pub lines : shown (on_shape f outer) here ≡ shown outer here
   pub words : HaveWords (on_shape f outer) here

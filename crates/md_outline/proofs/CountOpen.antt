@@ -1,4 +1,4 @@
--- How many parts are open behind the first events, by how many parts have begun.
+-- How many parts are open after the first events, by how many parts have begun.
 use Rattle.std.proofs.Common.{◌≡◌, ℕ, zero, suc, ◌+◌, ◌<◌, ◌≤◌, List, [], ◌∷◌, length, take, get_or, sym}
 use Rattle.std.proofs.Common.{◌∙◌, ◌-◌, ap, drop, length-drop, subst, arith}
 use Rattle.std.proofs.lemmas.List.{drop-drop, get_or-drop, length-take-le, take-take, take_all, take_more}
@@ -79,7 +79,7 @@ counts-four events i d enters a b c e lt is_a is_b is_c is_e h =
     (subst (λ (n : ℕ). Counts events n (enters + a + b + c + e)) at_four
     (counts-one events (i + 3) d (enters + a + b + c) e lt is_e three))
 
--- Of a list that is left behind its first events, as many were counted as are in front of it.
+-- Of a list that is left after its first events, as many were counted as are before it.
 pub record Left (events rest : List Event) (enters : ℕ) : Type 0 where
   pub count : ℕ
   pub within : count ≤ length events

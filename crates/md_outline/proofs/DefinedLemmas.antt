@@ -40,12 +40,12 @@ use Rattle.md_outline.proofs.SiteTexts.{NoText, TextFrom, from-here, text-ends, 
 use Rattle.md_outline.proofs.TextCuts.{first-piece, piece-entries}
 use Rattle.md_outline.proofs.TextPieces.{begins-behind}
 
--- What is known of one that is open, which has told its label or not.
+-- What is known of one that is open, which has said its label or not.
 abbrev pub Defined : DefinitionSoFar → Bool → OutlineState → Reading → Type 0
 Defined definition is_told s r = Known (DefinitionLeaf definition) form.Definition is_told s r
 
--- A part of several lines: whether the label is told, what is known by then, what is shown in front of it, and the word
--- of its lines.
+-- A part of several lines: whether the label is said, what is known by then, what is shown before it, and the word of
+-- its lines.
 
 abbrev label_known : Part → Bool
 label_known LabelPart = false
@@ -62,7 +62,7 @@ part_front TitlePart label destination depth = block_entries depth (Definition l
 abbrev shown_by : Part → Word
 shown_by part = cond (label_known part) word.Title word.Label
 
--- in front of its text: an empty line is shown
+-- before its text: an empty line is shown
 abbrev empty_part : Part → List (List ℕ) → List ℕ → ℕ → List Entry
 empty_part part label destination depth =
     part_front part label destination depth ++ entry (depth + 1) (shown_by part) ∷ []
@@ -73,7 +73,7 @@ AtText part s r =
     Shows (DefinitionLeaf (part_known part label destination)) form.Definition (label_known part)
     (empty_part part label destination) s r
 
--- in its text, behind a prefix: the lines in front are shown, and what follows will be shown by its own lines
+-- in its text, after a prefix: the lines in front are shown, and what follows will be shown by its own lines
 abbrev PartIs : Word → List Entry → ℕ → List Entry → Option TextSpan → Option Text → Type 0
 PartIs w before depth lines (Some span) (Some text) =
     (span.is_parted ≡ true) × (text.from ≡ span.from) × (full : List Entry) × (lines ≡ before ++ full) ×
@@ -90,7 +90,7 @@ InText part s r =
     Defined (part_known part label destination) (label_known part) s r ×
     PartIs (shown_by part) (front_lines part label destination s r) s.depth s.lines s.text r.text
 
--- behind its label, with what may come
+-- after its label, with what may come
 abbrev HasLeft : Left → List ℕ → Option (List (List ℕ)) → Type 0
 HasLeft DestinationLeft destination title = (destination ≡ []) × (title ≡ None)
 HasLeft TitleLeft destination title = title ≡ None
@@ -117,7 +117,7 @@ Behind left s r =
 abbrev pub InDestinationText : OutlineState → Reading → Type 0
 InDestinationText s r = (label : List (List ℕ)) × Whole label [] None s r
 
--- and in its title, behind its text
+-- and in its title, after its text
 abbrev pub BehindText : OutlineState → Reading → Type 0
 BehindText s r =
     (label : List (List ℕ)) × (destination : List ℕ) × (title : List (List ℕ)) × Some_line title ×
@@ -187,7 +187,7 @@ other-than : (x : Bool) → not x ≡ true → x ≡ false
 other-than true h = absurd (true≢false (sym h))
 other-than false h = refl
 
--- behind a prefix no piece begins with a line feed
+-- after a prefix no piece begins with a line feed
 no-feed : (span : TextSpan) (piece : List ℕ) → span.is_parted ≡ true → begins_line span piece ≡ true →
     begins_with 10 piece ≡ false
 no-feed span piece parted h =
@@ -413,7 +413,7 @@ title-first bytes q p s r h =
     (title-told false piece h.0.1 h.0.0 (record { spaces = columns_left q; text = piece }) s r h.0.2.0
     (first-ends TitlePart h.0.0 h.0.1 piece s r h.0.2.1))
 
--- Behind its label.
+-- After its label.
 
 -- with what is known to be there
 shows-known : (label : List (List ℕ)) (destination known : List ℕ) (title known_title : Option (List (List ℕ)))
@@ -521,7 +521,7 @@ title-empty bytes p s r h = (
   h.1,
 )
 
--- or behind one
+-- or after one
 stays-told : (title now : List (List ℕ)) → Some_line title → first_told title now ≡ title
 stays-told [] now h = absurd h
 stays-told (line ∷ title) now h = refl

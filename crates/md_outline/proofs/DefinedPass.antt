@@ -1,4 +1,4 @@
--- The events of a definition, one behind the other: from where in it to where they go.
+-- The events of a definition, one after the other: from where in it to where they go.
 use Rattle.std.proofs.Common.{◌≡◌, ℕ, zero, suc, ◌+◌, ◌-◌, ◌<◌, ◌≤◌, Bool, true, false, ◌||◌, List, [], ◌∷◌, ◌++◌}
 use Rattle.std.proofs.Common.{length, take, drop, get_or, slice_range, refl, sym, ◌∙◌, ap, subst, arith}
 use Rattle.std.specs.Prelude.{IsTrue, slice_index}
@@ -33,7 +33,7 @@ passes-definition bytes name p q left es is h =
     passes-around bytes Outside AtLabel (BehindPart left) Outside (LeafRole OfDefinition) name p q es is (tt, refl) h
     (tt, refl)
 
--- Between its parts endings and prefixes may stand,
+-- Between its parts endings and prefixes may be,
 pub passes-between : (bytes : List ℕ) (left : Left) (es : List Event) → Roles Between es →
     Passes bytes (BehindPart left) (BehindPart left) es
 passes-between bytes left es h = passes-lines bytes (BehindPart left) es tt h
@@ -99,7 +99,7 @@ passes-part_line bytes part name p q es is h =
     passes-text bytes part name p q (InPart part p) es is (passes-inline bytes (InPart part p) es tt h)
     (first-ends bytes part p q)
 
--- and with prefixes, which stand behind an ending
+-- and with prefixes, which are after an ending
 any-longer : (xs : List ℕ) (m n : ℕ) → m ≤ n → list_any is_ending (take m xs) ≡ true →
     list_any is_ending (take n xs) ≡ true
 any-longer xs zero n le h = absurd (true≢false (sym h))
@@ -200,7 +200,7 @@ parted-ends : (bytes : List ℕ) (part : Part) (q : Point) →
 parted-ends bytes LabelPart q = (tt, refl)
 parted-ends bytes TitlePart q = (tt, refl)
 
--- its first line up to a point behind an ending, and what stands behind that
+-- its first line up to a point after an ending, and what follows that
 pub passes-part : (bytes : List ℕ) (part : Part) (name : Name) (p i q : Point) (first further : List Event) →
     role name ≡ TextRole (part_purpose part) → Roles QuietOrEnding first →
     list_any is_ending (slice_range bytes (byte_at p) i.index) ≡ true → Balanced further → Forward i further →

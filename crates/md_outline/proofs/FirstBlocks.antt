@@ -1,5 +1,5 @@
--- Events behind which each part has ended, in front of others: what is known of all of them is known of these and of
--- the others, and the outline of all is that of these and then that of the others.
+-- Events after which each part has ended, before others: what is known of all of them is known of these and of the
+-- others, and the outline of all is that of these and then that of the others.
 use Rattle.std.proofs.Common.{◌≡◌, ℕ, Bool, true, List, [], ◌∷◌, ◌++◌, drop, take, take-append-drop, sym}
 use Rattle.std.proofs.Common.{◌∙◌, ap, subst}
 use Rattle.std.specs.Prelude.{Option, None}
@@ -27,7 +27,7 @@ use Rattle.md_outline.proofs.Shifted.{all-blocks, outline-blocks, read-then, the
 
 -- The walks over the events.
 
--- what is known of the events in front and of those behind them, with these read before them
+-- what is known of the events in front and of those after them, with these read before them
 record Walks (bytes : List ℕ) (span : Option TextSpan) (site : Site) (stage : Stage) (r : Reading)
     (front back : List Event) : Type 0 where
   front_parted : are_parted bytes span front ≡ true
@@ -161,7 +161,7 @@ divided front back bytes closed is =
       joined = sym (ap (outline 0) tree ∙ outline-blocks 0 (spelled front bytes) (spelled back bytes));
     }
 
--- So the lines of some events in front are in front of the outline of the others.
+-- So the lines of some events in front are before the outline of the others.
 pub part-begins : (events : List Event) (count : ℕ) (bytes : List ℕ) (lines : List OutlineLine) →
     (Balanced events → open_after [] (take count events) ≡ []) → Outlines (take count events) bytes lines →
     IsOutlined events bytes → Begins events (drop count events) bytes lines

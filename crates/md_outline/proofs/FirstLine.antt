@@ -32,7 +32,7 @@ line-above (x ∷ xs) = go (nat_lt 13 x) refl (line-above xs)
         omega (arith, count, behind, here, more)
     go false e more = rw e (omega arith)
 
--- and so are another byte that is no ending, and bytes above CR behind it
+-- and so are another byte that is no ending, and bytes above CR after it
 pub line-more : (text : List ℕ) (at n : ℕ) → at < length text → get_or text at 0 ≢ 10 → get_or text at 0 ≢ 13 →
     line_len text ≡ at + line_len (drop at text) →
     n ≡ prefix_len (nat_lt 13) (take (length text - (at + 1)) (drop (at + 1) text)) →

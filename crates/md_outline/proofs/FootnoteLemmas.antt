@@ -1,4 +1,4 @@
--- A footnote definition that has begun: an outline tells the line of its label its text.
+-- A footnote definition that has begun: an outline shows the line of its label its text.
 use Rattle.std.proofs.Common.{◌≡◌, ℕ, ◌+◌, true, List, [], ◌∷◌, ◌++◌, slice_range, refl, sym, ◌∙◌, ap, subst}
 use Rattle.std.proofs.Common.{append_assoc}
 use Rattle.std.specs.Prelude.{Option, Some, None}

@@ -1,4 +1,4 @@
--- The events of frontmatter, one behind the other: from where in it to where they go.
+-- The events of frontmatter, one after the other: from where in it to where they go.
 --
 -- Each fence, line ending and text of it has a lemma here. `passes-append` puts them together, from `at_front` to
 -- `behind_front`, and all of it is `passes-front`.
@@ -13,7 +13,7 @@ use Rattle.md_seam.proofs.SpelledLemmas.{Quiet, Roles}
 use Rattle.md_outline.specs.LinesStand.{AtEnd, AtEnding, AtInfo, AtLine, AtMarkers, Outside, Site}
 use Rattle.md_outline.proofs.LinesPass.{Passes, passes-append, passes-around, passes-leaf, passes-quiet}
 
--- in front of its first fence, on a line that is empty yet, on one that has its text, and behind its last fence
+-- before its first fence, on a line that is empty yet, on one that has its text, and after its last fence
 abbrev pub at_front : Site
 at_front = AtMarkers OfFrontmatter
 

@@ -16,7 +16,7 @@ fitted-same (Heading depth lines) h =
     ap (λ x. Heading (cond x depth 255) lines) byte
 fitted-same _ h = refl
 
--- the lines of a title stand, whatever is told next
+-- the lines of a title are, whatever is said next
 pub title-stands : (text : List ℕ) (now : List (List ℕ)) →
     first_told (trim_each (split_lines text)) now ≡ trim_each (split_lines text)
 title-stands text now = go (split_lines text) (some-split text)

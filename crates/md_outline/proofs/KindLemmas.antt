@@ -49,7 +49,7 @@ unfolding kind_at
 kind-none bytes index h =
     none-first (λ k. has_marker k (drop index bytes)) (λ k. has-bracket k (drop index bytes) h) kinds
 
--- what stands from an index on
+-- what is from an index on
 rest-from : (bytes : List ℕ) (index : ℕ) → slice_range bytes index (length bytes) ≡ drop index bytes
 rest-from bytes index =
     let left = length-drop index bytes in

@@ -64,8 +64,8 @@ part-text _ h = cc
 
 -- Walks.
 
--- A walk over events, which knows where it is: what may stand there, and where it is behind that. In a text part it
--- does not mind what an inline layer gives.
+-- A walk over events, which knows where it is: what may be there, and where it is after that. In a text part it does
+-- not mind what an inline layer gives.
 record Walk (S : Type 0) (W : S → List Event → Type 0) : Type 1 where
   May : S → Kind → Role → Point → Type 0
   next : S → Kind → Role → Point → S
@@ -233,7 +233,7 @@ kept-both S W walk (e ∷ es) =
     let both : (inner : Kept S W walk es) × KeptBehind S W walk es = kept-both S W walk es in
     (kept-step S W walk e es both.0 both.1, both.0)
 
--- whatever stands in the places of chunks, a walk may go over the events
+-- whatever is in the places of chunks, a walk may go over the events
 walk-filled : (S : Type 0) (W : S → List Event → Type 0) → Walk S W → (s : S) (blocks : List Event)
     (plain lists : List (List Event)) → chunks_stand 0 blocks ≡ true → EachInline plain → EachInline lists →
     W s (filled blocks plain) → W s (filled blocks lists)
@@ -281,7 +281,7 @@ parts-walk bytes = record {
   keeps = λ span kind x p text is. parts-keep bytes span kind x p is;
 }
 
--- over lists and footnote definitions that begin: a text part stands where all is told, or is the label of a footnote
+-- over lists and footnote definitions that begin: a text part is where all is said, or is the label of a footnote
 -- definition
 abbrev IsToldText : Stage → Type 0
 IsToldText AllTold = Unit {0}

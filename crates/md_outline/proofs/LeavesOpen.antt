@@ -21,7 +21,7 @@ use Rattle.md_outline.proofs.OutlineAgrees.{Agrees, TextIs, text-lines}
 use Rattle.md_outline.proofs.RoleLemmas.{by-ending}
 use Rattle.md_outline.proofs.SiteTexts.{IsOpen, NoText, begins-texts}
 
--- What is known of it, which has told its markers, its label or its delimiter row or not. It is said of parts of what
+-- What is known of it, which has said its markers, its label or its delimiter row or not. It is said of parts of what
 -- was read, so it holds whatever text is read.
 pub record KnownBy (block : OpenLeaf) (shape : Form) (is_told : Bool) (deep : ℕ) (known : Option OpenLeaf)
     (lines : Option Lined) (list : Option ℕ) (read : Option OpenLeaf) (outer : List OpenContainer) (here : Blocks)
@@ -75,7 +75,7 @@ leaf-begins bytes kind w p s r none is =
       (none, begins-texts s r none is),
     )
 
--- It is changed: by what tells its markers, its label or its delimiter row, or by what does not.
+-- It is changed: by what shows its markers, its label or its delimiter row, or by what does not.
 pub known-told : {block next : OpenLeaf} {shape : Form} {was is_told : Bool} {deep : ℕ} {known known' : Option OpenLeaf}
     {lines lines' : Option Lined} {list : Option ℕ} {read : Option OpenLeaf} {outer : List OpenContainer}
     {here : Blocks} (f : OpenLeaf → OpenLeaf) →

@@ -96,14 +96,14 @@ Lining kind markers info meta lines closed fenced s r =
     Shows (lined_leaf kind markers info meta lines closed) (lined_form kind) fenced
     (λ depth. lined_entries kind depth markers info meta lines closed) s r
 
--- a leaf block with fences has told its markers, if it is said to
+-- a leaf block with fences has said its markers, if it is said to
 abbrev pub IsMarked : LeafKind → List ℕ → Bool → Type 0
 IsMarked OfFence markers fenced = (fenced ≡ true) × ((first_byte markers == 0) ≡ false)
 IsMarked OfMath markers fenced = (fenced ≡ true) × ((first_byte markers == 0) ≡ false)
 IsMarked OfFrontmatter markers fenced = (fenced ≡ true) × ((first_byte markers == 0) ≡ false)
 IsMarked _ markers fenced = Unit {0}
 
--- What is known of it behind its markers, if it has some.
+-- What is known of it after its markers, if it has some.
 abbrev pub Marked : LeafKind → Option (List ℕ) → Option (List ℕ) → List Line → Bool → OutlineState → Reading → Type 0
 Marked kind info meta lines closed s r =
     (markers : List ℕ) × (fenced : Bool) × IsMarked kind markers fenced ×
@@ -132,7 +132,7 @@ text-open kind AsMeta s r is = known-open s r is.1.1.3.0
 text-open kind AsLine s r is = known-open s r is.3.3.0
 text-open kind _ s r is = absurd is
 
--- It begins: a fence does in front of its markers.
+-- It begins: a fence does before its markers.
 first-leaf : (kind : LeafKind) →
     at_fence (lined_leaf kind [] None None [] false) ≡ lined_leaf kind [] None None [] false
 first-leaf OfFence = refl
@@ -263,7 +263,7 @@ markers-told kind line s r h some is =
       ),
     )
 
--- what stands behind them: a text that tells the leaf one thing more, and is shown behind the others
+-- what follows them: a text that shows the leaf one thing more, and is shown after the others
 part-told : (w : Word) (tells : spelled.Purpose) (kind : LeafKind) (info meta info_new meta_new : Option (List ℕ))
     (line : Line) (s : OutlineState) (r : Reading) →
     ((markers : List ℕ) →
@@ -430,7 +430,7 @@ fence-closes kind info meta lines s r h m =
       ),
     )
 
--- its markers are not told again
+-- its markers are not said again
 stands-leaf : (kind : LeafKind) (markers : List ℕ) (fenced : Bool) (info meta : Option (List ℕ)) (lines : List Line)
     (line : Line) → HasFences kind → IsMarked kind markers fenced →
     spelled.noted AsMarkers line (lined_leaf kind markers info meta lines true)

@@ -1,4 +1,4 @@
--- Lines of an outline that are told something, or taken away, and the last of a list.
+-- Lines of an outline that are said something, or taken away, and the last of a list.
 use Rattle.std.proofs.Common.{◌≡◌, ℕ, ◌+◌, ◌-◌, ◌<◌, List, [], ◌∷◌, ◌++◌, length, map, take, get_or, refl, sym, ◌∙◌, ap}
 use Rattle.std.proofs.Common.{arith}
 use Rattle.std.specs.Prelude.{set}
@@ -10,7 +10,7 @@ use Rattle.md_meaning.specs.Outline.{Entry, entry, entry_of}
 use Rattle.md_seam.specs.Events.Spelled.{on_last}
 use Rattle.md_outline.specs.LinedState.{with_head, without_end}
 
--- the line of a word is told more
+-- the line of a word is said more
 pub line-headed : (lines : List OutlineLine) (place : ℕ) (f : Word → Word) (from to : OutlineLine) (w : Word) →
     place < length lines → w ≡ f from.word → from ≡ get_or lines place from → to ≡ get_or lines place to →
     map entry_of (set lines place (record to { word = w })) ≡ with_head f place (map entry_of lines)
@@ -32,7 +32,7 @@ end-dropped lines new n len is en elen =
     ap (map entry_of) is ∙ sym (take-map entry_of n lines)
     ∙ ap (λ k. take k (map entry_of lines)) (omega (arith, en, elen, same))
 
--- behind other lines, and in front of others
+-- after other lines, and before others
 pub head-told : (f : Word → Word) (before behind : List Entry) (e : Entry) →
     with_head f (length before) (before ++ e ∷ behind) ≡ before ++ record e { word = f e.word } ∷ behind
 head-told f before behind e =

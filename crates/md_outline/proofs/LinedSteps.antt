@@ -1,4 +1,4 @@
--- What an outline has read agrees with the tree event by event, where leaf blocks of several lines may stand.
+-- What an outline has read agrees with the tree event by event, where leaf blocks of several lines may be.
 use Rattle.std.proofs.Common.{◌≡◌, ℕ, true, false, cond, List, [], ◌∷◌, ◌++◌, slice_range, refl, sym, ◌∙◌, ap, subst}
 use Rattle.std.specs.Prelude.{None, Option, Some}
 use Rattle.md_engine.specs.declared.event.Kind.{Kind}
@@ -84,7 +84,7 @@ has-meta : (kind : LeafKind) → HasInfo kind → HasMeta kind
 has-meta OfFence h = tt
 has-meta _ h = absurd h
 
--- behind an event in a table
+-- after an event in a table
 table-agrees : (spot : Option TablePlace) (s : OutlineState) (r : Reading) → tabled.AgreesBehind spot s r →
     AgreesWithin (table_site spot) AllTold s r
 table-agrees None s r is = is
@@ -154,8 +154,8 @@ site-open AtTitleText s r is = known-open s r is.0.2.0
 site-open BehindTitleText s r is = known-open s r is.0.4.0
 site-open (InTable spot) s r is = tabled.spot-open spot s r is
 
--- What an outline has read agrees with the tree after each event that may come at a site: after what stands anywhere,
--- and in fences, in the lines behind them, in headings and in definitions.
+-- What an outline has read agrees with the tree after each event that may come at a site: after what is anywhere, and
+-- in fences, in the lines after them, in headings and in definitions.
 agrees-in : (bytes : List ℕ) (site : Site) (kind : Kind) (x : spelled.Role) (p : Point) (s : OutlineState)
     (r : Reading) → parts_by bytes kind x p s.text ≡ true → MayStand bytes site kind x p → AgreesIn site s r →
     AgreesWithin (site_by bytes site kind x p) AllTold (state_by bytes kind (shown_as x) p s) (read_by bytes kind x p r)

@@ -1,4 +1,4 @@
--- Events one behind the other among leaf blocks of several lines: from where in such a leaf block to where they go.
+-- Events one after the other among leaf blocks of several lines: from where in such a leaf block to where they go.
 use Rattle.std.proofs.Common.{◌≡◌, ℕ, Bool, true, false, cond, List, [], ◌∷◌, ◌++◌, length, append_assoc, refl, sym}
 use Rattle.std.proofs.Common.{subst}
 use Rattle.std.specs.Prelude.{nat_lt}
@@ -21,14 +21,14 @@ use Rattle.md_outline.specs.LinesStand.{InDestination}
 use Rattle.md_outline.specs.Roles.{is_plain}
 use Rattle.md_outline.specs.TablePlaces.{AtHead, BehindHead, BehindRow, InCell}
 
--- Events that go from a site to a site: where what stands behind them may stand there, all of it may stand here.
+-- Events that go from a site to a site: where what follows them may be there, all of it may be here.
 abbrev pub Passes : List ℕ → Site → Site → List Event → Type 0
 Passes bytes from to es = (ys : List Event) → LinesStand bytes to ys → LinesStand bytes from (es ++ ys)
 
 pub passes-none : (bytes : List ℕ) (site : Site) → Passes bytes site site []
 passes-none bytes site ys h = h
 
--- of two runs of events, and what stands behind them
+-- of two runs of events, and what follows them
 pub stand-both : (bytes : List ℕ) (site : Site) (xs ys zs : List Event) → LinesStand bytes site (xs ++ (ys ++ zs)) →
     LinesStand bytes site ((xs ++ ys) ++ zs)
 stand-both bytes site xs ys zs h = subst (LinesStand bytes site) (sym (append_assoc xs ys zs)) h
@@ -91,13 +91,13 @@ passes-quiet bytes site es h = passes-by bytes Quiet site es one h
 
 -- Between the lines of such a leaf block.
 
--- on a line of it, but not behind a further fence
+-- on a line of it, but not after a further fence
 abbrev pub IsOnLine : Site → Type 0
 IsOnLine (AtEnding kind) = Unit {0}
 IsOnLine (AtLine kind) = Unit {0}
 IsOnLine _ = ⊥
 
--- prefixes of containers may stand there,
+-- prefixes of containers may be there,
 pub passes-prefixes : (bytes : List ℕ) (site : Site) (es : List Event) → IsOnLine site → Roles QuietOrPrefix es →
     Passes bytes site site es
 passes-prefixes bytes site es on h = passes-by bytes QuietOrPrefix site es (λ x. one site x on) h
@@ -110,7 +110,7 @@ passes-prefixes bytes site es on h = passes-by bytes QuietOrPrefix site es (λ x
     one (AtLine k) x on h Exit p = search
     one _ x on h kind p = absurd on
 
--- and an ending, behind which one is here
+-- and an ending, after which one is here
 abbrev pub ended_site : List ℕ → Point → Site → Site
 ended_site bytes q site = site_by bytes site Exit IsEnding q
 
@@ -175,7 +175,7 @@ passes-leaf bytes name kind p q site es is lined leave h =
 
 -- Headings.
 
--- in a text part endings may stand,
+-- in a text part endings may be,
 abbrev pub IsTextSite : Site → Type 0
 IsTextSite Outside = Unit {0}
 IsTextSite (InText kind purpose) = Unit {0}
@@ -198,15 +198,15 @@ pub passes-inline : (bytes : List ℕ) (site : Site) (es : List Event) → IsTex
     Passes bytes site site es
 passes-inline bytes site es text h = passes-by bytes QuietOrEnding site es (λ x. text-keeps bytes site x text) h
 
--- as in that of an ATX heading, in which no prefix stands
+-- as in that of an ATX heading, in which no prefix is
 pub passes-atx_text : (bytes : List ℕ) (name : Name) (p q : Point) (es : List Event) → role name ≡ TextRole AsHeading →
     Roles QuietOrEnding es → Passes bytes Outside Outside (around name p q es)
 passes-atx_text bytes name p q es is h =
     passes-around bytes Outside InAtxText InAtxText Outside (TextRole AsHeading) name p q es is (tt, refl)
     (passes-inline bytes InAtxText es tt h) (tt, refl)
 
--- in the text of a setext heading, and behind it, endings and prefixes may stand; and so they may in a part of a
--- definition that is parted, between its parts, and between the rows of a table
+-- in the text of a setext heading, and after it, endings and prefixes may be; and so they may in a part of a definition
+-- that is parted, between its parts, and between the rows of a table
 abbrev pub TakesLines : Site → Type 0
 TakesLines InTitle = Unit {0}
 TakesLines BehindTitle = Unit {0}
@@ -234,7 +234,7 @@ passes-title bytes name p q es is h =
     passes-around bytes AtTitle InTitle InTitle BehindTitle (TextRole AsHeading) name p q es is (tt, refl)
     (passes-lines bytes InTitle es tt h) (tt, refl)
 
--- what stands between that and its underline
+-- what is between that and its underline
 pub passes-gap : (bytes : List ℕ) (es : List Event) → Roles Between es → Passes bytes BehindTitle BehindTitle es
 passes-gap bytes es h = passes-lines bytes BehindTitle es tt h
 

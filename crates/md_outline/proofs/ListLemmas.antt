@@ -1,5 +1,5 @@
--- Lists that have begun: an outline tells each the marker of its first item. And footnote definitions that have: of
--- these `FootnoteLemmas` has what is told.
+-- Lists that have begun: an outline shows each the marker of its first item. And footnote definitions that have: of
+-- these `FootnoteLemmas` has what is said.
 use Rattle.std.proofs.Common.{◌≡◌, ℕ, ◌+◌, ◌<◌, Bool, true, false, List, [], ◌∷◌, ◌++◌, length, map, get_or}
 use Rattle.std.proofs.Common.{slice_range, refl, sym, ◌∙◌, ap, subst, append_assoc, arith}
 use Rattle.std.specs.Prelude.{Option, Some, None, set, ◌==◌}
@@ -47,7 +47,7 @@ line-marked lines place text line b within first is =
     ∙ ap (λ (e : Entry). at (record e { word = word.List (first_byte text) }))
     (ap entry_of is ∙ sym (get_or-map entry_of lines place line (entry 0 word.Item) within))
 
--- behind other entries, and in front of others
+-- after other entries, and before others
 entry-marked : (before behind : List Entry) (depth place : ℕ) (text : List ℕ) → place ≡ length before →
     with_marker place text (before ++ entry depth (word.List 0) ∷ behind)
     ≡ before ++ entry depth (word.List (first_byte text)) ∷ behind
@@ -90,7 +90,7 @@ item-told _ b d h m = absurd h
 
 -- What agrees where a list has begun.
 
--- it stands behind these blocks, and its line is not told its marker
+-- it is after these blocks, and its line is not said its marker
 pub record ListWaits (shape : Shape) (untold : Option ℕ) (lined : Option Lined) (known read : Option OpenLeaf)
     : Type 0 where
   pub list : IsList shape
@@ -194,7 +194,7 @@ item-begins bytes shape m d p s r zero k is =
           is.text;
     }
 
--- a text begins in front of its marker
+-- a text begins before its marker
 front-begins : (shape : Shape) (p : Point) (s : OutlineState) (r : Reading) → is_unparted s.text ≡ true →
     AwaitsMarker shape s r →
     AwaitsMarker shape
@@ -317,7 +317,7 @@ marker-ends bytes shape p q s r (Some span) (Some text) is e h k m =
 
 -- All events.
 
--- what agrees still does behind an event
+-- what agrees still does after an event
 pub agrees-stage : (bytes : List ℕ) (stage : Stage) (kind : Kind) (x : spelled.Role) (p : Point) (s : OutlineState)
     (r : Reading) → is_listed x ≡ true → IsFresh x → parts_by bytes kind x p s.text ≡ true →
     are_shallow (read_by bytes kind x p r).here ≡ true → MayFollow bytes stage kind x p → AgreesAt stage s r →

@@ -57,7 +57,7 @@ abbrev pub KnowsOpen : Option OpenLeaf → Type 0
 KnowsOpen None = Unit {0}
 KnowsOpen (Some leaf) = Knows leaf
 
--- the text that is read, by where it begins or goes on, where it is a block of its own if it is parted
+-- the text that is read, by where it begins or continues, where it is a block of its own if it is parted
 abbrev pub TextIs : List Entry → ℕ → List Entry → Option TextSpan → Option Text → Type 0
 TextIs before depth lines None None = lines ≡ before
 TextIs before depth lines (Some span) (Some text) =
@@ -66,7 +66,7 @@ TextIs before depth lines (Some span) (Some text) =
 TextIs before depth lines None (Some text) = ⊥
 TextIs before depth lines (Some span) None = ⊥
 
--- what was read of some events is what is known of the half-read tree, where no list is to be told its marker
+-- what was read of some events is what is known of the half-read tree, where no list is to be said its marker
 pub record Agrees (s : OutlineState) (r : Reading) : Type 0 where
   pub depth : s.depth ≡ depth_of r.outer
   pub words : HaveWords r.outer r.here
@@ -123,7 +123,7 @@ agrees-leaf s r (Some leaf) k d is =
           is.text;
     }
 
--- a leaf that an outline knows is told of a text, and meets a line ending
+-- a leaf that an outline knows is said of a text, and meets a line ending
 known-noted : (y : Note) (text : List ℕ) (leaf : Option OpenLeaf) → KnowsOpen leaf →
     KnowsOpen (option_map (noted y text) leaf)
 known-noted y text None k = tt
@@ -421,7 +421,7 @@ agrees-quote_marker bytes p s r is =
     (sym is.leaf)
     (agrees-given bytes p s r s.text r.text r.leaf r.here refl refl refl is.text is))
 
--- What stands in no text that is parted.
+-- What is in no text that is parted.
 pub apart : (bytes : List ℕ) (kind : Kind) (x : spelled.Role) (p : Point) (span : Option TextSpan) →
     ((t : TextSpan) → parts_by bytes kind x p (Some t) ≡ not t.is_parted) → parts_by bytes kind x p span ≡ true →
     is_unparted span ≡ true

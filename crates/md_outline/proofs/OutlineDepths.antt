@@ -1,4 +1,4 @@
--- As many containers are open behind some events as names are.
+-- As many containers are open after some events as names are.
 use Rattle.std.proofs.Common.{◌≡◌, ℕ, ◌+◌, ◌-◌, List, [], ◌∷◌, refl, ◌∙◌, ap, arith}
 use Rattle.std.specs.Prelude.{Option, Some, None}
 use Rattle.md_engine.specs.declared.event.Event.{Event}
@@ -84,7 +84,7 @@ none-open : (outer : List OpenContainer) → depth_of outer ≡ 0 → outer ≡ 
 none-open [] h = refl
 none-open (around ∷ outer) h = let no : ⊥ = omega (arith, h) in absurd no
 
--- where events are balanced, no container is open behind them
+-- where events are balanced, no container is open after them
 pub all-closed : (bytes : List ℕ) (events : List Event) → Balanced events → (read bytes unread events).outer ≡ []
 all-closed bytes events b =
     none-open (read bytes unread events).outer (depth-all bytes events unread [] b.matches refl ∙ ap held b.closed)

@@ -96,7 +96,7 @@ span-step bytes Enter (TextRole AsHeading) p s = refl
 span-step bytes _ (ContainerRole OrderedShape) p s = refl
 span-step bytes _ _ p s = refl
 
--- one event stands where it may, and so do those behind it
+-- one event is where it may, and so do those after it
 parted-step : (bytes : List ℕ) (e : Event) (events : List Event) (s : OutlineState) →
     are_parted bytes s.text (e ∷ events) ≡ true →
     (parts_by bytes e.kind (spelled.role e.name) e.point s.text ≡ true) ×
@@ -149,7 +149,7 @@ names-shown (e ∷ events) h =
     and_from (has_shown_name e) (list_all has_shown_name events) (shown-unlisted (spelled.role e.name) names.0)
     (names-shown events names.1)
 
--- and they may all stand between characters, whatever the tree reads.
+-- and they may all are between characters, whatever the tree reads.
 
 between-seen : (x y : Bool) → y ≡ true → (not x || y) ≡ true
 between-seen true y h = h
@@ -179,7 +179,7 @@ part-is_text bytes part span end text is cut epart =
     subst IsUtf8 (sym epart)
     (utf8-part bytes span.from end cut.utf8 (subst (BeginsBetween bytes) is cut.begins) cut.ends)
 
--- a text ends: it is told
+-- a text ends: it is said
 pub text-end : (bytes part : List ℕ) (span : TextSpan) (end : ℕ) (text : Option TextSpan) (x y : Purpose)
     (s next : OutlineState) → text ≡ Some span → x ≡ y → part ≡ slice_range bytes span.from end →
     (IsUtf8 part → next ≡ told y span.is_parted part (record s { text = None })) → IsCutAt bytes text end →
@@ -259,7 +259,7 @@ same-purpose r x y one other = ap purpose_of (sym one ∙ other)
 
 -- The loop over the events.
 
--- a text that begins or goes on at an event does so between characters
+-- a text that begins or continues at an event does so between characters
 begins-step : (bytes : List ℕ) (kind : Kind) (x : spelled.Role) (p : Point) (span : Option TextSpan) →
     (not (is_told x) || is_between bytes (byte_at p)) ≡ true → parts_by bytes kind x p span ≡ true →
     BeginsBetween bytes span → BeginsBetween bytes (span_by kind x p span)
@@ -272,7 +272,7 @@ begins-step bytes Exit IsPrefix p (Some span) t k h = k
 begins-step bytes Enter _ p span t k h = h
 begins-step bytes Exit _ p span t k h = h
 
--- and it may be cut at an event that stands so
+-- and it may be cut at an event that is so
 cut-by : (y : Role) (bytes : List ℕ) (text : Option TextSpan) (end : ℕ) → IsUtf8 bytes → BeginsBetween bytes text →
     (not (is_seen y) || is_between bytes end) ≡ true → IsCutBy y bytes text end
 cut-by role.Ending bytes text end u begins h = tt
@@ -285,8 +285,8 @@ all-at : (p : Event → Bool) (events : List Event) (i : ℕ) (d : Event) → i 
     p (get_or events i d) ≡ true
 all-at p events i d lt h = All-get_or (λ (e : Event). p e ≡ true) events i d lt (AllPass-from_list_all p events h)
 
--- what is known before each event: where the text begins, that the events to come stand where they may, and what they
--- come to
+-- what is known before each event: where the text begins, that the events to come are where they may, and what they
+-- become
 pub record Goes (bytes : List ℕ) (events : List Event) (s all : OutlineState) : Type 0 where
   pub begins : BeginsBetween bytes s.text
   pub parted : are_parted bytes s.text events ≡ true

@@ -39,7 +39,7 @@ use Rattle.md_outline.proofs.ClosedTrees.{HasWord}
 abbrev pub Knows : OpenLeaf → Type 0
 Knows leaf = is_known leaf ≡ true
 
--- they stay so, whatever they are told
+-- they stay so, whatever they are said
 pub knows-noted : (x : Note) (text : List ℕ) (leaf : OpenLeaf) → Knows leaf → Knows (noted x text leaf)
 knows-noted note.Markers text (CodeLeaf lines) k = k
 knows-noted note.Markers text _ k = k
@@ -53,7 +53,7 @@ knows-line _ k = cc
 
 -- Roles.
 
--- A container that is shown by a word, as it begins, and tells no other.
+-- A container that is shown by a word, as it begins, and shows no other.
 pub record IsShownBy (shape : Shape) (w : Word) : Type 0 where
   pub line : (depth : ℕ) → block_entries depth (block_around shape End) ≡ container_lines depth w
   pub none : HasWord shape End
@@ -120,14 +120,14 @@ role-fresh _ = tt
 
 -- Texts and line endings, of all roles.
 
--- what a text tells a leaf block is noted there
+-- what a text shows a leaf block is noted there
 pub note-told : (x : Note) (line : Line) (r : Reading) →
     spelled.told (told_as x) line r ≡ on_leaf (noted x line.text) r
 note-told note.Markers line r = refl
 note-told note.Title line r = refl
 
 -- What is known of a half-read tree when it has one block more, when its innermost container is named, and when its
--- leaf block is told something: so it is behind each text.
+-- leaf block is said something: so it is after each text.
 pub record ByTold (P : Reading → Type 0) (r : Reading) : Type 0 where
   pub block : (b : Block) → P (add_block b r)
   pub named : (f : Shape → Shape) → P (record r { outer = on_shape f r.outer })
@@ -148,7 +148,7 @@ by-told_at P bytes x p None r none by = none
 by-told_at P bytes x p (Some text) r none by =
     by-told P x (record { spaces = text.spaces; text = text_to bytes p.index text }) (record r { text = None }) by
 
--- and behind a marker of a quote, which may give it a kind,
+-- and after a marker of a quote, which may give it a kind,
 pub by-marker : (P : Reading → Type 0) (bytes : List ℕ) (p : Point) (r : Reading) → P r →
     ((kind : Option AlertKind) → P (record r { outer = on_shape (with_kind kind) r.outer })) →
     P (read_enter bytes IsQuoteMarker p r)
@@ -158,7 +158,7 @@ by-marker P bytes p r same given = go (is_before_blocks r.text r.leaf r.here)
     go true = given (kind_at bytes p.index)
     go false = same
 
--- and behind a line ending, which may open a line of the leaf block
+-- and after a line ending, which may open a line of the leaf block
 pub by-ending : (P : Reading → Type 0) (bytes : List ℕ) (p : Point) (text : Option Text) (r : Reading) → P r →
     P (on_leaf next_line r) → P (at_ending bytes p text r)
 by-ending P bytes p (Some text) r same next = same

@@ -1,4 +1,4 @@
--- Blocks that were read in front of some events stay in front of what these are read as.
+-- Blocks that were read before some events stay before what these are read as.
 use Rattle.std.proofs.Common.{◌≡◌, ℕ, Bool, true, false, cond, List, [], ◌∷◌, ◌++◌, append_assoc, length, nat_lt, refl}
 use Rattle.std.proofs.Common.{sym, ◌∙◌, ap}
 use Rattle.std.proofs.lemmas.Bool.{and_from, and_parts}
@@ -18,9 +18,9 @@ use Rattle.md_seam.specs.Events.Spelled.{is_before_blocks, kind_at, on_shape, wi
 use Rattle.md_seam.specs.Events.Spelled.{block_around, told_at, unread}
 use Rattle.md_seam.specs.Events.Throughout.{all_blocks, all_within}
 
--- Behind blocks.
+-- After blocks.
 
--- blocks in front of others
+-- blocks before others
 abbrev pub then_blocks : Blocks → Blocks → Blocks
 then_blocks End bs = bs
 then_blocks (More b front) bs = More b (then_blocks front bs)
@@ -34,13 +34,13 @@ then-last : (bs here : Blocks) (block : Block) →
 then-last End here block = refl
 then-last (More b bs) here block = ap (λ (rest : Blocks). More b rest) (then-last bs here block)
 
--- containers, of which the outermost is behind these blocks
+-- containers, of which the outermost is after these blocks
 abbrev shift_outer : Blocks → List OpenContainer → List OpenContainer
 shift_outer bs [] = []
 shift_outer bs (a ∷ []) = record a { before = then_blocks bs a.before } ∷ []
 shift_outer bs (a ∷ next ∷ outer) = a ∷ shift_outer bs (next ∷ outer)
 
--- blocks in the innermost of these containers, behind these blocks if there are none
+-- blocks in the innermost of these containers, after these blocks if there are none
 abbrev shift_here : Blocks → List OpenContainer → Blocks → Blocks
 shift_here bs [] here = then_blocks bs here
 shift_here bs (a ∷ outer) here = here
@@ -191,7 +191,7 @@ shifts bs bytes r (e ∷ es) =
     ap (λ (x : Reading). read bytes x es) (one bs bytes e.kind (role e.name) e.point r)
     ∙ shifts bs bytes (read_by bytes e.kind (role e.name) e.point r) es
 
--- So they are in front of the blocks of some events, if no container is left open.
+-- So they are before the blocks of some events, if no container is left open.
 pub read-then : (bs : Blocks) (bytes : List ℕ) (es : List Event) → (read bytes unread es).outer ≡ [] →
     (read bytes (record unread { here = bs }) es).here ≡ then_blocks bs (read bytes unread es).here
 read-then bs bytes es shut =
@@ -204,7 +204,7 @@ pub read-behind : (b : Block) (bytes : List ℕ) (es : List Event) → (read byt
     (read bytes (record unread { here = More b End }) es).here ≡ More b (read bytes unread es).here
 read-behind b bytes es shut = read-then (More b End) bytes es shut
 
--- What is known of the blocks in front and of those behind them is known of all, and the other way round.
+-- What is known of the blocks in front and of those after them is known of all, and the other way round.
 
 pub outline-blocks : (depth : ℕ) (front bs : Blocks) →
     outline depth (then_blocks front bs) ≡ outline depth front ++ outline depth bs

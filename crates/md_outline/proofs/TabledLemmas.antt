@@ -31,7 +31,7 @@ use Rattle.md_outline.proofs.OutlineAgrees.{Agrees}
 use Rattle.md_outline.proofs.SiteTexts.{IsOpen, NoText, TextFrom, from-here, marker-within}
 use Rattle.md_outline.proofs.SiteTexts.{prefix-enter, prefix-exit, text-ending, text-ends}
 
--- What is known of one that is open, which has told its delimiter row or not, and of what was shown of it.
+-- What is known of one that is open, which has said its delimiter row or not, and of what was shown of it.
 abbrev Tabled : TableSoFar → Bool → (ℕ → List Entry) → OutlineState → Reading → Type 0
 Tabled table is_told lines s r = Shows (TableLeaf table) form.Table is_told lines s r
 
@@ -66,7 +66,7 @@ Rows s r =
     (delimiter : List ℕ) × (head : List (List ℕ)) × (rows : List (List (List ℕ))) ×
     Tabled (grid delimiter (head ∷ rows)) true (all_lines delimiter (head ∷ rows)) s r
 
--- in front of its head
+-- before its head
 abbrev pub NoRow : OutlineState → Reading → Type 0
 NoRow s r = Tabled (grid [] []) false (λ depth. entry depth (word.Table 0) ∷ []) s r
 
@@ -96,7 +96,7 @@ spot-open BehindHead s r is = row-open HeadRow is.0.0 s r is.0.1
 spot-open InDelimiter s r is = row-open HeadRow is.0.0 s r is.0.1
 spot-open BehindRow s r is = known-open s r is.0.3.0
 
--- and behind an event there
+-- and after an event there
 abbrev pub AgreesBehind : Option TablePlace → OutlineState → Reading → Type 0
 AgreesBehind None s r = Agrees s r
 AgreesBehind (Some spot) s r = AgreesSpot spot s r
@@ -143,7 +143,7 @@ body-cell depth delimiter head rows cells cell =
     ∙ sym (append_assoc front (row_entries (depth + 1) cells) more)
     ∙ ap (λ es. es ++ more) (sym (row-added depth delimiter head rows cells))
 
--- the last line is told a text
+-- the last line is said a text
 line-filled : (before front lines from to : List Entry) (e f : Entry) → lines ≡ before ++ from →
     from ≡ front ++ e ∷ [] → to ≡ front ++ f ∷ [] → without_end lines ++ f ∷ [] ≡ before ++ to
 line-filled before front lines from to e f is efrom eto =
@@ -220,7 +220,7 @@ cell-begins BodyRow cells s r h =
       ),
     )
 
--- Its text is told.
+-- Its text is said.
 
 abbrev with_text : List ℕ → List (List ℕ) → List (List ℕ)
 with_text text cells = on_last (λ (cell : List ℕ). first_told cell text) cells

@@ -1,4 +1,4 @@
--- The events of a table, one behind the other: from where in it to where they go.
+-- The events of a table, one after the other: from where in it to where they go.
 use Rattle.std.proofs.Common.{◌≡◌, ℕ, List, refl}
 use Rattle.md_engine.specs.declared.event.Event.{Event}
 use Rattle.md_engine.specs.declared.event.Name.{Name}
@@ -23,7 +23,7 @@ passes-table bytes name p q es is h =
     (tt, refl) h
     (tt, refl)
 
--- What the tree does not show may stand everywhere,
+-- What the tree does not show may be everywhere,
 pub passes-unshown : (bytes : List ℕ) (spot : TablePlace) (es : List Event) → Roles Quiet es →
     PassesIn bytes spot spot es
 passes-unshown bytes spot es h = passes-quiet bytes (InTable spot) es h

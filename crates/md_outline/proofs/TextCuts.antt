@@ -1,4 +1,4 @@
--- Parts of UTF-8 texts: a text that is cut beside bytes of ASCII or behind its mark, and its lines.
+-- Parts of UTF-8 texts: a text that is cut beside bytes of ASCII or after its mark, and its lines.
 use Rattle.std.proofs.Common.{◌≡◌, ℕ, suc, ◌+◌, ◌-◌, ◌<◌, ◌≤◌, Bool, true, false, cond, ◌&&◌, ◌||◌, ◌==◌, not, List, []}
 use Rattle.std.proofs.Common.{◌∷◌, ◌++◌, length, take, drop, get_or, slice_range, inl, inr, ◌⊎◌, Result, Ok, Err, refl}
 use Rattle.std.proofs.Common.{sym, ◌∙◌, ap, subst, append_assoc, append-nil, arith, reverse}
@@ -30,19 +30,19 @@ use Rattle.md_meaning.proofs.TextsLemmas.{split-byte}
 use Rattle.md_outline.specs.Between.{is_between}
 use Rattle.md_outline.specs.TextLines.{after_ending, first_as, first_full_as, full_as, line_len, lines_as}
 
--- behind a byte of ASCII
+-- after a byte of ASCII
 boundary-behind : (bytes : List ℕ) (i : ℕ) → IsUtf8 bytes → 0 < i → i ≤ length bytes → get_or bytes (i - 1) 0 < 128 →
     IsCharBoundary bytes i
 boundary-behind bytes i u some within ascii =
     let here : i - 1 + 1 ≡ i = omega arith in
     subst (IsCharBoundary bytes) here (IsCharBoundary-after_ascii bytes (i - 1) u (omega arith) ascii)
 
--- behind a byte order mark, which is one character
+-- after a byte order mark, which is one character
 boundary-mark : (bytes : List ℕ) → IsUtf8 bytes → has_mark bytes ≡ true → IsCharBoundary bytes 3
 unfolding encode
 boundary-mark bytes u h = IsCharBoundary-past_char bytes (drop 3 bytes) 0 65279 (omega arith) u (mark-bytes bytes h)
 
--- a place in a text that stands beside ASCII, or behind the mark, is the boundary of a character
+-- a place in a text that is beside ASCII, or after the mark, is the boundary of a character
 pub boundary-between : (bytes : List ℕ) (i : ℕ) → IsUtf8 bytes → is_between bytes i ≡ true → i ≤ length bytes →
     IsCharBoundary bytes i
 boundary-between bytes i u between within =
@@ -109,11 +109,11 @@ utf8-line text u = go (cases_lt (line_len text) (length text))
     go (inl lt) = IsUtf8-take text (line_len text) u (line-boundary text lt)
     go (inr le) = subst IsUtf8 (sym (take_all (line_len text) text le)) u
 
--- what stands behind a byte of ASCII
+-- what follows a byte of ASCII
 utf8-tail : (b : ℕ) (bytes : List ℕ) → IsUtf8 (b ∷ bytes) → b < 128 → IsUtf8 bytes
 utf8-tail b bytes u ascii = IsUtf8-drop (b ∷ bytes) 1 u (IsCharBoundary-after_ascii (b ∷ bytes) 0 u (omega arith) ascii)
 
--- what stands behind a line, from its ending on
+-- what follows a line, from its ending on
 utf8-ending : (text : List ℕ) → IsUtf8 text → IsUtf8 (drop (line_len text) text)
 utf8-ending text u = go (cases_lt (line_len text) (length text))
   where
@@ -136,7 +136,7 @@ utf8-behind b bytes ending u =
         by false e = v
         by true e = utf8-tail c bytes v (let ten : c ≡ 10 = eqb-true c 10 e in omega arith)
 
--- a text keeps what it is without the spaces and tabs in front of it
+-- a text keeps what it is without the spaces and tabs before it
 pub utf8-trim : (text : List ℕ) → IsUtf8 text → IsUtf8 (trim_start text)
 utf8-trim [] u = u
 utf8-trim (b ∷ bytes) u = go (is_white b) refl (utf8-trim bytes)
@@ -149,7 +149,7 @@ utf8-trim (b ∷ bytes) u = go (is_white b) refl (utf8-trim bytes)
         let one : 1 + prefix_len is_white bytes ≡ suc (prefix_len is_white bytes) = omega arith in
         rw one (trimmed (utf8-tail b bytes u ascii))
 
--- nor without those behind it
+-- nor without those after it
 pub utf8-trim_end : (text : List ℕ) → IsUtf8 text → IsUtf8 (trim_end text)
 utf8-trim_end text u = go (cases_lt at (length text))
   where
@@ -184,7 +184,7 @@ text-lent (Err e) d bytes Q h u = absurd (h.0 u)
 
 -- Lines.
 
--- a text that is read as its first bytes and what stands behind them: nothing, or the ending of its first line
+-- a text that is read as its first bytes and what follows them: nothing, or the ending of its first line
 abbrev Splits : List ℕ → ℕ → List ℕ → Type 0
 Splits text k [] = split_lines text ≡ take k text ∷ []
 Splits text k (b ∷ bytes) =
@@ -239,9 +239,9 @@ splits (c ∷ bytes) = go (is_ending c) refl (splits bytes)
         subst (λ x. SplitsAt (c ∷ bytes) (cond (not x) (1 + line_len bytes) 0)) (sym e)
         (subst (SplitsAt (c ∷ bytes)) next (splits-inside c bytes (line_len bytes) (drop (line_len bytes) bytes) e h))
 
--- One line of a paragraph's text, and those behind its ending.
+-- One line of a paragraph's text, and those after its ending.
 
--- an ending behind it
+-- an ending after it
 utf8-after : (text : List ℕ) (k : ℕ) (behind : List ℕ) → Splits text k behind → IsUtf8 behind →
     IsUtf8 (after_ending behind)
 utf8-after text k [] h u = u
@@ -257,7 +257,7 @@ split-last : (text : List ℕ) (k : ℕ) (behind : List ℕ) → Splits text k b
 split-last text k [] h none = h
 split-last text k (b ∷ bytes) h none = let some : ⊥ = omega (arith, eqb-true (length (b ∷ bytes)) 0 none) in absurd some
 
--- a line is shown without the spaces and tabs in front of it
+-- a line is shown without the spaces and tabs before it
 shown-line : (left line text : List ℕ) (k : ℕ) → k ≡ line_len left → line ≡ take k left → IsUtf8 left →
     (IsUtf8 line → text ≡ trim_start line) → text ≡ trim_start (take (line_len left) left)
 shown-line left line text k ek eline u shows =
@@ -287,7 +287,7 @@ lines-parted [] h = absurd h
 lines-parted (line ∷ []) h = refl
 lines-parted (line ∷ next ∷ lines) h = ap (λ ls. line ∷ ls) (lines-parted (next ∷ lines) tt)
 
--- a line that has an ending was shown: what is left of the text is what stands behind the ending
+-- a line that has an ending was shown: what is left of the text is what follows the ending
 pub lines-next : (w : Word) (depth : ℕ) (done next : List Entry) (left line ending left' text : List ℕ) (k : ℕ) →
     k ≡ line_len left → line ≡ take k left → ending ≡ drop k left → (length ending == 0) ≡ false →
     left' ≡ after_ending ending →
@@ -349,7 +349,7 @@ line-trimmed text long none =
     let whole : take (line_len text) text ≡ text = take_all (line_len text) text (omega (arith, long)) in
     ap trim_each one ∙ ap (λ l. trim_start l ∷ []) whole ∙ ap (λ n. drop n text ∷ []) none
 
--- the last line is shown behind those that have an ending
+-- the last line is shown after those that have an ending
 pub lines-all : (w : Word) (depth : ℕ) (before done next : List Entry) (text rest shown : List ℕ) →
     rest ≡ last_line (split_lines text) → done ≡ before ++ full_as w depth text → shown ≡ trim_start rest →
     next ≡ done ++ entry_with depth w shown ∷ [] → next ≡ before ++ lines_as w depth text
@@ -365,7 +365,7 @@ lines-all w depth before done next text rest shown erest edone eshown enext =
 
 -- Pieces.
 
--- lines behind some bytes of the same line
+-- lines after some bytes of the same line
 abbrev onto_line : List ℕ → List (List ℕ) → List (List ℕ)
 onto_line front [] = front ∷ []
 onto_line front (line ∷ lines) = (front ++ line) ∷ lines
@@ -386,7 +386,7 @@ onto-none : (lines : List (List ℕ)) → Some_line lines → onto_line [] lines
 onto-none [] h = absurd h
 onto-none (line ∷ lines) h = refl
 
--- a text is split where a piece ends: its last line goes on in what follows
+-- a text is split where a piece ends: its last line continues in what follows
 pub split-piece : (piece rest : List ℕ) → begins_with 10 rest ≡ false →
     split_lines (piece ++ rest) ≡
     without_last (split_lines piece) ++ onto_line (last_line (split_lines piece)) (split_lines rest)
@@ -412,7 +412,7 @@ split-piece (b ∷ bs) rest h =
     go false true lines all some e = e
     go false false lines all some e = ap (onto_first b) e ∙ onto-byte b lines (split_lines rest) some
 
--- whitespace in front of a line is trimmed
+-- whitespace before a line is trimmed
 pub trim-blank : (front line : List ℕ) → is_blank front ≡ true → trim_start (front ++ line) ≡ trim_start line
 trim-blank [] line h = refl
 trim-blank (b ∷ front) line h =
@@ -439,9 +439,9 @@ piece-entries w depth piece rest h blank =
     ∙ ap (λ ls. full_as w depth piece ++ entries depth w ls)
     (trim-onto (last_line (split_lines piece)) (split_lines rest) (some-split rest) blank)
 
--- The first line of a text, which is shown as it stands.
+-- The first line of a text, which is shown as it is.
 
--- it is a text, and so is what stands behind its ending
+-- it is a text, and so is what follows its ending
 pub first-shown : (w : Word) (depth : ℕ) (before done : List Entry) (text line ending rest shown : List ℕ) (k : ℕ) →
     k ≡ line_len text → line ≡ take k text → ending ≡ drop k text → rest ≡ after_ending ending → IsUtf8 text →
     (IsUtf8 line → shown ≡ line) → done ≡ before ++ entry_with depth w shown ∷ [] →
@@ -456,7 +456,7 @@ first-shown w depth before done text line ending rest shown k ek eline eending e
           (shows (subst IsUtf8 (sym first) (utf8-line text u)) ∙ first),
     )
 
--- with those behind it that have an ending
+-- with those after it that have an ending
 pub first-full : (w : Word) (depth : ℕ) (before done next : List Entry) (text line ending rest shown : List ℕ) (k : ℕ) →
     k ≡ line_len text → line ≡ take k text → ending ≡ drop k text → rest ≡ after_ending ending → IsUtf8 text →
     (IsUtf8 line → shown ≡ line) → done ≡ before ++ entry_with depth w shown ∷ [] →
@@ -504,7 +504,7 @@ abbrev Some_byte : List ℕ → Type 0
 Some_byte [] = ⊥
 Some_byte (b ∷ bytes) = Unit {0}
 
--- something stands behind the first line where there is an ending
+-- something is after the first line where there is an ending
 any-behind : (text : List ℕ) → list_any is_ending text ≡ true → Some_byte (drop (line_len text) text)
 any-behind [] h = absurd (true≢false (sym h))
 any-behind (c ∷ bytes) h = go (is_ending c) refl (any-behind bytes)

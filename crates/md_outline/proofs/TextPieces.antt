@@ -13,7 +13,7 @@ use Rattle.md_outline.specs.TextLines.{full_entries, text_entries}
 use Rattle.md_outline.proofs.TextCuts.{piece-entries}
 
 -- What was shown of a text: nothing before the first prefix in it, and then the lines with which its block begins, and
--- those in front of the last prefix; what follows will be shown by its own lines.
+-- those before the last prefix; what follows will be shown by its own lines.
 abbrev pub Pieces : List Entry → List Entry → ℕ → List Entry → Bool → List ℕ → Type 0
 Pieces before begin depth lines false front = (lines ≡ before) × (front ≡ [])
 Pieces before begin depth lines true front = (full : List Entry) ×

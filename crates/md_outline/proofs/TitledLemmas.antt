@@ -32,7 +32,7 @@ use Rattle.md_outline.proofs.LinedLines.{head-told}
 use Rattle.md_outline.proofs.SiteTexts.{NoText, TextFrom, text-ends}
 use Rattle.md_outline.proofs.TextPieces.{Pieces, begun_by, pieces-last, pieces-next}
 
--- What is known of one that is open, which has told its markers or not.
+-- What is known of one that is open, which has said its markers or not.
 abbrev pub Titled : HeadingSoFar → Bool → OutlineState → Reading → Type 0
 Titled heading marked s r = Known (HeadingSetextLeaf heading) form.Heading marked s r
 
@@ -42,7 +42,7 @@ Headed level heading marked s r =
     Shows (HeadingSetextLeaf heading) form.Heading marked
     (λ depth. block_entries depth (Heading level heading.text)) s r
 
--- with these lines, in front of its markers
+-- with these lines, before its markers
 abbrev pub some_lines : List (List ℕ) → HeadingSoFar
 some_lines text = record { markers = []; text = text }
 
@@ -56,13 +56,13 @@ IsMarked s r =
 
 -- Its text.
 
--- where it began, or goes on behind a prefix
+-- where it began, or continues after a prefix
 abbrev pub TitleIs : List Entry → ℕ → List Entry → Option TextSpan → Option Text → Type 0
 TitleIs before depth lines (Some span) (Some text) =
     (text.from ≡ span.from) × Pieces before [] (depth + 1) lines span.is_parted text.front
 TitleIs before depth lines _ _ = ⊥
 
--- the lines in front of it
+-- the lines before it
 abbrev pub head_lines : OutlineState → Reading → List Entry
 head_lines s r = shown r.outer r.here ++ entry s.depth (word.Heading 0) ∷ []
 
@@ -177,7 +177,7 @@ pub title-ends : (bytes : List ℕ) (p : Point) (s : OutlineState) (r : Reading)
     × NoText (told_at bytes purpose.Title p.index s.text s) (spelled.told_at bytes AsHeading p r.text r)
 title-ends bytes p s r k h = text-told bytes p s r s.text r.text k h.0 h.1
 
--- Behind its text its underline tells its depth.
+-- After its text its underline shows its depth.
 marks-told : (text : List (List ℕ)) (line : Line) (s : OutlineState) (r : Reading) →
     Headed 0 (some_lines text) false s r →
     IsMarked (told purpose.Markers false line.text (record s { text = None }))

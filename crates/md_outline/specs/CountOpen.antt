@@ -3,7 +3,7 @@ use Rattle.std.specs.Prelude.{ℕ, ◌+◌}
 use Rattle.md_engine.specs.declared.event.Kind.{Kind}
 use Rattle.md_engine.specs.declared.event.Kind.TheVariants.{Enter, Exit}
 
--- how many have begun behind an event, by how many in front of it
+-- how many have begun after an event, by how many before it
 abbrev pub begun : Kind → ℕ → ℕ
 begun Enter enters = enters + 1
 begun Exit enters = enters

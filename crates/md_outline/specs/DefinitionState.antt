@@ -9,7 +9,7 @@ use Rattle.md_outline.specs.declared.outline.lined.Form.{Form}
 use Rattle.md_outline.specs.declared.outline.lined.Form.TheVariants as form
 use Rattle.md_outline.specs.declared.outline.lined.Lined.{Lined}
 
--- the word that shows the lines of the part that is read, if a definition is open: its label, and behind that its title
+-- the word that shows the lines of the part that is read, if a definition is open: its label, and after that its title
 abbrev pub part_of : Form → Bool → Option Word
 part_of form.Definition is_told = Some (if is_told then word.Title else word.Label)
 part_of _ is_told = None
@@ -18,7 +18,7 @@ abbrev pub part_word : Option Lined → Option Word
 part_word None = None
 part_word (Some lined) = part_of lined.form lined.is_fenced
 
--- its text ends, or what is left of it behind a prefix: its last lines are shown
+-- its text ends, or what is left of it after a prefix: its last lines are shown
 abbrev pub part_ended : Word → Bool → ℕ → List ℕ → List Entry → List Entry
 part_ended w true depth text lines = lines ++ lines_as w depth text
 part_ended w false depth text lines = without_end lines ++ first_as w depth text

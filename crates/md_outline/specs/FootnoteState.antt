@@ -1,4 +1,4 @@
--- What an outline shows of a container that begins: the line of its word, and behind that of a footnote definition the
+-- What an outline shows of a container that begins: the line of its word, and after that of a footnote definition the
 -- line of its label, which is empty until its text fills it.
 use Rattle.std.specs.Prelude.{ℕ, ◌+◌, List, [], ◌∷◌, ◌++◌}
 use Rattle.md_meaning.specs.declared.outline.Word.{Word}

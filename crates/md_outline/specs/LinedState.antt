@@ -27,7 +27,7 @@ has_own_lines form.Lines = true
 has_own_lines form.Texts = true
 has_own_lines _ = false
 
--- the virtual spaces that a line is shown with, of those in front of it
+-- the virtual spaces that a line is shown with, of those before it
 abbrev pub spaces_of : Form → ℕ → ℕ
 spaces_of form.Texts spaces = 0
 spaces_of _ spaces = spaces
@@ -46,7 +46,7 @@ first_lines depth _ = []
 abbrev pub begin_lines : ℕ → Word → List Entry
 begin_lines depth w = entry depth w ∷ first_lines (depth + 1) w
 
--- it has told its label, or its delimiter row
+-- it has said its label, or its delimiter row
 abbrev pub now_told : Option Lined → Option Lined
 now_told lined = option_map (λ (l : Lined). record l { is_fenced = true }) lined
 
@@ -63,7 +63,7 @@ closed_word (word.Fence marker closed) = word.Fence marker true
 closed_word (word.Math closed) = word.Math true
 closed_word w = w
 
--- the line of its word is told that
+-- the line of its word is said that
 abbrev pub with_head : (Word → Word) → ℕ → List Entry → List Entry
 with_head f place lines =
     set lines place

@@ -1,9 +1,9 @@
 -- Leaf blocks of several lines as an outline can show them: each has its parts in the order of the grammar, and one
 -- piece of text a line at the most. Frontmatter is such a leaf block, with the parts of fenced code but `info` and
 -- `meta`. So are setext headings and definitions, of whose texts each line is one piece, and tables (`TableSpots`);
--- what is asked of an ATX heading is that container prefixes stand in front of its text or behind it. A line ending in
--- a text that an inline layer reads is a part of it, and may stand anywhere there. A marker of a quote may be anywhere;
--- in a leaf block it changes nothing.
+-- what is asked of an ATX heading is that container prefixes are before its text or after it. A line ending in a text
+-- that an inline layer reads is a part of it, and may be anywhere there. A marker of a quote may be anywhere; in a leaf
+-- block it changes nothing.
 --
 -- A walk over the events by their roles, which knows where in such a leaf block it is.
 use Rattle.std.specs.Prelude.{◌≡◌, ◌==◌, ℕ, true, false, if◌then◌else◌, nat_lt, List, [], ◌∷◌, length, slice_range}
@@ -27,7 +27,7 @@ pub data Part : Type 0 where
   LabelPart : Part
   TitlePart : Part
 
--- Which parts of a definition may come behind its label: its destination, and its title.
+-- Which parts of a definition may come after its label: its destination, and its title.
 pub data Left : Type 0 where
   DestinationLeft : Left
   TitleLeft : Left
@@ -37,10 +37,10 @@ pub data Left : Type 0 where
 pub data Site : Type 0 where
   -- in none
   Outside : Site
-  -- in front of its markers, and in them, from this point on
+  -- before its markers, and in them, from this point on
   AtMarkers : LeafKind → Site
   InMarkers : LeafKind → Point → Site
-  -- behind them, in its first fence: in front of `info`, or behind that, in front of `meta`
+  -- after them, in its first fence: before `info`, or after that, before `meta`
   AtInfo : LeafKind → Site
   AtMeta : LeafKind → Site
   -- in a text of this purpose
@@ -49,28 +49,28 @@ pub data Site : Type 0 where
   AtEnding : LeafKind → Site
   -- on a line that is empty yet
   AtLine : LeafKind → Site
-  -- in a further fence, or behind it, and in its markers
+  -- in a further fence, or after it, and in its markers
   AtEnd : LeafKind → Site
   InEnd : LeafKind → Site
-  -- in a setext heading: in front of its text, in it, and behind it
+  -- in a setext heading: before its text, in it, and after it
   AtTitle : Site
   InTitle : Site
   BehindTitle : Site
-  -- in the markers of its underline, and behind them
+  -- in the markers of its underline, and after them
   InUnderline : Site
   BehindUnderline : Site
   -- in the text of an ATX heading
   InAtxText : Site
-  -- in a definition, in front of its label
+  -- in a definition, before its label
   AtLabel : Site
-  -- in the text of such a part, which begins at this point: in front of the first prefix in it, and behind that
+  -- in the text of such a part, which begins at this point: before the first prefix in it, and after that
   InPart : Part → Point → Site
   InParted : Part → Site
-  -- behind its label, its destination or its title
+  -- after its label, its destination or its title
   BehindPart : Left → Site
   -- in its destination
   InDestination : Site
-  -- in its title, in front of its text and behind that
+  -- in its title, before its text and after that
   AtTitleText : Site
   BehindTitleText : Site
   -- in a table
@@ -88,7 +88,7 @@ begun_site OfTable = InTable AtHead
 begun_site OfFrontmatter = AtMarkers OfFrontmatter
 begun_site kind = Outside
 
--- behind a line ending, which opens a line if the text goes on
+-- after a line ending, which opens a line if the text continues
 abbrev pub ending_site : List ℕ → Point → LeafKind → Site → Site
 ending_site bytes p kind site = if nat_lt p.index (length bytes) then AtLine kind else site
 
@@ -96,17 +96,17 @@ abbrev pub text_site : LeafKind → Purpose → Site
 text_site kind AsInfo = AtMeta kind
 text_site kind _ = AtEnding kind
 
--- behind the text of a part of a definition
+-- after the text of a part of a definition
 abbrev pub part_site : Part → Site
 part_site LabelPart = BehindPart DestinationLeft
 part_site TitlePart = BehindTitleText
 
--- behind an event in a table
+-- after an event in a table
 abbrev pub table_site : Option TablePlace → Site
 table_site None = Outside
 table_site (Some spot) = InTable spot
 
--- where one is behind an event
+-- where one is after an event
 abbrev pub site_by : List ℕ → Site → Kind → Role → Point → Site
 site_by bytes Outside Enter (LeafRole kind) p = begun_site kind
 site_by bytes Outside Enter (TextRole AsHeading) p = InAtxText
@@ -192,7 +192,7 @@ abbrev pub MayHaveTitle : Left → Type 0
 MayHaveTitle NoneLeft = ⊥
 MayHaveTitle _ = Unit {0}
 
--- what may stand there; no prefix stands in the first line of a text of a definition
+-- what may be there; no prefix is in the first line of a text of a definition
 abbrev pub MayStand : List ℕ → Site → Kind → Role → Point → Type 0
 MayStand bytes Outside Enter (LeafRole x) p = Unit {0}
 MayStand bytes Outside Exit (LeafRole OfCode) p = ⊥

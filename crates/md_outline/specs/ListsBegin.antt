@@ -1,8 +1,8 @@
--- Lists whose word an outline can tell: each begins with an item that begins with its marker. And footnote definitions
--- whose label it can: each begins with that, in front of its blocks.
+-- Lists whose word an outline can show: each begins with an item that begins with its marker. And footnote definitions
+-- whose label it can: each begins with that, before its blocks.
 --
 -- A walk over the events by their roles, which knows what a list or a footnote definition that has begun still has to
--- tell. It asks no more of a footnote definition than the walk over items does (`InLabel` of `ItemsStand`), so it holds
+-- show. It asks no more of a footnote definition than the walk over items does (`InLabel` of `ItemsStand`), so it holds
 -- where that does (`listed-outlined`).
 use Rattle.std.specs.Prelude.{◌≡◌, ℕ, Bool, true, false, List, [], ◌∷◌, slice_range}
 use Rattle.md_engine.specs.declared.event.Event.{Event}
@@ -23,7 +23,7 @@ marks _ b = false
 
 -- What is to come of a list or a footnote definition that has begun.
 pub data Stage : Type 0 where
-  -- nothing: each list has told its marker, and each footnote definition its label
+  -- nothing: each list has said its marker, and each footnote definition its label
   AllTold : Stage
   -- its first item
   AtItem : Shape → Stage
@@ -34,8 +34,8 @@ pub data Stage : Type 0 where
   -- the label of a footnote definition, up to its end
   AtLabel : Stage
 
--- what may stand there: an item whose marker is not told yet, what stands in front of a marker, and one of such a list;
--- and in front of the label of a footnote definition and in it no block begins or ends
+-- what may be there: an item whose marker is not said yet, what is before a marker, and one of such a list; and before
+-- the label of a footnote definition and in it no block begins or ends
 abbrev pub MayFollow : List ℕ → Stage → Kind → Role → Point → Type 0
 MayFollow bytes AllTold kind (TextRole AsFootnoteLabel) p = ⊥
 MayFollow bytes AllTold kind x p = Unit {0}
@@ -55,7 +55,7 @@ MayFollow bytes AtLabel kind IsQuoteMarker p = Unit {0}
 MayFollow bytes AtLabel kind (TextRole AsFootnoteLabel) p = Unit {0}
 MayFollow bytes AtLabel _ _ p = ⊥
 
--- what is to come behind an event
+-- what is to come after an event
 abbrev pub stage_by : Stage → Kind → Role → Point → Stage
 stage_by AllTold Enter (ContainerRole OrderedShape) p = AtItem OrderedShape
 stage_by AllTold Enter (ContainerRole UnorderedShape) p = AtItem UnorderedShape

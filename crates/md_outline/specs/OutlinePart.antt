@@ -6,7 +6,7 @@ use Rattle.md_meaning.specs.Outline.{entries_of, outline}
 use Rattle.md_seam.specs.Events.Spelled.{spelled}
 use Rattle.md_outline.specs.Outlined.{IsOutlined}
 
--- lines in front of the outline of some events are the outline of all events, and an outline can show those, too
+-- lines before the outline of some events are the outline of all events, and an outline can show those, too
 pub record Begins (events rest : List Event) (bytes : List ℕ) (lines : List OutlineLine) : Type 0 where
   pub outlined : IsOutlined rest bytes
   pub joined : entries_of lines ++ outline 0 (spelled rest bytes) ≡ outline 0 (spelled events bytes)

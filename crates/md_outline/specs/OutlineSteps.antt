@@ -33,12 +33,12 @@ use Rattle.md_outline.specs.declared.outline.role.Role.{Role}
 use Rattle.md_outline.specs.declared.outline.role.Role.TheVariants as role
 
 -- What was read between two events: how many containers are open, the leaf that is, the text that is read, the list
--- that is not told its marker yet, and the lines so far.
+-- that is not said its marker yet, and the lines so far.
 pub record OutlineState : Type 0 where
   pub depth : ℕ
   pub leaf : Option OpenLeaf
   pub text : Option TextSpan
-  -- the virtual spaces in front of it
+  -- the virtual spaces before it
   pub spaces : ℕ
   -- the leaf block of several lines that is open
   pub lined : Option Lined
@@ -65,7 +65,7 @@ abbrev pub leaf_ended : Option OpenLeaf → OutlineState → OutlineState
 leaf_ended None s = s
 leaf_ended (Some leaf) s = record s { leaf = None; lines = s.lines ++ leaf_entries s.depth leaf }
 
--- an open leaf is told of a text
+-- an open leaf is said of a text
 abbrev pub told_leaf : Note → List ℕ → OutlineState → OutlineState
 told_leaf x text s = record s { leaf = option_map (noted x text) s.leaf }
 
@@ -74,7 +74,7 @@ abbrev pub with_marker : ℕ → List ℕ → List Entry → List Entry
 with_marker place text lines =
     set lines place (record (get_or lines place (entry 0 word.Item)) { word = word.List (first_byte text) })
 
--- a list that has begun is told the marker of its first item
+-- a list that has begun is said the marker of its first item
 abbrev pub marked_at : Option ℕ → List ℕ → OutlineState → OutlineState
 marked_at None text s = s
 marked_at (Some place) text s = record s { untold = None; lines = with_marker place text s.lines }
@@ -87,12 +87,12 @@ abbrev pub is_titled : Option Lined → Bool
 is_titled None = false
 is_titled (Some lined) = is_heading lined.form
 
--- the text of a heading ends: its last lines are shown, or all of it is told
+-- the text of a heading ends: its last lines are shown, or all of it is said
 abbrev pub title_told : Bool → List ℕ → OutlineState → OutlineState
 title_told true text s = record s { lines = s.lines ++ text_entries (s.depth + 1) text }
 title_told false text s = told_leaf note.Title text s
 
--- a leaf block of several lines is told the markers of its first fence, or of its underline
+-- a leaf block of several lines is said the markers of its first fence, or of its underline
 abbrev pub head_marked : Option Lined → List ℕ → OutlineState → OutlineState
 head_marked None text s = s
 head_marked (Some lined) text s = if lined.is_fenced then s else record s {
@@ -100,13 +100,13 @@ head_marked (Some lined) text s = if lined.is_fenced then s else record s {
   lines = with_head (marked_word (first_byte text)) lined.place s.lines;
 }
 
--- a fence begins: a further one closes it, and the line on which it stands is none
+-- a fence begins: a further one closes it, and the line on which it is is none
 abbrev pub fence_begun : Option Lined → OutlineState → OutlineState
 fence_begun None s = s
 fence_begun (Some lined) s =
     if lined.is_fenced then record s { lines = with_head closed_word lined.place (without_end s.lines) } else s
 
--- a line ending opens a line of it if its lines are its own, the text goes on behind that, and no text is read
+-- a line ending opens a line of it if its lines are its own, the text continues after that, and no text is read
 abbrev pub line_ended : List ℕ → ℕ → Option Lined → Option TextSpan → OutlineState → OutlineState
 line_ended bytes end None text s = s
 line_ended bytes end (Some lined) (Some text) s = s
@@ -123,7 +123,7 @@ label_ended is_parted text s = record s {
       part_ended word.Label is_parted (s.depth + 1) text s.lines ++ entry (s.depth + 1) word.Destination ∷ [];
 }
 
--- a cell of a table is counted if it is one of the head: one in front of the delimiter row
+-- a cell of a table is counted if it is one of the head: one before the delimiter row
 abbrev pub counted_at : Option Lined → OutlineState → OutlineState
 counted_at None s = s
 counted_at (Some lined) s =
@@ -164,7 +164,7 @@ told_at bytes purpose end None s = s
 told_at bytes purpose end (Some text) s =
     told purpose text.is_parted (slice_range bytes text.from end) (record s { text = None })
 
--- what stands in front of a prefix is shown: in a part of a definition that this word shows, or in another text
+-- what is before a prefix is shown: in a part of a definition that this word shows, or in another text
 abbrev pub piece_shown : Option Word → Bool → Bool → ℕ → List ℕ → List Entry → List Entry
 piece_shown None is_begun is_parted depth text lines =
     lines ++ begin_entries depth is_begun ++ full_entries (depth + 1) text
@@ -249,7 +249,7 @@ abbrev pub state_after : List ℕ → OutlineState → List Event → OutlineSta
 state_after bytes s [] = s
 state_after bytes s (e ∷ es) = state_after bytes (state_by bytes e.kind (shown_as (spelled.role e.name)) e.point s) es
 
--- the text that is read begins, or goes on, between characters
+-- the text that is read begins, or continues, between characters
 abbrev pub BeginsBetween : List ℕ → Option TextSpan → Type 0
 BeginsBetween bytes None = Unit {0}
 BeginsBetween bytes (Some text) = is_between bytes text.from ≡ true

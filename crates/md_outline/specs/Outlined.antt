@@ -31,12 +31,12 @@ has_shown_name e = is_shown (role e.name)
 abbrev pub has_unlisted_name : Event → Bool
 has_unlisted_name e = is_unlisted (role e.name)
 
--- Whether an event stands between characters if the tree reads where (`is_seen`). The others may stand anywhere: an
--- inline layer may cut a text as it likes.
+-- Whether an event is between characters if the tree reads where (`is_seen`). The others may be anywhere: an inline
+-- layer may cut a text as it likes.
 abbrev pub stands_between : List ℕ → Event → Bool
 stands_between bytes e = not (is_seen (shown_as (role e.name))) || is_between bytes e.point.index
 
--- whether a text begins between characters here, behind a tab that is cut
+-- whether a text begins between characters here, after a tab that is cut
 abbrev pub tells_between : List ℕ → Event → Bool
 tells_between bytes e = not (is_told (role e.name)) || is_between bytes (byte_at e.point)
 
@@ -47,7 +47,7 @@ tells_between bytes e = not (is_told (role e.name)) || is_between bytes (byte_at
 abbrev pub OpenTextSpan : Type 0
 OpenTextSpan = TextSpan
 
--- the text that is read behind an event: where it begins, or goes on behind the last prefix in it, and whether there is
+-- the text that is read after an event: where it begins, or continues after the last prefix in it, and whether there is
 -- one
 abbrev pub span_enter : Role → Point → Option TextSpan → Option TextSpan
 span_enter (TextRole purpose) p text = Some (record { from = byte_at p; is_parted = false })
@@ -67,7 +67,7 @@ span_by Exit x p text = span_exit x p text
 abbrev pub piece_to : List ℕ → Point → TextSpan → List ℕ
 piece_to bytes p text = slice_range bytes text.from p.index
 
--- whether a piece is the first, or begins with no line feed: one behind a carriage return would end the same line
+-- whether a piece is the first, or begins with no line feed: one after a carriage return would end the same line
 abbrev pub begins_line : TextSpan → List ℕ → Bool
 begins_line text piece = not text.is_parted || not (begins_with 10 piece)
 
@@ -76,10 +76,10 @@ abbrev pub is_unparted : Option TextSpan → Bool
 is_unparted None = true
 is_unparted (Some text) = not text.is_parted
 
--- whether an event may stand in a text: a prefix begins where a line does, with nothing but spaces and tabs in front of
--- it, and ends between characters; no text is parted but one that is a block, the text of a heading, or the label or
--- title of a definition, and from its first prefix to its end nothing else begins or ends that the tree shows; and no
--- leaf block of several lines begins in a text
+-- whether an event may be in a text: a prefix begins where a line does, with nothing but spaces and tabs before it, and
+-- ends between characters; no text is parted but one that is a block, the text of a heading, or the label or title of a
+-- definition, and from its first prefix to its end nothing else begins or ends that the tree shows; and no leaf block
+-- of several lines begins in a text
 abbrev pub parts_enter : List ℕ → Role → Point → TextSpan → Bool
 parts_enter bytes IsPrefix p text =
     begins_line text (piece_to bytes p text) && is_blank (last_line (split_lines (piece_to bytes p text)))
@@ -115,7 +115,7 @@ pub record IsUnlisted (events : List Event) (bytes : List ℕ) : Type 0 where
   pub text : IsUtf8 bytes
   pub between : list_all (λ (e : Event). is_between bytes e.point.index) events ≡ true
   pub texts : list_all (tells_between bytes) events ≡ true
-  -- each container prefix in a text stands where a line begins
+  -- each container prefix in a text is where a line begins
   pub parted : are_parted bytes None events ≡ true
   -- each leaf block of several lines has its parts in the order of the grammar
   pub lines : LinesStand bytes Outside events
@@ -128,7 +128,7 @@ pub record IsOutlined (events : List Event) (bytes : List ℕ) : Type 0 where
   pub text : IsUtf8 bytes
   pub between : list_all (stands_between bytes) events ≡ true
   pub texts : list_all (tells_between bytes) events ≡ true
-  -- each container prefix in a text stands where a line begins
+  -- each container prefix in a text is where a line begins
   pub parted : are_parted bytes None events ≡ true
   -- each list begins with an item that begins with its marker
   pub lists : ListsBegin bytes AllTold events

@@ -1,4 +1,4 @@
--- A text that is a block of its own, and what an outline shows of it in front of its lines.
+-- A text that is a block of its own, and what an outline shows of it before its lines.
 use Rattle.std.specs.Prelude.{ℕ, Bool, if◌then◌else◌, List, [], ◌∷◌}
 use Rattle.md_meaning.specs.declared.outline.Word.TheVariants as word
 use Rattle.md_meaning.specs.Outline.{Entry, entry}

@@ -1,13 +1,13 @@
 -- How an outline meets blocks: what the roles of event names mean to it, and what it knows of an open leaf block.
 --
 -- A new block has its clauses in two files, here and in `outline/role.rt`, and `RoleLemmas` goes by this table; what an
--- outline knows and shows of a block stands in files of its own (as `HeadingState`).
+-- outline knows and shows of a block is in files of its own (as `HeadingState`).
 --
 -- - A container that is shown by a word: `is_plain` and `shown_as` here, `role_of` in code.
---   A list is shown with the marker of its first item, which its line is told later: so it is `is_shown` alone, and has
+--   A list is shown with the marker of its first item, which its line is said later: so it is `is_shown` alone, and has
 --   `mark` in code, and `ListsBegin` and `ListLemmas`. A footnote definition is shown with its label, whose line is
---   told its text later: so it has `FootnoteState`, a stage of `ListsBegin`, and `FootnoteLemmas`. A quote is shown
---   with its kind, which a marker in front of its blocks gives it: so it has `AlertState` and `AlertLemmas`.
+--   said its text later: so it has `FootnoteState`, a stage of `ListsBegin`, and `FootnoteLemmas`. A quote is shown
+--   with its kind, which a marker before its blocks gives it: so it has `AlertState` and `AlertLemmas`.
 -- - A leaf block: the same, and what is known of it: `leaf_of` and `is_known` here, `Leaf` with `noted` and `push_leaf`
 --   in code.
 -- - A leaf block of several lines (`has_lines`): `is_unlisted` and `shown_as` here, `role_of` in code; its lines are
@@ -16,7 +16,7 @@
 --   a definition, whose lines are those of its label, its destination and its title (`DefinedLemmas`), and a table,
 --   whose lines are those of its rows and their cells (`TableSpots`, `TableState`, `TabledLemmas`). Frontmatter is one
 --   whose lines are shown without virtual spaces.
--- - A text that tells a leaf block something: the same, and `told_as` here, `Note` in code.
+-- - A text that shows a leaf block something: the same, and `told_as` here, `Note` in code.
 use Rattle.std.specs.Prelude.{ℕ, Bool, true, false, List, None}
 use Rattle.md_meaning.specs.declared.outline.Word.TheVariants as word
 use Rattle.md_meaning.specs.Outline.{Entry, block_entries, quote_word}
@@ -179,7 +179,7 @@ is_known BreakLeaf = true
 is_known (HeadingAtxLeaf heading) = true
 is_known _ = false
 
--- what a text tells a leaf block, as the tree reads it
+-- what a text shows a leaf block, as the tree reads it
 abbrev pub told_as : Note → spelled.Purpose
 told_as note.Markers = AsMarkers
 told_as note.Title = AsHeading

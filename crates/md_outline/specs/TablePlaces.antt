@@ -1,8 +1,8 @@
--- Tables as an outline can show them (GFM 4.10): a head row, behind that the delimiter row, and then further rows. A
--- row has its cells one behind the other, and a cell has one text at the most. Line endings and container prefixes
--- stand between the rows; a line ending in the text of a cell is a part of it.
+-- Tables as an outline can show them (GFM 4.10): a head row, after that the delimiter row, and then further rows. A row
+-- has its cells one after the other, and a cell has one text at the most. Line endings and container prefixes are
+-- between the rows; a line ending in the text of a cell is a part of it.
 --
--- Where in a table one is, and what may stand there, is a matter of the roles of the events alone.
+-- Where in a table one is, and what may be there, is a matter of the roles of the events alone.
 use Rattle.std.specs.Prelude.{Option, Some, None}
 use Rattle.md_engine.specs.declared.event.Kind.{Kind}
 use Rattle.md_engine.specs.declared.event.Kind.TheVariants.{Enter, Exit}
@@ -16,25 +16,25 @@ pub data Row : Type 0 where
 
 -- Where in a table one is.
 pub data TablePlace : Type 0 where
-  -- in front of its head row
+  -- before its head row
   AtHead : TablePlace
   -- in a row, between its cells
   InRow : Row → TablePlace
-  -- in a cell of it: in front of its text, in that, and behind it
+  -- in a cell of it: before its text, in that, and after it
   AtCell : Row → TablePlace
   InCell : Row → TablePlace
   BehindCell : Row → TablePlace
-  -- behind the head row, in front of the delimiter row, and in that
+  -- after the head row, before the delimiter row, and in that
   BehindHead : TablePlace
   InDelimiter : TablePlace
-  -- behind the delimiter row, or behind a further row
+  -- after the delimiter row, or after a further row
   BehindRow : TablePlace
 
 abbrev pub behind_row : Row → TablePlace
 behind_row HeadRow = BehindHead
 behind_row BodyRow = BehindRow
 
--- where one is behind an event, if still in the table
+-- where one is after an event, if still in the table
 abbrev pub spot_by : TablePlace → Kind → Role → Option TablePlace
 spot_by spot kind IsQuiet = Some spot
 spot_by spot kind IsQuoteMarker = Some spot
@@ -51,7 +51,7 @@ spot_by BehindRow Enter IsRow = Some (InRow BodyRow)
 spot_by BehindRow Exit (LeafRole x) = None
 spot_by spot kind x = Some spot
 
--- what may stand there; no container begins or ends in a table
+-- what may be there; no container begins or ends in a table
 abbrev pub MayBe : TablePlace → Kind → Role → Type 0
 MayBe spot kind IsQuiet = Unit {0}
 MayBe spot kind IsQuoteMarker = Unit {0}

@@ -1,5 +1,5 @@
--- What an outline shows of the rows of a table that stands at a depth: each cell begins with an empty line, which its
--- text fills, and the line of the table counts the cells of its head.
+-- What an outline shows of the rows of a table that is at a depth: each cell begins with an empty line, which its text
+-- fills, and the line of the table counts the cells of its head.
 use Rattle.std.specs.Prelude.{ℕ, ◌+◌, List, [], ◌∷◌, ◌++◌}
 use Rattle.md_meaning.specs.declared.outline.Word.{Word}
 use Rattle.md_meaning.specs.declared.outline.Word.TheVariants as word

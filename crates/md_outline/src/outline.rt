@@ -50,9 +50,9 @@ use std::alloc::Global;
 /// A text that is read.
 #[derive(Clone, Copy)]
 struct TextSpan {
-    /// Where it begins, or goes on behind the last container prefix in it.
+    /// Where it begins, or continues after the last container prefix in it.
     from: usize,
-    /// Whether there is a prefix in it: what stands in front of that is shown.
+    /// Whether there is a prefix in it: what is before that is shown.
     is_parted: bool,
 }
 
@@ -64,7 +64,7 @@ struct Reading<'a> {
     depth: usize,
     leaf: Option<Leaf<'a>>,
     text: Option<TextSpan>,
-    /// The virtual spaces in front of it.
+    /// The virtual spaces before it.
     spaces: usize,
     /// The leaf block of several lines that is open.
     lined: Option<Lined>,
@@ -73,7 +73,7 @@ struct Reading<'a> {
     lines: Vec<OutlineLine<'a>>,
 }
 
-/// The first byte behind a point: a tab that is cut belongs to what stands in front.
+/// The first byte after a point: a tab that is cut belongs to what is in front.
 fn byte_at(point: Point) -> Result<usize, Message>
     ensures { IfOk result (λ n. n ≡ spelled.byte_at point) }
 {
@@ -139,7 +139,7 @@ impl<'a> Reading<'a> {
         }
     }
 
-    /// Whether the begin of its block is shown in front of a text.
+    /// Whether the begin of its block is shown before a text.
     fn is_begun(&self, span: TextSpan) -> bool
         ensures { result ≡ is_titled self.now.lined || span.is_parted }
     {
@@ -188,7 +188,7 @@ impl<'a> Reading<'a> {
         push(&mut self.lines, next(self.depth)?, Word::Destination, "")
     }
 
-    /// Counts a cell of a table, which is a column more if it is one of the head: one in front of the delimiter row.
+    /// Counts a cell of a table, which is a column more if it is one of the head: one before the delimiter row.
     fn count_cell(&mut self) -> Result<(), Message>
         ensures bytes { self.new.bytes ≡ self.old.bytes }
         ensures read { OnOk result (state_of self.new ≡ counted_at (state_of self.old).lined (state_of self.old)) }
@@ -342,7 +342,7 @@ impl<'a> Reading<'a> {
         }
     }
 
-    /// Shows what stands in front of a prefix in the text that is read, if one is.
+    /// Shows what is before a prefix in the text that is read, if one is.
     #[inline(never)]
     fn show_piece(&mut self, end: usize) -> Result<(), Message>
         ensures bytes { self.new.bytes ≡ self.old.bytes }
@@ -366,8 +366,7 @@ impl<'a> Reading<'a> {
         }
     }
 
-    /// Reads the begin of a prefix. Where no text is read, or another prefix ends there, nothing in front of it is
-    /// shown.
+    /// Reads the begin of a prefix. Where no text is read, or another prefix ends there, nothing before it is shown.
     #[inline(always)]
     fn part_text(&mut self, end: usize) -> Result<(), Message>
         ensures bytes { self.new.bytes ≡ self.old.bytes }
@@ -383,7 +382,7 @@ impl<'a> Reading<'a> {
         self.show_piece(end)
     }
 
-    /// Reads on behind a prefix.
+    /// Reads on after a prefix.
     fn go_on(&mut self, place: usize)
         ensures bytes { self.new.bytes ≡ self.old.bytes }
         ensures read { state_of self.new ≡
@@ -584,14 +583,14 @@ pub fn outline<'a>(
 pub struct OutlinePart<'a> {
     /// The lines of the outline of these blocks, from the first to the last.
     pub lines: Vec<OutlineLine<'a>>,
-    /// How many events these blocks are: the outline goes on with those behind them.
+    /// How many events these blocks are: the outline continues with those after them.
     pub events: usize,
 }
 
 /// The outline of the first blocks of what `parse` has read, so that not all lines of a long text have to be in memory
 /// at once.
 ///
-/// The lines of this part and then the outline of the events behind it, `&events[part.events..]`, are the outline of
+/// The lines of this part and then the outline of the events after it, `&events[part.events..]`, are the outline of
 /// all. It is of some thousand events or more: as many as its last block needs, and all if there are fewer. So a loop
 /// over the parts ends, and only of no events a part is of none.
 ///

@@ -22,7 +22,7 @@ use Rattle.md_registry.specs.States.{FlowStep}
 use Rattle.md_registry.proofs.PlainLaws.{TookPrefix, after-it, others}
 use Rattle.md_registry.proofs.Registry.{plain-laws}
 
--- a container that goes on at once is tried
+-- a container that continues at once is tried
 tries : (w : World) (c : Container) (k : ContainerKind) → HasPrefix c k w → w.current ≡ looks w →
     trial_code (goes_on_with k) (n.Document document.ContainerExistingAfter) (n.Document (opener_front openers))
     (asking c w) (may_with (may_go_on k) (looks_behind w)) ≡
@@ -32,7 +32,7 @@ tries w c k is seen =
     (trial_code (goes_on_with k) (n.Document document.ContainerExistingAfter) (n.Document (opener_front openers))
     (asking c w)) ((plain-laws k).may w c is seen)
 
--- so is the next one, where that goes on at once
+-- so is the next one, where that continues at once
 pub asked : (w : World) → (at_once : GoesAtOnce w) → asking_next w ≡ asking at_once.held w
 asked w at_once = ap (λ (o : Option Container). asking_by o w) at_once.next
 
@@ -67,7 +67,7 @@ took-prefix w u at_once e =
     subst P (sym (e ∙ ap asked_taken (asked w at_once)))
     (record { seen = is.seen; inside = is.inside; less = is.less })
 
--- one more container goes on
+-- one more container continues
 pub goes-on : (is_end : Bool) (s : State) (v w u : World) →
     CameTo FlowStep is_end s v (n.Document document.ContainerExistingBefore) w → w.current ≡ looks w →
     Within w → GoesAtOnce w → u ≡ asked_taken (asking_next w) → Within u →

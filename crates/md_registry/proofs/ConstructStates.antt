@@ -121,7 +121,7 @@ pub record ContainerStates (k : ContainerKind) : Type 1 where
       flow_behaves_by bytes options next (container_rules k).further cells h ≡
       (container_rules k).continues options cells h
 
--- a state of one stands in it as its construct has it
+-- a state of one is in it as its construct has it
 placed : (Where : Position → Type 0) (start : StateName) → (flow_owner start).level start < 3 →
     ((x : Position) (K : After) → IsRest x.scratch → Where x → EndsLater IsRest IsRest x K →
     (flow_owner start).ready start x K) →

@@ -36,7 +36,7 @@ data LeavesRow (b : ℕ) : List LeafName → List LeafName → Type 0 where
   Skips : (l : LeafName) (ls ks : List LeafName) →
       ((on : HeldLeaf) → (leaf l).may_begin on false b ≡ false) → LeavesRow b ls ks → LeavesRow b (l ∷ ls) ks
 
--- what is left in front of the first is what is left in front of the second
+-- what is left before the first is what is left before the second
 row_left : (options : ParseOptions) (next : Rule) (b : ℕ) (ls ks : List LeafName) → LeavesRow b ls ks → AreAsked ls →
     (cells : List Cell) (h : Here) → seen_behind cells ≡ Some b → begins_white cells ≡ false → IsRest h.scratch →
     leaves_of options next ls cells h ≡ leaves_of options next ks cells h
@@ -57,7 +57,7 @@ row_left options next b _ _ (Skips l ls ks without more) asked cells h seen dark
     ((laws l).refused options cells h (asked.0 on) is ((laws l).looked options on cells b seen none))
     ∙ row_left options next b ls ks more asked.1 cells h seen dark is
 
--- those behind the first of a row are tried one after another, and rank below the state in front of it
+-- those after the first of a row are tried one after another, and rank below the state before it
 abbrev pub AreNext : List LeafName → Type 0
 AreNext [] = Unit {0}
 AreNext (l ∷ ls) = NextIs ls × (5 + 2 * length ls < (flow_rank (n.Flow flow.Start)).number)
@@ -130,7 +130,7 @@ row-is b =
 pub row-next : (b : ℕ) → AreNext (row b)
 row-next b = (row-is b).next
 
--- what is left in front of all leaves is what is left in front of those of the row
+-- what is left before all leaves is what is left before those of the row
 pub row-left : (options : ParseOptions) (next : Rule) (b : ℕ) (cells : List Cell) (h : Here) →
     seen_behind cells ≡ Some b → begins_white cells ≡ false → IsRest h.scratch →
     leaves_of options next trials cells h ≡ leaves_of options next (row b) cells h

@@ -39,12 +39,12 @@ has_white options = record { each = λ _ _ _. refl }
 has_front : (options : ParseOptions) → HasFront (document_behaves options) options
 has_front options = record { white = has_white options; each = λ _ _ _. refl }
 
--- an attempt that was begun here, which goes on with this either way
+-- an attempt that was begun here, which continues with this either way
 abbrev frame_to : State → World → Frame
 frame_to behind w =
     record { ok = behind; nok = behind; is_check = false; events_len = length w.events; point = w.point }
 
--- what it comes to
+-- what it becomes
 resumed : (options : ParseOptions) (feed : Feed) (behind : State) (w : World) (o : Outcome) →
     tried o (λ rest k. goes (document_behaves options) behind rest k)
     (λ s g. goes (document_behaves options) behind (feed w.point) (record (here w) { scratch = s; flags = g })) ≡
@@ -59,7 +59,7 @@ resumed options feed behind w (Refuses s g) =
     (record { events = x; point = w.point; scratch = s; flags = g })) back)
 resumed options feed behind w Fails = refl
 
--- the states in front of the lines
+-- the states before the lines
 abbrev pub IsFront : DocumentState → Type 0
 IsFront document.Start = Unit {0}
 IsFront document.BeforeFrontmatter = Unit {0}
@@ -106,7 +106,7 @@ document_table_means under is_end feed name w to new f called step =
     (rw (sym called.setting)
     (document_means feed name (reading w) (sees feed w is_end f called.may) refl called.stands))
 
--- and comes to where the table stands
+-- and reaches where the table is
 pub document_stands : StandsOn DocumentStep document_table_scheme
 document_stands name w to new at step =
     does-stands document_table_scheme name (reading w)

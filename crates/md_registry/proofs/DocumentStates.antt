@@ -70,7 +70,7 @@ start_ends w r =
       refl,
     )
 
--- frontmatter is tried, and behind it the document ends
+-- frontmatter is tried, and after it the document ends
 front_ends : (w : World) → rest_ready (position w) (after_all document_table_scheme w.frames) →
     Does document_table_scheme (n.Document document.BeforeFrontmatter) w (before_frontmatter_transition w)
 front_ends w r = (
@@ -90,7 +90,7 @@ front_ends w r = (
   refl,
 )
 
--- the states in front of the lines
+-- the states before the lines
 own_terminates : (state : DocumentState) (w : World) → stands document_table_scheme w (Next (n.Document state)) →
     Does document_table_scheme (n.Document state) w (document_own_transition state w)
 own_terminates document.Start w r = start_ends w r

@@ -39,13 +39,13 @@ pub chunk_at-shrinks : (cells : List Cell) (h : Here) → Shrinks (length cells)
 unfolding chunk_at inside_chunk
 chunk_at-shrinks cells h = (from_ending-shrinks cells, from_ending-again cells)
 
--- Rules that go on in the same way.
+-- Rules that continue in the same way.
 
--- two ways to go on that agree on shorter rests
+-- two ways to continue that agree on shorter rests
 abbrev pub Agree : ℕ → Rule → Rule → Type 0
 Agree n f g = (cells : List Cell) (h : Here) → length cells < n → f cells h ≡ g cells h
 
--- two ways to go on behind a line that agree
+-- two ways to continue after a line that agree
 abbrev AgreeAt : ℕ → Rule → Rule → Type 0
 AgreeAt n f g = (cells : List Cell) (h : Here) → length cells ≤ n → f cells h ≡ g cells h
 
@@ -70,7 +70,7 @@ tried-same n f g agree (Accepts h rest) a b shrinks same = agree rest h shrinks.
 tried-same n f g agree (Refuses s t) a b shrinks same = same s t
 tried-same n f g agree Fails a b shrinks same = refl
 
--- the same behind what takes a cell at least
+-- the same after what takes a cell at least
 tried-shorter : (n : ℕ) (f g : Rule) → Agree n f g → (o : Outcome) (a b : Scratch → Flags → Outcome) → Shortens n o →
     ((s : Scratch) (t : Flags) → a s t ≡ b s t) → tried o f a ≡ tried o g b
 tried-shorter n f g agree (Accepts h rest) a b lt same = agree rest h lt
@@ -82,7 +82,7 @@ behind_leaf-same : (n : ℕ) (f g : Rule) (ends : Bool) → Agree n f g →
 behind_leaf-same n f g true agree = leaf_ended-same n f g agree
 behind_leaf-same n f g false agree = line_ended-same n f g agree
 
--- leaves that are tried one after another, and content behind them
+-- leaves that are tried one after another, and content after them
 leaves_of-same : (options : ParseOptions) (f g : Rule) (ls : List LeafName) (cells : List Cell) (h : Here) →
     Agree (length cells) f g →
     leaves_of options f ls cells h ≡ leaves_of options g ls cells h
@@ -123,7 +123,7 @@ behind_containers-same options f g cells h agree =
 
 -- Containers.
 
--- those that are tried one after another, where it is the same behind one that opens, and where none does
+-- those that are tried one after another, where it is the same after one that opens, and where none does
 opens_of-same : (options : ParseOptions) (f g a b : Rule) (ks : List ContainerKind) (cells : List Cell) (h : Here) →
     Agree (length cells) f g → ((k : Here) → a cells k ≡ b cells k) →
     opens_of options f a ks cells h ≡ opens_of options g b ks cells h
@@ -217,7 +217,7 @@ existing_from-enough options next (suc n) (suc m) cells h a b =
     (ends_line (first_seen cells)) cells h refl (λ rest k lt. refl)
     (λ rest k lt. existing_from-enough options next n m rest k (omega (arith, lt, a)) (omega (arith, lt, b)))
 
--- the next container is asked whether it goes on, and then the same behind its prefix, unless the line ends here
+-- the next container is asked whether it continues, and then the same after its prefix, unless the line ends here
 pub line_by_container : (options : ParseOptions) (next : Rule) (cells : List Cell) (h : Here) →
     line_then options next cells h ≡
     existing_at options next (line_then options next) (ends_line (first_seen cells)) cells h
@@ -244,7 +244,7 @@ enough options (suc n) (suc m) cells h a b =
     line_then-same options (flow_lines options n) (flow_lines options m) cells h
     (λ rest k lt. enough options n m rest k (omega arith) (omega arith))
 
--- what flow means: the first line, and then the same behind it
+-- what flow means: the first line, and then the same after it
 pub flow_by_line : (options : ParseOptions) (cells : List Cell) (h : Here) →
     flow_at options cells h ≡ line_then options (flow_at options) cells h
 unfolding flow_at flow_lines

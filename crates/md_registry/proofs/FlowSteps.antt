@@ -69,7 +69,7 @@ use Rattle.md_registry.proofs.Registry.{container-laws, laws, trial-asked}
 abbrev frame_here : State → State → World → Frame
 frame_here ok nok w = record { ok = ok; nok = nok; is_check = false; events_len = length w.events; point = w.point }
 
--- what it comes to
+-- what it becomes
 resumed : (B : Behaviour) (feed : Feed) (w : World) (ok nok : State) (o : Outcome) (onward : Rule)
     (otherwise : Scratch → Flags → Outcome) →
     ((cells : List Cell) (h : Here) → goes B ok cells h ≡ onward cells h) →
@@ -88,7 +88,7 @@ resumed B feed w ok nok (Refuses s g) y z a b =
 resumed B feed w ok nok Fails y z a b = refl
 
 -- What is left at a state where a construct is tried, at the construct's first state, where these flags are set, and at
--- those behind it; where it may not begin it is refused.
+-- those after it; where it may not begin it is refused.
 record IsTried (B : Behaviour) (feed : Feed) (w : World) (g : Flags) (from start ok nok : StateName)
     (may : Bool) : Type 0 where
   onward : Rule
@@ -115,7 +115,7 @@ trial_means B feed w g from start ok nok false t =
 
 -- Containers.
 
--- in front of the first container that may open, as often as one does
+-- before the first container that may open, as often as one does
 opening_left : (B : Behaviour) (options : ParseOptions) (next : Rule) → HasFlow B options next → (cells : List Cell)
     (h : Here) →
     B (n.Document (opener_front openers)) cells h ≡ new_of options next cells h
@@ -133,7 +133,7 @@ existing_left B feed w options next ends has s e =
     ∙ ap (λ (x : Bool). existing_at options next (line_then options next) x (feed w.point) (here w))
     (ap ends_line (first-seen feed w s) ∙ e)
 
--- where all containers went on
+-- where all containers continued
 all_left : (B : Behaviour) (options : ParseOptions) (next : Rule) → HasFlow B options next → (x : Bool)
     (cells : List Cell) (h : Here) →
     B (n.Document (behind_all x)) cells h ≡ all_on options next x cells h
@@ -268,7 +268,7 @@ blank_line_before_means B feed w options next false has s e =
           has.blank.each blank_line.Start _ _ ∙ blank-refused _ (here w) first.0 first.1 first.2;
     })
 
--- behind a leaf, whether it always ends on its line or not
+-- after a leaf, whether it always ends on its line or not
 flow-ends : (B : Behaviour) (options : ParseOptions) (next : Rule) → HasFlow B options next → (ends : Bool)
     (cells : List Cell) (h : Here) →
     B (n.Flow (leaf_end ends)) cells h ≡ behind_leaf ends next cells h
@@ -318,7 +318,7 @@ row_means B feed w options next (l ∷ ls) has are e =
       looked = λ no. cc;
     })
 
--- by what stands here: a line is not blank where a byte does that is no whitespace and does not end it
+-- by what is here: a line is not blank where a byte does that is no whitespace and does not end it
 start_means : (B : Behaviour) (feed : Feed) (w : World) (options : ParseOptions) (next : Rule) (o : Option ℕ) →
     HasFlow B options next → Sees feed w → IsRest w.scratch → w.current ≡ o →
     Steps B feed (Next (n.Flow flow.Start)) w (start_code w o).to (start_code w o).world
@@ -353,14 +353,14 @@ before_content_means B feed w options next has =
 
 -- The end of a line.
 
--- behind an ending that is taken here
+-- after an ending that is taken here
 abbrev pub behind_ending : World → World
 behind_ending v =
     record (exited (taken (entered v (ending_name v.flags.blank))) (ending_name v.flags.blank)) {
       flags = next_line (length v.events) v.flags;
     }
 
--- and what is left behind it is what the rule makes of the rest
+-- and what is left after it is what the rule makes of the rest
 pub ending_left : (feed : Feed) (v : World) (next : Rule) (b : ℕ) → nat_eq b 10 ≡ true →
     ended next (ahead feed v (Some b)) (here v) ≡ next (feed (behind_ending v).point) (here (behind_ending v))
 ending_left feed v next b e =
@@ -375,7 +375,7 @@ ending_left feed v next b e =
     (record { events = x; point = q; scratch = v.scratch; flags = next_line (length v.events) v.flags }))
     (sym split))
 
--- where containers ended that did not go on
+-- where containers ended that did not continue
 flow_end_code_means : (B : Behaviour) (feed : Feed) (w v : World) (options : ParseOptions) (next : Rule)
     (o : Option ℕ) →
     HasFlow B options next → w.frames ≡ [] → v.frames ≡ [] → feed v.point ≡ ahead feed v o →

@@ -1,3 +1,3 @@
--- ATX headings: what stands on their lines, and their laws.
+-- ATX headings: what is on their lines, and their laws.
 pub mod Calls
 pub mod Rests

@@ -1,2 +1,2 @@
--- The underline of a setext heading: what stands on its line, and its laws.
+-- The underline of a setext heading: what is on its line, and its laws.
 pub mod Found

@@ -1,4 +1,4 @@
--- Lines on which one look tells that no container opens and no leaf begins: what is passed at once is what the states
+-- Lines on which one look shows that no container opens and no leaf begins: what is passed at once is what the states
 -- refuse one after another.
 use Rattle.std.proofs.Common.{◌≡◌, ◌≢◌, ℕ, Bool, true, false, cond, ◌||◌, nat_eq, List, [], ◌∷◌, ◌++◌, Option, Some}
 use Rattle.std.proofs.Common.{None, ◌<◌, ◌⊎◌, inl, length, refl, sym, ◌∙◌, ap, subst, ◌≤◌, ◌&&◌, not, take, arith}
@@ -54,14 +54,14 @@ use Rattle.md_engine.specs.declared.event.Event.{Event}
 use Rattle.md_engine.specs.declared.tokenizer.Frame.{Frame}
 use Rattle.md_engine.specs.declared.tokenizer.held_leaf.HeldLeaf.{HeldLeaf}
 
--- a byte that is no whitespace stands first behind whitespace
+-- a byte that is no whitespace is first after whitespace
 pub looks-dark : (w : World) (b : ℕ) → w.current ≡ Some b → is_white b ≡ false → looks_behind w ≡ Some b
 unfolding looks_behind
 looks-dark w b e dark =
     let found : Option ℕ = first_behind (slice_range w.setting.bytes w.point.index w.setting.limit) in
     ap (λ (o : Option ℕ). behind_code o found) e ∙ ap (λ (x : Bool). cond x found (Some b)) dark
 
--- such a byte stands here, with which none of these may begin
+-- such a byte is here, with which none of these may begin
 pub record Refused {K : Type 0} (may : K → ℕ → Bool) (ks : List K) (w : World) : Type 0 where
   pub byte : ℕ
   pub here : looks_behind w ≡ Some byte
@@ -73,7 +73,7 @@ refused-first : {K : Type 0} → (may : K → ℕ → Bool) (k : K) (ks : List K
 refused-first may k ks w r =
     ap (may_with (may k)) r.here ∙ (or_parts (may k r.byte) (list_any (λ x. may x r.byte) ks) r.none).0
 
--- and those behind it, wherever the same byte stands first
+-- and those after it, wherever the same byte is first
 refused-rest : {K : Type 0} → (may : K → ℕ → Bool) (k : K) (ks : List K) (w v : World) →
     looks_behind v ≡ looks_behind w → Refused may (k ∷ ks) w → Refused may ks v
 refused-rest may k ks w v same r = record {
@@ -84,7 +84,7 @@ refused-rest may k ks w v same r = record {
 
 -- Containers that may open.
 
--- none of these opens, so that one comes to those behind them
+-- none of these opens, so that one reaches those after them
 pub openers-refuse : (is_end : Bool) (s : State) (v : World)
     (ks js : List ContainerKind) (w : World) →
     NextOpener (ks ++ js) → Refused may_open ks w → w.current ≡ looks w → Within w →
@@ -107,9 +107,9 @@ openers-refuse is_end s v (k ∷ ks) js w next none seen within came =
     (record { to_is = sym (ap (λ (y : Transition). y.to) is); new_is = sym (ap (λ (y : Transition). y.world) is) }) refl
     within refl seen)
 
--- What one look tells.
+-- What one look shows.
 
--- what stands here opens no container
+-- what is here opens no container
 opens-none : (w : World) → opens_none w.current ≡ true → Refused may_open openers w
 opens-none w e = go w.current refl e
   where
@@ -121,7 +121,7 @@ opens-none w e = go w.current refl e
         let dark = or_parts (is_white b) (nat_eq b 10) parts.0 in
         record { byte = b; here = looks-dark w b here dark.0; none = parts.1 }
 
--- Behind all containers a leaf that is open may be asked first,
+-- After all containers a leaf that is open may be asked first,
 pub line-front : (is_end : Bool) (s : State) (v w : World) →
     w.current ≡ looks w → Within w → CameTo FlowStep is_end s v (n.Document document.ContainersAfter) w →
     CameTo FlowStep is_end s v (leaf_front (is_some (asked_first (begun_line w.flags).leaf)))
@@ -140,7 +140,7 @@ line-begun is_end s v w none seen within came =
     let u : World = record w { flags = begun_line w.flags } in
     subst (λ (x : Bool). CameTo FlowStep is_end s v (leaf_front x) u) none (line-front is_end s v w seen within came)
 
--- which may be blank where whitespace stands here, or nothing,
+-- which may be blank where whitespace is here, or nothing,
 pub line-blank : (is_end : Bool) (s : State) (v w : World) →
     start_transition w ≡ record { to = Retry (n.Flow flow.BlankLineBefore); world = w } → w.current ≡ looks w →
     Within w → CameTo FlowStep is_end s v (n.Flow flow.Start) w →
@@ -176,7 +176,7 @@ line-over is_end s v w ends seen within came =
     then-stays T is_end s v (n.Flow flow.BlankLineAfter) (n.Document document.FlowEnd) w
     (record w { flags = blanked w.flags }) blank (record { to_is = refl; new_is = refl }) refl within refl seen
 
--- So one comes to the leaf that is asked first,
+-- So one reaches the leaf that is asked first,
 pub passes-front : (is_end : Bool) (s : State) (v w : World) →
     opens_none w.current ≡ true → w.current ≡ looks w → Within w →
     CameTo FlowStep is_end s v (n.Document (opener_front openers)) w →
@@ -344,7 +344,7 @@ ends-anywhere u w (Some b) same = go (nat_eq b 10)
 pub line-leaves : (w : World) → Leaves (flow_end_transition w) w
 line-leaves w = ends-anywhere (closed w (kept_containers w.flags) w.flags.line_end) w w.current refl
 
--- One has come to a state, where one was or something may be read, and it is called last.
+-- One has reached a state, where one was or something may be read, and it is called last.
 pub ends-behind : (first name : StateName) (old w : World) (to : State)
     (new : World) →
     CameHere FlowStep first old name w → Leaves (flow_transition name w) w →
@@ -359,7 +359,7 @@ ends-behind first name old w to new came leaves to_is new_is fine seen within th
       sees-from to old w new (call-sees to w new remains same seen) same there,
     )
 
--- One has come to a state, where one was, and it is called last.
+-- One has reached a state, where one was, and it is called last.
 pub ends-with : (first name : StateName) (old w : World) (to : State)
     (new : World) →
     CameHere FlowStep first old name w → Leaves (flow_transition name w) w →
@@ -379,7 +379,7 @@ leaves-once name w to new leaves to_is new_is fine seen within =
     ends-with name name w w to new (came-first FlowStep name w) leaves to_is new_is fine seen within
     refl
 
--- One has come to a state, where one was, and more runs from there.
+-- One has reached a state, where one was, and more runs from there.
 pub runs-on : (first name : StateName) (old w : World) (to : State)
     (new : World) →
     CameHere FlowStep first old name w → RunsHere FlowStep name w to new → SeesOn to w new →
@@ -393,7 +393,7 @@ runs-on first name old w to new came runs sees seen there =
       sees-from to old w new sees same there,
     )
 
--- A run has come to a state that kept_containers, and more runs from there.
+-- A run has reached a state that kept_containers, and more runs from there.
 pub stays-runs : (first next : StateName) (old w : World) (s to : State)
     (new : World) →
     old.current ≡ looks old → s ≡ Retry next → RunsHere FlowStep first old s w → SeesOn s old w →

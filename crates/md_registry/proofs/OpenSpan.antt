@@ -1,5 +1,5 @@
 -- What the frame asks of a leaf of several lines that is open between two lines, of what a line begins, and of a line
--- that goes on text.
+-- that continues text.
 use Rattle.std.proofs.Common.{◌≡◌, ℕ, true, false, cond, List}
 use Rattle.std.specs.Prelude.{Some, None}
 use Rattle.md_engine.specs.declared.configuration.ParseOptions.{ParseOptions}
@@ -16,11 +16,11 @@ use Rattle.md_frame.specs.LeafName.{LeafName}
 use Rattle.md_frame.specs.TextLines.{text_leaf}
 use Rattle.md_registry.specs.Registry.{turn_leaf, further_of, asked_first, leaf, bars_containers}
 
--- an outline can show the block that this has come to, if it has
+-- an outline can show the block that this has become, if it has
 abbrev pub ComesShallow : LeafResult → Type 0
 ComesShallow c = (bs : Blocks) → are_shallow bs ≡ true → are_shallow (came bs c).here ≡ true
 
--- A leaf of several lines: one is asked first whether a line goes on it, and takes that line as the line definition
+-- A leaf of several lines: one is asked first whether a line continues it, and takes that line as the line definition
 -- does.
 pub record OpenSpan (open_leaf : Leaf) : Type 0 where
   pub name : LeafName
@@ -33,7 +33,7 @@ pub record OpenSpan (open_leaf : Leaf) : Type 0 where
   pub goes : (options : ParseOptions) (r : Rest) →
       goes_on options open_leaf r ≡
       cond ((leaf name).starts options (kind_of_leaf open_leaf) r) (Some ((leaf name).comes options open_leaf r)) None
-  -- what it comes to may be open, and an outline can show it
+  -- what it becomes may be open, and an outline can show it
   pub built : (options : ParseOptions) (r : Rest) → (leaf name).starts options (kind_of_leaf open_leaf) r ≡ true →
       IsBuiltLeaf (left_by ((leaf name).comes options open_leaf r))
   pub shallow : (options : ParseOptions) (r : Rest) → ComesShallow ((leaf name).comes options open_leaf r)
@@ -41,21 +41,21 @@ pub record OpenSpan (open_leaf : Leaf) : Type 0 where
   pub closed : (options : ParseOptions) (bs : Blocks) → are_shallow bs ≡ true →
       are_shallow (then_leaf options bs open_leaf) ≡ true
 
--- What a line comes to that begins a leaf: what is held behind it is what the line definition has there, it may be
--- open, and an outline can show it.
+-- What a line becomes that begins a leaf: what is held after it is what the line definition has there, it may be open,
+-- and an outline can show it.
 pub record Begun (l : LeafName) (options : ParseOptions) (on : HeldLeaf) (r : Rest) : Type 0 where
   pub holds : kind_of_leaf (left_by ((leaf l).comes options NoLeaf r)) ≡ (leaf l).holds options on r
   pub built : IsBuiltLeaf (left_by ((leaf l).comes options NoLeaf r))
   pub shallow : ComesShallow ((leaf l).comes options NoLeaf r)
 
--- A line that goes on text: it turns the lines that remain behind the definitions at the front of the text into one
+-- A line that continues text: it turns the lines that remain after the definitions at the front of the text into one
 -- block.
 pub record TurnsText (l : LeafName) : Type 0 where
   pub ends : (leaf l).ends ≡ false
   pub same : further_of l ≡ l
   pub comes : (options : ParseOptions) (lines : List ParagraphLine) (r : Rest) →
       (leaf l).comes options (text_leaf.held lines) r ≡ Finished (turn_leaf.block (cut options (texts lines)).1 r)
-  -- something stands on it, and an outline can show the block
+  -- something is on it, and an outline can show the block
   pub filled : (options : ParseOptions) (on : HeldLeaf) (r : Rest) → (leaf l).starts options on r ≡ true →
       is_blank r.bytes ≡ false
   pub shallow : (lines : List (List ℕ)) (r : Rest) → is_shallow (turn_leaf.block lines r) ≡ true

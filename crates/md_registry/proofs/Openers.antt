@@ -1,5 +1,5 @@
--- The states of the document in front of containers that may open, whichever are built, by the order in which these are
--- tried: each has its place in the table, and what is left there is what the container and those behind it leave.
+-- The states of the document before containers that may open, whichever are built, by the order in which these are
+-- tried: each has its place in the table, and what is left there is what the container and those after it leave.
 use Rattle.std.proofs.Common.{◌≡◌, ◌+◌, ◌*◌, suc, ◌<◌, List, [], ◌∷◌, length, refl, ap, ◌∙◌, subst, arith}
 use Rattle.md_engine.specs.declared.configuration.ParseOptions.{ParseOptions}
 use Rattle.md_engine.specs.declared.state.Name.{Name as StateName}
@@ -39,7 +39,7 @@ at-opener kind.BlockQuote =
 at-opener _ =
     record { owned = refl; rank = refl; tries = refl; does = λ w. refl; left = λ options next cells h. refl }
 
--- What is left in front of a container, and in front of the next.
+-- What is left before a container, and before the next.
 
 pub left-front : (options : ParseOptions) (next : Rule) (ks : List ContainerKind) (cells : List Cell) (h : Here) →
     NextOpener ks → containers_behave options next (opener_front ks) cells h ≡ openers_of options next ks cells h
@@ -55,8 +55,7 @@ fits-before k =
     let P : Scheme → Type 1 = λ S. Fits flow_table_scheme S (n.Document (container_rules k).before) in
     subst P (at-opener k).owned (fits flow_owner (n.Document (container_rules k).before))
 
--- one that tries a container in front of these has more ranks than the first of them has tries, which has more than
--- ranks
+-- one that tries a container before these has more ranks than the first of them has tries, which has more than ranks
 pub front-fits : (from : StateName) (ks : List ContainerKind) → Fits flow_table_scheme flow_scheme from → NextOpener
     ks →
     11 + 2 * length trials + 2 * length ks < (flow_rank from).number →

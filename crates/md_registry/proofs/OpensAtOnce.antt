@@ -1,4 +1,4 @@
--- A container that opens at once is what the states come to that try one kind after another.
+-- A container that opens at once is what the states become that try one kind after another.
 use Rattle.std.proofs.Common.{◌≡◌, ℕ, Bool, true, false, ◌||◌, nat_eq, List, [], ◌∷◌, Option, Some, refl, sym, ◌∙◌, ap}
 use Rattle.std.proofs.Common.{subst}
 use Rattle.std.specs.List.{list_any}
@@ -30,7 +30,7 @@ use Rattle.md_registry.specs.States.{FlowStep}
 use Rattle.md_registry.proofs.LinesAtOnce.{openers-refuse}
 use Rattle.md_registry.proofs.ListItem.Plain.{has-item}
 
--- the kinds that are tried in front of one
+-- the kinds that are tried before one
 abbrev fronts : ℕ → List ContainerKind → List ContainerKind
 fronts m [] = []
 fronts m (k ∷ ks) = if kind_number k == m then [] else k ∷ fronts m ks
@@ -38,7 +38,7 @@ fronts m (k ∷ ks) = if kind_number k == m then [] else k ∷ fronts m ks
 abbrev in_front : List ContainerKind
 in_front = fronts (kind_number kind.ListItem) openers
 
--- a bullet opens none of those that are tried in front of an item
+-- a bullet opens none of those that are tried before an item
 bullets-refused : (b : ℕ) → is_bullet b ≡ true → list_any (λ (k : ContainerKind). may_open k b) in_front ≡ false
 bullets-refused b h = go (nat_eq b 42) (nat_eq b 43) (nat_eq b 45) refl refl refl h
   where
@@ -51,7 +51,7 @@ bullets-refused b h = go (nat_eq b 42) (nat_eq b 43) (nat_eq b 45) refl refl ref
     go false false true e f g is = subst P (sym (eqb-true b 45 g)) refl
     go false false false e f g is = cc
 
--- an item without a number is tried behind others that are refused, and opens
+-- an item without a number is tried after others that are refused, and opens
 pub bullet-opens : (is_end : Bool) (s : State) (v w : World) →
     CameTo FlowStep is_end s v (n.Document (opener_front openers)) w → w.current ≡ looks w → Within w →
     IsPlainBullet w →

@@ -1,4 +1,4 @@
--- Where a line ends those containers go on that the tokenizer tells.
+-- Where a line ends those containers continue that the tokenizer shows.
 use Rattle.std.proofs.Common.{◌≡◌, ℕ, zero, suc, ◌+◌, Bool, true, false, cond, List, [], ◌∷◌, drop, sym, ◌∙◌, ap, arith}
 use Rattle.md_engine.specs.KnownContinuing.{EndsContinuing, goes_over_empty}
 use Rattle.md_engine.specs.declared.tokenizer.container.Container.{Container}
@@ -6,11 +6,11 @@ use Rattle.md_registry.specs.LineFlags.{over_end}
 use Rattle.md_registry.specs.Registry.{goes_over}
 use Rattle.md_registry.proofs.Registry.{container-laws}
 
--- one goes on over an empty line as its kind tells
+-- one continues over an empty line as its kind shows
 pub goes-over-empty : (c : Container) → goes_over_empty c ≡ goes_over c
 goes-over-empty c = (container-laws c.kind).over_kind c
 
--- how many go on behind one, by whether it does
+-- how many continue after one, by whether it does
 counted : (c : Container) (cs : List Container) (x : Bool) → goes_over_empty c ≡ x →
     over_end (c ∷ cs) ≡ cond x (suc (over_end cs)) 0
 counted c cs x e = ap (λ (y : Bool). cond y (suc (over_end cs)) 0) (sym (goes-over-empty c) ∙ e)

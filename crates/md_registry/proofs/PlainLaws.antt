@@ -18,23 +18,23 @@ use Rattle.md_registry.specs.LineFlags.{asking}
 use Rattle.md_registry.specs.Registry.{opener_front, openers}
 use Rattle.md_registry.specs.States.{FlowStep}
 
--- the states where one that is tried goes on, and where it does not
+-- the states where one that is tried continues, and where it does not
 abbrev pub after-it : State
 after-it = Next (n.Document document.ContainerExistingAfter)
 
 abbrev pub others : State
 others = Next (n.Document (opener_front openers))
 
--- Behind it something may be read, and is seen, and less is left.
+-- After it something may be read, and is seen, and less is left.
 pub record TookPrefix (w u : World) : Type 0 where
   pub seen : u.current ≡ looks u
   pub inside : u.point.index < u.setting.limit
   pub less : cells_left u.setting.limit u.point < cells_left w.setting.limit w.point
 
 pub record PlainLaws (rules : ContainerRules) : Type 1 where
-  -- what stands here does not depend on who is asked
+  -- what is here does not depend on who is asked
   pub asked : (w : World) (c d : Container) → rules.plain c w → rules.plain c (asking d w)
-  -- where it stands the container may go on, and the line does not end
+  -- where it is the container may continue, and the line does not end
   pub may : (w : World) (c : Container) → rules.plain c w → w.current ≡ looks w →
       may_with rules.may_go_on (looks_behind w) ≡ true
   pub not_end : (w : World) (c : Container) → rules.plain c w → w.current ≡ looks w → ends_line w.current ≡ false

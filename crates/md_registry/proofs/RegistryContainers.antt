@@ -34,7 +34,7 @@ use Rattle.md_frame.proofs.RegistryRead.{HasKind, IsRead, IsReadTaken, of-read}
 pub known-name : (k : Known) (c : Container) → MatchesContainer k c → name_of k.kind ≡ container_name c
 known-name k c is = (container-facts c).held k.kind is.0
 
--- an open container goes on where its cells say so;
+-- an open container continues where its cells say so;
 pub further-is : (options : ParseOptions) (k : Known) (c : Container) (cells : List Cell) (h : Here) →
     IsRest h.scratch → h.flags.asked ≡ k → h.flags.asked_column ≡ h.point.column → MatchesContainer k c →
     continues_at options k.kind cells h ≡ passed_by (goes_at options c cells h.point) h
@@ -42,7 +42,7 @@ further-is options k c cells h rest asked column is =
     (container-laws k.kind).continues_is options k c cells h rest asked column is.0 is.1
     ∙ ap (λ (o : Option ContainerKind). passed_by (goes_by options c cells h.point o) h) (sym is.0)
 
--- what is held of a container that goes on or opens is of its kind, and matches it
+-- what is held of a container that continues or opens is of its kind, and matches it
 held-matches : (k : ContainerKind) (t : Passed) → t.held.kind ≡ k → IsOf k t.container →
     (container_rules k).holds t.held t.container → MatchesContainer t.held t.container
 held-matches k t kind one holds =
@@ -77,7 +77,7 @@ pub goes-within : (options : ParseOptions) (c : Container) (cells : List Cell) (
     goes_at options c cells p ≡ Some t → length t.cells ≤ length cells
 goes-within options c cells p t e = (goes-passes options c cells p t e).1.within
 
--- where the line ends, what is held tells whether it does
+-- where the line ends, what is held shows whether it does
 pub goes-over : (options : ParseOptions) (k : Known) (c : Container) (cells : List Cell) (p : Point) →
     MatchesContainer k c → ends_line (first_seen cells) ≡ true →
     goes_at options c cells p ≡ cond (goes_over k) (Some (passed_over k c cells p)) None
@@ -156,7 +156,7 @@ read-kind c read = go (container_kind c) refl read
     go None e read = absurd read
     go (Some k) e read = (k, e)
 
--- an open container goes on by the cells where it does by the bytes
+-- an open container continues by the cells where it does by the bytes
 pub goes-agrees : (options : ParseOptions) (c : Container) → IsRead c → ByRest (λ line text past r stop p.
     let cells = rest_cells line r p ++ stop in
     Agree (HasFurther line text past p (past_rest r p) stop cells) (goes_at options c cells p) (continues options c r))
@@ -218,7 +218,7 @@ opens-read options interrupting r =
         go None e more = more
         go (Some t) e more = of-read k t.container ((container-laws k).found_one options interrupting r t e)
 
--- over an empty line a container goes on as it is, or it does not
+-- over an empty line a container continues as it is, or it does not
 pub over-empty : (options : ParseOptions) (c : Container) (column : ℕ) → IsRead c →
     (x : Bool)
     × (continues options c (rest_at column []) ≡

@@ -55,7 +55,7 @@ use Rattle.md_registry.proofs.ConstructStates.{tried-before, is-tried, white_fit
 chunk_fits : ChunkFits flow_table_scheme
 chunk_fits = record { each = λ state. fits flow_owner (n.Content state) }
 
--- flow goes on here with a state of its own that ranks below
+-- flow continues here with a state of its own that ranks below
 goes_on : (from next : StateName) (w : World) (events : List Event) (g : Flags) → flow_owner from ≡ flow_scheme →
     flow_owner next ≡ flow_scheme → flow_ready (position w) (after_all flow_table_scheme w.frames) →
     (flow_rank next).number < (flow_rank from).number →
@@ -163,7 +163,7 @@ flow_end w (Some b) r e = go (nat_eq b 10) refl
           refl,
         )
 
--- the states in front of a container that may open,
+-- the states before a container that may open,
 opener_terminates : (state : DocumentState) (o : Option ContainerKind) → opener_at state ≡ o → (w : World) →
     (opener_owner o).ready (n.Document state) (position w) (after_all flow_table_scheme w.frames) →
     Does flow_table_scheme (n.Document state) w (opener_transition o w)
@@ -194,7 +194,7 @@ containers_do state w c at = opener_terminates state (opener_at state) refl w at
 
 -- The leaf of a line.
 
--- where one goes on behind a leaf
+-- where one continues after a leaf
 ends-fit : (ends : Bool) → Fits flow_table_scheme flow_scheme (n.Flow (leaf_end ends))
 ends-fit true = fits flow_owner (n.Flow flow.LeafAfter)
 ends-fit false = fits flow_owner (n.Flow flow.After)
@@ -203,7 +203,7 @@ ends-low : {size : ℕ} (ends : Bool) → 1 < size → (flow_rank (n.Flow (leaf_
 ends-low true low = low
 ends-low false low = low
 
--- a leaf is tried in front of these
+-- a leaf is tried before these
 leaf_tried : (from : StateName) (l : LeafName) (ls : List LeafName) (w : World) (may : Bool) →
     TrialFits flow_table_scheme from (n.Flow (front_of ls)) → flow_ready (position w)
     (after_all flow_table_scheme w.frames) →
@@ -226,7 +226,7 @@ leaf_terminates state (Some l) e w at =
     (may_with ((leaf l).may_begin w.flags.leaf (sees_white w.current)) (looks_behind w))
     (leaf-fits l (is-tried state l e)) at)
 
--- and by the row of the byte that stands here
+-- and by the row of the byte that is here
 row_terminates : (w : World) (ls : List LeafName) → AreNext ls →
     flow_ready (position w) (after_all flow_table_scheme w.frames) →
     Does flow_table_scheme (n.Flow flow.Start) w (row_transition ls w)

@@ -32,7 +32,7 @@ Anywhere x = Unit {0}
 abbrev pub IsWithin : Position → Type 0
 IsWithin x = ends_line (seen x) ≡ false
 
--- the same of containers: of the first state of one, where it may open, and of the one in front of its prefix
+-- the same of containers: of the first state of one, where it may open, and of the one before its prefix
 pub record ContainerFits (T : Scheme) (Where : Position → Type 0) (start : StateName) : Type 1 where
   pub own : Scheme
   pub starts : Fits T own start
@@ -40,7 +40,7 @@ pub record ContainerFits (T : Scheme) (Where : Position → Type 0) (start : Sta
   pub ready : (x : Position) (K : After) → IsRest x.scratch → Where x → EndsLater IsRest IsRest x K →
       own.ready start x K
 
--- a state that tries something, and the one in front of what is tried next, are those of flow, and fall
+-- a state that tries something, and the one before what is tried next, are those of flow, and fall
 pub record TrialFits (T : Scheme) (from nok : StateName) : Type 1 where
   pub front : Fits T flow_scheme from
   pub next : Fits T flow_scheme nok
@@ -54,7 +54,7 @@ LeafFits T l = TrialFits T (n.Flow (leaf l).before) (n.Flow (next_of l))
 abbrev pub OpenerFits : Scheme → ContainerKind → Type 1
 OpenerFits T k = TrialFits T (n.Document (container_rules k).before) (n.Document (next_opener k))
 
--- flow goes on here with a state that ranks below
+-- flow continues here with a state that ranks below
 pub turned : (T : Scheme) (from next : StateName) (w : World) (events : List Event) (g : Flags) →
     Fits T flow_scheme from → Fits T flow_scheme next → flow_ready (position w) (after_all T w.frames) →
     (flow_rank next).number < (flow_rank from).number →
@@ -62,7 +62,7 @@ pub turned : (T : Scheme) (from next : StateName) (w : World) (events : List Eve
 turned T from next w events g here there r lt =
     (turns T flow_scheme from next w events w.scratch here there r (omega arith) lt, refl)
 
--- a trial that is refused at once goes on with such a state
+-- a trial that is refused at once continues with such a state
 refused : (T : Scheme) (from nok : StateName) (w : World) (g : Flags) → TrialFits T from nok →
     flow_ready (position w) (after_all T w.frames) →
     Does T from w (record { to = Retry nok; world = record w { flags = g } })

@@ -1,5 +1,5 @@
--- The states of flow in front of leaves, whichever are built, by the order in which these are tried: each has its place
--- in the table, and what is left there is what the leaf and those behind it leave.
+-- The states of flow before leaves, whichever are built, by the order in which these are tried: each has its place in
+-- the table, and what is left there is what the leaf and those after it leave.
 use Rattle.std.proofs.Common.{◌≡◌, ◌+◌, ◌*◌, suc, ◌<◌, List, [], ◌∷◌, length, refl, ap, ◌∙◌, subst, arith}
 use Rattle.md_engine.specs.declared.configuration.ParseOptions.{ParseOptions}
 use Rattle.md_engine.specs.declared.state.Name.{Name as StateName}
@@ -32,7 +32,7 @@ at-trial FenceFurther is = absurd (cc)
 at-trial HtmlFurther is = absurd (cc)
 at-trial _ is = record { owned = refl; rank = refl; tries = refl; left = λ options next cells h. refl }
 
--- What is left in front of a leaf, and in front of the next.
+-- What is left before a leaf, and before the next.
 
 pub left-list : (options : ParseOptions) (next : Rule) (ls : List LeafName) (cells : List Cell) (h : Here) → NextIs ls →
     leaves_behave options next (front_of ls) cells h ≡ leaves_of options next ls cells h
@@ -48,7 +48,7 @@ fits-before l is =
     let P : Scheme → Type 1 = λ S. Fits flow_table_scheme S (n.Flow (leaf l).before) in
     subst P (at-trial l is).owned (fits flow_owner (n.Flow (leaf l).before))
 
--- one that tries a leaf in front of these has more ranks than the first of them has tries, which has more than ranks
+-- one that tries a leaf before these has more ranks than the first of them has tries, which has more than ranks
 pub front-fits : (from : StateName) (ls : List LeafName) → Fits flow_table_scheme flow_scheme from → NextIs ls →
     5 + 2 * length ls < (flow_rank from).number → TrialFits flow_table_scheme from (n.Flow (front_of ls))
 front-fits from [] here is lt = record {
@@ -75,7 +75,7 @@ leaf-fits l is =
     let here = (at-trial l is).rank in
     front-fits (n.Flow (leaf l).before) (behind l) (fits-before l is) (leaf-next l is) (omega (arith, here))
 
--- and the first state of one stands in the table
+-- and the first state of one is in the table
 pub inside_fits : (l : LeafName) → InsideFits flow_table_scheme (leaf l).start
 inside_fits l = record {
   own = flow_owner (leaf l).start;

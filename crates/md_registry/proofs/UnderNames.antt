@@ -1,5 +1,5 @@
--- A line that goes on text is one of a table, if it takes the last line of that as its head, or else the underline of a
--- setext heading.
+-- A line that continues text is one of a table, if it takes the last line of that as its head, or else the underline of
+-- a setext heading.
 use Rattle.std.proofs.Common.{◌≡◌, true, false, refl, ap}
 use Rattle.md_engine.specs.declared.configuration.ParseOptions.{ParseOptions}
 use Rattle.md_engine.specs.declared.tokenizer.held_leaf.HeldLeaf.{HeldLeaf}
@@ -14,7 +14,7 @@ pub further-text : (at : OpenText) (l : LeafName) → (leaf l).further (held_lea
 further-text at HeadingSetext f h = refl
 further-text at _ f h = cc
 
--- no leaf is open behind it
+-- no leaf is open after it
 pub under-shuts : (at : OpenText) (l : LeafName) → (leaf l).further (held_leaf.Text at) ≡ true →
     (leaf l).heads ≡ false →
     (options : ParseOptions) (on : HeldLeaf) (r : Rest) → (leaf l).holds options on r ≡ held_leaf.None

@@ -1,4 +1,4 @@
--- Containers whose prefixes are taken at once, and lines where one look tells that none opens, or that no leaf begins.
+-- Containers whose prefixes are taken at once, and lines where one look shows that none opens, or that no leaf begins.
 use Rattle.std.specs.Prelude.{◌≡◌, ℕ, Bool, false, not, ◌&&◌, ◌||◌, ◌==◌, List, [], ◌∷◌, Option, None, Some}
 use Rattle.std.specs.List.{list_any}
 use Rattle.md_meaning.specs.Rest.{is_white}
@@ -11,7 +11,7 @@ use Rattle.md_frame.specs.LeafName.{GfmTable}
 use Rattle.md_registry.specs.Registry.{container_rules, leaf, may_open, openers}
 use Rattle.md_meaning.specs.Ascii.{asterisk, backtick, dollar, equals_sign, hash, hyphen, less_than, tilde, underscore}
 
--- the prefix of a container on a further line stands here, by its kind, and can be taken at once
+-- the prefix of a container on a further line is here, by its kind, and can be taken at once
 abbrev pub HasPrefix : Container → ContainerKind → World → Type 0
 HasPrefix c k w = (container_rules k).plain c w
 
@@ -19,7 +19,7 @@ HasPrefix c k w = (container_rules k).plain c w
 abbrev pub prefix_taken : Container → ContainerKind → World → World
 prefix_taken c k w = (container_rules k).taken c w
 
--- a container is open that was not asked yet, and its prefix stands here
+-- a container is open that was not asked yet, and its prefix is here
 pub record GoesAtOnce (w : World) : Type 0 where
   pub held : Container
   pub next : next_container w.flags ≡ Some held
@@ -35,7 +35,7 @@ asking_next w = asking_by (next_container w.flags) w
 
 -- Lines that open nothing.
 
--- what stands here is no whitespace and does not end the line, and no container may open with it
+-- what is here is no whitespace and does not end the line, and no container may open with it
 abbrev pub opens_none : Option ℕ → Bool
 opens_none None = false
 opens_none (Some b) = not (is_white b || b == 10 || list_any (λ k. may_open k b) openers)
@@ -47,7 +47,7 @@ is_common b =
     (b == hash || b == dollar || b == backtick || b == tilde || b == asterisk || b == underscore || b == hyphen
     || b == equals_sign || b == less_than)
 
--- whether one look tells that the rest of a line is content, where the line meets this leaf: what stands here is no
+-- whether one look shows that the rest of a line is content, where the line meets this leaf: what is here is no
 -- whitespace and does not end the line, and only a table may begin with it, which does not
 abbrev pub content_alone : HeldLeaf → Option ℕ → Bool
 content_alone on None = false

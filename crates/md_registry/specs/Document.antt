@@ -33,12 +33,12 @@ start_transition w =
 abbrev pub before_frontmatter_transition : World → Transition
 before_frontmatter_transition w = record { to = Retry (s.Frontmatter front.Start); world = tried w Ok Ok }
 
--- behind the last container that may open, where none does: the containers of the line are all there
+-- after the last container that may open, where none does: the containers of the line are all there
 abbrev pub none_opens_transition : World → Transition
 none_opens_transition w = record { to = Retry (s.Document document.ContainersAfter); world = w }
 
--- each state with what it does, where there is memory: in front of the lines, and between the containers of a line;
--- those of blocks that are not built refuse
+-- each state with what it does, where there is memory: before the lines, and between the containers of a line; those of
+-- blocks that are not built refuse
 abbrev pub document_own_transition : DocumentState → World → Transition
 document_own_transition document.Start w = start_transition w
 document_own_transition document.BeforeFrontmatter w = before_frontmatter_transition w
@@ -61,7 +61,7 @@ document_scheme =
 
 -- The table: which construct has each state, and what each does.
 
--- the states of its lines stand in the table of flow
+-- the states of its lines are in the table of flow
 abbrev pub front_owner : DocumentState → Scheme
 front_owner document.Start = document_scheme
 front_owner document.BeforeFrontmatter = document_scheme

@@ -1,4 +1,4 @@
--- The lines of a text: which containers go on and open on each, and which block starts on the rest of it.
+-- The lines of a text: which containers continue and open on each, and which block starts on the rest of it.
 use Rattle.std.specs.Prelude.{refl, ℕ, Bool, true, false, ◌+◌, ◌*◌, ◌==◌, ◌||◌, if◌then◌else◌, length, List, [], ◌∷◌}
 use Rattle.std.specs.Prelude.{Option, Some, None}
 use Rattle.md_engine.specs.declared.state.document.State.{State as DocumentState}
@@ -30,8 +30,8 @@ use Rattle.md_registry.specs.Registry.{opens_with, rank_of, row, bars_containers
 
 -- What is tried.
 
--- by whether a construct may begin here: then it is tried by its first state, and flow goes on by whether it took what
--- stands here; elsewhere it is refused at once
+-- by whether a construct may begin here: then it is tried by its first state, and flow continues by whether it took
+-- what is here; elsewhere it is refused at once
 abbrev pub trial_code : StateName → StateName → StateName → World → Bool → Transition
 trial_code start ok nok w true = record { to = Retry start; world = tried w (Next ok) (Next nok) }
 trial_code start ok nok w false = record { to = Retry nok; world = w }
@@ -48,12 +48,12 @@ abbrev pub blank_line_before_transition : World → Transition
 blank_line_before_transition w =
     blank_line_code w (ends_line w.current) (may_with blank.may_begin (looks_behind w))
 
--- where one goes on behind a leaf: one that always ends on its line is shut
+-- where one continues after a leaf: one that always ends on its line is shut
 abbrev pub leaf_end : Bool → FlowState
 leaf_end true = flow.LeafAfter
 leaf_end false = flow.After
 
--- in front of a leaf
+-- before a leaf
 abbrev pub before_transition : LeafName → World → Transition
 before_transition l w =
     trial_code (leaf l).start (s.Flow (leaf_end (leaf l).ends)) (s.Flow (next_of l)) w
@@ -69,7 +69,7 @@ abbrev pub start_by : World → ℕ → Bool → Transition
 start_by w b true = record { to = Retry (s.Flow flow.BlankLineBefore); world = w }
 start_by w b false = row_transition (row b) w
 
--- by what stands here
+-- by what is here
 abbrev pub start_code : World → Option ℕ → Transition
 start_code w None = record { to = Retry (s.Flow flow.BlankLineBefore); world = w }
 start_code w (Some b) = start_by w b (is_white b || b == 10)
@@ -81,28 +81,28 @@ abbrev pub before_content_transition : World → Transition
 before_content_transition w =
     record { to = Retry (s.Content content.ChunkStart); world = tried w (Next (s.Flow flow.After)) Nok }
 
--- behind a line of text
+-- after a line of text
 abbrev pub after_transition : World → Transition
 after_transition w = record { to = Retry (s.Document document.FlowEnd); world = w }
 
--- behind a leaf on one line none is open
+-- after a leaf on one line none is open
 abbrev pub leaf_after_transition : World → Transition
 leaf_after_transition w =
     record { to = Retry (s.Document document.FlowEnd); world = record w { flags = shut_leaf w.flags } }
 
--- behind a blank line no paragraph is open
+-- after a blank line no paragraph is open
 abbrev pub blank_line_after_transition : World → Transition
 blank_line_after_transition w =
     record { to = Retry (s.Document document.FlowEnd); world = record w { flags = blanked w.flags } }
 
 -- Containers.
 
--- where all containers went on, by whether a leaf is open in which none opens
+-- where all containers continued, by whether a leaf is open in which none opens
 abbrev pub behind_all : Bool → DocumentState
 behind_all true = document.ContainersAfter
 behind_all false = opener_front openers
 
--- by whether the line ends here, where none is asked and none opens, and by the container that may go on
+-- by whether the line ends here, where none is asked and none opens, and by the container that may continue
 abbrev pub existing_before_code : World → Bool → Option Container → Transition
 existing_before_code w true o =
     record { to = Retry (s.Document document.ContainersAfter); world = record w { flags = ended_on w.flags } }
@@ -119,7 +119,7 @@ abbrev pub existing_after_transition : World → Transition
 existing_after_transition w =
     record { to = Retry (s.Document document.ContainerExistingBefore); world = record w { flags = went_on w.flags } }
 
--- in front of a container that may open
+-- before a container that may open
 abbrev pub new_before_transition : ContainerKind → World → Transition
 new_before_transition k w =
     trial_code (opens_with k) (s.Document document.ContainerNewAfter) (s.Document (next_opener k))
@@ -138,7 +138,7 @@ new_after_transition w =
       world = record v { flags = with_container v.flags };
     }
 
--- by whether a leaf is asked first whether the line goes on it
+-- by whether a leaf is asked first whether the line continues it
 abbrev pub leaf_front : Bool → StateName
 leaf_front true = s.Document document.FlowInside
 leaf_front false = s.Flow flow.Start
@@ -148,7 +148,7 @@ containers_after_transition w =
     let g = begun_line w.flags in
     record { to = Retry (leaf_front (is_some (asked_first g.leaf))); world = record w { flags = g } }
 
--- by that leaf; the flags have whether nothing stands on the line
+-- by that leaf; the flags have whether nothing is on the line
 abbrev pub inside_code : World → Option LeafName → Transition
 inside_code w None = record { to = Retry (s.Flow flow.Start); world = w }
 inside_code w (Some l) =
@@ -158,7 +158,7 @@ inside_code w (Some l) =
 abbrev pub inside_transition : World → Transition
 inside_transition w = inside_code w (asked_first w.flags.leaf)
 
--- where a line ends: by what stands here
+-- where a line ends: by what is here
 abbrev pub flow_end_code : World → Option ℕ → Transition
 flow_end_code w None = record { to = Ok; world = closed w 0 (length w.events) }
 flow_end_code w (Some b) =
@@ -190,7 +190,7 @@ flow_own_transition flow.LeafAfter w = leaf_after_transition w
 flow_own_transition flow.After w = after_transition w
 flow_own_transition state w = leaf_transition (tried_at state) w
 
--- all leaves, and all containers that may open, count in what stands in front of them
+-- all leaves, and all containers that may open, count in what is before them
 abbrev leaves : ℕ
 leaves = 2 * length trials
 

@@ -31,7 +31,7 @@ use Rattle.md_registry.specs.LineFlags.{asks, begun_line, blanked, next_containe
 use Rattle.md_registry.specs.LineFlags.{blank_here, ended_on, nothing_stands, shut_leaf, went_on, with_container}
 use Rattle.md_frame.specs.Rule.{Rule, tried}
 
--- the containers behind so many end, in front of the event at an index
+-- the containers after so many end, before the event at an index
 abbrev pub ended_to : ℕ → ℕ → Here → Here
 ended_to keep at h = record h {
   events = closed_events keep at h.flags.containers h.events h.point;
@@ -51,20 +51,20 @@ ended next (c ∷ cs) h =
     })
     else Refuses h.scratch h.flags
 
--- behind the leaf of a line: containers that did not go on end before it, unless it goes on the open paragraph
+-- after the leaf of a line: containers that did not continue end before it, unless it continues the open paragraph
 abbrev pub line_ended : Rule → Rule
 line_ended next cells h = ended next cells (ended_to (kept_containers h.flags) h.flags.line_end h)
 
--- behind a leaf on one line none is open
+-- after a leaf on one line none is open
 abbrev pub leaf_ended : Rule → Rule
 leaf_ended next cells h = line_ended next cells (record h { flags = shut_leaf h.flags })
 
--- behind a leaf, by whether it always ends on its line
+-- after a leaf, by whether it always ends on its line
 abbrev pub behind_leaf : Bool → Rule → Rule
 behind_leaf true next cells h = leaf_ended next cells h
 behind_leaf false next cells h = line_ended next cells h
 
--- behind a blank line no paragraph is open
+-- after a blank line no paragraph is open
 abbrev pub blank_ended : Rule → Rule
 blank_ended next cells h = line_ended next cells (record h { flags = blanked h.flags })
 
@@ -82,17 +82,17 @@ leaves_of options next (l ∷ ls) cells h =
 abbrev pub nonblank_of : ParseOptions → Rule → Rule
 nonblank_of options next cells h = leaves_of options next trials cells h
 
--- the rest of a line behind its containers
+-- the rest of a line after its containers
 abbrev pub leaf_of : ParseOptions → Rule → Rule
 leaf_of options next cells h =
     tried (blank_at cells h) (blank_ended next)
     (λ s g. nonblank_of options next cells (record h { scratch = s; flags = g }))
 
--- where nothing stands on the line, its ending is that of a blank line, also where a leaf goes on over it
+-- where nothing is on the line, its ending is that of a blank line, also where a leaf continues over it
 abbrev pub blank_at_end : List Cell → Here → Here
 blank_at_end cells h = record h { flags = blank_here (nothing_stands (first_seen cells) h.point) h.flags }
 
--- by the leaf that is asked first whether the line goes on it
+-- by the leaf that is asked first whether the line continues it
 abbrev pub inside_by : ParseOptions → Rule → Option LeafName → Rule
 inside_by options next None cells h = leaf_of options next cells h
 inside_by options next (Some l) cells h =
@@ -104,19 +104,19 @@ inside_of options next cells h = inside_by options next (asked_first h.flags.lea
 
 -- Containers. Each takes a cell at least, so there are no more of them than cells.
 
--- behind all containers
+-- after all containers
 abbrev pub behind_containers : ParseOptions → Rule → Rule
 behind_containers options next cells h = inside_of options next cells (record h { flags = begun_line h.flags })
 
--- this one is asked whether it goes on, or tried
+-- this one is asked whether it continues, or tried
 abbrev pub asking_here : Container → Here → Here
 asking_here c h = record h { flags = asks c h.point.column h.flags }
 
--- a container opens, and those that did not go on end
+-- a container opens, and those that did not continue end
 abbrev pub opened : Here → Here
 opened h = let k = ended_to h.flags.continued h.flags.line_end h in record k { flags = with_container k.flags }
 
--- these are tried one after another: the first that opens goes on in one way, and where none does the line in another
+-- these are tried one after another: the first that opens continues in one way, and where none does the line in another
 abbrev pub opens_of : ParseOptions → Rule → Rule → List ContainerKind → Rule
 opens_of options onward otherwise [] cells h = otherwise cells h
 opens_of options onward otherwise (k ∷ ks) cells h =
@@ -133,17 +133,17 @@ new_from options next (suc n) cells h =
 unfoldable pub new_of : ParseOptions → Rule → Rule
 new_of options next cells h = new_from options next (suc (length cells)) cells h
 
--- what is left in front of these
+-- what is left before these
 abbrev pub openers_of : ParseOptions → Rule → List ContainerKind → Rule
 openers_of options next ks cells h =
     opens_of options (λ rest k. new_of options next rest (opened k)) (behind_containers options next) ks cells h
 
--- where all containers went on, by whether a leaf is open in which none opens
+-- where all containers continued, by whether a leaf is open in which none opens
 abbrev pub all_on : ParseOptions → Rule → Bool → Rule
 all_on options next true cells h = behind_containers options next cells h
 all_on options next false cells h = new_of options next cells h
 
--- each container is asked whether it goes on, from the outermost in, until one does not
+-- each container is asked whether it continues, from the outermost in, until one does not
 abbrev pub existing_by : ParseOptions → Rule → Rule → Option Container → Rule
 existing_by options next further None cells h = all_on options next (bars_containers h.flags.leaf) cells h
 existing_by options next further (Some c) cells h =
@@ -175,8 +175,8 @@ flow_lines options (suc n) cells h = line_then options (flow_lines options n) ce
 unfoldable pub flow_at : ParseOptions → Rule
 flow_at options cells h = flow_lines options (suc (length cells)) cells h
 
--- what is left by a rule for what follows behind the line: at each state in front of a container that may open, by the
--- one that is tried there,
+-- what is left by a rule for what follows after the line: at each state before a container that may open, by the one
+-- that is tried there,
 abbrev pub opener_behaves : ParseOptions → Rule → Option ContainerKind → Rule
 opener_behaves options next None cells h = Refuses h.scratch h.flags
 opener_behaves options next (Some k) cells h = openers_of options next (k ∷ openers_behind k) cells h
@@ -194,12 +194,12 @@ containers_behave options next document.ContainerNewBeforeNotFootnoteDefinition 
     behind_containers options next cells h
 containers_behave options next state cells h = opener_behaves options next (opener_at state) cells h
 
--- at each state in front of a leaf, by the leaf that is tried there,
+-- at each state before a leaf, by the leaf that is tried there,
 abbrev pub leaf_behaves : ParseOptions → Rule → Option LeafName → Rule
 leaf_behaves options next None cells h = Refuses h.scratch h.flags
 leaf_behaves options next (Some l) cells h = leaves_of options next (l ∷ behind l) cells h
 
--- and at each that is in front of none, or behind it,
+-- and at each that is before none, or after it,
 abbrev pub leaves_behave : ParseOptions → Rule → FlowState → Rule
 leaves_behave options next flow.Start cells h = leaf_of options next cells h
 leaves_behave options next flow.BlankLineBefore cells h = leaf_of options next cells h
@@ -244,7 +244,7 @@ FlowInvariant flow.LeafAfter w = Unit {0}
 FlowInvariant flow.After w = Unit {0}
 FlowInvariant _ w = IsRest w.scratch
 
--- a state of flow means: its call is one step of the rule of a line, whatever follows behind the line
+-- a state of flow means: its call is one step of the rule of a line, whatever follows after the line
 unfoldable pub FlowMeans : FlowState → World → State → World → Type 0
 FlowMeans state old to new = FlowInvariant state old → (next : Rule) →
     IsStep (λ B. HasFlow B old.setting.options next) (s.Flow state) to old new
@@ -261,18 +261,18 @@ ContainersInvariant document.FlowEnd w = w.frames ≡ []
 ContainersInvariant document.ContainerNewBeforeNotFootnoteDefinition w = Unit {0}
 ContainersInvariant _ w = IsRest w.scratch
 
--- such a state means: its call is one step of the rule of a line, and behind the ending of a line of the next line's
+-- such a state means: its call is one step of the rule of a line, and after the ending of a line of the next line's
 unfoldable pub ContainersMean : DocumentState → World → State → World → Type 0
 ContainersMean state old to new = ContainersInvariant state old → (next : Rule) (B : Behaviour) (feed : Feed) →
     HasFlow B old.setting.options next → Sees feed old →
     GoesOn B next (feeds (s.Document state) old.current) → Steps B feed (Next (s.Document state)) old to new
 
--- a state in front of the lines means: its call is one step of what is left of the document
+-- a state before the lines means: its call is one step of what is left of the document
 unfoldable pub FrontMeans : DocumentState → World → State → World → Type 0
 FrontMeans state old to new = (feed : Feed) →
     Steps (document_behaves old.setting.options) feed (Next (s.Document state)) old to new
 
--- each state of the document, in front of the lines or between the containers of one
+-- each state of the document, before the lines or between the containers of one
 abbrev pub DocumentMeans : DocumentState → World → State → World → Type 0
 DocumentMeans document.Start old to new = FrontMeans document.Start old to new
 DocumentMeans document.BeforeFrontmatter old to new = FrontMeans document.BeforeFrontmatter old to new

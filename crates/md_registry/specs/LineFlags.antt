@@ -9,25 +9,25 @@ use Rattle.md_engine.specs.World.{Flags, World}
 use Rattle.md_seam.specs.Spaces.{ends_line}
 use Rattle.md_registry.specs.Registry.{goes_over}
 
--- the outermost container that was not asked yet whether it goes on
+-- the outermost container that was not asked yet whether it continues
 abbrev pub next_container : Flags → Option Container
 next_container g = slice_get g.containers g.continued
 
--- this container is asked whether it goes on, or tried, where this column is
+-- this container is asked whether it continues, or tried, where this column is
 abbrev pub asks : Container → ℕ → Flags → Flags
 asks c column g = record g { asked = c; asked_column = column }
 
 abbrev pub asking : Container → World → World
 asking c w = record w { flags = asks c w.point.column w.flags }
 
--- the one that was asked goes on, and is held as it is behind its prefix
+-- the one that was asked continues, and is held as it is after its prefix
 abbrev pub went_on : Flags → Flags
 went_on g = record g {
   containers = slice_set g.containers g.continued g.asked;
   continued = if nat_lt g.continued (length g.containers) then suc g.continued else g.continued;
 }
 
--- how many of these go on where the line ends, up to the first that does not
+-- how many of these continue where the line ends, up to the first that does not
 abbrev pub over_end : List Container → ℕ
 over_end [] = 0
 over_end (c ∷ cs) = if goes_over c then suc (over_end cs) else 0
@@ -36,7 +36,7 @@ over_end (c ∷ cs) = if goes_over c then suc (over_end cs) else 0
 abbrev pub ended_on : Flags → Flags
 ended_on g = record g { continued = g.continued + over_end (drop g.continued g.containers) }
 
--- the one that was tried opens, where those that did not go on have ended: no paragraph is open in it
+-- the one that was tried opens, where those that did not continue have ended: no paragraph is open in it
 abbrev pub with_container : Flags → Flags
 with_container g = record g {
   containers = g.containers ++ g.asked ∷ [];
@@ -44,35 +44,34 @@ with_container g = record g {
   leaf = held_leaf.None;
 }
 
--- behind the containers of a line: the leaf is what the line meets, so one that has ended with its containers is open
--- no more
+-- after the containers of a line: the leaf is what the line meets, so one that has ended with its containers is open no
+-- more
 abbrev pub begun_line : Flags → Flags
 begun_line g =
     record g { leaf_before = g.leaf; leaf = met_by (not (nat_lt g.continued (length g.containers))) g.leaf }
 
--- whether nothing at all stands on a line, by what stands behind its containers and where: it ends there, in the column
--- where lines begin, so that no prefix stands in front
+-- whether nothing at all is on a line, by what follows its containers and where: it ends there, in the column where
+-- lines begin, so that no prefix is in front
 abbrev pub nothing_stands : Option ℕ → Point → Bool
 nothing_stands o p = ends_line o && (p.column == 1)
 
--- in front of the leaf that is asked first, by whether nothing stands on the line: its ending is then that of a blank
--- line
+-- before the leaf that is asked first, by whether nothing is on the line: its ending is then that of a blank line
 abbrev pub blank_here : Bool → Flags → Flags
 blank_here nothing g = record g { blank = nothing }
 
--- behind a leaf on one line none is open
+-- after a leaf on one line none is open
 abbrev pub shut_leaf : Flags → Flags
 shut_leaf g = record g { leaf = held_leaf.None }
 
--- nor behind a blank line
+-- nor after a blank line
 abbrev pub blanked : Flags → Flags
 blanked g = record g { leaf = held_leaf.None; blank = true }
 
--- how many containers are still open behind a line: all of them behind a line of the paragraph that is open (CommonMark
--- 5.1, "laziness"), and else those that went on
+-- how many containers are still open after a line: all of them after a line of the paragraph that is open (CommonMark
+-- 5.1, "laziness"), and else those that continued
 abbrev pub kept_containers : Flags → ℕ
 kept_containers g = if takes_lazy g.leaf_before && takes_lazy g.leaf then length g.containers else g.continued
 
--- the next line begins, and so many events stood before the ending of this one
+-- the next line begins, and so many events was before the ending of this one
 abbrev pub next_line : ℕ → Flags → Flags
 next_line len g = record g { blank = false; continued = 0; line_end = len }

@@ -61,8 +61,8 @@ use Rattle.md_frame.specs.LeafName.{HtmlFlow, HtmlFurther, LeafName, ThematicBre
 use Rattle.md_frame.specs.ContainerNames.{IsOf, container_kind, kind_number}
 
 -- Leaves that take a line: of indented code, of fenced code and math, and of HTML, one takes the first line, and one
--- each further line. The underline of a setext heading takes a line that turns the text in front of it; one more leaf
--- takes the delimiter row of a table, which makes the line of text in front of it a head, and the rows of its body.
+-- each further line. The underline of a setext heading takes a line that turns the text before it; one more leaf takes
+-- the delimiter row of a table, which makes the line of text before it a head, and the rows of its body.
 
 abbrev pub leaf : LeafName → LineLeaf
 leaf CodeIndented = code_leaf
@@ -76,12 +76,12 @@ leaf HeadingSetext = setext_leaf
 leaf ThematicBreak = break_leaf
 leaf GfmTable = table_leaf
 
--- the order in which they are tried, behind blank lines and in front of content
+-- the order in which they are tried, after blank lines and before content
 abbrev pub trials : List LeafName
 trials = CodeIndented ∷ Fence ∷ HtmlFlow ∷ HeadingAtx ∷ HeadingSetext ∷ ThematicBreak ∷ GfmTable ∷ []
 
 -- The row of a byte that is neither whitespace nor an ending: the leaves that are tried, in order, where it comes first
--- on the rest of a line, and behind them content. Where whitespace comes first all of them are tried.
+-- on the rest of a line, and after them content. Where whitespace comes first all of them are tried.
 unfoldable pub row : ℕ → List LeafName
 row b =
     if b == hash then HeadingAtx ∷ GfmTable ∷ []
@@ -92,7 +92,7 @@ row b =
     else if b == less_than then HtmlFlow ∷ GfmTable ∷ []
     else GfmTable ∷ []
 
--- The leaf that is asked, in front of blank lines and all others, whether a line goes on the one that it meets.
+-- The leaf that is asked, before blank lines and all others, whether a line continues the one that it meets.
 unfoldable pub asked_first : HeldLeaf → Option LeafName
 asked_first on =
     if is_fence on then Some FenceFurther
@@ -100,7 +100,7 @@ asked_first on =
     else if is_code on then Some CodeFurther
     else None
 
--- Whether no container opens in this leaf, where all containers went on: in fences, math and HTML none does.
+-- Whether no container opens in this leaf, where all containers continued: in fences, math and HTML none does.
 unfoldable pub bars_containers : HeldLeaf → Bool
 bars_containers on = is_fence on || is_html on
 
@@ -125,7 +125,7 @@ tried_at _ = None
 abbrev pub behind : LeafName → List LeafName
 behind l = behind_in (number l) trials
 
--- the state in front of the first of these, and in front of content where none is left
+-- the state before the first of these, and before content where none is left
 abbrev pub front_of : List LeafName → FlowState
 front_of [] = flow.BeforeContent
 front_of (l ∷ ls) = (leaf l).before
@@ -133,7 +133,7 @@ front_of (l ∷ ls) = (leaf l).before
 abbrev pub next_of : LeafName → FlowState
 next_of l = front_of (behind l)
 
--- how far it is from the next byte: by how many are tried behind it
+-- how far it is from the next byte: by how many are tried after it
 abbrev pub weight : LeafName → ℕ
 weight l = 6 + 2 * length (behind l)
 
@@ -169,7 +169,7 @@ opener_at document.ContainerNewBeforeNotBlockQuote = Some kind.ListItem
 opener_at document.ContainerNewBeforeNotList = Some kind.GfmFootnoteDefinition
 opener_at _ = None
 
--- those that are tried behind one, where it does not open
+-- those that are tried after one, where it does not open
 abbrev pub openers_from : ℕ → List ContainerKind → List ContainerKind
 openers_from n [] = []
 openers_from n (k ∷ ks) = if kind_number k == n then ks else openers_from n ks
@@ -177,7 +177,7 @@ openers_from n (k ∷ ks) = if kind_number k == n then ks else openers_from n ks
 abbrev pub openers_behind : ContainerKind → List ContainerKind
 openers_behind k = openers_from (kind_number k) openers
 
--- the state in front of the first of these, and behind all containers where none is left
+-- the state before the first of these, and after all containers where none is left
 abbrev pub opener_front : List ContainerKind → DocumentState
 opener_front [] = document.ContainersAfter
 opener_front (k ∷ ks) = (container_rules k).before
@@ -185,7 +185,7 @@ opener_front (k ∷ ks) = (container_rules k).before
 abbrev pub next_opener : ContainerKind → DocumentState
 next_opener k = opener_front (openers_behind k)
 
--- how far it is from the next byte: by how many are tried behind it, and by the leaves
+-- how far it is from the next byte: by how many are tried after it, and by the leaves
 abbrev pub opener_weight : ContainerKind → ℕ
 opener_weight k = 12 + 2 * length trials + 2 * length (openers_behind k)
 
@@ -203,7 +203,7 @@ abbrev pub opener_tries : Option ContainerKind → Rank
 opener_tries None = ranked 2 refl
 opener_tries (Some k) = ranked (suc (opener_weight k)) (low_opener k).1
 
--- A container that the tokenizer holds is this one: it is of its kind, and holds what the events do not tell.
+-- A container that the tokenizer holds is this one: it is of its kind, and holds what the events do not show.
 abbrev pub MatchesContainer : Held → Container → Type 0
 MatchesContainer held c = IsOf held.kind c × (container_rules held.kind).holds held c
 
@@ -214,14 +214,14 @@ opens_with k = (container_rules k).start
 abbrev pub begins_at : ParseOptions → ContainerKind → List Cell → Here → Outcome
 begins_at options k cells h = (container_rules k).begins options cells h
 
--- and the same of the state in front of the prefix of one on a further line
+-- and the same of the state before the prefix of one on a further line
 abbrev pub goes_on_with : ContainerKind → StateName
 goes_on_with k = (container_rules k).further
 
 abbrev pub continues_at : ParseOptions → ContainerKind → List Cell → Here → Outcome
 continues_at options k cells h = (container_rules k).continues options cells h
 
--- what may stand first behind whitespace where one opens, and where the prefix of one on a further line begins
+-- what may be first after whitespace where one opens, and where the prefix of one on a further line begins
 abbrev pub may_open : ContainerKind → ℕ → Bool
 may_open k b = (container_rules k).may_open b
 
@@ -237,7 +237,7 @@ opens_by options interrupting cells p (k ∷ ks) =
 abbrev pub opens_at : ParseOptions → Bool → List Cell → Point → Option Passed
 opens_at options interrupting cells p = opens_by options interrupting cells p openers
 
--- and an open one, if it goes on
+-- and an open one, if it continues
 abbrev pub goes_by : ParseOptions → Container → List Cell → Point → Option ContainerKind → Option Passed
 goes_by options c cells p None = None
 goes_by options c cells p (Some k) = (container_rules k).goes options c cells p
@@ -245,7 +245,7 @@ goes_by options c cells p (Some k) = (container_rules k).goes options c cells p
 abbrev pub goes_at : ParseOptions → Container → List Cell → Point → Option Passed
 goes_at options c cells p = goes_by options c cells p (container_kind c)
 
--- whether an open one, which is held so, goes on where the line ends
+-- whether an open one, which is held so, continues where the line ends
 abbrev pub goes_over : Held → Bool
 goes_over held = (container_rules held.kind).over_empty held
 

@@ -1,4 +1,4 @@
--- What resolvers make of the events of a text: in front of content heads of tables are read again, and behind it each
+-- What resolvers make of the events of a text: before content heads of tables are read again, and after it each
 -- resolver of a construct that is built sets what is its own.
 use Rattle.std.specs.Prelude.{◌≡◌, Bool, ℕ, ◌||◌, if◌then◌else◌, List, Option, None}
 use Rattle.md_engine.specs.declared.configuration.ParseOptions.{ParseOptions}

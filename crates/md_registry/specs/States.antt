@@ -31,7 +31,7 @@ abbrev pub opener_owner : Option ContainerKind → Scheme
 opener_owner None = nowhere
 opener_owner (Some k) = flow_scheme
 
--- the states in front of the lines stand in the table of the document; no tokenizer stands at those that are not built
+-- the states before the lines are in the table of the document; no tokenizer is at those that are not built
 abbrev pub containers_owner : DocumentState → Scheme
 containers_owner document.ContainerExistingBefore = flow_scheme
 containers_owner document.ContainerExistingAfter = flow_scheme
@@ -41,7 +41,7 @@ containers_owner document.FlowInside = flow_scheme
 containers_owner document.FlowEnd = flow_scheme
 containers_owner state = opener_owner (opener_at state)
 
--- nor at those in front of leaves that are not built
+-- nor at those before leaves that are not built
 abbrev pub leaf_owner : Option LeafName → Scheme
 leaf_owner None = nowhere
 leaf_owner (Some l) = flow_scheme
@@ -89,7 +89,7 @@ pub record FlowStep (name : StateName) (w : World) (to : State)
   pub to_is : to ≡ (flow_transition name w).to
   pub new_is : new ≡ (flow_transition name w).world
 
--- what is left at each state, where this is the text, by a rule for what follows behind the line,
+-- what is left at each state, where this is the text, by a rule for what follows after the line,
 abbrev pub flow_behaves_by : List ℕ → ParseOptions → Rule → Behaviour
 flow_behaves_by bytes options next (s.BlankLine state) cells h = blank_behaves state cells h
 flow_behaves_by bytes options next (s.Content state) cells h = chunk_behaves bytes state cells h
@@ -98,6 +98,6 @@ flow_behaves_by bytes options next (s.Flow state) cells h = leaves_behave option
 flow_behaves_by bytes options next (s.SpaceOrTab state) cells h = white_behaves state cells h
 flow_behaves_by bytes options next name cells h = construct_behaves bytes options name cells h
 
--- where all further lines follow behind it
+-- where all further lines follow after it
 abbrev pub flow_behaves : List ℕ → ParseOptions → Behaviour
 flow_behaves bytes options = flow_behaves_by bytes options (flow_at options)

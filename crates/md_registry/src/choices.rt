@@ -52,7 +52,7 @@ use md_leaves::{heading_atx, heading_setext, thematic_break};
 use md_seam::space_or_tab::look_behind;
 use md_tables::{gfm_table, heads};
 
-/// The state of the document in front of the first container that may open.
+/// The state of the document before the first container that may open.
 #[inline(always)]
 pub fn first_opener() -> DocumentState
     ensures { result ≡ opener_front openers }
@@ -60,7 +60,7 @@ pub fn first_opener() -> DocumentState
     DocumentState::ContainerNewBefore
 }
 
-/// The one in front of the next, where one of this kind does not open; behind the last no container is left to try.
+/// The one before the next, where one of this kind does not open; after the last no container is left to try.
 #[inline(always)]
 pub fn next_opener(kind: ContainerKind) -> DocumentState
     ensures { result ≡ next_opener kind }
@@ -80,7 +80,7 @@ pub fn last_opener() -> ContainerKind
     ContainerKind::GfmFootnoteDefinition
 }
 
-/// Whether no container may open where this stands, which is no whitespace and does not end the line.
+/// Whether no container may open where this is, which is no whitespace and does not end the line.
 #[inline(always)]
 pub fn opens_none(current: Option<u8>) -> bool
     ensures { result ≡ opens_none current }
@@ -97,8 +97,8 @@ pub fn opens_none(current: Option<u8>) -> bool
     }
 }
 
-/// The first leaf of the row of a byte: its first state, the state of flow behind its line, and the one in front of the
-/// next leaf of the row.
+/// The first leaf of the row of a byte: its first state, the state of flow after its line, and the one before the next
+/// leaf of the row.
 #[derive(Clone, Copy)]
 pub struct FirstLeaf {
     pub start: StateName,
@@ -185,7 +185,7 @@ fn is_common(byte: u8) -> bool
         || byte == b'<')
 }
 
-/// Whether one look tells that the rest of a line is content, where the line meets this leaf.
+/// Whether one look shows that the rest of a line is content, where the line meets this leaf.
 #[inline(always)]
 pub fn content_alone(leaf: HeldLeaf, current: Option<u8>) -> bool
     ensures { result ≡ content_alone leaf current }
@@ -200,7 +200,7 @@ pub fn content_alone(leaf: HeldLeaf, current: Option<u8>) -> bool
     }
 }
 
-/// The state of flow in front of the first leaf that is tried.
+/// The state of flow before the first leaf that is tried.
 #[inline(always)]
 pub fn first_trial() -> FlowState
     ensures { result ≡ front_of trials }
@@ -225,7 +225,7 @@ pub fn leaf_start(state: FlowState) -> Option<StateName>
     }
 }
 
-/// The state of flow behind the line of that leaf.
+/// The state of flow after the line of that leaf.
 #[inline(always)]
 pub fn leaf_end(state: FlowState) -> FlowState
     ensures { (l : LeafName) → tried_at state ≡ Some l → result ≡ leaf_end (leaf l).ends }
@@ -236,7 +236,7 @@ pub fn leaf_end(state: FlowState) -> FlowState
     }
 }
 
-/// The state in front of the next leaf, which is tried where that one refuses the line.
+/// The state before the next leaf, which is tried where that one refuses the line.
 #[inline(always)]
 pub fn next_leaf(state: FlowState) -> FlowState
     ensures { (l : LeafName) → tried_at state ≡ Some l → result ≡ next_of l }
@@ -252,7 +252,7 @@ pub fn next_leaf(state: FlowState) -> FlowState
     }
 }
 
-/// Whether that leaf may begin here, by what stands first behind whitespace, and by whether such stands in front.
+/// Whether that leaf may begin here, by what is first after whitespace, and by whether such is in front.
 #[inline(always)]
 pub fn leaf_may_begin(tokenizer: &mut Tokenizer, state: FlowState) -> bool
     ensures may { (l : LeafName) → tried_at state ≡ Some l →
@@ -277,7 +277,7 @@ pub fn leaf_may_begin(tokenizer: &mut Tokenizer, state: FlowState) -> bool
     }
 }
 
-/// Whether whitespace stands here, or what stands here is not known yet.
+/// Whether whitespace is here, or what is here is not known yet.
 #[inline(always)]
 fn may_be_white(current: Option<u8>) -> bool
     ensures { result ≡ may_with is_white current }
@@ -288,7 +288,7 @@ fn may_be_white(current: Option<u8>) -> bool
     }
 }
 
-/// Whether indented code may begin here: whitespace alone tells, whatever stands behind it.
+/// Whether indented code may begin here: whitespace alone shows, whatever is after it.
 #[inline(always)]
 pub fn may_be_indented(tokenizer: &Tokenizer) -> bool
     ensures { result ≡
@@ -308,7 +308,7 @@ fn is_code(held: HeldLeaf) -> bool
     matches!(held, HeldLeaf::Code)
 }
 
-/// The first state of a further line of the leaf that is asked first whether a line goes on it.
+/// The first state of a further line of the leaf that is asked first whether a line continues it.
 #[inline(always)]
 pub fn inside_start(held: HeldLeaf) -> Option<StateName>
     ensures { result ≡ option_map (λ l. (leaf l).start) (asked_first held) }
@@ -332,7 +332,7 @@ pub fn goes_inside(leaf: HeldLeaf) -> bool
     inside_start(leaf).is_some()
 }
 
-/// Whether no container opens in this leaf, where all containers went on.
+/// Whether no container opens in this leaf, where all containers continued.
 #[inline(always)]
 #[tactic(auto, unfolding(crate::specs::Registry::bars_containers))]
 pub fn bars_containers(leaf: HeldLeaf) -> bool
@@ -355,7 +355,7 @@ pub fn opens_with(kind: ContainerKind) -> StateName
     }
 }
 
-/// Whether a container may open here, by what stands first behind whitespace, where its kind looks at that.
+/// Whether a container may open here, by what is first after whitespace, where its kind looks at that.
 #[inline(always)]
 pub fn may_open(tokenizer: &mut Tokenizer, kind: ContainerKind) -> bool
     ensures may { result ≡ may_with (may_open kind) (looks_behind (world tokenizer.old)) }
@@ -370,8 +370,8 @@ pub fn may_open(tokenizer: &mut Tokenizer, kind: ContainerKind) -> bool
     }
 }
 
-/// Whether the prefix of a container on a further line may begin here, by what stands first behind whitespace, where
-/// its kind looks at that.
+/// Whether the prefix of a container on a further line may begin here, by what is first after whitespace, where its
+/// kind looks at that.
 #[inline(always)]
 pub fn may_go_on(tokenizer: &mut Tokenizer, kind: ContainerKind) -> bool
     ensures may { result ≡ may_with (may_go_on kind) (looks_behind (world tokenizer.old)) }
@@ -383,7 +383,7 @@ pub fn may_go_on(tokenizer: &mut Tokenizer, kind: ContainerKind) -> bool
     }
 }
 
-/// Whether the prefix of a container on a further line stands here, so that it can be taken at once.
+/// Whether the prefix of a container on a further line is here, so that it can be taken at once.
 pub fn has_plain_prefix(container: Container, tokenizer: &mut Tokenizer) -> bool
     ensures has { result ≡ true → HasPrefix container container.kind (world tokenizer.old) }
     ensures same { world tokenizer.new ≡ world tokenizer.old }
@@ -396,7 +396,7 @@ pub fn has_plain_prefix(container: Container, tokenizer: &mut Tokenizer) -> bool
     }
 }
 
-/// Takes that of the one that is asked, as its states do, and sees what stands behind it.
+/// Takes that of the one that is asked, as its states do, and sees what follows it.
 #[inline(always)]
 pub fn take_plain_prefix(tokenizer: &mut Tokenizer) -> Result<(), Message>
     requires { HasPrefix (world tokenizer.old).flags.asked (world tokenizer.old).flags.asked.kind
@@ -430,7 +430,7 @@ pub fn plain_opener() -> ContainerKind
     ContainerKind::ListItem
 }
 
-/// Takes that prefix, as the states of the container that is tried do, and sees what stands behind it.
+/// Takes that prefix, as the states of the container that is tried do, and sees what follows it.
 #[inline(always)]
 pub fn take_plain_opening(tokenizer: &mut Tokenizer) -> Result<(), Message>
     requires { IsPlainBullet (world tokenizer.old) }
@@ -439,7 +439,7 @@ pub fn take_plain_opening(tokenizer: &mut Tokenizer) -> Result<(), Message>
     plain_item::take_plain_bullet(tokenizer)
 }
 
-/// The state in front of the prefix of a container on a further line. That of a footnote definition is an indent, as an
+/// The state before the prefix of a container on a further line. That of a footnote definition is an indent, as an
 /// item's.
 pub fn goes_on_with(kind: ContainerKind) -> StateName
     ensures { result ≡ goes_on_with kind }

@@ -1,4 +1,4 @@
--- Where no underline stands, no setext heading is set.
+-- Where no underline is, no setext heading is set.
 use Rattle.std.proofs.Common.{◌≡◌, inl, inr, ℕ, Bool, true, false, cond, not, ◌&&◌, ◌||◌}
 use Rattle.std.proofs.Common.{List, [], ◌∷◌, ◌++◌, refl, ap, sym}
 use Rattle.std.specs.Prelude.{Option, Some, None}

@@ -1,4 +1,4 @@
--- Events that stay as they are, and where all events stand.
+-- Events that stay as they are, and where all events are.
 use Rattle.std.proofs.Common.{◌≡◌, ℕ, Bool, true, false, not, ◌&&◌, ◌||◌, List, [], ◌∷◌}
 use Rattle.std.proofs.Common.{length, refl, ap, sym, ◌∙◌, arith, suc, ◌+◌}
 use Rattle.std.specs.List.{prefix_len}
@@ -126,7 +126,7 @@ if-placed : (text : List ℕ) (x : Bool) (f : List Event → List Event) →
 if-placed text true f keeps es h = keeps es h
 if-placed text false f keeps es h = h
 
--- Events that stand at places of the text still do.
+-- Events that are at places of the text still do.
 pub in_order-placed : (text : List ℕ) (w : Wanted) (bytes : List ℕ) (es : List Event) → ArePlaced text es →
     ArePlaced text (in_order w bytes es)
 in_order-placed text w bytes es h =

@@ -97,7 +97,7 @@ front-set es a b h a_is b_is =
     ∙ sym (append_assoc (take a es) (take b (drop a es)) (begun (drop b (drop a es))))
     ∙ ap₂ (λ (x y : List Event). x ++ begun y) (sym (take-add a b es)) (drop-drop b a es)
 
--- How long the text is: what is held behind it, where a walk has gone over so many events.
+-- How long the text is: what is held after it, where a walk has gone over so many events.
 pub record IsTexted (at text last : ℕ) (es : List Event) : Type 0 where
   pub closing : List Event
   pub since : List Event
@@ -220,7 +220,7 @@ texted-other at text last es d here no_text no_run inside h = record {
         ≡ resolved (Within first (last_point text es) (last_point last es) h.closing (h.since ++ e ∷ [])) rest
     one first e rest i j k = rw (i, j, k) refl
 
--- The text from behind: no run ends behind the last.
+-- The text from the end: no run ends after the last.
 
 no-run : (kind : Kind) (name : Name) → (is_exit kind && is_run name) ≡ false →
     ((is_exit kind && is_data name) ≡ false) × ((is_exit kind && is_sequence name) ≡ false)
@@ -370,7 +370,7 @@ texted-all text last es h first =
     none : drop (length es) es ≡ []
     none = drop_all (length es) es (omega arith)
 
--- what is said of the events behind the last run, by their indices
+-- what is said of the events after the last run, by their indices
 behind-last : (n : ℕ) (es : List Event) (d : Event) → IsLastRun n es → (k : ℕ) → n ≤ k → k < length es →
     ends is_run (get_or es k d) ≡ false
 behind-last n es d h k low lt =
@@ -450,7 +450,7 @@ text-before (suc i) m es d inside h some is before first =
 
 -- The whole heading.
 
--- no heading ends in front of its end
+-- no heading ends before its end
 pub heading-inside : (es : List Event) → All IsInside (take (heading_len es) es)
 heading-inside [] = All-nil IsInside
 heading-inside (e ∷ es) = go (ends is_heading e) refl (heading-inside es)

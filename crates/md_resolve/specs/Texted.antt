@@ -10,7 +10,7 @@ use Rattle.md_leaves.specs.HeadingText.{Within, ends, is_heading, is_run, resolv
 abbrev pub IsInside : Event → Type 0
 IsInside e = ends is_heading e ≡ false
 
--- what is given from the first run behind the opening sequence on
+-- what is given from the first run after the opening sequence on
 abbrev pub begun : List Event → List Event
 begun [] = []
 begun (e ∷ es) = resolved (Within e.point None None [] []) (e ∷ es)

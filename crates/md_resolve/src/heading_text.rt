@@ -1,8 +1,8 @@
-// The text of an ATX heading: one part in the place of all events from the first run behind the opening sequence to the
+// The text of an ATX heading: one part in the place of all events from the first run after the opening sequence to the
 // last that is no closing sequence.
 //
 // A heading is set whole. One walk finds its end, one the end of its opening sequence, one the begin of its text, and,
-// from behind, one the end of that.
+// from the end, one the end of that.
 
 ghost use Rattle.std.specs.Prelude.{◌≡◌, ◌++◌, ◌≤◌, None, OnOk, Some, [], drop, length, not, take, true};
 ghost use Rattle.std.specs.List.{All};
@@ -94,7 +94,7 @@ fn until_end(events: &[Event]) -> usize
     passing(&EndsNoHeading, events)
 }
 
-/// How many events of a heading come before the first run behind its opening sequence.
+/// How many events of a heading come before the first run after its opening sequence.
 fn until_text(events: &[Event]) -> usize
     requires inside { All IsInside events.now }
     ensures set { resolved Before events.now ≡ take result events.now ++ begun (drop result events.now) }
@@ -113,7 +113,7 @@ fn ends_run(event: &Event) -> bool
         && (matches!(event.name, Name::Data) || matches!(event.name, Name::HeadingAtxSequence))
 }
 
-/// How many events there are up to the end of the last run, which is looked for from behind.
+/// How many events there are up to the end of the last run, which is looked for from the end.
 #[inline(always)]
 fn last_run(events: &[Event]) -> usize
     ensures { IsLastRun result events.now }
@@ -125,7 +125,7 @@ fn last_run(events: &[Event]) -> usize
     at
 }
 
-/// How many events, from the first run behind the opening sequence on, are of the text: those up to the end of the last
+/// How many events, from the first run after the opening sequence on, are of the text: those up to the end of the last
 /// run, or of the one before if the last is of `#`.
 fn text_len(events: &[Event]) -> usize
     requires inside { All IsInside events.now }

@@ -23,14 +23,14 @@ fn begins_marker(event: &Event) -> bool
     matches!(event.kind, Kind::Enter) && matches!(event.name, Name::ListItemMarker)
 }
 
-/// A byte of the text; 0 behind its end.
+/// A byte of the text; 0 after its end.
 fn byte_at(bytes: &[u8], index: usize) -> u8
     ensures { result ≡ get_or bytes.now index 0 }
 {
     if index < bytes.len() { bytes[index] } else { 0 }
 }
 
-/// The marker of the item that these events follow the begin of: 0 if a block comes in front of it, or there is none.
+/// The marker of the item that these events follow the begin of: 0 if a block comes before it, or there is none.
 pub(crate) fn marker_ahead(bytes: &[u8], events: &[Event]) -> u8
     ensures { result ≡ marker_ahead bytes.now events.now }
 {

@@ -5,8 +5,8 @@
 // table are set from their begin to their end, and nothing else is set there.
 //
 // It looks ahead from the begin of an item to its marker, from the end of one to the next block, from the begin of a
-// paragraph to the underline behind it, and from the begin of an ATX heading to its end; so no event is
-// looked at more than three times, and the walk is linear.
+// paragraph to the underline after it, and from the begin of an ATX heading to its end; so no event is looked at more
+// than three times, and the walk is linear.
 
 ghost use Rattle.std.specs.Prelude.{◌≡◌, ◌≤◌, ◌<◌, ◌&&◌, ◌++◌, IfOk, None, OnOk, List, ℕ, []};
 ghost use Rattle.std.specs.Prelude.{drop, length, not, take, false, true};
@@ -182,7 +182,7 @@ impl Walk {
         self.all.hold_many(many);
     }
 
-    /// Puts the begin of a list in front of an item, if this is its first.
+    /// Puts the begin of a list before an item, if this is its first.
     fn begin_item(&mut self, marker: u8, event: Event) -> Result<(), Message>
         requires first { IsFirst event (rest_of self.old) }
         ensures given { OnOk result
@@ -203,7 +203,7 @@ impl Walk {
         Ok(())
     }
 
-    /// Puts the end of a list behind an item, if this is its last.
+    /// Puts the end of a list after an item, if this is its last.
     fn end_item(&mut self, next: Option<u8>, event: Event) -> Result<(), Message>
         requires first { IsFirst event (rest_of self.old) }
         ensures given { OnOk result
@@ -301,7 +301,7 @@ impl Walk {
         self.all.push(exit(Name::HeadingSetextText, event.point))
     }
 
-    /// Ends a heading behind its underline, if one is open.
+    /// Ends a heading after its underline, if one is open.
     fn end_underline(&mut self, event: Event) -> Result<(), Message>
         requires first { IsFirst event (rest_of self.old) }
         ensures given { OnOk result
@@ -429,7 +429,7 @@ pub fn set_all(
 }
 
 /// Runs the resolvers of these names in one pass: those of items, of ATX headings, of setext headings and of tables, as
-/// if they ran one behind the other, in this order. Other names change nothing. Where nothing is to be set nothing is
+/// if they ran one after the other, in this order. Other names change nothing. Where nothing is to be set nothing is
 /// moved.
 ///
 /// Of more than one name it asks that leaf blocks hold no block. Events that nest still do, if what each resolver gets

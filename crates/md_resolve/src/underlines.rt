@@ -1,4 +1,4 @@
-// Paragraphs, and the underlines behind them.
+// Paragraphs, and the underlines after them.
 
 ghost use Rattle.std.specs.Prelude.{◌≡◌, ◌&&◌};
 ghost use Rattle.md_leaves.specs.Turned.{has_underline, is_paragraph, is_turned};
@@ -40,7 +40,7 @@ pub(crate) fn passes(event: &Event) -> bool
     !is_paragraph(event.name) && !is_underline(event.name)
 }
 
-/// Whether an underline begins behind container prefixes.
+/// Whether an underline begins after container prefixes.
 fn underline_behind(events: &[Event]) -> bool
     ensures { result ≡ underline_behind events.now }
 {

@@ -1,5 +1,5 @@
--- The containers of a line that flow reads are those of its bytes: which go on and open, what stands in front of the
--- line, and what is left of it.
+-- The containers of a line that flow reads are those of its bytes: which continue and open, what is before the line,
+-- and what is left of it.
 use Rattle.md_engine.specs.declared.tokenizer.held_leaf.HeldLeaf.{HeldLeaf}
 use Rattle.std.proofs.Common.{◌≡◌, ℕ, zero, suc, ◌^◌, ◌<◌, ◌≤◌, Bool, true, false, List}
 use Rattle.std.proofs.Common.{[], ◌∷◌, ◌++◌, length, Option, cond}
@@ -32,7 +32,7 @@ use Rattle.md_frame.proofs.RegistryRead.{AreRead, read-append, read-drop}
 use Rattle.md_frame.proofs.PassedFacts.{Agree, HasFurther, HasOpening, HasPassed}
 use Rattle.md_registry.proofs.RegistryContainers.{goes-agrees, opens-agrees}
 
--- What stands in front of a line.
+-- What is before a line.
 
 -- containers by the cells of a line and by its bytes
 record HasFront (line : Line) (text past : List ℕ) (end : Point) (stop cells : List Cell) (f : Front)
@@ -73,7 +73,7 @@ front-more line text past end stop cells a t f q one is = record {
   shorter = let le = is.shorter in let ge = one.shorter in omega arith;
 }
 
--- those that go on: more may stand behind them
+-- those that continue: more may be after them
 record HasWent (line : Line) (text past : List ℕ) (p end : Point) (stop cells : List Cell) (f : Front)
     (q : Prefixed) : Type 0 where
   front : HasFront line text past end stop cells f q
@@ -279,7 +279,7 @@ new-is options interrupting line text past (suc room) (suc size) r stop p built 
 
 -- The containers of a line.
 
--- by its cells and by its bytes; flow reads all that are open behind it
+-- by its cells and by its bytes; flow reads all that are open after it
 pub record HasHeld (line : Line) (text past : List ℕ) (p end : Point) (stop cells : List Cell) (h : Held)
     (c : Contained) : Type 0 where
   pub change : h.change ≡ c.change
@@ -390,7 +390,7 @@ held-behind options line text past p end stop cells cs still went on built read 
     (held-by line text past p end stop cells cs
     (is_lazy still new.containers (row_kind options leaf new.cells)) leaf kept went new on more read meets is opened))
 
--- which containers go on and open on a line, what stands in front of it, and what is left of it
+-- which containers continue and open on a line, what is before it, and what is left of it
 pub held-is : (options : ParseOptions) (line : Line) (text past : List ℕ) (cs : List Container) (still : HeldLeaf)
     (r : Rest) (stop : List Cell) (p : Point) →
     IsWithoutMdx options → AreRead cs → RestAt text past r p → NoEnding r.bytes → Stops stop →

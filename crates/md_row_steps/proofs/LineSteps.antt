@@ -43,12 +43,12 @@ use Rattle.md_rows.proofs.TextFound.{front_before, lazy_on, text-comes, text_cam
 
 -- Leaves of several lines.
 
--- no line goes on one lazily
+-- no line continues one lazily
 lazy-none : (still : HeldLeaf) (opens : List Container) (kind : RowKind) → takes_lazy still ≡ false →
     is_lazy still opens kind ≡ false
 lazy-none still opens kind unlazy = ap (λ (x : Bool). x && is_none opens && is_text kind) unlazy
 
--- nothing stands in front of what is no text
+-- nothing is before what is no text
 pub front-unlazy : (heads : Bool) (options : ParseOptions) (bs : Blocks) (open_leaf : Leaf) →
     takes_lazy (kind_of_leaf open_leaf) ≡ false → front_before heads options bs open_leaf ≡ bs
 front-unlazy true options bs (OpenParagraph lines) unlazy = cc
@@ -56,7 +56,7 @@ front-unlazy true options bs _ unlazy = refl
 front-unlazy false options bs (OpenParagraph lines) unlazy = cc
 front-unlazy false options bs _ unlazy = refl
 
--- by the line definition one goes on or ends
+-- by the line definition one continues or ends
 span-line : (options : ParseOptions) (s : Innermost) (r : Rest) (open_leaf : Leaf) →
     has_lines (kind_of_leaf open_leaf) ≡ true →
     leaf_line_by options s r open_leaf ≡ on_or_fresh options s r (goes_on options open_leaf r)
@@ -71,12 +71,12 @@ text-interrupted _ = refl
 
 -- Lines, one after another.
 
--- blocks, with what an open text comes to behind them, if one is open
+-- blocks, with what an open text becomes after them, if one is open
 abbrev behind_text : ParseOptions → Blocks → List ParagraphLine → Blocks
 behind_text options bs [] = bs
 behind_text options bs (k ∷ ks) = text_leaf.behind options bs (texts (k ∷ ks))
 
--- what is open behind a line of this kind, where nothing was but this text
+-- what is open after a line of this kind, where nothing was but this text
 abbrev pub spot_by : ParseOptions → Blocks → List ParagraphLine → Rest → RowKind → Innermost
 spot_by options bs held r BlankRow = spot_of (behind_text options bs held)
 spot_by options bs held r (LeafRow l) = came (behind_text options bs held) ((leaf l).comes options NoLeaf r)
@@ -111,12 +111,12 @@ fresh-found options bs r built =
     ∙ ap (λ (o : Option LeafName). cond (is_blank r.bytes) BlankRow (kind_of o))
     (untabled-at options held_leaf.None r refl)))
 
--- what an open leaf comes to with a line of this kind
+-- what an open leaf becomes with a line of this kind
 abbrev pub come_by : ParseOptions → Leaf → Rest → RowKind → LeafResult
 come_by options open_leaf r (LeafRow l) = (leaf l).comes options open_leaf r
 come_by options open_leaf r kind = Opened open_leaf
 
--- a line where text is open: it turns the text, or stands behind it, or is one more line of it
+-- a line where text is open: it turns the text, or is after it, or is one more line of it
 abbrev text_spot : ParseOptions → Blocks → List ParagraphLine → Rest → RowKind → Innermost
 text_spot options bs lines r kind =
     cond (is_further kind (text_on lines))
@@ -147,7 +147,7 @@ text-found options bs k ks r built =
 
 -- The containers that open.
 
--- at most so many behind one that may open
+-- at most so many after one that may open
 abbrev new_by : ParseOptions → ℕ → Rest → Option Taken → Prefixed
 new_by options n r o = elim o [
   | None ↦ no_prefix r
@@ -223,7 +223,7 @@ kept_to options [] p = At (spot_of (closed options p))
 kept_to options (c ∷ cs) (At s) = At (spot_of (shut options s))
 kept_to options (c ∷ cs) (Within before container p) = Within before c (kept_to options cs p)
 
--- what stands behind the blocks of the innermost container
+-- what follows the blocks of the innermost container
 abbrev pub behind_path : Path → (Blocks → Path) → Path
 behind_path (At s) f = f s.here
 behind_path (Within before container p) f = Within before container (behind_path p f)
@@ -233,15 +233,15 @@ abbrev pub new_line : ParseOptions → HeldLeaf → List Container → Rest → 
 new_line options on [] r bs = At (spot_by options bs [] r (line_kind options on r))
 new_line options on (c ∷ cs) r bs = Within bs c (new_line options on cs r End)
 
--- with the innermost leaf as it is then; of a text, behind the definitions at its front, or, where a line takes the
--- last line of it as its head, behind what is read of the others
+-- with the innermost leaf as it is then; of a text, after the definitions at its front, or, where a line takes the last
+-- line of it as its head, after what is read of the others
 abbrev pub with_came : ParseOptions → Bool → Path → LeafResult → Path
 with_came options heads (At s) c = At (came (front_before heads options s.here s.leaf) c)
 with_came options heads (Within before container p) c = Within before container (with_came options heads p c)
 
--- What a line does where these containers went on, and these open on it: it goes on the open text, and all containers
--- stay; or it goes on the open leaf of several lines, or turns the open text; or all else is closed, and it begins in
--- the new containers.
+-- What a line does where these containers continued, and these open on it: it continues the open text, and all
+-- containers stay; or it continues the open leaf of several lines, or turns the open text; or all else is closed, and
+-- it begins in the new containers.
 abbrev pub stepped : ParseOptions → Path → List Container → Prefixed → Path
 stepped options p went new =
     let on = against (still_of p) (others_of (containers_of p) went) new.containers in
@@ -307,7 +307,7 @@ entered-new options bs t built = ap (Within bs t.container) (opened-new options 
 
 -- One line.
 
--- where all containers go on, and none opens
+-- where all containers continue, and none opens
 abbrev IsStepped : ParseOptions → Blocks → Rest → Leaf → Type 0
 IsStepped options bs r open_leaf =
     At (leaf_line options (record { here = bs; leaf = open_leaf }) r) ≡
@@ -374,7 +374,7 @@ span-stepped options bs r built open_leaf is =
     other : RowKind → Path
     other kind = At (spot_by options (shut options s) [] r kind)
 
-    -- where it goes on the leaf behind these blocks
+    -- where it continues the leaf after these blocks
     by : Blocks → RowKind → Path
     by x kind =
         cond (is_lazy still [] kind) (longer (At s) (kept r ∷ []))
@@ -417,7 +417,7 @@ leaf-stepped options bs open_leaf r built plain =
         (At (spot_by options bs [] r (line_kind options held_leaf.None r))))
         (none-further options held_leaf.None r refl))
 
--- where one did not go on, none is shut out
+-- where one did not continue, none is shut out
 new-others : (options : ParseOptions) (still : HeldLeaf) (c : Container) (cs : List Container) (went : Prefixed) →
     prefixes_behind options still (c ∷ cs) went ≡ all_new options (interrupts still (c ∷ cs)) went.rest
 new-others options still c cs went = go (bars_containers still)
@@ -428,7 +428,7 @@ new-others options still c cs went = go (bars_containers still)
     go true = refl
     go false = refl
 
--- where all containers go on
+-- where all containers continue
 step-at : (options : ParseOptions) (s : Innermost) (r : Rest) → IsWithoutMdx options → IsBuiltLeaf s.leaf →
     all_continued options s r ≡
     stepped options (At s) [] (prefixes_behind options (kind_of_leaf s.leaf) [] (no_prefix r))
@@ -470,7 +470,7 @@ at_spot-longer (At s) lines more e =
     ap (λ (x : Leaf). At (record { here = s.here; leaf = text_leaf.held (held_of x ++ more) })) (sym e)
 at_spot-longer (Within before container p) lines more e = ap (Within before container) (at_spot-longer p lines more e)
 
--- where this container does not go on, and none opens
+-- where this container does not continue, and none opens
 lazy-stepped : (options : ParseOptions) (before : Blocks) (c : Container) (p : Path) (r : Rest) → IsWithoutMdx options →
     (leaf : Leaf) → (spot p).leaf ≡ leaf → IsBuiltLeaf leaf →
     lazy_by options before c p r (with_lazy options leaf r) ≡
@@ -625,7 +625,7 @@ stepped-within options before c d p went new = go (is_lazy (still_of p) new.cont
     go false true = refl
     go false false = refl
 
--- by the containers that go on, and those that open behind them
+-- by the containers that continue, and those that open after them
 abbrev on_by : ParseOptions → List Container → Rest → Option Taken → Prefixed
 on_by options cs r o = elim o [ None ↦ no_prefix r | Some t ↦ one_more t.container (prefixes_on options cs t.rest) ]
 
@@ -653,11 +653,11 @@ step-new options (Within before c p) r built plain = go (λ s. step-new options 
 abbrev pub contained_at : ParseOptions → Path → Rest → Contained
 contained_at options p r = contained options (containers_of p) (still_of p) r
 
--- whether a line goes on the open text
+-- whether a line continues the open text
 abbrev pub goes_lazy : ParseOptions → Path → Contained → Bool
 goes_lazy options p c = is_lazy (still_of p) c.change.opens (line_kind options c.on c.rest)
 
--- whether it goes on the leaf that it meets, one of several lines or text, and what is open behind it then
+-- whether it continues the leaf that it meets, one of several lines or text, and what is open after it then
 abbrev pub goes_further : ParseOptions → Contained → Bool
 goes_further options c = is_further (line_kind options c.on c.rest) c.on
 
@@ -666,7 +666,7 @@ further_path options p c =
     with_came options (takes_head (line_kind options c.on c.rest)) (renewed c.change.stays p)
     (come_by options (spot p).leaf c.rest (line_kind options c.on c.rest))
 
--- where it does neither: some containers stay, and behind them it opens others, and begins in the innermost
+-- where it does neither: some containers stay, and after them it opens others, and begins in the innermost
 abbrev pub new_path : ParseOptions → Path → Contained → Path
 new_path options p c = behind_path (kept_to options c.change.stays p) (new_line options c.on c.change.opens c.rest)
 
@@ -723,7 +723,7 @@ step-contained options p r built plain =
     go true = refl
     go false = refl
 
--- a line that goes on the open text closes nothing
+-- a line that continues the open text closes nothing
 pub contained-lazy : (options : ParseOptions) (p : Path) (r : Rest) →
     goes_lazy options p (contained_at options p r) ≡ true → (contained_at options p r).change.closes ≡ []
 unfolding contained

@@ -46,7 +46,7 @@ use Rattle.md_frame.proofs.RegistryRead.{AreRead}
 abbrev IsRowOf : ParseOptions → List ℕ → Rest → Row → Type 0
 IsRowOf options bytes r row = (is : IsRow options bytes (rest_line r) row) × (is.rest ≡ r)
 
--- The row of what is left of a line behind its prefixes, also where it begins within a tab.
+-- The row of what is left of a line after its prefixes, also where it begins within a tab.
 held-row : (options : ParseOptions) (bytes behind : List ℕ) (said : Line) (r : Rest) (stop : List Cell) (h : Held)
     (below : List Row) → length bytes < 2 ^ 61 →
     h.cells ≡ rest_cells said r h.point ++ stop → length h.cells < 2 ^ 63 → RestAt bytes behind r h.point →
@@ -175,7 +175,7 @@ pub record HasLines (x : Setting) (p : Point) : Type 0 where
   pub whole : p.vs ≡ 0
   pub column : 1 ≤ p.column
 
--- A line, and what is left behind it.
+-- A line, and what is left after it.
 
 -- the rows of a text whose first line has these containers
 rows-last : (options : ParseOptions) (h : Held) (further : List Container → HeldLeaf → List Cell → Point → List Row) →

@@ -1,4 +1,4 @@
--- What is open behind one line: its containers, the kind of the leaf, and that it is such as may be open.
+-- What is open after one line: its containers, the kind of the leaf, and that it is such as may be open.
 use Rattle.std.proofs.Common.{◌≡◌, ℕ, ◌+◌, ◌≤◌, Bool, true, false, cond, ◌&&◌, List, [], ◌∷◌, ◌++◌}
 use Rattle.std.proofs.Common.{length, refl, ap, ap₂, sym, ◌∙◌, subst, append-nil, arith}
 use Rattle.std.proofs.lemmas.Bool.{and_parts}
@@ -47,7 +47,7 @@ use Rattle.md_link_definitions.specs.OpenText.{open_text, text_behind}
 use Rattle.md_link_definitions.specs.Progress.{progress, progress_of, steps}
 use Rattle.md_link_definitions.specs.Progress as stepped
 
--- Where a line goes on the leaf that is open: it is one of several lines, or text that the line turns.
+-- Where a line continues the leaf that is open: it is one of several lines, or text that the line turns.
 
 -- the leaf that takes such a line, where it meets this one
 pub record Takes (options : ParseOptions) (open_leaf : Leaf) (r : Rest) : Type 0 where
@@ -58,11 +58,11 @@ pub record Takes (options : ParseOptions) (open_leaf : Leaf) (r : Rest) : Type 0
   pub further : (leaf name).further (kind_of_leaf open_leaf) ≡ true
   pub kind : line_kind options (kind_of_leaf open_leaf) r ≡ LeafRow name
   pub starts : (leaf name).starts options (kind_of_leaf open_leaf) r ≡ true
-  -- what the open leaf comes to with it may be open, and an outline can show it
+  -- what the open leaf becomes with it may be open, and an outline can show it
   pub built : IsBuiltLeaf (left_by ((leaf name).comes options open_leaf r))
   pub shallow : ComesShallow ((leaf name).comes options open_leaf r)
 
--- the line meets that leaf, and no container ends in front of it or opens on it
+-- the line meets that leaf, and no container ends before it or opens on it
 pub record GoesOn (options : ParseOptions) (p : Path) (c : Contained) : Type 0 where
   pub is : Takes options (spot p).leaf c.rest
   pub on : c.on ≡ still_of p
@@ -78,7 +78,7 @@ span-open open_leaf plain =
     (λ e. cc) (λ k ks e. cc)
     (λ l is e. further-span l is) open_leaf plain
 
--- a line that goes on a leaf of several lines is one of the leaf that takes its further lines
+-- a line that continues a leaf of several lines is one of the leaf that takes its further lines
 span-takes : (options : ParseOptions) (r : Rest) (open_leaf : Leaf) → FurtherSpan open_leaf →
     is_further (line_kind options (kind_of_leaf open_leaf) r) (kind_of_leaf open_leaf) ≡ true →
     Takes options open_leaf r
@@ -110,7 +110,7 @@ span-takes options r open_leaf is goes = record {
     starts : (leaf is.name).starts options on r ≡ true
     starts = kind-starts options on r is.name kind
 
--- one that goes on text turns it, or makes its last line the head of a table
+-- one that continues text turns it, or makes its last line the head of a table
 turn-takes : (options : ParseOptions) (r : Rest) (lines : List ParagraphLine) (l : LeafName) →
     line_kind options (text_on lines) r ≡ LeafRow l → (leaf l).further (text_on lines) ≡ true →
     (leaf l).heads ≡ false → Takes options (text_leaf.held lines) r
@@ -227,7 +227,7 @@ pub came-spot : (options : ParseOptions) (heads : Bool) (p : Path) (c : LeafResu
 came-spot options heads (At s) c = came-leaf (front_before heads options s.here s.leaf) c
 came-spot options heads (Within before container p) c = came-spot options heads p c
 
--- a line that begins a leaf, where it goes on none
+-- a line that begins a leaf, where it continues none
 pub begun-leaf : (options : ParseOptions) (on : HeldLeaf) (r : Rest) → is_further (line_kind options on r) on ≡ false →
     (l : LeafName) → line_kind options on r ≡ LeafRow l → Begun l options on r
 begun-leaf options on r begins l e =
@@ -277,12 +277,12 @@ plain-step options p r built plain =
         plain-behind (kept_to options c.change.stays p) (new_line options c.on c.change.opens c.rest)
         (λ bs. plain-new_line options c.on c.change.opens c.rest bs e)
 
--- a line that goes on the open text is text
+-- a line that continues the open text is text
 pub lazy-text : (still : HeldLeaf) (opens : List Container) (kind : RowKind) → is_lazy still opens kind ≡ true →
     is_text kind ≡ true
 lazy-text still opens kind e = (and_parts (takes_lazy still && is_none opens) (is_text kind) e).1
 
--- a line that goes on a leaf, or turns text, is no further line of text
+-- a line that continues a leaf, or turns text, is no further line of text
 pub further-unlazy : (still on : HeldLeaf) (opens : List Container) (kind : RowKind) → is_further kind on ≡ true →
     is_lazy still opens kind ≡ false
 further-unlazy still on opens BlankRow e = cc
@@ -294,7 +294,7 @@ further-unlazy still on opens (LeafRow l) e = go (takes_lazy still) (is_none ope
     go false y = refl
 further-unlazy still on opens TextRow e = cc
 
--- Which containers are open behind a line.
+-- Which containers are open after a line.
 
 pub containers-longer : (p : Path) (ks : List ParagraphLine) → containers_of (longer p ks) ≡ containers_of p
 containers-longer (At s) ks = refl
@@ -313,7 +313,7 @@ containers-kept options (c ∷ cs) (At s) le = absurd (omega arith)
 containers-kept options (c ∷ cs) (Within before container p) le =
     ap (λ (l : List Container). c ∷ l) (containers-kept options cs p (omega arith))
 
--- where all of them are told
+-- where all of them are said
 containers-renewed : (cs : List Container) (p : Path) → length cs ≡ length (containers_of p) →
     containers_of (renewed cs p) ≡ cs
 containers-renewed [] (At s) e = refl
@@ -380,7 +380,7 @@ containers-step options p r built plain =
         ∙ ap (λ (l : List Container). l ++ c.change.opens)
         (containers-kept options c.change.stays p (omega (arith, sizes)))
 
--- The leaf that is open behind a line.
+-- The leaf that is open after a line.
 
 text-left : (options : ParseOptions) (on : HeldLeaf) (r : Rest) (kind : RowKind) → is_text kind ≡ true →
     line_behind options on r kind ≡ text_behind on r
@@ -388,7 +388,7 @@ text-left options on r BlankRow e = cc
 text-left options on r (LeafRow l) e = cc
 text-left options on r TextRow e = refl
 
--- what is held of a leaf tells how far the definitions of its lines have come
+-- what is held of a leaf shows how far the definitions of its lines have come
 held-progress : (open_leaf : Leaf) → progress_of (kind_of_leaf open_leaf) ≡ progress (texts (held_of open_leaf))
 unfolding steps
 held-progress (OpenParagraph lines) = refl
@@ -468,7 +468,7 @@ still-step options p r built plain =
     on-progress : progress_of c.on ≡ cond (is_none c.change.opens) (progress_of (still_of p)) Fresh
     on-progress = contained-progress options (containers_of p) (still_of p) r
 
-    -- a line that goes on the open text meets it
+    -- a line that continues the open text meets it
     lazy-on : goes_lazy options p c ≡ true → progress_of c.on ≡ progress_of (still_of p)
     lazy-on e =
         on-progress

@@ -1,4 +1,4 @@
--- The lines of a text behind its front, and that its rows are those of these lines.
+-- The lines of a text after its front, and that its rows are those of these lines.
 use Rattle.md_engine.specs.declared.tokenizer.held_leaf.HeldLeaf.TheVariants as held_leaf
 use Rattle.std.proofs.Common.{◌^◌, ◌<◌, ℕ, List, [], length, drop}
 use Rattle.md_engine.specs.declared.configuration.ParseOptions.{ParseOptions}

@@ -51,7 +51,7 @@ single-closed : (options : ParseOptions) (bytes : List ℕ) (row : Row) → IsSi
     IsClosed (row_events row)
 single-closed = single-holds IsClosed closed-rows (λ l. (laws l).alone)
 
--- a text is a paragraph behind definitions
+-- a text is a paragraph after definitions
 text-closed : (options : ParseOptions) (bytes : List ℕ) (row : Row) (rows : List Row) →
     AreLines options bytes row rows → HasFront bytes row → IsClosed (unread_group options bytes (Lines row rows))
 text-closed options bytes =

@@ -1,4 +1,4 @@
--- Where the lines of the body of a text begin, and what is known of the events in front of them.
+-- Where the lines of the body of a text begin, and what is known of the events before them.
 use Rattle.std.proofs.Common.{◌≡◌, ℕ, ◌-◌, ◌+◌, ◌<◌, ◌≤◌, Bool, true, false, cond, List, [], ◌∷◌, ◌++◌, length, drop}
 use Rattle.std.proofs.Common.{take, Option, Some, None, refl, sym, ◌∙◌, ap, subst, arith, append-nil}
 use Rattle.std.proofs.lemmas.List.{length-append, length-drop}
@@ -44,7 +44,7 @@ pub data Fronts : Option Block → Type 0 where
   NoFront : Fronts None
   HasFront : (m : ℕ) (lines : List (List ℕ)) → Fronts (Some (Frontmatter m lines))
 
--- The lines of the body begin at this point, behind these events.
+-- The lines of the body begin at this point, after these events.
 pub record IsBegun (options : ParseOptions) (bytes : List ℕ) (p : Point) (front : List Event) : Type 0 where
   pub block : Option Block
   pub kind : Fronts block
@@ -116,7 +116,7 @@ mark-begun options bytes none =
 
 -- Frontmatter.
 
--- where the text ends behind it, its body has no lines
+-- where the text ends after it, its body has no lines
 no-lines : (b : Block) (k : ℕ) (l : List ℕ) → l ≡ [] →
     (let none : Preamble = record { front = Some b; body = rests_at 0 (lines_of l) } in
     let same : Preamble = record { front = Some b; body = rests_at k (lines_of l) } in none ≡ same)
@@ -196,7 +196,7 @@ begun options bytes =
     by-means options bytes (front_read options (full_lines_of (without_mark bytes)) (mark_point bytes))
     (front-means bytes options (without_mark bytes) (mark_point bytes) (here-mark bytes))
 
--- Its events in front of others.
+-- Its events before others.
 
 forward-from : (p q : Point) (es : List Event) → IsTrue (at_or_before p q) → Forward q es → Forward p es
 forward-from p q [] h f = tt
@@ -225,7 +225,7 @@ front-unlisted bytes p front es part is = record {
   lines = part.plain.lines es is.lines;
 }
 
--- they are read as the blocks in front of those behind them
+-- they are read as the blocks before those after them
 pub front-spelled : (bytes : List ℕ) (block : Option Block) (p : Point) (front es : List Event) →
     IsFronted bytes block p front → (read bytes unread es).outer ≡ [] →
     spelled (front ++ es) bytes ≡ with_frontmatter block (spelled es bytes)
@@ -240,7 +240,7 @@ front-spelled bytes block p front es fronted shut =
     go None = refl
     go (Some b) = read-behind b bytes es shut
 
--- Frontmatter in front of other blocks: it is in no list, fits an outline, and defines nothing.
+-- Frontmatter before other blocks: it is in no list, fits an outline, and defines nothing.
 pub fronts-grouped : (block : Option Block) (bs : Blocks) → Fronts block →
     grouped (with_frontmatter block bs) ≡ with_frontmatter block (grouped bs)
 fronts-grouped _ bs NoFront = refl

@@ -1,4 +1,4 @@
--- The events of a text stand between its characters, where only quotes, headings and breaks are on.
+-- The events of a text are between its characters, where only quotes, headings and breaks are on.
 use Rattle.md_engine.specs.declared.tokenizer.held_leaf.HeldLeaf.TheVariants as held_leaf
 use Rattle.md_engine.specs.declared.tokenizer.held_leaf.HeldLeaf.{HeldLeaf}
 use Rattle.std.proofs.Common.{◌≡◌, ℕ, true, List, [], ◌∷◌, ◌++◌, refl, sym, subst}
@@ -27,7 +27,7 @@ use Rattle.md_frame.specs.ContainerNames.{container_name}
 
 -- Lines.
 
--- Where a line stands: its ends and the end of its ending are between characters.
+-- Where a line is: its ends and the end of its ending are between characters.
 pub record RowBetween (bytes : List ℕ) (row : Row) : Type 0 where
   pub first : is_between bytes row.first.index ≡ true
   pub end : is_between bytes row.end.index ≡ true
@@ -57,7 +57,7 @@ tail-between bytes name row end behind =
 
 -- Groups.
 
--- what stands in front of a line, a block, and what follows it
+-- what is before a line, a block, and what follows it
 line-between : (bytes : List ℕ) (name : Name) (front inside : List Event) (row : Row) → RowBetween bytes row →
     AreBetween bytes front → AreBetween bytes inside → AreBetween bytes (front ++ inside ++ tail_events name row)
 line-between bytes name front inside row b h k =
@@ -85,7 +85,7 @@ between-by_groups options bytes = record {
       (on last.behind h.1);
 }
 
--- Each line of a text stands so.
+-- Each line of a text is so.
 pub rows-stand : (options : ParseOptions) (bytes : List ℕ) (open_before : List Container) (still : HeldLeaf) (p : Point)
     (lines : List (List ℕ)) (rows : List Row) →
     is_between bytes p.index ≡ true → AreRows options bytes open_before still p lines rows →
@@ -122,7 +122,7 @@ rows-stand options bytes open_before still p (line ∷ next ∷ lines) (row ∷ 
     )
 rows-stand options bytes open_before still p lines rows from are = absurd are
 
--- The groups of the lines of a text stand between its characters.
+-- The groups of the lines of a text are between its characters.
 pub rows-between : (options : ParseOptions) (bytes : List ℕ) (p : Point) (lines : List (List ℕ)) (rows : List Row) →
     is_between bytes p.index ≡ true → AreRows options bytes [] held_leaf.None p lines rows →
     AreBetween bytes (groups_events options bytes (groups rows))

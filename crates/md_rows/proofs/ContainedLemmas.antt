@@ -1,4 +1,4 @@
--- The containers of a line by its bytes: those that go on are those that were open.
+-- The containers of a line by its bytes: those that continue are those that were open.
 use Rattle.md_engine.specs.declared.tokenizer.held_leaf.HeldLeaf.TheVariants as held_leaf
 use Rattle.md_engine.specs.declared.tokenizer.held_leaf.HeldLeaf.{HeldLeaf}
 use Rattle.std.proofs.Common.{◌≡◌, ◌+◌, Bool, true, false, ◌&&◌, List, [], ◌∷◌, ◌++◌, length, map, refl, ap, sym}
@@ -17,9 +17,9 @@ use Rattle.md_frame.specs.Row.{RowKind}
 use Rattle.md_rows.specs.Rows.{is_lazy, is_text, line_kind}
 use Rattle.md_container_rooms.proofs.Continued.{continues-kind, continues-shape}
 
--- What a container keeps while it is open: what its events tell of it, and its kind.
+-- What a container keeps while it is open: what its events show of it, and its kind.
 
--- those that went on, and the others behind them
+-- those that continued, and the others after them
 on-same : {A : Type 0} (f : Container → A) (options : ParseOptions) →
     ((c : Container) (r : Rest) (t : Taken) → continues options c r ≡ Some t → f t.container ≡ f c) →
     (cs : List Container) (r : Rest) →
@@ -93,12 +93,12 @@ pub none-nil : (cs : List Container) → is_none cs ≡ true → cs ≡ []
 none-nil [] e = refl
 none-nil (c ∷ cs) e = cc
 
--- what opens does not hang on what went on
+-- what opens does not hang on what continued
 pub change-opens : (lazy : Bool) (went others opens : List Container) → (change_by lazy went others opens).opens ≡ opens
 change-opens true went others opens = refl
 change-opens false went others opens = refl
 
--- a line on which a container opens goes on no paragraph
+-- a line on which a container opens continues no paragraph
 pub lazy-some : (still : HeldLeaf) (c : Container) (cs : List Container) (kind : RowKind) →
     is_lazy still (c ∷ cs) kind ≡ false
 lazy-some still c cs kind = go (takes_lazy still)
@@ -107,7 +107,7 @@ lazy-some still c cs kind = go (takes_lazy still)
     go true = refl
     go false = refl
 
--- on a line that goes on the open paragraph nothing opens
+-- on a line that continues the open paragraph nothing opens
 pub lazy-opens : (still : HeldLeaf) (opens : List Container) (kind : RowKind) → is_lazy still opens kind ≡ true →
     opens ≡ []
 lazy-opens still [] kind e = refl
@@ -120,17 +120,17 @@ pub lines-unlazy : (still : HeldLeaf) → has_lines still ≡ true → takes_laz
 lines-unlazy held_leaf.Code lines = refl
 lines-unlazy _ lines = cc
 
--- it may be gone on
+-- it may be continued
 pub lines-open : (still : HeldLeaf) → has_lines still ≡ true → may_go_on still ≡ true
 lines-open held_leaf.Code lines = refl
 lines-open _ lines = cc
 
--- none such is against where its containers did not go on
+-- none such is against where its containers did not continue
 pub ended-open : (still : HeldLeaf) → may_go_on (met_by false still) ≡ false
 ended-open held_leaf.None = refl
 ended-open _ = refl
 
--- no container opens on that line, and none ends in front of it
+-- no container opens on that line, and none ends before it
 record MeetsOpen (still : HeldLeaf) (others opens : List Container) : Type 0 where
   opened : opens ≡ []
   ended : others ≡ []
@@ -142,7 +142,7 @@ met-open still others (c ∷ opens) h = cc
 met-open still (c ∷ others) [] h = let none = ended-open still in cc
 met-open still [] [] h = record { opened = refl; ended = refl; is = refl }
 
--- where all went on, none ends
+-- where all continued, none ends
 none-ends : (lazy : Bool) (went others opens : List Container) → others ≡ [] →
     (change_by lazy went others opens).closes ≡ []
 none-ends true went others opens none = refl

@@ -1,5 +1,5 @@
--- What content reads of the lines of a text stands in the places of these lines: its definitions, and the leaf of the
--- lines that remain.
+-- What content reads of the lines of a text is in the places of these lines: its definitions, and the leaf of the lines
+-- that remain.
 use Rattle.std.proofs.Common.{◌≡◌, inl, inr, ℕ, zero, suc, ◌^◌, ◌<◌, ◌⊎◌, Bool, true, false, ◌&&◌, cond, List}
 use Rattle.std.proofs.Common.{[], ◌∷◌, ◌++◌, length, take, drop, refl, ap, sym, ◌∙◌, subst, append-nil}
 use Rattle.std.proofs.Common.{Option, Some, None, arith, length-drop}
@@ -40,7 +40,7 @@ use Rattle.md_frame.proofs.SubstitutedLemmas.{AllBelong, CutAt, NextBelongs}
 
 -- Cuts.
 
--- events that belong to the lines of a break, and others behind it
+-- events that belong to the lines of a break, and others after it
 placed-all : (b : LineBreak) (bs : List LineBreak) (mine more : List Event) → AllBelong b.after.index mine →
     placed (b ∷ bs) (mine ++ more) ≡ mine ++ placed (b ∷ bs) more
 placed-all b bs [] more h = refl
@@ -158,7 +158,7 @@ settled-laid row (next ∷ rows) (e ∷ es) ends =
     go true here below = ap (λ (l : List Event). f ∷ l) below
     go false here below = ap (λ (l : List Event). e ∷ l) here
 
--- Lines behind others: what stands between them, the last of all, and those from the last of the first ones on.
+-- Lines after others: what is between them, the last of all, and those from the last of the first ones on.
 
 pub breaks-split : (row : Row) (own : List Row) (next : Row) (more : List Row) →
     breaks_of row (own ++ next ∷ more) ≡
@@ -182,7 +182,7 @@ bared-split : (bs cs : List LineBreak) → bared (bs ++ cs) ≡ bared bs ++ bare
 bared-split [] cs = refl
 bared-split (b ∷ bs) cs = ap (λ (l : List LineBreak). (record { after = b.after; front = [] }) ∷ l) (bared-split bs cs)
 
--- a line begins in front of its break, and in front of the end of all
+-- a line begins before its break, and before the end of all
 first-before : (options : ParseOptions) (bytes : List ℕ) (row : Row) (rows : List Row) →
     AreLines options bytes row rows →
     Before row.first (breaks_of row rows) × (row.first.index < (last_row row rows).end.index)
@@ -196,7 +196,7 @@ first-before options bytes row (next ∷ rows) h =
 
 -- Reading.
 
--- what content reads of lines, and what stands in their places
+-- what content reads of lines, and what is in their places
 record Reads (row : Row) (rows : List Row) (es done : List Event) : Type 0 where
   ends : EndIn (last_row row rows).end es
   fits : Fits row.first (laid (bared (breaks_of row rows)) es)
@@ -305,7 +305,7 @@ follows options bytes row own next more d es done h end set read =
     le-test : (i : ℕ) → nat_le i i ≡ true
     le-test i = grind (arith, nat_tests)
 
--- by what stands behind a definition
+-- by what follows a definition
 behind : (options : ParseOptions) (bytes : List ℕ) (more : Row → List Row → List Event) (row : Row)
     (own rest : List Row) (d : DefinitionParts) → AreLines options bytes row (own ++ rest) →
     IsBehind options bytes d rest → definition_end d ≡ (last_row row own).end →
@@ -388,7 +388,7 @@ content-is options bytes small (suc most) row rows h lt =
         further next below
         (let size = length-drop k rows in omega (arith, size, lt, shorter)) lines))
 
--- What content reads of the lines of a text, cut at the ends of these lines, stands in their places.
+-- What content reads of the lines of a text, cut at the ends of these lines, is in their places.
 pub content-cut : (options : ParseOptions) (bytes : List ℕ) (row : Row) (rows : List Row) →
     AreLines options bytes row rows →
     CutAt row rows (content_events bytes options (chunks_of row rows)) (text_unread options bytes row rows)

@@ -20,8 +20,7 @@ abbrev pub EachGroup : (Row → Type 0) → List Group → Type 0
 EachGroup P [] = Unit {0}
 EachGroup P (group ∷ groups) = OfGroup P group × EachGroup P groups
 
--- What a line is in front of the groups of the lines behind it: a group of its own, or the first line of the first of
--- these.
+-- What a line is before the groups of the lines after it: a group of its own, or the first line of the first of these.
 pub data Onto (row : Row) : List Group → List Group → Type 0 where
   AsSingle : (gs : List Group) → Onto row gs (Single row ∷ gs)
   AsText : (gs : List Group) → Onto row gs (Lines row [] ∷ gs)

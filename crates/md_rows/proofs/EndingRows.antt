@@ -1,4 +1,4 @@
--- The endings of blank lines are told from others, before the text of a document is read and once it is.
+-- The endings of blank lines are distinguished from others, before the text of a document is read and once it is.
 use Rattle.md_engine.specs.declared.tokenizer.held_leaf.HeldLeaf.TheVariants as held_leaf
 use Rattle.std.proofs.Common.{◌≡◌, ℕ, Bool, true, false, List, [], ◌∷◌, ◌++◌, refl, ap, sym, ◌∙◌, append_assoc}
 use Rattle.std.proofs.Common.{subst, ◌≤◌, length, append-nil}
@@ -48,12 +48,12 @@ ends-others (c ∷ cs) p =
 
 -- Groups.
 
--- behind each group but the last stands an ending
+-- after each group but the last is an ending
 abbrev pub EachEnded : List Group → Type 0
 EachEnded [] = Unit {0}
 EachEnded (group ∷ gs) = EndsBeforeGroups (final_row group) gs × EachEnded gs
 
--- a line goes in front of groups
+-- a line goes before groups
 onto-ended : (row : Row) (gs all : List Group) → Onto row gs all → EndsBeforeGroups row gs → EachEnded gs → EachEnded
     all
 onto-ended row _ _ (AsSingle gs) h k = (h, k)
@@ -73,7 +73,7 @@ groups-ended (row ∷ below ∷ rows) h =
     ends [] = tt
     ends (group ∷ gs) = (h.0, h.1)
 
--- the events of groups, by what stands in the place of each, with what stands in front of it
+-- the events of groups, by what is in the place of each, with what is before it
 abbrev group_with : (Group → List Event) → Group → List Event
 group_with leaf group = leaf group ++ tail_events (group_ending group) (final_row group)
 
@@ -100,34 +100,34 @@ read-with options bytes [] = refl
 read-with options bytes (group ∷ gs) =
     ap (λ (l : List Event). group_events options bytes group ++ l) (read-with options bytes gs)
 
--- What is known of the leaf of a group: where it stands, and whether something stands on its last line.
+-- What is known of the leaf of a group: where it is, and whether something is on its last line.
 abbrev LeafEnds : ParseOptions → List ℕ → Group → Type 0
 LeafEnds options bytes group =
     StandFacts bytes (not (is_blank_group group)) (first_row group).first (final_row group).end
     (group_unread options bytes group) (group_done options bytes group)
 
--- where the line stands behind it
+-- where the line is after it
 abbrev behind_group : Group → EndingPlace
 behind_group group = spot_behind (not (is_blank_group group))
 
--- What stands in the place of a group.
+-- What is in the place of a group.
 abbrev Within : ParseOptions → List ℕ → (Group → List Event) → Type 0
 Within options bytes leaf =
     (group : Group) → HasFront bytes (first_row group) → LeafEnds options bytes group →
     Leads line_start (behind_group group) (leaf group)
 
--- with what stands in front of it
+-- with what is before it
 front-leads : (bytes : List ℕ) (opens : List Container) (p q : Point) (front leaf : List Event) (s : EndingPlace) →
     LinePrefix bytes opens p q front → Leads line_start s leaf → Leads line_start s (front ++ leaf)
 front-leads bytes opens p q front leaf s is h =
     leads-append line_start line_start s front leaf
     (others-lead line_start front refl (fronts-others bytes opens p q front is)) h
 
--- groups whose endings stand
+-- groups whose endings are
 abbrev Stand : (Group → List Event) → List Group → Type 0
 Stand leaf gs = endings_stand_from line_start (groups_with leaf gs) ≡ true
 
--- what stands behind a line: the ends of containers, its ending, and further groups
+-- what follows a line: the ends of containers, its ending, and further groups
 tail-stands : (leaf : Group → List Event) (s : EndingPlace) (name : Name) (last : Row) (gs : List Group) →
     is_filled s ≡ s.after_leaf → ((p q : Point) → Leads s line_start (pair name p q)) → EndsBeforeGroups last gs →
     Stand leaf gs → endings_stand_from s (tail_events name last ++ groups_with leaf gs) ≡ true
@@ -150,7 +150,7 @@ tail-stands leaf s name last gs same ends before on =
         ap (λ (l : List Event). endings_stand_from s (l ++ groups_with leaf (group ∷ gs))) (ending-is name last h.0 h.1)
         ∙ ends last.end h.0 (groups_with leaf (group ∷ gs)) ∙ k
 
--- a group in front of further ones
+-- a group before further ones
 line-stands : (leaf : Group → List Event) (s : EndingPlace) (name : Name) (last : Row) (es : List Event)
     (gs : List Group) → Leads line_start s es → is_filled s ≡ s.after_leaf →
     ((p q : Point) → Leads s line_start (pair name p q)) → EndsBeforeGroups last gs → Stand leaf gs →
@@ -161,7 +161,7 @@ line-stands leaf s name last es gs h same ends before on =
     ∙ h behind
     ∙ tail-stands leaf s name last gs same ends before on
 
--- where a line stands behind its leaf, it is filled or not
+-- where a line is after its leaf, it is filled or not
 spot-filled : (filled : Bool) → is_filled (spot_behind filled) ≡ (spot_behind filled).after_leaf
 spot-filled true = refl
 spot-filled false = refl
@@ -228,7 +228,7 @@ endings-with options bytes p front lines rows leaf events within same (ToEnd ove
     ap (λ (es : List Event). endings_stand (front ++ es)) (none over)
     ∙ ap endings_stand (append-nil front) ∙ stand
 
--- The endings of a text stand before its text parts are read,
+-- The endings of a text are before its text parts are read,
 pub blocks-endings : (options : ParseOptions) (bytes : List ℕ) (p : Point) (front : List Event)
     (lines : List (List ℕ)) (rows : List Row) →
     Leaves bytes p front → (length bytes ≤ p.index → tabled_groups options bytes (groups rows) ≡ []) →

@@ -72,7 +72,7 @@ content-finishes next cells h ends = go (chunk_at cells h) (chunk_at-takes cells
     go (Refuses s g) t shrinks = absurd t
     go Fails t shrinks = absurd t
 
--- so one of the leaves that are tried does, or content behind them
+-- so one of the leaves that are tried does, or content after them
 leaves-finish : (options : ParseOptions) (next : Rule) (ls : List LeafName) (cells : List Cell) (h : Here) →
     Ends (length cells) next →
     Finishes (leaves_of options next ls cells h)

@@ -31,7 +31,7 @@ use Rattle.md_rows.proofs.RegistryFound.{or_table, other_at, other_trials, table
 use Rattle.md_frame.proofs.ShallowBlocks.{shallow-then}
 use Rattle.md_rows.proofs.TableStarts.{asked-untabled}
 
--- A line that meets no leaf on which it may go, and no text, goes on none.
+-- A line that meets no leaf on which it may go, and no text, continues none.
 pub none-further : (options : ParseOptions) (on : HeldLeaf) (r : Rest) → may_go_on on ≡ false →
     is_further (line_kind options on r) on ≡ false
 none-further options on r none = go (line_kind options on r) refl
@@ -45,12 +45,12 @@ none-further options on r none = go (line_kind options on r) refl
     go (LeafRow l) e = not l ((leaf l).further on) refl (kind-starts options on r l e)
     go TextRow e = refl
 
--- Where what is open is no text, a line whose containers do not all go on meets no leaf,
+-- Where what is open is no text, a line whose containers do not all continue meets no leaf,
 pub met-none : (still : HeldLeaf) → takes_lazy still ≡ false → met_by false still ≡ held_leaf.None
 met-none held_leaf.None unlazy = refl
 met-none _ unlazy = cc
 
--- and one that meets it, or no leaf, stands against no text.
+-- and one that meets it, or no leaf, is against no text.
 pub context-none : (on : HeldLeaf) → takes_lazy on ≡ false → IsAgainst NoText on
 context-none held_leaf.None unlazy = refl
 context-none _ unlazy = cc
@@ -61,11 +61,11 @@ pub span-lazy : (options : ParseOptions) (r : Rest) (open_leaf : Leaf) → has_l
 span-lazy options r (OpenParagraph lines) e = cc
 span-lazy options r _ e = refl
 
--- the kind of a line that goes on no leaf of several lines
+-- the kind of a line that continues no leaf of several lines
 abbrev pub other_kind : ParseOptions → HeldLeaf → Rest → RowKind
 other_kind options on r = cond (is_blank r.bytes) BlankRow (kind_of (other_at options on r))
 
--- it goes on none indeed
+-- it continues none indeed
 abbrev AllApart : List LeafName → Type 0
 AllApart [] = Unit {0}
 AllApart (l ∷ ls) = ((on : HeldLeaf) → has_lines on ≡ true → (leaf l).further on ≡ false) × AllApart ls
@@ -106,7 +106,7 @@ pub record FurtherSpan (open_leaf : Leaf) : Type 0 where
   pub lines : has_lines (kind_of_leaf open_leaf) ≡ true
   -- containers open in it where the line definition lets them
   pub concrete : is_concrete open_leaf ≡ bars_containers (kind_of_leaf open_leaf)
-  -- which lines go on it, and what it comes to with them
+  -- which lines continue it, and what it becomes with them
   pub takes : ParseOptions → Rest → Bool
   pub kind : (options : ParseOptions) (r : Rest) →
       line_kind options (kind_of_leaf open_leaf) r ≡
@@ -121,7 +121,7 @@ pub record FurtherSpan (open_leaf : Leaf) : Type 0 where
   pub closed : (options : ParseOptions) (bs : Blocks) → are_shallow bs ≡ true →
       are_shallow (then_leaf options bs open_leaf) ≡ true
 
--- One that is asked first: its line is tried in front of all others.
+-- One that is asked first: its line is tried before all others.
 asked-further : (open_leaf : Leaf) → OpenSpan open_leaf → FurtherSpan open_leaf
 asked-further open_leaf is = record {
   name = is.name;
@@ -150,7 +150,7 @@ asked-further open_leaf is = record {
     on : HeldLeaf
     on = kind_of_leaf open_leaf
 
--- A table goes on up to a blank line and to one that starts another leaf.
+-- A table continues up to a blank line and to one that starts another leaf.
 table-further : (delimiter : List ℕ) (rows : List (List (List ℕ))) → FurtherSpan (OpenTable delimiter rows)
 unfolding asked_first bars_containers IsOpenSpan
 table-further delimiter rows = record {

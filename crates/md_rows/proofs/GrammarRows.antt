@@ -32,10 +32,10 @@ use Rattle.md_front_rooms.proofs.Frontmatter.Whole.{IsText, Leaves, Plain, ToEnd
 use Rattle.std.proofs.Common.{◌≤◌, length, append-nil}
 use Rattle.md_frame.proofs.LeafStands.{roles-unlisted}
 
--- Groups, whatever stands in text parts.
+-- Groups, whatever is in text parts.
 
--- what stands in the place of a group, from the front of its first line to the ending of its last: behind its leaf,
--- blocks are left as they are behind a block or not
+-- what is in the place of a group, from the front of its first line to the ending of its last: after its leaf, blocks
+-- are left as they are after a block or not
 record Stands (options : ParseOptions) (bytes : List ℕ) (text : Expression) (block : Bool) (group : Group)
     (events : List Event) : Type 0 where
   front : List Event
@@ -56,11 +56,11 @@ Reads options bytes text each =
     (group : Group) → IsGroupLeaf options bytes group →
     (block : Bool) × Stands options bytes text block group (each group)
 
--- the text is whole behind events
+-- the text is whole after events
 abbrev Whole : Expression → List Expression → List Event → Type 0
 Whole text stack events = is_whole (unlisted_left text stack events) ≡ true
 
--- what is left behind the leaf of lines
+-- what is left after the leaf of lines
 leaf-left : (options : ParseOptions) (text : Expression) (bytes : List ℕ) (block : Bool) (names : List Name)
     (p : Point) (group : Group) (events more : List Event) →
     TakesData text → Ordered options bytes p group → Stands options bytes text block group events →
@@ -86,7 +86,7 @@ none-whole : (block : Bool) (names : List Name) → is_whole (blocks ∷ behinds
 none-whole block [] h = behind-ends block
 none-whole block (name ∷ names) h = cc
 
--- behind the ends of containers the line ends, if more follows
+-- after the ends of containers the line ends, if more follows
 ending-whole : (text : Expression) (each : Group → List Event) (block : Bool) (kept : List Name) (row : Row)
     (blank : Bool) (gs : List Group) →
     EndsBeforeGroups row gs → Whole text (blocks ∷ behinds kept) (all_of each gs) →
@@ -116,7 +116,7 @@ ending-whole text each block kept row blank gs ends h = go row.after refl gs end
         ∙ none-whole block kept h
     go None after (g ∷ gs) ends h = let bad : None ≡ Some ends.0 = sym after ∙ ends.1 in cc
 
--- what is open behind the leaf ends, or stays open
+-- what is open after the leaf ends, or stays open
 tail-whole : (text : Expression) (each : Group → List Event) (block : Bool) (all kept : List Name) (row : Row)
     (blank : Bool) (gs : List Group) →
     all ≡ open_names row.closed_after ++ kept → EndsBeforeGroups row gs →

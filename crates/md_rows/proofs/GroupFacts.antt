@@ -18,7 +18,7 @@ use Rattle.md_rows.proofs.RowLeaf.{EndsOnLine, row-facts}
 use Rattle.md_rows.proofs.Text.Stands.{text-stands}
 use Rattle.md_rows.proofs.Turned.Stands as turned
 
--- it stands from the begin of its first line to the end of its last, whatever it is read as
+-- it is from the begin of its first line to the end of its last, whatever it is read as
 abbrev pub IsGroupLeaf : ParseOptions → List ℕ → Group → Type 0
 IsGroupLeaf options bytes group =
     (full : Bool) ×
@@ -87,7 +87,7 @@ pub headed-leaf : (options : ParseOptions) (bytes : List ℕ) (row next : Row) (
     IsHead options bytes row next → AreSpan options bytes next rows → IsGroupLeaf options bytes (Headed row next rows)
 headed-leaf options bytes row next rows head are = (true, headed-stands options bytes row next rows head are)
 
--- that of the first of groups, what stands in front of it, and the others
+-- that of the first of groups, what is before it, and the others
 pub group-leaf : (options : ParseOptions) (bytes : List ℕ) (group : Group) (gs : List Group) →
     AreGroups options bytes (group ∷ gs) → IsGroupLeaf options bytes group
 group-leaf options bytes (Single row) gs are =

@@ -1,4 +1,4 @@
--- Once the content in the events of the groups of a text is read, texts stand there that are not read yet.
+-- Once the content in the events of the groups of a text is read, texts are there that are not read yet.
 use Rattle.md_engine.specs.declared.tokenizer.held_leaf.HeldLeaf.{HeldLeaf}
 use Rattle.std.proofs.Common.{◌≡◌, ◌≢◌, ℕ, ◌<◌, ◌≤◌, Bool, true, false, cond, ◌&&◌, List, [], ◌∷◌, ◌++◌, length, drop}
 use Rattle.md_rows.specs.BlockList.{lines_unread, text_unread, unread_lines}
@@ -69,7 +69,7 @@ rows-end options bytes open_before still p (line ∷ next ∷ lines) (row ∷ be
 )
 rows-end options bytes open_before still p lines rows h = absurd h
 
--- in front of each line of a text stand prefixes and begins of containers
+-- before each line of a text are prefixes and begins of containers
 pub rows-front : (options : ParseOptions) (bytes : List ℕ) (open_before : List Container) (still : HeldLeaf) (p : Point)
     (lines : List (List ℕ)) (rows : List Row) →
     AreRows options bytes open_before still p lines rows → EachFront bytes rows
@@ -81,7 +81,7 @@ rows-front options bytes open_before still p (line ∷ next ∷ lines) (row ∷ 
 )
 rows-front options bytes open_before still p lines rows h = absurd h
 
--- Where the lines stand.
+-- Where the lines are.
 
 pub row-line : (options : ParseOptions) (bytes line : List ℕ) (row : Row) → IsRow options bytes line row →
     drop row.first.index bytes ≡ line ++ drop row.end.index bytes
@@ -131,7 +131,7 @@ chunks-lines options bytes row (next ∷ rows) h =
 
 -- Reading.
 
--- behind the containers that end there, and an ending, no more of a text stands
+-- after the containers that end there, and an ending, no more of a text is
 behind-tail : (wants : Content → Bool) (row : Row) (es : List Event) →
     chunks_behind wants (ending_events n.LineEnding row ++ es) ≡ [] →
     chunks_behind wants (tail_events n.LineEnding row ++ es) ≡ []
@@ -163,7 +163,7 @@ behind-lines bytes wants row [] h = behind-tail wants row [] (go row.after)
     go (Some q) = refl
 behind-lines bytes wants row (group ∷ gs) h = behind-ended wants row h.0 (joined_groups bytes (group ∷ gs)) h.1
 
--- what stands around the parts of a line is not read later
+-- what is around the parts of a line is not read later
 pub tail-unwanted : (wants : Content → Bool) (kind : RowKind) (row : Row) →
     Unwanted wants (tail_events (ending_of kind row) row)
 tail-unwanted wants kind row =
@@ -192,7 +192,7 @@ spans-quiet options bytes wants row (next ∷ rows) are quiet w =
     no_content-append wants (row_events row) (rows_events (next ∷ rows))
     (span-quiet options bytes wants row are.0 quiet.0 w) (spans-quiet options bytes wants next rows are.8 quiet.1 w)
 
--- a head that was read again, with the lines that go on it
+-- a head that was read again, with the lines that continue it
 pub headed-quiet : (options : ParseOptions) (bytes : List ℕ) (wants : Content → Bool) (row next : Row)
     (rows : List Row) →
     AreSpan options bytes next rows → HasFront bytes row → EachNoContent (next ∷ rows) → WantsContent wants →
@@ -212,7 +212,7 @@ pub under-other : (options : ParseOptions) (bytes : List ℕ) (last under : Row)
     under.kind ≢ TextRow
 under-other options bytes last under is h = let bad : LeafRow is.name ≡ TextRow = sym is.kind ∙ h in cc
 
--- in front of it stand prefixes alone
+-- before it are prefixes alone
 pub under-prefixed : (options : ParseOptions) (bytes : List ℕ) (last under : Row) → IsUnder options bytes last under →
     ArePrefixes under.front
 under-prefixed options bytes last under is =
@@ -225,14 +225,14 @@ under-quiet options bytes wants last under is w =
     (front-no_content wants w under.front (prefixes-front under.front (under-prefixed options bytes last under is)))
     (is.quiet wants w)
 
--- in front of the further lines of a text stand prefixes alone
+-- before the further lines of a text are prefixes alone
 pub lines-prefixed : (options : ParseOptions) (bytes : List ℕ) (row : Row) (rows : List Row) →
     AreLines options bytes row rows → EachPrefixed rows
 lines-prefixed options bytes row [] h = tt
 lines-prefixed options bytes row (next ∷ rows) h =
     (fronts-prefixes bytes [] h.3 next.first next.front refl h.6, lines-prefixed options bytes next rows h.7)
 
--- Where the lines of a text stand.
+-- Where the lines of a text are.
 
 -- a line of text is not empty
 pub line-grows : (options : ParseOptions) (bytes line : List ℕ) (row : Row) → IsRow options bytes line row →
@@ -274,7 +274,7 @@ all_belong-append : (end : ℕ) (xs ys : List Event) → AllBelong end xs → Al
 all_belong-append end [] ys h k = k
 all_belong-append end (e ∷ xs) ys h k = (h.0, all_belong-append end xs ys h.1 k)
 
--- what stands in front of the events of the first line is of it too
+-- what is before the events of the first line is of it too
 cut-front : (row : Row) (rows : List Row) (xs left done : List Event) → AllBelong (line_after row rows).index xs →
     CutAt row rows left done → CutAt row rows (xs ++ left) (xs ++ done)
 cut-front row [] xs left done h cut = ap (λ (l : List Event). xs ++ l) cut
@@ -321,7 +321,7 @@ linked-cut options bytes name link row (next ∷ rows) zs h =
       linked-cut options bytes name link next rows zs h.7,
     )
 
--- A reader of content gives for lines of text what stands in the place of these lines, once that is cut at their ends.
+-- A reader of content gives for lines of text what is in the place of these lines, once that is cut at their ends.
 abbrev pub ReadsContent : ParseOptions → List ℕ → Readings → Type 0
 ReadsContent options bytes reads =
     (row : Row) (rows : List Row) → AreLines options bytes row rows → (answer : List Event) →
@@ -349,7 +349,7 @@ group-joins front given tail rest out one two three h i j k =
     ∙ sym (append_assoc front given (tail ++ rest))
     ∙ sym (append_assoc (front ++ given) tail rest)
 
--- lines of text in front of others: what is read of them stands in the places of their chunks
+-- lines of text before others: what is read of them is in the places of their chunks
 text-content : (options : ParseOptions) (bytes : List ℕ) (wants : Content → Bool) (reads : Readings) →
     wants content.Content ≡ true → WantsContent wants → ReadsContent options bytes reads →
     (row : Row) (rows : List Row) → AreLines options bytes row rows → HasFront bytes row → (es left out : List Event) →
@@ -383,7 +383,7 @@ text-content options bytes wants reads w other unique row rows are front es left
       two.2,
     )
 
--- events without content in front of others stay
+-- events without content before others stay
 then-content : (wants : Content → Bool) (reads : Readings) (xs ys rest : List Event)
     (left out : List Event) →
     NoContent wants xs → ((more : List Event) → Substituted wants reads left 0 ys more → more ≡ rest) →

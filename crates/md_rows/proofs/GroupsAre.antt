@@ -41,7 +41,7 @@ use Rattle.md_rows.proofs.LineBehind.{leaves-longer, line-heads, shut-behind, tu
 
 -- Groups.
 
--- groups that may go on a leaf in front of them
+-- groups that may continue a leaf before them
 abbrev AreBelow : ParseOptions → List ℕ → List Group → Type 0
 AreBelow options bytes (LeafLines row rows ∷ gs) =
     AreSpan options bytes row rows × EndsBeforeGroups (last_row row rows) gs × AreGroups options bytes gs ×
@@ -65,7 +65,7 @@ below-are options bytes (Turned row rows under ∷ gs) begins are = (
 below-are options bytes (LeafLines row rows ∷ gs) begins are = (are.0, are.1, are.2, are.3, begins)
 below-are options bytes gs begins are = are
 
--- a line, with what stands in front of it
+-- a line, with what is before it
 record IsBegun (options : ParseOptions) (bytes line : List ℕ) (p : Point) (row : Row) : Type 0 where
   is : IsRow options bytes line row
   front : LinePrefix bytes row.change.opens p row.first row.front
@@ -148,7 +148,7 @@ leaf-are options bytes line p row l q (LeafLines below rows ∷ gs) is e after e
 leaf-are options bytes line p row l q gs is e after ending first are false k =
     (span-line options bytes line p row l is e k, (q, after), are, (is.quiet, tt))
 
--- a text goes before a line that goes on none
+-- a text goes before a line that continues none
 text-begins : (options : ParseOptions) (bytes line : List ℕ) (p : Point) (row : Row) (q : Point) (gs : List Group) →
     IsBegun options bytes line p row → row.kind ≡ TextRow → EndsBeforeGroups row gs → AreGroups options bytes gs →
     AreGroups options bytes (Lines row [] ∷ gs)
@@ -216,7 +216,7 @@ under-leaves options bytes line row under is e below on f h =
     line-as options bytes under below HeadingSetext (below.kind ∙ ap LeafRow name) in
     turn-left options at (ap (may_turn options) (sym text) ∙ setext-may options under.on of.rest of.starts)
 
--- text goes before a leaf of several lines: where its first line goes on text, it takes that as its head, or is one
+-- text goes before a leaf of several lines: where its first line continues text, it takes that as its head, or is one
 -- alone
 text-span : (options : ParseOptions) (bytes line : List ℕ) (p : Point) (row : Row) (q : Point) (below : Row)
     (rows : List Row) (gs : List Group) →
@@ -271,7 +271,7 @@ text-are options bytes line p row q (LeafLines below rows ∷ gs) is e after end
 text-are options bytes line p row q (Turned below rows under ∷ gs) is e after ending first are =
     go (change.is_none row.closed_after) refl below.change.opens refl
   where
-    -- no definitions have begun in front of the text that is turned
+    -- no definitions have begun before the text that is turned
     apart : IsFresh below.on → AreBelow options bytes (Lines row [] ∷ Turned below rows under ∷ gs)
     apart fresh =
         text-begins options bytes line p row q (Turned below rows under ∷ gs) is e (q, after)

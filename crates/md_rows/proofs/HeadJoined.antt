@@ -1,4 +1,4 @@
--- Heads of tables, read again among the events of the lines of a text: a line of text is, just if the line behind it
+-- Heads of tables, read again among the events of the lines of a text: a line of text is, just if the line after it
 -- takes it as its head. Then the events are joined.
 use Rattle.std.proofs.Common.{◌≡◌, ◌≢◌, ℕ, Bool, true, false, cond, ◌&&◌, List, [], ◌∷◌, ◌++◌, refl, ap, sym, ◌∙◌}
 use Rattle.std.proofs.Common.{append_assoc}
@@ -31,7 +31,7 @@ use Rattle.md_rows.proofs.JoinedLemmas.{tail-no_content}
 use Rattle.md_rows.proofs.RowFacts.{AreRows, IsRow, behind_line}
 use Rattle.md_rows.proofs.TablesOff.{rows-unheaded}
 
--- One line, in front of others.
+-- One line, before others.
 
 -- one that is no text passes
 other-read : (options : ParseOptions) (bytes : List ℕ) (row : Row) (es : List Event) → row.kind ≢ TextRow →
@@ -89,7 +89,7 @@ text-again options bytes line row es is text front meets =
 
 -- All lines.
 
--- a line in front of another, and of those behind
+-- a line before another, and of those after
 row-read : (options : ParseOptions) (bytes : List ℕ) (open_before : List Container) (still : HeldLeaf) (p : Point)
     (line next : List ℕ) (lines : List (List ℕ)) (row below : Row) (rows : List Row) →
     AreRows options bytes open_before still p (line ∷ next ∷ lines) (row ∷ below ∷ rows) → HasNoContent row →
@@ -173,8 +173,8 @@ heads-rows options bytes open_before still p lines rows are quiet = go options.c
         ap rows_events
         (sym (again-none bytes rows (rows-unheaded options bytes open_before still p lines rows off are)))
 
--- Joined, the events of lines are those of their groups: a head stands there as it was read again, and lines of text
--- that follow one another in the same containers are joined.
+-- Joined, the events of lines are those of their groups: a head is there as it was read again, and lines of text that
+-- follow one another in the same containers are joined.
 pub heads-joined : (options : ParseOptions) (bytes : List ℕ) (open_before : List Container) (still : HeldLeaf)
     (p : Point) (lines : List (List ℕ)) (rows : List Row) →
     AreRows options bytes open_before still p lines rows → EachNoContent rows →

@@ -1,4 +1,4 @@
--- What is met behind a line of text by a look for a table that takes it as its head: a line of a table, if one goes on
+-- What is met after a line of text by a look for a table that takes it as its head: a line of a table, if one continues
 -- it, and else another line of text, a blank line, a container or another block.
 use Rattle.std.proofs.Common.{◌≡◌, ℕ, Bool, true, false, cond, ◌&&◌, List, [], ◌∷◌, ◌++◌, refl, ap, sym, ◌∙◌, subst}
 use Rattle.std.proofs.Common.{append_assoc}
@@ -54,7 +54,7 @@ use Rattle.md_frame.proofs.SpannedFacts.{AreUnspanned, unspanned-lines}
 use Rattle.md_rows.proofs.SpanJoined.{line-apart}
 use Rattle.md_registry.proofs.UnderNames.{further-text, heads-table, under-shuts}
 
--- Events with which no line of a table begins that goes on another.
+-- Events with which no line of a table begins that continues another.
 
 abbrev IsNoRow : Event → Type 0
 IsNoRow e = begins_further_row e ≡ false
@@ -70,7 +70,7 @@ unlinked-row e none =
 unlinked-rows : (es : List Event) → NoLinks es → NoRows es
 unlinked-rows es h = each-as IsUnlinked IsNoRow unlinked-row es h
 
--- a chunk that stands alone goes on no other
+-- a chunk that is alone continues no other
 alone-row : (link : Option Link) → is_alone link ≡ true → links_back link ≡ false
 alone-row None h = refl
 alone-row (Some link) h = go link.previous (and_parts (is_string link.content) (not link.previous) h).1
@@ -98,7 +98,7 @@ lined-rows (e ∷ es) h = (
   lined-rows es h.1,
 )
 
--- a look that goes past them meets what it meets behind them, or nothing
+-- a look that goes past them meets what it meets after them, or nothing
 meets-past : (xs ys : List Event) → NoRows xs → meets_table ys ≡ false → meets_table (xs ++ ys) ≡ false
 meets-past [] ys h none = none
 meets-past (e ∷ xs) ys h none = go (stops_look e) (meets-past xs ys h.1 none)
@@ -107,7 +107,7 @@ meets-past (e ∷ xs) ys h none = go (stops_look e) (meets-past xs ys h.1 none)
     go true more = h.0
     go false more = more
 
--- what stands behind a line
+-- what follows a line
 tail-rows : (name : Name) (row : Row) → NoRows (tail_events name row)
 tail-rows name row =
     each-append IsNoRow (ends_of row.closed_after row.end) (ending_events name row)
@@ -121,12 +121,12 @@ pub tail-met : (name : Name) (row : Row) (es : List Event) → meets_table es �
     meets_table (tail_events name row ++ es) ≡ false
 tail-met name row es none = meets-past (tail_events name row) es (tail-rows name row) none
 
--- and in front of it
+-- and before it
 has_front-rows : (bytes : List ℕ) (row : Row) → HasFront bytes row → NoRows row.front
 has_front-rows bytes row front =
     front-rows row.front (fronts-are bytes row.change.opens front.0 row.first row.front front.1)
 
--- A line, in front of others.
+-- A line, before others.
 
 pub row-parts : (row : Row) (kind : RowKind) (es : List Event) → row.kind ≡ kind →
     row_events row ++ es ≡ row.front ++ (leaf_events kind row ++ (tail_events (ending_of kind row) row ++ es))
@@ -135,7 +135,7 @@ row-parts row kind es e =
     ∙ append_assoc (row.front ++ leaf_events kind row) (tail_events (ending_of kind row) row) es
     ∙ append_assoc row.front (leaf_events kind row) (tail_events (ending_of kind row) row ++ es)
 
--- no line of a table is met in what stands in front of it
+-- no line of a table is met in what is before it
 behind-front : (bytes : List ℕ) (row : Row) (kind : RowKind) (es : List Event) → row.kind ≡ kind → HasFront bytes row →
     meets_table (leaf_events kind row ++ (tail_events (ending_of kind row) row ++ es)) ≡ false →
     meets_table (row_events row ++ es) ≡ false
@@ -144,7 +144,7 @@ behind-front bytes row kind es e front none =
     ∙ meets-past row.front (leaf_events kind row ++ (tail_events (ending_of kind row) row ++ es))
     (has_front-rows bytes row front) none
 
--- nor in front of the ending of a blank line
+-- nor before the ending of a blank line
 blank-met : (row : Row) (rows : List Row) → EachEnds (row ∷ rows) →
     meets_table (tail_events n.BlankLineEnding row ++ rows_events rows) ≡ false
 blank-met row [] ends = tail-met n.BlankLineEnding row [] refl
@@ -174,7 +174,7 @@ begin-met e es is =
     stops false false h = h
     stops _ _ h = refl
 
--- A line that goes on no leaf, in front of others: no line of a table is met there.
+-- A line that continues no leaf, before others: no line of a table is met there.
 begins-met : (options : ParseOptions) (bytes line : List ℕ) (row : Row) (rows : List Row) →
     IsRow options bytes line row → HasFront bytes row → EachEnds (row ∷ rows) → Begins row →
     meets_table (rows_events (row ∷ rows)) ≡ false
@@ -209,7 +209,7 @@ begins-met options bytes line row rows is front ends begins = go row.kind refl
         (blank-met row rows ends))
     go (LeafRow l) e = behind-front bytes row (LeafRow l) es e front (leaf_line l e (leaf l).ends refl)
 
--- The first line of some, where no leaf is open that a line may go on,
+-- The first line of some, where no leaf is open that a line may continue,
 shut-met : (options : ParseOptions) (bytes : List ℕ) (cs : List Container) (still : HeldLeaf) (p : Point)
     (lines : List (List ℕ)) (rows : List Row) →
     may_go_on still ≡ false → AreRows options bytes cs still p lines rows → meets_table (rows_events rows) ≡ false
@@ -224,7 +224,7 @@ shut-met options bytes cs still p lines (row ∷ rows) shut are =
         begins-met options bytes _ row rows is.is (rows-front options bytes cs still p _ (row ∷ rows) are).0
         (rows-end options bytes cs still p _ (row ∷ rows) are) (line-begins options bytes cs still p line row is shut)
 
--- and those behind one, where none is open behind that.
+-- and those after one, where none is open after that.
 rest-met : (options : ParseOptions) (bytes : List ℕ) (cs : List Container) (still : HeldLeaf) (p : Point)
     (lines : List (List ℕ)) (row : Row) (rows : List Row) →
     AreRows options bytes cs still p lines (row ∷ rows) → may_go_on row.behind ≡ false →
@@ -235,9 +235,9 @@ rest-met options bytes cs still p (line ∷ next ∷ lines) row (below ∷ rows)
     are.5
 rest-met options bytes cs still p lines row rows are shut = absurd are
 
--- Behind a line of text.
+-- After a line of text.
 
--- the line behind it, where that goes on it
+-- the line after it, where that continues it
 record IsOn (options : ParseOptions) (bytes : List ℕ) (row below : Row) : Type 0 where
   line : List ℕ
   is : IsRow options bytes line below
@@ -275,7 +275,7 @@ underline-rows options on line p = (
       (refl, tt),
 )
 
--- So no table is met that goes on it, where the line behind it does not take it as its head.
+-- So no table is met that continues it, where the line after it does not take it as its head.
 pub text-met : (options : ParseOptions) (bytes line : List ℕ) (row : Row) (cs : List Container) (p : Point)
     (lines : List (List ℕ)) (below : Row) (rows : List Row) →
     IsRow options bytes line row → row.kind ≡ TextRow → AreRows options bytes cs row.behind p lines (below ∷ rows) →
@@ -329,7 +329,7 @@ prefixes-met (e ∷ xs) ys h =
     ap (λ (x : Bool). cond x (begins_further_row e) (meets_table (xs ++ ys))) (prefix-passed e h.0.0)
     ∙ prefixes-met xs ys h.1
 
--- Where it does, one is met, behind the ending of the line and the prefixes of containers.
+-- Where it does, one is met, after the ending of the line and the prefixes of containers.
 pub head-met : (options : ParseOptions) (bytes line : List ℕ) (row : Row) (cs : List Container) (p : Point)
     (lines : List (List ℕ)) (below : Row) (rows : List Row) →
     IsRow options bytes line row → row.kind ≡ TextRow → AreRows options bytes cs row.behind p lines (below ∷ rows) →

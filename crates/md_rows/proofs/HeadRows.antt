@@ -1,6 +1,6 @@
 -- The lines of a text, with each line of text that is the head of a table read again: it is the first line of that
--- table, and those that go on it are further ones. So the groups are as before, but each head and its lines are those
--- of one leaf.
+-- table, and those that continue it are further ones. So the groups are as before, but each head and its lines are
+-- those of one leaf.
 use Rattle.std.proofs.Common.{◌≡◌, ℕ, Bool, true, false, cond, ◌&&◌, List, [], ◌∷◌, ◌++◌, refl, ap, sym, ◌∙◌}
 use Rattle.std.specs.Prelude.{Some}
 use Rattle.std.proofs.lemmas.Bool.{and_parts}
@@ -29,7 +29,7 @@ as_table bytes row =
 abbrev pub takes : Row → Row → Bool
 takes next row = is_text row.kind && (is_further next.kind next.on && takes_head next.kind)
 
--- a line in front of others: one that they take as their head is the first line of a table
+-- a line before others: one that they take as their head is the first line of a table
 abbrev pub read_again : List ℕ → Row → List Row → Row
 read_again bytes row [] = row
 read_again bytes row (next ∷ rows) = cond (takes next row) (as_table bytes row) row
@@ -48,7 +48,7 @@ again-is P bytes row (next ∷ rows) h k = go (takes next row)
     go true = k
     go false = h
 
--- What stands around it stays,
+-- What is around it stays,
 again-front : (bytes : List ℕ) (rows : List Row) → EachFront bytes rows → EachFront bytes (head_rows bytes rows)
 again-front bytes [] h = tt
 again-front bytes (row ∷ rows) h = (again-is (HasFront bytes) bytes row rows h.0 h.0, again-front bytes rows h.1)
@@ -62,7 +62,7 @@ again-ends bytes (row ∷ below ∷ rows) h = (
   again-ends bytes (below ∷ rows) h.2,
 )
 
--- and no content stands in a head.
+-- and no content is in a head.
 again-quiet : (bytes : List ℕ) (rows : List Row) → EachNoContent rows → EachNoContent (head_rows bytes rows)
 again-quiet bytes [] h = tt
 again-quiet bytes (row ∷ rows) h = (

@@ -1,4 +1,4 @@
--- A group that begins with a line of text which the line behind it takes as its head: it is a table, with that line as
+-- A group that begins with a line of text which the line after it takes as its head: it is a table, with that line as
 -- its delimiter row, and the others as the rows of its body (GFM 4.10).
 use Rattle.std.proofs.Common.{◌≡◌, ℕ, true, false, ◌||◌, List, [], ◌∷◌, refl, ap, sym, ◌∙◌, subst}
 use Rattle.std.proofs.lemmas.Bool.{or_right}
@@ -34,7 +34,7 @@ use Rattle.md_rows.proofs.SpelledParagraphs.{text-filled}
 use Rattle.md_rows.proofs.TableStarts.{asked-untabled}
 use Rattle.md_registry.proofs.UnderNames.{heads-table}
 
--- something stands on a line that goes on a text or on a table: no leaf is asked there in front of blank lines
+-- something is on a line that continues a text or on a table: no leaf is asked there before blank lines
 not-asked : (on : HeldLeaf) (l : LeafName) → may_be_table on ≡ true → asked_first on ≡ Some l → ⊥
 not-asked on l goes asked =
     let bad : true ≡ false = sym goes ∙ asked-untabled on l asked in
@@ -58,7 +58,7 @@ rows-filled options bytes row (next ∷ rows) are e =
       rows-filled options bytes next rows are.8 _,
     )
 
--- so the last of them ends as a line on which something stands
+-- so the last of them ends as a line on which something is
 last-filled : (options : ParseOptions) (bytes : List ℕ) (row : Row) (rows : List Row) →
     (are : AreSpan options bytes row rows) → may_be_table row.on ≡ true → AreBehind options bytes table_leaf row rows →
     is_blank_by (last_row row rows).kind (last_row row rows) ≡ false
@@ -70,7 +70,7 @@ last-filled options bytes row (next ∷ rows) are goes behind =
 
 -- What the lines of such a group are.
 pub record IsHeaded (options : ParseOptions) (bytes : List ℕ) (row next : Row) (rows : List Row) : Type 0 where
-  -- something stands on the line of text, and the others go on it as lines of a table
+  -- something is on the line of text, and the others continue it as lines of a table
   pub head : IsFilledLine bytes row
   pub are : AreBehind options bytes table_leaf row (next ∷ rows)
   pub filled : AreFilled options bytes row (next ∷ rows) are
@@ -137,7 +137,7 @@ headed-joins options bytes row next rows is =
     or_right (c.code_fenced || c.math_flow || c.code_indented || c.html_flow) c.gfm_table
     (headed-on options bytes row next rows is)
 
--- As a table: what the line definition comes to with them, and what is known of their events.
+-- As a table: what the line definition becomes with them, and what is known of their events.
 
 pub headed-table : (options : ParseOptions) (bytes : List ℕ) (row next : Row) (rows : List Row) →
     IsHeaded options bytes row next rows → IsTable bytes row next rows

@@ -79,7 +79,7 @@ end-held x names = go (is_item x)
     go true = tt
     go false = tt
 
--- an event that is no item stands anywhere: each name is tested
+-- an event that is no item is anywhere: each name is tested
 no_item : (name : Name) → in_place name ≡ name → is_item (role name) ≡ false
 no_item n.ListItem h = cc
 no_item _ h = refl
@@ -95,7 +95,7 @@ unlisted-held names (e ∷ es) h = (
   unlisted-held (open_behind names e.kind e.name) es h.1,
 )
 
--- events in front of others
+-- events before others
 held-through : (from to : List Name) (xs ys : List Event) → ItemsHeld from xs → open_after from xs ≡ to →
     ItemsHeld to ys → ItemsHeld from (xs ++ ys)
 held-through from to xs ys h opened k =
@@ -103,7 +103,7 @@ held-through from to xs ys h opened k =
 
 -- Lines.
 
--- what stands in front of a line
+-- what is before a line
 fronts-held : (bytes : List ℕ) (opens : List Container) (names : List Name) (p q : Point) (front : List Event) →
     AreBlocks names → LinePrefix bytes opens p q front → ItemsHeld names front
 fronts-held bytes _ names p _ _ blocks (Behind _) = tt
@@ -126,7 +126,7 @@ ends-held (c ∷ cs) names p =
     held-append names (ends_of cs p) (exit (container_name c) p ∷ []) (ends-held cs names p)
     (end-held (role (container_name c)) (open_after names (ends_of cs p)), tt)
 
--- behind the ending of a line that is open which was
+-- after the ending of a line that is open which was
 ending-opens : (name : Name) (row : Row) (names : List Name) → open_after names (ending_events name row) ≡ names
 ending-opens name row names = go row.after
   where
@@ -136,7 +136,7 @@ ending-opens name row names = go row.after
 
 -- Groups.
 
--- a group in front of such events, with what stands in its place and in front of it
+-- a group before such events, with what is in its place and before it
 group-held : (options : ParseOptions) (bytes : List ℕ) (names kept : List Name) (p : Point) (group : Group)
     (front inside events : List Event) →
     LinePrefix bytes (first_row group).change.opens p (first_row group).first front → Keeps names group kept →

@@ -1,4 +1,4 @@
--- What holds of lists of events of a leaf of several lines, of endings, and of such lists one behind the other holds of
+-- What holds of lists of events of a leaf of several lines, of endings, and of such lists one after the other holds of
 -- its lines once they are joined: of one that is no table, and of the line of text that heads a table with its lines.
 use Rattle.std.proofs.Common.{◌≡◌, ℕ, Bool, true, false, List, [], ◌∷◌, refl, ap, sym, ◌∙◌, subst}
 use Rattle.md_engine.specs.declared.configuration.ParseOptions.{ParseOptions}
@@ -73,12 +73,12 @@ further-plain registry.Fence e h = (refl, refl)
 further-plain registry.HtmlFlow e h = (refl, refl)
 further-plain _ e h = (e, h)
 
--- a leaf that a line may go on, and that takes no lazy lines, has several
+-- a leaf that a line may continue, and that takes no lazy lines, has several
 lines-of : (on : HeldLeaf) → may_go_on on ≡ true → takes_lazy on ≡ false → has_lines on ≡ true
 lines-of held_leaf.Code may lazy = refl
 lines-of _ may lazy = cc
 
--- its further lines go on no text
+-- its further lines continue no text
 behind-lined : (options : ParseOptions) (bytes : List ℕ) (l : LeafName) (row : Row) (rows : List Row) →
     (leaf l).ends ≡ false → (leaf l).heads ≡ false → takes_lazy row.behind ≡ false →
     AreBehind options bytes (leaf l) row rows → AreEach IsLined rows

@@ -45,7 +45,7 @@ use Rattle.md_frame.proofs.PrefixNames.{AreFront, is_alone, is_string}
 use Rattle.md_frame.proofs.ContainerNames.{container-facts, end-stops}
 use Rattle.md_frame.specs.ContainerNames.{container_name}
 
--- no content stands inside a line, and its links are to text
+-- no content is inside a line, and its links are to text
 abbrev pub HasNoContent : Row → Type 0
 HasNoContent row = (wants : Content → Bool) → WantsContent wants → NoContent wants row.inside
 
@@ -67,7 +67,7 @@ inside-no_content wants w options on cells p BlankRow = white-no_content wants (
 inside-no_content wants w options on cells p (LeafRow l) = (laws l).no_content wants w options on cells p
 inside-no_content wants w options on cells p TextRow = tt
 
--- no content stands inside the lines that flow reads
+-- no content is inside the lines that flow reads
 pub rows_at-no_content : (options : ParseOptions) (size : ℕ) (open_before : List Container) (still : HeldLeaf)
     (cells : List Cell) (p : Point) →
     EachNoContent (rows_at options size open_before still cells p)
@@ -119,7 +119,7 @@ alone-unwanted wants w e h = go e.kind e.link h
         ap (λ (x : Bool). cond x (Some link.content) None)
         (string link link.content refl (and_parts (is_string link.content) (not link.previous) h).0)
 
--- what stands in front of a line
+-- what is before a line
 pub front-no_content : (wants : Content → Bool) → WantsContent wants → (es : List Event) → AreFront es →
     NoContent wants es
 front-no_content wants w [] h = tt
@@ -137,7 +137,7 @@ ends-no_content wants (c ∷ cs) p =
     no_content-append wants (ends_of cs p) (exit (container_name c) p ∷ []) (ends-no_content wants cs p)
     (refl, front-content (container_name c) (container-facts c).front, tt)
 
--- and behind it
+-- and after it
 pub tail-no_content : (wants : Content → Bool) (name : Name) (row : Row) → is_told name ≡ false →
     NoContent wants (tail_events name row)
 tail-no_content wants name row h =
@@ -181,7 +181,7 @@ joined-passes (e ∷ xs) ys h =
     joined-one e (xs ++ ys) (and_right (is_exit e.kind) (is_content e.name) (told-content e.name h.1))
     ∙ ap (λ (l : List Event). e ∷ l) (joined-passes xs ys h.2)
 
--- and no line of content goes on over it
+-- and no line of content continues over it
 behind-passes : (xs ys : List Event) → NoContent nothing xs → content_behind ys ≡ false →
     content_behind (xs ++ ys) ≡ false
 behind-passes [] ys h k = k
@@ -198,14 +198,14 @@ EachEnds [] = Unit {0}
 EachEnds (row ∷ []) = Unit {0}
 EachEnds (row ∷ below ∷ rows) = (q : Point) × (after : row.after ≡ Some q) × EachEnds (below ∷ rows)
 
--- behind a line stands the end of its ending
+-- after a line is the end of its ending
 pub behind-is : (row : Row) (q : Point) → row.after ≡ Some q → behind_row row ≡ q
 behind-is row q after = ap (λ (x : Option Point). elim x [ None ↦ row.end | Some q ↦ q ]) after
 
 pub behind-none : (row : Row) → row.after ≡ None → behind_row row ≡ row.end
 behind-none row after = ap (λ (x : Option Point). elim x [ None ↦ row.end | Some q ↦ q ]) after
 
--- in front of each line stand prefixes and begins of containers
+-- before each line are prefixes and begins of containers
 abbrev pub EachFront : List ℕ → List Row → Type 0
 EachFront bytes [] = Unit {0}
 EachFront bytes (row ∷ rows) = HasFront bytes row × EachFront bytes rows
@@ -214,7 +214,7 @@ EachFront bytes (row ∷ rows) = HasFront bytes row × EachFront bytes rows
 abbrev text_events : Row → List Event
 text_events row = enter_link n.Content row.first content_link ∷ exit n.Content row.end ∷ []
 
--- a line of content that goes on takes its ending
+-- a line of content that continues takes its ending
 text-goes_on : (first end q : Point) (es : List Event) → content_behind es ≡ true →
     joined (enter_link n.Content first content_link ∷ exit n.Content end ∷ pair n.LineEnding end q ++ es) ≡
     enter_link n.Content first content_link ∷ exit n.Content q ∷ joined es
@@ -232,7 +232,7 @@ joined-keeps e (f ∷ g ∷ es) h =
     ap (λ (x : Bool). cond x (record e { point = g.point } ∷ joined es) (e ∷ joined (f ∷ g ∷ es)))
     (and_right (is_exit e.kind && is_content e.name) (goes_on (f ∷ g ∷ es)) h)
 
--- nothing goes on over what is no line ending
+-- nothing continues over what is no line ending
 no_ending-stops : (e : Event) (es : List Event) → is_line_ending e.name ≡ false → goes_on (e ∷ es) ≡ false
 no_ending-stops e [] h = refl
 no_ending-stops e (f ∷ es) h = ap (λ (x : Bool). x && content_behind es) h
@@ -243,7 +243,7 @@ ends-stop c cs p es =
     ends-first (λ (l : List Event). goes_on l ≡ false) c cs p es
     (λ d fs. no_ending-stops (exit (container_name d) p) fs (container-facts d).no_ending)
 
--- a line of text that does not go on
+-- a line of text that does not continue
 text-ends : (row : Row) (es : List Event) → goes_on (tail_events n.LineEnding row ++ es) ≡ false →
     joined ((text_events row ++ tail_events n.LineEnding row) ++ es) ≡
     (text_events row ++ tail_events n.LineEnding row) ++ joined es
@@ -255,7 +255,7 @@ text-ends row es h =
     ∙ ap (λ (l : List Event). exit n.Content row.end ∷ l)
     (joined-passes tail es (tail-no_content nothing n.LineEnding row refl)))
 
--- where a container ends behind a line, or no line of content follows, it does not go on
+-- where a container ends after a line, or no line of content follows, it does not continue
 tail-stops : (row : Row) (es : List Event) (q : Point) → row.after ≡ Some q →
     (is_none row.closed_after && content_behind es) ≡ false → goes_on (tail_events n.LineEnding row ++ es) ≡ false
 tail-stops row es q after h =
@@ -272,7 +272,7 @@ tail-stops row es q after h =
     go (c ∷ leaves) h =
         ap goes_on (append_assoc (ends_of (c ∷ leaves) row.end) ending es) ∙ ends-stop c leaves row.end (ending ++ es)
 
--- what stands behind the front of a line
+-- what follows the front of a line
 abbrev behind_front : Row → List Event → List Event
 behind_front row es = (leaf_events row.kind row ++ tail_events (ending_of row.kind row) row) ++ es
 
@@ -282,7 +282,7 @@ events-front row es =
     (append_assoc row.front (leaf_events row.kind row) (tail_events (ending_of row.kind row) row))
     ∙ append_assoc row.front (leaf_events row.kind row ++ tail_events (ending_of row.kind row) row) es
 
--- and what stands in front of it
+-- and what is before it
 text-apart : (bytes : List ℕ) (row : Row) (es : List Event) → HasFront bytes row →
     goes_on (tail_events n.LineEnding row ++ es) ≡ false →
     joined (row_events_by TextRow row ++ es) ≡ row_events_by TextRow row ++ joined es
@@ -297,13 +297,13 @@ text-apart bytes row es front h =
     (ap (λ (l : List Event). l ++ joined es) (append_assoc row.front text tail)
     ∙ append_assoc row.front (text ++ tail) (joined es))
 
--- no line of content goes on behind the ending of a line that is no text
+-- no line of content continues after the ending of a line that is no text
 ending-stops : (blank : Bool) (p q : Point) (es : List Event) →
     content_behind (pair (ending_name blank) p q ++ es) ≡ false
 ending-stops true p q es = refl
 ending-stops false p q es = refl
 
--- behind a line that is no text the one before does not go on
+-- after a line that is no text the one before does not continue
 other-behind : (bytes : List ℕ) (row : Row) (rows : List Row) → EachEnds (row ∷ rows) → HasFront bytes row →
     NoContent nothing row.inside → (kind : RowKind) → row.kind ≡ kind → kind ≢ TextRow →
     content_behind (rows_events (row ∷ rows)) ≡ false
@@ -355,7 +355,7 @@ abbrev under_events : Option Row → List Event
 under_events None = []
 under_events (Some under) = row_events under
 
--- what the lines add, in front of others
+-- what the lines add, before others
 abbrev before_lines : Row → List Row → List Event → List Event
 before_lines row rows es =
     ((row.front ++ linked_lines n.Content content_link row rows) ++ tail_events n.LineEnding (last_row row rows)) ++ es
@@ -368,7 +368,7 @@ group-text bytes (Some under) row rows gs =
     ((row.front ++ linked_lines n.Content content_link row rows) ++ tail_events n.LineEnding (last_row row rows))
     (row_events under) (joined_groups bytes gs)
 
--- a line that goes on
+-- a line that continues
 line-joins : (front below parts tail rest : List Event) (e f : Event) →
     front ++ (e ∷ f ∷ ((below ++ parts) ++ tail) ++ rest) ≡ ((front ++ (e ∷ f ∷ below ++ parts)) ++ tail) ++ rest
 line-joins front below parts tail rest e f =
@@ -377,7 +377,7 @@ line-joins front below parts tail rest e f =
     ∙ append_assoc front (e ∷ f ∷ below ++ parts) (tail ++ rest)
     ∙ ap (λ (l : List Event). front ++ (e ∷ f ∷ l)) (sym (append_assoc (below ++ parts) tail rest)))
 
--- a line of text in front of a text
+-- a line of text before a text
 text-lines : (bytes : List ℕ) (o : Option Row) (row below : Row) (more rows : List Row) (gs : List Group) (q : Point) →
     row.after ≡ Some q → HasFront bytes row → HasFront bytes below → below.kind ≡ TextRow →
     joined (rows_events (below ∷ rows)) ≡ joined_groups bytes (text_group o below more ∷ gs) →
@@ -453,7 +453,7 @@ text-lines bytes o row below more rows gs q after front under text same =
 
 -- A line of a leaf.
 
--- in front of groups, it adds its own events
+-- before groups, it adds its own events
 leaf-joined : (bytes : List ℕ) (ends : Bool) (row : Row) (gs : List Group) →
     joined_groups bytes (onto_leaf ends row gs) ≡ row_events row ++ joined_groups bytes gs
 leaf-joined bytes true row gs = refl
@@ -468,7 +468,7 @@ leaf-joined bytes false row (LeafLines below rows ∷ gs) = go (is_further below
         ap (λ (l : List Event). l ++ joined_groups bytes (LeafLines below rows ∷ gs)) (append-nil (row_events row))
 leaf-joined bytes false row gs = ap (λ (l : List Event). l ++ joined_groups bytes gs) (append-nil (row_events row))
 
--- a line of text in front of the lines of a leaf, of which the first may be its underline
+-- a line of text before the lines of a leaf, of which the first may be its underline
 span-first : (bytes : List ℕ) (row below : Row) (rows : List Row) (gs : List Group) →
     (is_further below.kind below.on && takes_head below.kind) ≡ false →
     joined_groups bytes (onto_underline row below rows gs) ≡
@@ -508,7 +508,7 @@ leaf-first bytes false row below (LeafLines next rows ∷ gs) none = go (is_furt
     go false = span-first bytes row below [] (LeafLines next rows ∷ gs) none
 leaf-first bytes false row below gs none = span-first bytes row below [] gs none
 
--- a line of text in front of others
+-- a line of text before others
 text-rows : (bytes : List ℕ) (row below : Row) (rows : List Row) (q : Point) → row.after ≡ Some q →
     EachFront bytes (row ∷ below ∷ rows) → EachEnds (below ∷ rows) → NoContent nothing below.inside →
     (is_further below.kind below.on && takes_head below.kind) ≡ false → NoHeads (below ∷ rows) → (kind : RowKind) →
@@ -588,7 +588,7 @@ text-last bytes row front = text-apart bytes row [] front (go row.closed_after r
         let ending : List Event = elim after [ None ↦ [] | Some q ↦ pair n.LineEnding row.end q ] in
         ap goes_on (append_assoc (ends_of (c ∷ leaves) row.end) ending []) ∙ ends-stop c leaves row.end (ending ++ [])
 
--- a line in front of others
+-- a line before others
 joined-row : (bytes : List ℕ) (row : Row) (rows : List Row) → EachFront bytes (row ∷ rows) → EachEnds (row ∷ rows) →
     EachNoContent (row ∷ rows) → NoHeads (row ∷ rows) → joined (rows_events rows) ≡ joined_groups bytes (groups rows) →
     joined (rows_events (row ∷ rows)) ≡ joined_groups bytes (groups (row ∷ rows))

@@ -91,7 +91,7 @@ kind-starts options on r l e =
     inside-leaf (λ k. (leaf k).starts options on r) (asked_first on) _ l e
     (λ k. first-passes (λ j. (leaf j).starts options on r) trials l (kind-found (is_blank r.bytes) found l k))
 
--- something stands on the line of a leaf that always ends there: such a leaf is not asked first
+-- something is on the line of a leaf that always ends there: such a leaf is not asked first
 pub kind-filled : (options : ParseOptions) (on : HeldLeaf) (r : Rest) (l : LeafName) →
     line_kind options on r ≡ LeafRow l → (asked_first on ≡ Some l → ⊥) → is_blank r.bytes ≡ false
 kind-filled options on r l e other = by (asked_first on) refl e

@@ -46,19 +46,19 @@ use Rattle.md_rows.proofs.Underlines.{further-quiet}
 
 -- Groups.
 
--- What stands in a group whose first line begins at a point, and its ending: the points never go back.
+-- What is in a group whose first line begins at a point, and its ending: the points never go back.
 pub record Ordered (options : ParseOptions) (bytes : List ℕ) (p : Point) (group : Group) : Type 0 where
   pub front : LinePrefix bytes (first_row group).change.opens p (first_row group).first (first_row group).front
   pub front_read : ReadFront bytes (first_row group).change.opens p (first_row group).first (first_row group).front
   pub leaf : IsGroupLeaf options bytes group
   pub ends : IsTrue (at_or_before (final_row group).end (behind_row (final_row group)))
 
--- what is open in a group, if these are open in front of it, is what ends behind it and what is kept
+-- what is open in a group, if these are open before it, is what ends after it and what is kept
 abbrev pub Keeps : List Name → Group → List Name → Type 0
 Keeps names group kept =
     open_names (first_row group).change.opens ++ names ≡ open_names (final_row group).closed_after ++ kept
 
--- a group in front of events that end what it keeps open, with what stands in its place, and in front of it
+-- a group before events that end what it keeps open, with what is in its place, and before it
 pub under-group : (options : ParseOptions) (bytes : List ℕ) (names kept : List Name) (p : Point) (group : Group)
     (front inside events : List Event) →
     LinePrefix bytes (first_row group).change.opens p (first_row group).first front →
@@ -86,8 +86,8 @@ under-group options bytes names kept p group front inside events is order keeps 
     (under-before kept last.end (behind_row last) ending events
     (ending-nested (group_ending group) last order) on))))
 
--- What holds of no groups where nothing is open, and group by group, of the names that are open where they begin
--- (behind the ends of the containers that end before the line), and of the point where they begin.
+-- What holds of no groups where nothing is open, and group by group, of the names that are open where they begin (after
+-- the ends of the containers that end before the line), and of the point where they begin.
 pub record ByGroups (options : ParseOptions) (bytes : List ℕ) (P : List Name → Point → List Group → Type 0) : Type 0
   where
     pub none : (p : Point) → P [] p []
@@ -95,7 +95,7 @@ pub record ByGroups (options : ParseOptions) (bytes : List ℕ) (P : List Name �
         Keeps names group kept →
         P kept (behind_row (final_row group)) gs → P names p (group ∷ gs)
 
--- A group in front of others, as far as it is known: what its lines are, by the first and the last.
+-- A group before others, as far as it is known: what its lines are, by the first and the last.
 record Known (bytes : List ℕ) (P : List Name → Point → List Group → Type 0) (names : List Name) (p : Point)
     (first last : Row) (Lines_are : Type 0) (gs : List Group) : Type 0 where
   front : LinePrefix bytes first.change.opens p first.first first.front
@@ -128,7 +128,7 @@ abbrev Ended : List ℕ → Row → List Group → Type 0
 Ended bytes row [] = Unit {0}
 Ended bytes row (group ∷ gs) = (q : Point) × (row.after ≡ Some q) × IsEnding bytes row.end q
 
--- a line, with what stands in front of it and behind it
+-- a line, with what is before it and after it
 record IsBegun (options : ParseOptions) (bytes line : List ℕ) (names kept : List Name) (p : Point)
     (row : Row) : Type 0 where
   is : IsRow options bytes line row
@@ -228,7 +228,7 @@ module _ (options : ParseOptions) (bytes line : List ℕ) (P : List Name → Poi
       ∙ ap (λ (cs : List Container). open_names cs ++ kept) (sym opens)
       ∙ keeps
 
-  -- a group that begins with the line behind this one begins with this one
+  -- a group that begins with the line after this one begins with this one
   longer : (A B : Type 0) → A → (next last : Row) (gs : List Group) → row.closed_after ≡ [] → next.change.opens ≡ [] →
       Known bytes P kept (behind_row row) next last B gs → Known bytes P names p row last A gs
   longer A B are next last gs leaves opens below = record {
@@ -441,7 +441,7 @@ change-names options bytes line cs still p row is =
     change : Change
     change = (contained options cs still (rest_from p line)).change
 
--- what is open behind a line, without what ends there, is what the line leaves
+-- what is open after a line, without what ends there, is what the line leaves
 change-keeps : (options : ParseOptions) (bytes line : List ℕ) (cs : List Container) (still : HeldLeaf) (p : Point)
     (row : Row) (kept : List Name) →
     IsLine options bytes cs still p line row →

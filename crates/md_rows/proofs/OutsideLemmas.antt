@@ -1,4 +1,4 @@
--- What stands around the leaves of a text is outside of what resolvers rewrite.
+-- What is around the leaves of a text is outside of what resolvers rewrite.
 use Rattle.std.proofs.Common.{◌≡◌, List, ◌++◌, refl, ap, sym, ◌∙◌, append_assoc}
 use Rattle.std.proofs.lemmas.Bool.{and_right}
 use Rattle.md_engine.specs.declared.event.Event.{Event}
@@ -11,13 +11,13 @@ use Rattle.md_registry.proofs.Registry.{front-own, outside-passes}
 use Rattle.md_rows.proofs.RowHolds.{OfRows}
 use Rattle.md_frame.proofs.PrefixNames.{AreFront, IsFrontEvent}
 
--- what stands in front of a line
+-- what is before a line
 pub front-outside : (es : List Event) → AreFront es → AreOutside es
 front-outside es h =
     each-as IsFrontEvent IsOutside
     (λ e is. and_right (is_enter e.kind) (is_own e.name) (front-own e.name is.0)) es h
 
--- and behind it
+-- and after it
 pub outside-rows : OfRows AreOutside
 outside-rows = record {
   append = outside-append;
@@ -27,7 +27,7 @@ outside-rows = record {
   white = λ p q. (refl, (refl, tt));
 }
 
--- what stands between the front of a line and its tail is set, and all else stays
+-- what is between the front of a line and its tail is set, and all else stays
 pub leaf-set : (front leaf set tail es : List Event) → AreOutside front → AreOutside tail →
     ((es : List Event) → resolved (leaf ++ es) ≡ set ++ resolved es) →
     resolved (((front ++ leaf) ++ tail) ++ es) ≡ ((front ++ set) ++ tail) ++ resolved es

@@ -1,5 +1,5 @@
--- A paragraph over the cells of its lines is these lines, whose text is not read yet. Each ends behind its ending, and
--- the next begins behind the prefixes of its containers.
+-- A paragraph over the cells of its lines is these lines, whose text is not read yet. Each ends after its ending, and
+-- the next begins after the prefixes of its containers.
 use Rattle.std.proofs.Common.{◌≡◌, inl, inr, ℕ, zero, suc, ◌+◌, ◌-◌, ◌^◌, ◌<◌, ◌≤◌, Bool, true, false, cond, List, []}
 use Rattle.std.proofs.Common.{◌∷◌, ◌++◌, length, drop, refl, ap, sym, ◌∙◌, subst, append_assoc, append-nil, drop-drop}
 use Rattle.std.proofs.Common.{length-append, length-drop, arith}
@@ -40,7 +40,7 @@ use Rattle.md_rows.proofs.GroupLemmas.{are-apart, line-grows, row-line, text-som
 use Rattle.md_frame.proofs.LineTexts.{past_text-line, piece}
 use Rattle.md_rows.proofs.RowFacts.{IsRow}
 
--- Where the lines stand.
+-- Where the lines are.
 
 -- a line lies within the text
 pub row-within : (options : ParseOptions) (bytes line : List ℕ) (row : Row) → IsRow options bytes line row →
@@ -80,7 +80,7 @@ record SameRest (x : Setting) (p q : Point) : Type 0 where
 same-then : (x : Setting) (p q r : Point) → SameRest x p q → SameRest x q r → SameRest x p r
 same-then x p q r h k = record { lines = h.lines ∙ k.lines; end = h.end ∙ k.end }
 
--- in the columns of a tab stand no events
+-- in the columns of a tab are no events
 tab-events : (line : Line) (n byte : ℕ) (p q : Point) (cells : List Cell) → (byte == 10) ≡ false →
     line_events (tab_cells line n byte p ++ cells) q ≡ line_events cells (tab_end n p)
 tab-events line zero byte p q cells e = rw e (ap (line_events cells) (tab_end-last p))
@@ -196,7 +196,7 @@ abbrev pub firsts : List Row → List Point
 firsts [] = []
 firsts (row ∷ rows) = row.first ∷ firsts rows
 
--- lines are read as far as the last of them, and each begins where it stands
+-- lines are read as far as the last of them, and each begins where it is
 pub record AreRead (x : Setting) (bytes : List ℕ) (k : ℕ) (row : Row) (rows : List Row) : Type 0 where
   pub small : x.limit < 2 ^ 61
   pub bytes_are : x.bytes ≡ bytes
@@ -213,7 +213,7 @@ get-at (suc k) (q ∷ l) p rest e = get-at k l p rest e
 pub drop-next : (k : ℕ) (l : List Point) (p : Point) (rest : List Point) → drop k l ≡ p ∷ rest → drop (k + 1) l ≡ rest
 drop-next k l p rest e = sym (drop-drop 1 k l) ∙ ap (drop 1) e
 
--- the next line is the one behind it
+-- the next line is the one after it
 pub next-line : (options : ParseOptions) (bytes : List ℕ) (row next : Row) (rows : List Row) →
     AreLines options bytes row (next ∷ rows) → next.first.line ≡ row.first.line + 1
 next-line options bytes row next rows h =
@@ -221,7 +221,7 @@ next-line options bytes row next rows h =
     let end = ap (λ (p : Point). p.line) h.1.end ∙ past_text-line h.0 row.first in
     omega (arith, h.5.line)
 
--- behind the ending of a line the next one begins, behind the prefixes in front of it
+-- after the ending of a line the next one begins, after the prefixes before it
 pub begun-next : (x : Setting) (p s : Point) → slice_get x.skips (s.line - x.first_line) ≡ Some s → p.line ≡ s.line →
     p.index ≤ s.index → line_begun x p ≡ s
 begun-next x p s at line le =
@@ -231,7 +231,7 @@ begun-next x p s at line le =
     let further : nat_le p.index s.index ≡ true = grind (arith, nat_tests) in
     ap (λ (o : Option Point). begun_at o p) some ∙ ap (λ (t : Bool). cond t s p) further
 
--- what is read of lines, and of more behind them
+-- what is read of lines, and of more after them
 pub record LinesRead (x : Setting) (row : Row) (rows : List Row) (es behind : List Event) : Type 0 where
   -- each line is one part, which ends where its chunk does
   pub laid_are : laid (bared (breaks_of row rows)) es ≡ linked n.Data text_link (chunks_of row rows) ++ behind
@@ -343,7 +343,7 @@ lines-read options bytes x k row (next ∷ rows) behind h r ends =
 
 -- Where they are read.
 
--- a skip where the tokenizer stands leaves it there, and so does one of a later line
+-- a skip where the tokenizer is leaves it there, and so does one of a later line
 skip-here : (w : World) (p : Point) → w.point ≡ p → (skipping w p).point ≡ p
 skip-here w p e = go (w.point.line == p.line) (nat_le w.point.index p.index)
   where

@@ -43,7 +43,7 @@ ending-still : (blank : Bool) → Still (role (ending_name blank))
 ending-still true = tt
 ending-still false = tt
 
--- what stands in front of it, its leaf, and what stands behind it
+-- what is before it, its leaf, and what follows it
 line-sits : (bytes : List ℕ) (name : Name) (front inside : List Event) (row : Row) → Still (role name) →
     PrefixesAtLineStart bytes front → PrefixesAtLineStart bytes inside →
     PrefixesAtLineStart bytes (front ++ inside ++ tail_events name row)

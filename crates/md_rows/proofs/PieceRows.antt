@@ -1,4 +1,4 @@
--- The pieces of every text stand over their bytes, before its text is read and behind.
+-- The pieces of every text are over their bytes, before its text is read and after.
 use Rattle.md_engine.specs.declared.tokenizer.held_leaf.HeldLeaf.TheVariants as held_leaf
 use Rattle.md_engine.specs.declared.tokenizer.held_leaf.HeldLeaf.{HeldLeaf}
 use Rattle.std.proofs.Common.{◌≡◌, ℕ, true, List, [], ◌∷◌, ◌++◌, sym, subst}
@@ -43,7 +43,7 @@ ends-stood bytes (c ∷ cs) p =
 
 -- Lines.
 
--- What is known of a line: the pieces behind it stand.
+-- What is known of a line: the pieces after it are.
 record LineStands (bytes : List ℕ) (row : Row) : Type 0 where
   tail : (name : Name) → ((ending : Ending) → stands_over name (ending_bytes ending) ≡ true) →
       PiecesValid bytes (tail_events name row)
@@ -53,7 +53,7 @@ abbrev Ended : List ℕ → Point → Option Point → Type 0
 Ended bytes end None = Unit {0}
 Ended bytes end (Some q) = IsEnding bytes end q
 
--- what stands behind a line
+-- what follows a line
 tail-stood : (bytes : List ℕ) (row : Row) (after : Option Point) → row.after ≡ after → row.end.vs ≡ 0 →
     Ended bytes row.end after → (name : Name) → ((ending : Ending) → stands_over name (ending_bytes ending) ≡ true) →
     PiecesValid bytes (tail_events name row)
@@ -97,7 +97,7 @@ rows-stand options bytes open_before still p lines rows are = absurd are
 
 -- Groups.
 
--- what stands in front of the first line of a group, in its place, and behind it
+-- what is before the first line of a group, in its place, and after it
 group-stood : (bytes : List ℕ) (p : Point) (group : Group) (front es : List Event) →
     LinePrefix bytes (first_row group).change.opens p (first_row group).first front →
     OfGroup (LineStands bytes) group → PiecesValid bytes es →
@@ -138,7 +138,7 @@ stood-by_groups options bytes = record {
 
 -- With the front of a text before them.
 
--- The pieces of a text stand, before its texts are read,
+-- The pieces of a text are, before its texts are read,
 pub blocks-pieces : (options : ParseOptions) (bytes : List ℕ) (p : Point) (front : List Event) (lines : List (List ℕ))
     (rows : List Row) →
     FrontPart bytes first_point p front → AreRows options bytes [] held_leaf.None p lines rows →

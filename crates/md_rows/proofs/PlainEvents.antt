@@ -85,12 +85,12 @@ fronts-shown bytes _ p r _ (Begins c opens _ q _ es fs is more) = (is.shown, fro
 
 -- Rows.
 
--- a row behind which containers end that an outline shows, and that begins clear
+-- a row after which containers end that an outline shows, and that begins clear
 record IsPlainRow (bytes : List ℕ) (row : Row) : Type 0 where
   closed_after : AreShown row.closed_after
   first : clear bytes row.first ≡ true
 
--- what stands in front of a line, a block, and what follows it
+-- what is before a line, a block, and what follows it
 plain-line : (bytes : List ℕ) (name : Name) (front inside : List Event) (row : Row) → Untold (role name) →
     AreShown row.closed_after → ArePlain bytes front → ArePlain bytes inside →
     ArePlain bytes (front ++ inside ++ tail_events name row)
@@ -123,8 +123,7 @@ plain-by_groups options bytes = record {
 
 -- The rows of a text are such rows.
 
--- of the containers that a line finds open, an outline shows those that end before it, and those that are open behind
--- it
+-- of the containers that a line finds open, an outline shows those that end before it, and those that are open after it
 line-shown : (options : ParseOptions) (bytes : List ℕ) (open_before : List Container) (still : HeldLeaf) (p : Point)
     (line : List ℕ) (row : Row) →
     IsLine options bytes open_before still p line row → AreShown open_before →
@@ -161,7 +160,7 @@ plain-rows options bytes open_before still p (line ∷ next ∷ lines) (row ∷ 
     )
 plain-rows options bytes open_before still p lines rows h shown = absurd h
 
--- an outline can show the events of a text, if they stand between its characters
+-- an outline can show the events of a text, if they are between its characters
 pub groups-unlisted : (options : ParseOptions) (bytes : List ℕ) (p : Point) (lines : List (List ℕ)) (rows : List Row) →
     AreRows options bytes [] held_leaf.None p lines rows → IsUtf8 bytes →
     list_all (λ (e : Event). is_between bytes e.point.index) (groups_events options bytes (groups rows)) ≡ true →

@@ -30,7 +30,7 @@ use Rattle.md_registry.proofs.LeafStarts.{IsAgainst, came_of, leaf_at}
 use Rattle.md_rows.proofs.TableStarts.{untabled}
 use Rattle.md_leaf_rooms.proofs.ThematicBreak.Found.{break-found}
 
--- Leaves that are tried in front of tables.
+-- Leaves that are tried before tables.
 
 abbrev pub other_trials : List LeafName
 other_trials = CodeIndented ∷ Fence ∷ HtmlFlow ∷ HeadingAtx ∷ HeadingSetext ∷ ThematicBreak ∷ []
@@ -97,7 +97,7 @@ untabled-at options on r none =
 
 -- What starts on a line that is not blank.
 
--- indented code may begin by the leaf that the line meets, and by what the line stands against, or by neither
+-- indented code may begin by the leaf that the line meets, and by what the line is against, or by neither
 free-open : (on : HeldLeaf) → may_open on ≡ is_free (context_of on)
 free-open held_leaf.None = refl
 free-open _ = refl
@@ -141,7 +141,7 @@ others-found options on against r same unturned no_underline dark =
     go false false false false false = refl
     go _ _ _ _ _ = refl
 
--- an underline stands where text is open that the line is not lazy for
+-- an underline is where text is open that the line is not lazy for
 not-text : (options : ParseOptions) (on : HeldLeaf) (against : ParagraphContext) (r : Rest) → IsAgainst against on →
     is_text against ≡ false → setext_leaf.starts options on r ≡ false
 not-text options (held_leaf.Text at) against r same free = let bad : true ≡ false = sym (ap is_text same) ∙ free in cc

@@ -21,7 +21,7 @@ use Rattle.md_rows.specs.Rows.{line_behind, line_kind, stays_blank}
 use Rattle.md_frame.proofs.FrontFacts.{LinePrefix, ReadFront}
 use Rattle.md_frame.proofs.PieceFacts.{CutsFirst}
 
--- the rest of a line without its ending, behind the prefixes of its containers, as a row
+-- the rest of a line without its ending, after the prefixes of its containers, as a row
 pub record IsRow (options : ParseOptions) (bytes line : List ℕ) (row : Row) : Type 0 where
   pub rest : Rest
   -- the text is small enough for points to have room
@@ -30,7 +30,7 @@ pub record IsRow (options : ParseOptions) (bytes line : List ℕ) (row : Row) : 
   pub kind : row.kind ≡ line_kind options row.on rest
   pub behind : row.behind ≡ line_behind options row.on rest row.kind
   pub no_ending : NoEnding line
-  -- it stands between the first point and the end; a tab that a prefix has cut is its first byte
+  -- it is between the first point and the end; a tab that a prefix has cut is its first byte
   pub text : slice_range bytes row.first.index row.end.index ≡ line
   pub size : row.end.index ≡ row.first.index + length line
   pub end : row.end ≡ past_text line row.first
@@ -39,15 +39,15 @@ pub record IsRow (options : ParseOptions) (bytes line : List ℕ) (row : Row) : 
   pub end_whole : row.end.vs ≡ 0
   pub cut_first : CutsFirst row.first line
   pub cut : Cut rest.spaces row.first
-  -- where a leaf takes it, its ending is that of a blank line if it is blank and stays so, or if nothing at all stands
-  -- on it: it ends where it begins, in the column where lines begin
+  -- where a leaf takes it, its ending is that of a blank line if it is blank and stays so, or if nothing at all is on
+  -- it: it ends where it begins, in the column where lines begin
   pub empty : row.empty ≡
       ((stays_blank row.kind && is_blank rest.bytes) || (is_empty_row row && (row.first.column == 1)))
   -- what flow adds for it
   pub blank : row.kind ≡ BlankRow → row.inside ≡ blank_line line row.first
   pub leaf_is : (l : LeafName) → row.kind ≡ LeafRow l → row.inside ≡ (leaf l).added options row.on line row.first
 
--- where it stands
+-- where it is
 pub line-at : (options : ParseOptions) (bytes line : List ℕ) (row : Row) → (is : IsRow options bytes line row) →
     LineAt bytes is.rest line row.first row.end
 line-at options bytes line row is = record {
@@ -75,10 +75,10 @@ pub record IsLine (options : ParseOptions) (bytes : List ℕ) (open_before : Lis
   -- where the line begins no tab is cut
   pub whole : p.vs ≡ 0
   pub column : 1 ≤ p.column
-  -- and it ends behind its bytes
+  -- and it ends after its bytes
   pub extent : row.end.index ≡ p.index + length line
 
--- which containers are open behind a line
+-- which containers are open after a line
 abbrev pub behind_line : ParseOptions → List Container → HeldLeaf → Point → List ℕ → List Container
 behind_line options open_before still p line =
     open_behind (contained options open_before still (rest_from p line)).change

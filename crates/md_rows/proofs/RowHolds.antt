@@ -1,5 +1,5 @@
--- What holds of what a line adds, of what stands around it, and of such events one behind the other holds of all events
--- of the line, and of its group, before its texts are read.
+-- What holds of what a line adds, of what is around it, and of such events one after the other holds of all events of
+-- the line, and of its group, before its texts are read.
 use Rattle.std.proofs.Common.{◌≡◌, ℕ, Bool, true, false, cond, List, [], ◌∷◌, ◌++◌, refl, ap, sym, ◌∙◌, subst}
 use Rattle.std.specs.Prelude.{Option, Some, None}
 use Rattle.md_engine.specs.declared.configuration.ParseOptions.{ParseOptions}
@@ -41,7 +41,7 @@ use Rattle.md_rows.proofs.KindLemmas.{kind-starts}
 use Rattle.md_rows.proofs.Text.Cuts.{cut-is}
 use Rattle.md_rows.proofs.Text.Names.{OfDefinitions, cut-of}
 
--- it holds of what stands around a line, and of such events one behind the other
+-- it holds of what is around a line, and of such events one after the other
 pub record OfRows (L : List Event → Type 0) : Type 0 where
   pub append : (xs ys : List Event) → L xs → L ys → L (xs ++ ys)
   pub fronts : (es : List Event) → AreFront es → L es
@@ -66,7 +66,7 @@ tail-holds L of blank row =
     ending true (Some q) = of.blank_ending row.end q
     ending false (Some q) = of.ending row.end q
 
--- with what stands between the front of a line and the tail of another
+-- with what is between the front of a line and the tail of another
 pub around-holds : (L : List Event → Type 0) → OfRows L → (bytes : List ℕ) (row last : Row) (blank : Bool)
     (inside : List Event) →
     HasFront bytes row → L inside → L (row.front ++ inside ++ tail_events (ending_name blank) last)

@@ -57,7 +57,7 @@ leaf-inside options on said text behind r p stop kind is none k short same l e =
     ap (inside_of options on (rest_cells said r p ++ stop) p) e
     ∙ (laws l).adds_is options on said text behind r p stop is none k short (kind-starts options on r l (sym same ∙ e))
 
--- what is open behind a line
+-- what is open after a line
 pub behind-rest : (options : ParseOptions) (on : HeldLeaf) (said : Line) (text behind : List ℕ) (r : Rest) (p : Point)
     (stop : List Cell) (kind : RowKind) →
     RestAt text behind r p → NoEnding r.bytes → Stops stop → length (rest_cells said r p ++ stop) < 2 ^ 63 →

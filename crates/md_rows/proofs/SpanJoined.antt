@@ -1,4 +1,4 @@
--- The lines of a leaf of several, joined: from one that begins it by itself to the last that goes on it.
+-- The lines of a leaf of several, joined: from one that begins it by itself to the last that continues it.
 use Rattle.std.proofs.Common.{◌≡◌, ℕ, Bool, true, false, cond, ◌&&◌, map, List, [], ◌∷◌, ◌++◌, refl, ap, ap₂, sym, ◌∙◌}
 use Rattle.std.proofs.Common.{◌⊎◌, inl, inr, ◌||◌, append_assoc}
 use Rattle.std.proofs.lemmas.Bool.{and_right, or_parts, true≢false}
@@ -80,7 +80,7 @@ ending-between name row is = go row.after
     go None = refl
     go (Some q) = ap (λ (m : Name). pair m row.end q) is.between
 
--- what stands behind a line
+-- what follows a line
 pub tail-unspanned : (kind : RowKind) (row : Row) → AreUnspanned (tail_events (ending_of kind row) row)
 tail-unspanned kind row =
     each-append IsUnspanned (ends_of row.closed_after row.end) (ending_events (ending_of kind row) row)
@@ -91,7 +91,7 @@ tail-unspanned kind row =
 tail-none : (name : Name) (row : Row) → row.closed_after ≡ [] → tail_events name row ≡ ending_events name row
 tail-none name row none = ap (λ (cs : List Container). ends_of cs row.end ++ ending_events name row) none
 
--- and in front of one
+-- and before one
 pub front-unspanned : (bytes : List ℕ) (row : Row) → HasFront bytes row → AreUnspanned row.front
 front-unspanned bytes row h =
     fronts-unspanned row.front (fronts-are bytes row.change.opens h.0 row.first row.front h.1)
@@ -120,7 +120,7 @@ prefixes-between (e ∷ es) h =
     ap₂ (λ (name : Name) (l : List Event). record e { name = name } ∷ l) (prefix-between e.name h.0.0)
     (prefixes-between es h.1)
 
--- What stands between two lines of a leaf, and what is left of it there.
+-- What is between two lines of a leaf, and what is left of it there.
 record IsGap (gap given : List Event) : Type 0 where
   no_blocks : NoBlocks gap
   between : map (renamed Between) gap ≡ given
@@ -149,7 +149,7 @@ bare-unframed es h = plain-unframed es (blocks-lines es h.no_blocks)
 bare-gap : (es : List Event) → IsBare es → IsGap es es
 bare-gap es h = record { no_blocks = h.no_blocks; between = h.between }
 
--- a gap, with the ending of a line behind it and the prefixes of the next
+-- a gap, with the ending of a line after it and the prefixes of the next
 front-gap : (gap given : List Event) (row next : Row) → IsGap gap given → ArePrefixes next.front →
     IsGap (gap ++ ending_events (ending_at row) row ++ next.front)
     (given ++ ending_events n.LineEnding row ++ next.front)
@@ -159,7 +159,7 @@ front-gap gap given row next is prefixes =
     gap-append (gap ++ ending) (given ++ as_line) next.front next.front
     (gap-append gap given ending as_line is (ending-gap row)) (prefixes-gap next.front prefixes)
 
--- What stands ahead.
+-- What is ahead.
 
 -- events of no such leaf are no further line
 pub plain-ahead : (es rest : List Event) → NoLines es → goes_on rest ≡ false → goes_on (es ++ rest) ≡ false
@@ -183,7 +183,7 @@ begin-ahead e es is =
 
 -- The lines of a leaf.
 
--- rows of leaves behind a line, between which no container ends
+-- rows of leaves after a line, between which no container ends
 abbrev pub AreTogether : Row → List Row → Type 0
 AreTogether row [] = Unit {0}
 AreTogether row (next ∷ rows) =
@@ -196,7 +196,7 @@ span-together options bytes row (next ∷ rows) are =
     let below : IsSpanLine options bytes next = span-begins options bytes next rows are.8 in
     (are.5, below.name, below.kind, span-together options bytes next rows are.8)
 
--- events one behind the other
+-- events one after the other
 pub apart : (a b c d e : List Event) → (a ++ b ++ c ++ d) ++ e ≡ a ++ (b ++ (c ++ (d ++ e)))
 apart a b c d e =
     append_assoc (a ++ b ++ c) d e ∙ append_assoc (a ++ b) c (d ++ e) ∙ append_assoc a b (c ++ (d ++ e))
@@ -206,7 +206,7 @@ gathered a b c d e f =
     append_assoc (a ++ b) c (d ++ (e ++ f)) ∙ append_assoc a b (c ++ (d ++ (e ++ f)))
     ∙ ap (λ (l : List Event). a ++ l) (sym (apart b c d e f))
 
--- The events of a line of a leaf, and what stands behind it.
+-- The events of a line of a leaf, and what follows it.
 pub row-apart : (row : Row) (l : LeafName) (more rest : List Event) → row.kind ≡ LeafRow l →
     (row_events row ++ more) ++ rest
     ≡ row.front ++ (row.inside ++ (tail_events (ending_at row) row ++ (more ++ rest)))
@@ -215,7 +215,7 @@ row-apart row l more rest kind =
     ap (λ (k : RowKind). ((row.front ++ leaf_events k row ++ tail) ++ more) ++ rest) kind
     ∙ apart row.front row.inside tail more rest
 
--- what it adds, if it stands as a block by itself: its begin, what stands inside, and its end
+-- what it adds, if it is as a block by itself: its begin, what is inside, and its end
 pub line-apart : (Lead : List Event → Type 0) (Begins : Event → Type 0) (es behind : List Event) →
     (s : IsSpanned Lead Begins es) → es ++ behind ≡ s.lead ++ s.begin ∷ (s.inside ++ s.end ∷ behind)
 line-apart Lead Begins es behind s =
@@ -223,14 +223,14 @@ line-apart Lead Begins es behind s =
     ∙ append_assoc (s.lead ++ s.begin ∷ s.inside) (s.end ∷ []) behind
     ∙ append_assoc s.lead (s.begin ∷ s.inside) (s.end ∷ behind)
 
--- behind the last line
+-- after the last line
 abbrev pub last_tail : Row → List Row → List Event
 last_tail row rows = tail_events (ending_at (last_row row rows)) (last_row row rows)
 
 abbrev pub its_events : Row → List Event
 its_events row = row.inside
 
--- a line of a leaf stands behind another: no container ends between them, and prefixes alone stand in front of it
+-- a line of a leaf is after another: no container ends between them, and prefixes alone are before it
 record Follows (row next : Row) : Type 0 where
   closed_after : row.closed_after ≡ []
   name : LeafName
@@ -245,7 +245,7 @@ next-apart row next more rest is =
     ap₂ (λ (x y : List Event). x ++ y) (tail-none (ending_at row) row is.closed_after)
     (row-apart next is.name more rest is.kind)
 
--- Bare lines, behind the last one that has a begin and an end.
+-- Bare lines, after the last one that has a begin and an end.
 
 abbrev AreBare : Row → List Row → Type 0
 AreBare row [] = Unit {0}
@@ -295,8 +295,8 @@ bare-behind row (next ∷ rows) rest are =
     ∙ ap (λ (l : List Event). white ++ l) (bare-behind next rows rest are.2)))
     ∙ sym (apart ending next.front white S Z)
 
--- Lines behind the begin of one: what is left of them, behind what stands inside of that line, and what is left of a
--- gap behind its end.
+-- Lines after the begin of one: what is left of them, after what is inside of that line, and what is left of a gap
+-- after its end.
 abbrev Joins : Row → List Row → List Event → Event → List Event → List Event → List Event → Type 0
 Joins row rows inside e gap given rest =
     spanned_from Inside (inside ++ e ∷ (gap ++ (tail_events (ending_at row) row ++ (rows_events rows ++ rest))))
@@ -313,7 +313,7 @@ bare-joined row rows inside e rest are none plain end ahead =
     ∙ ap (λ (l : List Event). inside ++ e ∷ l) (bare-behind row rows rest are)
     ∙ ap (λ (l : List Event). inside ++ (l ++ Z)) (sym (rest-behind its_events (e ∷ []) row rows none))
 
--- one that has a begin and an end: the leaf goes on
+-- one that has a begin and an end: the leaf continues
 framed-joined : (row next : Row) (rows : List Row) (inside : List Event) (e : Event) (gap given rest : List Event) →
     Follows row next → NoLines inside → IsEnd e → IsGap gap given → (s : IsSpanned IsNone IsFurther next.inside) →
     Joins next rows s.inside s.end [] [] rest → Joins row (next ∷ rows) inside e gap given rest
@@ -346,7 +346,7 @@ framed-joined row next rows inside e gap given rest is plain end free s on =
     ∙ ap (λ (l : List Event). inside ++ l)
     (gathered given as_line next.front s.inside S Z ∙ ap (λ (l : List Event). given ++ (l ++ Z)) (sym left))
 
--- a bare one, in front of one that has them: it is one more part of the gap
+-- a bare one, before one that has them: it is one more part of the gap
 bare-passed : (row next : Row) (rows : List Row) (inside : List Event) (e : Event) (gap given rest : List Event) →
     Follows row next → IsBare next.inside → any_framed its_events rows ≡ true →
     Joins next rows inside e (gap ++ ending_events (ending_at row) row ++ next.front ++ next.inside)
@@ -368,7 +368,7 @@ bare-passed row next rows inside e gap given rest is bare more on =
     ∙ ap (λ (l : List Event). given ++ (l ++ Z))
     (sym (rest-bare its_events (e ∷ []) row next rows (bare-unframed next.inside bare) more)))
 
--- The lines of a leaf, behind the begin of one of them.
+-- The lines of a leaf, after the begin of one of them.
 
 follows-from : (options : ParseOptions) (bytes : List ℕ) (name : LeafName) (row next : Row) (rows : List Row) →
     AreTogether row (next ∷ rows) → AreBehind options bytes (leaf (further_of name)) row (next ∷ rows) →
@@ -381,7 +381,7 @@ follows-from options bytes name row next rows together are =
       prefixes = fronts-prefixes bytes [] are.0 next.first next.front refl are.3;
     }
 
--- those that have no begin and no end stand bare
+-- those that have no begin and no end are bare
 are-bare : (options : ParseOptions) (bytes : List ℕ) (name : LeafName) (row : Row) (rows : List Row) →
     (leaf name).ends ≡ false → AreTogether row rows → AreBehind options bytes (leaf (further_of name)) row rows →
     any_framed its_events rows ≡ false → AreBare row rows
@@ -398,7 +398,7 @@ are-bare options bytes name row (next ∷ rows) open_leaf together are none =
     bare (inl s) h = absurd (true≢false (sym (spanned-framed IsNone IsFurther next.inside s) ∙ h))
     bare (inr b) h = b.no_blocks
 
--- so the leaf ends, or goes on
+-- so the leaf ends, or continues
 joined-by : (row : Row) (rows : List Row) (inside : List Event) (e : Event) (rest : List Event) →
     (any_framed its_events rows ≡ false → AreBare row rows) →
     (any_framed its_events rows ≡ true → Joins row rows inside e [] [] rest) →
@@ -409,7 +409,7 @@ joined-by row rows inside e rest bare more plain end ahead = go (any_framed its_
     go true h = more h
     go false h = bare-joined row rows inside e rest (bare h) h plain end ahead
 
--- it goes on over what stands between two lines that have a begin and an end
+-- it continues over what is between two lines that have a begin and an end
 gaps-joined : (options : ParseOptions) (bytes : List ℕ) (name : LeafName) (row : Row) (rows : List Row)
     (inside : List Event) (e : Event) (gap given rest : List Event) →
     (leaf name).ends ≡ false → AreTogether row rows → AreBehind options bytes (leaf (further_of name)) row rows →
@@ -459,7 +459,7 @@ lines-from options bytes name row rows inside e rest open_leaf together are plai
     gaps-joined options bytes name row rows inside e [] [] rest open_leaf together are more plain end no-gap ahead)
     plain end ahead
 
--- A line that begins a leaf by itself, with what stands in front of it: no line in front goes on,
+-- A line that begins a leaf by itself, with what is before it: no line in front continues,
 pub begun-ahead : (front inside behind : List Event) → AreUnspanned front → IsSpanned AreUnspanned IsBegin inside →
     goes_on (front ++ (inside ++ behind)) ≡ false
 begun-ahead front inside behind passes s =
@@ -469,7 +469,7 @@ begun-ahead front inside behind passes s =
     (plain-ahead s.lead more (unspanned-lines s.lead s.lead_plain)
     (begin-ahead s.begin (s.inside ++ s.end ∷ behind) s.begins))
 
--- and it is joined with those behind it, up to the last.
+-- and it is joined with those after it, up to the last.
 pub begun-joined : (options : ParseOptions) (bytes : List ℕ) (name : LeafName) (row : Row) (rows : List Row)
     (rest : List Event) →
     (leaf name).ends ≡ false → AreTogether row rows → AreBehind options bytes (leaf (further_of name)) row rows →

@@ -34,7 +34,7 @@ use Rattle.md_rows.proofs.UnspannedGroups.{row-unspanned, text-unspanned, underl
 
 -- The lines of a leaf.
 
--- the first of them, with what stands behind it
+-- the first of them, with what follows it
 span-apart : (options : ParseOptions) (bytes : List ℕ) (row : Row) (rows : List Row) (rest : List Event) →
     AreSpan options bytes row rows →
     rows_events (row ∷ rows) ++ rest ≡
@@ -65,7 +65,7 @@ span-joined options bytes row rows rest are begins ahead =
 
 -- A line of text that is a head, and the lines of its table.
 
--- the head, with what stands behind it
+-- the head, with what follows it
 headed-apart : (options : ParseOptions) (bytes : List ℕ) (row next : Row) (rows : List Row) (rest : List Event) →
     row.kind ≡ TextRow →
     headed_lines bytes row next rows ++ rest ≡

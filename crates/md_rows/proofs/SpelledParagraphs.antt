@@ -1,5 +1,5 @@
--- What the events of a paragraph are read as, where prefixes of containers stand in front of its lines: its lines
--- without them.
+-- What the events of a paragraph are read as, where prefixes of containers are before its lines: its lines without
+-- them.
 use Rattle.std.proofs.Common.{◌≡◌, ℕ, zero, suc, ◌+◌, ◌≤◌, Bool, true, false, cond, List, [], ◌∷◌, ◌++◌, length}
 use Rattle.std.proofs.Common.{slice_range, refl, ap, sym, ◌∙◌, subst, append_assoc, append-nil, arith}
 use Rattle.md_rows.proofs.KindLemmas.{kind-text}
@@ -45,7 +45,7 @@ pub record IsFilled (line : List ℕ) : Type 0 where
   pub no_ending : NoEnding line
   pub filled : is_blank line ≡ false
 
--- the bytes of a line of text stand behind the byte at which it begins
+-- the bytes of a line of text are after the byte at which it begins
 line-bytes : (options : ParseOptions) (bytes line : List ℕ) (row : Row) → (is : f.IsRow options bytes line row) →
     (slice_range bytes (byte_at row.first) row.end.index ≡ is.rest.bytes) × (byte_at row.first ≤ row.end.index)
 line-bytes options bytes line row is =

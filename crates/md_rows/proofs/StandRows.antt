@@ -1,4 +1,4 @@
--- The lists around the items of a text can be told from its events: blocks stand in containers alone, and each item
+-- The lists around the items of a text can be determined from its events: blocks are in containers alone, and each item
 -- begins with its marker.
 use Rattle.md_engine.specs.declared.tokenizer.held_leaf.HeldLeaf.TheVariants as held_leaf
 use Rattle.std.proofs.Common.{◌≡◌, ℕ, Bool, List, [], ◌∷◌, ◌++◌, refl, ap, sym, subst, append_assoc}
@@ -45,7 +45,7 @@ under-more c names = ap (λ (item : Bool). among (item ∷ items_of names)) (con
 
 -- Lines.
 
--- behind what stands in front of a line the containers are open that begin in it
+-- after what is before a line the containers are open that begin in it
 fronts-stand : (bytes : List ℕ) (opens : List Container) (names : List Name) (p q : Point) (front : List Event) →
     LinePrefix bytes opens p q front → StandsTo bytes (under names) (under (open_names opens ++ names)) front
 fronts-stand bytes _ names p _ _ (Behind _) = record { stand = tt; behind = refl }
@@ -79,7 +79,7 @@ ends-stand bytes (c ∷ cs) names p =
 
 -- Groups.
 
--- events in front of others
+-- events before others
 stand-through : (bytes : List ℕ) (from to : Site) (xs ys : List Event) → StandsTo bytes from to xs →
     ItemsStand bytes to ys → ItemsStand bytes from (xs ++ ys)
 stand-through bytes from to xs ys h k =
@@ -89,7 +89,7 @@ stand-through bytes from to xs ys h k =
 abbrev GroupsStand : ParseOptions → List ℕ → List Name → Point → List Group → Type 0
 GroupsStand options bytes names p gs = ItemsStand bytes (under names) (groups_events options bytes gs)
 
--- a group in front of others
+-- a group before others
 group-stands : (options : ParseOptions) (bytes : List ℕ) (names kept : List Name) (p : Point) (group : Group)
     (gs : List Group) →
     Ordered options bytes p group → Keeps names group kept → GroupsStand options bytes kept p gs →

@@ -1,4 +1,4 @@
--- Where a line of a table may start: it goes on a table or on text alone, and on text only where tables are on.
+-- Where a line of a table may start: it continues a table or on text alone, and on text only where tables are on.
 use Rattle.std.proofs.Common.{◌≡◌, ℕ, Bool, true, false, List, refl, sym, ◌∙◌, subst}
 use Rattle.std.specs.Prelude.{Some}
 use Rattle.md_engine.specs.declared.configuration.ParseOptions.{ParseOptions}
@@ -38,7 +38,7 @@ text-untabled options at r off = go (table_leaf.starts options (held_leaf.Text a
     go true starts = let bad : true ≡ false = sym (table-enabled options at r starts) ∙ off in cc
     go false starts = refl
 
--- Then a line that goes on text takes no line of it as its head.
+-- Then a line that continues text takes no line of it as its head.
 pub no-head : (options : ParseOptions) (at : OpenText) (r : Rest) (l : LeafName) →
     options.constructs.gfm_table ≡ false → (leaf l).starts options (held_leaf.Text at) r ≡ true → (leaf l).heads ≡ false
 no-head options at r l off starts = go (leaf l).heads refl

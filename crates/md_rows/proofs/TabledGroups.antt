@@ -1,4 +1,4 @@
--- Tables get their heads, bodies and cells behind all other resolvers of leaves, and all else stays; and what all of
+-- Tables get their heads, bodies and cells after all other resolvers of leaves, and all else stays; and what all of
 -- these make of a text.
 use Rattle.std.proofs.Common.{◌≡◌, ℕ, Bool, List, [], ◌∷◌, ◌++◌, refl, ap, sym, ◌∙◌, append_assoc, subst}
 use Rattle.md_engine.specs.declared.configuration.ParseOptions.{ParseOptions}
@@ -59,7 +59,7 @@ span-passes options bytes row rows are begins =
     options bytes row rows are begins))
     (unspanned-untabled (tail_events (ending_of last.kind last) last) (tail-unspanned last.kind last))
 
--- the lines of a table: between what stands in front of its head, and what stands behind its last line
+-- the lines of a table: between what is before its head, and what follows its last line
 headed-tabled : (options : ParseOptions) (bytes : List ℕ) (row next : Row) (rows : List Row) (es : List Event) →
     IsHead options bytes row next → AreSpan options bytes next rows → HasFront bytes row →
     tabled (spanned_group options bytes (Headed row next rows) ++ es) ≡

@@ -16,7 +16,7 @@ use Rattle.md_rows.proofs.RowFacts.{AreRows, IsRow, behind_line}
 use Rattle.md_rows.proofs.TableStarts.{row-no_head}
 use Rattle.md_rows.proofs.TextGroups.{NoHead, NoHeads}
 
--- a line that goes on text does not take that as its head
+-- a line that continues text does not take that as its head
 none-headed : (options : ParseOptions) (bytes line below_line : List ℕ) (row below : Row) →
     options.constructs.gfm_table ≡ false → (is : IsRow options bytes line row) → row.kind ≡ TextRow →
     IsRow options bytes below_line below → below.on ≡ row.behind → takes_head below.kind ≡ true → ⊥

@@ -1,5 +1,5 @@
--- What a line does where text is open: it may turn what is left of the text behind its definitions, make its last
--- line the head of a table, continue it, or begin a leaf behind it.
+-- What a line does where text is open: it may turn what is left of the text after its definitions, make its last line
+-- the head of a table, continue it, or begin a leaf after it.
 use Rattle.std.proofs.Common.{◌≡◌, ℕ, Bool, true, false, cond, ◌&&◌, ◌||◌, List, [], ◌∷◌, ◌++◌, length, refl, ap}
 use Rattle.std.proofs.Common.{ap₂, sym, ◌∙◌, subst}
 use Rattle.std.specs.Prelude.{◌==◌, not, if◌then◌else◌, Option, Some, None}
@@ -75,7 +75,7 @@ unturned-setext options on r may =
     (λ (x : Bool).
     x && options.constructs.heading_setext && has_small_indent options r && is_underline (trim_start r.bytes)) may
 
--- An underline turns what is left of the text behind the definitions at its front, where something is.
+-- An underline turns what is left of the text after the definitions at its front, where something is.
 turned-all : (options : ParseOptions) (bs : Blocks) (lines : List ParagraphLine) (r : Rest) (depth : ℕ) →
     is_none_left (cut options (texts lines)).1 ≡ false →
     underlined options bs lines r depth ≡
@@ -91,7 +91,7 @@ turned-all options bs lines r depth = go (cut options (texts lines)).1
     go [] some = cc
     go (line ∷ left) some = refl
 
--- Whether something is, how far the definitions have come tells.
+-- Whether something is, how far the definitions have come shows.
 pub may-left : (options : ParseOptions) (k : ParagraphLine) (ks : List ParagraphLine) →
     may_turn options (text_on (k ∷ ks)) ≡ not (is_none_left (cut options (texts (k ∷ ks))).1)
 may-left options k ks = go options.constructs.definition
@@ -120,7 +120,7 @@ turned-none options bs lines r depth = go (cut options (texts lines)).1
     go [] none = refl
     go (line ∷ left) none = cc
 
--- An underline is no delimiter row: neither a colon nor a pipe stands in it.
+-- An underline is no delimiter row: neither a colon nor a pipe is in it.
 
 abbrev divides : ℕ → Bool
 divides b = (b == colon) || (b == pipe)
@@ -170,7 +170,7 @@ underlined-untabled options at r depth e =
     none true true = refl
     none _ _ = refl
 
--- Where no underline starts, a leaf that starts and takes no head begins behind the text.
+-- Where no underline starts, a leaf that starts and takes no head begins after the text.
 pub behind-text : (options : ParseOptions) (at : OpenText) (r : Rest) (l : LeafName) →
     setext_leaf.starts options (held_leaf.Text at) r ≡ false → other_at options (held_leaf.Text at) r ≡ Some l →
     (leaf l).further (held_leaf.Text at) ≡ false
@@ -187,7 +187,7 @@ behind-text options at r l e found = go ((leaf l).further on) refl
         let bad : true ≡ false = sym starts ∙ ap (λ (m : LeafName). (leaf m).starts options on r) name ∙ e in
         cc
 
--- Of lines of text, the last, and those in front of it.
+-- Of lines of text, the last, and those before it.
 
 pub record Ended (lines : List ParagraphLine) : Type 0 where
   pub front : List ParagraphLine
@@ -213,8 +213,8 @@ knows-head lines k = record {
 }
 
 -- What a line that is not blank does where text is open, by the leaf that takes it: it turns what is left of the text
--- behind its definitions, or makes its last line a head, behind what is read of the lines in front of that, or it
--- begins a leaf behind the text.
+-- after its definitions, or makes its last line a head, after what is read of the lines before that, or it begins a
+-- leaf after the text.
 
 abbrev pub front_before : Bool → ParseOptions → Blocks → Leaf → Blocks
 front_before true options bs (OpenParagraph lines) = text_leaf.behind options bs (texts (without_last lines))
@@ -296,7 +296,7 @@ text-comes options bs k ks r dark = go (may_turn options on) refl
         (came (text_leaf.behind options bs (texts lines)) ((leaf l).comes options NoLeaf r)))
         (behind-text options (open_lines lines) r l e found))
 
-    -- no underline stands here
+    -- no underline is here
     other : underline_depth options r ≡ None → setext_leaf.starts options on r ≡ false → Done None
     other none e =
         ap (text_by options bs lines r) (text-others options (open_lines lines) r none e dark)

@@ -1,4 +1,4 @@
--- Lines of text in front of the groups of the lines behind them.
+-- Lines of text before the groups of the lines after them.
 use Rattle.std.proofs.Common.{◌≡◌, Bool, true, false, cond, ◌&&◌, List, [], ◌∷◌, refl}
 use Rattle.std.specs.Prelude.{Option, Some, None}
 use Rattle.md_frame.specs.Row.{Row, RowKind, TextRow}
@@ -11,7 +11,7 @@ abbrev pub text_group : Option Row → Row → List Row → Group
 text_group None row rows = Lines row rows
 text_group (Some under) row rows = Turned row rows under
 
--- a line of text in front of such
+-- a line of text before such
 abbrev pub onto_text : Option Row → Row → Row → List Row → List Group → List Group
 onto_text o row next rows gs =
     cond (goes_on row next) (text_group o row (next ∷ rows) ∷ gs) (Lines row [] ∷ text_group o next rows ∷ gs)
@@ -21,7 +21,7 @@ pub text-onto : (o : Option Row) (row next : Row) (rows : List Row) (gs : List G
 text-onto None row next rows gs = refl
 text-onto (Some under) row next rows gs = refl
 
--- a line of text begins a text with those behind it, or is the head of a table
+-- a line of text begins a text with those after it, or is the head of a table
 pub lines-first : (Q : List Group → Type 0) (row : Row) (gs : List Group) →
     ((o : Option Row) (more : List Row) (rest : List Group) → Q (text_group o row more ∷ rest)) →
     ((next : Row) (more : List Row) (rest : List Group) → gs ≡ LeafLines next more ∷ rest →
@@ -54,7 +54,7 @@ lines-first Q row (Lines first rows ∷ gs) h k = go (goes_on row first)
 
 -- Heads of tables.
 
--- no line takes the line of text in front of it as its head
+-- no line takes the line of text before it as its head
 abbrev pub NoHead : Row → Row → Type 0
 NoHead row below = row.kind ≡ TextRow → (is_further below.kind below.on && takes_head below.kind) ≡ false
 
@@ -63,7 +63,7 @@ NoHeads [] = Unit {0}
 NoHeads (row ∷ []) = Unit {0}
 NoHeads (row ∷ below ∷ rows) = NoHead row below × NoHeads (below ∷ rows)
 
--- no line of these takes one in front of it as its head
+-- no line of these takes one before it as its head
 abbrev pub HeadsNone : List Group → Type 0
 HeadsNone (LeafLines first rows ∷ gs) = (is_further first.kind first.on && takes_head first.kind) ≡ false
 HeadsNone gs = Unit {0}

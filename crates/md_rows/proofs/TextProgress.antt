@@ -1,5 +1,5 @@
--- How far the definitions at the front of an open text have come, from line to line: what a line meets tells what the
--- line in front of it has left.
+-- How far the definitions at the front of an open text have come, from line to line: what a line meets shows what the
+-- line before it has left.
 use Rattle.std.proofs.Common.{◌≡◌, Bool, true, false, cond, ◌&&◌, List, [], ◌∷◌, refl, ap, sym, ◌∙◌}
 use Rattle.std.specs.Prelude.{not}
 use Rattle.std.proofs.lemmas.Bool.{and_parts}
@@ -26,7 +26,7 @@ use Rattle.md_rows.proofs.ContainedLemmas.{change-opens}
 abbrev pub IsFresh : HeldLeaf → Type 0
 IsFresh on = progress_of on ≡ Fresh
 
--- and no line may go on what is open
+-- and no line may continue what is open
 abbrev pub IsShut : HeldLeaf → Type 0
 IsShut still = (may_go_on still ≡ false) × IsFresh still
 
@@ -72,7 +72,7 @@ contained-progress options cs still r =
     kind : RowKind
     kind = line_kind options (against still others new.containers) new.rest
 
--- Where containers end in front of a line of text, no text is open in front of it that it goes on.
+-- Where containers end before a line of text, no text is open before it that it continues.
 lazy-closes : (still : HeldLeaf) (went others opens : List Container) (kind : RowKind) → kind ≡ TextRow →
     is_none (change_by (is_lazy still opens kind) went others opens).closes ≡ false →
     takes_lazy still && is_none opens ≡ false

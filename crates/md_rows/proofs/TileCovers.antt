@@ -58,7 +58,7 @@ tail-covers name row =
 
 -- Groups.
 
--- what stands in front of a line, in it, and behind its last part or that of a further line
+-- what is before a line, in it, and after its last part or that of a further line
 line-covers : (name : Name) (row last : Row) (p : Point) (es : List Event) → Covered p row.first row.front →
     Covered row.first last.end es → Follows p (behind_row last) (row.front ++ es ++ tail_events name last)
 line-covers name row last p es front h =
@@ -71,7 +71,7 @@ abbrev pub behind_groups : Point → List Group → Point
 behind_groups p [] = p
 behind_groups p (group ∷ gs) = behind_groups (behind_row (final_row group)) gs
 
--- their events cover what stands there
+-- their events cover what is there
 abbrev Laid : ParseOptions → List ℕ → List Name → Point → List Group → Type 0
 Laid options bytes names p gs = Follows p (behind_groups p gs) (tabled_groups options bytes gs)
 
@@ -88,7 +88,7 @@ laid-by_groups options bytes = record {
       (fronts-tiled bytes row.change.opens p row.first row.front o.front) o.leaf.1.stretch.tiled) more;
 }
 
--- a line in front of groups ends where they begin
+-- a line before groups ends where they begin
 onto-behind : (p : Point) (row : Row) (gs all : List Group) → Onto row gs all →
     behind_groups p all ≡ behind_groups (behind_row row) gs
 onto-behind p row _ _ (AsSingle gs) = refl

@@ -1,4 +1,4 @@
--- The text parts of a text, before they are read, stand as its tiling asks: one chunk a line, and no chunk elsewhere.
+-- The text parts of a text, before they are read, are as its tiling asks: one chunk a line, and no chunk elsewhere.
 use Rattle.md_engine.specs.declared.tokenizer.held_leaf.HeldLeaf.TheVariants as held_leaf
 use Rattle.md_engine.specs.declared.tokenizer.held_leaf.HeldLeaf.{HeldLeaf}
 use Rattle.std.proofs.Common.{◌≡◌, ℕ, Bool, true, false, List, [], ◌∷◌, ◌++◌, refl, ap, sym, ◌∙◌, append-nil}
@@ -32,7 +32,7 @@ use Rattle.md_rows.proofs.TextProgress.{IsShut}
 use Rattle.md_rows.proofs.Begun.{front-nested}
 use Rattle.md_frame.proofs.SpanLemmas.{Nested_in}
 
--- Events in front of others.
+-- Events before others.
 
 stands-ending : (bytes : List ℕ) (name : Name) (row : Row) → part_kind name ≡ None →
     PartsWhole bytes (ending_events name row)
@@ -42,7 +42,7 @@ stands-ending bytes name row other = go row.after
     go None = stands-outside bytes [] tt tt
     go (Some q) = stands-outside bytes (pair name row.end q) (other, (other, tt)) (refl, (refl, tt))
 
--- what stands in a line, with what stands in front of it, and behind it or a further line
+-- what is in a line, with what is before it, and after it or a further line
 stands-line : (bytes : List ℕ) (name : Name) (row last : Row) (es : List Event) → part_kind name ≡ None →
     HasFront bytes row → PartsWhole bytes es → PartsWhole bytes (row.front ++ es ++ tail_events name last)
 stands-line bytes name row last es other front h =
@@ -112,7 +112,7 @@ blocks-chunks options bytes cs still p front lines rows stands shut are quiet =
 
 -- Their events nest.
 
--- these names are open in front of groups
+-- these names are open before groups
 abbrev Listed : ParseOptions → List ℕ → List Name → Point → List Group → Type 0
 Listed options bytes names p gs = Under names p (tabled_groups options bytes gs)
 

@@ -39,7 +39,7 @@ pub record IsFilled (bytes : List ℕ) (blocks events : List Event) : Type 0 whe
   pub each : EachRead (reads_plain bytes) (parts blocks) (plain_lists bytes (parts blocks))
   pub read : events ≡ plain_read bytes blocks
 
--- nothing stands behind them
+-- nothing is after them
 fill-all : (bytes : List ℕ) (blocks events : List Event) → PartsRead bytes blocks events → IsFilled bytes blocks events
 fill-all bytes blocks events fill =
     let own : fill.own ≡
@@ -68,7 +68,7 @@ fill-ending bytes name row other = go row.after
     go None = fill-same bytes [] tt tt
     go (Some q) = fill-same bytes (pair name row.end q) (refl, (refl, tt)) (other, (other, tt))
 
--- what stands in a line, with what stands in front of it, and behind it or a further line
+-- what is in a line, with what is before it, and after it or a further line
 fill-line : (bytes : List ℕ) (name : Name) (row last : Row) (xs zs : List Event) → part_kind name ≡ None →
     HasFront bytes row → PartsRead bytes xs zs →
     PartsRead bytes (row.front ++ xs ++ tail_events name last) (front_done bytes row ++ zs ++ tail_events name last)
@@ -121,7 +121,7 @@ text-filled options bytes p front lines filled are =
     blocks-filled options bytes [] held_leaf.None p front lines (text_rows options bytes p) filled (refl, refl) are
     (rows_at-no_content options (suc (length cells)) [] held_leaf.None cells p)
 
--- Where the text ends, no events stand.
+-- Where the text ends, no events are.
 
 -- where there are no cells, for a line that is empty
 none-read : (options : ParseOptions) (bytes : List ℕ) (p : Point) (cells : List Cell) → cells ≡ [] →

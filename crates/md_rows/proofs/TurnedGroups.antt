@@ -85,7 +85,7 @@ prefixes-are : (es : List Event) → ArePrefixes es → turns.ArePrefixes es
 prefixes-are [] h = tt
 prefixes-are (e ∷ es) h = (h.0.0, prefixes-are es h.1)
 
--- What stands around the leaf of a line, and lines that are no text.
+-- What is around the leaf of a line, and lines that are no text.
 
 unturned-rows : OfRows AreUnturned
 unturned-rows = record {
@@ -152,7 +152,7 @@ under-line options bytes row rows under are is = record {
 
 -- What follows a text.
 
--- what stands in the place of a text begins with no underline: a definition does not
+-- what is in the place of a text begins with no underline: a definition does not
 form-unlined : (x : Form) (es : List Event) → Unlined (form_unread x ++ es)
 form-unlined x es = go (same_place x.first x.p)
   where
@@ -286,11 +286,11 @@ text-turned options bytes row rows es are front none =
     ∙ sym (append_assoc row.front text (tail ++ turned es))
     ∙ sym (append_assoc (row.front ++ text) tail (turned es))
 
--- events one behind the other
+-- events one after the other
 in_line : (a b c d e : List Event) → (a ++ b ++ c ++ d) ++ e ≡ a ++ (b ++ (c ++ (d ++ e)))
 in_line a b c d e = simp append_assoc
 
--- a text, its ending, what stands in front of its underline, the underline, and what stands behind it
+-- a text, its ending, what is before its underline, the underline, and what follows it
 laid : (text ending before under tail es : List Event) →
     text ++ (ending ++ ((before ++ under ++ tail) ++ es)) ≡ text ++ ((ending ++ before) ++ (under ++ (tail ++ es)))
 laid text ending before under tail es = simp append_assoc
@@ -368,7 +368,7 @@ cut-headed options bytes under row rows before behind done more
     ∙ ap (λ (l : List Event). begun ++ l) (cut-headed options bytes under next below left turns read more rest)
     ∙ sym (append_assoc begun turns (tail ++ turned more))
 
--- with what stands in front of it, and behind it
+-- with what is before it, and after it
 heading-turned : (options : ParseOptions) (bytes : List ℕ) (row : Row) (rows : List Row) (under : Row)
     (es : List Event) →
     (are : AreLines options bytes row rows) → IsUnder options bytes (last_row row rows) under →

@@ -1,5 +1,5 @@
--- A line that goes on text, and takes no line of it as a head, is an underline: no content stands in it, and something
--- stands on it.
+-- A line that continues text, and takes no line of it as a head, is an underline: no content is in it, and something is
+-- on it.
 use Rattle.std.proofs.Common.{◌≡◌, ℕ, Bool, true, false, List, refl, ap, sym, ◌∙◌, subst}
 use Rattle.std.specs.Prelude.{Some, None}
 use Rattle.md_engine.specs.declared.configuration.ParseOptions.{ParseOptions}
@@ -27,14 +27,14 @@ use Rattle.md_frame.proofs.SpanLaws.{IsLineOf}
 use Rattle.md_rows.proofs.Turned.Under.{text-open, under-turns}
 use Rattle.md_registry.proofs.UnderNames.{further-text}
 
--- no content stands in an underline
+-- no content is in an underline
 underline-no_content : (wants : Content → Bool) (line : List ℕ) (p : Point) → NoContent wants (underline_line line p)
 underline-no_content wants line p =
     each-no_content wants (underline_line line p)
     (underline-each (IsNoContent wants) (λ q. (refl, refl), λ q. (refl, refl)) (λ q. (refl, refl), λ q. (refl, refl))
     (λ q. (refl, refl), λ q. (refl, refl)) line p)
 
--- so none stands in a line that goes on text, and takes no line of it as a head
+-- so none is in a line that continues text, and takes no line of it as a head
 pub further-quiet : (options : ParseOptions) (bytes line : List ℕ) (row : Row) (l : LeafName) (at : OpenText) →
     IsRow options bytes line row → row.kind ≡ LeafRow l → row.on ≡ held_leaf.Text at →
     is_further row.kind row.on ≡ true → takes_head row.kind ≡ false → HasNoContent row
@@ -53,7 +53,7 @@ under-holds L holds options bytes row rows under are is =
     let line : IsLineOf options bytes setext_leaf under = (under-turns options bytes row rows under are is).is in
     subst L (sym line.inside) (holds (rest_line line.rest) under.first)
 
--- something stands on it: no leaf is asked first where text is met
+-- something is on it: no leaf is asked first where text is met
 pub under-filled : (options : ParseOptions) (bytes : List ℕ) (row : Row) (rows : List Row) (under : Row) →
     AreLines options bytes row rows → IsUnder options bytes (last_row row rows) under →
     is_blank_by under.kind under ≡ false

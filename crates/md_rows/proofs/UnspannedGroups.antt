@@ -122,7 +122,7 @@ headed-unspanned options bytes under row rows before behind done
     (between-of AreUnspanned unspanned-of bytes (last_row first own).end q next.first next.front front))
     (headed-unspanned options bytes under next below left turns read rest)
 
--- with what stands in front of it, and behind it
+-- with what is before it, and after it
 pub turned-unspanned : (options : ParseOptions) (bytes : List ℕ) (row : Row) (rows : List Row) (under : Row) →
     (are : AreLines options bytes row rows) → IsUnder options bytes (last_row row rows) under →
     IsLeft options bytes row rows are → HasFront bytes row →

@@ -1,13 +1,12 @@
 -- The events of a text, one for one, before its text parts are read.
 --
 -- They are those of its front, its byte order mark and its frontmatter, and then those of its lines. A line adds, from
--- left to right: what stands in front of it (the begins and the prefixes of its containers, from the outermost in), its
--- leaf, the ends of the containers that end behind it, and its ending. Lines of text that belong together are one leaf:
--- a chunk for each line, with its ending but the last, and in front of each further chunk what stands in front of its
--- line.
+-- left to right: what is before it (the begins and the prefixes of its containers, from the outermost in), its leaf,
+-- the ends of the containers that end after it, and its ending. Lines of text that belong together are one leaf: a
+-- chunk for each line, with its ending but the last, and before each further chunk what is before its line.
 --
--- What the lines are (`Row`), which of them are one text (`groups`), and which definitions stand at its front
--- (`cut_at_most`), stands in `Rows`; the events of each leaf in its own file of `Leaf`.
+-- What the lines are (`Row`), which of them are one text (`groups`), and which definitions are at its front
+-- (`cut_at_most`), is in `Rows`; the events of each leaf in its own file of `Leaf`.
 use Rattle.std.specs.Prelude.{ℕ, suc, List, [], ◌∷◌, ◌++◌, length}
 use Rattle.md_engine.specs.declared.configuration.ParseOptions.{ParseOptions}
 use Rattle.md_engine.specs.declared.event.Event.{Event}
@@ -33,7 +32,7 @@ unread_lines row rows = linked_lines n.Data text_leaf.link row rows
 abbrev pub lines_unread : Row → List Row → List Event
 lines_unread row rows = around text_leaf.name row.first (last_row row rows).end (unread_lines row rows)
 
--- what stands in the place of the lines of a text: its definitions, and the leaf of what remains
+-- what is in the place of the lines of a text: its definitions, and the leaf of what remains
 abbrev pub text_unread : ParseOptions → List ℕ → Row → List Row → List Event
 text_unread options bytes row rows =
     cut_at_most defined_unread lines_unread options bytes (suc (length rows)) row rows
@@ -60,7 +59,7 @@ group_unread options bytes (Turned row rows under) = turned_unread options bytes
 group_unread options bytes (Headed row next rows) = headed_unread bytes row next rows
 group_unread options bytes (LeafLines row rows) = span_by (λ (r : Row). r.inside) row rows
 
--- with what stands in front of it, and behind it
+-- with what is before it, and after it
 abbrev pub tabled_group : ParseOptions → List ℕ → Group → List Event
 tabled_group options bytes group =
     (first_row group).front ++ group_unread options bytes group ++ tail_events (group_ending group) (final_row group)

@@ -1,4 +1,4 @@
--- The containers of a line by its bytes: which go on and open on it, as the line definition says.
+-- The containers of a line by its bytes: which continue and open on it, as the line definition says.
 use Rattle.md_engine.specs.declared.tokenizer.held_leaf.HeldLeaf.{HeldLeaf}
 use Rattle.std.specs.Prelude.{ℕ, zero, suc, ◌-◌, Bool, false, if◌then◌else◌, List, [], ◌∷◌, length, Some, None}
 use Rattle.md_engine.specs.declared.configuration.ParseOptions.{ParseOptions}
@@ -9,7 +9,7 @@ use Rattle.md_meaning.specs.State.{Container}
 use Rattle.md_frame.specs.Change.{Change, change_by, interrupts, against, others_of}
 use Rattle.md_rows.specs.Rows.{is_inside, is_lazy, line_kind}
 
--- containers that have a prefix on a line, and its rest behind them
+-- containers that have a prefix on a line, and its rest after them
 pub record Prefixed : Type 0 where
   pub containers : List Container
   pub rest : Rest
@@ -20,7 +20,7 @@ no_prefix r = record { containers = []; rest = r }
 abbrev pub one_more : Container → Prefixed → Prefixed
 one_more c f = record f { containers = c ∷ f.containers }
 
--- each open container is asked whether it goes on, from the outermost in, until one does not
+-- each open container is asked whether it continues, from the outermost in, until one does not
 abbrev pub prefixes_on : ParseOptions → List Container → Rest → Prefixed
 prefixes_on options [] r = no_prefix r
 prefixes_on options (c ∷ cs) r = elim (continues options c r) [
@@ -40,7 +40,7 @@ prefixes_new options interrupting (suc n) r = elim (opens options interrupting r
 abbrev pub rest_from : Point → List ℕ → Rest
 rest_from p line = record { column = p.column - 1; spaces = 0; bytes = line }
 
--- what a line does to the containers, the leaf that it meets behind them, and its rest
+-- what a line does to the containers, the leaf that it meets after them, and its rest
 pub record Contained : Type 0 where
   pub change : Change
   pub on : HeldLeaf

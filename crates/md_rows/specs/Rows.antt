@@ -46,7 +46,7 @@ abbrev pub inside_or : (LeafName → Bool) → Option LeafName → RowKind → R
 inside_or test None other = other
 inside_or test (Some l) other = if test l then LeafRow l else other
 
--- By the rest of a line, as the line definition has it, where it meets this leaf: its kind, and what is open behind a
+-- By the rest of a line, as the line definition has it, where it meets this leaf: its kind, and what is open after a
 -- line of a kind.
 abbrev pub line_kind : ParseOptions → HeldLeaf → Rest → RowKind
 line_kind options on r =
@@ -75,14 +75,14 @@ inside_of options on cells p BlankRow = blank_events cells p
 inside_of options on cells p (LeafRow l) = (leaf l).adds options on cells p
 inside_of options on cells p TextRow = []
 
--- where the cells behind an ending begin
+-- where the cells after an ending begin
 abbrev pub after_ending : List Cell → Option Point
 after_ending [] = None
 after_ending (c ∷ cs) = Some c.after
 
 -- Containers by the cells of a line.
 
--- containers that have a prefix on a line, and what is left of it behind them
+-- containers that have a prefix on a line, and what is left of it after them
 pub record Front : Type 0 where
   pub containers : List Container
   pub events : List Event
@@ -96,7 +96,7 @@ no_front cells p = record { containers = []; events = []; cells = cells; point =
 abbrev pub in_front : Passed → Front → Front
 in_front t f = record f { containers = t.container ∷ f.containers; events = t.events ++ f.events }
 
--- each open container is asked whether it goes on, from the outermost in, until one does not
+-- each open container is asked whether it continues, from the outermost in, until one does not
 abbrev pub continued_prefixes : ParseOptions → List Container → List Cell → Point → Front
 continued_prefixes options [] cells p = no_front cells p
 continued_prefixes options (c ∷ cs) cells p = elim (goes_at options c cells p) [
@@ -125,7 +125,7 @@ abbrev pub is_text : RowKind → Bool
 is_text TextRow = true
 is_text _ = false
 
--- whether a line goes on the open text, whatever containers go on (CommonMark 5.1, "laziness")
+-- whether a line continues the open text, whatever containers continue (CommonMark 5.1, "laziness")
 abbrev pub is_lazy : HeldLeaf → List Container → RowKind → Bool
 is_lazy still opens kind = takes_lazy still && is_none opens && is_text kind
 
@@ -143,7 +143,7 @@ held_of options cs still went new =
     let on = against still (others_of cs went.containers) new.containers in
     held_by cs (is_lazy still new.containers (row_kind options on new.cells)) on went new
 
--- where a leaf is open in which no container opens, none does unless one did not go on
+-- where a leaf is open in which no container opens, none does unless one did not continue
 abbrev pub is_inside : HeldLeaf → List Container → Bool
 is_inside still others = bars_containers still && is_none others
 
@@ -162,7 +162,7 @@ held_at options cs still cells p = held_behind options cs still (continued_prefi
 
 -- The lines.
 
--- which containers end in front of these lines; all do at the end of the text
+-- which containers end before these lines; all do at the end of the text
 abbrev pub closes_before : List Container → List Row → List Container
 closes_before cs [] = cs
 closes_before cs (row ∷ rows) = row.change.closes
@@ -173,11 +173,11 @@ stays_blank (LeafRow l) = (leaf l).stays_blank
 stays_blank kind = false
 
 -- whether the ending of a line is that of a blank line, where a leaf takes it: it is blank and stays so, or nothing at
--- all stands on it
+-- all is on it
 abbrev pub ends_blank : RowKind → List Cell → Point → Bool
 ends_blank kind cells p = (stays_blank kind && is_blank (line_bytes cells)) || nothing_stands (first_seen cells) p
 
--- the leaf that is open behind it
+-- the leaf that is open after it
 abbrev pub behind_held : ParseOptions → Held → HeldLeaf
 behind_held options h = leaf_behind options h.on h.cells h.point (row_kind options h.on h.cells)
 
@@ -199,7 +199,7 @@ row_of options h below = record {
 abbrev pub onto_rows : ParseOptions → Held → List Row → List Row
 onto_rows options h below = row_of options h below ∷ below
 
--- the lines behind one, by what reads them
+-- the lines after one, by what reads them
 abbrev pub rows_by : ParseOptions → Held → (List Container → HeldLeaf → List Cell → Point → List Row) → List Row
 rows_by options h further =
     onto_rows options h
@@ -208,7 +208,7 @@ rows_by options h further =
       | c ∷ cs ↦ further (open_behind h.change) (behind_held options h) cs c.after
     ])
 
--- At most so many lines, where these containers and this leaf are open; behind the last ending stands an empty line.
+-- At most so many lines, where these containers and this leaf are open; after the last ending is an empty line.
 abbrev pub rows_at : ParseOptions → ℕ → List Container → HeldLeaf → List Cell → Point → List Row
 rows_at options zero open_before still cells p = []
 rows_at options (suc size) open_before still cells p =
@@ -216,7 +216,7 @@ rows_at options (suc size) open_before still cells p =
 
 -- Events.
 
--- behind a line: the containers that end there, and its ending
+-- after a line: the containers that end there, and its ending
 abbrev pub tail_events : Name → Row → List Event
 tail_events name row = ends_of row.closed_after row.end ++ ending_events name row
 
@@ -239,7 +239,7 @@ rows_events (row ∷ rows) = row_events row ++ rows_events rows
 
 -- Leaves.
 
--- what stands in the place of a line that is no text, before text parts are read
+-- what is in the place of a line that is no text, before text parts are read
 abbrev pub leaf_unread : List ℕ → RowKind → Row → List Event
 leaf_unread bytes BlankRow row = row.inside
 leaf_unread bytes (LeafRow l) row = (leaf l).unread (row_line bytes row) row.first
@@ -251,14 +251,14 @@ leaf_done bytes BlankRow row = row.inside
 leaf_done bytes (LeafRow l) row = (leaf l).done bytes (row_line bytes row) row.first
 leaf_done bytes TextRow row = leaf_events TextRow row
 
--- what stands in front of a line, once text parts are read: a footnote definition that opens on it has its label there
+-- what is before a line, once text parts are read: a footnote definition that opens on it has its label there
 abbrev pub front_done : List ℕ → Row → List Event
 front_done bytes row = plain_read bytes row.front
 
 -- Texts.
 
 -- a line that is no text, the lines of a text, those of a text and the underline that turns it, a line of text that is
--- a head with the line that takes it and those that go on that, or those of a leaf of several
+-- a head with the line that takes it and those that continue that, or those of a leaf of several
 pub data Group : Type 0 where
   Single : Row → Group
   Lines : Row → List Row → Group
@@ -266,7 +266,7 @@ pub data Group : Type 0 where
   Headed : Row → Row → List Row → Group
   LeafLines : Row → List Row → Group
 
--- whether a line of text goes on the text of the one before: no container ends or opens between them
+-- whether a line of text continues the text of the one before: no container ends or opens between them
 abbrev pub goes_on : Row → Row → Bool
 goes_on row next = is_none row.closed_after && is_none next.change.opens
 
@@ -279,29 +279,29 @@ onto_turned row next rows under groups =
     if goes_on row next then Turned row (next ∷ rows) under ∷ groups
     else Lines row [] ∷ Turned next rows under ∷ groups
 
--- whether a line of this kind goes on the leaf that it meets
+-- whether a line of this kind continues the leaf that it meets
 abbrev pub is_further : RowKind → HeldLeaf → Bool
 is_further (LeafRow l) on = (leaf l).further on
 is_further kind on = false
 
--- whether no line stands behind another
+-- whether no line is after another
 abbrev pub is_last : List Row → Bool
 is_last [] = true
 is_last (row ∷ rows) = false
 
--- whether a line of this kind takes the last line of a text that it goes on as its head
+-- whether a line of this kind takes the last line of a text that it continues as its head
 abbrev pub takes_head : RowKind → Bool
 takes_head (LeafRow l) = (leaf l).heads
 takes_head kind = false
 
--- a line of text: a line behind it that goes on it takes it as its head, or is its underline
+-- a line of text: a line after it that continues it takes it as its head, or is its underline
 abbrev pub onto_underline : Row → Row → List Row → List Group → List Group
 onto_underline row next rows groups =
     if is_further next.kind next.on && takes_head next.kind then Headed row next rows ∷ groups
     else if is_further next.kind next.on && is_last rows then Turned row [] next ∷ groups
     else Lines row [] ∷ LeafLines next rows ∷ groups
 
--- a line of a leaf of several: a line that goes on it is one of the same
+-- a line of a leaf of several: a line that continues it is one of the same
 abbrev pub onto_span : Row → List Group → List Group
 onto_span row (LeafLines next rows ∷ groups) =
     if is_further next.kind next.on then LeafLines row (next ∷ rows) ∷ groups
@@ -335,16 +335,16 @@ lines_done bytes row rows = around text_leaf.name row.first (last_row row rows).
 abbrev pub defined_done : List ℕ → DefinitionParts → Row → List Row → List Event
 defined_done bytes d row rows = plain_read bytes (defined_unread d row rows)
 
--- the cells of lines, behind the prefixes of their containers
+-- the cells of lines, after the prefixes of their containers
 abbrev pub lines_cells : ParseOptions → List ℕ → Row → List Row → List Cell
 lines_cells options bytes row rows =
     let w = part_world bytes options (chunks_of row rows) in text_feed w.setting w.point
 
--- how many lines a definition takes behind its first one
+-- how many lines a definition takes after its first one
 abbrev pub further_lines : DefinitionParts → Row → ℕ
 further_lines d row = (definition_end d).line - row.first.line
 
--- behind a definition: the ending of its last line, what stands in front of the next line, and what that begins
+-- after a definition: the ending of its last line, what is before the next line, and what that begins
 abbrev pub behind_cut : (Row → List Row → List Event) → Row → List Row → List Event
 behind_cut more last [] = []
 behind_cut more last (next ∷ rows) = ending_events n.LineEnding last ++ next.front ++ more next rows
@@ -365,7 +365,7 @@ cut_at_most defined text options bytes (suc n) row rows =
     cut_by defined text (cut_at_most defined text options bytes n)
     (definition_in options (lines_cells options bytes row rows)) row rows
 
--- what stands in the place of the lines of a text, once they are read: its definitions, and the leaf of what remains
+-- what is in the place of the lines of a text, once they are read: its definitions, and the leaf of what remains
 abbrev pub text_done : ParseOptions → List ℕ → Row → List Row → List Event
 text_done options bytes row rows =
     cut_at_most (defined_done bytes) (lines_done bytes) options bytes (suc (length rows)) row rows
@@ -381,9 +381,9 @@ turned_done options bytes row rows under =
     cut_at_most (defined_done bytes) (heading_done bytes under) options bytes (suc (length rows)) row rows
 
 -- The lines of a leaf of several, joined. A line is a pair of its own, from its begin to its end; but a blank line in
--- indented code is bare, without them, since it may be behind the code. What the first line adds but its end,
--- what a further one adds but its begin and its end, and the end of the last that has one are one block; between its
--- lines are an ending in the leaf, and prefixes. Bare lines behind it are whitespace.
+-- indented code is bare, without them, since it may be after the code. What the first line adds but its end, what a
+-- further one adds but its begin and its end, and the end of the last that has one are one block; between its lines are
+-- an ending in the leaf, and prefixes. Bare lines after it are whitespace.
 
 -- Of a group: its first line and its last, what its last line is, and its leaf.
 
@@ -422,7 +422,7 @@ group_done options bytes (Turned row rows under) = turned_done options bytes row
 group_done options bytes (Headed row next rows) = headed_done bytes row next rows
 group_done options bytes (LeafLines row rows) = span_done bytes row rows
 
--- what stands in front of its first line, its leaf, and what stands behind its last line
+-- what is before its first line, its leaf, and what follows its last line
 abbrev pub group_events : ParseOptions → List ℕ → Group → List Event
 group_events options bytes group =
     front_done bytes (first_row group) ++ group_done options bytes group

@@ -1,10 +1,10 @@
--- What stands between two lines: what was read of the text, what the tokenizer knows, and what is open by the line
+-- What is between two lines: what was read of the text, what the tokenizer knows, and what is open by the line
 -- definition.
 --
 -- The events before a line, without the ends of the containers that the line closes, spell the finished blocks, and the
--- open leaf as if it ended there. What is still open, and may go on, is told by the flags. What the tokenizer holds of
--- a container is said in `Registry`, and of the open leaf in `HeldLeaf`. Items are meant as they stand before their
--- resolver puts lists around them.
+-- open leaf as if it ended there. What is still open, and may continue, is known from the flags. What the tokenizer
+-- holds of a container is said in `Registry`, and of the open leaf in `HeldLeaf`. Items are meant as they are before
+-- their resolver puts lists around them.
 use Rattle.md_frame.specs.HeldLeaf.{MatchesLeaf, kind_of_leaf}
 use Rattle.md_registry.specs.OpenSpan.{IsBuiltLeaf}
 use Rattle.md_engine.specs.declared.tokenizer.held_leaf.HeldLeaf.{HeldLeaf}
@@ -55,7 +55,7 @@ containers_of (Within before container p) = container ∷ containers_of p
 abbrev pub still_of : Path → HeldLeaf
 still_of p = kind_of_leaf (spot p).leaf
 
--- Between two lines, this was read, and these flags tell what is open.
+-- Between two lines, this was read, and these flags show what is open.
 pub record StandsFor (options : ParseOptions) (g : Flags) (r : Reading) (p : Path) : Type 0 where
   pub containers : AreOpen g.containers (containers_of p)
   pub leaf : MatchesLeaf g.leaf (spot p).leaf

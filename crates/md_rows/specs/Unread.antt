@@ -10,7 +10,7 @@ use Rattle.md_frame.specs.Row.{Row, last_row, span_by}
 use Rattle.md_table_rooms.specs.Headed.{headed_row}
 use Rattle.md_rows.specs.Rows.{Group, Headed, Lines, Single, LeafLines, Turned, row_events, rows_events, tail_events}
 
--- A line of text that was read again as a head, and the lines that go on it.
+-- A line of text that was read again as a head, and the lines that continue it.
 abbrev pub headed_lines : List ℕ → Row → Row → List Row → List Event
 headed_lines bytes row next rows =
     (row.front ++ (headed_row bytes row).inside ++ tail_events n.LineEnding row) ++ rows_events (next ∷ rows)

@@ -1,2 +1,2 @@
-// The lines of a text as rows and groups, and the events that stand for them.
+// The lines of a text as rows and groups, and the events that represent them.
 #![tactic(auto)]

@@ -1,4 +1,4 @@
--- What is known of the whitespace in front of a line, as a state is fed it.
+-- What is known of the whitespace before a line, as a state is fed it.
 use Rattle.std.proofs.Common.{◌≡◌, ℕ, zero, suc, ◌≤◌, Bool, true, false, cond, nat_eq, List, [], ◌∷◌, length, refl, ap}
 use Rattle.std.proofs.Common.{arith}
 use Rattle.std.proofs.lemmas.Bool.Decides.{nat_tests}
@@ -13,7 +13,7 @@ use Rattle.md_seam.specs.Spaces.{any_size, small_indent}
 pub white-no_ending : (c : ℕ) → is_white c ≡ true → nat_eq c 10 ≡ false
 white-no_ending c s = grind (arith, nat_tests)
 
--- behind its whitespace a line ends where it ends
+-- after its whitespace a line ends where it ends
 pub white-ending : (room : ℕ) (cells : List Cell) → from_ending (white_rest room cells) ≡ from_ending cells
 white-ending room [] = refl
 white-ending zero (c ∷ cs) = refl

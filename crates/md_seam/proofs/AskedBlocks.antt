@@ -1,7 +1,7 @@
 -- Which parts an inline layer is asked for: the text parts of a document, each once, and none but these.
 --
--- Events that begin no part may stand in front of those of a block list, as the byte order mark does: nothing is asked
--- for them, and they stay as they are.
+-- Events that begin no part may be before those of a block list, as the byte order mark does: nothing is asked for
+-- them, and they stay as they are.
 use Rattle.std.proofs.Common.{◌≡◌, ℕ, suc, inl, Bool, true, List, [], ◌∷◌, ◌++◌, length, refl, ap, sym, ◌∙◌}
 use Rattle.std.proofs.Common.{subst, append_assoc}
 use Rattle.std.specs.Prelude.{Option, Some, None, is_none}
@@ -43,7 +43,7 @@ stays-unwanted wants e h = go (wanted wants e) h
     go None h = refl
     go (Some held) h = cc
 
--- Behind events that stay.
+-- After events that stay.
 
 pub asked-behind : (wants : Content → Bool) (asked : Asked) (front items : List Event) →
     list_all (stays wants) front ≡ true → EachAsked wants asked 0 (front ++ items) → EachAsked wants asked 0 items
@@ -85,7 +85,7 @@ asked-walk P (Begins {e = e} {f = f} {es = es} {left = left} {held = held} is li
 asked-walk P (GoesOn {e = e} {f = f} {es = es} {left = left} is walk) each =
     subst (AskedBy wants_text (AskedFor P) (suc (length left)) e f es) (sym is.holds) (asked-walk P walk each)
 
--- each part of a list stands among them
+-- each part of a list is among them
 each-among : (all before rest : List Part) → all ≡ before ++ rest →
     EachPart (λ (part : Part). (front behind : List Part) × (all ≡ front ++ part ∷ behind)) rest
 each-among all before [] is = tt

@@ -9,7 +9,7 @@ use Rattle.md_seam.specs.declared.inline.Chunk.{Chunk}
 use Rattle.md_seam.specs.Substituted.{Asked, Begun, EachAsked, chunk_of, chunks_behind, chunks_from, stays, wanted}
 use Rattle.md_seam.proofs.SubstitutedLemmas.{two-left}
 
--- what may be asked behind two events, by what a chunk that begins with the first holds
+-- what may be asked after two events, by what a chunk that begins with the first holds
 abbrev pub AskedBy : (Content → Bool) → Asked → ℕ → Event → Event → List Event → Option Content → Type 0
 AskedBy wants asked chunks e f es o = elim o [
   | None ↦ EachAsked wants asked chunks (f ∷ es)
@@ -62,7 +62,7 @@ asked-events wants asked n (e ∷ es) each =
         rw (k, more) (behind (asked-event wants asked n e es (inl k) each))
     go (Some held) k behind = rw k each
 
--- an event that stays, as no chunk begins there, and those behind it up to the next chunk
+-- an event that stays, as no chunk begins there, and those after it up to the next chunk
 pub asked-stays : (wants : Content → Bool) (asked : Asked) (rest : List Event) (chunks many : ℕ) (e : Event) →
     rest ≡ e ∷ drop 1 rest → (wanted wants e ≡ None) ⊎ (drop 1 rest ≡ []) →
     many ≡ suc (prefix_len (stays wants) (drop 1 rest)) → EachAsked wants asked chunks rest →
@@ -87,7 +87,7 @@ asked-part wants asked rest chunks d content h some each none =
     (subst (EachAsked wants asked chunks) split each)) in
     subst (λ (l : List Event). asked content (chunks_from wants l)) (sym split) begun.0
 
--- a chunk is read, and those that are left go on the part
+-- a chunk is read, and those that are left continue the part
 pub asked-next : (wants : Content → Bool) (asked : Asked) (reads : List Event → Type 0) (rest left now : List Event)
     (chunks many chunks_left : ℕ) (d : Event) (content : Content) →
     1 < length rest → Some content ≡ wanted wants (get_or rest 0 d) →

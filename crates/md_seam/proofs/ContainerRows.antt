@@ -30,7 +30,7 @@ row-lazy : Row lazy_text lazy_events lazy_tree
 unfolding spelled keeps_grammar kind_at
 row-lazy = (refl, refl, refl, search rules, search rules, search rules, search rules)
 
--- a quote whose second line has the prefix, behind a space: "> a\n > b"
+-- a quote whose second line has the prefix, after a space: "> a\n > b"
 abbrev pub prefix_text : List ℕ
 prefix_text = codes "> a" ++ 10 ∷ codes " > b"
 
@@ -166,7 +166,7 @@ row-nested : Row nested_text nested_events nested_tree
 unfolding spelled keeps_grammar kind_at
 row-nested = (refl, refl, refl, search rules, search rules, search rules, search rules)
 
--- an open fence whose container ends behind a blank line: "- ```\n\nb"
+-- an open fence whose container ends after a blank line: "- ```\n\nb"
 abbrev pub left_fence_text : List ℕ
 left_fence_text = codes "- ```" ++ 10 ∷ 10 ∷ codes "b"
 
@@ -222,7 +222,7 @@ row-shared-tab : Row shared_tab_text shared_tab_events shared_tab_tree
 unfolding spelled keeps_grammar kind_at
 row-shared-tab = (refl, refl, refl, search rules, search rules, search rules, search rules)
 
--- code behind tabs that are cut: ">\t\ta"
+-- code after tabs that are cut: ">\t\ta"
 abbrev pub tabs_text : List ℕ
 tabs_text = codes ">" ++ 9 ∷ 9 ∷ codes "a"
 
@@ -350,7 +350,7 @@ row-cut-chunk : Row cut_chunk_text cut_chunk_events cut_chunk_tree
 unfolding spelled keeps_grammar kind_at
 row-cut-chunk = (refl, refl, refl, search rules, search rules, search rules, search rules)
 
--- a setext heading behind a definition in a quote: "> [a]: b\n> c\n> ="
+-- a setext heading after a definition in a quote: "> [a]: b\n> c\n> ="
 abbrev pub behind_definition_text : List ℕ
 behind_definition_text = codes "> [a]: b" ++ 10 ∷ codes "> c" ++ 10 ∷ codes "> ="
 
@@ -397,7 +397,7 @@ row-behind-definition : Row behind_definition_text behind_definition_events behi
 unfolding spelled keeps_grammar kind_at
 row-behind-definition = (refl, refl, refl, search rules, search rules, search rules, search rules)
 
--- a table behind a paragraph in a quote, its head a lazy line: "> a\nb|c\n> -|-"
+-- a table after a paragraph in a quote, its head a lazy line: "> a\nb|c\n> -|-"
 abbrev pub lazy_head_text : List ℕ
 lazy_head_text = codes "> a" ++ 10 ∷ codes "b|c" ++ 10 ∷ codes "> -|-"
 

@@ -1,4 +1,4 @@
--- What stands in the place of each chunk of a part, cut out of what was read for the whole part.
+-- What is in the place of each chunk of a part, cut out of what was read for the whole part.
 use Rattle.std.proofs.Common.{◌≡◌, ℕ, suc, ◌+◌, ◌<◌, Bool, true, cond, List, [], ◌∷◌, ◌++◌, length, take, drop}
 use Rattle.std.proofs.Common.{ap, ◌∙◌, arith}
 use Rattle.std.specs.List.{list_all, prefix_len}
@@ -10,7 +10,7 @@ use Rattle.md_seam.specs.declared.inline.Chunk.{Chunk}
 use Rattle.md_seam.specs.Events.Inline.{cut_at, together}
 use Rattle.md_seam.specs.Substituted.{belongs, share}
 
--- All that was read stands in the places of the chunks.
+-- All that was read is in the places of the chunks.
 pub cut-together : (chunks : List Chunk) (events : List Event) → 0 < length chunks →
     together (cut_at chunks events) ≡ events
 cut-together [] events some = absurd (omega arith)
@@ -30,7 +30,7 @@ passing-front test (e ∷ front) behind all none =
     ap (λ (x : Bool). cond x (1 + prefix_len test (front ++ behind)) 0) both.0
     ∙ ap (λ (n : ℕ). 1 + n) (passing-front test front behind both.1 none) ∙ omega arith
 
--- what belongs to a chunk is cut off, where what stands behind it does not
+-- what belongs to a chunk is cut off, where what follows it does not
 pub cut-front : (chunk next : Chunk) (chunks : List Chunk) (front behind : List Event) →
     list_all (belongs chunk.after.index) front ≡ true → prefix_len (belongs chunk.after.index) behind ≡ 0 →
     cut_at (chunk ∷ next ∷ chunks) (front ++ behind) ≡ front ∷ cut_at (next ∷ chunks) behind

@@ -1,4 +1,4 @@
--- Where events lead a walk that tells the endings of blank lines from others.
+-- Where events lead a walk that shows the endings of blank lines from others.
 use Rattle.std.proofs.Common.{◌≡◌, Bool, true, false, ◌&&◌, List, [], ◌∷◌, ◌++◌, refl, ap, ◌∙◌, append_assoc}
 use Rattle.std.specs.List.{list_all}
 use Rattle.std.proofs.lemmas.Bool.{and_parts}
@@ -32,11 +32,11 @@ others-append xs ys h k = all-append (λ (e : Event). is_other (on_line e.name))
 abbrev pub in_leaf : Bool → EndingPlace
 in_leaf filled = record { in_leaf = true; after_leaf = filled }
 
--- behind a leaf, on its last line
+-- after a leaf, on its last line
 abbrev pub behind_leaf : EndingPlace
 behind_leaf = record { in_leaf = false; after_leaf = true }
 
--- events whose endings stand, and that lead from here to there
+-- events whose endings are, and that lead from here to there
 abbrev pub Leads : EndingPlace → EndingPlace → List Event → Type 0
 Leads s t xs = (ys : List Event) → endings_stand_from s (xs ++ ys) ≡ endings_stand_from t ys
 
@@ -44,7 +44,7 @@ Leads s t xs = (ys : List Event) → endings_stand_from s (xs ++ ys) ≡ endings
 pub leads-append : (s t u : EndingPlace) (xs ys : List Event) → Leads s t xs → Leads t u ys → Leads s u (xs ++ ys)
 leads-append s t u xs ys h k = λ zs. ap (endings_stand_from s) (append_assoc xs ys zs) ∙ h (ys ++ zs) ∙ k zs
 
--- other events lead nowhere, unless a leaf goes on over the begin of the line
+-- other events lead nowhere, unless a leaf continues over the begin of the line
 pub others-lead : (s : EndingPlace) (xs : List Event) → is_filled s ≡ s.after_leaf → AreOthers xs → Leads s s xs
 others-lead s [] same h = λ ys. refl
 others-lead s (e ∷ xs) same h = λ ys.
@@ -84,7 +84,7 @@ Stays xs = (from : Bool) → (to : Bool) × Leads (in_leaf from) (in_leaf to) xs
 abbrev pub Filling : List Event → Type 0
 Filling xs = (from : Bool) → Leads (in_leaf from) (in_leaf true) xs
 
--- with further ones behind them
+-- with further ones after them
 pub stays-append : (xs ys : List Event) → Stays xs → Stays ys → Stays (xs ++ ys)
 stays-append xs ys h k = λ from.
     let mid : Bool = (h from).0 in

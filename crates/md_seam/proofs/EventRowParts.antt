@@ -54,8 +54,8 @@ plain_lists bytes (part ∷ parts) = plain_chunks bytes part.chunks ∷ plain_li
 abbrev pub plain : List ℕ → List Event → List Event
 plain bytes blocks = filled blocks (together (plain_lists bytes (parts blocks)))
 
--- What can be decided of the events of a text: they stand at its points, keep the grammar, and each piece, chunk, part and
--- ending is what its name says, also once the plain layer has read the text parts.
+-- What can be decided of the events of a text: they are at its points, keep the grammar, and each piece, chunk, part
+-- and ending is what its name says, also once the plain layer has read the text parts.
 abbrev pub list_stands : List ℕ → List Event → Bool
 list_stands bytes blocks =
     let events = plain bytes blocks in
@@ -64,8 +64,8 @@ list_stands bytes blocks =
     && pieces_stand bytes (pieces blocks) && pieces_stand bytes (pieces events)
     && endings_stand blocks && endings_stand events
 
--- What holds of each text: that, its events spell out its tree, before and behind the plain layer, they nest and tile the
--- text, each part is read as it should be, and an empty text has none.
+-- What holds of each text: that, its events spell out its tree, before and after the plain layer, they nest and tile
+-- the text, each part is read as it should be, and an empty text has none.
 abbrev pub Row : List ℕ → List Event → t.Blocks → Type 0
 Row bytes blocks tree =
     IsTrue (list_stands bytes blocks) × (spelled blocks bytes ≡ tree) × (spelled (plain bytes blocks) bytes ≡ tree)

@@ -25,7 +25,7 @@ use Rattle.md_meaning.specs.Rest.{is_white}
 use Rattle.md_seam.proofs.PlacesLemmas.{at-next, drop-next}
 use Rattle.md_meaning.proofs.TextsLemmas.{Both, Ending, EndsBefore, LineFeed, NoEnding, Return, ending_bytes}
 
--- What stands in a text.
+-- What is in a text.
 
 pub past-next : (index : ℕ) (bytes : List ℕ) (b : ℕ) (rest : List ℕ) → drop index bytes ≡ b ∷ rest →
     drop (index + 1) bytes ≡ rest
@@ -64,7 +64,7 @@ feed-none x p small le = (text-follows x x.limit true small (omega arith) (λ e.
 
 -- The cells of a byte.
 
--- a column further within a tab, and behind a byte
+-- a column further within a tab, and after a byte
 abbrev pub next_column : Point → Point
 next_column p = record p { column = p.column + 1; vs = p.vs + 1 }
 
@@ -78,7 +78,7 @@ before-byte p q lt = grind (arith, nat_tests)
 pub before-column : (p : Point) → IsTrue (at_or_before p (next_column p))
 before-column p = grind (arith, nat_tests)
 
--- how many columns of a tab there are behind this one
+-- how many columns of a tab there are after this one
 abbrev pub columns_more : Point → ℕ
 columns_more p = 3 - (p.column + 3) % 4
 
@@ -102,7 +102,7 @@ abbrev pub spread : Line → List ℕ → Point → List Cell
 spread line [] p = []
 spread line (b ∷ bs) p = byte_cells line b p ++ spread line bs (past_byte b p)
 
--- behind a tab with so many more columns
+-- after a tab with so many more columns
 abbrev pub tab_end : ℕ → Point → Point
 tab_end n p = record { line = p.line; column = p.column + n + 1; index = p.index + 1; vs = 0 }
 
@@ -196,7 +196,7 @@ byte-feed x b p small lt is e vs one = go (b == 9) refl
 
 -- The cells of a line.
 
--- a piece of a line stands at the first column of a byte, as far as the text may be read
+-- a piece of a line is at the first column of a byte, as far as the text may be read
 pub record HasLine (x : Setting) (line rest : List ℕ) (p : Point) : Type 0 where
   pub small : x.limit < 2 ^ 61
   pub text : drop p.index x.bytes ≡ line ++ rest
@@ -205,7 +205,7 @@ pub record HasLine (x : Setting) (line rest : List ℕ) (p : Point) : Type 0 whe
   pub whole : p.vs ≡ 0
   pub column : 1 ≤ p.column
 
--- it is fed as its cells, and then what comes behind it
+-- it is fed as its cells, and then what comes after it
 pub line-feed : (x : Setting) (line rest : List ℕ) (p : Point) → HasLine x line rest p →
     text_feed x p ≡ spread x.line line p ++ text_feed x (past_text line p)
 line-feed x [] rest p h = refl
@@ -246,7 +246,7 @@ byte-end line b p one = go (b == 9) refl
         (λ (t : Bool).
         point_after (cond t (tab_cells line (columns_more p) 9 p) (cell b (past_byte b p) line ∷ [])) p) k
 
--- they end behind the line
+-- they end after the line
 pub spread-end : (line : Line) (bytes : List ℕ) (p : Point) → 1 ≤ p.column →
     point_after (spread line bytes p) p ≡ past_text bytes p
 spread-end line [] p one = refl
@@ -299,7 +299,7 @@ all-byte f e line b p = go (b == 9) refl
         list_all f (bytes_of (cond t (tab_cells line (columns_more p) 9 p) (cell b (past_byte b p) line ∷ [])))) k
         ∙ and_true (f b)
 
--- a test that does not tell spaces from tabs holds of all the cells' bytes if of all the line's
+-- a test that does not distinguish spaces from tabs holds of all the cells' bytes if of all the line's
 pub all-spread : (f : ℕ → Bool) → f 32 ≡ f 9 → (line : Line) (bytes : List ℕ) (p : Point) →
     list_all f (bytes_of (spread line bytes p)) ≡ list_all f bytes
 all-spread f e line [] p = refl
@@ -408,11 +408,11 @@ stops-white (c ∷ cs) h = let ten : c.byte ≡ 10 = eqb-true c.byte 10 h in ap 
 
 -- The cell of an ending.
 
--- behind an ending
+-- after an ending
 abbrev pub past_ending : Ending → Point → Point
 past_ending ending p = record { line = p.line + 1; column = 1; index = p.index + length (ending_bytes ending); vs = 0 }
 
--- an ending stands at a point, where the text may be read, and no prefix stands behind it
+-- an ending is at a point, where the text may be read, and no prefix is after it
 pub record HasEnding (x : Setting) (ending : Ending) (rest : List ℕ) (p : Point) : Type 0 where
   pub small : x.limit < 2 ^ 61
   pub text : drop p.index x.bytes ≡ ending_bytes ending ++ rest
@@ -424,7 +424,7 @@ pub record HasEnding (x : Setting) (ending : Ending) (rest : List ℕ) (p : Poin
 pub begun-none : (x : Setting) (p : Point) → x.skips ≡ [] → line_begun x p ≡ p
 begun-none x p e = ap (λ (l : List Point). begun_at (slice_get l (p.line - x.first_line)) p) e
 
--- what stands behind a CR that ends the line
+-- what follows a CR that ends the line
 at-none : (index : ℕ) (bytes : List ℕ) → drop index bytes ≡ [] → slice_index bytes index ≡ 0
 at-none zero [] e = refl
 at-none zero (c ∷ bytes) e = cc
@@ -436,7 +436,7 @@ none-next : (index : ℕ) (bytes rest : List ℕ) → drop (index + 1) bytes ≡
 none-next index bytes [] e h = ap (λ (c : ℕ). c == 10) (at-none (index + 1) bytes e)
 none-next index bytes (b ∷ rest) e h = ap (λ (c : ℕ). c == 10) (at-next (index + 1) bytes b rest e) ∙ h
 
--- the point behind it
+-- the point after it
 pub ending-step : (bytes : List ℕ) (ending : Ending) (rest : List ℕ) (p : Point) →
     drop p.index bytes ≡ ending_bytes ending ++ rest → EndsBefore ending rest →
     (is_ending (slice_index bytes p.index) ≡ true) × (next_point bytes p ≡ past_ending ending p)
@@ -511,7 +511,7 @@ ending-some LineFeed = omega arith
 ending-some Return = omega arith
 ending-some Both = omega arith
 
--- an ending stands between two points
+-- an ending is between two points
 pub record IsEnding (bytes : List ℕ) (p q : Point) : Type 0 where
   pub ending : Ending
   pub text : slice_range bytes p.index q.index ≡ ending_bytes ending
@@ -541,7 +541,7 @@ is-ending bytes ending rest p e h =
       column = refl;
     }
 
--- behind a piece of a line
+-- after a piece of a line
 pub past_text-whole : (line : List ℕ) (p : Point) → p.vs ≡ 0 → (past_text line p).vs ≡ 0
 past_text-whole [] p e = e
 past_text-whole (b ∷ bs) p e = past_text-whole bs (past_byte b p) refl

@@ -137,7 +137,7 @@ chunk-parts e f es chunk =
     (is_data e.name ≡ true) = and_parts (not (is_exit e.kind)) (is_data e.name) middle.0 in
     (enter-kind e.kind inner.0, inner.1, exit-kind f.kind middle.1, outer.1)
 
--- behind it one stands in the text part as in front of it
+-- after it one is in the text part as before it
 pub chunk-behind : (depth : ℕ) (e f : Event) (es : List Event) → is_chunk e (f ∷ es) ≡ true →
     chunks_stand (depth_behind e.kind (suc depth)) (f ∷ es) ≡ true → chunks_stand (suc depth) es ≡ true
 chunk-behind depth e f es chunk stands =
@@ -158,7 +158,7 @@ chunk-behind depth e f es chunk stands =
     (and_parts (cond (is_linked f) ((suc depth == 0) && is_chunk f es) (stands_in_part f.kind f.name))
     (chunks_stand (depth_behind f.kind (suc (suc depth))) es) behind).1
 
--- The lists that stand in the places of chunks.
+-- The lists that are in the places of chunks.
 
 abbrev pub EachInline : List (List Event) → Type 0
 EachInline [] = Unit {0}

@@ -10,23 +10,23 @@ use Rattle.md_seam.specs.Events.Places.{same_place}
 
 -- Pieces.
 
--- events one behind the other
+-- events one after the other
 pub left_of-append : (text : Expression) (stack : List Expression) (xs ys : List Event) →
     left_of text stack (xs ++ ys) ≡ left_of text (left_of text stack xs) ys
 left_of-append text stack [] ys = refl
 left_of-append text stack (e ∷ xs) ys = left_of-append text (left_behind text stack e.kind e.name) xs ys
 
--- events behind which that is left of this, whatever stands around it
+-- events after which that is left of this, whatever is around it
 abbrev pub Leads : Expression → List Expression → List Expression → List Event → Type 0
 Leads text from to es = (outer : List Expression) → left_of text (from ++ outer) es ≡ to ++ outer
 
--- what is left behind them
+-- what is left after them
 pub leads-rest : (text : Expression) (a b outer : List Expression) (xs ys : List Event) → Leads text a b xs →
     left_of text (a ++ outer) (xs ++ ys) ≡ left_of text (b ++ outer) ys
 leads-rest text a b outer xs ys h =
     left_of-append text (a ++ outer) xs ys ∙ ap (λ (l : List Expression). left_of text l ys) (h outer)
 
--- one behind the other
+-- one after the other
 pub leads-append : (text : Expression) (a b c : List Expression) (xs ys : List Event) → Leads text a b xs →
     Leads text b c ys →
     Leads text a c (xs ++ ys)
@@ -38,7 +38,7 @@ pub record IsWord (text : Expression) (from : List Expression) (es : List Event)
   pub leads : Leads text from (left ∷ []) es
   pub ends : may_end left ≡ true
 
--- a word behind such events
+-- a word after such events
 pub word-behind : (text : Expression) (a b : List Expression) (xs ys : List Event) → Leads text a b xs →
     IsWord text b ys → IsWord text a (xs ++ ys)
 word-behind text a b xs ys h w = record {
@@ -61,7 +61,7 @@ leads-around text x name p q es w outer =
     ∙ ap (λ (l : List Expression). left_of text l (exit name q ∷ [])) (w.leads (behind name x ∷ outer))
     ∙ leads-exit text w.left (behind name x) name q w.ends outer
 
--- What is left behind a part that may stand there or not.
+-- What is left after a part that may be there or not.
 abbrev pub maybe : Bool → Name → Expression → Expression
 maybe some name x = cond some (behind name x) x
 

@@ -1,4 +1,4 @@
--- Every byte of a text stands in a piece, where the pieces lie side by side from its first byte to its last.
+-- Every byte of a text is in a piece, where the pieces lie side by side from its first byte to its last.
 use Rattle.std.proofs.Common.{◌≡◌, ℕ, zero, suc, ◌<◌, Bool, true, false, cond, not, ◌&&◌, ◌||◌, List, [], ◌∷◌, ◌++◌}
 use Rattle.std.proofs.Common.{length, refl, ap, arith}
 use Rattle.std.specs.Prelude.{◌==◌, Option, Some, None}
@@ -37,7 +37,7 @@ over-named : (rule : Option (List ℕ → Bool)) (text : List ℕ) →
 over-named None text h = h
 over-named (Some over) text h = refl
 
--- so each piece that stands has the name of one
+-- so each piece that is has the name of one
 piece-named : (bytes : List ℕ) (piece : Piece) → piece_stands bytes piece ≡ true →
     (not piece.linked || is_piece_name piece.name) ≡ true → is_piece_name piece.name ≡ true
 piece-named bytes piece h k = go piece.linked last k
@@ -56,7 +56,7 @@ piece-named bytes piece h k = go piece.linked last k
     go true h k = k
     go false h k = over-named (piece_rule piece.name) text h
 
--- Where a byte stands.
+-- Where a byte is.
 
 -- a piece among further ones
 contains-next : (x y : Piece) (xs : List Piece) → Contains xs x → Contains (y ∷ xs) x
@@ -77,7 +77,7 @@ next-holds bytes first rest index h = record {
 pub same-before : (p q r : Point) → same_place p q ≡ true → at_or_before p r ≡ true → at_or_before q r ≡ true
 same-before p q r h k = grind (arith, nat_tests)
 
--- from a point at the byte or before, to one behind its first column
+-- from a point at the byte or before, to one after its first column
 pieces-hold : (bytes : List ℕ) (from to : Point) (list : List Piece) (index : ℕ) → Covers from list to →
     pieces_stand bytes list ≡ true → AreNamed list → at_or_before from (byte_point index) ≡ true →
     at_or_before to (byte_point index) ≡ false →
@@ -108,7 +108,7 @@ pieces-hold bytes from to (piece ∷ list) index covers stand named h k =
       name = piece-named bytes piece stands.0 names.0;
     }
 
--- no byte begins before the first point, and none behind the last
+-- no byte begins before the first point, and none after the last
 first-before : (index : ℕ) → at_or_before first_point (byte_point index) ≡ true
 first-before index = grind (arith, nat_tests)
 
@@ -148,7 +148,7 @@ pub all-called : (test : Name → Bool) (events : List Event) → list_all (is_c
 all-called test [] h = refl
 all-called test (e ∷ es) h = pieces-called test e es h
 
--- Every byte of a text stands in a piece of its events.
+-- Every byte of a text is in a piece of its events.
 pub bytes-held : (bytes : List ℕ) (events : List Event) → Covers first_point (pieces events) (end_point bytes) →
     pieces_stand bytes (pieces events) ≡ true → list_all is_named events ≡ true → (index : ℕ) → index < length bytes →
     Holds bytes (pieces events) index
@@ -174,7 +174,7 @@ chunk-data e (f ∷ es) h =
     true = (and_parts (not (is_exit e.kind) && is_data e.name) (is_exit f.kind) begun).0 in
     (and_parts (not (is_exit e.kind)) (is_data e.name) named).1
 
--- an event in a text part, where chunks stand only in text parts, and what stands behind it
+-- an event in a text part, where chunks are only in text parts, and what follows it
 inside-data : (depth : ℕ) (e : Event) (es : List Event) → chunks_stand (suc depth) (e ∷ es) ≡ true →
     (is_called is_data e ≡ true) × ((behind : ℕ) × (chunks_stand behind es ≡ true))
 inside-data depth e es h = go (is_part e.name) (is_linked e) h
@@ -232,7 +232,7 @@ pub chunks-named : (depth : ℕ) (events : List Event) → chunks_stand depth ev
     list_all is_named events ≡ true
 chunks-named depth events h = all-named events (chunks-data depth events h)
 
--- So every byte of a text stands in a piece of its block list.
+-- So every byte of a text is in a piece of its block list.
 pub blocks-held : (bytes : List ℕ) (blocks : List Event) → Covers first_point (pieces blocks) (end_point bytes) →
     pieces_stand bytes (pieces blocks) ≡ true → chunks_stand 0 blocks ≡ true → (index : ℕ) → index < length bytes →
     Holds bytes (pieces blocks) index

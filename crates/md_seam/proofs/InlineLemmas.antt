@@ -74,7 +74,7 @@ line-no_ending (b ∷ text) =
     go true e rest = tt
     go false e rest = (e, rest)
 
--- it stands at the front of the chunk, and so in the text
+-- it is at the front of the chunk, and so in the text
 line-next : (bytes : List ℕ) (chunk : Chunk) →
     (rest : List ℕ) × (drop chunk.first.index bytes ≡ without_ending (chunk_text bytes chunk) ++ rest)
 line-next bytes chunk =
@@ -300,7 +300,7 @@ plain-fills bytes p (chunk ∷ chunks) h =
 
 -- What it gives for each chunk is what is cut out for it.
 
--- an event that stands at a chunk's end, or before it
+-- an event that is at a chunk's end, or before it
 pair-belongs : (end : ℕ) (name : Name) (p q : Point) → (same_place p q ≡ false → p.index < end) → q.index ≤ end →
     list_all (belongs end) (pair_unless_empty name p q) ≡ true
 pair-belongs end name p q h k = go (same_place p q) refl
@@ -342,7 +342,7 @@ plain-belongs bytes chunk h whole =
     (pair-belongs chunk.after.index n.LineEnding end chunk.after (ending-bytes end chunk.after before whole)
     (omega arith))
 
--- what begins at a chunk's end, or behind it
+-- what begins at a chunk's end, or after it
 pair-behind : (end : ℕ) (name : Name) (p q : Point) (rest : List Event) → end ≤ p.index →
     prefix_len (belongs end) rest ≡ 0 → prefix_len (belongs end) (pair_unless_empty name p q ++ rest) ≡ 0
 pair-behind end name p q rest h none = go (same_place p q)

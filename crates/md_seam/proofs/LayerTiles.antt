@@ -1,6 +1,6 @@
 -- Documents whose text parts are read by any inline layer that keeps the promise of all layers: their events tile them.
 --
--- What the layer answers for a part is cut into what stands in the place of each chunk. Each of these lists covers its
+-- What the layer answers for a part is cut into what is in the place of each chunk. Each of these lists covers its
 -- chunk with its innermost pairs, and so the innermost pairs of all events lie side by side. Where a list ends with an
 -- enter and the next begins with an exit, as where a link goes over a line's end, they are one more pair, of no width.
 use Rattle.std.proofs.Common.{◌≡◌, ℕ, suc, Bool, true, false, cond, ◌&&◌, List, [], ◌∷◌, ◌++◌}
@@ -36,7 +36,7 @@ use Rattle.md_seam.proofs.PartWalks.{unlinked-unwanted, walk-blocks}
 use Rattle.md_seam.proofs.PartsLemmas.{EachPart, parts-are}
 use Rattle.md_seam.proofs.SubstitutedLemmas.{SubstitutedBy}
 
--- What stands in the places of chunks.
+-- What is in the places of chunks.
 
 pub filled-unlinked : (e : Event) (es : List Event) (lists : List (List Event)) → is_linked e ≡ false →
     e ∷ filled_from false es lists ≡ filled_from false (e ∷ es) lists
@@ -61,8 +61,8 @@ left-alone reads now chunks e [] out none s = ([], s, refl)
 left-alone reads now chunks e (f ∷ es) out none s =
     subst (SubstitutedBy wants_text (text_readings reads) now chunks e f es out) none s
 
--- The parts that are to come are read, part by part, and these lists stand in the places of their chunks, behind those
--- of the part that has begun.
+-- The parts that are to come are read, part by part, and these lists are in the places of their chunks, after those of
+-- the part that has begun.
 abbrev Reads : (Part → List Event → Type 0) → List Part → List Chunk → List Event → List Event → List Event → Type 0
 Reads reads parts left now es out =
     (lists : List (List (List Event))) × (each : EachRead reads parts lists)
@@ -179,7 +179,7 @@ covers-append p q r e (f ∷ es) more h k = go p e.kind f.kind h (λ o h. covers
     go p Enter Enter h next = next p h
     go p Exit other h next = next p h
 
--- events that are covered to a point go on to it,
+-- events that are covered to a point continue to it,
 covers-last : (p q : Point) (e : Event) (es : List Event) → at_or_before p e.point ≡ true → Forward e.point es →
     Covers p (pieces_from e es) q → at_or_before q (last_point e.point es) ≡ true
 covers-last p q e [] h forward covers = same-before p q e.point covers h
@@ -230,7 +230,7 @@ last_kind-from : (kind : Kind) (es : List Event) → last_kind kind es ≡ Exit 
 last_kind-from kind [] h = refl
 last_kind-from kind (e ∷ es) h = h
 
--- where nothing is open behind some events, the last is an exit
+-- where nothing is open after some events, the last is an exit
 closed-exit : (names : List Name) (es : List Event) → open_after names es ≡ [] → last_kind Exit es ≡ Exit
 closed-exit names [] h = refl
 closed-exit names (e ∷ es) h = go e.kind h (closed-exit (open_behind names e.kind e.name) es h)
@@ -255,8 +255,8 @@ balanced-enter e es balanced = go e.kind balanced.matches.0
 
 -- Event by event.
 
--- Behind an event of a block list, and behind one of what is read, covered to a point: they are the same, or the first
--- ends a chunk. Where chunks are left, none stands right inside of what begins there.
+-- After an event of a block list, and after one of what is read, covered to a point: they are the same, or the first
+-- ends a chunk. Where chunks are left, none is right inside of what begins there.
 data At (b c : Event) (left : List Chunk) (es : List Event) (from : Point) : Type 0 where
   Same : b ≡ c → (c.kind ≡ Enter → starts_linked es ≡ true → left ≡ []) → At b c left es from
   Cut : b.kind ≡ Exit → same_place from c.point ≡ true → (starts_exit es ≡ true → c.kind ≡ Exit) → At b c left es from
@@ -268,7 +268,7 @@ Covering bytes left es parts =
     Covers from (pieces_from b es) to → At b c left es from →
     Covers from (pieces_from c (filled_from false es (G ++ together gs))) to
 
--- what stands behind an event may change, where it is covered as before
+-- what follows an event may change, where it is covered as before
 piece-kept : (bytes : List ℕ) (b e : Event) (kind other : Kind) (from to : Point) (xs ys : List Piece) →
     pieces_stand bytes (piece_of b e kind other ++ xs) ≡ true → Covers from (piece_of b e kind other ++ xs) to →
     ((o : Point) → pieces_stand bytes xs ≡ true → Covers o xs to → Covers o ys to) →
@@ -354,8 +354,8 @@ piece-apart bytes piece h =
     not-true (same_place piece.first piece.after)
     (and_parts (not (same_place piece.first piece.after)) ((piece.first.vs == 0) || begins_in_tab piece.name) points.0).0
 
--- Where a chunk stood, something does that covers it, and begins with an exit only where what stood before it is covered
--- to the same place.
+-- Where a chunk was, something does that covers it, and begins with an exit only where what was before it is covered to
+-- the same place.
 cover-filled : (bytes : List ℕ) (left : List Chunk) (e f : Event) (es : List Event) (parts : List Part)
     (held : Content) (l : Event) (L : List Event) (G : List (List Event)) (gs : List (List (List Event)))
     (b c : Event) (from to : Point) →
@@ -416,7 +416,7 @@ cover-filled bytes left e f es parts held l L G gs b c from to is covering fills
     go Enter Enter joins = covers-from from e.point to (pieces_from l (L ++ rest)) covered.0 whole
     go Exit other joins = covers-from from e.point to (pieces_from l (L ++ rest)) covered.0 whole
 
--- something stands there
+-- something is there
 cover-chunk : (bytes : List ℕ) (left : List Chunk) (e f : Event) (es : List Event) (parts : List Part)
     (held : Content) (events : List Event) (G : List (List Event)) (gs : List (List (List Event)))
     (b c : Event) (from to : Point) →

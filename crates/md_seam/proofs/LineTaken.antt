@@ -18,7 +18,7 @@ use Rattle.md_seam.specs.WholeLine.{bytes_on, line_taken, whole_line}
 
 -- One byte more.
 
--- the next byte begins behind what stands in a line, which is a byte where one begins
+-- the next byte begins after what is in a line, which is a byte where one begins
 record SeesByte (x : Setting) (p : Point) (b : ℕ) : Type 0 where
   pub behind : whole_from (after x p) ≡ p.index + 1
   pub byte : p.vs ≡ 0 → slice_index x.bytes p.index ≡ b
@@ -60,7 +60,7 @@ whole-least p = go (nat_lt 0 p.vs)
     go true = omega arith
     go false = omega arith
 
--- behind what is taken it comes no earlier
+-- after what is taken it comes no earlier
 pub whole-behind : (x : Setting) (p : Point) (b : ℕ) → nat_eq b 10 ≡ false → looks_at x p ≡ Some b →
     whole_from p ≤ whole_from (after x p)
 whole-behind x p b line e = rw (sees-byte x p b line e).behind (whole-least p)
@@ -115,7 +115,7 @@ taken-more x s p c cs le next is line = go (nat_lt 0 p.vs) refl
         ∙ ap (λ (a : List ℕ). a ++ rest)
         (sym (bytes-more x.bytes s.start p.index c.byte from (saw.byte begins)) ∙ sym behind)
 
--- All of it stands in the text.
+-- All of it is in the text.
 
 abbrev Within : List ℕ → Point → Type 0
 Within bytes p = p.index ≤ length bytes → whole_from p ≤ length bytes
@@ -154,7 +154,7 @@ unfolding walked
 reached-within bytes p (zero, e) = subst (Within bytes) (sym e) (λ le. le)
 reached-within bytes p (suc n, e) = subst (Within bytes) (sym e) (next-within bytes (walked bytes n))
 
--- a byte within which a point lies stands in the text
+-- a byte within which a point lies is in the text
 pub placed-within : (bytes : List ℕ) (p : Point) → IsPlaced bytes p → whole_from p ≤ length bytes
 placed-within bytes p h = ∥∥₁_elim h.reached (hlevel props) (λ r. reached-within bytes p r h.index)
 

@@ -80,7 +80,7 @@ line-share bytes chunk chunks are =
 
 -- Which events are read.
 
--- the chunks that go on a part behind an event with no chunk
+-- the chunks that continue a part after an event with no chunk
 none-behind : (wants : Content → Bool) (e f : Event) (es : List Event) → wanted wants e ≡ None →
     chunks_behind wants (e ∷ f ∷ es) ≡ cond (is_prefix e.name) (chunks_behind wants (f ∷ es)) []
 none-behind wants e f es none =
@@ -127,7 +127,7 @@ lined-reads wants bytes asked reads law left count (e ∷ f ∷ es) asks ahead =
     behind : List Chunk
     behind = chunks_behind wants es
 
-    -- the chunks ahead stay the same behind an event of a prefix, and there are none behind another
+    -- the chunks ahead stay the same after an event of a prefix, and there are none after another
     pass : (x : Bool) (left : List Event) (count : ℕ) → 0 < count →
         Ahead bytes left count (cond x (chunks_behind wants (f ∷ es)) []) →
         Ahead bytes left count (chunks_behind wants (f ∷ es))
@@ -311,7 +311,7 @@ first-line wants bytes (e ∷ f ∷ es) chunk begins each =
         let now : IsLine bytes (chunk_of e f) × EachLine wants bytes es = subst (EachBy wants bytes e f es) k each in
         record { is = ap (LinedBy wants bytes e f es) k; line = now.0; each = now.1; two = omega arith }
 
--- what is given so far, with what stands in the places of the rest, behind the events that stay
+-- what is given so far, with what is in the places of the rest, after the events that stay
 pub given-run : (wants : Content → Bool) (bytes : List ℕ) (rest left before now all : List Event) →
     left ≡ drop (prefix_len (stays wants) rest) rest → now ≡ before ++ take (prefix_len (stays wants) rest) rest →
     before ++ lined wants bytes rest ≡ all → now ++ lined wants bytes left ≡ all
@@ -321,7 +321,7 @@ given-run wants bytes rest left before now all behind given so_far =
     (append_assoc before (take n rest) (lined wants bytes (drop n rest))
     ∙ ap (λ (l : List Event). before ++ l) (sym (lined-run wants bytes rest)) ∙ so_far)
 
--- and behind the first chunk
+-- and after the first chunk
 pub given-line : (wants : Content → Bool) (bytes : List ℕ) (rest left before now all : List Event) (chunk : Chunk) →
     FirstLine wants bytes rest chunk → left ≡ drop 2 rest → now ≡ before ++ plain_chunk bytes chunk →
     before ++ lined wants bytes rest ≡ all → now ++ lined wants bytes left ≡ all
@@ -330,7 +330,7 @@ given-line wants bytes rest left before now all chunk first behind given so_far 
     (append_assoc before (plain_chunk bytes chunk) (lined wants bytes (drop 2 rest))
     ∙ ap (λ (l : List Event). before ++ l) (sym first.is) ∙ so_far)
 
--- it begins behind those that stay
+-- it begins after those that stay
 pub begins-behind : (wants : Content → Bool) (l rest : List Event) (d : Event) (chunk : Chunk) →
     rest ≡ drop (prefix_len (stays wants) l) l → 1 < length rest →
     chunk ≡ chunk_of (get_or rest 0 d) (get_or rest 1 d) → BeginsWith wants chunk rest

@@ -1,4 +1,4 @@
--- What is known of a line by what stands first, and by what stands first behind whitespace.
+-- What is known of a line by what is first, and by what is first after whitespace.
 use Rattle.std.proofs.Common.{◌≡◌, ℕ, zero, suc, ◌+◌, ◌-◌, ◌%◌, ◌<◌, ◌≤◌, ◌⊎◌, inl, inr, Bool, true, false, cond, not}
 use Rattle.std.proofs.Common.{◌&&◌, List, [], ◌∷◌, length, take, nat_eq, nat_lt, Option, Some, None, refl, sym, ◌∙◌}
 use Rattle.std.proofs.Common.{ap, arith}
@@ -27,7 +27,7 @@ first-seen feed w s = rw s.next (go w.current)
     go None = refl
     go (Some b) = refl
 
--- What a feed that follows the text has behind whitespace.
+-- What a feed that follows the text has after whitespace.
 
 abbrev pub Along : Feed → Setting → Type 0
 Along feed x =
@@ -45,7 +45,7 @@ none-left x p (inl le) = range-none x.bytes p.index x.limit le
 none-left x p (inr le) =
     ap (take (x.limit - p.index)) (drop_all p.index x.bytes le) ∙ take-nil (x.limit - p.index)
 
--- a space, or a column of a tab, is white, and behind it the same byte is left or the next
+-- a space, or a column of a tab, is white, and after it the same byte is left or the next
 pub record IsWhiteAt (x : Setting) (p : Point) : Type 0 where
   pub white : is_white (seen_at x.bytes p) ≡ true
   pub behind : ((after x p).index ≡ p.index) ⊎ ((after x p).index ≡ p.index + 1)
@@ -92,7 +92,7 @@ dark-seen byte e = go (is_ending byte)
     go true = refl
     go false = e
 
--- the first byte behind whitespace is fed first behind it: a column of a tab at a time
+-- the first byte after whitespace is fed first after it: a column of a tab at a time
 seen-along : (feed : Feed) (x : Setting) (n : ℕ) (p : Point) (b : ℕ) → Along feed x → cells_left x.limit p ≤ n →
     first_behind (left_at x p) ≡ Some b → seen_behind (feed p) ≡ Some b
 seen-along feed x zero p b f le e =
@@ -143,7 +143,7 @@ seen-along feed x (suc n) p b f le e =
         let past : x.limit ≤ p.index = grind (arith, nat_tests) in
         let none : first_behind (left_at x p) ≡ None = ap first_behind (none-left x p (inl past)) in cc
 
--- what a tokenizer sees first behind whitespace, it is fed first behind whitespace
+-- what a tokenizer sees first after whitespace, it is fed first after whitespace
 pub seen-first : (feed : Feed) (w : World) (b : ℕ) → Sees feed w → looks_behind w ≡ Some b →
     seen_behind (feed w.point) ≡ Some b
 unfolding looks_behind
@@ -176,7 +176,7 @@ refused-first begins feed w s e = go (looks_behind w) refl e
     go None k e = cc
     go (Some b) k e = (b, seen-first feed w b s k, e)
 
--- What a line begins with behind an indent, of which whitespace may be left.
+-- What a line begins with after an indent, of which whitespace may be left.
 
 pub rest-begins : (room : ℕ) (cells : List Cell) (b : ℕ) → seen_behind cells ≡ Some b →
     (c : ℕ) × (first_seen (white_rest room cells) ≡ Some c) × ((is_white c ≡ true) ⊎ (c ≡ b))

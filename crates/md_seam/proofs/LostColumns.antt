@@ -21,7 +21,7 @@ use Rattle.md_seam.proofs.RestCells.{rest_cells, without_first}
 
 -- Whitespace between two points.
 
--- only whitespace stands from a point to another one of the line
+-- only whitespace is from a point to another one of the line
 pub record White (text : List ℕ) (p q : Point) : Type 0 where
   pub onward : IsTrue (at_or_before p q)
   pub index : p.index ≤ q.index
@@ -143,7 +143,7 @@ pub lose-bare : (m : ℕ) (r : Rest) → indent r ≡ 0 → lose m r ≡ r
 lose-bare zero r e = refl
 lose-bare (suc m) r e = ap (lose m) (bare-same r e) ∙ lose-bare m r e
 
--- behind a column of whitespace a rest begins a column further
+-- after a column of whitespace a rest begins a column further
 column-next : (r : Rest) → 0 < indent r → (without_first r).column ≡ r.column + 1
 column-next r = go r.spaces r.bytes
   where
@@ -160,7 +160,7 @@ column-next r = go r.spaces r.bytes
         by false f false g =
             let none : white_columns (r.column + 0) (b ∷ bs) ≡ 0 = rw (f, g) refl in absurd (omega (arith, lt, none))
 
--- so many columns are taken, or as many as there are: behind them the rest without them
+-- so many columns are taken, or as many as there are: after them the rest without them
 pub record HasLost (line : Line) (text behind : List ℕ) (m : ℕ) (r : Rest) (p : Point) (stop cells : List Cell)
     (q : Point) : Type 0 where
   pub left : white_rest m cells ≡ rest_cells line (lose m r) q ++ stop

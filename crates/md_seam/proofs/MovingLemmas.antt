@@ -48,7 +48,7 @@ piece-appended events old new all at many is so_far =
 
 -- Events are moved down piece by piece, by so many places.
 
--- so many more stand there,
+-- so many more are there,
 pub piece-down : (old now front back : List Event) (to from at gap many : ℕ) → gap ≡ from - to → to ≤ from → from ≤ at →
     at + many ≤ length now → many ≤ gap → length front ≡ at → back ≡ drop at now →
     take (at - gap + length (take many back)) front ≡ take (at - gap) (take at now) ++ take many back →
@@ -68,7 +68,7 @@ piece-down old now front back to from at gap many by low reached within small lo
     ∙ append_assoc (take to old) (take (at - from) (drop from old)) (take many (drop at old))
     ∙ ap (λ (l : List Event). take to old ++ l) (sym (held-many old from at many reached))
 
--- and behind them nothing has changed
+-- and after them nothing has changed
 pub piece-behind : (old now front back : List Event) (at many : ℕ) → length front ≡ at → back ≡ drop at now →
     drop at now ≡ drop at old → drop (at + many) (front ++ back) ≡ drop (at + many) old
 piece-behind old now front back at many long is behind =
@@ -77,7 +77,7 @@ piece-behind old now front back at many long is behind =
 
 -- Events are moved up piece by piece, by so many places, the last first.
 
--- so many more stand there,
+-- so many more are there,
 pub piece-up : (old now front back new : List Event) (end gap many : ℕ) → front ≡ take (end + gap) now →
     back ≡ drop (end + gap) now → many ≤ gap → end + gap + many ≤ length old → length front ≡ end + gap →
     length old ≡ length now →
@@ -114,7 +114,7 @@ piece-up old now front back new end gap many first is small within long size cop
     cut : (es : List Event) (n k : ℕ) → drop n (take (n + k) es) ≡ take k (drop n es)
     cut es n k = drop-take n k es
 
--- and in front of them nothing has changed
+-- and before them nothing has changed
 pub piece-before : (old now front new : List Event) (end gap many : ℕ) → front ≡ take (end + gap) now →
     length front ≡ end + gap → take (end + many + gap) now ≡ take (end + many + gap) old →
     take (end + gap) (front ++ new) ≡ take (end + gap) old

@@ -77,7 +77,7 @@ balanced-append xs ys b c = record {
   closed = open_after-append [] xs ys ∙ ap (λ (l : List Name). open_after l ys) b.closed ∙ c.closed;
 }
 
--- balanced events stand in front of others, under open names
+-- balanced events are before others, under open names
 pub matches-before : (names : List Name) (xs ys : List Event) → Balanced xs → Matches names ys →
     Matches names (xs ++ ys)
 matches-before names xs ys b m =
@@ -107,7 +107,7 @@ balanced-around e f inside entered left named b =
           ∙ ap (λ (k : Kind). open_behind (e.name ∷ []) k f.name) left;
     }
 
--- Balanced events may stand anywhere among others.
+-- Balanced events may be anywhere among others.
 
 -- Points.
 

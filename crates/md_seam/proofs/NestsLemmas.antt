@@ -1,4 +1,4 @@
--- Once its text parts are read, a block list is still nested, and stands at points of its text.
+-- Once its text parts are read, a block list is still nested, and is at points of its text.
 use Rattle.std.proofs.Common.{◌≡◌, ℕ, suc, Bool, true, false, cond, ◌&&◌, List, [], ◌∷◌, ◌++◌, length, refl, ap, sym}
 use Rattle.std.proofs.Common.{◌∙◌, subst, append_assoc, arith}
 use Rattle.std.specs.Prelude.{Option, Some, None, ◌==◌, not, IsTrue}
@@ -73,7 +73,7 @@ Outside es =
     (N : List Name) (gs : List (List (List Event))) → chunks_stand 0 es ≡ true → EachFills (parts es) gs →
     Matches N es → Does N (filled_from false es (together gs)) N es
 
--- `D` is open inside the part, and `X` was left open by what stands in the places of its chunks so far; `G` is still to
+-- `D` is open inside the part, and `X` was left open by what is in the places of its chunks so far; `G` is still to
 -- come
 abbrev Inside : List Event → Type 0
 Inside es =
@@ -392,7 +392,7 @@ first-all : (test : Event → Bool) (lists : List (List Event)) → list_all tes
 first-all test [] h = (refl, refl)
 first-all test (events ∷ lists) h = all-parts test events (together lists) h
 
--- what holds of each event of a block list and of what stands in its chunks' places
+-- what holds of each event of a block list and of what is in its chunks' places
 all-filled : (test : Event → Bool) (inside : Bool) (es : List Event) (lists : List (List Event)) →
     list_all test es ≡ true → list_all test (together lists) ≡ true → list_all test (filled_from inside es lists) ≡ true
 all-filled test inside [] lists h k = refl
@@ -429,7 +429,7 @@ placed-read bytes reads frame (part ∷ parts) (l ∷ lists) are each =
     (all-append (λ (e : Event). is_placed bytes e.point) (together l) (together (together lists))
     (frame part (together l) are.0 each.1).placed (placed-read bytes reads frame parts lists are.1 each.2))
 
--- The events of a list that tiles stand at points of the text, whatever the layer.
+-- The events of a list that tiles are at points of the text, whatever the layer.
 pub tiles-placed : (bytes : List ℕ) (reads : Part → List Event → Type 0) (events : List Event) →
     KeepsFrame bytes reads → Tiles reads bytes events → are_placed bytes events ≡ true
 tiles-placed bytes reads events frame tiles =

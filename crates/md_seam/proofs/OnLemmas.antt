@@ -51,7 +51,7 @@ then-on options (More a bs) b h k =
     let parts = and_parts (is_on options a) (are_on options bs) h in
     and_from (is_on options a) (are_on options (then_block bs b)) parts.0 (then-on options bs b parts.1 k)
 
--- definitions behind blocks
+-- definitions after blocks
 definitions-on : (options : ParseOptions) (bs : Blocks) (ds : List Defined) → options.constructs.definition ≡ true →
     are_on options bs ≡ true → are_on options (then_definitions bs ds) ≡ true
 definitions-on options bs [] on h = h
@@ -108,7 +108,7 @@ fence_block-on options o lines closed = go (o.marker == 36)
     go true = refl
     go false = refl
 
--- what a leaf comes to when it is closed
+-- what a leaf becomes when it is closed
 then_leaf-on : (options : ParseOptions) (bs : Blocks) (leaf : Leaf) → are_on options bs ≡ true →
     is_leaf_on options leaf ≡ true → are_on options (then_leaf options bs leaf) ≡ true
 then_leaf-on options bs NoLeaf h k = h
@@ -119,7 +119,7 @@ then_leaf-on options bs (OpenFence o lines) h k =
 then_leaf-on options bs (OpenHtml kind lines) h k = then-on options bs (Html lines) h k
 then_leaf-on options bs (OpenTable delimiter rows) h k = then-on options bs (Table delimiter rows) h k
 
--- what a leaf came to with a line: on, open or finished
+-- what a leaf became with a line: on, open or finished
 abbrev CameOn : ParseOptions → LeafResult → Type 0
 CameOn options (Opened leaf) = is_leaf_on options leaf ≡ true
 CameOn options (Finished block) = is_on options block ≡ true
@@ -140,7 +140,7 @@ code-on : (options : ParseOptions) (against : ParagraphContext) (r : Rest) →
 unfolding code_at
 code-on options against r = search (when-found, some-found, first_of_three)
 
--- indented code that goes on
+-- indented code that continues
 code_goes-on : (options : ParseOptions) (lines : List Line) (r : Rest) → options.constructs.code_indented ≡ true →
     Finds (code_goes_on lines r) (CameOn options)
 unfolding code_goes_on
@@ -162,12 +162,12 @@ fence_from-on : (options : ParseOptions) (columns : ℕ) (bytes : List ℕ) →
 fence_from-on options columns [] = none-found (CameOn options)
 fence_from-on options columns (m ∷ bytes) = search (when-found, some-found, first_of_three, marker-on)
 
--- an opening fence behind an indent
+-- an opening fence after an indent
 fence-on : (options : ParseOptions) (r : Rest) → Finds (fence_at options r) (CameOn options)
 unfolding fence_at
 fence-on options r = search (when-found, fence_from-on)
 
--- fenced code or math that goes on
+-- fenced code or math that continues
 fence_goes-on : (options : ParseOptions) (o : Opening) (lines : List Line) (r : Rest) →
     is_marker_on options o.marker ≡ true → CameOn options (fence_goes_on options o lines r)
 unfolding fence_goes_on
@@ -203,7 +203,7 @@ html-on : (options : ParseOptions) (against : ParagraphContext) (r : Rest) →
 unfolding html_at
 html-on options against r = search (when-found, html_by-on, first_of_two)
 
--- HTML that goes on
+-- HTML that continues
 html_goes-on : (options : ParseOptions) (kind : HtmlKind) (lines : List Line) (r : Rest) →
     options.constructs.html_flow ≡ true → Finds (html_goes_on kind lines r) (CameOn options)
 unfolding html_goes_on
@@ -215,13 +215,13 @@ starts-on : (options : ParseOptions) (against : ParagraphContext) (r : Rest) →
 unfolding starts
 starts-on options against r = search (first-found, code-on, fence-on, html-on, heading-on, break-on)
 
--- a table that goes on
+-- a table that continues
 table_goes-on : (options : ParseOptions) (delimiter : List ℕ) (rows : List (List (List ℕ))) (r : Rest) →
     options.constructs.gfm_table ≡ true → Finds (table_goes_on options delimiter rows r) (CameOn options)
 unfolding table_goes_on
 table_goes-on options delimiter rows r h = search (unless-found, some-found)
 
--- an open leaf that goes on
+-- an open leaf that continues
 goes-on : (options : ParseOptions) (leaf : Leaf) (r : Rest) → is_leaf_on options leaf ≡ true →
     Finds (goes_on options leaf r) (CameOn options)
 goes-on options NoLeaf r h = none-found (CameOn options)
@@ -234,11 +234,11 @@ goes-on options (OpenTable delimiter rows) r h = table_goes-on options delimiter
 
 -- Spots.
 
--- finished blocks and a leaf behind them
+-- finished blocks and a leaf after them
 abbrev SpotOn : ParseOptions → Innermost → Type 0
 SpotOn options s = (are_on options s.here ≡ true) × (is_leaf_on options s.leaf ≡ true)
 
--- what a leaf came to, behind blocks
+-- what a leaf became, after blocks
 came-on : (options : ParseOptions) (bs : Blocks) (c : LeafResult) → are_on options bs ≡ true → CameOn options c →
     SpotOn options (came bs c)
 came-on options bs (Opened leaf) h k = (h, k)

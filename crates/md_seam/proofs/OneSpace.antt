@@ -22,7 +22,7 @@ HasWhite T =
     (state : WhiteState) (w : World) (to : State) (new : World) →
     white_transition state w ≡ record { to = to; world = new } → T (n.SpaceOrTab state) w to new
 
--- an attempt at whitespace takes it, and what stands behind it is seen
+-- an attempt at whitespace takes it, and what follows it is seen
 pub space-run : (T : Step) (is_end : Bool) (s : State) (v : World) (next : StateName) (w : World) → HasWhite T →
     CameTo T is_end s v (n.SpaceOrTab its.Start) (white_then w 1 any_size (Next next) Nok).world →
     w.current ≡ looks w → Within w → IsOneSpace w → CameTo T is_end s v next (spaced w)

@@ -1,7 +1,7 @@
--- A block list, part by part: which of its events begin a text part that is read, which go on one, and which stay.
+-- A block list, part by part: which of its events begin a text part that is read, which continue one, and which stay.
 --
--- A text part stands in a block list as its chunks, one a line, with container prefixes between them. What a layer is
--- asked for, and what stands in the places of the chunks once it has answered, is told event by event along this walk.
+-- A text part is in a block list as its chunks, one a line, with container prefixes between them. What a layer is asked
+-- for, and what is in the places of the chunks once it has answered, is said event by event along this walk.
 use Rattle.std.proofs.Common.{◌≡◌, ℕ, suc, Bool, true, false, cond, ◌&&◌, List, [], ◌∷◌, ◌++◌, length, refl, ap, sym}
 use Rattle.std.proofs.Common.{◌∙◌, subst, arith}
 use Rattle.std.specs.Prelude.{Option, Some, None, ◌==◌, not}
@@ -42,8 +42,8 @@ abbrev pub starts_linked : List Event → Bool
 starts_linked [] = false
 starts_linked (e ∷ es) = is_linked e
 
--- Two events that are a chunk of this content. Where what follows ends something, it is the part, of which no chunks are
--- left.
+-- Two events that are a chunk of this content. Where what follows ends something, it is the part, of which no chunks
+-- are left.
 pub record IsLinkedChunk (e f : Event) (es : List Event) (left : List Chunk) (held : Content) : Type 0 where
   pub enters : e.kind ≡ Enter
   pub exits : f.kind ≡ Exit
@@ -55,10 +55,10 @@ pub record IsLinkedChunk (e f : Event) (es : List Event) (left : List Chunk) (he
 -- first chunk is still to come.
 pub data Walk : List Chunk → List Event → List Part → Type 0 where
   Ends : Walk [] [] []
-  -- an event that is no chunk; where a chunk stands right inside of what it begins, that is the first of its part
+  -- an event that is no chunk; where a chunk is right inside of what it begins, that is the first of its part
   Stays : {e : Event} {es : List Event} {left : List Chunk} {parts : List Part} → is_linked e ≡ false →
       (e.kind ≡ Enter → starts_linked es ≡ true → left ≡ []) → Walk left es parts → Walk left (e ∷ es) parts
-  -- the first chunk of a part, the others of which are those that go on it behind prefixes
+  -- the first chunk of a part, the others of which are those that continue it after prefixes
   Begins : {e f : Event} {es : List Event} {left : List Chunk} {parts : List Part} {held : Content} →
       IsLinkedChunk e f es left held → chunks_behind wants_text es ≡ left → Walk left es parts →
       Walk [] (e ∷ f ∷ es) ((record { kind = text_kind held; chunks = chunk_of e f ∷ left }) ∷ parts)
@@ -135,7 +135,7 @@ chunks-linked e f es enters exits linked =
     ∙ ap (λ (x : Bool). cond x (chunk_of e f ∷ chunks (pieces_from f es)) (chunks (pieces_from f es))) linked
     ∙ ap (λ (list : List Chunk). chunk_of e f ∷ list) (chunks-behind_exit f es exits)
 
--- the chunks that go on a part
+-- the chunks that continue a part
 behind-none : (e : Event) (es : List Event) → is_linked e ≡ false → is_prefix e.name ≡ false →
     chunks_behind wants_text (e ∷ es) ≡ []
 behind-none e [] unlinked other = refl
@@ -186,7 +186,7 @@ ends-none part N (g ∷ es) is m h = go g.kind g.name h m.0
     go Exit name h fits =
         ap (λ (x : Bool). chunks (pieces (cond (x && true) [] (g ∷ inside_part es)))) (ap is_part (sym fits) ∙ is)
 
--- no chunk stands inside of a prefix
+-- no chunk is inside of a prefix
 deep-unlinked : (depth : ℕ) (es : List Event) → chunks_stand (suc (suc depth)) es ≡ true → starts_linked es ≡ false
 deep-unlinked depth [] h = refl
 deep-unlinked depth (g ∷ es) h = go (is_part g.name) (is_linked g) h

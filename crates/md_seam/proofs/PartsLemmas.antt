@@ -28,7 +28,7 @@ use Rattle.md_seam.proofs.FilledLemmas.{EachInline, inline-role, spelled-filled}
 
 -- Parts of a block list may be read.
 
--- chunks behind a point stand behind an earlier one
+-- chunks after a point are after an earlier one
 pub order-from : (p q : Point) (list : List Chunk) → IsTrue (at_or_before p q) → in_order q list ≡ true →
     in_order p list ≡ true
 order-from p q [] h k = refl
@@ -168,7 +168,7 @@ whole-pieces bytes (piece ∷ list) stand called =
     and_from (is_whole piece) (list_all is_whole list) (whole-piece bytes piece stands.0 names.0)
     (whole-pieces bytes list stands.1 names.1)
 
--- behind the first event
+-- after the first event
 whole-behind : (e : Event) (es : List Event) → list_all is_whole (pieces_from e es) ≡ true →
     list_all is_whole (pieces es) ≡ true
 whole-behind e [] whole = refl

@@ -1,4 +1,4 @@
--- Points of a text, and the points behind pieces of its lines.
+-- Points of a text, and the points after pieces of its lines.
 use Rattle.std.proofs.Common.{◌≡◌, ℕ, zero, suc, ◌+◌, ◌-◌, ◌%◌, ◌<◌, ◌≤◌, Bool, true, false, cond, ◌&&◌, ◌||◌, List, []}
 use Rattle.std.proofs.Common.{◌∷◌, ◌++◌, length, take, drop, refl, ap, sym, ◌∙◌, subst, add-one, arith}
 use Rattle.std.specs.Prelude.{◌==◌, not, nat_lt, nat_le, slice_index}
@@ -17,7 +17,7 @@ use Rattle.md_meaning.proofs.TextsLemmas.{NoEnding, split-line}
 
 -- The last line grows by a byte that is no ending.
 
--- a byte behind the last of some lines
+-- a byte after the last of some lines
 abbrev pub onto_last : ℕ → List (List ℕ) → List (List ℕ)
 onto_last b [] = (b ∷ []) ∷ []
 onto_last b (line ∷ []) = (line ++ b ∷ []) ∷ []
@@ -98,7 +98,7 @@ length-onto_last b [] s = absurd s
 length-onto_last b (line ∷ []) s = refl
 length-onto_last b (line ∷ next ∷ lines) s = ap suc (length-onto_last b (next ∷ lines) tt)
 
--- the last line is that of those behind the first, where there are some
+-- the last line is that of those after the first, where there are some
 pub last-next : (line : List ℕ) (lines : List (List ℕ)) → Some_line lines → last_line (line ∷ lines) ≡ last_line lines
 last-next line [] s = absurd s
 last-next line (next ∷ lines) s = refl
@@ -120,7 +120,7 @@ columns-snoc : (column b : ℕ) (line : List ℕ) →
 columns-snoc column b [] = refl
 columns-snoc column b (c ∷ line) = columns-snoc (column_past c column) b line
 
--- Points behind bytes.
+-- Points after bytes.
 
 take-next : (index : ℕ) (bytes : List ℕ) (b : ℕ) (rest : List ℕ) → drop index bytes ≡ b ∷ rest →
     take (suc index) bytes ≡ take index bytes ++ b ∷ []
@@ -144,7 +144,7 @@ index-next (suc index) [] b rest e = cc
 index-next (suc index) (c ∷ bytes) b rest e =
     let h : suc index ≤ length bytes = index-next index bytes b rest e in omega arith
 
--- the column behind a tab is the same from within it
+-- the column after a tab is the same from within it
 same_stop : (column vs : ℕ) → vs < 4 - column % 4 → (column + vs) + (4 - (column + vs) % 4) ≡ column + (4 - column % 4)
 same_stop column vs h = omega arith
 
@@ -156,11 +156,11 @@ at-next zero (c ∷ bytes) b rest e = ap first_byte e
 at-next (suc index) [] b rest e = cc
 at-next (suc index) (c ∷ bytes) b rest e = at-next index bytes b rest e
 
--- later bytes stand elsewhere
+-- later bytes are elsewhere
 pub apart-later : (p q : Point) → p.index < q.index → same_place p q ≡ false
 apart-later p q h = grind (arith, nat_tests)
 
--- behind a byte that is no CR, no ending goes on
+-- after a byte that is no CR, no ending continues
 pub apart-behind : (bytes : List ℕ) (i : ℕ) → (slice_index bytes i == 13) ≡ false → splits_pair bytes (i + 1) ≡ false
 apart-behind bytes i h =
     and_right (nat_lt 0 (i + 1)) (is_pair bytes (i + 1 - 1))
@@ -214,7 +214,7 @@ placed-from bytes p h =
     (eq-eqb p.column (columns_before bytes p.index + p.vs + 1) h.column))
     (ap not h.apart)
 
--- the column behind a byte, from the columns before its point
+-- the column after a byte, from the columns before its point
 column-behind : (b before vs column : ℕ) → column ≡ before + vs + 1 →
     ((vs == 0) || ((b == 9) && nat_lt vs (tab_columns before))) ≡ true →
     column_past b (column - 1) ≡ column_past b before
@@ -235,7 +235,7 @@ column-behind b before vs column e h = go (b == 9) h
         small : vs < 4 - before % 4
         small = grind (arith, nat_tests)
 
--- The point behind a byte that is no ending is one of the text.
+-- The point after a byte that is no ending is one of the text.
 pub placed-byte : (bytes : List ℕ) (p : Point) (b : ℕ) (rest : List ℕ) → Placed bytes p →
     drop p.index bytes ≡ b ∷ rest → is_ending b ≡ false → Placed bytes (past_byte b p)
 placed-byte bytes p b rest placed next line =
@@ -269,7 +269,7 @@ placed-byte bytes p b rest placed next line =
           apart-behind bytes p.index (ap (λ (x : ℕ). x == 13) (at-next p.index bytes b rest next) ∙ no_return b line);
     }
 
--- So is the point behind a piece of a line.
+-- So is the point after a piece of a line.
 pub placed-text : (bytes : List ℕ) (p : Point) (text rest : List ℕ) → Placed bytes p →
     drop p.index bytes ≡ text ++ rest → NoEnding text → Placed bytes (past_text text p)
 placed-text bytes p [] rest placed next line = placed
@@ -277,7 +277,7 @@ placed-text bytes p (b ∷ text) rest placed next line =
     placed-text bytes (past_byte b p) text rest (placed-byte bytes p b (text ++ rest) placed next line.0)
     (ap (λ (i : ℕ). drop i bytes) (add-one p.index) ∙ drop-next p.index bytes b (text ++ rest) next) line.1
 
--- a fact of events that stand one after the other
+-- a fact of events that are one after the other
 pub all-append : (test : Event → Bool) (xs ys : List Event) → list_all test xs ≡ true → list_all test ys ≡ true →
     list_all test (xs ++ ys) ≡ true
 all-append test [] ys h k = k

@@ -8,7 +8,7 @@ use Rattle.md_engine.proofs.ClassLemmas.{AreHere, fewer-here, further, no-ending
 use Rattle.md_seam.specs.Events.Places.{past_byte, past_text}
 use Rattle.md_seam.proofs.PlainSteps.{line-step, line_left}
 
--- the point behind bytes that are neither tabs nor endings
+-- the point after bytes that are neither tabs nor endings
 abbrev pub ahead : ℕ → Point → Point
 ahead n p = record p { column = p.column + n; index = p.index + n }
 
@@ -18,7 +18,7 @@ further-ahead zero p none =
     rw (← same p.column, ← same p.index) refl
 further-ahead (suc n) p none = ap (λ (m : ℕ). record (ahead (suc n) p) { vs = m }) (sym none)
 
--- the point behind one more
+-- the point after one more
 past-further : (b n : ℕ) (p : Point) → 1 ≤ p.column → (b == 9) ≡ false → past_byte b (further n p) ≡ further (suc n) p
 past-further b zero p first plain =
     let column : p.column - 1 + 1 + 1 ≡ p.column + 1 = omega (arith, first) in
@@ -39,7 +39,7 @@ line-further bytes (suc n) end p first low h =
     ∙ line-step bytes (further n p) end here.0 low plain.0
     ∙ line-further bytes n end p first low (fewer-here Text n bytes end p h)
 
--- what is left behind them leads to the same end
+-- what is left after them leads to the same end
 pub line-run : (bytes : List ℕ) (end n : ℕ) (p : Point) → 1 ≤ p.column → p.vs ≡ 0 → end ≤ length bytes → p.index ≤ end →
     IsSpan Text (slice_range bytes p.index end) n →
     past_text (line_left bytes (ahead n p) end) (ahead n p) ≡ past_text (line_left bytes p end) p

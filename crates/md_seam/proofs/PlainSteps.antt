@@ -65,14 +65,14 @@ line-stop bytes p end h k ends =
 pub line-end : (bytes : List ℕ) (p : Point) (end : ℕ) → end ≤ p.index → line_left bytes p end ≡ []
 line-end bytes p end h = ap without_ending (range-none bytes p.index end h)
 
--- behind a byte of a line, what is left leads to the same end
+-- after a byte of a line, what is left leads to the same end
 pub line-step : (bytes : List ℕ) (p : Point) (end : ℕ) → p.index < end → end ≤ length bytes →
     is_ending (slice_index bytes p.index) ≡ false →
     past_text (line_left bytes (past_byte (slice_index bytes p.index) p) end) (past_byte (slice_index bytes p.index) p) ≡
     past_text (line_left bytes p end) p
 line-step bytes p end h k plain = sym (ap (λ (l : List ℕ). past_text l p) (line-more bytes p end h k plain))
 
--- Behind the line of a chunk is its ending.
+-- After the line of a chunk is its ending.
 
 split-none : (text : List ℕ) → split_lines text ≡ [] ∷ [] → text ≡ []
 split-none [] e = refl

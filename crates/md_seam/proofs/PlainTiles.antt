@@ -16,7 +16,7 @@ use Rattle.md_seam.proofs.SubstitutedLemmas.{SubstitutedBy}
 abbrev plain_readings : List ℕ → Readings
 plain_readings bytes = text_readings (λ part answer. answer ≡ plain_events bytes part)
 
--- so is each part that is still to come, behind what is left of the part that has begun
+-- so is each part that is still to come, after what is left of the part that has begun
 plain-walk : (bytes : List ℕ) {left : List Chunk} {es : List Event} {parts : List Part} → Walk left es parts →
     EachPart (IsPart bytes) parts → (now out : List Event) →
     Substituted wants_text (plain_readings bytes) now (length left) es out →

@@ -1,4 +1,4 @@
--- The order of the points of a text: each one but the first is a step behind another one.
+-- The order of the points of a text: each one but the first is a step after another one.
 use Rattle.std.proofs.Common.{◌≡◌, ℕ, zero, suc, ◌+◌, ◌%◌, ◌<◌, ◌≤◌, ◌⊎◌, inl, inr, Bool, true, false, cond, ◌&&◌}
 use Rattle.std.proofs.Common.{List, refl, ap, sym, ◌∙◌, subst, arith}
 use Rattle.std.specs.Prelude.{◌==◌, not, slice_index}
@@ -62,7 +62,7 @@ reached-same bytes p q (n, e) (m, f) i v = elim (cases_lt n m) [
   ]
 ]
 
--- the byte and the virtual spaces tell a point of a text
+-- the byte and the virtual spaces show a point of a text
 pub placed-same : (bytes : List ℕ) (p q : Point) → IsPlaced bytes p → IsPlaced bytes q → p.index ≡ q.index →
     p.vs ≡ q.vs → p ≡ q
 placed-same bytes p q h k i v =

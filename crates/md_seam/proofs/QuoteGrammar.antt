@@ -17,7 +17,7 @@ prefix_part marker past q =
     enter n.BlockQuotePrefix marker ∷ enter n.BlockQuoteMarker marker ∷ exit n.BlockQuoteMarker past
     ∷ pair_unless_empty n.SpaceOrTab past q ++ exit n.BlockQuotePrefix q ∷ []
 
--- it may stand where that is left behind it
+-- it may be where that is left after it
 leads-part : (text x : Expression) (marker past q : Point) →
     Leads text (x ∷ []) (behind n.BlockQuotePrefix x ∷ []) (prefix_part marker past q)
 leads-part text x marker past q outer = go (same_place past q)
@@ -30,7 +30,7 @@ leads-part text x marker past q outer = go (same_place past q)
     go true = refl
     go false = refl
 
--- a prefix may stand where that is left behind it, with whitespace in front of it or not
+-- a prefix may be where that is left after it, with whitespace before it or not
 pub leads-prefix : (text x y : Expression) (p marker past q : Point) → behind n.BlockQuotePrefix x ≡ y →
     behind n.BlockQuotePrefix (behind n.SpaceOrTab x) ≡ y →
     Leads text (x ∷ []) (y ∷ [])

@@ -1,4 +1,4 @@
--- The points that one comes to from the first are points of the text.
+-- The points that one reaches from the first are points of the text.
 use Rattle.std.proofs.Common.{◌≡◌, ℕ, zero, suc, ◌+◌, ◌-◌, ◌%◌, ◌<◌, ◌≤◌, Bool, true, false, cond, not, ◌&&◌, ◌||◌}
 use Rattle.std.proofs.Common.{List, [], ◌∷◌, ◌++◌, length, take, drop, refl, ap, sym, ◌∙◌, subst, add-one, append_assoc}
 use Rattle.std.proofs.Common.{length-append, arith}
@@ -36,7 +36,7 @@ ends_return-snoc [] b = refl
 ends_return-snoc (a ∷ []) b = refl
 ends_return-snoc (a ∷ c ∷ text) b = ends_return-snoc (c ∷ text) b
 
--- an LF behind a CR would be the end of its ending
+-- an LF after a CR would be the end of its ending
 abbrev StandsAfter : List ℕ → Ending → Type 0
 StandsAfter text LineFeed = ends_return text ≡ false
 StandsAfter text Return = Unit {0}
@@ -47,7 +47,7 @@ onto_first-snoc : (b : ℕ) (lines : List (List ℕ)) → Some_line lines →
 onto_first-snoc b [] s = absurd s
 onto_first-snoc b (line ∷ lines) s = refl
 
--- a byte ends a line before an ending where it does at the end, unless the ending goes on with it
+-- a byte ends a line before an ending where it does at the end, unless the ending continues with it
 ends-before : (b : ℕ) (bs : List ℕ) (ending : Ending) → StandsAfter (b ∷ bs) ending →
     ends_line b (bs ++ ending_bytes ending) ≡ ends_line b bs
 ends-before b [] LineFeed h = rw h refl
@@ -124,7 +124,7 @@ step-inside bytes p le = go (nat_lt p.index (length bytes)) refl
     go true k = grind (arith, nat_tests)
     go false k = let past : length bytes ≤ p.index = grind (arith, nat_tests) in omega (arith, beyond past)
 
--- behind an ending
+-- after an ending
 placed-ended : (bytes : List ℕ) (p : Point) (ending : Ending) (i : ℕ) → Placed bytes p → i ≤ length bytes →
     take i bytes ≡ take p.index bytes ++ ending_bytes ending → StandsAfter (take p.index bytes) ending →
     splits_pair bytes i ≡ false →
@@ -144,7 +144,7 @@ placed-ended bytes p ending i placed le taken after apart =
       apart = apart;
     }
 
--- behind another byte
+-- after another byte
 placed-past : (bytes : List ℕ) (p : Point) (b : ℕ) (q : Point) → Placed bytes p → p.index < length bytes →
     slice_index bytes p.index ≡ b → is_ending b ≡ false → past_byte b p ≡ q → Placed bytes q
 placed-past bytes p b q placed lt e line same =
@@ -206,7 +206,7 @@ same-behind b p some h =
     go true true k h = let stop : p.column % 4 ≡ 0 = eqb-true (p.column % 4) 0 k in omega (arith, some, stop)
     go true false k h = cc
 
--- no CR stands before an LF that is reached
+-- no CR is before an LF that is reached
 return-before : (bytes : List ℕ) (i : ℕ) → i ≤ length bytes →
     ends_return (take i bytes) ≡ (nat_lt 0 i && (slice_index bytes (i - 1) == 13))
 return-before bytes zero le = refl
@@ -280,7 +280,7 @@ placed-both bytes p h e k =
         ∙ take-next bytes (p.index + 1) 10 lt k
         ∙ ap (λ (t : List ℕ). t ++ 10 ∷ []) (take-next bytes p.index 13 (omega (arith, lt)) e)
 
--- The point behind what is seen at such a point is one.
+-- The point after what is seen at such a point is one.
 pub placed-next : (bytes : List ℕ) (p : Point) → Placed bytes p → (next_point bytes p).index ≤ length bytes →
     Placed bytes (next_point bytes p)
 placed-next bytes p h le =
@@ -330,7 +330,7 @@ index-behind bytes p =
     go false y true = omega arith
     go false y false = omega arith
 
--- So is each point within the text that one comes to.
+-- So is each point within the text that one reaches.
 pub placed-walked : (bytes : List ℕ) (n : ℕ) → (walked bytes n).index ≤ length bytes → Placed bytes (walked bytes n)
 unfolding walked
 placed-walked bytes zero le = record { index = le; within = refl; line = refl; column = refl; apart = refl }
@@ -338,7 +338,7 @@ placed-walked bytes (suc n) le =
     placed-next bytes (walked bytes n)
     (placed-walked bytes n (omega (arith, le, index-behind bytes (walked bytes n)))) le
 
--- A point within the text that one comes to has its line and column right, and stands inside no ending.
+-- A point within the text that one reaches has its line and column right, and is inside no ending.
 pub reached-placed : (bytes : List ℕ) (p : Point) → IsReached bytes p → p.index ≤ length bytes →
     is_placed bytes p ≡ true
 reached-placed bytes p (n, e) le =

@@ -5,7 +5,7 @@ use Rattle.md_engine.specs.declared.event.Event.{Event}
 use Rattle.md_engine.specs.Place.{IsPlaced}
 use Rattle.md_seam.specs.Parts.{ArePlaced}
 
--- some of the events that are left behind others
+-- some of the events that are left after others
 pub placed-place : (bytes : List ℕ) (all new more : List Event) (from many : ℕ) →
     new ≡ all ++ take many (drop from more) → ArePlaced bytes all → ArePlaced bytes more → ArePlaced bytes new
 placed-place bytes all new more from many is h k =

@@ -1,4 +1,4 @@
--- Events that tell a thing twice, or name a list wrongly: none is read as the tree of its text.
+-- Events that show a thing twice, or name a list wrongly: none is read as the tree of its text.
 use Rattle.std.proofs.Common.{◌≡◌, ℕ, ◌+◌, false, List, [], ◌∷◌, ◌++◌, refl, codes}
 use Rattle.std.specs.Prelude.{Some, None}
 use Rattle.md_engine.specs.declared.event.Point.{Point}
@@ -66,7 +66,7 @@ numbers-unordered : spelled (numbers n.ListUnordered) (codes "1. a") ≡ numbers
 unfolding spelled
 numbers-unordered = refl
 
--- What is told twice: the first stands.
+-- What is said twice: the first is.
 
 -- the digits of an item, in two parts: "12. a"
 digits-twice :
@@ -160,7 +160,7 @@ definition-twice :
 unfolding spelled
 definition-twice = refl
 
--- a title behind an empty one: "[a]: b '' 'c'"
+-- a title after an empty one: "[a]: b '' 'c'"
 title-twice :
     spelled
     (whole n.Definition 0 13

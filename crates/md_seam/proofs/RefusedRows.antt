@@ -17,7 +17,7 @@ use Rattle.md_seam.proofs.EventRowParts.{at, within_tab, chunk, string_chunk}
 
 -- How the lists are written.
 
--- a point on the first line, behind bytes of one column each
+-- a point on the first line, after bytes of one column each
 abbrev on : ℕ → Point
 on index = at 1 (index + 1) index
 
@@ -89,10 +89,10 @@ record Missing : Type 0 where
   empty_heading_text : parts_stand (codes "# a") (
       around n.HeadingAtx (on 0) (on 3) (pair n.HeadingAtxSequence (on 0) (on 1) ++ pair n.SpaceOrTab (on 1) (on 2)
       ++ pair n.HeadingAtxText (on 2) (on 3))) ≡ false
-  -- a thematic break behind its bytes, with nothing inside: "***"
+  -- a thematic break after its bytes, with nothing inside: "***"
   break_behind_its_bytes : keeps_grammar unread_text (
       pair n.SpaceOrTab (on 0) (on 3) ++ pair n.ThematicBreak (on 3) (on 3)) ≡ false
-  -- a quote with a break, both behind their bytes: "> ***"
+  -- a quote with a break, both after their bytes: "> ***"
   quote_behind_its_bytes : keeps_grammar unread_text (
       pair n.SpaceOrTab (on 0) (on 5) ++ around n.BlockQuote (on 5) (on 5) (pair n.ThematicBreak (on 5) (on 5))) ≡ false
   -- a thematic break without a sequence: "***"
@@ -220,7 +220,7 @@ missing = record {
   delimiters_without_filler = refl;
 }
 
--- What stands too often, or in the wrong place.
+-- What is too often, or in the wrong place.
 
 record Misplaced : Type 0 where
   -- content around a paragraph: "a"
@@ -230,7 +230,7 @@ record Misplaced : Type 0 where
       around n.Paragraph (on 0) (on 1) (paragraph (on 0) (on 1))) ≡ false
   -- two blocks on one line: "ab"
   two_blocks_on_a_line : keeps_grammar unread_text (paragraph (on 0) (on 1) ++ paragraph (on 1) (on 2)) ≡ false
-  -- a heading that reaches over the ending behind it: "# a\nb"
+  -- a heading that reaches over the ending after it: "# a\nb"
   heading_over_ending : keeps_grammar unread_text (
       around n.HeadingAtx (on 0) (at 2 1 4) (pair n.HeadingAtxSequence (on 0) (on 1)
       ++ pair n.SpaceOrTab (on 1) (on 2) ++ part n.HeadingAtxText (on 2) (on 3)
@@ -244,7 +244,7 @@ record Misplaced : Type 0 where
       around n.HeadingAtx (on 0) (on 5) (pair n.HeadingAtxSequence (on 0) (on 1) ++ pair n.SpaceOrTab (on 1) (on 2)
       ++ part n.HeadingAtxText (on 2) (on 3) ++ pair n.SpaceOrTab (on 3) (on 4)
       ++ part n.HeadingAtxText (on 4) (on 5))) ≡ false
-  -- an underline in front of its text: "=\na"
+  -- an underline before its text: "=\na"
   underline_in_front : keeps_grammar unread_text (
       around n.HeadingSetext (on 0) (at 2 2 3) (around n.HeadingSetextUnderline (on 0) (on 1)
       (pair n.HeadingSetextUnderlineSequence (on 0) (on 1)) ++ pair n.LineEnding (on 1) (at 2 1 2)
@@ -323,11 +323,11 @@ record Misplaced : Type 0 where
   two_items_on_a_line : keeps_grammar unread_text (
       around n.ListUnordered (on 0) (on 4) (around n.ListItem (on 0) (on 2) (bullet (on 0) (on 1) (on 2))
       ++ around n.ListItem (on 2) (on 4) (bullet (on 2) (on 3) (on 4)))) ≡ false
-  -- a list that reaches over the ending behind its last item: "- a\n"
+  -- a list that reaches over the ending after its last item: "- a\n"
   list_over_ending : keeps_grammar unread_text (
       around n.ListUnordered (on 0) (at 2 1 4) (around n.ListItem (on 0) (on 3) (bullet (on 0) (on 1) (on 2)
       ++ paragraph (on 2) (on 3)) ++ pair n.LineEnding (on 3) (at 2 1 4))) ≡ false
-  -- an item's value behind its marker: ".1"
+  -- an item's value after its marker: ".1"
   value_behind_marker : keeps_grammar unread_text (
       around n.ListOrdered (on 0) (on 2) (around n.ListItem (on 0) (on 2) (around n.ListItemPrefix (on 0) (on 2)
       (pair n.ListItemMarker (on 0) (on 1) ++ pair n.ListItemValue (on 1) (on 2))))) ≡ false
@@ -354,7 +354,7 @@ record Misplaced : Type 0 where
       (around n.GfmTableCell (on 0) (on 3) (part n.GfmTableCellText (on 0) (on 1) ++ pair n.SpaceOrTab (on 1) (on 2)
       ++ part n.GfmTableCellText (on 2) (on 3))) ++ pair n.LineEnding (on 3) (at 2 1 4)
       ++ delimiters (at 2 1 4) (at 2 2 5)))) ≡ false
-  -- frontmatter behind a paragraph: "a\n---\n---"
+  -- frontmatter after a paragraph: "a\n---\n---"
   frontmatter_behind : keeps_grammar unread_text (
       paragraph (on 0) (on 1) ++ pair n.LineEnding (on 1) (at 2 1 2) ++ around n.Frontmatter (at 2 1 2) (at 3 4 9)
       (front_fence (at 2 1 2) (at 2 4 5) ++ pair n.LineEnding (at 2 4 5) (at 3 1 6)
@@ -364,7 +364,7 @@ record Misplaced : Type 0 where
       around n.BlockQuote (on 0) (at 2 4 9) (quote_prefix (on 0) (on 1) (on 2)
       ++ around n.Frontmatter (on 2) (at 2 4 9) (front_fence (on 2) (on 5) ++ pair n.LineEnding (on 5) (at 2 1 6)
       ++ front_fence (at 2 1 6) (at 2 4 9)))) ≡ false
-  -- a byte order mark behind a paragraph: "a\n(mark)"
+  -- a byte order mark after a paragraph: "a\n(mark)"
   mark_behind : keeps_grammar unread_text (
       paragraph (on 0) (on 1) ++ pair n.LineEnding (on 1) (at 2 1 2) ++ pair n.ByteOrderMark (at 2 1 2) (at 2 4 5)) ≡
       false
@@ -413,13 +413,13 @@ misplaced = record {
 -- Line endings.
 
 record Endings : Type 0 where
-  -- an ending of a blank line behind a paragraph: "a\n"
+  -- an ending of a blank line after a paragraph: "a\n"
   blank_ending_behind_paragraph : endings_stand (
       paragraph (on 0) (on 1) ++ pair n.BlankLineEnding (on 1) (at 2 1 2)) ≡ false
-  -- an ending behind a blank line that is not called so: " \n"
+  -- an ending after a blank line that is not called so: " \n"
   ending_of_blank_line : endings_stand (
       pair n.SpaceOrTab (on 0) (on 1) ++ pair n.LineEnding (on 1) (at 2 1 2)) ≡ false
-  -- an ending behind a bare prefix that is not called that of a blank line: ">\n>"
+  -- an ending after a bare prefix that is not called that of a blank line: ">\n>"
   ending_of_bare_prefix : endings_stand (
       around n.BlockQuote (on 0) (at 2 2 3) (around n.BlockQuotePrefix (on 0) (on 1)
       (pair n.BlockQuoteMarker (on 0) (on 1)) ++ pair n.LineEnding (on 1) (at 2 1 2)
@@ -428,7 +428,7 @@ record Endings : Type 0 where
   blank_ending_in_code : endings_stand (
       around n.CodeFenced (on 0) (at 3 1 5) (fence (on 0) (on 3) ++ pair n.LineEnding (on 3) (at 2 1 4)
       ++ pair n.BlankLineEnding (at 2 1 4) (at 3 1 5))) ≡ false
-  -- an ending of a blank line behind the heading of an item: "- #\n"
+  -- an ending of a blank line after the heading of an item: "- #\n"
   blank_ending_behind_bare_item : endings_stand (
       around n.ListUnordered (on 0) (on 3) (around n.ListItem (on 0) (on 3) (bullet (on 0) (on 1) (on 2)
       ++ around n.HeadingAtx (on 2) (on 3) (pair n.HeadingAtxSequence (on 2) (on 3))))
@@ -567,10 +567,10 @@ record Unread : Type 0 where
   -- a chunk that begins between CR and LF: "a\r\nb"
   between_cr_and_lf : parts_stand (codes "a" ++ 13 ∷ 10 ∷ codes "b") (
       around n.Paragraph (on 0) (at 2 2 4) (chunk (on 0) (at 2 1 2) ++ chunk (at 2 1 2) (at 2 2 4))) ≡ false
-  -- a paragraph that begins one byte in front of its first chunk: " a"
+  -- a paragraph that begins one byte before its first chunk: " a"
   late_chunk : parts_stand (codes " a") (
       around n.Paragraph (on 0) (on 2) (pair n.SpaceOrTab (on 0) (on 1) ++ chunk (on 1) (on 2))) ≡ false
-  -- a paragraph that begins one byte in front of its first chunk, with nothing between: " a"
+  -- a paragraph that begins one byte before its first chunk, with nothing between: " a"
   early_part : parts_stand (codes " a") (around n.Paragraph (on 0) (on 2) (chunk (on 1) (on 2))) ≡ false
   -- two chunks on one line: "ab"
   two_chunks_on_a_line : parts_stand (codes "ab") (
@@ -608,7 +608,7 @@ record Points : Type 0 where
   tab_as_column : is_placed (9 ∷ codes "a") (at 1 2 1) ≡ false
   -- a point on the line before its own: "a\nb"
   earlier_line : is_placed (codes "a" ++ 10 ∷ codes "b") (at 1 3 2) ≡ false
-  -- a point behind the text: "a"
+  -- a point after the text: "a"
   behind_text : is_placed (codes "a") (at 1 3 2) ≡ false
   -- the LF of a CR LF, which is one ending
   pair_cut : is_placed (13 ∷ 10 ∷ []) (at 2 1 1) ≡ false

@@ -30,7 +30,7 @@ abbrev pub Cut : ℕ → Point → Type 0
 Cut zero p = p.vs ≡ 0
 Cut (suc n) p = (0 < p.vs) × (n ≡ columns_more p)
 
--- a rest of a line begins at a point of a text, and this stands behind it
+-- a rest of a line begins at a point of a text, and this is after it
 pub record RestAt (text behind : List ℕ) (r : Rest) (p : Point) : Type 0 where
   pub column : p.column ≡ r.column + 1
   pub cut : Cut r.spaces p
@@ -59,7 +59,7 @@ rest-end line r p one = go r.spaces
 abbrev pub without_first : Rest → Rest
 without_first r = without_column r.column r.spaces r.bytes
 
--- whitespace comes first: one cell of it, and behind it the rest without a column
+-- whitespace comes first: one cell of it, and after it the rest without a column
 pub record HasColumn (line : Line) (text behind : List ℕ) (r : Rest) (p : Point) : Type 0 where
   pub byte : ℕ
   pub at : Point
@@ -283,7 +283,7 @@ white-length (suc room) (c ∷ cs) = go (is_white c.byte) (white-length room cs)
     go true le = omega (arith, le)
     go false le = omega arith
 
--- so many columns of whitespace are taken, as many as there are: behind them the rest without its indent
+-- so many columns of whitespace are taken, as many as there are: after them the rest without its indent
 pub record HasIndent (line : Line) (text behind : List ℕ) (room : ℕ) (r : Rest) (p : Point) (stop : List Cell)
     (left : Rest) : Type 0 where
   pub cells : white_rest room (rest_cells line r p ++ stop) ≡

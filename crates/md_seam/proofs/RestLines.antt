@@ -1,4 +1,4 @@
--- The rest of a line by its cells: the line that they are, whether it is blank, and what stands behind its indent.
+-- The rest of a line by its cells: the line that they are, whether it is blank, and what follows its indent.
 use Rattle.std.proofs.Common.{◌≡◌, ℕ, zero, suc, ◌+◌, ◌-◌, ◌^◌, ◌<◌, ◌≤◌, Bool, true, false, cond, ◌||◌, List, [], ◌∷◌}
 use Rattle.std.proofs.Common.{◌++◌, drop, refl, sym, ap, ◌∙◌, append-nil, arith}
 use Rattle.std.specs.Prelude.{◌==◌, not, nat_le}
@@ -93,7 +93,7 @@ blank-cells line r p stop h k =
         blank-columns line n p (spread line r.bytes (tab_end n p))
         ∙ all-spread is_white refl line r.bytes (tab_end n p)
 
--- A rest ends before any cell where no byte of it stands in the text.
+-- A rest ends before any cell where no byte of it is in the text.
 pub end-cells : (line : Line) (r : Rest) (p : Point) (stop : List Cell) → NoEnding r.bytes → Stops stop →
     is_end (line_bytes (rest_cells line r p ++ stop)) ≡ is_end (cut_tab r.spaces ++ r.bytes)
 end-cells line r p stop h k =
@@ -147,7 +147,7 @@ count-one test b bs e = ap (λ (t : Bool). cond t (1 + prefix_len test bs) 0) e 
 pub count-none : (test : ℕ → Bool) (b : ℕ) (bs : List ℕ) → test b ≡ false → prefix_len test (b ∷ bs) ≡ 0
 count-none test b bs e = ap (λ (t : Bool). cond t (1 + prefix_len test bs) 0) e
 
--- whitespace that is lost in front of bytes does not count where all of it is dropped
+-- whitespace that is lost before bytes does not count where all of it is dropped
 pub trim-white : (b : ℕ) (bs : List ℕ) → is_white b ≡ true → trim_start (b ∷ bs) ≡ trim_start bs
 trim-white b bs e = ap (λ (n : ℕ). drop n (b ∷ bs)) (count-one is_white b bs e)
 
@@ -187,7 +187,7 @@ trim-lose : (n : ℕ) (r : Rest) → trim_start (lose n r).bytes ≡ trim_start 
 trim-lose zero r = refl
 trim-lose (suc n) r = trim-lose n (without_first r) ∙ trim-without r
 
--- where no indent is left, the bytes behind it are all but the whitespace in front
+-- where no indent is left, the bytes after it are all but the whitespace in front
 pub indent-trims : (r : Rest) → indent (behind_indent r) ≡ 0 → (behind_indent r).bytes ≡ trim_start r.bytes
 indent-trims r none =
     sym (bare-trims (behind_indent r).spaces (behind_indent r).bytes (bare (behind_indent r) none))

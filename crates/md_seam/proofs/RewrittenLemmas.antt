@@ -53,13 +53,13 @@ held-fewer events done read count le =
     ∙ drop-take count m (drop done events)
     ∙ ap (take m) (drop-drop count done events ∙ ap (λ (n : ℕ). drop n events) (omega arith)))
 
--- A list is made longer, and what is behind `done` is moved up by so many places.
+-- A list is made longer, and what is after `done` is moved up by so many places.
 
 pub made-longer : (events more : List Event) (end many : ℕ) → end ≡ length events →
     take (end + many) events ++ more ≡ events ++ more
 made-longer events more end many is = ap (λ (l : List Event). l ++ more) (take_all (end + many) events (omega arith))
 
--- then so is what is behind it
+-- then so is what is after it
 pub moved-behind : (events new : List Event) (done read many : ℕ) → done ≤ read →
     drop (done + many) new ≡ drop done events → drop (read + many) new ≡ drop read events
 moved-behind events new done read many le moved =

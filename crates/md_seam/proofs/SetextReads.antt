@@ -31,7 +31,7 @@ read-setext_text bytes r p q inside lines none opened between is =
     record r { leaf = Some (HeadingSetextLeaf (record { markers = []; text = trim_each x })) })
     (split-lines lines (text_to bytes q.index text) is)
 
--- The ending behind it, and the prefixes in front of its underline, say nothing.
+-- The ending after it, and the prefixes before its underline, say nothing.
 pub read-setext_gap : (bytes : List ℕ) (r : Reading) (p q : Point) (front : List Event) (heading : HeadingSoFar) →
     r.text ≡ None → r.leaf ≡ Some (HeadingSetextLeaf heading) → Roles QuietOrPrefix front →
     read bytes r (pair n.LineEnding p q ++ front) ≡ r

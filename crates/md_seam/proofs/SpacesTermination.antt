@@ -1,4 +1,4 @@
--- Whitespace stands and ends in any table that has it.
+-- Whitespace is and ends in any table that has it.
 use Rattle.std.proofs.Common.{◌≡◌, ℕ, ◌<◌, ◌≤◌, Bool, true, false, ◌&&◌, nat_lt, Option, Some, None, List, length, refl}
 use Rattle.std.proofs.Common.{arith, ap, sym, ◌∙◌, subst}
 use Rattle.std.specs.Prelude.{nat_le}
@@ -52,7 +52,7 @@ does-remain T name w a s w' e k d =
     let P : World → Type 0 = λ x. Remains s w x in
     subst P (sym k) (rw e d.0.2)
 
--- what stands here may be read, where a test that nothing passes holds of it
+-- what is here may be read, where a test that nothing passes holds of it
 pub seen-in : (x : Position) (t : Option ℕ → Bool) → t None ≡ false → t (seen x) ≡ true → x.point.index < x.setting.limit
 seen-in x t n e = go (nat_lt x.point.index x.setting.limit) refl
   where
@@ -67,7 +67,7 @@ seen-some x b e = go (nat_lt x.point.index x.setting.limit) refl
     go true k = grind (arith, nat_tests)
     go false k = let bad : (let o : Option ℕ = None in o) ≡ Some b = rw k at e in cc
 
--- where whitespace stands here, something does
+-- where whitespace is here, something does
 pub white-here : (w : World) (b : Bool) → w.current ≡ looks w → sees_white w.current && b ≡ true →
     w.point.index < w.setting.limit
 white-here w b c e = go w.current c e
@@ -76,7 +76,7 @@ white-here w b c e = go w.current c e
     go None k e = cc
     go (Some x) k e = seen-some (position w) x (sym k)
 
--- where the line does not end here, something stands here
+-- where the line does not end here, something is here
 pub goes-on : (w : World) → w.current ≡ looks w → ends_line w.current ≡ false → w.point.index < w.setting.limit
 goes-on w c e = go w.current c e
   where
@@ -94,7 +94,7 @@ rest-none s e = ap (λ (t : Scratch). t.whitespace.size) e
 pub rest-size : (s : Scratch) → IsRest s → s.size ≡ 0
 rest-size s e = ap (λ (t : Scratch). t.size) e
 
--- a construct that ends behind the cell that is here
+-- a construct that ends after the cell that is here
 pub accepts-behind : (T : Scheme) (n : StateName) (w : World) (P Q : Scratch → Type 0) (events : List Event)
     (s : Scratch) →
     w.point.index < w.setting.limit → Ends P Q (position w) (after_all T w.frames) → P s →
@@ -159,7 +159,7 @@ white_terminates T its.Start w has c r = start_ends T w _ has r
 white_terminates T its.Inside w has c r = inside_ends T w _ has r (white-here w _ c)
 white_terminates T its.After w has c r = after_ends T w _ has r refl
 
--- an attempt at whitespace that goes on with a state of the construct, or refuses where the construct may
+-- an attempt at whitespace that continues with a state of the construct, or refuses where the construct may
 white_else : (T own : Scheme) (name next : StateName) (w : World) (events : List Event) (s : Scratch) (min max : ℕ) →
     WhiteFits T → Fits T own name → Fits T own next →
     s.whitespace.size ≡ 0 →
@@ -202,7 +202,7 @@ white_try T own name next w events s min max P Q white fn fx none calm ends =
     white_else T own name next w events s min max white fn fx none
     (λ t some up. ends.nok (calmed s) w.point t (calm some) up)
 
--- and the construct accepts only behind the point where it begins
+-- and the construct accepts only after the point where it begins
 pub white_try_later : (T own : Scheme) (name next : StateName) (w : World) (events : List Event) (s : Scratch)
     (min max : ℕ) (P Q : Scratch → Type 0) →
     WhiteFits T → Fits T own name → Fits T own next →

@@ -10,13 +10,13 @@ use Rattle.md_seam.specs.Events.Spelled.{IsQuoteMarker, is_before_blocks, kind_a
 use Rattle.md_meaning.specs.declared.alert.AlertKind.{AlertKind}
 use Rattle.md_seam.specs.Events.Spelled.{before_prefix, after_prefix, at_ending, on_leaf, next_line, read_by, read}
 
--- a reader goes on over what is appended
+-- a reader continues over what is appended
 pub read-append : (bytes : List ℕ) (r : Reading) (xs ys : List Event) →
     read bytes r (xs ++ ys) ≡ read bytes (read bytes r xs) ys
 read-append bytes r [] ys = refl
 read-append bytes r (e ∷ xs) ys = read-append bytes (read_by bytes e.kind (role e.name) e.point r) xs ys
 
--- the events behind some others are read from what those are read as
+-- the events after some others are read from what those are read as
 pub read-from : (bytes : List ℕ) (start r : Reading) (xs ys : List Event) → read bytes start xs ≡ r →
     read bytes start (xs ++ ys) ≡ read bytes r ys
 read-from bytes start r xs ys e = read-append bytes start xs ys ∙ ap (λ (x : Reading). read bytes x ys) e
@@ -85,7 +85,7 @@ kept-quiet bytes r Enter IsQuiet p h = refl
 kept-quiet bytes r Exit IsQuiet p h = refl
 kept-quiet bytes r kind _ p h = absurd h
 
--- what the tree does not show leaves what is read, wherever it stands
+-- what the tree does not show leaves what is read, wherever it is
 pub read-quiet : (bytes : List ℕ) (r : Reading) (es : List Event) → Roles Quiet es → read bytes r es ≡ r
 read-quiet bytes r es h = read-kept bytes Quiet r es (kept-quiet bytes r) h
 

@@ -20,7 +20,7 @@ use Rattle.md_seam.specs.Spaces.{sees_white}
 use Rattle.md_seam.proofs.LookLemmas.{Along, IsWhiteAt, dark-at, left_at, none-left, white-at}
 use Rattle.md_seam.proofs.PlainSteps.{range-next, range-none}
 
--- where a run ends stands the first other byte, as far as the text may be read
+-- where a run ends is the first other byte, as far as the text may be read
 pub first-other : (bytes : List ℕ) (marker d from limit n : ℕ) → limit ≤ length bytes → from + d ≡ n →
     EndsRun bytes marker from limit n →
     first_other marker (slice_range bytes from limit) ≡ cond (nat_lt n limit) (Some (slice_index bytes n)) None
@@ -111,7 +111,7 @@ behind-white (b ∷ bytes) =
     go true h = h
     go false h = refl
 
--- where whitespace stands here, the first byte behind it stands where its run ends
+-- where whitespace is here, the first byte after it is where its run ends
 behind-first : (w : World) (n : ℕ) → w.setting.limit ≤ length w.setting.bytes →
     EndsRun w.setting.bytes 32 w.point.index w.setting.limit n → sees_white w.current ≡ true →
     seen_first (cond (nat_lt n w.setting.limit) (Some (slice_index w.setting.bytes n)) None) ≡ looks_behind w
@@ -171,7 +171,7 @@ white-spreads marker b e = or-true (nat_eq b marker) (is_white b) e
     or-true true y e = refl
     or-true false y e = e
 
--- a byte that is no whitespace and ends no line is seen as it is, and behind it stands the next
+-- a byte that is no whitespace and ends no line is seen as it is, and after it is the next
 record IsDarkAt (x : Setting) (p : Point) : Type 0 where
   seen : seen_at x.bytes p ≡ slice_index x.bytes p.index
   behind : (after x p).index ≡ p.index + 1
@@ -186,7 +186,7 @@ dark-on x p e f =
       behind = rw (f, tab) refl;
     }
 
--- the first other byte of the text stands on the line that is fed
+-- the first other byte of the text is on the line that is fed
 other-along : (feed : Feed) (x : Setting) (marker n : ℕ) (p : Point) (b : ℕ) → Along feed x →
     is_ending marker ≡ false → cells_left x.limit p ≤ n →
     first_other marker (left_at x p) ≡ Some b → is_ending b ≡ false →
@@ -217,7 +217,7 @@ other-along feed x marker (suc n) p b f dark le e on =
     left (inl same) is = ap (λ (i : ℕ). first_other marker (slice_range x.bytes i x.limit)) same ∙ e
     left (inr more) is = ap (λ (i : ℕ). first_other marker (slice_range x.bytes i x.limit)) more ∙ is
 
-    -- one more of the line, behind which the other byte still stands
+    -- one more of the line, after which the other byte still is
     on-line : p.index < x.limit → nat_eq cell.byte 10 ≡ false →
         are_spread marker (line_bytes (feed (after x p))) ≡ false →
         are_spread marker (line_bytes (feed p)) ≡ false

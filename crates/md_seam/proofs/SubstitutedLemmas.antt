@@ -1,4 +1,4 @@
--- Linked parts, and the events that stand in their places, step by step.
+-- Linked parts, and the events that are in their places, step by step.
 use Rattle.std.proofs.Common.{◌≡◌, ℕ, zero, suc, ◌+◌, ◌-◌, ◌<◌, ◌≤◌, ◌⊎◌, inl, inr, Bool, true, false, cond, List, []}
 use Rattle.std.proofs.Common.{◌∷◌, ◌++◌, length, get_or, take, drop, refl, ap, sym, ◌∙◌, subst, append_assoc}
 use Rattle.std.proofs.Common.{length-drop, arith}
@@ -62,7 +62,7 @@ chunks-placed bytes wants (e ∷ f ∷ es) h two =
           (behind-placed bytes wants es (All-tail (λ (e : Event). IsPlaced bytes e.point) f es next));
     }
 
--- none go on a part at its last event
+-- none continue a part at its last event
 pub chunks-end : (wants : Content → Bool) (events : List Event) (at : ℕ) → length events ≤ at + 1 →
     chunks_behind wants (drop at events) ≡ []
 chunks-end wants events at h = go (drop at events) (omega (arith, length-drop at events))
@@ -72,7 +72,7 @@ chunks-end wants events at h = go (drop at events) (omega (arith, length-drop at
     go (e ∷ []) small = refl
     go (e ∷ f ∷ es) small = absurd (omega arith)
 
--- nor behind an event that is neither a chunk nor of a prefix
+-- nor after an event that is neither a chunk nor of a prefix
 pub chunks-stop : (wants : Content → Bool) (events : List Event) (at : ℕ) (d : Event) → at < length events →
     is_some (wanted wants (get_or events at d)) ≡ false → is_prefix (get_or events at d).name ≡ false →
     chunks_behind wants (drop at events) ≡ []
@@ -88,7 +88,7 @@ chunks-stop wants events at d h none other =
         cond x (chunk_of e f ∷ chunks_behind wants es) (cond (is_prefix e.name) (chunks_behind wants (f ∷ es)) [])) none
         ∙ ap (λ (x : Bool). cond x (chunks_behind wants (f ∷ es)) []) other
 
--- those behind events of prefixes that begin no chunk
+-- those after events of prefixes that begin no chunk
 pub chunks-past : (wants : Content → Bool) (es : List Event) →
     chunks_behind wants (drop (prefix_len is_plain_prefix es) es) ≡ chunks_behind wants es
 chunks-past wants [] = refl
@@ -134,12 +134,12 @@ chunks-past-at wants events rest at n is run =
 
 -- The events in their places.
 
--- what the events that are left lead to, behind those that stand
+-- what the events that are left lead to, after those that are
 abbrev pub Leads : (Content → Bool) → Readings → List Event → List Event → ℕ → List Event → List Event → Type 0
 Leads wants reads events left chunks rest all =
     (out : List Event) → Substituted wants reads left chunks rest out → Substituted wants reads [] 0 events (all ++ out)
 
--- what stands behind two events, by what a chunk that begins with the first holds
+-- what follows two events, by what a chunk that begins with the first holds
 abbrev pub SubstitutedBy : (Content → Bool) → Readings → List Event → ℕ → Event → Event → List Event → List Event →
     Option Content → Type 0
 SubstitutedBy wants reads left chunks e f es out o = elim o [
@@ -171,7 +171,7 @@ leads-event wants reads events left rest all chunks e stays leads out s =
     go (f ∷ es) (inl none) s = subst (SubstitutedBy wants reads left chunks e f es (e ∷ out)) (sym none) (out, refl, s)
     go (f ∷ es) (inr none) s = cc
 
--- a chunk, in the place of which stands what belongs there
+-- a chunk, in the place of which is what belongs there
 pub leads-chunk : (wants : Content → Bool) (reads : Readings) (events left all : List Event) (chunks : ℕ) (e f : Event)
     (es : List Event) (content : Content) →
     wanted wants e ≡ Some content →
@@ -254,7 +254,7 @@ leads-events wants reads events left (e ∷ es) all chunks leads =
     go (Some wanted) k behind =
         rw k (subst (Leads wants reads events left chunks (e ∷ es)) (sym (append-nil all)) leads)
 
--- an event that stays, as no chunk begins there, and those behind it up to the next chunk
+-- an event that stays, as no chunk begins there, and those after it up to the next chunk
 pub leads-stays : (wants : Content → Bool) (reads : Readings) (events left all rest : List Event) (chunks many : ℕ)
     (e : Event) →
     rest ≡ e ∷ drop 1 rest → (wanted wants e ≡ None) ⊎ (drop 1 rest ≡ []) →
@@ -319,7 +319,7 @@ leads-part wants reads events rest left now left_behind all new chunks many chun
 pub to-end : (events : List Event) (n : ℕ) → take (length events - n) (drop n events) ≡ drop n events
 to-end events n = take_all _ _ (omega (arith, length-drop n events))
 
--- the first is, and those behind prefixes are left
+-- the first is, and those after prefixes are left
 pub lists-first : (wants : Content → Bool) (events : List Event) (d : Event) (none items : List Chunk) (n : ℕ) →
     1 < length events → none ≡ [] →
     items ≡ none ++ chunk_of (get_or events 0 d) (get_or events 1 d) ∷ [] →

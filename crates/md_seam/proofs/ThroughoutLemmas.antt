@@ -6,7 +6,7 @@ use Rattle.md_seam.specs.Events.Throughout.{all_blocks, all_within}
 use Rattle.md_meaning.specs.State.{then_block}
 use Rattle.md_meaning.specs.Tree.{Block, Blocks, End, More}
 
--- of the blocks in front of the last, and of the last
+-- of the blocks before the last, and of the last
 pub all-then : (p : Block → Bool) (bs : Blocks) (b : Block) → all_blocks p (then_block bs b) ≡ true →
     (all_blocks p bs ≡ true) × (all_within p b ≡ true)
 all-then p End b h = (refl, (and_parts (all_within p b) true h).0)

@@ -1,4 +1,4 @@
--- How a text changes a half-read tree, by what it tells.
+-- How a text changes a half-read tree, by what it shows.
 use Rattle.std.proofs.Common.{◌≡◌, true, refl}
 use Rattle.md_meaning.specs.Tree.{Line}
 use Rattle.md_seam.specs.Events.Spelled.{AsLine, Purpose, Reading, Role, TextRole, add_block, named, noted, on_leaf}
@@ -23,7 +23,7 @@ pub told-noted : (x : Purpose) → told_of x ≡ OfLeaf → (line : Line) (r : R
 told-noted AsLine e line r = refl
 told-noted _ e line r = cc
 
--- what is read from a role that tells
+-- what is read from a role that shows
 pub told-role : (x : Role) → is_told x ≡ true → (purpose : Purpose) × (x ≡ TextRole purpose)
 told-role (TextRole purpose) h = (purpose, refl)
 told-role _ h = absurd (cc)

@@ -1,4 +1,4 @@
--- Each point of a text is one that one comes to from its first, step by step.
+-- Each point of a text is one that one reaches from its first, step by step.
 use Rattle.std.proofs.Common.{◌≡◌, ℕ, zero, suc, ◌+◌, ◌-◌, ◌*◌, ◌%◌, ◌^◌, ◌<◌, ◌≤◌, ◌⊎◌, inl, inr, Bool, true, false, cond}
 use Rattle.std.proofs.Common.{not, ◌&&◌, ◌||◌, List, [], ◌∷◌, length, take, drop, refl, ap, sym, ◌∙◌, subst, arith}
 use Rattle.std.specs.Prelude.{◌==◌, nat_lt, slice_index}
@@ -12,7 +12,7 @@ use Rattle.md_seam.specs.Events.Places.{columns_before, is_placed}
 use Rattle.md_seam.proofs.PlacesLemmas.{Placed, at-next, placed-facts}
 use Rattle.md_seam.proofs.ReachedLemmas.{index-behind, placed-next, placed-walked, step-inside}
 
--- the byte and the virtual spaces tell a point of a text
+-- the byte and the virtual spaces show a point of a text
 pub one-point : (bytes : List ℕ) (p q : Point) → Placed bytes p → Placed bytes q → p.index ≡ q.index → p.vs ≡ q.vs → p ≡ q
 one-point bytes p q h k i v =
     let line : p.line ≡ q.line = h.line ∙ ap (λ (n : ℕ). length (split_lines (take n bytes))) i ∙ sym k.line in
@@ -62,7 +62,7 @@ few-spaces bytes p h = go (p.vs == 0) (first_byte (drop p.index bytes) == 9) ref
         let small : p.vs < 4 - columns_before bytes p.index % 4 = grind (arith, nat_tests) in omega (arith, small)
     go false false e k = absurd (true≢false (sym k))
 
--- where virtual spaces stand, there is a tab with so many columns
+-- where virtual spaces are, there is a tab with so many columns
 in-tab : (bytes : List ℕ) (p : Point) → Placed bytes p → 0 < p.vs →
     (slice_index bytes p.index ≡ 9) × (p.vs < 4 - columns_before bytes p.index % 4)
 in-tab bytes p h some =
@@ -85,7 +85,7 @@ in-tab bytes p h some =
     less : nat_lt p.vs (4 - columns_before bytes p.index % 4) ≡ true → p.vs < 4 - columns_before bytes p.index % 4
     less k = grind (arith, nat_tests)
 
--- a step from a point goes no further than to any point behind it
+-- a step from a point goes no further than to any point after it
 step-upto : (bytes : List ℕ) (p q : Point) → Placed bytes p → Placed bytes q → Before p q → Upto (next_point bytes p) q
 step-upto bytes p q h k (inr same) =
     let tab : (slice_index bytes q.index ≡ 9) × (q.vs < 4 - columns_before bytes q.index % 4) = in-tab bytes q k
@@ -112,7 +112,7 @@ step-upto bytes p q h k (inl less) =
     go (is_ending (slice_index bytes p.index)) (is_pair bytes p.index)
     ((slice_index bytes p.index == 9) && not (p.column % 4 == 0)) refl
   where
-    -- a point does not stand between a CR and its LF
+    -- a point is not between a CR and its LF
     apart : is_pair bytes p.index ≡ true → p.index + 1 ≡ q.index → ⊥
     apart pair e =
         let behind : q.index - 1 ≡ p.index = omega (arith, e) in
@@ -156,7 +156,7 @@ upto-index : (p q : Point) → Upto p q → p.index ≤ q.index
 upto-index p q (inl lt) = omega (arith, lt)
 upto-index p q (inr same) = omega (arith, same)
 
--- one comes to a point, or is before it
+-- one reaches a point, or is before it
 meets : (bytes : List ℕ) (p q : Point) → Placed bytes p → Placed bytes q → Upto p q → Before p q ⊎ (q ≡ p)
 meets bytes p q h k (inl less) = inl (inl less)
 meets bytes p q h k (inr same) = elim (cases_lt p.vs q.vs) [
@@ -164,7 +164,7 @@ meets bytes p q h k (inr same) = elim (cases_lt p.vs q.vs) [
   | inr le ↦ inr (one-point bytes q p k h (sym same.0) (omega (arith, le, same)))
 ]
 
--- so a walk comes to each point that it is not past
+-- so a walk becomes each point that it is not past
 walk : (bytes : List ℕ) (q : Point) → Placed bytes q → (fuel n : ℕ) → Placed bytes (walked bytes n) →
     Upto (walked bytes n) q → rank q ≤ rank (walked bytes n) + fuel → IsReached bytes q
 unfolding walked
@@ -211,7 +211,7 @@ walked-placed bytes sized (suc n) le =
     (walked-placed bytes sized n (omega (arith, le, index-behind bytes (walked bytes n))))
     (step-inside bytes (walked bytes n) le)
 
--- One comes to each point of a text that points have room for.
+-- One reaches each point of a text that points have room for.
 pub placed-point : (bytes : List ℕ) → length bytes < 2 ^ 61 → (p : Point) → is_placed bytes p ≡ true →
     IsPlaced bytes p
 placed-point bytes sized p h = go (reached bytes p (placed-facts bytes p h)) (placed-facts bytes p h).index

@@ -48,7 +48,7 @@ white-waits w y u is seen within e more some le is_end s v named sees may =
     (rw e (white-begins w is seen within is_end s v named sees may)) (rw e seen) more some
     (rw e (white-here w (nat_lt 0 w.scratch.whitespace.max) seen is)) le
 
--- or ends where something else stands, or where there is no more room
+-- or ends where something else is, or where there is no more room
 white-over : (u : World) → ¬ Sees White u →
     sees_white (looks u) && nat_lt u.scratch.whitespace.size u.scratch.whitespace.max ≡ false
 white-over u none = go (looks u) refl
@@ -73,7 +73,7 @@ white-ends w y u z is seen within e more all lt sees kept is_end s v named saw m
     (rw e (white-begins w is seen within is_end s v named saw may)) (rw e seen) more all.some lt))
     (rw sees (ap (inside_code (reading u)) (white-over u all.ends))) refl kept refl (rw sees refl)
 
--- where none stands here, none is taken
+-- where none is here, none is taken
 pub white-none : (w : World) → begins_white w ≡ false → w.current ≡ looks w → Within w →
     CameHere WhiteStep (n.SpaceOrTab its.Start) w (n.SpaceOrTab its.After) w
 white-none w is seen within is_end s v named sees may =
@@ -81,7 +81,7 @@ white-none w is seen within is_end s v named sees may =
     (came-first WhiteStep (n.SpaceOrTab its.Start) w is_end s v named sees may) (ap (start_code w) is) refl within refl
     seen
 
--- Each state keeps the text, and what stays sees what stands here.
+-- Each state keeps the text, and what stays sees what is here.
 white-keeps : (state : WhiteState) (w : World) →
     Remains (white_transition state w).to w (white_transition state w).world ×
     ((white_transition state w).world.setting ≡ w.setting)

@@ -140,7 +140,7 @@ white-some room [] le e = cc
 white-some zero (c ∷ cs) le e = absurd (omega arith)
 white-some (suc room) (c ∷ cs) le e = rw e (omega arith)
 
--- behind all whitespace that comes first, up to so much
+-- after all whitespace that comes first, up to so much
 abbrev pub behind_white : ℕ → List Cell → Here → Here
 behind_white max cells h =
     let p = white_end max cells h.point in
@@ -161,7 +161,7 @@ white-taken cells h min max s most least =
     let enough : nat_le min (0 + white_size max cells) ≡ true = grind (arith, nat_tests, some) in
     rw (s, fits, room, enough) (simp append_assoc)
 
--- what an attempt at whitespace that is here comes to
+-- what an attempt at whitespace that is here becomes
 pub white-tried : (B : Behaviour) (feed : Feed) (f : Frame) (events : List Event) (cells : List Cell) (h : Here)
     (min max : ℕ) →
     HasWhite B → begins_white cells ≡ true → 1 ≤ max → min ≤ 1 → f.is_check ≡ false →

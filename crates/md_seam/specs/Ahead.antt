@@ -28,7 +28,7 @@ abbrev pub from_ending : List Cell → List Cell
 from_ending [] = []
 from_ending (c ∷ cs) = if c.byte == 10 then c ∷ cs else from_ending cs
 
--- the point behind these cells
+-- the point after these cells
 abbrev pub point_after : List Cell → Point → Point
 point_after [] p = p
 point_after (c ∷ cs) p = point_after cs c.after
@@ -60,7 +60,7 @@ white_rest room [] = []
 white_rest zero (c ∷ cs) = c ∷ cs
 white_rest (suc room) (c ∷ cs) = if is_white c.byte then white_rest room cs else c ∷ cs
 
--- behind the whitespace: it holds if that is enough
+-- after the whitespace: it holds if that is enough
 unfoldable pub after_white : List Cell → Here → Outcome
 after_white cells h =
     if nat_le h.scratch.whitespace.min h.scratch.whitespace.size

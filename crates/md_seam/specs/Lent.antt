@@ -1,4 +1,4 @@
--- What stands between two points of a text: bytes, and columns of tabs that are cut.
+-- What is between two points of a text: bytes, and columns of tabs that are cut.
 use Rattle.std.specs.Prelude.{ℕ, ◌+◌, ◌-◌, ◌%◌, ◌&&◌, ◌==◌, nat_lt, nat_le, if◌then◌else◌, List, [], length}
 use Rattle.std.specs.Prelude.{slice_range}
 use Rattle.md_engine.specs.declared.event.Point.{Point}
@@ -22,6 +22,6 @@ columns_in_front at =
     if nat_lt 0 at.start.vs then (if at.start.index == at.end.index then at.end.vs - at.start.vs else tab_left at.start)
     else 0
 
--- the columns behind the bytes: those of a tab that the part ends within
+-- the columns after the bytes: those of a tab that the part ends within
 abbrev pub columns_behind : Position → ℕ
 columns_behind at = if nat_lt 0 at.start.vs && (at.start.index == at.end.index) then 0 else at.end.vs

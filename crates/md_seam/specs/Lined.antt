@@ -17,7 +17,7 @@ pub record IsLine (bytes : List ℕ) (chunk : Chunk) : Type 0 where
   -- its events are at points of the text
   pub placed : ArePlaced bytes (plain_chunk bytes chunk)
 
--- Lines of the text, one behind the other.
+-- Lines of the text, one after the other.
 pub record AreLines (bytes : List ℕ) (chunks : List Chunk) : Type 0 where
   pub each : All (IsLine bytes) chunks
   pub from : Point

@@ -1,4 +1,4 @@
--- What stands first behind whitespace: by it alone most trials are refused, before they begin.
+-- What is first after whitespace: by it alone most trials are refused, before they begin.
 use Rattle.std.specs.Prelude.{ℕ, Bool, true, false, not, if◌then◌else◌, List, [], ◌∷◌, Option, Some, None, slice_range}
 use Rattle.md_engine.specs.Meaning.{Cell}
 use Rattle.md_engine.specs.Place.{is_ending}
@@ -11,7 +11,7 @@ abbrev pub first_seen : List Cell → Option ℕ
 first_seen [] = None
 first_seen (c ∷ cs) = Some c.byte
 
--- the byte of the first cell behind whitespace
+-- the byte of the first cell after whitespace
 abbrev pub seen_behind : List Cell → Option ℕ
 seen_behind [] = None
 seen_behind (c ∷ cs) = if is_white c.byte then seen_behind cs else Some c.byte
@@ -20,22 +20,22 @@ seen_behind (c ∷ cs) = if is_white c.byte then seen_behind cs else Some c.byte
 abbrev pub as_seen : ℕ → ℕ
 as_seen b = if is_ending b then 10 else b
 
--- the first byte behind whitespace, as a state sees it
+-- the first byte after whitespace, as a state sees it
 abbrev pub first_behind : List ℕ → Option ℕ
 first_behind [] = None
 first_behind (b ∷ bytes) = if is_white b then first_behind bytes else Some (as_seen b)
 
--- by what stands here, and by what stands first behind whitespace
+-- by what is here, and by what is first after whitespace
 abbrev pub behind_code : Option ℕ → Option ℕ → Option ℕ
 behind_code None found = None
 behind_code (Some b) found = if is_white b then found else Some b
 
--- what a tokenizer sees first behind whitespace, as far as the text may be read now
+-- what a tokenizer sees first after whitespace, as far as the text may be read now
 unfoldable pub looks_behind : World → Option ℕ
 looks_behind w = behind_code w.current (first_behind (slice_range w.setting.bytes w.point.index w.setting.limit))
 
--- whether a construct may begin here that stands behind whitespace, by whether it begins with a byte: it may where that
--- byte is not known
+-- whether a construct may begin here that is after whitespace, by whether it begins with a byte: it may where that byte
+-- is not known
 abbrev pub may_with : (ℕ → Bool) → Option ℕ → Bool
 may_with begins None = true
 may_with begins (Some b) = begins b
@@ -50,6 +50,6 @@ abbrev pub is_other : Option ℕ → Bool
 is_other None = false
 is_other (Some b) = not (is_ending b)
 
--- whether something else than a marker and whitespace stands on the rest of the line: the text that may be read now has it
+-- whether something else than a marker and whitespace is on the rest of the line: the text that may be read now has it
 unfoldable pub sees_other : World → ℕ → Bool
 sees_other w marker = is_other (first_other marker (slice_range w.setting.bytes w.point.index w.setting.limit))

@@ -5,13 +5,13 @@ use Rattle.md_engine.specs.World.{World, after, looks, looks_at}
 use Rattle.md_seam.specs.Spaces.{calmed, sees_white}
 use Rattle.md_seam.specs.Transition.{entered, exited, taken}
 
--- a space stands here, and behind it something that may be read and is no whitespace
+-- a space is here, and after it something that may be read and is no whitespace
 pub record IsOneSpace (w : World) : Type 0 where
   pub here : looks w ≡ Some 32
   pub next : (after w.setting w.point).index < w.setting.limit
   pub behind : sees_white (looks_at w.setting (after w.setting w.point)) ≡ false
 
--- it was taken as whitespace, and what stands behind it is seen
+-- it was taken as whitespace, and what follows it is seen
 abbrev pub spaced : World → World
 spaced w = record (exited (taken (entered w SpaceOrTab)) SpaceOrTab) {
   current = looks_at w.setting (after w.setting w.point);

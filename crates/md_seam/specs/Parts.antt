@@ -1,11 +1,11 @@
--- Parts that are read after the events around them stand.
+-- Parts that are read after the events around them are.
 use Rattle.std.specs.Prelude.{ℕ, ◌<◌, List, length}
 use Rattle.std.specs.List.{All}
 use Rattle.md_engine.specs.declared.event.Event.{Event}
 use Rattle.md_engine.specs.Place.{IsPlaced}
 use Rattle.md_seam.specs.declared.inline.Chunk.{Chunk}
 
--- all events stand at places of the text
+-- all events are at places of the text
 abbrev pub ArePlaced : List ℕ → List Event → Type 0
 ArePlaced bytes events = All (λ (e : Event). IsPlaced bytes e.point) events
 

@@ -17,7 +17,7 @@ use Rattle.md_engine.specs.Scheme.{Position, After, Rank, Scheme, Ends, EndsLate
 use Rattle.md_meaning.specs.Rest.{is_white}
 use Rattle.md_seam.specs.Transition.{Transition, entered, exited, taken, tried}
 
--- whether a space or a column of a tab stands here
+-- whether a space or a column of a tab is here
 abbrev pub sees_white : Option ℕ → Bool
 sees_white None = false
 sees_white (Some b) = is_white b
@@ -45,7 +45,7 @@ white_then w min max ok nok =
       world = record (tried w ok nok) { scratch = asking min max 0 w.scratch };
     }
 
--- by whether whitespace stands here, and there is room for it
+-- by whether whitespace is here, and there is room for it
 abbrev pub start_code : World → Bool → Transition
 start_code w true = record { to = Retry (n.SpaceOrTab its.Inside); world = entered w SpaceOrTab }
 start_code w false = record { to = Retry (n.SpaceOrTab its.After); world = w }
@@ -96,7 +96,7 @@ abbrev pub WhiteStep : Step
 WhiteStep (n.SpaceOrTab state) w to new = white_transition state w ≡ record { to = to; world = new }
 WhiteStep name w to new = ⊥
 
--- whether this byte stands here
+-- whether this byte is here
 abbrev pub is_current : ℕ → Option ℕ → Bool
 is_current m None = false
 is_current m (Some b) = b == m
@@ -129,6 +129,6 @@ IsRest s = s ≡ REST
 abbrev pub rest_ready : Position → After → Type 0
 rest_ready x K = IsRest x.scratch × Ends IsRest IsRest x K
 
--- one that accepts only behind the point where it begins
+-- one that accepts only after the point where it begins
 abbrev pub later_ready : Position → After → Type 0
 later_ready x K = IsRest x.scratch × EndsLater IsRest IsRest x K

@@ -1,4 +1,4 @@
--- Linked parts, and the events that stand in their places once they are read.
+-- Linked parts, and the events that are in their places once they are read.
 use Rattle.std.specs.Prelude.{◌≡◌, ℕ, zero, suc, Bool, nat_lt, nat_le, ◌&&◌, if◌then◌else◌, List, [], ◌∷◌, ◌++◌, length}
 use Rattle.std.specs.Prelude.{take, drop, Option, Some, None, is_none}
 use Rattle.std.specs.Option.{is_some}
@@ -39,11 +39,11 @@ stays wants e = is_none (wanted wants e)
 abbrev pub is_plain_prefix : Event → Bool
 is_plain_prefix e = is_prefix e.name && is_none e.link
 
--- an event that begins a chunk, and the one behind it
+-- an event that begins a chunk, and the one after it
 abbrev pub chunk_of : Event → Event → Chunk
 chunk_of e f = record { first = e.point; after = f.point }
 
--- the chunks that go on a part, behind its first: between them stand container prefixes alone
+-- the chunks that continue a part, after its first: between them are container prefixes alone
 abbrev pub chunks_behind : (Content → Bool) → List Event → List Chunk
 chunks_behind wants [] = []
 chunks_behind wants (e ∷ []) = []
@@ -66,14 +66,13 @@ belongs_by end Exit index = nat_le index end
 abbrev pub belongs : ℕ → Event → Bool
 belongs end e = belongs_by end e.kind e.point.index
 
--- how many of the events that are left stand in the place of a chunk that ends at this byte: all of them in the last
--- one
+-- how many of the events that are left are in the place of a chunk that ends at this byte: all of them in the last one
 abbrev pub share : ℕ → List Event → ℕ → ℕ
 share zero left end = length left
 share (suc more) left end = prefix_len (belongs end) left
 
 -- A part of so many chunks is begun, of which such events may be read, unless chunks of another part are left: the
--- events that are left, and for how many chunks, before and behind.
+-- events that are left, and for how many chunks, before and after.
 abbrev pub Begun : (List Event → Type 0) → ℕ → List Event → ℕ → List Event → ℕ → Type 0
 Begun reads many left zero now chunks = reads now × (chunks ≡ many)
 Begun reads many left (suc more) now chunks = (now ≡ left) × (chunks ≡ suc more)

@@ -47,8 +47,8 @@ document_of state = record {
   footnotes = map string_bytes state.gfm_footnote_definitions.items;
 }
 
--- A document whose blocks are known, before its text parts are read: they spell its tree and tile it, and the labels are
--- all labels of that tree, those of definitions behind a part too.
+-- A document whose blocks are known, before its text parts are read: they spell its tree and tile it, and the labels
+-- are all labels of that tree, those of definitions after a part too.
 pub record AreBlocks (document : Document) (blocks : List Event) : Type 0 where
   -- points have room for it
   pub sized : length document.bytes < 2 ^ 61
@@ -62,7 +62,7 @@ pub record AreBlocks (document : Document) (blocks : List Event) : Type 0 where
 pub record IsTextPart (document : Document) (part : Part) : Type 0 where
   pub blocks : List Event
   pub are : AreBlocks document blocks
-  -- it stands among the text parts of these blocks
+  -- it is among the text parts of these blocks
   pub before : List Part
   pub behind : List Part
   pub among : parts blocks ≡ before ++ part ∷ behind

@@ -13,7 +13,7 @@ pub record Transition : Type 0 where
   pub to : State
   pub world : World
 
--- the tokenizer stands at a state: it sees what stands at its point, and has what the state needs
+-- the tokenizer is at a state: it sees what is at its point, and has what the state needs
 pub record IsAt (needs : StateName → World → Type 0) (name : StateName) (w : World) : Type 0 where
   pub current : w.current ≡ looks w
   pub has : needs name w
@@ -32,7 +32,7 @@ entered_link w name link = record w {
       ++ record { kind = Enter; name = name; point = w.point; link = Some link } ∷ [];
 }
 
--- what stands at the point is taken
+-- what is at the point is taken
 abbrev pub taken : World → World
 taken w = record w { point = after w.setting w.point }
 
@@ -49,6 +49,6 @@ tried w ok nok = record w {
       ∷ w.frames;
 }
 
--- a state that needs no more than to see what stands at its point
+-- a state that needs no more than to see what is at its point
 abbrev pub NeedsNothing : StateName → World → Type 0
 NeedsNothing name w = Unit {0}

@@ -15,7 +15,7 @@ whole_cells p (c ∷ cs) = if p.vs == 0 then c ∷ whole_cells c.after cs else w
 abbrev pub whole_line : Point → List Cell → List ℕ
 whole_line p cells = map (λ (c : Cell). c.byte) (whole_cells p (line_cells cells))
 
--- so many bytes of a text from an index on; behind its end 0 is seen
+-- so many bytes of a text from an index on; after its end 0 is seen
 unfoldable pub bytes_on : List ℕ → ℕ → ℕ → List ℕ
 bytes_on bytes from zero = []
 bytes_on bytes from (suc n) = bytes_on bytes from n ++ slice_index bytes (from + n) ∷ []

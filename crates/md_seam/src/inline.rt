@@ -31,7 +31,7 @@ pub struct Chunk {
 /// Reads text parts.
 ///
 /// The part that it is asked for is one of the document, and `state` has the labels of the whole document: those of
-/// definitions behind the part too.
+/// definitions after the part too.
 pub trait Inline {
     /// What it may give for a part of a document.
     ghost reads: { Self → Document → Part → List Event → Type 0 };
@@ -53,8 +53,8 @@ pub trait Inline {
 
     /// Replaces `events` with those of the text part in these chunks. After an `Err` the list means nothing.
     ///
-    /// The block parser calls this, with the list that it has for the part before, so a layer that writes there asks for
-    /// no memory for most parts.
+    /// The block parser calls this, with the list that it has for the part before, so a layer that writes there asks
+    /// for no memory for most parts.
     fn read_into(
         &self,
         alloc: Global,
@@ -71,11 +71,11 @@ pub trait Inline {
         Ok(())
     }
 
-    /// Whether it may read each part as the plain layer does: `Data` over each line, if it is not empty, and `LineEnding`
-    /// over its ending.
+    /// Whether it may read each part as the plain layer does: `Data` over each line, if it is not empty, and
+    /// `LineEnding` over its ending.
     ///
-    /// Where it may, the block parser does so itself, in the list of its events, and calls no other method. A layer that
-    /// finds more than lines has the default.
+    /// Where it may, the block parser does so itself, in the list of its events, and calls no other method. A layer
+    /// that finds more than lines has the default.
     fn is_plain(&self) -> bool
         ensures { result ≡ true → (document : Document) → (part : Part) → IsTextPart document part →
             reads self.now document part (plain_events document.bytes part) }

@@ -41,8 +41,8 @@ fn has_other_parts(name: Name) -> bool
         || matches!(name, Name::GfmTable)
 }
 
-/// Whether these events are of a container (CommonMark 5): a block quote, a list item or a footnote definition, which hold
-/// blocks, or a list, which holds items.
+/// Whether these events are of a container (CommonMark 5): a block quote, a list item or a footnote definition, which
+/// hold blocks, or a list, which holds items.
 #[inline(always)]
 pub fn is_container(name: Name) -> bool
     ensures { result ≡ is_container (role name) }
@@ -67,8 +67,8 @@ pub fn is_block(name: Name) -> bool
         || has_other_parts(name)
 }
 
-/// Whether these events are of a text part, which an inline layer reads: the text of a paragraph, a heading or a cell, a
-/// label, a destination, a title, or what follows the opening sequence of fenced code or math.
+/// Whether these events are of a text part, which an inline layer reads: the text of a paragraph, a heading or a cell,
+/// a label, a destination, a title, or what follows the opening sequence of fenced code or math.
 pub fn is_text_part(name: Name) -> bool
     ensures { result ≡ is_part name }
 {

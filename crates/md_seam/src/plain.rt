@@ -31,7 +31,7 @@ fn ends_line(byte: u8) -> bool
     byte == b'\n' || byte == b'\r'
 }
 
-/// The point behind a byte of a line, also from within a tab.
+/// The point after a byte of a line, also from within a tab.
 fn past_byte(byte: u8, point: Point) -> Point
     requires { (1 ≤ point.column) × (point.column + 4 < 2 ^ 64) × (point.index + 1 < 2 ^ 64) }
     ensures value { result ≡ past_byte byte point }
@@ -144,8 +144,8 @@ fn write_chunk(bytes: &[u8], chunk: &Chunk, events: &mut Vec<Event>)
     }
 }
 
-/// Gives the events of a chunk, those of its line and of its ending, in the place of the two events that are left first.
-/// Most parts are one line without an ending, where this is not called, so its code is kept apart.
+/// Gives the events of a chunk, those of its line and of its ending, in the place of the two events that are left
+/// first. Most parts are one line without an ending, where this is not called, so its code is kept apart.
 #[inline(never)]
 fn put_line(bytes: &[u8], chunk: Chunk, all: &mut Rewriting) -> Result<(), Message>
     requires chunk { IsChunk bytes.now chunk }
@@ -159,8 +159,8 @@ fn put_line(bytes: &[u8], chunk: Chunk, all: &mut Rewriting) -> Result<(), Messa
     all.push_unless_empty(Name::LineEnding, end, chunk.after)
 }
 
-/// Gives the events of a chunk in the place of the two events that are left first. A line without an ending is `Data` as
-/// a whole, which is held where these were.
+/// Gives the events of a chunk in the place of the two events that are left first. A line without an ending is `Data`
+/// as a whole, which is held where these were.
 #[inline(always)]
 pub fn put_chunk(bytes: &[u8], chunk: &Chunk, all: &mut Rewriting) -> Result<(), Message>
     requires line { IsLine bytes.now chunk.now }

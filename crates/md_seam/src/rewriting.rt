@@ -27,14 +27,14 @@ const NOTHING: Event = Event {
     link: None,
 };
 
-/// Growth is not expected to go on as in fewer events than this.
+/// Growth is not expected to continue as in fewer events than this.
 const SAMPLE: usize = 8;
 
-/// How many events to make room for where `need` are to be written and `behind` others have to be moved, after `read` were
-/// read. Room was made for `added` before, and now `lacking` more are needed.
+/// How many events to make room for where `need` are to be written and `behind` others have to be moved, after `read`
+/// were read. Room was made for `added` before, and now `lacking` more are needed.
 ///
-/// It is as many as the others take if they grow as those did, at most a quarter of their number the first time and then
-/// half of it, and at least a sixteenth of it, so that in all the moves are linear in the events.
+/// It is as many as the others take if they grow as those did, at most a quarter of their number the first time and
+/// then half of it, and at least a sixteenth of it, so that in all the moves are linear in the events.
 fn room_for(need: usize, lacking: usize, added: usize, read: usize, behind: usize) -> usize
     ensures enough { need ≤ result }
     ensures some { 0 < result }
@@ -53,11 +53,11 @@ pub struct Rewriting {
     events: Vec<Event>,
     /// How many events there were.
     begun: usize,
-    /// How many places hold what was written. Those behind them, up to the first event that is held, are free.
+    /// How many places hold what was written. Those after them, up to the first event that is held, are free.
     written: usize,
-    /// Where the events begin that are held: those in front of them were written or left out.
+    /// Where the events begin that are held: those before them were written or left out.
     done: usize,
-    /// Where the events begin that are left: those in front of them were read.
+    /// Where the events begin that are left: those before them were read.
     read: usize,
     ghost within: { (written ≤ done) × (done ≤ read) × (read ≤ length events.items) },
 }
@@ -239,7 +239,7 @@ impl Rewriting {
         self.written += 1;
     }
 
-    /// Writes an event, in front of those that are held.
+    /// Writes an event, before those that are held.
     pub fn push(&mut self, event: Event) -> Result<(), Message>
         ensures left { left_of self.new ≡ left_of self.old }
         ensures held { held_of self.new ≡ held_of self.old }
@@ -250,7 +250,7 @@ impl Rewriting {
         Ok(())
     }
 
-    /// Writes a part of this name, in front of the events that are held, or nothing if it would be empty.
+    /// Writes a part of this name, before the events that are held, or nothing if it would be empty.
     pub fn push_unless_empty(
         &mut self,
         name: Name,
@@ -281,7 +281,7 @@ impl Rewriting {
         Ok(())
     }
 
-    /// Writes events, in front of those that are held.
+    /// Writes events, before those that are held.
     pub fn push_all(&mut self, events: &[Event]) -> Result<(), Message>
         ensures left { left_of self.new ≡ left_of self.old }
         ensures held { held_of self.new ≡ held_of self.old }
@@ -325,7 +325,7 @@ impl Rewriting {
         events
     }
 
-    /// Writes a part of this name that is read later, in front of the events that are held.
+    /// Writes a part of this name that is read later, before the events that are held.
     pub fn push_linked(
         &mut self,
         name: Name,

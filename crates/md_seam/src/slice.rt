@@ -18,7 +18,7 @@ pub struct Slice<'a> {
     /// The virtual spaces before the bytes: columns of a tab that begins before the part.
     pub before: usize,
     pub bytes: &'a [u8],
-    /// The virtual spaces behind the bytes: columns of a tab that ends behind the part.
+    /// The virtual spaces after the bytes: columns of a tab that ends after the part.
     pub after: usize,
 }
 

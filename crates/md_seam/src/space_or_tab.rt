@@ -59,7 +59,7 @@ fn as_seen(byte: u8) -> u8
     if is_ending(byte) { b'\n' } else { byte }
 }
 
-/// The byte here or, where that is whitespace, the first byte behind the whitespace, as far as the text may be read now;
+/// The byte here or, where that is whitespace, the first byte after the whitespace, as far as the text may be read now;
 /// none where that is not known, or where the text ends.
 #[tactic(auto, unfolding(crate::specs::Look::looks_behind))]
 pub fn look_behind(tokenizer: &mut Tokenizer) -> Option<u8>
@@ -127,7 +127,7 @@ pub fn space_or_tab(tokenizer: &mut Tokenizer, ok: State, nok: State) -> State
     space_or_tab_min_max(tokenizer, 1, usize::MAX, ok, nok)
 }
 
-/// Whether there is one space here, and behind it a byte that may be read now and is no whitespace.
+/// Whether there is one space here, and after it a byte that may be read now and is no whitespace.
 pub fn is_one_space(tokenizer: &Tokenizer) -> bool
     ensures { result ≡ true → IsOneSpace (world tokenizer.now) }
 {
@@ -138,7 +138,7 @@ pub fn is_one_space(tokenizer: &Tokenizer) -> bool
         && !is_white(tokenizer.bytes[index + 1])
 }
 
-/// Takes the one space here, as the states of whitespace do, and sees the byte behind it.
+/// Takes the one space here, as the states of whitespace do, and sees the byte after it.
 #[inline(always)]
 pub fn take_one_space(tokenizer: &mut Tokenizer) -> Result<(), Message>
     requires { IsOneSpace (world tokenizer.old) }
@@ -214,7 +214,7 @@ pub fn inside(tokenizer: &mut Tokenizer) -> State
     }
 }
 
-/// Behind whitespace.
+/// After whitespace.
 ///
 /// ```markdown
 /// > |   a

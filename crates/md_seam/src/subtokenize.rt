@@ -99,7 +99,7 @@ pub fn push_chunk(chunks: &mut Vec<Chunk>, first: &Event, after: &Event) -> Resu
 }
 
 /// How many of the events come before the first that does not belong to a container prefix, or has a link. Most events
-/// between two chunks stand so.
+/// between two chunks are so.
 fn plain_prefixes(events: &[Event]) -> usize
     ensures value { result ≡ prefix_len is_plain_prefix events.now }
     ensures within { result ≤ length events.now }

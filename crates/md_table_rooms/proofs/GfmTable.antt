@@ -1,4 +1,4 @@
--- Tables: a delimiter row, which turns the text in front of it, and further rows: what they come to, and their laws.
+-- Tables: a delimiter row, which turns the text before it, and further rows: what they become, and their laws.
 pub mod Alone
 pub mod Cells
 pub mod DelimiterRow

@@ -1,4 +1,4 @@
--- Lines of text that are heads of tables, read again in front of content: there are none where no content stands.
+-- Lines of text that are heads of tables, read again before content: there are none where no content is.
 use Rattle.std.proofs.Common.{◌≡◌, ℕ, Bool, true, false, cond, List, [], ◌∷◌, refl, ap, sym, ◌∙◌, append-nil}
 use Rattle.std.specs.List.{list_any}
 use Rattle.std.proofs.lemmas.Bool.{and_right, or_from}
@@ -13,7 +13,7 @@ use Rattle.md_table_rooms.specs.Headed.{heads_read}
 use Rattle.md_frame.proofs.ContentFacts.{NoContent, nothing}
 use Rattle.md_frame.proofs.EventNames.{is_told}
 
--- Where no content stands, no line is one.
+-- Where no content is, no line is one.
 
 told-chunk : (name : Name) → is_told name ≡ false → is_chunk name ≡ false
 told-chunk n.Content h = cc

@@ -16,7 +16,7 @@ use Rattle.md_tables.specs.DelimiterRule.{Behind, Counts, Dashes, Fails, Front, 
 use Rattle.md_tables.specs.DelimiterRule.{Marks, Move, Open, Place, move}
 use Rattle.md_tables.proofs.DelimiterLemmas.{told-as, white-mark}
 
--- Where no whitespace stands at an end.
+-- Where no whitespace is at an end.
 
 -- the last byte is no whitespace
 abbrev pub ends_dark : List ℕ → Bool
@@ -108,7 +108,7 @@ cell-white p [] ws h = cell-blank p ws h
 cell-white p (b ∷ bs) ws h =
     led_in-same (move_in p (mark_of b)) (λ q. ends_cell q (bs ++ ws)) (λ q. ends_cell q bs) (λ q. cell-white q bs ws h)
 
--- nor does whitespace in front of it
+-- nor does whitespace before it
 cell-start : (bs : List ℕ) → ends_cell Open bs ≡ ends_cell Open (trim_start bs)
 cell-start [] = refl
 cell-start (b ∷ bs) = go (is_white b) refl (cell-start bs)
@@ -120,7 +120,7 @@ cell-start (b ∷ bs) = go (is_white b) refl (cell-start bs)
         here ∙ on ∙ ap (ends_cell Open) (sym (trim-white b bs e))
     go false e on = let none : trim_start (b ∷ bs) ≡ b ∷ bs = rw e refl in ap (ends_cell Open) (sym none)
 
--- behind whitespace in bytes that do not end with some, something stands
+-- after whitespace in bytes that do not end with some, something is
 pub dark-rest : (b : ℕ) (bs : List ℕ) → ends_dark (b ∷ bs) ≡ true → is_white b ≡ true →
     (is_end bs ≡ false) × (ends_dark bs ≡ true)
 dark-rest b [] h white = let no : false ≡ true = sym (ap not white) ∙ h in cc
@@ -131,7 +131,7 @@ pub dark-next : (b : ℕ) (bs : List ℕ) → ends_dark (b ∷ bs) ≡ true → 
 dark-next b [] h = refl
 dark-next b (c ∷ bs) h = h
 
--- behind a cell nothing but whitespace stands,
+-- after a cell nothing but whitespace is,
 behind-dark : (bs : List ℕ) → ends_dark bs ≡ true → ends_cell Behind bs ≡ is_end bs
 behind-dark [] h = refl
 behind-dark (b ∷ bs) h = go (mark_of b) refl (behind-dark bs)
@@ -171,7 +171,7 @@ dashes-dark (b ∷ bs) h = go (mark_of b) refl (dashes-dark bs (dark-next b bs h
         rw (e, more) on
     go Other e on = let t = told-as b Other e in rw (e, t.dash, t.colon) refl
 
--- behind the colon at its front: a dash, and more of them
+-- after the colon at its front: a dash, and more of them
 left-dark : (bs : List ℕ) → ends_dark bs ≡ true → ends_cell Left bs ≡ begins_with 45 bs && dashes bs
 left-dark [] h = refl
 left-dark (b ∷ bs) h = go (mark_of b) refl

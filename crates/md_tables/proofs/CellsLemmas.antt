@@ -1,4 +1,4 @@
--- What cells in rows keep of the events, and what stands outside of rows. Each row is told by its own events.
+-- What cells in rows keep of the events, and what is outside of rows. Each row is known from its own events.
 use Rattle.std.proofs.Common.{◌≡◌, Bool, true, false, cond, ◌&&◌, List, [], ◌∷◌, ◌++◌, drop}
 use Rattle.std.proofs.Common.{Option, Some, None, refl, sym, ◌∙◌, ap}
 use Rattle.std.specs.List.{All}
@@ -31,7 +31,7 @@ is_put n.GfmTableDelimiterCell = true
 is_put n.GfmTableDelimiterCellValue = true
 is_put _ = false
 
--- what holds of an event goes on to hold of one of these that is put where it stands
+-- what holds of an event continues to hold of one of these that is put where it is
 abbrev pub GoesOver : (Event → Type 0) → Type 0
 GoesOver P = (kind : Kind) (name : Name) (e : Event) → is_put name ≡ true → P e →
     P (record { kind = kind; name = name; point = e.point; link = None })
@@ -203,7 +203,7 @@ first-looks : (test : Event → Bool) (es rest : List Event) (e : Event) →
 first-looks test [] rest e = refl
 first-looks test (a ∷ es) rest e = refl
 
--- what stands behind whitespace there
+-- what follows whitespace there
 behind-looks : (test : Event → Bool) (es rest : List Event) (e : Event) → ends_row e ≡ true →
     has_white (es ++ e ∷ []) ≡ true →
     first_is test (drop 2 (es ++ e ∷ rest)) ≡ first_is test (drop 2 (es ++ e ∷ []))

@@ -23,19 +23,19 @@ use Rattle.md_tables.proofs.WhiteEnds.{blank-light}
 
 -- The pieces of a row.
 
--- behind a byte that neither divides nor escapes
+-- after a byte that neither divides nor escapes
 pieces-plain : (b : ℕ) (bs : List ℕ) → nat_eq b 124 ≡ false → nat_eq b 92 ≡ false → (p : Parted (pieces false bs)) →
     pieces false (b ∷ bs) ≡ (b ∷ p.first) ∷ p.others
 unfolding pieces
 pieces-plain b bs e k p = rw (e, k) (onto-parted b _ p)
 
--- and behind one that does not divide
+-- and after one that does not divide
 pieces-other : (b : ℕ) (bs : List ℕ) → nat_eq b 124 ≡ false → (p : Parted (pieces (nat_eq b 92) bs)) →
     pieces false (b ∷ bs) ≡ (b ∷ p.first) ∷ p.others
 unfolding pieces
 pieces-other b bs e p = rw e (onto-parted b _ p)
 
--- a pipe at the end, and one in front of something
+-- a pipe at the end, and one before something
 pieces-last : (b : ℕ) → nat_eq b 124 ≡ true → pieces false (b ∷ []) ≡ [] ∷ []
 unfolding pieces
 pieces-last b e = rw e refl
@@ -50,7 +50,7 @@ pieces-pipe b c bs e =
 abbrev has_mark : List ℕ → Bool
 has_mark row = list_any (λ b. nat_eq b 58 || nat_eq b 124) row
 
--- how many cells a place adds to those that were counted: one in front of its first dash
+-- how many cells a place adds to those that were counted: one before its first dash
 abbrev own : Place → ℕ
 own Front = 0
 own Open = 1
@@ -106,13 +106,13 @@ end-asked _ s InBehind e =
     let same : s.size ≡ s.size + 0 = omega arith in
     ap₂ (λ (x : Bool) (n : ℕ). x && nat_eq n s.columns_wanted) (sym (or-false s.seen)) same
 
--- what is known of the bytes behind one
+-- what is known of the bytes after one
 abbrev IsAsked : List ℕ → Type 0
 IsAsked bs =
     (q : Place) (s : Scratch) → IsIn q → is_open q && is_end bs ≡ false →
     fits q s bs ≡ asked q s (pieces false bs) (has_mark bs)
 
--- a byte that goes on with its piece
+-- a byte that continues with its piece
 plain-asked : (p q : Place) (s t : Scratch) (b : ℕ) (bs : List ℕ) → fits p s (b ∷ bs) ≡ fits q t bs →
     nat_eq b 124 ≡ false → nat_eq b 92 ≡ false → IsIn q → IsAsked bs → is_open q && is_end bs ≡ false →
     ((f : List ℕ) → ends_cell p (b ∷ f) ≡ ends_cell q f) →
@@ -125,7 +125,7 @@ plain-asked p q s t b bs to e k i on some cell counts =
     (counts (length r.others))
     ∙ sym (ap (λ (row : List (List ℕ)). asked p s row (has_mark (b ∷ bs))) (pieces-plain b bs e k r))
 
--- a byte that may not stand there, and is no pipe
+-- a byte that may not be there, and is no pipe
 refused-asked : (p : Place) (s : Scratch) (b : ℕ) (bs : List ℕ) → fits p s (b ∷ bs) ≡ false → nat_eq b 124 ≡ false →
     ((f : List ℕ) → ends_cell p (b ∷ f) ≡ false) →
     fits p s (b ∷ bs) ≡ asked p s (pieces false (b ∷ bs)) (has_mark (b ∷ bs))
@@ -138,7 +138,7 @@ refused-asked p s b bs to e cell =
     (λ (x : Bool).
     x && (list_all (ends_cell Open) r.others && total s (own p + length r.others) (has_mark (b ∷ bs)))) (cell r.first))
 
--- a pipe that may not stand there
+-- a pipe that may not be there
 pipe-refused : (p : Place) (s : Scratch) (b : ℕ) (bs : List ℕ) → nat_eq b 124 ≡ true → fits p s (b ∷ bs) ≡ false →
     ends_cell p [] ≡ false → fits p s (b ∷ bs) ≡ asked p s (pieces false (b ∷ bs)) (has_mark (b ∷ bs))
 pipe-refused p s b [] e to none = to ∙ sym (rw (pieces-last b e, none) refl)
@@ -394,7 +394,7 @@ pub record Begins (s : Scratch) : Type 0 where
   pub seen : s.seen ≡ false
   pub some : 0 < s.columns_wanted
 
--- the pieces of a row behind its first pipe, or of the whole row
+-- the pieces of a row after its first pipe, or of the whole row
 open-fits : (s : Scratch) (row u : List ℕ) (seen : Bool) → s.size ≡ 0 → s.seen ≡ seen → ends_dark u ≡ true →
     is_end u ≡ false → trim row ≡ row → after_optional 124 row ≡ u → seen || has_mark u ≡ has_mark row →
     fits Open s u ≡ are_columns (delimiter_columns row) s.columns_wanted
@@ -487,7 +487,7 @@ dark-fits s (b ∷ c ∷ bs) begin dark ends = by (mark_of b) refl
     by Dash e = whole Dash e (told-as b Dash e).pipe refl
     by Other e = whole Other e (told-as b Other e).pipe refl
 
--- A line behind its indent is a delimiter row by the states just if it is one by the line definition, with as many
+-- A line after its indent is a delimiter row by the states just if it is one by the line definition, with as many
 -- columns as are asked for.
 pub delimiter-fits : (s : Scratch) (bytes : List ℕ) → Begins s → begins is_white bytes ≡ false →
     fits Front s bytes ≡ are_columns (delimiter_columns (trim bytes)) s.columns_wanted

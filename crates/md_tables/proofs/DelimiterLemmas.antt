@@ -74,14 +74,14 @@ told b = go (nat_eq b 10) (is_white b) (nat_eq b 124) (nat_eq b 58) (nat_eq b 45
 pub told-as : (b : ℕ) (x : Mark) → mark_of b ≡ x → Told b x
 told-as b x e = rw (← e) (told b)
 
--- what is left behind a byte
+-- what is left after a byte
 abbrev pub moved : Move → Run → List Cell → Here → Outcome
 moved (Goes q) run cs h = in_row run q cs h
 moved Counts run cs h = in_row run Dashes cs (record h { scratch = counted h.scratch })
 moved (Marks q) run cs h = in_row run q cs (record h { scratch = met h.scratch })
 moved Fails run cs h = Refuses (uncounted h.scratch) h.flags
 
--- a run goes on
+-- a run continues
 pub row-goes : (run : Run) (place : Place) (c : Cell) (cs : List Cell) (h : Here) (m : Move) →
     move place (mark_of c.byte) ≡ m → nat_eq c.byte 10 ≡ false → goes_on run c.byte ≡ true →
     in_row run place (c ∷ cs) h ≡ moved m run cs (record h { point = c.after })
@@ -134,7 +134,7 @@ one-ends run place (c ∷ cs) h one = go (nat_eq c.byte 10) refl
     go true e = row-ends_line run place c cs h e
     go false e = row-ends run place c cs h (one c.byte) e
 
--- where whitespace may stand, and does not end a cell
+-- where whitespace may be, and does not end a cell
 pub data MaySpace : Place → Type 0 where
   InOpen : MaySpace Open
   InBehind : MaySpace Behind
@@ -163,7 +163,7 @@ takes-white place may = record {
     go c cs h k true e = row-ends_line Space place c cs h e
     go c cs h k false e = row-ends Space place c cs h k e
 
--- whitespace that stands here is the next run
+-- whitespace that is here is the next run
 pub apart-white : (place : Place) (c : Cell) (cs : List Cell) (h : Here) → MaySpace place → is_white c.byte ≡ true →
     in_row Apart place (c ∷ cs) h ≡
     in_row Space place (c ∷ cs) (record h { events = h.events ++ enter SpaceOrTab h.point ∷ [] })
@@ -177,7 +177,7 @@ apart-white place c cs h may s =
     (row-goes Space place c cs (record h { events = h.events ++ enter SpaceOrTab h.point ∷ [] }) (Goes place)
     to ending s)
 
--- where none stands, what is left behind it
+-- where none is, what is left after it
 pub apart-none : (place : Place) (cells : List Cell) (h : Here) → begins_white cells ≡ false →
     behind_white place cells h ≡ in_row Apart place cells h
 unfolding behind_white

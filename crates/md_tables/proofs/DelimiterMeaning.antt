@@ -82,7 +82,7 @@ refused_means : (B : Behaviour) (feed : Feed) (from : State) (w : World) →
     Steps B feed from w (refused w).to (refused w).world
 refused_means B feed from w e = passes B feed from _ w (refused w).world refl refl e
 
--- what stands there does not end the line
+-- what is there does not end the line
 not-stop : (y : Mark) → is_here y ≡ true → is_stop y ≡ false
 not-stop Stops k = cc
 not-stop White k = refl
@@ -91,7 +91,7 @@ not-stop Aligns k = refl
 not-stop Dash k = refl
 not-stop Other k = refl
 
--- a byte that may not stand there
+-- a byte that may not be there
 fails-here : (feed : Feed) (w : World) (place : Place) (x : Mark) (h : Here) → Sees feed w → mark w.current ≡ x →
     is_here x ≡ true → move place x ≡ Fails →
     in_row Apart place (feed w.point) h ≡ Refuses (uncounted h.scratch) h.flags
@@ -281,7 +281,7 @@ start_means B feed w x has s r e = rw two (go x e)
         (row_opens w.point) refl refl
         (has.each its.HeadDelimiterStart Start _ _ ∙ rw none refl ∙ sym (has.each its.HeadDelimiterBefore Before _ _))
 
--- where no whitespace stands, what is left behind some
+-- where no whitespace is, what is left after some
 dark-here : (feed : Feed) (w : World) (place : Place) (x : Mark) → Sees feed w → mark w.current ≡ x → (x ≡ White → ⊥) →
     behind_white place (feed w.point) (here w) ≡ in_row Apart place (feed w.point) (here w)
 dark-here feed w place x s e dark =

@@ -49,7 +49,7 @@ around-roles : (P : Role → Type 0) (name : Name) (p q : Point) (es : List Even
     Roles P (around name p q es)
 around-roles P name p q es h all = (h, roles-append P es (exit name q ∷ []) all (h, tt))
 
--- a cell with the pipe in front of it, and what else stands in it
+-- a cell with the pipe before it, and what else is in it
 piped-roles : (P : Role → Type 0) (name : Name) (part : List ℕ → Point → List Event) → OfRow P name part →
     (piped : Bool) (cell : List ℕ) (p end : Point) →
     Roles P (around name p end (first_pipe piped p ++ cell_by part cell (past_pipe piped p)))
@@ -139,7 +139,7 @@ delimiter-quiet line p =
 
 -- Its text.
 
--- a tab that is cut in front of it belongs to its whitespace
+-- a tab that is cut before it belongs to its whitespace
 text-trim : (bytes line behind : List ℕ) (p : Point) → drop p.index bytes ≡ line ++ behind →
     (begins is_white line ≡ false → p.vs ≡ 0) →
     trim (slice_range bytes (byte_at p) (past_text line p).index) ≡ trim line
@@ -164,7 +164,7 @@ text-trim bytes line behind p text whole = go line text whole (p.vs == 0) refl
             (past-next p.index bytes b (bs ++ behind) text) (past-index bs (past_byte b p)))
             ∙ sym (ap trim_end (trim-white b bs k))
 
--- A delimiter row tells its line, where none was told before.
+-- A delimiter row shows its line, where none was said before.
 pub delimiter-read : (bytes : List ℕ) (r : Reading) (rows : List (List (List ℕ))) (line behind : List ℕ) (p : Point) →
     drop p.index bytes ≡ line ++ behind → (begins is_white line ≡ false → p.vs ≡ 0) →
     r.leaf ≡ Some (TableLeaf (record { delimiter = []; rows = rows })) →

@@ -28,7 +28,7 @@ pub space-on : (b : ℕ) (bs : List ℕ) (p : Point) → is_white b ≡ true →
     delimiter_runs Space (b ∷ bs) p ≡ delimiter_runs Space bs (past_byte b p)
 space-on b bs p e = rw e refl
 
--- behind whitespace the next run begins as between two
+-- after whitespace the next run begins as between two
 pub space-ends : (b : ℕ) (bs : List ℕ) (p : Point) → is_white b ≡ false →
     delimiter_runs Space (b ∷ bs) p ≡ exit n.SpaceOrTab p ∷ delimiter_runs Apart (b ∷ bs) p
 space-ends b bs p e = rw e refl
@@ -48,7 +48,7 @@ blank-runs (b ∷ bs) p h =
     space-opens b bs p both.0
     ∙ ap (λ (es : List Event). enter n.SpaceOrTab p ∷ es) (space-alone bs (past_byte b p) both.1)
 
--- and ends in front of what is none
+-- and ends before what is none
 pub space-front : (bs : List ℕ) (p : Point) →
     delimiter_runs Space bs p ≡
     exit n.SpaceOrTab (past_text (white_front bs) p)
@@ -65,7 +65,7 @@ space-front (b ∷ bs) p = go (is_white b) refl (space-front bs (past_byte b p))
     go true e more = space-on b bs p e ∙ more ∙ sym (ap₂ by (front-one b bs e) (trim-white b bs e))
     go false e more = space-ends b bs p e ∙ sym (ap₂ by (front-none b bs e) (start-none b bs e))
 
--- the runs of a line are the whitespace in front of it, and those behind that
+-- the runs of a line are the whitespace before it, and those after that
 pub front-runs : (line : List ℕ) (p : Point) →
     delimiter_runs Apart line p ≡
     white_part (white_front line) p ++ delimiter_runs Apart (trim_start line) (past_text (white_front line) p)
@@ -93,7 +93,7 @@ pipe-alone (b ∷ bs) p = refl
 pub pipe-opens : (bs : List ℕ) (p : Point) → delimiter_runs Apart (124 ∷ bs) p ≡ piped bs p
 pipe-opens bs p = ap (λ (es : List Event). enter n.GfmTableCellDivider p ∷ es) (pipe-alone bs (past_byte 124 p))
 
--- a run of a cell ends in front of one
+-- a run of a cell ends before one
 pub value-pipe : (run : Run) (bs : List ℕ) (p : Point) → goes_on run 124 ≡ false →
     delimiter_runs run (124 ∷ bs) p ≡ closes run p ++ piped bs p
 value-pipe run bs p e =
@@ -103,7 +103,7 @@ value-pipe run bs p e =
 
 -- What a cell holds.
 
--- what is left of it in a run, and behind it
+-- what is left of it in a run, and after it
 abbrev pub value_left : Run → List ℕ → Point → List Event
 value_left run x p =
     let q = past_text (trim_end x) p in
@@ -152,7 +152,7 @@ value-ends run x p h =
     (λ (t w : List ℕ).
     delimiter_runs run t p ++ exit n.GfmTableDelimiterCellValue (past_text t p) ∷ white_part w (past_text t p)) e.0 e.1
 
--- What is left of cells: where the first begins, in the whitespace in front of what it holds, and in a run of that.
+-- What is left of cells: where the first begins, in the whitespace before what it holds, and in a run of that.
 
 abbrev pub behind : Cells → Point → List Event
 behind cells p = behind_first n.GfmTableDelimiterCell value_part cells p
@@ -226,7 +226,7 @@ run-begun b bs p e = go (nat_eq b 124) refl (nat_eq b 58) refl
       no_white = refl;
     }
 
--- whitespace that goes on: where it ends, and whether the row ends behind it
+-- whitespace that continues: where it ends, and whether the row ends after it
 pub record SpaceRun (bs : List ℕ) (p : Point) : Type 0 where
   pub at : Point
   pub after : List Event
@@ -253,7 +253,7 @@ space-run (b ∷ bs) p = go (is_white b) refl (space-run bs (past_byte b p))
           ends = ap (first_is ends_row) next.is ∙ next.no_row ∙ sym (dark-first b bs e);
         }
 
--- a pipe is the last where whitespace alone stands behind it
+-- a pipe is the last where whitespace alone is after it
 pub last-pipe : (bs : List ℕ) (p : Point) → row_ends (delimiter_runs Apart bs p ++ row_end bs p) ≡ is_blank bs
 last-pipe [] p = refl
 last-pipe (b ∷ bs) p = go (is_white b) refl

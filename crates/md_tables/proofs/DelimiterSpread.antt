@@ -46,7 +46,7 @@ delimiter-white = record {
   opens = λ c cs p e. rw e refl;
 }
 
--- the indent with the runs behind it is all the runs of the line
+-- the indent with the runs after it is all the runs of the line
 pub indent-runs : (room : ℕ) (cells : List Cell) (p : Point) → begins_white (white_rest room cells) ≡ false →
     cond (begins_white cells) (pair SpaceOrTab p (white_end room cells p)) []
     ++ runs Apart (line_cells (white_rest room cells)) (white_end room cells p) ≡

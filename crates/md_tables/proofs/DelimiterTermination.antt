@@ -1,4 +1,4 @@
--- A delimiter row stands and ends in any table that has it.
+-- A delimiter row is and ends in any table that has it.
 use Rattle.std.proofs.Common.{◌≡◌, ℕ, ◌+◌, ◌<◌, ◌≤◌, Bool, true, false, Option, List, refl, arith, ap, sym}
 use Rattle.md_engine.specs.declared.event.Event.{Event}
 use Rattle.md_engine.specs.declared.event.Name.{Name}
@@ -52,7 +52,7 @@ turned_ends T state next w events a b has r less = (
   refl,
 )
 
--- it takes what stands here
+-- it takes what is here
 taken_ends : (T : Scheme) (state next : TableState) (w : World) (events : List Event) (s : Scratch) →
     IsOfDelimiter state → IsOfDelimiter next → DelimiterFits T → ready w T → w.point.index < w.setting.limit →
     s.size ≤ w.scratch.size + 1 → uncounted s ≡ uncounted w.scratch →
@@ -86,7 +86,7 @@ white_ends T state next w events max false a b has r low less =
     let under = low (position w) in
     turned_ends T state next w events a b has r (omega (arith, under, less))
 
--- where a mark stands the text may be read
+-- where a mark is the text may be read
 abbrev stands_here : Mark → Bool
 stands_here Stops = false
 stands_here _ = true

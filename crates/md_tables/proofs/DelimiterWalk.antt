@@ -36,7 +36,7 @@ use Rattle.md_tables.proofs.DelimiterRuns.{last-pipe}
 
 -- The walk.
 
--- where a cell begins, or in the whitespace in front of it
+-- where a cell begins, or in the whitespace before it
 record AtCell (bs : List ℕ) (p : Point) : Type 0 where
   pub start : celled (Within Delimiter) (delimiter_runs Apart bs p ++ row_end bs p) ≡
       cells_left (cells_of false bs) p ++ row_end bs p
@@ -49,7 +49,7 @@ InRun run bs p =
     celled (Inner Delimiter) (delimiter_runs run bs p ++ row_end bs p) ≡
     left_in_value run (cells_of false bs) p ++ row_end bs p
 
--- behind that
+-- after that
 record BehindValue (bs : List ℕ) (p : Point) : Type 0 where
   pub blank : is_blank (first_cell (cells_of false bs)) ≡ true
   pub run : InRun Colon bs p
@@ -90,7 +90,7 @@ unfolding celled
 run-none _ p IsColon = sym (ap (λ (c : Cells). left_in_value Colon c p ++ row_end [] p) (cells-none false))
 run-none _ p IsFiller = sym (ap (λ (c : Cells). left_in_value Filler c p ++ row_end [] p) (cells-none false))
 
--- in front of a pipe,
+-- before a pipe,
 run-pipe : (run : Run) (bs : List ℕ) (p : Point) → IsValue run → AtCell bs (past_byte 124 p) → InRun run (124 ∷ bs) p
 unfolding celled
 run-pipe run bs p is walks = go run is
@@ -116,7 +116,7 @@ run-pipe run bs p is walks = go run is
         (λ (es : List Event). exit n.GfmTableDelimiterFiller p ∷ exit n.GfmTableDelimiterCellValue p ∷ es)
         (piped-walk bs p walks) ∙ sym (wanted Filler)
 
--- in front of whitespace, behind which nothing else stands in the cell,
+-- before whitespace, after which nothing else is in the cell,
 run-space : (run : Run) (b : ℕ) (bs : List ℕ) (p : Point) → IsValue run → Told b White →
     BehindValue bs (past_byte b p) → InRun run (b ∷ bs) p
 unfolding celled
@@ -168,7 +168,7 @@ run-space run b bs p is t more = go run is
         exit n.GfmTableDelimiterFiller p ∷ exit n.GfmTableDelimiterCellValue p ∷ enter n.SpaceOrTab p ∷ es) rest
         ∙ sym (wanted Filler)
 
--- or in front of another,
+-- or before another,
 run-turns : (run into : Run) (b : ℕ) (bs : List ℕ) (p : Point) → IsValue run → IsValue into → is_white b ≡ false →
     nat_eq b 124 ≡ false → nat_eq b 92 ≡ false → goes_on run b ≡ false → begun b ≡ into →
     InRun into bs (past_byte b p) → InRun run (b ∷ bs) p
@@ -224,7 +224,7 @@ run-turns run into b bs p is at dark pipe slash off same more = go run into is a
         ∙ ap (λ (es : List Event). exit n.GfmTableDelimiterFiller p ∷ enter n.GfmTableDelimiterFiller p ∷ es) more
         ∙ sym (wanted Filler Filler off same)
 
--- or it goes on
+-- or it continues
 run-more : (b : ℕ) (bs : List ℕ) (p : Point) → is_white b ≡ false → nat_eq b 124 ≡ false → nat_eq b 92 ≡ false →
     nat_eq b 45 ≡ true → InRun Filler bs (past_byte b p) → InRun Filler (b ∷ bs) p
 run-more b bs p dark pipe slash on more =
@@ -339,7 +339,7 @@ cell-none p = record {
   space = sym (ap (λ (c : Cells). left_in_space c p ++ row_end [] p) (cells-none false));
 }
 
--- Behind what a cell holds.
+-- After what a cell holds.
 
 behind-none : (p : Point) → BehindValue [] p
 behind-none p = record {
@@ -373,9 +373,9 @@ behind-pipe bs p walks = record {
       ∙ ap (λ (es : List Event). es ++ row_end (124 ∷ bs) p) (pipe-by (white_left value_part) bs p));
 }
 
--- By the byte: what may not stand there does not.
+-- By the byte: what may not be there does not.
 
--- what is known of the bytes behind one
+-- what is known of the bytes after one
 abbrev Walked : List ℕ → Type 0
 Walked bs = (place : Place) (s : Scratch) (q : Point) → fits place s bs ≡ true → WalksAt place bs q
 
@@ -454,7 +454,7 @@ walked (b ∷ bs) BehindCell s p h = behind-by s b bs p (mark_of b) (told b) h (
 
 -- A whole row.
 
--- where no whitespace stands in front of it
+-- where no whitespace is before it
 row-starts : (s : Scratch) (line : List ℕ) (p : Point) → fits FrontOfRow s line ≡ true →
     celled (Front Delimiter) (delimiter_runs Apart line p ++ row_end line p) ≡
     cells_by n.GfmTableDelimiterCell value_part (begins_with 124 line) (line_cells line) p ++ row_end line p
@@ -471,7 +471,7 @@ row-starts s (b ∷ bs) p h = go (mark_of b) (told b) h
         cells_by n.GfmTableDelimiterCell value_part (begins_with 124 (c ∷ bs)) (line_cells (c ∷ bs)) p
         ++ row_end (c ∷ bs) p
 
-    -- behind a pipe
+    -- after a pipe
     piped_row : AtCell bs (past_byte 124 p) → Row 124
     piped_row more =
         let q = past_byte 124 p in
@@ -524,7 +524,7 @@ row-starts s (b ∷ bs) p h = go (mark_of b) (told b) h
     go White t h = let no : false ≡ true = h in cc
     go Other t h = let no : false ≡ true = h in cc
 
--- The walk gives for the runs of a delimiter row, behind the whitespace in front of it, the row with its cells.
+-- The walk gives for the runs of a delimiter row, after the whitespace before it, the row with its cells.
 pub delimiter-celled : (s : Scratch) (line : List ℕ) (p : Point) → fits FrontOfRow s (trim_start line) ≡ true →
     celled (Front Delimiter)
     ((white_part (white_front line) p ++ delimiter_runs Apart (trim_start line) (past_text (white_front line) p))

@@ -1,4 +1,4 @@
--- A line of a table begins with a few bytes: where another stands first behind whitespace, none is taken.
+-- A line of a table begins with a few bytes: where another is first after whitespace, none is taken.
 use Rattle.std.proofs.Common.{◌≡◌, ℕ, Bool, true, false, cond, ◌&&◌, ◌||◌, List, ◌∷◌, arith, refl, ap, ◌∙◌}
 use Rattle.std.specs.Prelude.{◌==◌, nat_lt, Some}
 use Rattle.std.proofs.lemmas.Bool.Decides.{nat_tests}
@@ -18,7 +18,7 @@ use Rattle.md_tables.specs.Delimiter.{Aligns, Dash, Divides, Other, Stops, White
 use Rattle.md_tables.specs.GfmTable.{asking_columns, may_begin, may_head}
 use Rattle.md_tables.specs.GfmTableLine.{delimiter_fits, is_row_of, table_takes}
 
--- A line that meets text is no delimiter row where another byte stands first behind whitespace than one begins with.
+-- A line that meets text is no delimiter row where another byte is first after whitespace than one begins with.
 
 -- the bytes that one begins with
 abbrev is_mark : ℕ → Bool

@@ -70,7 +70,7 @@ has-delimiter B options has = record {
     same _ CellAfter cells h = refl
     same _ Refused cells h = refl
 
--- In front of a row.
+-- Before a row.
 
 head_means : (B : Behaviour) (feed : Feed) (w : World) (text : OpenText) (x : Bool) → HasTable B w.setting.options →
     goes B (Next (n.GfmTable its.Start)) (feed w.point) (here w) ≡
@@ -90,7 +90,7 @@ start_means B feed w held_leaf.Table has e =
     passes B feed _ _ w w refl refl (e ∙ sym (has.each its.BodyRowStart _ _))
 start_means B feed w _ has e = passes B feed _ _ w w refl refl e
 
--- where none may begin by what stands first behind the indent, the rule refuses
+-- where none may begin by what is first after the indent, the rule refuses
 begins_means : (B : Behaviour) (feed : Feed) (w : World) (x : Bool) → HasTable B w.setting.options → Sees feed w →
     IsRest w.scratch → may_with (may_begin w.flags.leaf) (looks_behind w) ≡ x →
     Steps B feed (Next (n.GfmTable its.Start)) w (begins_code w x).to (begins_code w x).world

@@ -1,4 +1,4 @@
--- The states of tables stand and end in any table of states that has them.
+-- The states of tables are and end in any table of states that has them.
 use Rattle.std.proofs.Common.{◌≡◌, Bool, true, false, refl, arith, ap}
 use Rattle.md_engine.specs.declared.state.Name.{Name as StateName}
 use Rattle.md_engine.specs.declared.state.Name.TheVariants as n
@@ -69,7 +69,7 @@ delimiter-fits T has = record {
     each _ CellAfter f = part-fits T _ f
     each _ Refused f = part-fits T _ f
 
--- In front of a row.
+-- Before a row.
 
 refused_ends : (T : Scheme) (w : World) → rest_ready (position w) (after_all T w.frames) →
     Does T (n.GfmTable its.Start) w (record { to = Nok; world = w })
@@ -107,7 +107,7 @@ begins_ends : (T : Scheme) (w : World) (x : Bool) → TableFits T → rest_ready
 begins_ends T w true has r = start_ends T w w.flags.leaf has r
 begins_ends T w false has r = refused_ends T w r
 
--- behind the indent of a head
+-- after the indent of a head
 row_start_ends : (T : Scheme) (w : World) → TableFits T → rest_ready (position w) (after_all T w.frames) →
     Does T (n.GfmTable its.HeadRowStart) w (head_row_start_transition w)
 row_start_ends T w has r = (

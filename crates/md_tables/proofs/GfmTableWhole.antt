@@ -19,7 +19,7 @@ use Rattle.md_tables.specs.GfmTableRule.{head_at, table_at, table_by}
 use Rattle.md_tables.specs.RowRule as row
 use Rattle.md_tables.specs.declared.row.Row.TheVariants.{Body}
 
--- a line that ends with these events, with a table open behind it
+-- a line that ends with these events, with a table open after it
 abbrev pub line_taken : List Event → List Cell → Here → Outcome
 line_taken added cells h =
     Accepts
@@ -32,7 +32,7 @@ line_taken added cells h =
 
 -- Delimiter rows.
 
--- what is left of one behind its indent
+-- what is left of one after its indent
 row-taken : (run : Run) (place : Place) (cells : List Cell) (h : Here) →
     fits place h.scratch (line_bytes cells) ≡ true →
     in_row run place cells h ≡
@@ -59,7 +59,7 @@ uncount columns s is = ap (λ (t : Scratch). uncounted (calmed (asking_columns c
 unask : (columns : ℕ) (s : Scratch) → IsRest s → uncounted (asking_columns columns s) ≡ s
 unask columns s is = ap (λ (t : Scratch). uncounted (asking_columns columns t)) is ∙ sym is
 
--- whether it fits hangs on that alone, behind whitespace and where there is none
+-- whether it fits hangs on that alone, after whitespace and where there is none
 asked-white : (columns : ℕ) (s : Scratch) (bytes : List ℕ) (x : Bool) → IsRest s → is_row_of columns bytes ≡ x →
     fits Front (calmed (asking_columns columns s)) bytes ≡ x
 asked-white columns s bytes x is e = ap (λ (t : Scratch). fits Front (calmed (asking_columns columns t)) bytes) is ∙ e
@@ -127,7 +127,7 @@ delimiter-refused options columns cells h is e = go (begins_white cells) refl
 
 -- Rows of the body.
 
--- where a table is open, it is open behind the line
+-- where a table is open, it is open after the line
 row-took : (cells : List Cell) (h : Here) → h.flags.leaf ≡ held_leaf.Table →
     row.in_row Body row.Apart cells (record h { events = h.events ++ row.row_opens Body h.point }) ≡
     line_taken (row_adds cells h.point) cells h

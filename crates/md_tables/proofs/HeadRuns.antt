@@ -1,4 +1,4 @@
--- What a line comes to that is read as the head of a table, as a function of the text.
+-- What a line becomes that is read as the head of a table, as a function of the text.
 use Rattle.std.proofs.Common.{◌≡◌, ◌^◌, ◌<◌, ℕ, false, true, List, [], ◌∷◌, ◌++◌, refl, sym, ◌∙◌, ap, arith}
 use Rattle.std.proofs.Common.{subst, append_assoc}
 use Rattle.md_engine.specs.declared.configuration.ParseOptions.{ParseOptions}
@@ -23,22 +23,22 @@ use Rattle.md_tables.specs.Heads.{cells_between, head_line, head_row}
 use Rattle.md_tables.specs.RowRule.{in_row}
 use Rattle.md_tables.proofs.HeadStates.{head_table_means, head_stands}
 
--- where it begins the head stands
+-- where it begins the head is
 begins : (w : World) → IsRest w.scratch → w.frames ≡ [] → stands head_scheme w (Next head_start)
 begins w rest none = (rest, rw none (record { ok = λ s q t is g r. tt; nok = λ s q t is g. tt }))
 
--- what stands behind it
+-- what follows it
 abbrev behind : List Cell → World → Here
 behind cells w = record (here w) { events = w.events ++ head_row cells w.point; point = line_end cells w.point }
 
--- a head row over its cells is all that the states come to
+-- a head row over its cells is all that the states become
 head-comes : (feed : Feed) (w : World) → w.frames ≡ [] →
     comes_to head_behaves feed (Next head_start) w ≡
     Accepts (behind (feed w.point) w) (from_ending (feed w.point))
 unfolding in_row
 head-comes feed w none = rw none (simp append_assoc)
 
--- a push keeps what a tokenizer comes to, and stands
+-- a push keeps what a tokenizer becomes, and is
 head-push : (s s' : State) (w w' : World) (limit : ℕ) → limit < 2 ^ 61 →
     stands head_scheme (reads_to w limit) (plain s) → Runs HeadStep false s (reads_to w limit) s' w' →
     (let feed = text_feed (reads_to w limit).setting in
@@ -48,7 +48,7 @@ head-push s s' w w' limit small at run =
     (head_table_means (reads_to w limit).setting false) head_stands
     (text-follows (reads_to w limit).setting limit false small (omega arith) (λ e. cc)) at s' w' run
 
--- a flush comes to where the tokenizer ends
+-- a flush reaches where the tokenizer ends
 head-flush : (R : Resolution) (s : State) (w : World) (found : Found) (new : World) (h : Here) (rest : List Cell) →
     w.setting.limit < 2 ^ 61 → stands head_scheme w (plain s) →
     comes_to head_behaves (text_feed w.setting) s w ≡ Accepts h rest →
@@ -69,7 +69,7 @@ head-flush R s w found new h rest small at is f =
     go (Next name) t k = absurd t
     go (Retry name) t k = absurd t
 
--- what is read of a line, behind these events
+-- what is read of a line, after these events
 head-read : (bytes : List ℕ) (options : ParseOptions) (p q : Point) (events : List Event) (s : State) (w' : World)
     (R : Resolution) (found : Found) (new : World) → q.index < 2 ^ 61 →
     (let w : World = record (fresh bytes options p) { events = events } in

@@ -93,7 +93,7 @@ head_table_means under is_end feed name w to new f called step =
     steps-as head_behaves feed (Next name) _ to (reading w) _ new step.to_is step.new_is
     (head_means feed name (reading w) (sees feed w is_end f called.may) called.stands)
 
--- and comes to where the table stands
+-- and reaches where the table is
 pub head_stands : StandsOn HeadStep head_scheme
 head_stands name w to new at step =
     does-stands head_scheme name (reading w) (head_transition name (reading w)) to new step.to_is step.new_is

@@ -14,7 +14,7 @@ use Rattle.md_tables.specs.Heads.{begins_chunk, begins_further_row, head_line, h
 use Rattle.md_tables.specs.Heads.{is_chunk, meets_table, stops_look}
 use Rattle.md_tables.proofs.HeadsWalk.{headed-begins, headed-passes, not-head}
 
--- Where a look behind the ending of a line stops.
+-- Where a look after the ending of a line stops.
 
 abbrev stops_as : Name → Bool
 stops_as name = is_chunk name || is_blank_ending name || is_block (role name)

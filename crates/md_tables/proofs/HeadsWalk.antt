@@ -55,7 +55,7 @@ headed-run bytes options (e ∷ es) = go (begins_chunk e) refl (headed-run bytes
     go true h k = refl
     go false h k = headed-more bytes options e es _ _ refl (not-head e es h) k
 
--- and so do events behind one with which no head begins
+-- and so do events after one with which no head begins
 pub headed-next : (bytes : List ℕ) (options : ParseOptions) (es : List Event) (n : ℕ) →
     0 < length es → is_head es ≡ false →
     headed bytes options (drop 1 es) ≡ take n (drop 1 es) ++ headed bytes options (drop n (drop 1 es)) →
@@ -128,7 +128,7 @@ leads-first bytes options events all left held written placed =
       whole = ap (λ (l : List Event). l ++ headed bytes options (left_of all)) none ∙ ap (headed bytes options) left;
     }
 
--- behind events that pass, and are held
+-- after events that pass, and are held
 pub leads-held : (bytes : List ℕ) (options : ParseOptions) (events : List Event) (old new : Rewriting) (n : ℕ) →
     left_of new ≡ drop n (left_of old) → held_of new ≡ held_of old ++ take n (left_of old) →
     written_of new ≡ written_of old →
@@ -161,7 +161,7 @@ headed-two bytes options (y ∷ x ∷ es) e d first is =
     headed-begins bytes options y x es is
     ∙ ap (λ (z : Event). head_line bytes options z.point x.point ++ headed bytes options es) same
 
--- behind a head
+-- after a head
 pub leads-headed : (bytes : List ℕ) (options : ParseOptions) (events : List Event) (old new : Rewriting)
     (head : List Event) (e d : Event) → left_of old ≡ e ∷ drop 1 (left_of old) → is_head (left_of old) ≡ true →
     left_of new ≡ drop 2 (left_of old) → held_of new ≡ [] → written_of new ≡ given_of old ++ head →

@@ -1,4 +1,4 @@
--- The walk over a table goes on with parts of rows.
+-- The walk over a table continues with parts of rows.
 use Rattle.std.proofs.Common.{◌≡◌, ◌≤◌, Bool, true, false, cond, ◌&&◌, None, Some, List, [], ◌∷◌, ◌++◌, drop, get_or}
 use Rattle.std.proofs.Common.{length, refl, subst, ◌∙◌, ap, append-nil, append_assoc, arith}
 use Rattle.std.proofs.lemmas.Bool.{and_parts}
@@ -206,7 +206,7 @@ body-begins Between e es h =
     refl)
 body-begins _ e es h = absurd (cc)
 
--- A pipe: in front of the first cell of a row,
+-- A pipe: before the first cell of a row,
 pub front-goes : (section : Section) (k : RowKind) (a b : Event) (es : List Event) → in_table section ≡ true →
     is_pair is_divider a b ≡ true →
     tabled_from section (Front k) (a ∷ b ∷ es)

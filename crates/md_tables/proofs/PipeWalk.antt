@@ -21,7 +21,7 @@ pub dark-looks : (e : Event) (es : List Event) → is_white e.name ≡ false →
 dark-looks e [] h = refl
 dark-looks e (f ∷ es) h = rw h refl
 
--- behind the last pipe whitespace passes
+-- after the last pipe whitespace passes
 pub white-behind : (w : List ℕ) (p : Point) (end : List Event) → celled Behind end ≡ end →
     celled Behind (white_part w p ++ end) ≡ white_part w p ++ end
 unfolding celled

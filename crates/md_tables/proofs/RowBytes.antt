@@ -20,7 +20,7 @@ use Rattle.md_tables.proofs.WhiteEnds.{end-whole, front-none, front-one}
 
 -- The bytes of cells.
 
--- a pipe in front of a cell, if there is one
+-- a pipe before a cell, if there is one
 abbrev pub pipe_bytes : Bool → List ℕ
 pipe_bytes true = 124 ∷ []
 pipe_bytes false = []
@@ -62,7 +62,7 @@ bytes-of false (b ∷ bs) = go (nat_eq b 124) refl (λ x. bytes-of x bs)
         behind-bytes bs (cells_of false bs) (more false) ∙ ap (λ (c : ℕ). c ∷ bs) (sym (eqb-true b 124 k))
     go false k more = onto-bytes b (cells_of (nat_eq b 92) bs) ∙ ap (λ (xs : List ℕ). b ∷ xs) (more (nat_eq b 92))
 
--- and so are those of a line, with the pipe in front of them
+-- and so are those of a line, with the pipe before them
 pub line-bytes : (line : List ℕ) → cells_bytes (begins_with 124 line) (line_cells line) ≡ line
 line-bytes [] = bytes-of false []
 line-bytes (b ∷ bs) = go (nat_eq b 124) refl
@@ -84,9 +84,9 @@ front-blank x = list_all-from_AllPass is_white (white_front x) (front-passes is_
 pub cell-whole : (x : List ℕ) → x ≡ white_front x ++ (trim x ++ white_back (trim_start x))
 cell-whole x = front-whole x ∙ ap (λ (xs : List ℕ). white_front x ++ xs) (end-whole (trim_start x))
 
--- Where they stand.
+-- Where they are.
 
--- these bytes stand at a point of a text, and no tab is cut there
+-- these bytes are at a point of a text, and no tab is cut there
 pub record Stands (bytes : List ℕ) (p : Point) (xs : List ℕ) : Type 0 where
   pub behind : List ℕ
   pub text : drop p.index bytes ≡ xs ++ behind
@@ -108,7 +108,7 @@ stands-next bytes p xs ys is = record {
   whole = past_text-whole xs p is.whole;
 }
 
--- no tab is cut behind the whitespace in front of it
+-- no tab is cut after the whitespace before it
 start-whole : (line : List ℕ) (p : Point) → (begins is_white line ≡ false → p.vs ≡ 0) →
     (past_text (white_front line) p).vs ≡ 0
 start-whole [] p h = h refl
@@ -118,7 +118,7 @@ start-whole (b ∷ bs) p h = go (is_white b) refl
     go true e = ap (λ (w : List ℕ). (past_text w p).vs) (front-one b bs e) ∙ past-vs b (white_front bs) p
     go false e = ap (λ (w : List ℕ). (past_text w p).vs) (front-none b bs e) ∙ h e
 
--- behind it a line stands
+-- after it a line is
 pub stands-line : (bytes line behind : List ℕ) (p : Point) → drop p.index bytes ≡ line ++ behind →
     (begins is_white line ≡ false → p.vs ≡ 0) → Stands bytes (past_text (white_front line) p) (trim_start line)
 stands-line bytes line behind p text whole = record {

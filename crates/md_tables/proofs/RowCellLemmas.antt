@@ -1,4 +1,4 @@
--- The cells of a row byte by byte: what is left of one behind a byte of it, and what stands behind its last byte.
+-- The cells of a row byte by byte: what is left of one after a byte of it, and what follows its last byte.
 use Rattle.std.proofs.Common.{◌≡◌, ℕ, Bool, true, false, cond, nat_eq, List, [], ◌∷◌, ◌++◌, refl, sym, ◌∙◌, ap, ap₂}
 use Rattle.std.proofs.Common.{append_assoc}
 use Rattle.md_engine.specs.declared.event.Event.{Event}
@@ -19,7 +19,7 @@ use Rattle.md_tables.proofs.WhiteEnds.{blank-first, dark-first, end-blank, end-m
 
 -- The bytes of a cell.
 
--- what is left of the whitespace in front of what it holds, and behind that
+-- what is left of the whitespace before what it holds, and after that
 abbrev pub white_left : (List ℕ → Point → List Event) → List ℕ → Point → List Event
 white_left part x p =
     let q = past_text (white_front x) p in
@@ -88,7 +88,7 @@ white-blank part none (b ∷ x) p h = go (is_white b) refl (λ k. white-blank pa
 
 -- A text.
 
--- what is left of it, and behind it
+-- what is left of it, and after it
 abbrev pub text_left : List ℕ → Point → List Event
 text_left x p =
     let q = past_text (trim_end x) p in
@@ -102,7 +102,7 @@ pub text-first : (b : ℕ) (x : List ℕ) (p : Point) → is_white b ≡ false �
     cell_inside unread_text (b ∷ x) p ≡ text_begins p ++ text_left x (past_byte b p)
 text-first b x p dark = dark-cell (text_part unread_text) b x p dark
 
--- it goes on
+-- it continues
 pub text-more : (b : ℕ) (x : List ℕ) (p : Point) → is_blank (b ∷ x) ≡ false →
     text_left (b ∷ x) p ≡ text_left x (past_byte b p)
 text-more b x p h =
@@ -111,7 +111,7 @@ text-more b x p h =
     (λ (k w : List ℕ).
     exit n.Data (past_text k p) ∷ exit n.GfmTableCellText (past_text k p) ∷ white_part w (past_text k p)) e.0 e.1
 
--- or ends in front of whitespace alone
+-- or ends before whitespace alone
 pub text-ends : (x : List ℕ) (p : Point) → is_blank x ≡ true →
     text_left x p ≡ exit n.Data p ∷ exit n.GfmTableCellText p ∷ white_part x p
 text-ends x p h =
@@ -127,7 +127,7 @@ first_cell (Ends cell) = cell
 first_cell (Shut cell white) = cell
 first_cell (Divides cell cells) = cell
 
--- what stands behind what the first one holds
+-- what follows what the first one holds
 abbrev pub behind_first : Name → (List ℕ → Point → List Event) → Cells → Point → List Event
 behind_first name part (Ends cell) p = exit name p ∷ []
 behind_first name part (Shut cell white) p =
@@ -148,7 +148,7 @@ cells-begin name part piped (Shut cell white) p = ap (λ (es : List Event). ente
 cells-begin name part piped (Divides cell cells) p =
     ap (λ (es : List Event). enter name p ∷ es) (simp append_assoc refl)
 
--- a byte in front of the first
+-- a byte before the first
 pub first-onto : (b : ℕ) (cells : Cells) → first_cell (onto b cells) ≡ b ∷ first_cell cells
 first-onto b (Ends cell) = refl
 first-onto b (Shut cell white) = refl
@@ -195,7 +195,7 @@ unfolding cells_of
 cells-none true = refl
 cells-none false = refl
 
--- where no backslash stands
+-- where no backslash is
 pub cells-plain : (b : ℕ) (bs : List ℕ) → nat_eq b 124 ≡ false → nat_eq b 92 ≡ false →
     cells_of false (b ∷ bs) ≡ onto b (cells_of false bs)
 cells-plain b bs k m = cells-other b bs k ∙ ap (λ (x : Bool). onto b (cells_of x bs)) m

@@ -14,7 +14,7 @@ use Rattle.md_tables.specs.declared.row.Row.{Row}
 use Rattle.md_tables.specs.RowRule.{Apart, Escaped, Run, Text, White, at_break, begun, closes, goes_on, in_row}
 use Rattle.md_tables.specs.RowRule.{in_text, next, opens}
 
--- a run goes on
+-- a run continues
 pub run-more : (r : Row) (run : Run) (c : Cell) (cs : List Cell) (h : Here) → goes_on run c.byte ≡ true →
     nat_eq c.byte 10 ≡ false →
     in_row r run (c ∷ cs) h ≡ in_row r (next run c.byte) cs (record h { point = c.after })
@@ -60,7 +60,7 @@ takes-white r = record {
     go c cs h k true e = run-ends_line r White c cs h e
     go c cs h k false e = run-ends r White c cs h k e
 
--- whitespace that stands here is the next run
+-- whitespace that is here is the next run
 pub apart-white : (r : Row) (c : Cell) (cs : List Cell) (h : Here) → is_white c.byte ≡ true →
     in_row r Apart (c ∷ cs) h ≡
     in_row r White (c ∷ cs) (record h { events = h.events ++ enter SpaceOrTab h.point ∷ [] })
@@ -71,7 +71,7 @@ apart-white r c cs h s =
     ∙ ap (λ (y : Run). in_row r y cs (record h { events = h.events ++ opens y h.point; point = c.after })) is
     ∙ sym (run-more r White c cs (record h { events = h.events ++ enter SpaceOrTab h.point ∷ [] }) s ending)
 
--- where no whitespace stands, the next run
+-- where no whitespace is, the next run
 pub apart-none : (r : Row) (cells : List Cell) (h : Here) → begins_white cells ≡ false →
     at_break r cells h ≡ in_row r Apart cells h
 unfolding at_break

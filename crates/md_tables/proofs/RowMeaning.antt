@@ -32,7 +32,7 @@ use Rattle.md_tables.proofs.RowTermination.{is_space, piece-white}
 use Rattle.md_tables.proofs.RowLemmas.{apart-none, apart-text, apart-white, escaped-other, run-begins, run-ends}
 use Rattle.md_tables.proofs.RowLemmas.{run-ends_line, run-ends_none, run-more, takes-white}
 
--- a run that does not go on with what stands here ends
+-- a run that does not continue with what is here ends
 run-stops : (feed : Feed) (w : World) (r : Row) (h : Here) (run : Run) (o : Option ℕ) →
     ((b : ℕ) → o ≡ Some b → nat_eq b 10 ≡ false → goes_on run b ≡ false) →
     in_row r run (ahead feed w o) h ≡
@@ -57,7 +57,7 @@ white-here feed w r h s e =
     ∙ ap (λ (x : List Cell). in_row r White x (record h { events = h.events ++ enter SpaceOrTab h.point ∷ [] }))
     (sym saw.1)
 
--- what is left behind a part, in a step that adds these events
+-- what is left after a part, in a step that adds these events
 behind_means : (B : Behaviour) (feed : Feed) (r : Row) (from : State) (w : World) (added : List Event) (x : Bool) →
     HasRow B r → Sees feed w → IsRest w.scratch → sees_white w.current ≡ x →
     goes B from (feed w.point) (here w) ≡
@@ -81,7 +81,7 @@ behind_means B feed r from w added false has s rest e same =
     moves B feed from _ w (behind_part r (record w { events = h.events }) false).world added refl refl
     (same ∙ sym (apart-none r (feed w.point) h (begins-seen feed w s ∙ e)) ∙ sym (has.each place.Break _ _))
 
--- In front of a row.
+-- Before a row.
 
 start_means : (B : Behaviour) (feed : Feed) (r : Row) (w : World) (x : Bool) → HasRow B r → Sees feed w →
     IsRest w.scratch → sees_white w.current ≡ x →
@@ -98,7 +98,7 @@ start_means B feed Body w x has s rest e =
 
 -- Between two parts.
 
--- a byte of this piece stands here
+-- a byte of this piece is here
 pub record SeesPiece (feed : Feed) (w : World) (x : Piece) : Type 0 where
   pub byte : ℕ
   pub next : feed w.point ≡ cell_here feed w byte ∷ feed (after w.setting w.point)
@@ -209,7 +209,7 @@ ends_means B feed Body w has s e =
     (moves B feed _ _ w (record w { events = w.events ++ row_closes Body w.point }) (row_closes Body w.point) refl refl
     (has.each place.Break _ _ ∙ rw s.next (line-ends feed w Body (here w) w.current e)))
 
--- whitespace does not stand there
+-- whitespace is not there
 white_means : (B : Behaviour) (feed : Feed) (r : Row) (w : World) → HasRow B r → Sees feed w →
     piece w.current ≡ Space →
     Steps B feed (Next (name_at r place.Break)) w (at_break_code r w Space).to (at_break_code r w Space).world
@@ -250,7 +250,7 @@ divides_means B feed r w has s e =
     ∙ ap (λ (y : Run). in_row r y cs (record (here w) { events = w.events ++ opens y w.point; point = p })) is_pipe_run
     ∙ pipe-ends r cs h ∙ sym (has.each place.CellBefore _ _))
 
--- a word begins with what stands here
+-- a word begins with what is here
 word-here : (feed : Feed) (w : World) (r : Row) (h : Here) (x : Piece) (b : ℕ) → Told b x → is_text x ≡ true →
     feed w.point ≡ cell_here feed w b ∷ feed (after w.setting w.point) →
     at_break r (feed w.point) h ≡
@@ -343,7 +343,7 @@ data_means B feed r w Escapes has s rest e =
 data_means B feed r w Other has s rest e =
     word_goes B feed r w Other place.Data Text has s e refl (λ b t. rw t.slash refl) (has.each place.Data)
 
--- Behind a backslash.
+-- After a backslash.
 
 or-none : (a b : Bool) → a || b ≡ false → (a ≡ false) × (b ≡ false)
 or-none true b e = cc
@@ -379,7 +379,7 @@ escape_means B feed r w false has s e =
     (has.each place.Escape _ _ ∙ rw s.next (escaped-stops feed w r (here w) w.current e)
     ∙ sym (has.each place.Data _ _))
 
--- Behind a pipe.
+-- After a pipe.
 
 cell_before_means : (B : Behaviour) (feed : Feed) (r : Row) (w : World) (x : Bool) → HasRow B r → Sees feed w →
     IsRest w.scratch → sees_white w.current ≡ x →

@@ -1,4 +1,4 @@
--- A row nests with its cells: its parts stand side by side, and cells and what they hold are put around whole parts.
+-- A row nests with its cells: its parts lie side by side, and cells and what they hold are put around whole parts.
 use Rattle.std.proofs.Common.{◌≡◌, List, [], ◌∷◌, ◌++◌}
 use Rattle.md_engine.specs.declared.event.Event.{Event}
 use Rattle.md_engine.specs.declared.event.Kind.TheVariants.{Enter, Exit}
@@ -15,7 +15,7 @@ use Rattle.md_engine.specs.declared.event.Kind.TheVariants.{Enter, Exit}
 
 -- Whole rows.
 
--- parts side by side: each begin has its end right behind it
+-- parts side by side: each begin has its end right after it
 abbrev pub ArePairs : List Event → Type 0
 ArePairs [] = Unit {0}
 ArePairs (a ∷ []) = ⊥

@@ -24,7 +24,7 @@ use Rattle.md_tables.proofs.RowBytes.{Stands, cell-whole, cells_bytes, line-byte
 use Rattle.md_tables.proofs.RowBytes.{stands-line, stands-next}
 use Rattle.md_tables.proofs.RowTexts.{held-cells, held_in}
 
--- A table is open, and no text is being read: behind these rows stands one with these cells.
+-- A table is open, and no text is being read: after these rows is one with these cells.
 abbrev pub in_row : Reading → List ℕ → List (List (List ℕ)) → List (List ℕ) → Reading
 in_row r delimiter rows row = record r {
   leaf = Some (TableLeaf (record { delimiter = delimiter; rows = rows ++ row ∷ [] }));
@@ -143,7 +143,7 @@ inside-read bytes r delimiter rows row cell rest p is =
     text : Stands bytes q (trim cell ++ (back ++ rest))
     text = stands-next bytes p (white_front cell) (trim cell ++ (back ++ rest)) (subst (Stands bytes p) whole is)
 
--- behind its begin: the pipe in front of it, what it holds, and what else is not shown
+-- after its begin: the pipe before it, what it holds, and what else is not shown
 cell-read : (bytes : List ℕ) (r : Reading) (delimiter : List ℕ) (rows : List (List (List ℕ))) (row : List (List ℕ))
     (piped : Bool) (cell rest : List ℕ) (p end : Point) (more : List Event) →
     Stands bytes (past_pipe piped p) (cell ++ rest) → Roles Quiet more →
@@ -169,7 +169,7 @@ cell-read bytes r delimiter rows row piped cell rest p end more is quiet =
     after : Reading
     after = in_row r delimiter rows (row ++ trim cell ∷ [])
 
--- where it stands
+-- where it is
 past-pipe : (bytes : List ℕ) (piped : Bool) (p : Point) (xs : List ℕ) → Stands bytes p (pipe_bytes piped ++ xs) →
     Stands bytes (past_pipe piped p) xs
 past-pipe bytes true p xs is = stands-next bytes p (124 ∷ []) xs is

@@ -18,7 +18,7 @@ use Rattle.md_tables.proofs.RowCellLemmas.{cells-other, cells-white, cells-pipe,
 use Rattle.md_tables.proofs.RowCellLemmas.{first-onto, first_cell, left_of, onto-left, text_left, white_left}
 use Rattle.md_tables.proofs.WhiteEnds.{blank-first, dark-first}
 
--- What is left of cells that hold texts: where the first begins, in the whitespace in front of its text, and in that.
+-- What is left of cells that hold texts: where the first begins, in the whitespace before its text, and in that.
 
 abbrev pub behind : Cells → Point → List Event
 behind cells p = behind_first n.GfmTableCell (text_part unread_text) cells p
@@ -50,7 +50,7 @@ pub white-on : (b : ℕ) (bs : List ℕ) (p : Point) → is_white b ≡ true →
     row_runs White (b ∷ bs) p ≡ row_runs White bs (past_byte b p)
 white-on b bs p e = rw e refl
 
--- in a word, whether a backslash stands in front
+-- in a word, whether a backslash is in front
 abbrev pub word : Bool → Run
 word escaped = cond escaped Escaped TextRun
 
@@ -97,7 +97,7 @@ white-word b bs p e k =
     rw (e, k)
     (ap (λ (es : List Event). exit n.SpaceOrTab p ∷ es) (word-first (nat_eq b 92) bs p (past_byte b p)))
 
--- a word goes on: behind a backslash with any byte but whitespace
+-- a word continues: after a backslash with any byte but whitespace
 pub word-on : (b : ℕ) (bs : List ℕ) (p : Point) → is_white b ≡ false → nat_eq b 124 ≡ false →
     row_runs TextRun (b ∷ bs) p ≡ row_runs (word (nat_eq b 92)) bs (past_byte b p)
 word-on b bs p e k = rw (e, k) refl
@@ -108,7 +108,7 @@ escaped-on b bs p e = rw e refl
 
 -- Where a word comes.
 
--- the first cell is blank just where no word comes behind whitespace
+-- the first cell is blank just where no word comes after whitespace
 pub blank-white : (b : ℕ) (bs : List ℕ) → is_white b ≡ true →
     is_blank (first_cell (cells_of false (b ∷ bs))) ≡ is_blank (first_cell (cells_of false bs))
 blank-white b bs e =
@@ -130,7 +130,7 @@ blank-pipe bs = ap is_blank (ap first_cell (cells-pipe bs) ∙ first-behind bs (
 abbrev pub row_end : List ℕ → Point → List Event
 row_end bs p = exit n.GfmTableRow (past_text bs p) ∷ []
 
--- whitespace that goes on: where it ends, and what stands behind it
+-- whitespace that continues: where it ends, and what follows it
 pub record WhiteRun (bs : List ℕ) (p : Point) : Type 0 where
   pub at : Point
   pub behind : List Event
@@ -176,7 +176,7 @@ white-run (b ∷ bs) p = go (is_white b) refl (nat_eq b 124) refl (white-run bs 
       on = sym (ap not (blank-word b bs e k));
     }
 
--- a pipe is the last where whitespace alone stands behind it
+-- a pipe is the last where whitespace alone is after it
 pub last-pipe : (bs : List ℕ) (p : Point) → row_ends (row_runs Apart bs p ++ row_end bs p) ≡ is_blank bs
 last-pipe [] p = refl
 last-pipe (b ∷ bs) p = go (is_white b) refl (nat_eq b 124) refl
@@ -199,7 +199,7 @@ last-pipe (b ∷ bs) p = go (is_white b) refl (nat_eq b 124) refl
         ∙ ap (λ (t : Bool). first_is ends_row (cond t (drop 2 (first ∷ es)) (first ∷ es))) (dark-looks first es refl)
         ∙ sym (dark-first b bs e)
 
--- a text goes on behind whitespace where a further word stands there
+-- a text continues after whitespace where a further word is there
 pub text-goes_on : (bs : List ℕ) (p q : Point) →
     text_goes_on Text (enter n.SpaceOrTab q ∷ row_runs White bs p ++ row_end bs p) ≡
     not (is_blank (first_cell (cells_of false bs)))

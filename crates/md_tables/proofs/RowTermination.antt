@@ -1,4 +1,4 @@
--- A row stands and ends in any table that has it.
+-- A row is and ends in any table that has it.
 use Rattle.std.proofs.Common.{◌≡◌, ℕ, ◌<◌, Bool, true, false, cond, Option, Some, None, List, refl, arith, ap, sym, ◌∙◌}
 use Rattle.std.proofs.Common.{nat_eq}
 use Rattle.std.proofs.lemmas.Bool.{eqb-true}
@@ -48,7 +48,7 @@ below : (x : Bool) → (cond x (ranked 1 refl) (ranked 2 refl)).number < 3
 below true = omega arith
 below false = omega arith
 
--- whitespace is no text, and what stands here still does when more may be read
+-- whitespace is no text, and what is here still does when more may be read
 white-no_text : (o : Option ℕ) → sees_white o ≡ true → is_text (piece o) ≡ false
 white-no_text None e = cc
 white-no_text (Some b) e = go (nat_eq b 10) refl
@@ -67,7 +67,7 @@ still-white w t s up e = go (seen (position w)) refl e
     go (Some b) is e =
         ap (λ (o : Option ℕ). is_text (piece o)) (seen_grows (position w) t s b up is) ∙ white-no_text (Some b) e
 
--- behind a part of the row, from a state whose rank is above that of what follows
+-- after a part of the row, from a state whose rank is above that of what follows
 good-behind : (T : Scheme) (r : Row) (p : Place) (w : World) (events : List Event) (x : Bool) → RowFits T r →
     IsRest w.scratch → Ends IsRest IsRest (position w) (after_all T w.frames) →
     sees_white (seen (position w)) ≡ x → 1 < (row_scheme.rank (name_at r p) (position w)).number →
@@ -127,7 +127,7 @@ word_ends T r w has rest e = (
   refl,
 )
 
--- a pipe stands where the text may be read
+-- a pipe is where the text may be read
 pipe_ends : (T : Scheme) (r : Row) (w : World) → RowFits T r → rest_ready (position w) (after_all T w.frames) →
     w.point.index < w.setting.limit → Does T (name_at r place.Break) w (at_break_code r w Divides)
 pipe_ends T r w has rest inside = (
@@ -167,7 +167,7 @@ taken_ends T r p q w has rest inside = (
 abbrev sees_text : Option ℕ → Bool
 sees_text o = is_text (piece o)
 
--- behind a word
+-- after a word
 word_end_ends : (T : Scheme) (r : Row) (w : World) (x : Bool) → RowFits T r →
     rest_ready (position w) (after_all T w.frames) → is_text (piece (seen (position w))) ≡ false →
     sees_white (seen (position w)) ≡ x →

@@ -20,7 +20,7 @@ held_in (Divides cell cells) = cell ∷ held_in cells
 
 -- Whitespace at the end of a line.
 
--- cells with more whitespace behind them
+-- cells with more whitespace after them
 abbrev widened : List ℕ → Cells → Cells
 widened w (Ends cell) = Ends (cell ++ w)
 widened w (Shut cell white) = Shut cell (white ++ w)

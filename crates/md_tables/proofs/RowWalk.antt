@@ -29,12 +29,12 @@ use Rattle.md_tables.proofs.RowRuns.{word, word-white, piped, pipe-opens, pipe-w
 use Rattle.md_tables.proofs.RowRuns.{word-on, escaped-on, blank-white, blank-pipe, row_end, last-pipe, text-goes_on}
 use Rattle.md_tables.proofs.RowRuns.{blank-runs}
 
--- What the walk gives for what is left of a row, by where it stands.
+-- What the walk gives for what is left of a row, by where it is.
 record Walks (bs : List ℕ) (p : Point) : Type 0 where
   -- where a cell begins
   pub start : celled (Within Text) (row_runs Apart bs p ++ row_end bs p) ≡
       cells_left (cells_of false bs) p ++ row_end bs p
-  -- in the whitespace in front of its text
+  -- in the whitespace before its text
   pub white : celled (Within Text) (row_runs White bs p ++ row_end bs p) ≡
       left_in_white (cells_of false bs) p ++ row_end bs p
   -- in a word of its text
@@ -61,7 +61,7 @@ piped-walk bs p walks =
     q : Point
     q = past_byte 124 p
 
--- whitespace behind a word: a further word goes on with the text
+-- whitespace after a word: a further word continues with the text
 text-walk : (escaped : Bool) (b : ℕ) (bs : List ℕ) (p : Point) → is_white b ≡ true → Walks bs (past_byte b p) →
     celled (Inner Text) (row_runs (word escaped) (b ∷ bs) p ++ row_end (b ∷ bs) p) ≡
     left_in_text (cells_of escaped (b ∷ bs)) p ++ row_end (b ∷ bs) p
@@ -333,7 +333,7 @@ row-starts (b ∷ bs) p some dark = go (nat_eq b 124) refl
         enter n.GfmTableCell p ∷ (es ++ behind cells (past_text (first_cell cells) (past_byte b p))) ++ end)
         (text-first b (first_cell cells) p dark))
 
--- in the whitespace in front of it
+-- in the whitespace before it
 abbrev front_left : List ℕ → Point → List Event
 front_left line p =
     let q = past_text (white_front line) p in
@@ -353,7 +353,7 @@ row-white (b ∷ bs) p some = go (is_white b) refl (λ h. row-white bs (past_byt
         let q = past_text w p in
         exit n.SpaceOrTab q ∷ cells_events unread_text (begins_with 124 t) (line_cells t) q ++ end
 
-    -- behind a run of whitespace the next begins as at the begin of the line
+    -- after a run of whitespace the next begins as at the begin of the line
     turns : is_white b ≡ false → row_runs White (b ∷ bs) p ≡ exit n.SpaceOrTab p ∷ row_runs Apart (b ∷ bs) p
     turns e = rw e refl
 

@@ -46,7 +46,7 @@ use Rattle.md_tables.specs.declared.row.Place.TheVariants as place
 use Rattle.md_tables.specs.declared.row.Row.{Row}
 use Rattle.md_tables.specs.declared.row.Row.TheVariants.{Head, Body}
 
--- From a state of a row one has come to another, which sees what stands here.
+-- From a state of a row one has reached another, which sees what is here.
 pub record Stood (r : Row) (first : StateName) (old : World) (name : StateName) (w : World) : Type 0 where
   pub came : CameHere (RowStep r) first old name w
   pub current : w.current ≡ looks w
@@ -120,7 +120,7 @@ passes-on r first old name w next new h k = record {
   setting = k.setting ∙ h.setting;
 }
 
--- what goes on from where one has come goes on from the first
+-- what continues from where one has come continues from the first
 pub goes-on : (r : Row) (first : StateName) (old : World) (name : StateName) (w : World) (next : StateName)
     (result : Option State) (new : World) →
     Passes (RowStep r) first old name w → GoesTo r name w next result new → GoesTo r first old next result new
@@ -160,7 +160,7 @@ pub same-step : (P : State → World → Type 0) (a : Transition) (to : State) (
     P a.to a.world → P to new
 same-step P a to new e k h = subst (λ (x : State). P x new) (sym e) (subst (λ (x : World). P a.to x) (sym k) h)
 
--- Behind a part of a row one space stands or none, and the next part begins.
+-- After a part of a row one space is or none, and the next part begins.
 gap-came : (r : Row) (first name : StateName) (old w x new : World) → Stood r first old name w → Within w → Within x →
     x.setting ≡ w.setting → x.point ≡ w.point → x.current ≡ looks x →
     RowStep r name w (behind_part r x (sees_white x.current)).to (behind_part r x (sees_white x.current)).world →
@@ -221,7 +221,7 @@ gap-falls x _ (OneSpace one) =
     let less = cells-fall x.setting x.point (seen-inside x.setting x.point 32 one.here) in omega (arith, less)
 gap-falls x _ (NoSpace none) = omega arith
 
--- What stands behind what a state takes is seen,
+-- What follows what a state takes is seen,
 then-sees : (r : Row) (first : StateName) (old : World) (name next : StateName) (w u : World) →
     Stood r first old name w → Within w → RowStep r name w (Next next) u → u.setting ≡ w.setting →
     u.point.index < w.setting.limit → Stood r first old next (reading u)
@@ -243,7 +243,7 @@ then-awaits : (r : Row) (first : StateName) (old : World) (name next : StateName
 then-awaits r first old name next w u h within step same =
     came-calls (RowStep r) first name old w (Next next) u h.came step (not_error (Next next) next refl) same within
 
--- and so a state goes on that takes what stands here.
+-- and so a state continues that takes what is here.
 pub takes-goes : (r : Row) (name : StateName) (p : Place) (w : World) (result : Option State) (new : World) →
     w.current ≡ looks w → Within w → RowStep r name w (Next (name_at r p)) (taken w) → TakesTo r p w result new →
     GoesTo r name w (name_at r p) result new
@@ -256,7 +256,7 @@ takes-goes r name p w (Some to) new seen within step h = λ fine.
     subst (λ (s : State). RunsHere (RowStep r) name w s new × SeesOn s w new) (sym h.0)
     (subst (RunsHere (RowStep r) name w (Next (name_at r p))) (sym h.1) runs, tt)
 
--- A pipe is taken, and what stands behind it is seen,
+-- A pipe is taken, and what follows it is seen,
 pipe-step : (r : Row) (w : World) → w.current ≡ Some pipe →
     RowStep r (name_at r place.Break) w (Next (name_at r place.CellBefore)) (divided w)
 pipe-step r w is =
@@ -412,7 +412,7 @@ escapes-none r w seen within none =
       setting = refl;
     })
 
--- What is left falls in a word from where it had begun, or from where one has come to in it;
+-- What is left falls in a word from where it had begun, or from where one has reached in it;
 pub come-down : (old w new : World) →
     (w ≡ old) ⊎ (cells_left w.setting.limit w.point < cells_left old.setting.limit old.point) →
     cells_left new.setting.limit new.point < cells_left w.setting.limit w.point →
@@ -421,7 +421,7 @@ come-down old w new (inl e) less =
     subst (λ (y : World). cells_left new.setting.limit new.point < cells_left y.setting.limit y.point) e less
 come-down old w new (inr lt) less = omega (arith, lt, less)
 
--- and so it has at its end, if text stood where it had begun.
+-- and so it has at its end, if text was where it had begun.
 pub end-rests : (old w : World) →
     (w ≡ old) ⊎ (cells_left w.setting.limit w.point < cells_left old.setting.limit old.point) →
     cells_left w.setting.limit w.point ≤ cells_left old.setting.limit old.point
@@ -437,7 +437,7 @@ end-falls old w (inl e) text none =
     let no : false ≡ true = sym none ∙ ap (λ (y : World). is_text (piece y.current)) e ∙ text in cc
 end-falls old w (inr lt) text none = lt
 
--- Where a word ends, it is behind a part of the row.
+-- Where a word ends, it is after a part of the row.
 ends-code : (r : Row) (w : World) (o : Option ℕ) → is_text (piece o) ≡ false →
     data_code r w (piece o) ≡ behind_part r (exited w Data) (sees_white o)
 ends-code r w None e = refl
@@ -464,7 +464,7 @@ ended-step r w x is none =
     (stepped r place.Data w (behind_part r (exited w Data) (sees_white w.current)).to
     (behind_part r (exited w Data) (sees_white w.current)).world (ends-code r w w.current none))
 
--- Where a row begins, it is behind a part of it, too.
+-- Where a row begins, it is after a part of it, too.
 pub begun-stays : (r : Row) (w x : World) → x ≡ begun r w →
     (x.setting ≡ w.setting) × (x.point ≡ w.point) × (x.current ≡ w.current)
 begun-stays Head w x is =

@@ -1,5 +1,5 @@
 -- The runs of a line by its cells are those by its bytes, whatever runs they are: the columns of a tab lie in one run,
--- and the whitespace in front of all is one.
+-- and the whitespace before all is one.
 use Rattle.std.proofs.Common.{◌≡◌, ℕ, zero, suc, ◌≤◌, Bool, true, false, cond, List, [], ◌∷◌, ◌++◌, refl, sym, ap, ◌∙◌}
 use Rattle.std.proofs.Common.{subst, arith}
 use Rattle.std.specs.Prelude.{◌==◌}
@@ -17,8 +17,8 @@ use Rattle.md_seam.proofs.AheadLemmas.{white-no_ending}
 use Rattle.md_seam.proofs.FeedLines.{behind_last, byte_cells, cell, columns_more, next_column, spread, tab_cells}
 use Rattle.md_seam.proofs.FeedLines.{tab_end, tab_end-last, tab_end-next, tab_end-stop}
 
--- Runs by cells and by bytes, of which one is whitespace: each byte does the same, and so does a column of a tab. In
--- front of whitespace stands what `turns` puts there.
+-- Runs by cells and by bytes, of which one is whitespace: each byte does the same, and so does a column of a tab.
+-- Before whitespace is what `turns` puts there.
 pub record AreSpread (R : Type 0) (white : R) (turns : R → Point → List Event → List Event)
     (by_cells : R → List Cell → Point → List Event) (by_bytes : R → List ℕ → Point → List Event) : Type 0 where
   pub none : (run : R) (p : Point) → by_cells run [] p ≡ by_bytes run [] p
@@ -92,7 +92,7 @@ bytes-run R white turns F G are run line (b ∷ bs) p one =
 
 -- Whitespace in front.
 
--- a run of it ends in front of what is none, and begins between two runs
+-- a run of it ends before what is none, and begins between two runs
 pub record HaveWhite (R : Type 0) (white apart : R) (F : R → List Cell → Point → List Event) : Type 0 where
   pub none : (q : Point) → F white [] q ≡ exit SpaceOrTab q ∷ F apart [] q
   pub dark : (c : Cell) (cs : List Cell) (q : Point) → is_white c.byte ≡ false →
@@ -111,11 +111,11 @@ white-ends R white apart F are c cs q e = go (c.byte == 10)
     go true = are.none q
     go false = are.dark c (line_cells cs) q e
 
--- a line goes on behind whitespace
+-- a line continues after whitespace
 line-white : (c : Cell) (cs : List Cell) → is_white c.byte ≡ true → line_cells (c ∷ cs) ≡ c ∷ line_cells cs
 line-white c cs e = ap (λ (t : Bool). cond t [] (c ∷ line_cells cs)) (white-no_ending c.byte e)
 
--- it ends behind all of it, where that has room
+-- it ends after all of it, where that has room
 white-run : (R : Type 0) (white apart : R) (F : R → List Cell → Point → List Event) → HaveWhite R white apart F →
     (room : ℕ) (cells : List Cell) (q : Point) → begins_white (white_rest room cells) ≡ false →
     F white (line_cells cells) q ≡
@@ -141,7 +141,7 @@ white-run R white apart F are (suc room) (c ∷ cs) q h =
         ∙ sym (ap Behind e)
     go false e more = white-ends R white apart F are c cs q e ∙ sym (ap Behind e)
 
--- with the runs behind it, it is all the runs
+-- with the runs after it, it is all the runs
 pub front-run : (R : Type 0) (white apart : R) (F : R → List Cell → Point → List Event) →
     HaveWhite R white apart F → (room : ℕ) (cells : List Cell) (p : Point) →
     begins_white (white_rest room cells) ≡ false →

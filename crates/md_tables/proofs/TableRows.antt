@@ -47,7 +47,7 @@ text-run text.Pipe p q = ((refl, refl, refl, tt), (refl, (refl, tt)))
 text-run text.Text p q = ((refl, refl, refl, tt), (refl, (refl, tt)))
 text-run text.Escaped p q = ((refl, refl, refl, tt), (refl, (refl, tt)))
 
--- a run that goes on began as it did
+-- a run that continues began as it did
 in-word : (b : ℕ) (q : Point) → text.opens (text.in_text b) q ≡ text.opens text.Text q
 in-word b q = go (b == backslash)
   where

@@ -1,6 +1,6 @@
 -- Tables get their heads, bodies and cells, line by line.
 --
--- What is given for a row is told by its own events, and what stands between two rows passes.
+-- What is given for a row is known from its own events, and what is between two rows passes.
 use Rattle.std.proofs.Common.{◌≡◌, Bool, true, false, List, [], ◌∷◌, ◌++◌, refl, sym, ◌∙◌, ap, append_assoc, append-nil}
 use Rattle.md_engine.specs.declared.event.Event.{Event}
 use Rattle.md_engine.specs.declared.event.Kind.{Kind}
@@ -35,7 +35,7 @@ pub untabled-append : (xs ys : List Event) → AreUntabled xs → AreUntabled ys
 untabled-append [] ys h k = k
 untabled-append (e ∷ xs) ys h k = (h.0, untabled-append xs ys h.1 k)
 
--- they stay as they are, in front of any others
+-- they stay as they are, before any others
 pub tabled-passes : (xs es : List Event) → AreUntabled xs → tabled (xs ++ es) ≡ xs ++ tabled es
 tabled-passes [] es h = refl
 tabled-passes (e ∷ xs) es h =
@@ -102,7 +102,7 @@ tabled-other section stage e es within other = go section within
     go Between k = rw (other, append-nil) refl
     go Body k = rw (other, append-nil) refl
 
--- what stands between two rows stays as it is
+-- what is between two rows stays as it is
 pub tabled-between : (section : Section) (xs es : List Event) → in_table section ≡ true → AreFree xs →
     tabled_from section row.Outside (xs ++ es) ≡ xs ++ tabled_from section row.Outside es
 tabled-between section [] es within h = refl
@@ -176,14 +176,14 @@ pub tabled-head_row : (r : TableRow) (es : List Event) → AreFree r.inside →
 tabled-head_row r es h =
     ap (λ (l : List Event). enter n.GfmTableRow r.begins ∷ l) (tabled-rest Head Text r es refl h)
 
--- the delimiter row, behind which the head ends,
+-- the delimiter row, after which the head ends,
 pub tabled-delimiter_row : (r : TableRow) (es : List Event) → AreFree r.inside →
     tabled_from Head row.Outside (row_read Delimiter r ++ es)
     ≡ row_celled Delimiter r ++ exit n.GfmTableHead r.ends ∷ tabled_from Between row.Outside es
 tabled-delimiter_row r es h =
     ap (λ (l : List Event). enter n.GfmTableDelimiterRow r.begins ∷ l) (tabled-rest Head Delimiter r es refl h)
 
--- the first row of the body, in front of which that begins,
+-- the first row of the body, before which that begins,
 pub tabled-first_row : (r : TableRow) (es : List Event) → AreFree r.inside →
     tabled_from Between row.Outside (row_read Text r ++ es)
     ≡ enter n.GfmTableBody r.begins ∷ row_celled Text r ++ tabled_from Body row.Outside es
@@ -199,7 +199,7 @@ tabled-further_row r es h =
 
 -- Whole tables.
 
--- of tables and rows nothing stands in a row, or between two
+-- of tables and rows nothing is in a row, or between two
 abbrev pub IsFreeLine : TableLine → Type 0
 IsFreeLine l = AreFree l.between × AreFree l.row.inside
 
@@ -232,7 +232,7 @@ tabled-lines (l ∷ ls) es h =
     ∙ sym (append_assoc (row_celled Text l.row) (lines_celled ls) rest))
     ∙ sym (append_assoc l.between (row_celled Text l.row ++ lines_celled ls) rest)
 
--- what stands behind the head, to the end of the table
+-- what follows the head, to the end of the table
 pub tabled-body : (ls : List TableLine) (q : Point) (es : List Event) → AreFreeLines ls →
     tabled_from Between row.Outside (lines_read ls ++ exit n.GfmTable q ∷ es)
     ≡ body_given ls q ++ exit n.GfmTable q ∷ tabled es
@@ -262,7 +262,7 @@ given-split a b c y rest x e =
     (append_assoc b c (x ∷ (y ++ e ∷ []) ++ rest)
     ∙ ap (λ (l : List Event). b ++ (c ++ (x ∷ l))) (append_assoc y (e ∷ []) rest))
 
--- A table, in front of any events.
+-- A table, before any events.
 pub tabled-table : (t : Table) (es : List Event) → IsFreeTable t →
     tabled (table_read t ++ es) ≡ table_given t ++ tabled es
 tabled-table t es h =

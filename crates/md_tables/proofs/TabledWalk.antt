@@ -1,4 +1,4 @@
--- The walk that gives tables their heads, bodies and cells. What holds of events goes on to hold.
+-- The walk that gives tables their heads, bodies and cells. What holds of events continues to hold.
 use Rattle.std.proofs.Common.{◌≡◌, ℕ, suc, ◌+◌, ◌<◌, ◌≤◌, Bool, true, false, cond, not, List, [], ◌∷◌, ◌++◌}
 use Rattle.std.proofs.Common.{take, drop, get_or, length, refl, sym, ◌∙◌, ap, append-nil, append_assoc, arith}
 use Rattle.std.specs.List.{All, prefix_len}
@@ -44,7 +44,7 @@ passes-given e es h = go (bound_of e) h
     go EndsDelimiter k = refl
     go Other k = refl
 
--- and so are all in front of the next table
+-- and so are all before the next table
 outside-run : (es : List Event) →
     tabled es ≡ take (prefix_len (passes Outside) es) es ++ tabled (drop (prefix_len (passes Outside) es) es)
 outside-run [] = refl
@@ -79,7 +79,7 @@ passed-run Head stage es = rw (none-pass Head es (λ e. refl)) refl
 passed-run Between stage es = rw (none-pass Between es (λ e. refl)) refl
 passed-run Body stage es = rw (none-pass Body es (λ e. refl)) refl
 
--- where no table stands, events stay as they are
+-- where no table is, events stay as they are
 pub tabled-none : (events : List Event) → prefix_len (passes Outside) events ≡ length events → tabled events ≡ events
 tabled-none events all =
     outside-run events
@@ -88,7 +88,7 @@ tabled-none events all =
     (drop_all (length events) events (let le : length events ≤ length events = omega arith in le))
     ∙ append-nil (take (length events) events) ∙ take_all (length events) events (omega arith)
 
--- The walk goes on with events that pass,
+-- The walk continues with events that pass,
 pub walk-copied : (section now : Section) (stage after : Stage) (events old new : List Event) (many : ℕ) →
     new ≡ old ++ take many events → now ≡ section → after ≡ stage → many ≡ prefix_len (passes section) events →
     new ++ tabled_from now after (drop many events) ≡ old ++ tabled_from section stage events
@@ -98,7 +98,7 @@ walk-copied section now stage after events old new many is same there count =
     ∙ ap (λ (n : ℕ). old ++ (take n events ++ tabled_from section stage (drop n events))) count
     ∙ ap (λ (l : List Event). old ++ l) (sym (passed-run section stage events)))
 
--- and with the event behind them.
+-- and with the event after them.
 pub walk-stepped : (section now : Section) (stage after : Stage) (events old new all : List Event) (at : ℕ)
     (d : Event) → at < length events →
     new ≡ old ++ given section stage (get_or events at d) (drop (at + 1) events) →
@@ -125,7 +125,7 @@ walk-done section stage events given all at end so_far =
     sym (append-nil given)
     ∙ ap (λ (l : List Event). given ++ tabled_from section stage l) (sym (drop_all at events end)) ∙ so_far
 
--- What holds of events goes on to hold.
+-- What holds of events continues to hold.
 
 front-kept : (P : Event → Type 0) → GoesOver P → (section : Section) (b : Bound) (e : Event) → P e →
     All P (in_front section b e.point)

@@ -1,4 +1,4 @@
--- Bytes in two: up to the last that is no whitespace, and the whitespace behind it.
+-- Bytes in two: up to the last that is no whitespace, and the whitespace after it.
 use Rattle.std.proofs.Common.{◌≡◌, ℕ, Bool, true, false, ◌&&◌, List, [], ◌∷◌, ◌++◌, length, take, drop}
 use Rattle.std.proofs.Common.{refl, sym, ◌∙◌, ap, append_assoc}
 use Rattle.std.proofs.lemmas.Bool.{and_parts}
@@ -38,7 +38,7 @@ blank-dark : (x : ℕ) (xs ys zs : List ℕ) → x ∷ xs ++ ys ≡ zs → is_bl
 blank-dark x xs ys zs e blank dark =
     sym dark ∙ blank-light x xs (blank-front (x ∷ xs) ys (ap is_blank e ∙ blank))
 
--- The two are told by the bytes.
+-- The two are known from the bytes.
 
 -- there is one way to cut them
 one-cut : (k w l v : List ℕ) → k ++ w ≡ l ++ v → ends_dark k ≡ true → ends_dark l ≡ true → is_blank w ≡ true →
@@ -98,7 +98,7 @@ end-more b x h =
     only [] whole end = black (is_white b) refl (ap is_blank whole ∙ back-blank x)
     only (c ∷ k) whole end = let no : false ≡ true = end in cc
 
--- whitespace behind does not matter
+-- whitespace after does not matter
 pub end-behind : (x w : List ℕ) → is_blank w ≡ true → trim_end (x ++ w) ≡ trim_end x
 end-behind x w h = (end-is (x ++ w) (trim_end x) (white_back x ++ w) whole (trimmed-dark x) blank).0
   where

@@ -57,7 +57,7 @@ abbrev pub inner_name : RowKind → Name
 inner_name Text = n.GfmTableCellText
 inner_name Delimiter = n.GfmTableDelimiterCellValue
 
--- What stands behind one.
+-- What follows one.
 
 abbrev pub is_white : Name → Bool
 is_white n.SpaceOrTab = true
@@ -73,7 +73,7 @@ abbrev pub first_is : (Event → Bool) → List Event → Bool
 first_is test [] = false
 first_is test (e ∷ es) = test e
 
--- the end of a row, maybe behind whitespace
+-- the end of a row, maybe after whitespace
 abbrev pub row_ends : List Event → Bool
 row_ends es = first_is ends_row (if has_white es then drop 2 es else es)
 
@@ -82,14 +82,14 @@ abbrev pub is_last : List Event → Bool
 is_last [] = false
 is_last (e ∷ es) = ends_divider e && row_ends es
 
--- more of what a cell holds: a further word behind whitespace, or a further colon or dashes
+-- more of what a cell holds: a further word after whitespace, or a further colon or dashes
 abbrev pub goes_on : RowKind → List Event → Bool
 goes_on Text es = has_white es && first_is (begins_inner Text) (drop 2 es)
 goes_on Delimiter es = first_is (begins_inner Delimiter) es
 
 -- One event.
 
--- what is written for it, and where the walk stands behind it
+-- what is written for it, and where the walk is after it
 pub record Step : Type 0 where
   pub given : List Event
   pub stage : Stage
@@ -97,7 +97,7 @@ pub record Step : Type 0 where
 abbrev pub passed : Event → Stage → Step
 passed e stage = record { given = e ∷ []; stage = stage }
 
--- in front of the first cell of a row
+-- before the first cell of a row
 abbrev pub front_step : RowKind → Event → Step
 front_step k e =
     if begins_divider e
@@ -119,7 +119,7 @@ within_step k e es =
     else if begins_inner k e then record { given = enter (inner_name k) e.point ∷ e ∷ []; stage = Inner k }
     else passed e (Within k)
 
--- behind a piece of what it holds, by whether that goes on: what stands between two words is text
+-- after a piece of what it holds, by whether that continues: what is between two words is text
 abbrev pub piece_step : RowKind → Event → Bool → Step
 piece_step Text e true = record { given = []; stage = Gap }
 piece_step Delimiter e true = passed e (Inner Delimiter)

@@ -22,7 +22,7 @@ use Rattle.md_seam.specs.Transition.{Transition, entered, entered_link, exited, 
 abbrev pub uncounted : Scratch → Scratch
 uncounted s = record s { size = 0; columns_wanted = 0; seen = false }
 
--- What stands in a delimiter row.
+-- What is in a delimiter row.
 pub data Mark : Type 0 where
   Stops : Mark
   White : Mark
@@ -47,7 +47,7 @@ mark (Some b) = mark_of b
 abbrev pub refused : World → Transition
 refused w = record { to = Nok; world = record w { scratch = uncounted w.scratch } }
 
--- whitespace, if some stands here, and then this state
+-- whitespace, if some is here, and then this state
 abbrev pub white_on : World → ℕ → TableState → Bool → Transition
 white_on w max next true = white_then w 0 max (Next (n.GfmTable next)) Nok
 white_on w max next false = record { to = Retry (n.GfmTable next); world = w }
@@ -66,7 +66,7 @@ row_entered w = entered (entered_link w GfmTable further_link) GfmTableDelimiter
 abbrev pub row_exited : World → World
 row_exited w = exited (exited w GfmTableDelimiterRow) GfmTable
 
--- by what stands here
+-- by what is here
 abbrev pub before_code : World → Mark → Transition
 before_code w Dash = record { to = Retry (n.GfmTable its.HeadDelimiterValueBefore); world = w }
 before_code w Aligns = record { to = Retry (n.GfmTable its.HeadDelimiterValueBefore); world = w }
@@ -100,7 +100,7 @@ left_after_code w Divides = refused w
 left_after_code w Aligns = refused w
 left_after_code w Other = refused w
 
--- behind the filler
+-- after the filler
 abbrev pub unfilled : World → Transition
 unfilled w = record {
   to = Retry (n.GfmTable its.HeadDelimiterRightAlignmentAfter);
@@ -116,7 +116,7 @@ filler_code w White = unfilled w
 filler_code w Divides = unfilled w
 filler_code w Other = unfilled w
 
--- by whether the cells are as many as those of the head, and a colon or a pipe was met: a table is open behind it
+-- by whether the cells are as many as those of the head, and a colon or a pipe was met: a table is open after it
 abbrev pub ends_code : World → Bool → Transition
 ends_code w true = record {
   to = Ok;

@@ -17,6 +17,6 @@ value_part [] p = []
 value_part (b ∷ bs) p =
     around n.GfmTableDelimiterCellValue p (past_text (b ∷ bs) p) (delimiter_runs Apart (b ∷ bs) p)
 
--- a delimiter row on a line, with the whitespace in front of it
+-- a delimiter row on a line, with the whitespace before it
 abbrev pub delimiter_events : List ℕ → Point → List Event
 delimiter_events line p = row_by n.GfmTableDelimiterCell value_part line p

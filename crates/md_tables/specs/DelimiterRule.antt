@@ -22,15 +22,15 @@ use Rattle.md_tables.specs.Delimiter.{Aligns, Dash, Divides, IsOfDelimiter, Mark
 
 -- where in a row a place lies
 pub data Place : Type 0 where
-  -- in front of the first cell
+  -- before the first cell
   Front : Place
-  -- behind a pipe, where a cell may begin
+  -- after a pipe, where a cell may begin
   Open : Place
-  -- behind the colon at the front of a cell
+  -- after the colon at the front of a cell
   Left : Place
   -- in its dashes
   Dashes : Place
-  -- behind a cell
+  -- after a cell
   Behind : Place
 
 -- what a byte does there
@@ -40,7 +40,7 @@ pub data Move : Type 0 where
   Counts : Move
   -- it is a colon or a pipe
   Marks : Place → Move
-  -- it may not stand there
+  -- it may not be there
   Fails : Move
 
 abbrev pub move : Place → Mark → Move
@@ -90,7 +90,7 @@ pub data Run : Type 0 where
   -- between two runs
   Apart : Run
   Space : Run
-  -- behind a pipe, and behind a colon
+  -- after a pipe, and after a colon
   Pipe : Run
   Colon : Run
   Filler : Run
@@ -134,7 +134,7 @@ row_opens p = enter_link GfmTable p further_link ∷ enter GfmTableDelimiterRow 
 abbrev pub row_closes : Point → List Event
 row_closes p = exit GfmTableDelimiterRow p ∷ exit GfmTable p ∷ []
 
--- a row to the end of the line, if it fits: a table is open behind it
+-- a row to the end of the line, if it fits: a table is open after it
 unfoldable pub in_row : Run → Place → List Cell → Here → Outcome
 in_row run place cells h =
     let p = line_end cells h.point in
@@ -149,12 +149,12 @@ in_row run place cells h =
     (from_ending cells)
     else Refuses (uncounted h.scratch) h.flags
 
--- behind whitespace that is passed at once, where there was some
+-- after whitespace that is passed at once, where there was some
 unfoldable pub behind_white : Place → List Cell → Here → Outcome
 behind_white place cells h =
     if begins_white cells then Refuses (uncounted h.scratch) h.flags else in_row Apart place cells h
 
--- the whole rule: a small indent, and a row behind it
+-- the whole rule: a small indent, and a row after it
 unfoldable pub delimiter_at : ParseOptions → List Cell → Here → Outcome
 delimiter_at options cells h =
     let begun_here = record h { events = h.events ++ row_opens h.point } in

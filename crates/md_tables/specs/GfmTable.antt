@@ -31,7 +31,7 @@ use Rattle.md_tables.specs.declared.row.Row.TheVariants.{Head, Body}
 abbrev pub may_head : ParseOptions → OpenText → Bool
 may_head options text = options.constructs.gfm_table && nat_lt 0 text.columns && is_small options text.indent
 
--- whether a line of a table may begin where the line meets this leaf, by what stands first behind its indent
+-- whether a line of a table may begin where the line meets this leaf, by what is first after its indent
 abbrev pub may_begin : HeldLeaf → ℕ → Bool
 may_begin (held_leaf.Text text) b = nat_lt 0 text.columns && (b == hyphen || b == colon || b == pipe)
 may_begin held_leaf.Table b = true
@@ -63,7 +63,7 @@ begins_code w false = record { to = Nok; world = w }
 abbrev pub start_transition : World → Transition
 start_transition w = begins_code w (may_with (may_begin w.flags.leaf) (looks_behind w))
 
--- behind the indent of a head its first part begins
+-- after the indent of a head its first part begins
 abbrev pub head_row_start_transition : World → Transition
 head_row_start_transition w = record { to = Retry (n.GfmTable its.HeadRowBreak); world = w }
 
@@ -99,7 +99,7 @@ TableInvariant (n.GfmTable its.HeadDelimiterCellAfter) x = IsCounting x
 TableInvariant (n.GfmTable its.HeadDelimiterNok) x = IsCounting x
 TableInvariant _ x = IsRest x.scratch
 
--- In front of a row a table is at rest.
+-- Before a row a table is at rest.
 abbrev pub start_scheme : Scheme
 start_scheme = record {
   ready = λ name x K. rest_ready x K;
@@ -131,8 +131,8 @@ table_owner _ = nowhere
 abbrev pub table_scheme : Scheme
 table_scheme = of_owners table_owner
 
--- An answer names the state that is called next: one that stays at what stands here, or one behind what was taken,
--- where more stands there and is seen then.
+-- An answer names the state that is called next: one that stays at what is here, or one after what was taken, where
+-- more is there and is seen then.
 pub data AnswersWith (to : State) (name : StateName) (w : World) : World → Type 0 where
   ThatStays : to ≡ Retry name → AnswersWith to name w w
   ThatTook : to ≡ Next name → w.point.index < w.setting.limit → AnswersWith to name w (reading w)

@@ -25,7 +25,7 @@ are_columns (Some m) n = m == n
 
 -- By its cells.
 
--- whether these bytes are a delimiter row of so many cells, behind an indent
+-- whether these bytes are a delimiter row of so many cells, after an indent
 abbrev pub is_row_of : ℕ → List ℕ → Bool
 is_row_of columns bytes = delimiter.fits delimiter.Front (asking_columns columns REST) bytes
 
@@ -39,7 +39,7 @@ table_takes options (held_leaf.Text text) cells = may_head options text && delim
 table_takes options held_leaf.Table cells = true
 table_takes options _ cells = false
 
--- the events of a delimiter row: its indent, and its runs behind that
+-- the events of a delimiter row: its indent, and its runs after that
 abbrev pub delimiter_adds : ParseOptions → List Cell → Point → List Event
 delimiter_adds options cells p =
     let room = small_indent options in

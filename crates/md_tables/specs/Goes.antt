@@ -25,7 +25,7 @@ abbrev pub in_table : Section → Bool
 in_table Outside = false
 in_table _ = true
 
--- behind the head, and in front of the first row of the body
+-- after the head, and before the first row of the body
 abbrev pub is_between : Section → Bool
 is_between Between = true
 is_between _ = false

@@ -17,7 +17,7 @@ use Rattle.md_tables.specs.declared.row.Place.{Place}
 use Rattle.md_tables.specs.declared.row.Place.TheVariants as place
 use Rattle.md_tables.specs.declared.row.Row.TheVariants.{Head}
 
--- where in the head a state stands
+-- where in the head a state is
 abbrev pub head_place : TableState → Option Place
 head_place state = place_of Head state
 
@@ -57,6 +57,6 @@ head_behaves (n.GfmTable state) cells h = behaves_at (head_place state) cells h
 head_behaves (n.SpaceOrTab state) cells h = white_behaves state cells h
 head_behaves _ cells h = Refuses h.scratch h.flags
 
--- the state in front of the head
+-- the state before the head
 abbrev pub head_start : StateName
 head_start = name_at Head place.Start

@@ -38,12 +38,12 @@ begins_chunk e = is_enter e.kind && is_chunk e.name
 abbrev pub begins_further_row : Event → Bool
 begins_further_row e = is_enter e.kind && (is_table e.name && links_back e.link)
 
--- whether a look for what comes next behind a line stops here: at another line of text, a blank line or a block. So its
+-- whether a look for what comes next after a line stops here: at another line of text, a blank line or a block. So its
 -- own ending is passed, and the prefixes of containers
 abbrev pub stops_look : Event → Bool
 stops_look e = is_chunk e.name || is_blank_ending e.name || is_block (role e.name)
 
--- whether what comes next behind a line is a further row
+-- whether what comes next after a line is a further row
 abbrev pub meets_table : List Event → Bool
 meets_table [] = false
 meets_table (e ∷ es) = if stops_look e then begins_further_row e else meets_table es

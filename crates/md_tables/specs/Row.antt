@@ -39,7 +39,7 @@ state_at Body place.CellBefore = its.BodyRowCellBefore
 abbrev pub name_at : Row → Place → StateName
 name_at r p = n.GfmTable (state_at r p)
 
--- the place at which a state of a row stands, if it is one
+-- the place at which a state of a row is, if it is one
 abbrev pub place_of : Row → TableState → Option Place
 place_of Head its.HeadRowBefore = Some place.Start
 place_of Head its.HeadRowBreak = Some place.Break
@@ -53,7 +53,7 @@ place_of Body its.BodyRowEscape = Some place.Escape
 place_of Body its.BodyRowCellBefore = Some place.CellBefore
 place_of _ _ = None
 
--- What stands in a row.
+-- What is in a row.
 pub data Piece : Type 0 where
   Ends : Piece
   White : Piece
@@ -95,12 +95,12 @@ abbrev pub shut : Row → World → World
 shut Head w = exited w GfmTableRow
 shut Body w = exited (exited w GfmTableRow) GfmTable
 
--- behind a part of the row, by whether whitespace stands here
+-- after a part of the row, by whether whitespace is here
 abbrev pub behind_part : Row → World → Bool → Transition
 behind_part r w true = white_then w 1 any_size (Next (name_at r place.Break)) Nok
 behind_part r w false = record { to = Retry (name_at r place.Break); world = w }
 
--- by what stands here
+-- by what is here
 abbrev pub at_break_code : Row → World → Piece → Transition
 at_break_code r w Ends = record { to = Ok; world = shut r w }
 at_break_code r w White = record { to = Nok; world = w }
@@ -118,7 +118,7 @@ data_code r w Divides = behind_part r (exited w Data) false
 data_code r w Escapes = record { to = Next (name_at r place.Escape); world = taken w }
 data_code r w Other = record { to = Next (name_at r place.Data); world = taken w }
 
--- by whether the backslash takes what stands here
+-- by whether the backslash takes what is here
 abbrev pub escape_code : Row → World → Bool → Transition
 escape_code r w true = record { to = Next (name_at r place.Data); world = taken w }
 escape_code r w false = record { to = Retry (name_at r place.Data); world = w }

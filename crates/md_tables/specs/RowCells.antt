@@ -1,8 +1,8 @@
 -- A row of a table with its cells, by the bytes of its line (GFM 4.10).
 --
 -- The line is cut at its pipes, as the line definition cuts it: a pipe that a backslash takes does not divide, and one
--- at the end begins no cell. The pipe in front of a cell belongs to it, and the last one to the last cell. In a cell
--- the text reaches from the first word to the last, with whitespace around it, and an empty cell has no text.
+-- at the end begins no cell. The pipe before a cell belongs to it, and the last one to the last cell. In a cell the
+-- text reaches from the first word to the last, with whitespace around it, and an empty cell has no text.
 use Rattle.std.specs.Prelude.{ℕ, Bool, true, false, ◌==◌, if◌then◌else◌, List, [], ◌∷◌, ◌++◌, take, drop, length}
 use Rattle.std.specs.List.{prefix_len}
 use Rattle.md_engine.specs.declared.event.Event.{Event}
@@ -20,22 +20,22 @@ use Rattle.md_seam.specs.Events.Places.{past_byte, past_text}
 use Rattle.md_tables.specs.Row.{text_link}
 pub use Rattle.md_tables.specs.GfmTableLine.{row_runs}
 
--- The cells of a row behind its first pipe, if it begins with one. Each has its text with the whitespace around it.
+-- The cells of a row after its first pipe, if it begins with one. Each has its text with the whitespace around it.
 pub data Cells : Type 0 where
   -- the last one, with which the row ends
   Ends : List ℕ → Cells
-  -- the last one, the pipe that ends it, and the whitespace behind that
+  -- the last one, the pipe that ends it, and the whitespace after that
   Shut : List ℕ → List ℕ → Cells
-  -- one, and those behind the next pipe
+  -- one, and those after the next pipe
   Divides : List ℕ → Cells → Cells
 
--- with this byte in front of the first
+-- with this byte before the first
 abbrev pub onto : ℕ → Cells → Cells
 onto b (Ends cell) = Ends (b ∷ cell)
 onto b (Shut cell white) = Shut (b ∷ cell) white
 onto b (Divides cell cells) = Divides (b ∷ cell) cells
 
--- behind a pipe, by these bytes and the cells in them
+-- after a pipe, by these bytes and the cells in them
 abbrev pub behind_pipe : List ℕ → Cells → Cells
 behind_pipe bs cells = if is_blank bs then Shut [] bs else Divides [] cells
 
@@ -48,7 +48,7 @@ cells_of false (b ∷ bs) =
 
 -- The events.
 
--- the whitespace in front of the first word, and behind the last
+-- the whitespace before the first word, and after the last
 abbrev pub white_front : List ℕ → List ℕ
 white_front cell = take (prefix_len is_white cell) cell
 
@@ -81,7 +81,7 @@ cell_inside said cell p = cell_by (text_part said) cell p
 abbrev pub pipe_part : Point → List Event
 pipe_part p = pair n.GfmTableCellDivider p (past_byte pipe p)
 
--- in front of a cell, if there is one
+-- before a cell, if there is one
 abbrev pub first_pipe : Bool → Point → List Event
 first_pipe true p = pipe_part p
 first_pipe false p = []
@@ -90,7 +90,7 @@ abbrev pub past_pipe : Bool → Point → Point
 past_pipe true p = past_byte pipe p
 past_pipe false p = p
 
--- the cells from a point on, by their name and what they hold; `piped` says that a pipe stands in front of the first
+-- the cells from a point on, by their name and what they hold; `piped` says that a pipe is before the first
 abbrev pub cells_by : Name → (List ℕ → Point → List Event) → Bool → Cells → Point → List Event
 cells_by name part piped (Ends cell) p =
     let q = past_pipe piped p in
@@ -113,7 +113,7 @@ cells_events said piped cells p = cells_by n.GfmTableCell (text_part said) piped
 abbrev pub line_cells : List ℕ → Cells
 line_cells line = cells_of false (after_optional pipe line)
 
--- a row on a line that is not blank, with the whitespace in front of it
+-- a row on a line that is not blank, with the whitespace before it
 abbrev pub row_by : Name → (List ℕ → Point → List Event) → List ℕ → Point → List Event
 row_by name part line p =
     white_part (white_front line) p

@@ -26,13 +26,13 @@ pub data Run : Type 0 where
   -- between two runs
   Apart : Run
   White : Run
-  -- behind a pipe that divides
+  -- after a pipe that divides
   Pipe : Run
-  -- in a word, and there behind a backslash
+  -- in a word, and there after a backslash
   Text : Run
   Escaped : Run
 
--- the run behind a byte of a word
+-- the run after a byte of a word
 abbrev pub in_text : ℕ → Run
 in_text b = if b == backslash then Escaped else Text
 
@@ -40,7 +40,7 @@ in_text b = if b == backslash then Escaped else Text
 abbrev pub begun : ℕ → Run
 begun b = if is_white b then White else if b == pipe then Pipe else in_text b
 
--- whether a run goes on with this byte: a word goes on up to whitespace, or a pipe that no backslash takes
+-- whether a run continues with this byte: a word continues up to whitespace, or a pipe that no backslash takes
 abbrev pub goes_on : Run → ℕ → Bool
 goes_on Apart b = false
 goes_on White b = is_white b
@@ -97,7 +97,7 @@ in_row r run cells h =
     })
     (from_ending cells)
 
--- behind a part and the whitespace that follows it
+-- after a part and the whitespace that follows it
 unfoldable pub at_break : Row → List Cell → Here → Outcome
 at_break r cells h = if begins_white cells then Refuses h.scratch h.flags else in_row r Apart cells h
 

@@ -26,32 +26,32 @@ pub data RowStep (r : Row) (name : StateName) (w : World) (to : State) (new : Wo
       new ≡ (white_transition state w).world →
       RowStep r name w to new
 
--- the pipe that stands here was taken
+-- the pipe that is here was taken
 abbrev pub divided : World → World
 divided w = exited (taken (entered w GfmTableCellDivider)) GfmTableCellDivider
 
--- behind a part of a row: one space was taken, or no whitespace stands here
+-- after a part of a row: one space was taken, or no whitespace is here
 pub data IsGap (w : World) : World → Type 0 where
   OneSpace : IsOneSpace w → IsGap w (spaced w)
   NoSpace : sees_white w.current ≡ false → IsGap w w
 
--- From one state another is come to, which sees what stands here: what runs from there runs from the first.
+-- From one state another is reached, which sees what is here: what runs from there runs from the first.
 pub record Passes (T : Step) (first : StateName) (old : World) (name : StateName) (w : World) : Type 0 where
   pub leads : (to : State) (new : World) → RunsHere T name w to new → RunsHere T first old to new
   pub current : w.current ≡ looks w
   pub may : (w.point ≡ old.point) ⊎ (w.point.index < w.setting.limit)
   pub setting : w.setting ≡ old.setting
 
--- From a state of a row another of them is come to, or a state with which the row is left.
+-- From a state of a row another of them is reached, or a state with which the row is left.
 abbrev pub GoesTo : Row → StateName → World → StateName → Option State → World → Type 0
 GoesTo r first old next None w = Passes (RowStep r) first old next w
 GoesTo r first old next (Some to) w = to ≢ Error → RunsHere (RowStep r) first old to w × SeesOn to old w
 
--- the next of its parts is come to
+-- the next of its parts is reached
 abbrev pub Goes : Row → StateName → World → Option State → World → Type 0
 Goes r first old result w = GoesTo r first old (name_at r place.Break) result w
 
--- What stands here was taken, and what stands behind it is seen at a place of the row, or waited for.
+-- What is here was taken, and what follows it is seen at a place of the row, or waited for.
 abbrev pub TakesTo : Row → Place → World → Option State → World → Type 0
 TakesTo r p w None new = (new ≡ reading (taken w)) × ((taken w).point.index < w.setting.limit)
 TakesTo r p w (Some to) new = (to ≡ Next (name_at r p)) × (new ≡ taken w)

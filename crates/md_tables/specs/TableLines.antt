@@ -23,7 +23,7 @@ pub record TableRow : Type 0 where
   pub ends : Point
   pub inside : List Event
 
--- a further line: what stands between the row in front of it and its own
+-- a further line: what is between the row before it and its own
 pub record TableLine : Type 0 where
   pub between : List Event
   pub row : TableRow
@@ -45,7 +45,7 @@ row_name Delimiter = n.GfmTableDelimiterRow
 abbrev pub row_read : RowKind → TableRow → List Event
 row_read k r = around (row_name k) r.begins r.ends r.inside
 
--- with its cells, which are told by its own events
+-- with its cells, which are known from its own events
 abbrev pub row_celled : RowKind → TableRow → List Event
 row_celled k r = enter (row_name k) r.begins ∷ celled (Front k) (r.inside ++ exit (row_name k) r.ends ∷ [])
 
@@ -73,7 +73,7 @@ table_read t =
     ++ (t.delimiter.between
     ++ (row_read Delimiter t.delimiter.row ++ (lines_read t.body ++ exit n.GfmTable t.ends ∷ [])))
 
--- what stands in its head
+-- what is in its head
 abbrev pub head_celled : Table → List Event
 head_celled t = row_celled Text t.head ++ (t.delimiter.between ++ row_celled Delimiter t.delimiter.row)
 

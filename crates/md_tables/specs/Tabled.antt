@@ -1,8 +1,8 @@
 -- Tables (GFM 4.10), as their heads and bodies are put around rows, and cells into them.
 --
--- The first row of a table and its delimiter row are the head. The rows behind them are the body, if there are any: it
--- begins where the first of them does, and ends where the table does. What stands between two rows (line endings,
--- whitespace, prefixes of containers) stays as it is, and so does all that stands outside of tables.
+-- The first row of a table and its delimiter row are the head. The rows after them are the body, if there are any: it
+-- begins where the first of them does, and ends where the table does. What is between two rows (line endings,
+-- whitespace, prefixes of containers) stays as it is, and so does all that is outside of tables.
 use Rattle.std.specs.Prelude.{Bool, true, false, not, List, [], ◌∷◌, ◌++◌}
 use Rattle.md_engine.specs.declared.event.Event.{Event}
 use Rattle.md_engine.specs.declared.event.Kind.{Kind}
@@ -37,19 +37,19 @@ bound_by Exit name = end_bound name
 abbrev pub bound_of : Event → Bound
 bound_of e = bound_by e.kind e.name
 
--- the body begins in front of the first row behind the head, and ends in front of the end of the table
+-- the body begins before the first row after the head, and ends before the end of the table
 abbrev pub in_front : Section → Bound → Point → List Event
 in_front Between BeginsRow p = enter n.GfmTableBody p ∷ []
 in_front Body EndsTable p = exit n.GfmTableBody p ∷ []
 in_front _ _ p = []
 
--- the head begins behind the begin of the table, and ends behind the delimiter row
+-- the head begins after the begin of the table, and ends after the delimiter row
 abbrev pub behind : Section → Bound → Point → List Event
 behind Outside BeginsTable p = enter n.GfmTableHead p ∷ []
 behind Head EndsDelimiter p = exit n.GfmTableHead p ∷ []
 behind _ _ p = []
 
--- the section of a table in which one is behind an event
+-- the section of a table in which one is after an event
 abbrev pub next : Section → Bound → Section
 next Outside BeginsTable = Head
 next Outside _ = Outside

@@ -1,9 +1,8 @@
 // The cells of a row, in one walk over its events.
 //
-// The states of a row tell its pipes, its whitespace and its words. A cell begins with the pipe in front of it, and the
-// first one where no pipe stands there with what stands first; the last pipe of a row ends its last cell. The words of
-// a cell are one text, with the whitespace between them. In a delimiter row the colons and dashes of a cell are its
-// value.
+// The states of a row show its pipes, its whitespace and its words. A cell begins with the pipe before it, and the
+// first one where no pipe is there with what is first; the last pipe of a row ends its last cell. The words of a cell
+// are one text, with the whitespace between them. In a delimiter row the colons and dashes of a cell are its value.
 
 ghost use Rattle.std.specs.Prelude.{◌≡◌, ◌++◌, ◌∷◌, [], None, OnOk};
 ghost use Rattle.md_seam.specs.Events.Nested.{enter, exit};
@@ -25,11 +24,11 @@ pub enum RowKind {
     Delimiter,
 }
 
-/// Where the walk stands.
+/// Where the walk is.
 #[derive(Clone, Copy)]
 pub enum Stage {
     Outside,
-    /// In a row, in front of its first cell.
+    /// In a row, before its first cell.
     Front(RowKind),
     /// In a cell, and not in what it holds.
     Within(RowKind),
@@ -39,7 +38,7 @@ pub enum Stage {
     Gap,
     /// In the pipe that ends a row.
     Last(RowKind),
-    /// Behind it.
+    /// After it.
     Behind,
 }
 
@@ -112,7 +111,7 @@ pub(crate) fn ends_inner(kind: RowKind, event: &Event) -> bool
     matches!(event.kind, Kind::Exit) && is_inner(kind, event.name)
 }
 
-/// Whether whitespace stands here.
+/// Whether whitespace is here.
 #[inline(always)]
 fn has_white(events: &[Event]) -> bool
     ensures { result ≡ has_white events.now }
@@ -122,7 +121,7 @@ fn has_white(events: &[Event]) -> bool
         && matches!(events[1].name, Name::SpaceOrTab)
 }
 
-/// Whether a row ends here, maybe behind whitespace.
+/// Whether a row ends here, maybe after whitespace.
 #[inline(always)]
 pub(crate) fn row_ends(events: &[Event]) -> bool
     ensures { result ≡ row_ends events.now }
@@ -138,7 +137,7 @@ fn is_last(events: &[Event]) -> bool
     !events.is_empty() && ends_divider(&events[0]) && row_ends(&events[1..])
 }
 
-/// Whether what a cell holds goes on behind a piece of it.
+/// Whether what a cell holds continues after a piece of it.
 #[inline(always)]
 pub(crate) fn goes_on(kind: RowKind, events: &[Event]) -> bool
     ensures { result ≡ goes_on kind events.now }
@@ -189,7 +188,7 @@ pub(crate) fn plain(kind: Kind, name: Name, point: Point) -> Event
     }
 }
 
-/// A walk over the events: what is given for those so far, and where it stands.
+/// A walk over the events: what is given for those so far, and where it is.
 #[derive(Drop)]
 pub(crate) struct Walk {
     pub(crate) given: Vec<Event>,
@@ -235,7 +234,7 @@ impl Walk {
         Ok(())
     }
 
-    /// Ends it, behind this event.
+    /// Ends it, after this event.
     fn exit_inner(&mut self, kind: RowKind, event: &Event) -> Result<(), Message>
         ensures given { OnOk result
             (self.new.given.items ≡ self.old.given.items ++ event.now ∷ exit (inner_name kind) event.now.point ∷ []) }
@@ -246,7 +245,7 @@ impl Walk {
         Ok(())
     }
 
-    /// Goes on in front of the first cell of a row.
+    /// Goes on before the first cell of a row.
     fn front(&mut self, kind: RowKind, event: &Event) -> Result<(), Message>
         ensures given { OnOk result
             (self.new.given.items ≡ self.old.given.items ++ (front_step kind event.now).given) }
@@ -292,7 +291,7 @@ impl Walk {
         self.pass(event, Stage::Within(kind))
     }
 
-    /// Goes on behind a piece of what a cell holds, by whether that goes on.
+    /// Goes on after a piece of what a cell holds, by whether that continues.
     fn piece(&mut self, kind: RowKind, event: &Event, goes_on: bool) -> Result<(), Message>
         ensures given { OnOk result
             (self.new.given.items ≡ self.old.given.items ++ (piece_step kind event.now goes_on).given) }
@@ -394,7 +393,7 @@ impl Walk {
         self.pass(event, Stage::Outside)
     }
 
-    /// Goes on with an event, in front of these.
+    /// Goes on with an event, before these.
     pub(crate) fn step(&mut self, event: &Event, behind: &[Event]) -> Result<(), Message>
         ensures given { OnOk result
             (self.new.given.items ≡ self.old.given.items ++ (step self.old.stage event.now behind.now).given) }

@@ -6,7 +6,7 @@
 // A row has a colon or a pipe, and as many cells as the head: how many that is, is in the scratch (`columns_wanted`)
 // when it begins. It is a `GfmTable` of its own around `GfmTableDelimiterRow`, and in that `GfmTableCellDivider`,
 // `SpaceOrTab`, `GfmTableDelimiterMarker` and `GfmTableDelimiterFiller`; it is linked to the line before, which is the
-// head. Behind it a table is open. Resolvers join the lines of one, and make cells of these.
+// head. After it a table is open. Resolvers join the lines of one, and make cells of these.
 
 ghost use Rattle.std.specs.Prelude.{◌≡◌, ◌≢◌, ◌<◌, IfSome, length};
 ghost use Rattle.md_engine.specs.Full.{IsFull, OnError};
@@ -44,7 +44,7 @@ fn uncounted(scratch: Scratch) -> Scratch
     }
 }
 
-/// Goes on behind whitespace, if some stands here, and at most so much of it.
+/// Goes on after whitespace, if some is here, and at most so much of it.
 #[inline(always)]
 fn behind_white(tokenizer: &mut Tokenizer, max: usize, next: TableState) -> State
     ensures to { result ≢ State.Error →
@@ -61,7 +61,7 @@ fn behind_white(tokenizer: &mut Tokenizer, max: usize, next: TableState) -> Stat
     }
 }
 
-/// Takes a pipe or a colon, as a part of this name, and goes on.
+/// Takes a pipe or a colon, as a part of this name, and continues.
 #[inline(always)]
 fn take_mark(tokenizer: &mut Tokenizer, name: Name, next: TableState) -> State
     requires { (world tokenizer.old).point.index < length (world tokenizer.old).setting.bytes }
@@ -129,7 +129,7 @@ pub fn head_delimiter_before(tokenizer: &mut Tokenizer) -> State
     }
 }
 
-/// Behind a pipe.
+/// After a pipe.
 ///
 /// ```markdown
 ///   | | a |
@@ -150,7 +150,7 @@ pub fn head_delimiter_cell_before(tokenizer: &mut Tokenizer) -> State
     behind_white(tokenizer, usize::MAX, TableState::HeadDelimiterValueBefore)
 }
 
-/// Before a cell, or at the end of the row behind a pipe.
+/// Before a cell, or at the end of the row after a pipe.
 ///
 /// ```markdown
 ///   | | a |
@@ -247,7 +247,7 @@ pub fn head_delimiter_filler(tokenizer: &mut Tokenizer) -> State
     }
 }
 
-/// Behind a cell.
+/// After a cell.
 ///
 /// ```markdown
 ///   | |  a |
@@ -268,7 +268,7 @@ pub fn head_delimiter_right_alignment_after(tokenizer: &mut Tokenizer) -> State
     behind_white(tokenizer, usize::MAX, TableState::HeadDelimiterCellAfter)
 }
 
-/// Behind a cell and the whitespace that follows it.
+/// After a cell and the whitespace that follows it.
 ///
 /// ```markdown
 ///   | |  a |
@@ -303,7 +303,7 @@ pub fn head_delimiter_cell_after(tokenizer: &mut Tokenizer) -> State
     }
 }
 
-/// Where a row can't go on: refuses, at rest. The other states call it where they refuse.
+/// Where a row can't continue: refuses, at rest. The other states call it where they refuse.
 ///
 /// ```markdown
 ///   | | a |

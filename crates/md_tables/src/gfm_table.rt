@@ -2,7 +2,7 @@
 //
 //     gfm_table ::= head_row eol delimiter_row *( eol body_row )
 //
-// The head is the last line of a text: that it is one shows with the delimiter row behind it, which has as many cells.
+// The head is the last line of a text: that it is one shows with the delimiter row after it, which has as many cells.
 // So a line that meets text is tried as a delimiter row, and one that meets a table as a row of the body. The head
 // itself is read again, once all lines are known.
 
@@ -44,8 +44,8 @@ fn may_head(options: &ParseOptions, text: OpenText) -> bool
     options.constructs.gfm_table && 0 < text.columns && is_small(options, text.indent)
 }
 
-/// Whether a line of a table may begin where the line meets this leaf, by what stands first behind its indent, if that
-/// is known.
+/// Whether a line of a table may begin where the line meets this leaf, by what is first after its indent, if that is
+/// known.
 pub fn may_begin(leaf: HeldLeaf, first: Option<u8>) -> bool
     ensures { result ≡ may_with (may_begin leaf) first }
 {
@@ -59,7 +59,7 @@ pub fn may_begin(leaf: HeldLeaf, first: Option<u8>) -> bool
     }
 }
 
-/// Before a line of a table, behind its head: one look refuses what begins none.
+/// Before a line of a table, after its head: one look refuses what begins none.
 ///
 /// ```markdown
 ///   | | a |
@@ -113,7 +113,7 @@ pub fn head_row_before(tokenizer: &mut Tokenizer) -> State
     row::start(tokenizer, Row::Head)
 }
 
-/// Behind the indent of the head: goes on with its first part.
+/// After the indent of the head: continues with its first part.
 ///
 /// ```markdown
 /// > | | a |
@@ -170,7 +170,7 @@ pub fn head_row_data(tokenizer: &mut Tokenizer) -> State
     row::data(tokenizer, Row::Head)
 }
 
-/// Behind `\` in a word of the head.
+/// After `\` in a word of the head.
 ///
 /// ```markdown
 /// > | | a\|b |
@@ -187,7 +187,7 @@ pub fn head_row_escape(tokenizer: &mut Tokenizer) -> State
     row::escape(tokenizer, Row::Head)
 }
 
-/// Behind a pipe of the head.
+/// After a pipe of the head.
 ///
 /// ```markdown
 /// > | | a |
@@ -270,7 +270,7 @@ pub fn body_row_data(tokenizer: &mut Tokenizer) -> State
     row::data(tokenizer, Row::Body)
 }
 
-/// Behind `\` in a word of the body.
+/// After `\` in a word of the body.
 ///
 /// ```markdown
 ///   | | a    |
@@ -288,7 +288,7 @@ pub fn body_row_escape(tokenizer: &mut Tokenizer) -> State
     row::escape(tokenizer, Row::Body)
 }
 
-/// Behind a pipe of the body.
+/// After a pipe of the body.
 ///
 /// ```markdown
 ///   | | a |
@@ -371,7 +371,7 @@ fn table_state(name: StateName) -> Option<TableState>
     }
 }
 
-/// Whether much may be taken at once where this state of a table goes on.
+/// Whether much may be taken at once where this state of a table continues.
 #[inline(always)]
 fn may_stay(state: TableState) -> bool {
     matches!(
@@ -380,8 +380,8 @@ fn may_stay(state: TableState) -> bool {
     )
 }
 
-/// The state of a table that is called at once behind this answer, if there is one: where it stays at what stands here,
-/// or has taken something and more stands behind it, which is seen then.
+/// The state of a table that is called at once after this answer, if there is one: where it stays at what is here, or
+/// has taken something and more is after it, which is seen then.
 #[inline(always)]
 pub fn next(tokenizer: &mut Tokenizer, to: State) -> Option<TableState>
     ensures none { result ≡ None → world tokenizer.new ≡ world tokenizer.old }

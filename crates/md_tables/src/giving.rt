@@ -121,7 +121,7 @@ pub(crate) fn give_whole(
     Ok(())
 }
 
-/// Gives two events in front of which a part of this name ends, and with which the next begins.
+/// Gives two events before which a part of this name ends, and with which the next begins.
 #[inline(always)]
 pub(crate) fn give_between(
     given: &mut Vec<Event>,

@@ -1,6 +1,6 @@
 // The heads of tables, in one walk over the events.
 //
-// A line of text is one chunk until a delimiter row is found behind it. Then the line is read again, by the states of a
+// A line of text is one chunk until a delimiter row is found after it. Then the line is read again, by the states of a
 // head row. The walk begins just before the first delimiter row; a text without one is only searched for it. It tests
 // each event as it passes it, and else at most once from the line of text before it. So it is linear.
 
@@ -155,14 +155,14 @@ fn begins_further_row(event: &Event) -> bool
         && matches!(event.link, Some(link) if link.previous)
 }
 
-/// Whether a look for what comes next behind a line stops here: at another line of text, a blank line or a block.
+/// Whether a look for what comes next after a line stops here: at another line of text, a blank line or a block.
 fn stops_look(event: &Event) -> bool
     ensures { result ≡ stops_look event.now }
 {
     matches!(event.name, Name::Content | Name::BlankLineEnding) || is_block(event.name)
 }
 
-/// Whether what comes next behind a line is a further row.
+/// Whether what comes next after a line is a further row.
 fn meets_table(events: &[Event]) -> bool
     ensures { result ≡ meets_table events.now }
 {
@@ -197,7 +197,7 @@ impl Test for BeginsNoFurtherRow {
 
 /// How many events come before the first line of text that may be a head; all, if there is no further row.
 ///
-/// Behind the two events of a head, a look stops first at a further row. So where a look stops at an event before the
+/// After the two events of a head, a look stops first at a further row. So where a look stops at an event before the
 /// first further row, no head begins two or more events before that one.
 fn until_head(events: &[Event]) -> usize
     ensures passed { (bytes : List ℕ) (options : ParseOptions) →
@@ -237,8 +237,8 @@ fn until_chunk(events: &[Event]) -> usize
 
 /// How many events come before the next line of text that may be a head, where no head begins with the first event.
 ///
-/// Behind a line of text that is no head this looks for the next further row. What it finds in front of that row is a
-/// head or no line of text, and then it looks for the next line of text. So it goes over each event once.
+/// After a line of text that is no head this looks for the next further row. What it finds before that row is a head or
+/// no line of text, and then it looks for the next line of text. So it goes over each event once.
 fn until_next(events: &[Event]) -> usize
     requires some { 0 < length events.now }
     requires none { is_head events.now ≡ false }

@@ -1,4 +1,4 @@
-// Parts of a table that are passed at once: their begin, and their end right behind it.
+// Parts of a table that are passed at once: their begin, and their end right after it.
 
 ghost use Rattle.std.specs.Prelude.{◌≡◌, ◌≤◌, ◌+◌, ◌∷◌, IfOk, drop, length, true};
 ghost use Rattle.md_tables.specs.Goes.{IsWithin, begins_body, ends_head, ends_text_row, in_all, in_table, is_between};
@@ -97,7 +97,7 @@ fn is_between(section: Section) -> bool
 }
 
 impl Walk {
-    /// Goes on in a cell, in front of what it holds, with a piece of that: the whole of it, or its begin. Says how many
+    /// Goes on in a cell, before what it holds, with a piece of that: the whole of it, or its begin. Says how many
     /// events that are, and whether the walk stays there.
     #[inline(always)]
     fn piece_within(
@@ -158,8 +158,8 @@ impl Walk {
         Ok((2, true))
     }
 
-    /// Goes on in a cell, in front of what it holds or behind that. Says with how many events, and whether the walk
-    /// stays there.
+    /// Goes on in a cell, before what it holds or after that. Says with how many events, and whether the walk stays
+    /// there.
     #[inline(always)]
     fn part_within(&mut self, kind: RowKind, events: &[Event]) -> Result<(usize, bool), Message>
         requires section { in_table self.old.section ≡ true }
@@ -186,8 +186,8 @@ impl Walk {
         Ok((0, false))
     }
 
-    /// Goes on in a cell, and in those behind it, as long as it stays in front of what they hold or behind that. Says
-    /// with how many events.
+    /// Goes on in a cell, and in those after it, as long as it stays before what they hold or after that. Says with how
+    /// many events.
     #[inline(always)]
     fn parts_within(&mut self, kind: RowKind, events: &[Event]) -> Result<usize, Message>
         requires section { in_table self.old.section ≡ true }
@@ -206,7 +206,7 @@ impl Walk {
         }
     }
 
-    /// Goes on in what a cell holds at the end of a piece of it: up to the next piece, or behind all of it.
+    /// Goes on in what a cell holds at the end of a piece of it: up to the next piece, or after all of it.
     #[inline(always)]
     fn part_inner(&mut self, kind: RowKind, events: &[Event]) -> Result<usize, Message>
         requires section { in_table self.old.section ≡ true }
@@ -235,7 +235,7 @@ impl Walk {
         }
     }
 
-    /// Goes on in front of the first cell of a row with its pipe.
+    /// Goes on before the first cell of a row with its pipe.
     #[inline(always)]
     fn part_front(&mut self, kind: RowKind, events: &[Event]) -> Result<usize, Message>
         requires section { in_table self.old.section ≡ true }
@@ -291,7 +291,7 @@ impl Walk {
         Ok(1 + many)
     }
 
-    /// Goes on behind the last pipe of a row with the end of the row, which may end the head.
+    /// Goes on after the last pipe of a row with the end of the row, which may end the head.
     #[inline(always)]
     fn part_behind(&mut self, events: &[Event]) -> Result<usize, Message>
         requires section { in_table self.old.section ≡ true }
@@ -317,7 +317,7 @@ impl Walk {
         Ok(1)
     }
 
-    /// Goes on with a part, if one stands here, and says how many events it has.
+    /// Goes on with a part, if one is here, and says how many events it has.
     #[inline(always)]
     fn part(&mut self, events: &[Event]) -> Result<usize, Message>
         requires { in_table self.old.section ≡ true }
@@ -337,7 +337,7 @@ impl Walk {
         }
     }
 
-    /// Goes on with the parts that stand here, and says how many events they have.
+    /// Goes on with the parts that are here, and says how many events they have.
     pub(crate) fn parts(&mut self, events: &[Event]) -> Result<usize, Message>
         requires { in_table self.old.section ≡ true }
         ensures within { IfOk result (λ many. many ≤ length events.now) }

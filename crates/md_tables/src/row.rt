@@ -45,18 +45,18 @@ pub enum Row {
     Body,
 }
 
-/// Where in a row a state stands.
+/// Where in a row a state is.
 #[derive(Clone, Copy)]
 pub enum Place {
-    /// In front of it.
+    /// Before it.
     Start,
-    /// Between its parts, where no whitespace stands.
+    /// Between its parts, where no whitespace is.
     Break,
     /// In a word.
     Data,
-    /// In a word, behind `\`.
+    /// In a word, after `\`.
     Escape,
-    /// Behind a pipe.
+    /// After a pipe.
     CellBefore,
 }
 
@@ -82,7 +82,7 @@ pub fn state_at(row: Row, place: Place) -> TableState
     }
 }
 
-/// The place at which a state of a row stands, if it is one.
+/// The place at which a state of a row is, if it is one.
 #[inline(always)]
 pub fn place_of(row: Row, state: TableState) -> Option<Place>
     ensures { result ≡ place_of row state }
@@ -109,7 +109,7 @@ pub(crate) fn name_at(row: Row, place: Place) -> StateName
     StateName::GfmTable(state_at(row, place))
 }
 
-/// Goes on behind a part of the row: behind whitespace, if some stands here.
+/// Goes on after a part of the row: after whitespace, if some is here.
 pub(crate) fn behind_part(tokenizer: &mut Tokenizer, row: Row) -> State
     ensures to { result ≢ State.Error →
         result ≡ (behind_part row (world tokenizer.old) (sees_white tokenizer.old.current)).to }
@@ -230,7 +230,7 @@ pub fn data(tokenizer: &mut Tokenizer, row: Row) -> State
     }
 }
 
-/// Behind `\` in a word of a cell.
+/// After `\` in a word of a cell.
 ///
 /// ```markdown
 ///   | | a    |
@@ -256,7 +256,7 @@ pub fn escape(tokenizer: &mut Tokenizer, row: Row) -> State
     }
 }
 
-/// Behind a pipe.
+/// After a pipe.
 ///
 /// ```markdown
 ///   | | a |

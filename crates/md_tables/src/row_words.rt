@@ -2,8 +2,8 @@
 //
 //     part ::= '|' | word | *space_or_tab
 //
-// Most parts of a row stand alone between single spaces. So what the states do one after another with pipes, words and
-// single spaces is done here in one call. It comes to the same.
+// Most parts of a row are alone between single spaces. So what the states do one after another with pipes, words and
+// single spaces is done here in one call. It becomes the same.
 
 ghost use Rattle.std.specs.Prelude.{◌≡◌, ◌≢◌, ◌<◌, ◌≤◌, ◌⊎◌, IfSome, None, OnOk, Some, false, is_err, true};
 ghost use Rattle.md_engine.specs.Full.{IsFull, OnError};
@@ -28,7 +28,7 @@ use md_engine::state::State;
 use md_engine::tokenizer::Tokenizer;
 use md_seam::space_or_tab::{is_one_space, is_space_or_tab, take_one_space};
 
-/// Whether a pipe stands here.
+/// Whether a pipe is here.
 #[inline(always)]
 fn is_pipe(current: Option<u8>) -> bool
     ensures { result ≡ true → current ≡ Some pipe }
@@ -36,7 +36,7 @@ fn is_pipe(current: Option<u8>) -> bool
     matches!(current, Some(b'|'))
 }
 
-/// Whether text stands here.
+/// Whether text is here.
 #[inline(always)]
 fn sees_text(current: Option<u8>) -> bool
     ensures { result ≡ is_text (piece current) }
@@ -47,7 +47,7 @@ fn sees_text(current: Option<u8>) -> bool
     }
 }
 
-/// Whether a backslash stands here.
+/// Whether a backslash is here.
 #[inline(always)]
 fn is_backslash(current: Option<u8>) -> bool
     ensures { result ≡ is_backslash current }
@@ -55,7 +55,7 @@ fn is_backslash(current: Option<u8>) -> bool
     matches!(current, Some(b'\\'))
 }
 
-/// Whether a backslash in front takes what stands here.
+/// Whether a backslash in front takes what is here.
 #[inline(always)]
 fn is_escaped(current: Option<u8>) -> bool
     ensures { result ≡ is_escaped current }
@@ -63,7 +63,7 @@ fn is_escaped(current: Option<u8>) -> bool
     matches!(current, Some(b'\\' | b'|'))
 }
 
-/// Takes the pipe that stands here.
+/// Takes the pipe that is here.
 #[inline(always)]
 fn take_pipe(tokenizer: &mut Tokenizer) -> Result<(), Message>
     requires current { (world tokenizer.old).current ≡ looks (world tokenizer.old) }
@@ -76,7 +76,7 @@ fn take_pipe(tokenizer: &mut Tokenizer) -> Result<(), Message>
     tokenizer.exit(Name::GfmTableCellDivider)
 }
 
-/// Sees and takes the bytes of a word that stand here and that nothing gives a meaning.
+/// Sees and takes the bytes of a word that are here and that nothing gives a meaning.
 #[inline(always)]
 fn take_plain(tokenizer: &mut Tokenizer)
     ensures { SeesSome Stay.Plain (world tokenizer.old) (world tokenizer.new) }
@@ -88,7 +88,7 @@ fn take_plain(tokenizer: &mut Tokenizer)
     }
 }
 
-/// Behind a part of the row: takes one space, or nothing where no whitespace stands here. Where more does, goes on with
+/// After a part of the row: takes one space, or nothing where no whitespace is here. Where more does, continues with
 /// that as the states do.
 #[inline(always)]
 fn gap(tokenizer: &mut Tokenizer, row: Row) -> Option<State>
@@ -115,7 +115,7 @@ fn gap(tokenizer: &mut Tokenizer, row: Row) -> Option<State>
     }
 }
 
-/// Takes what stands here, and sees what stands behind it, at a place of the row.
+/// Takes what is here, and sees what follows it, at a place of the row.
 #[inline(always)]
 fn take_to(tokenizer: &mut Tokenizer, row: Row, place: Place) -> Option<State>
     requires { (world tokenizer.old).point.index < (world tokenizer.old).setting.limit }
@@ -153,7 +153,7 @@ fn pass_plain(tokenizer: &mut Tokenizer, row: Row) -> Option<State>
     None
 }
 
-/// Behind `\` in a word: takes what this takes.
+/// After `\` in a word: takes what this takes.
 ///
 /// ```markdown
 ///   | | a    |
@@ -207,7 +207,7 @@ fn pass_text(tokenizer: &mut Tokenizer, row: Row) -> Option<State>
     }
 }
 
-/// In a word: goes on up to where it ends.
+/// In a word: continues up to where it ends.
 #[inline(always)]
 fn pass_rest(tokenizer: &mut Tokenizer, row: Row) -> Option<State>
     requires { IsAt NeedsNothing (name_at row Place.Data) (world tokenizer.old) }
@@ -231,7 +231,7 @@ fn pass_rest(tokenizer: &mut Tokenizer, row: Row) -> Option<State>
     None
 }
 
-/// In a word: takes what is left of it, and goes on behind it.
+/// In a word: takes what is left of it, and continues after it.
 ///
 /// ```markdown
 ///   | | a  |
@@ -260,7 +260,7 @@ fn end_word(tokenizer: &mut Tokenizer, row: Row) -> Option<State>
     gap(tokenizer, row)
 }
 
-/// Before a word: takes it, and goes on behind it.
+/// Before a word: takes it, and continues after it.
 ///
 /// ```markdown
 ///   | | a |
@@ -287,7 +287,7 @@ fn pass_word(tokenizer: &mut Tokenizer, row: Row) -> Option<State>
     end_word(tokenizer, row)
 }
 
-/// Before a pipe: takes it, and goes on behind it.
+/// Before a pipe: takes it, and continues after it.
 ///
 /// ```markdown
 ///   | | a |
@@ -314,7 +314,7 @@ fn pass_pipe(tokenizer: &mut Tokenizer, row: Row) -> Option<State>
     gap(tokenizer, row)
 }
 
-/// Between two parts of a row, or at its end: takes the next part, and goes on behind it.
+/// Between two parts of a row, or at its end: takes the next part, and continues after it.
 ///
 /// ```markdown
 ///   | | a |
@@ -383,7 +383,7 @@ fn begin(tokenizer: &mut Tokenizer, row: Row) -> Option<State>
     gap(tokenizer, row)
 }
 
-/// Behind a pipe: takes whitespace.
+/// After a pipe: takes whitespace.
 ///
 /// ```markdown
 ///   | | a |
@@ -400,7 +400,7 @@ fn behind_pipe(tokenizer: &mut Tokenizer, row: Row) -> Option<State>
     gap(tokenizer, row)
 }
 
-/// Behind `\` in a word: takes what is left of the word, and goes on behind it.
+/// After `\` in a word: takes what is left of the word, and continues after it.
 ///
 /// ```markdown
 ///   | | a    |

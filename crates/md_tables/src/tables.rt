@@ -4,11 +4,11 @@
 //       GfmTableHead         from the begin of the table
 //         GfmTableRow
 //         GfmTableDelimiterRow
-//       GfmTableBody         if there are rows behind the head, to the end of the table
+//       GfmTableBody         if there are rows after the head, to the end of the table
 //         GfmTableRow ..
 //
-// The walk looks at each event as it passes it, and in a row at up to four behind it. Outside of tables the events up
-// to the next table are copied at once.
+// The walk looks at each event as it passes it, and in a row at up to four after it. Outside of tables the events up to
+// the next table are copied at once.
 
 ghost use Rattle.std.specs.Prelude.{◌≡◌, ℕ, ◌≤◌, ◌<◌, ◌++◌, [], IfOk, List, OnOk, drop, false, length, true};
 ghost use Rattle.std.specs.List.{prefix_len};
@@ -38,13 +38,13 @@ pub enum Bound {
     Other,
 }
 
-/// Where the walk stands.
+/// Where the walk is.
 #[derive(Clone, Copy)]
 pub enum Section {
     /// In no table.
     Outside,
     Head,
-    /// Behind the head, and in front of the first row of the body.
+    /// After the head, and before the first row of the body.
     Between,
     Body,
 }
@@ -74,7 +74,7 @@ fn may_bound(name: Name) -> bool
     )
 }
 
-/// The section of a table behind an event.
+/// The section of a table after an event.
 fn next(section: Section, bound: Bound) -> Section
     ensures { result ≡ next section bound }
 {
@@ -117,7 +117,7 @@ impl Test for PassesIn {
     }
 }
 
-/// How many events stand in front of the first that does not pass a section as it is.
+/// How many events are before the first that does not pass a section as it is.
 fn until_other(section: Section, events: &[Event]) -> usize
     ensures value { result ≡ prefix_len (passes section) events.now }
     ensures within { result ≤ length events.now }
@@ -125,7 +125,7 @@ fn until_other(section: Section, events: &[Event]) -> usize
     passing(&PassesIn { section }, events)
 }
 
-/// A walk over the events: what is given for those so far, and where it stands.
+/// A walk over the events: what is given for those so far, and where it is.
 #[derive(Drop)]
 pub(crate) struct Walk {
     pub(crate) section: Section,
@@ -142,7 +142,7 @@ impl Walk {
         append(&mut self.rows.given, events)
     }
 
-    /// Begins or ends the body in front of an event.
+    /// Begins or ends the body before an event.
     fn put_in_front(&mut self, bound: Bound, event: &Event) -> Result<(), Message>
         ensures given { OnOk result
             (self.new.rows.given.items ≡ self.old.rows.given.items ++ in_front self.old.section bound event.now.point) }
@@ -163,7 +163,7 @@ impl Walk {
         }
     }
 
-    /// Begins or ends the head behind an event.
+    /// Begins or ends the head after an event.
     fn put_behind(&mut self, bound: Bound, event: &Event) -> Result<(), Message>
         ensures given { OnOk result
             (self.new.rows.given.items ≡ self.old.rows.given.items ++ behind self.old.section bound event.now.point) }
@@ -201,7 +201,7 @@ impl Walk {
         }
     }
 
-    /// Goes on with an event, in front of these.
+    /// Goes on with an event, before these.
     fn step(&mut self, event: &Event, behind: &[Event]) -> Result<(), Message>
         ensures given { OnOk result
             (self.new.rows.given.items ≡
@@ -221,7 +221,7 @@ impl Walk {
         Ok(())
     }
 
-    /// Goes on up to behind the begin of the next table, and says how many events that are.
+    /// Goes on up to after the begin of the next table, and says how many events that are.
     fn outside(&mut self, events: &[Event]) -> Result<usize, Message>
         requires { 0 < length events.now }
         ensures some { IfOk result (λ many. 0 < many) }

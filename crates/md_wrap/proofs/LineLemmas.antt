@@ -19,7 +19,7 @@ use Rattle.md_wrap.specs.Endings.{ending_len}
 abbrev pub IsFirstLine : List ℕ → ℕ → Type 0
 IsFirstLine text n = full_lines_of text ≡ take n text ∷ full_lines_of (drop n text)
 
--- one more byte in front of it
+-- one more byte before it
 first-onto : (b : ℕ) (bytes : List ℕ) (n : ℕ) → is_ending b ≡ false → IsFirstLine bytes n →
     IsFirstLine (b ∷ bytes) (suc n)
 first-onto b bytes n e first =
@@ -58,7 +58,7 @@ no-ending b none = go (is_ending b) refl
     go true is = absurd (none is)
     go false is = refl
 
--- the first ending stands at a place
+-- the first ending is at a place
 pub line-cut : (text : List ℕ) (at : ℕ) → at < length text → Nowhere (Passes (is_byte2 10 13) text) 0 at →
     Passes (is_byte2 10 13) text at → IsFirstLine text (at + ending_len (drop at text))
 line-cut [] at lt none here = absurd (omega (arith, lt))
@@ -71,7 +71,7 @@ line-cut (b ∷ bytes) (suc at) lt none here =
     (first-onto b bytes (at + ending_len (drop at bytes)) (no-ending b (none 0 (omega arith) (omega arith)))
     (line-cut bytes at (omega (arith, lt)) (λ k low high. none (suc k) (omega arith) (omega (arith, high))) here))
 
--- no ending stands in the text
+-- no ending is in the text
 pub line-whole : (text : List ℕ) → Nowhere (Passes (is_byte2 10 13) text) 0 (length text) → text ≢ [] →
     IsFirstLine text (length text)
 line-whole [] none some = absurd (some refl)
@@ -82,11 +82,11 @@ line-whole (b ∷ c ∷ bytes) none some =
     first-onto b (c ∷ bytes) (length (c ∷ bytes)) (no-ending b (none 0 (omega arith) (omega arith)))
     (line-whole (c ∷ bytes) (λ k low high. none (suc k) (omega arith) (omega (arith, high))) (λ e. cc))
 
--- what stands from a place on
+-- what is from a place on
 pub range-from : (bytes : List ℕ) (at : ℕ) → take (length bytes - at) (drop at bytes) ≡ drop at bytes
 range-from bytes at = take_all (length bytes - at) (drop at bytes) (omega (arith, length-drop at bytes))
 
--- A text may be cut behind it.
+-- A text may be cut after it.
 
 ending-boundary : (bytes : List ℕ) → IsUtf8 bytes → get_or bytes 0 0 < 128 → IsCharBoundary bytes (ending_len bytes)
 ending-boundary [] u ascii = IsCharBoundary-end []

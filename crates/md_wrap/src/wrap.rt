@@ -1,13 +1,13 @@
 // Whole texts in a container: a quote, a list item or a footnote definition around a text, of which all bytes are kept.
 //
-// A prefix comes before each line. A line ends at LF, CR or CR LF (CommonMark 2.1); bytes behind the last ending are a
+// A prefix comes before each line. A line ends at LF, CR or CR LF (CommonMark 2.1); bytes after the last ending are a
 // last line, and no bytes are none. An empty line has its prefix too, so it does not end the container.
 //
 // What a text means that is wrapped so is known for most texts: the container, with what the text means in it. That is
 // the law in the contract of each function, with the texts that it speaks of. It speaks of no text with a tab, whose
-// columns would change, nor of one with a byte order mark or frontmatter, which stand at the front of a document alone.
-// Where alerts are on, that of a quote speaks of no text whose first line is the marker of a kind either: behind `> `
-// it would make the quote an alert.
+// columns would change, nor of one with a byte order mark or frontmatter, which are at the front of a document alone.
+// Where alerts are on, that of a quote speaks of no text whose first line is the marker of a kind either: after `> ` it
+// would make the quote an alert.
 
 ghost use Rattle.std.specs.Prelude.{◌≡◌, ◌≢◌, ◌<◌, ◌≤◌, [], ◌∷◌, drop, length, take, string_bytes, IfOk, OnOk, ◌++◌};
 ghost use Rattle.std.specs.List.{concat};
@@ -22,7 +22,7 @@ use md_engine::message::Message;
 use memchr::memchr2;
 use std::alloc::Global;
 
-/// How many bytes the line ending has that stands first, and 0 of no bytes.
+/// How many bytes the line ending has that is first, and 0 of no bytes.
 fn ending_len(bytes: &[u8]) -> usize
     ensures value { result ≡ ending_len bytes.now }
     ensures within { result ≤ length bytes.now }

@@ -64,7 +64,7 @@ use Rattle.md_rows.proofs.Turned.Cut as headings
 use Rattle.md_rows.proofs.Turned.Cut.{IsCutHeading, heading-cut, left-remains}
 use Rattle.md_rows.proofs.Turned.Facts.{turned-block, turned-facts}
 
--- Events in which these labels stand, and those once their texts are read: read between blocks, they show blocks with
+-- Events in which these labels are, and those once their texts are read: read between blocks, they show blocks with
 -- these labels.
 record Labelled (bytes : List ℕ) (unread done : List Event) : Type 0 where
   own : List (List ℕ)
@@ -244,7 +244,7 @@ defined-labelled bytes d row rows is =
           );
     })
 
--- with what follows behind it
+-- with what follows after it
 definition-labelled : (bytes : List ℕ) (d : DefinitionParts) (row : Row) (own : List Row) (next : Row) (q : Point)
     (us ds : List Event) →
     IsDefined bytes d row own → LinePrefix bytes [] q next.first next.front → Labelled bytes us ds →
@@ -321,7 +321,7 @@ span-labelled options bytes row rows are quiet begins =
     facts.reads))
     (tail-quiet bytes (is_blank_by last.kind last) last))
 
--- a text and the line that turns it, where no definition stands at its front
+-- a text and the line that turns it, where no definition is at its front
 heading-labelled : (options : ParseOptions) (bytes : List ℕ) (row : Row) (rows : List Row) (under : Row) →
     AreLines options bytes row rows → IsUnder options bytes (last_row row rows) under →
     Labelled bytes (lines_unread row rows) (heading_done bytes under row rows)

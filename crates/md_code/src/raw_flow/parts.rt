@@ -27,7 +27,7 @@ pub(crate) fn least_size(marker: u8) -> usize
     if marker == b'$' { 2 } else { 3 }
 }
 
-/// Whether this may not stand behind an opening sequence: its marker, unless that is a tilde.
+/// Whether this may not be after an opening sequence: its marker, unless that is a tilde.
 pub(crate) fn is_refused(marker: u8, byte: u8) -> bool
     ensures { result ≡ is_refused marker byte }
 {
@@ -109,7 +109,7 @@ pub(crate) fn held_size(leaf: HeldLeaf) -> usize
     }
 }
 
-/// and how many columns stand in front of that.
+/// and how many columns are before that.
 pub(crate) fn held_indent(leaf: HeldLeaf) -> usize
     ensures { result ≡ held_indent leaf }
 {

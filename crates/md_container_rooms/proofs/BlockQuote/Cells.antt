@@ -17,12 +17,12 @@ use Rattle.md_frame.proofs.EachEvent.{each-append}
 use Rattle.md_frame.proofs.PrefixNames.{AreFront, IsFrontEvent}
 use Rattle.md_engine.specs.declared.event.Name.TheVariants as n
 
--- whitespace that may stand there
+-- whitespace that may be there
 pub white-front : (x : Bool) (p q : Point) → AreFront (cond x (pair n.SpaceOrTab p q) [])
 white-front true p q = ((refl, refl), ((refl, refl), tt))
 white-front false p q = tt
 
--- behind the marker of a quote
+-- after the marker of a quote
 behind-front : (cells : List Cell) (p : Point) → AreFront (behind_events cells p)
 behind-front [] p = tt
 behind-front (c ∷ cs) p = white-front (is_white c.byte) p c.after

@@ -1,4 +1,4 @@
--- The prefix of a block quote in a text that goes on behind it: it leaves the whitespace in front of its marker.
+-- The prefix of a block quote in a text that continues after it: it leaves the whitespace before its marker.
 use Rattle.std.proofs.Common.{◌≡◌, ℕ, ◌+◌, ◌≤◌, Bool, true, false, cond, List, [], ◌∷◌, ◌++◌, slice_range, ap, sym, ◌∙◌}
 use Rattle.std.proofs.Common.{append_assoc, arith}
 use Rattle.std.specs.Prelude.{◌==◌}
@@ -16,7 +16,7 @@ use Rattle.md_frame.proofs.CollectFacts.{Collects, slice-none, blank-behind}
 use Rattle.md_engine.specs.declared.event.Name.TheVariants as n
 use Rattle.md_containers.proofs.QuoteLines.{IsPrefix}
 
--- what a prefix makes of a text: it stops in front of the marker, and goes on behind the prefix
+-- what a prefix makes of a text: it stops before the marker, and continues after the prefix
 prefix-text : (bytes : List ℕ) (p q : Point) (es : List Event) (t : Text) → (is : IsPrefix bytes p q es) →
     text_after bytes t es ≡ after_prefix q (before_prefix bytes is.marker t)
 prefix-text bytes p q es t is =
@@ -48,7 +48,7 @@ collects-prefix bytes p q es ys from end all is le c = λ t h.
     ∙ ap (λ (l : List ℕ). t.front ++ l)
     (append_assoc (slice_range bytes t.from from) (slice_range bytes from is.marker.index) all)
 
--- what is whitespace from a point on is so from its byte on, which may lie behind a tab that is cut
+-- what is whitespace from a point on is so from its byte on, which may lie after a tab that is cut
 pub blank-before : (bytes : List ℕ) (p : Point) (end : ℕ) → byte_at p ≤ end →
     is_blank (slice_range bytes p.index end) ≡ true → is_blank (slice_range bytes (byte_at p) end) ≡ true
 blank-before bytes p end le blank = go (p.vs == 0) le
@@ -60,7 +60,7 @@ blank-before bytes p end le blank = go (p.vs == 0) le
         blank-behind (slice_range bytes p.index (p.index + 1)) (slice_range bytes (p.index + 1) end)
         (sym (ap is_blank (slice-split bytes p.index (p.index + 1) end (omega arith) h)) ∙ blank)
 
--- a prefix leaves the whitespace in front of its marker
+-- a prefix leaves the whitespace before its marker
 pub collects-quote : (bytes : List ℕ) (p q : Point) (es ys : List Event) (end : ℕ) (all : List ℕ) →
     IsPrefix bytes p q es → Collects bytes ys (byte_at q) end all →
     (white : List ℕ) × (is_blank white ≡ true) × Collects bytes (es ++ ys) (byte_at p) end (white ++ all)

@@ -1,4 +1,4 @@
--- What is known of a block quote, where it goes on and where it opens.
+-- What is known of a block quote, where it continues and where it opens.
 use Rattle.std.proofs.Common.{◌≡◌, ◌≢◌, ℕ, ◌<◌, false, List, [], ◌∷◌, Option, Some, None, refl, sym, arith}
 use Rattle.std.specs.Prelude.{◌==◌}
 use Rattle.std.proofs.lemmas.Bool.{ne_eqb}
@@ -31,7 +31,7 @@ some-bare : (es : List Event) (a b : ℕ) → es ≢ [] → a < b → is_bare es
 some-bare [] a b some less = absurd (some refl)
 some-bare (e ∷ es) a b some less = sym (ne_eqb b a (λ same. omega (arith, same)))
 
--- where a quote goes on
+-- where a quote continues
 pub quote-continues : (bytes : List ℕ) (p q : Point) (es : List Event) → IsPrefix bytes p q es → p.column < q.column →
     Continues bytes p q es
 quote-continues bytes p q es is less = record {
@@ -72,7 +72,7 @@ plain-opens bytes p q es is = record {
   some = prefix-some bytes p q es is;
 }
   where
-    -- no item and no list stands in it
+    -- no item and no list is in it
     none : NoListing es
     none = between-unlisted es (prefixes-roles Between es tt tt tt (prefix-are bytes p q es is))
 

@@ -1,4 +1,4 @@
--- A block quote goes on and opens by the cells of a line where it does by its bytes.
+-- A block quote continues and opens by the cells of a line where it does by its bytes.
 use Rattle.std.proofs.Common.{◌≡◌, Bool, true, false, cond, ◌&&◌, ◌++◌, List, Option, Some, None, refl, sym, subst}
 use Rattle.std.proofs.Common.{arith}
 use Rattle.md_engine.specs.declared.configuration.ParseOptions.{ParseOptions}
@@ -18,7 +18,7 @@ use Rattle.md_frame.proofs.ContainerLaws.{ByRest}
 use Rattle.md_frame.proofs.PassedFacts.{Agree, HasFurther, HasOpening}
 use Rattle.md_container_rooms.proofs.BlockQuote.Facts.{quote-continues, quote-opens_read}
 
--- a quote of this kind goes on
+-- a quote of this kind continues
 pub quote-goes : (options : ParseOptions) (alert : Option AlertKind) → ByRest (λ line text past r stop p.
     let cells = rest_cells line r p ++ stop in
     Agree (HasFurther line text past p (past_rest r p) stop cells) (quote_rules.goes options (InQuote alert) cells p)

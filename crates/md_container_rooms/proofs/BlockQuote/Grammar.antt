@@ -10,7 +10,7 @@ use Rattle.md_containers.proofs.QuoteLines.{IsPrefix}
 use Rattle.md_frame.proofs.ContainerNames.{TakesPrefixes}
 use Rattle.md_seam.proofs.QuoteGrammar.{leads-prefix}
 
--- where a quote goes on
+-- where a quote continues
 pub prefix-stays : (bytes : List ℕ) (p q : Point) (es : List Event) → IsPrefix bytes p q es → (text x : Expression) →
     TakesPrefixes x → Leads text (x ∷ []) (x ∷ []) es
 prefix-stays bytes p q es is text x takes =

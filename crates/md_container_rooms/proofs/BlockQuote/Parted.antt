@@ -1,4 +1,4 @@
--- The prefix of a block quote in a text that goes on behind it.
+-- The prefix of a block quote in a text that continues after it.
 use Rattle.std.proofs.Common.{◌≡◌, ℕ, ◌<◌, Bool, true, false, cond, ◌&&◌, List, [], ◌∷◌, ◌++◌, slice_range, sym, subst}
 use Rattle.std.proofs.Common.{arith}
 use Rattle.std.specs.Prelude.{◌==◌, IsTrue, Some}
@@ -31,7 +31,7 @@ prefix-clear bytes p q es is =
     before : (m : Point) → IsTrue (at_or_before p m) → m.vs ≡ 0 → (p.vs == 0) ≡ false → p.index < m.index
     before m h w e = grind (arith, nat_tests)
 
--- a text goes on behind it
+-- a text continues after it
 pub prefix-parted : (bytes : List ℕ) (p q : Point) (es : List Event) → IsPrefix bytes p q es → PartsText bytes p q es
 prefix-parted bytes p q es is span rest reaches between more =
     subst (λ (l : List Event). are_parted bytes (Some span) (l ++ rest) ≡ true) (sym is.events)

@@ -1,4 +1,4 @@
--- The marker of a block quote stands over its byte.
+-- The marker of a block quote is over its byte.
 use Rattle.std.proofs.Common.{◌≡◌, ℕ, zero, suc, ◌-◌, true, List, [], ◌∷◌, take, drop, slice_range, refl, ap, ◌∙◌}
 use Rattle.std.proofs.Common.{arith}
 use Rattle.std.specs.Prelude.{Some, slice_get}

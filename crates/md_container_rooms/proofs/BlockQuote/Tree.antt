@@ -1,4 +1,4 @@
--- Block quotes by the line definition: what opens as one is one, and they do not go on over an empty line.
+-- Block quotes by the line definition: what opens as one is one, and they do not continue over an empty line.
 use Rattle.std.proofs.Common.{◌≡◌, ◌+◌, Bool, true, false, cond, ◌&&◌, [], refl, subst, ℕ}
 use Rattle.std.specs.Prelude.{Option, Some, None}
 use Rattle.md_engine.specs.declared.configuration.ParseOptions.{ParseOptions}
@@ -33,7 +33,7 @@ opens-quote options r t e = go options.constructs.block_quote e
     go true e = kinds (quote_taken options None r) refl e
     go false e = cc
 
--- it does not go on over an empty line
+-- it does not continue over an empty line
 pub no_quote-empty : (options : ParseOptions) (alert : Option AlertKind) (column : ℕ) →
     quote_taken options alert (rest_at column []) ≡ None
 unfolding quote_taken

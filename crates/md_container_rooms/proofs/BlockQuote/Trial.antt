@@ -26,11 +26,11 @@ use Rattle.md_container_rooms.proofs.BlockQuote.Cells.{opening-front, prefix-fro
 use Rattle.md_frame.proofs.ContainerLaws.{IsPassed}
 use Rattle.md_containers.proofs.QuoteCells.{opening-shorter, prefix-is, prefix-shorter, quote-is}
 
--- behind the prefix of one that is asked already
+-- after the prefix of one that is asked already
 abbrev taken_by : Passed → Here → Outcome
 taken_by u h = Accepts (record h { events = h.events ++ u.events; point = u.point }) u.cells
 
--- what stands here, if it does, is taken, and else refused; what is held of it stays
+-- what is here, if it does, is taken, and else refused; what is held of it stays
 tried-if : (x : Bool) (u : Passed) (h : Here) → h.flags.asked ≡ u.held →
     cond x (taken_by u h) (Refuses h.scratch h.flags) ≡ passed_by (cond x (Some u) None) h
 tried-if true u h asked =
@@ -44,7 +44,7 @@ tried-if true u h asked =
     }) u.cells) asked
 tried-if false u h asked = refl
 
--- what is taken, if anything is, stands here
+-- what is taken, if anything is, is here
 taken-if : (x : Bool) (u t : Passed) → cond x (Some u) None ≡ Some t → (x ≡ true) × (u ≡ t)
 taken-if true u t e = let same : u ≡ t = cc in (refl, same)
 taken-if false u t e = cc
@@ -67,7 +67,7 @@ prefix-tried options c cells h is asked of =
     prefix-is options cells h is
     ∙ tried-if (takes_prefix options cells) (quote_on options alert cells h.point) h asked) c of
 
--- not where another byte than `>` stands first behind whitespace,
+-- not where another byte than `>` is first after whitespace,
 no_prefix : (options : ParseOptions) (cells : List Cell) (b : ℕ) → seen_behind cells ≡ Some b →
     may_begin b ≡ false → takes_prefix options cells ≡ false
 no_prefix options cells b seen e =
@@ -103,7 +103,7 @@ prefix-looked options cells h b is seen e =
     ∙ ap (λ (x : Bool). cond x (taken_by (quote_on options None cells h.point) h) (Refuses h.scratch h.flags))
     (no_prefix options cells b seen e)
 
--- one that is taken is a quote that goes on
+-- one that is taken is a quote that continues
 goes-on : (options : ParseOptions) (c : Container) (cells : List Cell) (p : Point) (t : Passed) →
     quote_goes options c cells p ≡ Some t →
     (alert : Option AlertKind) × (takes_prefix options cells ≡ true) × (quote_on options alert cells p ≡ t)

@@ -1,4 +1,4 @@
--- The events in front of the content of a footnote definition, by the cells of a line, have names of prefixes and of
+-- The events before the content of a footnote definition, by the cells of a line, have names of prefixes and of
 -- containers.
 use Rattle.std.proofs.Common.{ℕ, false, List, [], ◌∷◌, ◌++◌, length, nat_eq, Option, Some, None, refl}
 use Rattle.md_engine.specs.declared.configuration.ParseOptions.{ParseOptions}
@@ -25,7 +25,7 @@ use Rattle.md_frame.proofs.PrefixNames.{AreFront, IsFrontEvent}
 front-append : (xs ys : List Event) → AreFront xs → AreFront ys → AreFront (xs ++ ys)
 front-append xs ys h k = each-append IsFrontEvent xs ys h k
 
--- behind its label,
+-- after its label,
 ended-front : (label : List ℕ) (front : List Event) (cells : List Cell) (p : Point) → AreFront front →
     HasFront (footnote_ended label front cells p)
 ended-front label front [] p h = tt
@@ -49,7 +49,7 @@ labelled-front front (Some l) h =
     (front-append front _ h
     ((refl, refl), ((refl, refl), ((refl, refl), ((refl, refl), ((refl, refl), tt))))))) tt
 
--- behind its `[`,
+-- after its `[`,
 marked-front : (front : List Event) (cells : List Cell) (p : Point) → AreFront front →
     HasFront (footnote_marked front cells p)
 marked-front front [] p h = tt
@@ -58,7 +58,7 @@ marked-front front (c ∷ cs) p h =
     (labelled-front (front ++ caret_events p c.after) (label_cells false cs c.after)
     (front-append front _ h ((refl, refl), ((refl, refl), ((refl, refl), ((refl, refl), tt)))))) tt
 
--- behind its indent,
+-- after its indent,
 behind-front : (front : List Event) (cells : List Cell) (p : Point) → AreFront front →
     HasFront (footnote_behind front cells p)
 behind-front front [] p h = tt

@@ -1,5 +1,5 @@
--- What is known of what stands in front of the content of a footnote definition where it opens. Where it goes on, that
--- is what an item takes (`item-continues`).
+-- What is known of what is before the content of a footnote definition where it opens. Where it continues, that is what
+-- an item takes (`item-continues`).
 use Rattle.std.proofs.Common.{◌≡◌, ℕ, true, List, refl}
 use Rattle.std.specs.Prelude.{None, Option, Some}
 use Rattle.md_engine.specs.declared.event.Event.{Event}

@@ -1,4 +1,4 @@
--- A footnote definition goes on and opens by the cells of a line where it does by its bytes.
+-- A footnote definition continues and opens by the cells of a line where it does by its bytes.
 use Rattle.std.proofs.Common.{◌≡◌, ℕ, Bool, false, List, [], ◌∷◌, ◌++◌, Option, Some, None, refl, ap, sym, ◌∙◌, subst}
 use Rattle.std.proofs.Common.{arith}
 use Rattle.md_engine.specs.declared.configuration.ParseOptions.{ParseOptions}
@@ -34,7 +34,7 @@ use Rattle.md_frame.proofs.PassedFacts.{Agree, HasFurther, HasOpening, HasPassed
 use Rattle.md_frame.proofs.PrefixFacts.{OpensRead}
 use Rattle.md_frame.proofs.RegistryRead.{IsRead}
 
--- what it leaves, where it opens or goes on
+-- what it leaves, where it opens or continues
 footnote-leaves : (line : Line) (text past label : List ℕ) (end : Point) (stop cells : List Cell) (o : ItemPassed)
     (t : Taken) → LeavesRest line text past end stop cells o t → o.container ≡ InFootnote label →
     HasPassed line text past end stop cells (footnote_passed o) t
@@ -48,7 +48,7 @@ footnote-leaves line text past label end stop cells o t leaves is = record {
   shorter = leaves.shorter;
 }
 
--- It goes on, and takes the columns that an item of its width does.
+-- It continues, and takes the columns that an item of its width does.
 
 as-columns : (label : List ℕ) (p : Point) (o : Option ItemPassed) → HasColumns p o → HasColumns p (as_footnote label o)
 as-columns label p None h = tt
@@ -98,7 +98,7 @@ footnote-goes options c is = each-footnote (λ d. ByRest (λ line text past r st
 
 -- Where one opens, if footnote definitions are on.
 
--- behind its begin it has its prefix
+-- after its begin it has its prefix
 footnote-front : (line : Line) (text past : List ℕ) (p end : Point) (stop cells : List Cell) (o : ItemPassed)
     (t : Taken) →
     (has : OpensFootnote line text past p end stop cells o t) → NoEnding has.label →

@@ -1,5 +1,5 @@
--- What stands in front of the content of a footnote definition keeps the grammar of events, and lists can be told
--- around it.
+-- What is before the content of a footnote definition keeps the grammar of events, and lists can be determined around
+-- it.
 use Rattle.std.proofs.Common.{ℕ, Bool, true, false, List, [], ◌∷◌, ◌++◌, refl}
 use Rattle.std.specs.Prelude.{Option}
 use Rattle.md_engine.specs.declared.event.Event.{Event}
@@ -17,7 +17,7 @@ use Rattle.md_container_rooms.proofs.GfmFootnoteDefinition.Prefix.{colon_at, dat
 use Rattle.md_container_rooms.proofs.GfmFootnoteDefinition.Prefix.{label_end, label_part}
 use Rattle.md_frame.proofs.LeafStands.{site_of}
 
--- with the begin of the footnote definition, they lead from blocks into those of it, where its label may stand
+-- with the begin of the footnote definition, they lead from blocks into those of it, where its label may be
 pub front-leads : (bytes label : List ℕ) (link : Option Link) (p q : Point) (es : List Event) →
     IsFront bytes label link p q es → NoListing es → (text : Expression) → TakesData text →
     Unlists text (blocks ∷ []) (blocks ∷ behind_block ∷ []) (enter n.GfmFootnoteDefinition p ∷ es)
@@ -34,7 +34,7 @@ front-leads bytes label link p q es is none text takes =
     end : Point
     end = label_end label is.start
 
-    -- what is left around a label, and behind it
+    -- what is left around a label, and after it
     around_label : List Expression
     around_label = Then (one n.DefinitionMarker) white ∷ blocks ∷ behind_block ∷ []
 
@@ -79,7 +79,7 @@ front-leads bytes label link p q es is none text takes =
     go false true = all false true
     go false false = all false false
 
--- blocks may stand in it
+-- blocks may be in it
 pub front-stands : (bytes label : List ℕ) (link : Option Link) (p q : Point) (es : List Event) (held : List Bool) →
     IsFront bytes label link p q es →
     StandsTo bytes (among held) (among (false ∷ held)) (enter n.GfmFootnoteDefinition p ∷ es)
@@ -101,7 +101,7 @@ front-stands bytes label link p q es held is =
     behind_it : Point
     behind_it = behind_colon label start
 
-    -- up to the end of its label, and behind that
+    -- up to the end of its label, and after that
     front : Site
     front = site_of (false ∷ held) InLabel
 

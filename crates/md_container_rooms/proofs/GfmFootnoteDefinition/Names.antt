@@ -1,4 +1,4 @@
--- What stands in front of the content of a footnote definition, part by part.
+-- What is before the content of a footnote definition, part by part.
 use Rattle.std.proofs.Common.{◌≡◌, ◌≢◌, ℕ, Bool, true, false, List, [], ◌∷◌, refl, ap, drop, sym, ◌∙◌, subst}
 use Rattle.std.proofs.Common.{arith, not, ◌||◌}
 use Rattle.std.specs.Prelude.{IsTrue, Option, slice_index}

@@ -1,4 +1,4 @@
--- The label of a footnote definition is a text part of one line, and what is read of it stands in its place.
+-- The label of a footnote definition is a text part of one line, and what is read of it is in its place.
 use Rattle.std.proofs.Common.{◌≡◌, ℕ, Bool, true, false, cond, List, [], ◌∷◌, ◌++◌, refl, ap, sym, ◌∙◌, subst}
 use Rattle.std.proofs.Common.{ap₂, append-nil}
 use Rattle.std.specs.Prelude.{None, Option, Some}
@@ -88,7 +88,7 @@ label-reads bytes label link p q es is =
       onward = before-text label first;
     }))
 
--- What stands around it is not read later.
+-- What is around it is not read later.
 
 white-same : (bytes : List ℕ) (none : Bool) (p q : Point) →
     ReadAs bytes (cond none [] (pair n.SpaceOrTab p q)) (cond none [] (pair n.SpaceOrTab p q))
@@ -142,7 +142,7 @@ front-reads bytes label p q es is = (done, read, reads)
     end : Point
     end = label_end label is.start
 
-    -- what stands around the label
+    -- what is around the label
     before : Bool → List Event
     before bare = before_label bare p is.start
 

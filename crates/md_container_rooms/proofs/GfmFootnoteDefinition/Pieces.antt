@@ -1,4 +1,4 @@
--- The label of a footnote definition stands over its bytes.
+-- The label of a footnote definition is over its bytes.
 use Rattle.std.proofs.Common.{◌≡◌, ℕ, true, List, refl}
 use Rattle.std.specs.Prelude.{Option, None, Some}
 use Rattle.std.proofs.lemmas.Bool.{and_from}
@@ -25,7 +25,7 @@ label_piece link p q = record {
   after = q;
 }
 
--- it stands over its bytes
+-- it is over its bytes
 abbrev pub LabelStands : List ℕ → Option Link → List ℕ → Point → Type 0
 LabelStands bytes link label start =
     piece_stands bytes (label_piece link (label_at start) (label_end label start)) ≡ true

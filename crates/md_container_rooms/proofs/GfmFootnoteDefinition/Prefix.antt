@@ -1,5 +1,5 @@
--- What stands in front of the content of a footnote definition where it opens: behind its begin a prefix with its
--- label, be that read or not.
+-- What is before the content of a footnote definition where it opens: after its begin a prefix with its label, be that
+-- read or not.
 use Rattle.std.proofs.Common.{◌≡◌, ℕ, ◌+◌, ◌<◌, Bool, cond, List, [], ◌∷◌, ◌++◌, drop, length, get_or, ap, sym, subst}
 use Rattle.std.proofs.Common.{◌∙◌, arith}
 use Rattle.std.specs.Prelude.{Option, slice_index}
@@ -17,7 +17,7 @@ use Rattle.md_seam.proofs.FeedLines.{drop-past}
 use Rattle.md_seam.proofs.InlineLemmas.{past-index}
 use Rattle.md_seam.proofs.LostColumns.{White}
 
--- The points of a prefix that begins at a point: at `^`, at the label, behind it at `]`, at `:`, and behind that.
+-- The points of a prefix that begins at a point: at `^`, at the label, after it at `]`, at `:`, and after that.
 
 abbrev pub mark_at : Point → Point
 mark_at start = past_byte left_bracket start
@@ -42,7 +42,7 @@ data_at link p q = record { kind = Enter; name = n.Data; point = p; link = link 
 abbrev pub label_part : Option Link → Point → Point → List Event
 label_part link p q = around n.GfmFootnoteDefinitionLabelString p q (data_at link p q)
 
--- what stands between the brackets and with them,
+-- what is between the brackets and with them,
 abbrev pub label_inside : Option Link → List ℕ → Point → List Event
 label_inside link label start =
     pair n.GfmFootnoteDefinitionLabelMarker start (mark_at start)
@@ -50,7 +50,7 @@ label_inside link label start =
     ++ (label_part link (label_at start) (label_end label start)
     ++ pair n.GfmFootnoteDefinitionLabelMarker (label_end label start) (colon_at label start)))
 
--- and the prefix; by whether there is no whitespace behind `:`, and none in front.
+-- and the prefix; by whether there is no whitespace after `:`, and none in front.
 abbrev pub prefix_inside : Option Link → (same : Bool) → List ℕ → (start q : Point) → List Event
 prefix_inside link same label start q =
     around n.GfmFootnoteDefinitionLabel start (colon_at label start) (label_inside link label start)
@@ -62,7 +62,7 @@ front_by link bare same label p start q =
     cond bare [] (pair n.SpaceOrTab p start)
     ++ around n.GfmFootnoteDefinitionPrefix start q (prefix_inside link same label start q)
 
--- What stands in front of the label, from `[` on, and with the whitespace there if there is any,
+-- What is before the label, from `[` on, and with the whitespace there if there is any,
 
 abbrev pub opening : Point → List Event
 opening start =
@@ -73,7 +73,7 @@ opening start =
 abbrev pub before_label : (bare : Bool) → (p start : Point) → List Event
 before_label bare p start = cond bare [] (pair n.SpaceOrTab p start) ++ opening start
 
--- and behind it, up to `:`, and up to the end.
+-- and after it, up to `:`, and up to the end.
 
 abbrev pub closing : (end close behind : Point) → List Event
 closing end close behind =
@@ -87,7 +87,7 @@ behind_label same end close behind q =
 
 -- they are those of a footnote definition with this label
 pub record IsFront (bytes label : List ℕ) (link : Option Link) (p q : Point) (es : List Event) : Type 0 where
-  -- where `[` stands, and the bytes there, of which the first begins in no tab
+  -- where `[` is, and the bytes there, of which the first begins in no tab
   pub start : Point
   pub more : List ℕ
   pub text_is : drop start.index bytes ≡ left_bracket ∷ caret ∷ label ++ right_bracket ∷ colon ∷ more

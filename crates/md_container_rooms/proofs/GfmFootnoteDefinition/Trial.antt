@@ -46,7 +46,7 @@ each-held held P h (InFootnote label) holds = h label holds.0 holds.1
 each-held held P h (InQuote alert) holds = absurd holds
 each-held held P h (InItem digits marker width blank) holds = absurd holds
 
--- What is held of one tells no more of it than its kind does.
+-- What is held of one shows no more of it than its kind does.
 
 held-same : (held : Held) → held.kind ≡ kind.GfmFootnoteDefinition →
     footnote_as held ≡ footnote_as (container_of kind.GfmFootnoteDefinition)
@@ -157,7 +157,7 @@ pub new-ended : (options : ParseOptions) (interrupting : Bool) (cells : List Cel
     ends_line (first_seen cells) ≡ true → footnote_rules.opens options interrupting cells p ≡ None
 new-ended options interrupting cells p ends = ap footnote_passes (footnote-ended options cells p ends)
 
--- and an open one goes on as it is
+-- and an open one continues as it is
 pub further-ended : (held : Held) (c : Container) (cells : List Cell) (p : Point) →
     held.kind ≡ kind.GfmFootnoteDefinition → footnote_holds held c → ends_line (first_seen cells) ≡ true →
     footnote_goes c cells p ≡ Some (passed_over held c cells p)

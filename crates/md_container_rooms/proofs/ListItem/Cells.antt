@@ -1,4 +1,4 @@
--- The events in front of the content of a list item, by the cells of a line, have names of prefixes and of containers.
+-- The events before the content of a list item, by the cells of a line, have names of prefixes and of containers.
 use Rattle.std.proofs.Common.{Bool, true, false, cond, not, ◌&&◌, ◌||◌, nat_lt, ℕ, List, [], ◌∷◌, ◌++◌, Option, Some}
 use Rattle.std.proofs.Common.{None, refl}
 use Rattle.std.specs.Prelude.{◌==◌, nat_le}
@@ -23,7 +23,7 @@ use Rattle.md_container_rooms.proofs.BlockQuote.Cells.{white-front}
 use Rattle.md_frame.proofs.EachEvent.{each-append}
 use Rattle.md_frame.proofs.PrefixNames.{AreFront, IsFrontEvent}
 
--- those of an item, if one opens or goes on
+-- those of an item, if one opens or continues
 abbrev pub HasFront : Option ItemPassed → Type 0
 HasFront None = Unit {0}
 HasFront (Some t) = AreFront t.events
@@ -32,7 +32,7 @@ pub front-if : (x : Bool) (a b : Option ItemPassed) → HasFront a → HasFront 
 front-if true a b h k = h
 front-if false a b h k = k
 
--- those of the columns behind its marker, if it may stand there
+-- those of the columns after its marker, if it may be there
 abbrev PaddingFront : Option Padded → Type 0
 PaddingFront None = Unit {0}
 PaddingFront (Some t) = AreFront t.events
@@ -46,7 +46,7 @@ padding-front cells p =
     padding-if (is_blank (line_bytes cells)) _ _ tt
     (padding-if (begins_white cells) _ _ (white-front true p (white_end (padding_room cells) cells p)) tt)
 
--- behind its marker,
+-- after its marker,
 marked-front : (interrupting : Bool) (from : Point) (digits : List ℕ) (front : List Event) (c : Cell) (cs : List Cell)
     (p : Point) →
     AreFront front → HasFront (item_marked interrupting from digits front c cs p)
@@ -65,7 +65,7 @@ marked-front interrupting from digits front c cs p h = go (padding cs c.after) (
         (each-append IsFrontEvent (before ++ t.events) (exit n.ListItemPrefix t.point ∷ [])
         (each-append IsFrontEvent before t.events marked k) ((refl, refl), tt))
 
--- behind its digits,
+-- after its digits,
 numbered-front : (interrupting : Bool) (from : Point) (digits : List ℕ) (size : ℕ) (front : List Event)
     (cells : List Cell) (p : Point) →
     AreFront front → HasFront (item_numbered interrupting from digits size front cells p)
@@ -74,7 +74,7 @@ numbered-front interrupting from digits size front (c ∷ cs) p h =
     front-if (ends_value c.byte && (not interrupting || nat_lt size 2)) _ _
     (marked-front interrupting from digits front c cs p h) tt
 
--- behind its indent,
+-- after its indent,
 behind-front : (options : ParseOptions) (interrupting : Bool) (from : Point) (front : List Event) (cells : List Cell)
     (p : Point) →
     AreFront front → HasFront (item_behind options interrupting from front cells p)

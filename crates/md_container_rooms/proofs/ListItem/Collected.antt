@@ -1,4 +1,4 @@
--- The whitespace of a list item on a further line, in a text that goes on behind it.
+-- The whitespace of a list item on a further line, in a text that continues after it.
 use Rattle.std.proofs.Common.{◌≡◌, ℕ, ◌+◌, Bool, true, false, cond, List, [], ◌++◌, slice_range, refl, ap, ◌∙◌, sym}
 use Rattle.std.proofs.Common.{subst, arith}
 use Rattle.std.specs.Prelude.{◌==◌}
@@ -21,7 +21,7 @@ use Rattle.md_seam.specs.declared.inline.PartKind.{PartKind}
 use Rattle.md_frame.proofs.PartsStand.{Inside}
 use Rattle.md_frame.proofs.PlainRoles.{pair-roles}
 
--- it may stand in a text part
+-- it may be in a text part
 pub white-inside : (bytes : List ℕ) (kind : PartKind) (p q : Point) → White bytes p q →
     Inside bytes kind [] (pair_unless_empty n.SpaceOrTab p q)
 white-inside bytes kind p q is = go (same_place p q)
@@ -37,7 +37,7 @@ white-inside bytes kind p q is = go (same_place p q)
       stand = λ ys. refl;
     }
 
--- what stands up to the next byte behind it is whitespace
+-- what is up to the next byte after it is whitespace
 indent-blank : (bytes : List ℕ) (p q : Point) (es : List Event) → IsIndent bytes p q es →
     is_blank (slice_range bytes (byte_at p) (byte_at q)) ≡ true
 indent-blank bytes p q es is =

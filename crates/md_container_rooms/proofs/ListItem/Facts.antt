@@ -1,4 +1,4 @@
--- What is known of what stands in front of the content of a list item, where it goes on and where it opens.
+-- What is known of what is before the content of a list item, where it continues and where it opens.
 use Rattle.std.proofs.Common.{◌≡◌, ℕ, Bool, true, false, cond, List, refl, ap, sym, ◌∙◌, subst, [], ◌∷◌}
 use Rattle.md_engine.specs.declared.event.Event.{Event}
 use Rattle.md_engine.specs.declared.event.Name.TheVariants as n
@@ -34,7 +34,7 @@ indent-bare p q = go (same_place p q)
     go true = refl
     go false = refl
 
--- where an item goes on
+-- where an item continues
 pub item-continues : (bytes : List ℕ) (p q : Point) (es : List Event) → IsIndent bytes p q es → Continues bytes p q es
 item-continues bytes p q es is = record {
   common = indent-facts bytes p q es is;

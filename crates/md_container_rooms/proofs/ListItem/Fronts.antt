@@ -1,4 +1,4 @@
--- A list item goes on and opens by the cells of a line where it does by its bytes.
+-- A list item continues and opens by the cells of a line where it does by its bytes.
 use Rattle.std.proofs.Common.{◌≡◌, ℕ, zero, suc, ◌+◌, ◌<◌, ◌≤◌, Bool, true, false, cond, List, [], ◌∷◌, ◌++◌}
 use Rattle.std.proofs.Common.{Option, Some, None, drop, slice_range, refl, ap, sym, ◌∙◌, subst, arith}
 use Rattle.std.specs.Prelude.{◌==◌, nat_le, not}
@@ -40,14 +40,14 @@ use Rattle.md_frame.proofs.PassedFacts.{Agree, HasFurther, HasOpening, HasPassed
 use Rattle.md_frame.proofs.PrefixFacts.{OpensRead}
 use Rattle.md_frame.proofs.RegistryRead.{IsRead, of-read}
 
--- what is held of an item tells its kind
+-- what is held of an item shows its kind
 held-read : (held : Held) (o : ItemPassed) → IsHeld held (Some o) → IsRead o.container
 held-read held o holds =
     of-read kind.ListItem o.container
     (each-held (held_as held o.container) (IsOf kind.ListItem)
     (λ digits marker width blank e f some. wide-one digits marker width blank some) o.container holds)
 
--- what an item leaves, where it opens or goes on
+-- what an item leaves, where it opens or continues
 item-leaves : (line : Line) (text past : List ℕ) (end : Point) (stop cells : List Cell) (held : Held) (o : ItemPassed)
     (t : Taken) → LeavesRest line text past end stop cells o t → IsHeld held (Some o) →
     HasPassed line text past end stop cells (item_passed o) t
@@ -117,7 +117,7 @@ white-columns line text past width r p stop is k some = go (begins_white cells) 
         (omega (arith, is.column, lost.stands.column, lost.column, white-some width cells some white))
     go false dark = subst (TakesColumns p) (sym (none-end width cells p dark)) (no-columns p)
 
--- one that goes on takes these
+-- one that continues takes these
 pub further-columns : (digits : List ℕ) (marker width : ℕ) (blank : Bool) (line : Line) (text past : List ℕ) (r : Rest)
     (p : Point) (stop : List Cell) →
     RestAt text past r p → Stops stop → 1 ≤ width →
@@ -130,7 +130,7 @@ further-columns digits marker width blank line text past r p stop is k some =
     cells : List Cell
     cells = rest_cells line r p ++ stop
 
--- an item goes on
+-- an item continues
 pub item-goes : (options : ParseOptions) (c : Container) → IsOf kind.ListItem c → ByRest (λ line text past r stop p.
     let cells = rest_cells line r p ++ stop in
     Agree (HasFurther line text past p (past_rest r p) stop cells) (item_rules.goes options c cells p)
@@ -176,7 +176,7 @@ item-goes options c is = each-item (λ d. ByRest (λ line text past r stop p.
 
 -- Where one opens.
 
--- a prefix stands around its value, its marker and what is behind that
+-- a prefix is around its value, its marker and what is after that
 prefix-around : (digits : List ℕ) (byte : ℕ) (a q : Point) →
     let marker = past_text digits a in
     let behind = past_byte byte marker in
@@ -185,7 +185,7 @@ prefix-around : (digits : List ℕ) (byte : ℕ) (a q : Point) →
 prefix-around [] byte a q = refl
 prefix-around (d ∷ ds) byte a q = refl
 
--- behind its begin an item has its prefix
+-- after its begin an item has its prefix
 item-front : (line : Line) (text past : List ℕ) (p end : Point) (stop cells : List Cell) (o : ItemPassed) (t : Taken) →
     (has : OpensItem line text past p end stop cells o t) →
     IsFront text has.digits has.byte p o.point

@@ -1,4 +1,4 @@
--- What stands in front of an item's content keeps the grammar of events, and lists can be told around it.
+-- What is before an item's content keeps the grammar of events, and lists can be determined around it.
 use Rattle.std.proofs.Common.{◌≡◌, ℕ, ◌+◌, Bool, true, false, cond, List, [], ◌∷◌, ◌++◌, refl, ap, ◌∙◌, arith}
 use Rattle.std.proofs.lemmas.Bool.Decides.{nat_tests}
 use Rattle.md_engine.specs.declared.event.Event.{Event}
@@ -20,7 +20,7 @@ use Rattle.md_container_rooms.proofs.ListItem.Prefix.{marker-byte, marker-whole}
 
 -- Whitespace.
 
--- where an item goes on
+-- where an item continues
 pub white-stays : (p q : Point) (text x : Expression) → TakesPrefixes x →
     Leads text (x ∷ []) (x ∷ []) (pair_unless_empty n.SpaceOrTab p q)
 white-stays p q text x takes = go (same_place p q)
@@ -55,7 +55,7 @@ front-leads bytes digits byte p q es is text outer =
 list-marker : (byte : ℕ) → is_item_marker byte ≡ true → is_list_marker byte ≡ true
 list-marker byte h = grind (arith, nat_tests)
 
--- the item tells its marker, and blocks may stand in it
+-- the item shows its marker, and blocks may be in it
 pub front-stands : (bytes digits : List ℕ) (byte : ℕ) (p q : Point) (es : List Event) (held : List Bool) →
     IsFront bytes digits byte p q es → StandsTo bytes (among held) (among (true ∷ held)) (enter n.ListItem p ∷ es)
 front-stands bytes digits byte p q es held is =
@@ -74,7 +74,7 @@ front-stands bytes digits byte p q es held is =
     b : Point
     b = is.behind
 
-    -- in front of the marker
+    -- before the marker
     front : Site
     front = record { held = true ∷ held; inner = InFront }
 

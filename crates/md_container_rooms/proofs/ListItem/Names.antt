@@ -1,4 +1,4 @@
--- What stands in front of an item's content, part by part.
+-- What is before an item's content, part by part.
 use Rattle.std.proofs.Common.{◌≡◌, ◌≢◌, ℕ, ◌+◌, Bool, true, false, cond, List, [], ◌∷◌, ◌++◌, refl, ap, sym, ◌∙◌}
 use Rattle.std.proofs.Common.{subst, arith, drop}
 use Rattle.std.specs.Prelude.{IsTrue, slice_index}
@@ -37,12 +37,12 @@ value-part bytes (d ∷ ds) byte rest p q marks v w e end onward at =
     (over-stands bytes n.ListItemValue p q (d ∷ ds) (over-front bytes p q (d ∷ ds) rest e (omega arith) end)
     (begins-whole n.ListItemValue p v) (over-value d byte ds marks)) (λ from. at)
 
--- what stands in a prefix begins with an enter
+-- what is in a prefix begins with an enter
 inside-starts : (none same : Bool) (a m b q : Point) → Starts (inside_by none same a m b q)
 inside-starts true same a m b q = refl
 inside-starts false same a m b q = refl
 
--- all that stands behind the begin of an item
+-- all that is after the begin of an item
 pub front-part : (bytes digits : List ℕ) (byte : ℕ) (p q : Point) (es : List Event) → IsFront bytes digits byte p q es →
     FrontPart bytes p q es
 front-part bytes digits byte p q es is =

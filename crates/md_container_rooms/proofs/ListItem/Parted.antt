@@ -1,4 +1,4 @@
--- Whitespace of a list item in a text that goes on behind it.
+-- Whitespace of a list item in a text that continues after it.
 use Rattle.std.proofs.Common.{◌≡◌, ℕ, ◌+◌, ◌<◌, ◌≤◌, Bool, true, false, cond, ◌||◌, List, ◌++◌, slice_range}
 use Rattle.std.proofs.Common.{refl, ap, sym, ◌∙◌, subst, arith}
 use Rattle.std.specs.Prelude.{◌==◌, IsTrue, Some, nat_lt}
@@ -21,11 +21,11 @@ use Rattle.md_frame.proofs.PartedFacts.{byte-from, clear, low-clear, passes}
 use Rattle.md_frame.proofs.PlainRoles.{pair-roles}
 use Rattle.md_frame.proofs.Reached.{PartsText, Reaches}
 
--- a byte of an earlier point stands no later
+-- a byte of an earlier point is no later
 pub byte-grows : (p q : Point) → IsTrue (at_or_before p q) → byte_at p ≤ byte_at q
 byte-grows p q h = grind (arith, nat_tests)
 
--- behind whitespace a text reaches as far as in front of it
+-- after whitespace a text reaches as far as before it
 reaches-white : (bytes : List ℕ) (p q : Point) (span : OpenTextSpan) → White bytes p q → Reaches bytes p span →
     Reaches bytes q span
 reaches-white bytes p q span white reaches = record {
@@ -42,7 +42,7 @@ reaches-white bytes p q span white reaches = record {
     grows : byte_at p ≤ byte_at q
     grows = byte-grows p q white.onward
 
--- a text goes on behind it
+-- a text continues after it
 pub white-parted : (bytes : List ℕ) (p q : Point) (es : List Event) → es ≡ pair_unless_empty n.SpaceOrTab p q →
     White bytes p q → PartsText bytes p q es
 white-parted bytes p q es are white span rest reaches between more =

@@ -1,4 +1,4 @@
--- The digits and the marker of a list item stand over their bytes.
+-- The digits and the marker of a list item are over their bytes.
 use Rattle.std.proofs.Common.{◌≡◌, ℕ, true, List, [], ◌∷◌, length, refl, arith}
 use Rattle.std.specs.Prelude.{nat_le}
 use Rattle.std.specs.List.{list_all}
@@ -16,7 +16,7 @@ use Rattle.md_frame.proofs.PieceFacts.{begins-whole, over-front, over-stands, sp
 
 -- Bytes.
 
--- each marker is one of an item, and one behind digits ends them
+-- each marker is one of an item, and one after digits ends them
 pub is-marker : (digits : List ℕ) (byte : ℕ) → IsMarker digits byte → is_item_marker byte ≡ true
 is-marker [] byte h = rw h refl
 is-marker (d ∷ ds) byte h = grind (arith, nat_tests, h.2)

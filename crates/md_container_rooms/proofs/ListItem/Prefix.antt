@@ -1,5 +1,5 @@
--- What stands in front of the content of a list item: whitespace on a further line, and behind its begin a prefix with
--- its marker.
+-- What is before the content of a list item: whitespace on a further line, and after its begin a prefix with its
+-- marker.
 use Rattle.std.proofs.Common.{◌≡◌, ℕ, ◌+◌, ◌≤◌, Bool, true, false, cond, List, [], ◌∷◌, ◌++◌, drop, slice_range, length}
 use Rattle.std.proofs.Common.{ap, sym, subst, ◌∙◌, arith, get_or}
 use Rattle.std.specs.Prelude.{◌==◌, slice_index}
@@ -17,7 +17,7 @@ use Rattle.md_seam.proofs.FeedLines.{drop-past, past_text-whole}
 use Rattle.md_seam.proofs.InlineLemmas.{past-index}
 use Rattle.md_frame.proofs.LineTexts.{past_text-line}
 
--- a point that is not behind another one of its line in columns, and is another place only if it is a further column
+-- a point that is not after another one of its line in columns, and is another place only if it is a further column
 pub record TakesColumns (p q : Point) : Type 0 where
   pub onward : p.column ≤ q.column
   pub same : same_place p q ≡ (q.column == p.column)
@@ -34,8 +34,8 @@ abbrev pub no_digits : List ℕ → Bool
 no_digits [] = true
 no_digits (d ∷ ds) = false
 
--- The events behind the begin of an item: from a point to the prefix, the marker, behind it, and to its end; by whether
--- there is no whitespace in front of the prefix, no value, and no whitespace behind the marker.
+-- The events after the begin of an item: from a point to the prefix, the marker, after it, and to its end; by whether
+-- there is no whitespace before the prefix, no value, and no whitespace after the marker.
 abbrev pub inside_by : (none same : Bool) → (start marker behind q : Point) → List Event
 inside_by none same start marker behind q =
     cond none [] (pair n.ListItemValue start marker)
@@ -50,7 +50,7 @@ front_by bare none same p start marker behind q =
 pub record IsFront (bytes digits : List ℕ) (byte : ℕ) (p q : Point) (es : List Event) : Type 0 where
   -- where the digits begin, or the marker if there are none
   pub start : Point
-  -- where the marker stands, and the point behind it
+  -- where the marker is, and the point after it
   pub marker : Point
   pub behind : Point
   pub marker_is : marker ≡ past_text digits start

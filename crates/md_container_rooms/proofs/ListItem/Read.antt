@@ -29,7 +29,7 @@ item_read r marker digits = record r {
   text = None;
 }
 
--- its digits are told, if it has some
+-- its digits are said, if it has some
 digits-told : (bytes digits rest : List ℕ) (r : Reading) (p q : Point) → p.vs ≡ 0 →
     drop p.index bytes ≡ digits ++ rest → q.index ≡ p.index + length digits →
     read bytes (item_read r 0 []) (cond (no_digits digits) [] (pair n.ListItemValue p q)) ≡ item_read r 0 digits
@@ -63,7 +63,7 @@ front-read bytes digits byte width blank p q es r is none =
     marker : List Event
     marker = pair n.ListItemMarker is.marker is.behind
 
-    -- what is told by the value and the marker
+    -- what is known from the value and the marker
     tell : read bytes (item_read r 0 []) (value ++ marker) ≡ item_read r byte digits
     tell =
         read-append bytes (item_read r 0 []) value marker

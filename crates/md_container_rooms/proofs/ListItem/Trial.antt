@@ -59,7 +59,7 @@ pub each-held : (held : Held) (P : Container → Type 0) →
 each-held held P h (InItem digits marker width blank) holds = h digits marker width blank holds.0 holds.1 holds.2
 each-held held P h _ holds = absurd holds
 
--- What is held of one tells no more of it than the container does.
+-- What is held of one shows no more of it than the container does.
 
 held-same : (held : Held) (c : Container) → held.kind ≡ kind.ListItem → item_holds (held_as held c) c →
     held_as held c ≡ held_as (container_of kind.ListItem) c
@@ -233,7 +233,7 @@ new-ended options interrupting cells p ends = ap item_passes (go options.constru
         cells (white_end (small_indent options) cells p) ends
     go false = refl
 
--- and an open one goes on as it is, unless it started blank
+-- and an open one continues as it is, unless it started blank
 pub further-ended : (held : Held) (c : Container) (cells : List Cell) (p : Point) → held.kind ≡ kind.ListItem →
     item_holds held c → ends_line (first_seen cells) ≡ true →
     item_goes c cells p ≡ cond (not held.starts_blank) (Some (passed_over held c cells p)) None

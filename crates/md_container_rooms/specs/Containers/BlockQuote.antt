@@ -20,7 +20,7 @@ use Rattle.md_meaning.specs.declared.alert.AlertKind.{AlertKind}
 use Rattle.md_frame.specs.ContainerRules.{ContainerRules}
 use Rattle.md_frame.specs.Passed.{Passed}
 
--- a quote of this kind that goes on
+-- a quote of this kind that continues
 abbrev pub quote_on : ParseOptions → Option AlertKind → List Cell → Point → Passed
 quote_on options alert cells p = record {
   container = InQuote alert;
@@ -40,13 +40,13 @@ quote_new options cells p = record {
   point = opening_end options cells p;
 }
 
--- an open one, if it goes on
+-- an open one, if it continues
 abbrev pub quote_goes : ParseOptions → Container → List Cell → Point → Option Passed
 quote_goes options (InQuote alert) cells p =
     if takes_prefix options cells then Some (quote_on options alert cells p) else None
 quote_goes options _ cells p = None
 
--- that it is a quote is held, and no more: the events tell whether it is an alert
+-- that it is a quote is held, and no more: the events show whether it is an alert
 abbrev pub quote_rules : ContainerRules
 quote_rules = record {
   before = document.ContainerNewBefore;

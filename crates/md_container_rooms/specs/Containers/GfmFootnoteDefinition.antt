@@ -20,7 +20,7 @@ use Rattle.md_meaning.specs.State.{Container, InFootnote}
 use Rattle.md_frame.specs.ContainerRules.{ContainerRules}
 use Rattle.md_frame.specs.Passed.{Passed}
 
--- one that opens or goes on
+-- one that opens or continues
 abbrev pub footnote_passed : ItemPassed → Passed
 footnote_passed t = record {
   container = t.container;
@@ -34,13 +34,13 @@ abbrev pub footnote_passes : Option ItemPassed → Option Passed
 footnote_passes None = None
 footnote_passes (Some t) = Some (footnote_passed t)
 
--- an open one, if it goes on
+-- an open one, if it continues
 abbrev pub footnote_goes : Container → List Cell → Point → Option Passed
 footnote_goes (InFootnote label) cells p = footnote_passes (footnote_further label cells p)
 footnote_goes _ cells p = None
 
--- Its label is not held: the events tell it. On a further line it is an item with so many columns, and the states of an
--- item have it go on.
+-- Its label is not held: the events show it. On a further line it is an item with so many columns, and the states of an
+-- item have it continue.
 abbrev pub footnote_rules : ContainerRules
 footnote_rules = record {
   before = document.ContainerNewBeforeNotList;

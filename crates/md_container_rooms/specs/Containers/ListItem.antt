@@ -16,7 +16,7 @@ use Rattle.md_meaning.specs.State.{Container, InItem}
 use Rattle.md_frame.specs.ContainerRules.{ContainerRules}
 use Rattle.md_frame.specs.Passed.{Passed}
 
--- an item that opens or goes on: what is held of it beside its kind, the container tells
+-- an item that opens or continues: what is held of it beside its kind, the container shows
 abbrev pub item_passed : ItemPassed → Passed
 item_passed t = record {
   container = t.container;
@@ -30,7 +30,7 @@ abbrev pub item_passes : Option ItemPassed → Option Passed
 item_passes None = None
 item_passes (Some t) = Some (item_passed t)
 
--- an open one, if it goes on
+-- an open one, if it continues
 abbrev pub item_goes : Container → List Cell → Point → Option Passed
 item_goes (InItem digits marker width blank) cells p = item_passes (item_further digits marker width blank cells p)
 item_goes _ cells p = None

@@ -18,14 +18,13 @@ use Rattle.md_seam.proofs.RestCells.{cells_by}
 use Rattle.md_frame.specs.Laid.{LineBreak}
 use Rattle.md_content_rooms.proofs.Defined.Form.{IsBreak}
 
--- Where cells stand.
+-- Where cells are.
 
 -- what the parent says of lines that are read as one part
 abbrev pub no_line : Line
 no_line = record { start = 0; lazy = false }
 
--- between two lines: where the first ends, what stands between them, where the second begins, and the cells from there
--- on
+-- between two lines: where the first ends, what is between them, where the second begins, and the cells from there on
 pub record Turn : Type 0 where
   pub end : Point
   pub break : LineBreak
@@ -72,7 +71,7 @@ pub record IsTurn (bytes : List ℕ) (p : Point) (c : Cell) (cs : List Cell) (tu
 abbrev pub IsCell : List ℕ → Point → Cell → List Cell → List Turn → List Turn → Type 0
 IsCell bytes p c cs turns left = (IsStep bytes p c × (turns ≡ left)) ⊎ IsTurn bytes p c cs turns left
 
--- these cells stand from a point on, over these turns, up to a last point
+-- these cells are from a point on, over these turns, up to a last point
 abbrev pub Walks : List ℕ → Point → Point → List Cell → List Turn → Type 0
 Walks bytes last p [] turns = (p ≡ last) × (turns ≡ [])
 Walks bytes last p (c ∷ cs) turns =
@@ -183,7 +182,7 @@ cells-white (suc n) text p =
     ∙ ap (λ (b : Bool). b && list_all is_white (bytes_of (spread no_line text (tab_end n p)))) (tab-white n p)
     ∙ all-spread is_white refl no_line text (tab_end n p)
 
--- cells of a line that is not blank, and others behind them
+-- cells of a line that is not blank, and others after them
 pub goes-on : (line more : List Cell) → NoFeed line → list_all is_white (bytes_of line) ≡ false → GoesOn (line ++ more)
 goes-on [] more none dark other d ds e ten = cc
 goes-on (x ∷ xs) more none dark [] d ds e ten = absurd (true≢false (sym ten ∙ here ∙ none.0))

@@ -15,7 +15,7 @@ use Rattle.md_frame.proofs.FillFacts.{filled-read}
 
 -- Its texts.
 
--- no further line of a text is blank in front of its ending
+-- no further line of a text is blank before its ending
 lines-filled : (bytes : List ℕ) (p q : Point) (s : Strand) → IsFilled s → IsStrand bytes p q s → AreFilled s
 lines-filled bytes p q NoLine filled is = tt
 lines-filled bytes p q (LastLine a b text) filled is = tt

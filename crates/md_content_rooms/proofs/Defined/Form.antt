@@ -1,4 +1,4 @@
--- A definition over its lines, part by part: its events, and where its parts stand in the text.
+-- A definition over its lines, part by part: its events, and where its parts are in the text.
 use Rattle.std.proofs.Common.{◌≡◌, ◌≢◌, ℕ, ◌+◌, ◌≤◌, ◌⊎◌, List, [], ◌∷◌, ◌++◌, length, slice_range, true, false}
 use Rattle.std.specs.Prelude.{Option, Some, None, option_map}
 use Rattle.md_engine.specs.declared.event.Event.{Event}
@@ -18,15 +18,15 @@ use Rattle.md_frame.proofs.FrontFacts.{LinePrefix}
 use Rattle.md_frame.proofs.PieceFacts.{CutsFirst}
 use Rattle.md_seam.proofs.FeedLines.{IsEnding}
 
--- A text over lines. Each line has its text, which a tab that a prefix has cut may begin, and its ending; behind the
--- ending of one line stand the prefixes of the containers, and then the next line begins.
+-- A text over lines. Each line has its text, which a tab that a prefix has cut may begin, and its ending; after the
+-- ending of one line are the prefixes of the containers, and then the next line begins.
 
 pub data Strand : Type 0 where
-  -- nothing stands on the last line
+  -- nothing is on the last line
   NoLine : Strand
   -- the last line, from a point to a point, with this text
   LastLine : (p q : Point) (text : List ℕ) → Strand
-  -- a line from a point to its ending and behind that, with this text, and prefixes up to where the next begins
+  -- a line from a point to its ending and after that, with this text, and prefixes up to where the next begins
   OneLine : (p e q r : Point) (text : List ℕ) (front : List Event) → Strand → Strand
 
 -- before it is read: each line is a chunk with its ending
@@ -49,16 +49,16 @@ strand_chunks NoLine = []
 strand_chunks (LastLine p q text) = (record { first = p; after = q }) ∷ []
 strand_chunks (OneLine p e q r text front s) = (record { first = p; after = q }) ∷ strand_chunks s
 
--- its lines, as they stand
+-- its lines, as they are
 abbrev pub strand_lines : Strand → List (List ℕ)
 strand_lines NoLine = [] ∷ []
 strand_lines (LastLine p q text) = text ∷ []
 strand_lines (OneLine p e q r text front s) = text ∷ strand_lines s
 
--- What stands between two parts: whitespace, or whitespace with one line ending in it.
+-- What is between two parts: whitespace, or whitespace with one line ending in it.
 pub data Gap : Type 0 where
   OnLine : (p q : Point) → Gap
-  -- whitespace up to the ending, the ending, prefixes, and whitespace behind them
+  -- whitespace up to the ending, the ending, prefixes, and whitespace after them
   OverLine : (p e q r s : Point) (front : List Event) → Gap
 
 abbrev pub gap_events : Gap → List Event
@@ -70,7 +70,7 @@ gap_events (OverLine p e q r s front) =
 pub data Target : Type 0 where
   -- from a point to a point, with this text
   Raw : (p q : Point) (text : List ℕ) → Target
-  -- between angle brackets: where they stand, and the text between them
+  -- between angle brackets: where they are, and the text between them
   Literal : (p a b q : Point) (text : List ℕ) → Target
 
 abbrev pub target_text : Target → List ℕ
@@ -100,7 +100,7 @@ target_by string (Literal p a b q text) =
     (pair n.DefinitionDestinationLiteralMarker p a ++ unless_empty text (string a b)
     ++ pair n.DefinitionDestinationLiteralMarker b q))
 
--- A title, with the gap in front of it: its marks, and the text between them, if there is one.
+-- A title, with the gap before it: its marks, and the text between them, if there is one.
 pub record Titled : Type 0 where
   pub gap : Gap
   pub p : Point
@@ -151,7 +151,7 @@ label_by f x =
     (pair n.DefinitionLabelMarker x.p x.a ++ around n.DefinitionLabelString x.a x.b (f x.label)
     ++ pair n.DefinitionLabelMarker x.b x.c)
 
--- what stands in the definition
+-- what is in the definition
 abbrev pub inside_by : (Strand → List Event) → (Point → Point → List Event) → Form → List Event
 inside_by f string x =
     label_by f x ++ pair n.DefinitionMarker x.c x.d ++ gap_events x.gap ++ target_by string x.target
@@ -175,7 +175,7 @@ form_block x =
     Definition (trim_further (strand_lines x.label)) (target_text x.target)
     (option_map (λ (t : Titled). text_lines t.text) x.title)
 
--- Where it stands.
+-- Where it is.
 
 -- a run of a line: this text from a point to a point
 pub record IsRun (bytes text : List ℕ) (p q : Point) : Type 0 where
@@ -204,13 +204,13 @@ pub record IsBreak (bytes : List ℕ) (e q r : Point) (front : List Event) : Typ
   pub front_is : LinePrefix bytes [] q r front
   pub column : 1 ≤ r.column
 
--- a further line in front of an ending is not blank
+-- a further line before an ending is not blank
 abbrev pub IsFilled : Strand → Type 0
 IsFilled (OneLine p e q r text front s) = is_blank text ≡ false
 IsFilled s = Unit {0}
 
--- A text from a point to a point. Nothing may stand on its last line, unless that is its only one; its first line may
--- be blank in front of its ending, and no further one.
+-- A text from a point to a point. Nothing may be on its last line, unless that is its only one; its first line may be
+-- blank before its ending, and no further one.
 abbrev pub IsStrand : List ℕ → Point → Point → Strand → Type 0
 IsStrand bytes p q NoLine = ⊥
 IsStrand bytes p q (LastLine a b text) = (first : a ≡ p) × (last : b ≡ q) × (some : text ≢ []) × IsRun bytes text p q

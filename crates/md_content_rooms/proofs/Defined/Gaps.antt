@@ -180,7 +180,7 @@ pub record GapOf (bytes : List ℕ) (last p : Point) (cells : List Cell) (turns 
   pub takes : Takes bytes last p turns (gap_end cells p) (gap_rest cells) left (gap_part cells p) (gap_events gap)
   pub is : IsGap bytes p (gap_end cells p) gap
 
--- behind the first whitespace, by what follows
+-- after the first whitespace, by what follows
 gap-by : (bytes : List ℕ) (last p : Point) (cells left : List Cell) (turns : List Turn) →
     white_rest any_size cells ≡ left → (white : WhiteOf bytes last p cells turns) →
     GapOf bytes last p cells turns

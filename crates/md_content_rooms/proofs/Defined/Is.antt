@@ -1,4 +1,4 @@
--- A definition over lines of a text: its form, and what it tells.
+-- A definition over lines of a text: its form, and what it shows.
 use Rattle.std.proofs.Common.{◌≡◌, ℕ, List, false}
 use Rattle.std.specs.Prelude.{option_map}
 use Rattle.md_engine.specs.declared.event.Point.{Point}
@@ -22,7 +22,7 @@ pub record IsDefined (bytes : List ℕ) (d : DefinitionParts) (row : Row) (rows 
   pub first : form.first ≡ row.first
   pub last : form.last ≡ (last_row row rows).end
   pub unread : defined_unread d row rows ≡ form_unread form
-  -- what it tells
+  -- what it shows
   pub label_lines : cell_lines false (whole_cells d.label.opener.after d.label.text) ≡
       trim_further (strand_lines form.label)
   pub target_is : target_text form.target ≡ text_bytes d.destination (gap_rest d.more) (destination_begin d)

@@ -37,7 +37,7 @@ use Rattle.md_content_rooms.proofs.Defined.Targets.{byte-of}
 
 -- Cells between marks.
 
--- behind some cells
+-- after some cells
 walk-over : (bytes : List ℕ) (last p : Point) (cells rest : List Cell) (turns : List Turn) →
     Walk bytes last p (cells ++ rest) turns → (left : List Turn) × Walk bytes last (point_after cells p) rest left
 walk-over bytes last p [] rest turns walk = (turns, walk)
@@ -350,9 +350,9 @@ title-of bytes last p cells t turns are walk =
     (marked-of bytes last p t.opener t.text t.closer t.rest turns opens.0 opens.1 closes.0 closes.1
     (subst (λ (l : List Cell). Walk bytes last p l turns) are.cells_are walk))
 
--- The title behind a destination, with the gap in front of it, or none.
+-- The title after a destination, with the gap before it, or none.
 
--- what is told of it
+-- what is said of it
 abbrev pub told_title : Option TitleParts → Option (List (List ℕ))
 told_title o = option_map (λ (t : TitleParts). cell_lines false (whole_cells t.opener.after t.text)) o
 
@@ -365,7 +365,7 @@ pub record TailOf (bytes : List ℕ) (last p : Point) (cells : List Cell) (turns
   pub is : IsTitle bytes p (titled_end o p) title
   pub lines : option_map (λ (t : Titled). text_lines t.text) title ≡ told_title o
 
--- where one is found it stands behind a gap
+-- where one is found it is after a gap
 pub behind-gap : (cells : List Cell) (t : TitleParts) → title_behind cells ≡ Some t →
     title_parts (gap_rest cells) ≡ Some t
 behind-gap cells t e = go (begins_gap cells) (title_parts (gap_rest cells)) refl e

@@ -28,7 +28,7 @@ use Rattle.md_frame.proofs.EventNames.{is_own}
 use Rattle.md_frame.proofs.EachEvent.{Each, each-append, each-as}
 use Rattle.md_frame.proofs.OutsideFacts.{IsOutside}
 
--- whether an event with this name stands in a definition: a part of one, text, an ending, or the prefix of a container
+-- whether an event with this name is in a definition: a part of one, text, an ending, or the prefix of a container
 abbrev pub is_of_definition : Name → Bool
 is_of_definition n.Definition = true
 is_of_definition n.DefinitionDestination = true
@@ -62,7 +62,7 @@ not-own _ h = refl
 pub outside-of : (e : Event) → IsOfDefinition e → IsOutside e
 outside-of e is = and_right (is_enter e.kind) (is_own e.name) (not-own e.name is)
 
--- whether an event with this name stands in a paragraph that is not read yet
+-- whether an event with this name is in a paragraph that is not read yet
 abbrev pub is_paragraph_part : Name → Bool
 is_paragraph_part n.Paragraph = true
 is_paragraph_part n.Data = true
@@ -117,7 +117,7 @@ chunk-names true (c ∷ cs) p = either (c.byte == 10) c cs (chunk-names false cs
     either true c cs h k = (refl, h)
     either false c cs h k = k
 
--- in front of others
+-- before others
 names-around : (name : Name) (p q : Point) (es : List Event) → is_of_definition name ≡ true → AreOfDefinition es →
     AreOfDefinition (around name p q es)
 names-around name p q es is h = (is, both es (exit name q ∷ []) h (is, tt))

@@ -1,5 +1,5 @@
--- Events between lines, by the bytes where they stand: those up to where a line ends, what stands in front of the next
--- line, and those behind.
+-- Events between lines, by the bytes where they are: those up to where a line ends, what is before the next line, and
+-- those after.
 use Rattle.std.proofs.Common.{◌≡◌, ℕ, ◌<◌, ◌≤◌, Bool, true, false, cond, List, [], ◌∷◌, ◌++◌, refl, sym, ap, ◌∙◌, subst}
 use Rattle.std.proofs.Common.{arith}
 use Rattle.std.specs.Prelude.{if◌then◌else◌, nat_le, nat_lt, IsTrue}
@@ -23,34 +23,34 @@ use Rattle.md_frame.proofs.PiecesLemmas as tiles
 use Rattle.md_frame.proofs.PiecesLemmas.{Ends}
 use Rattle.md_frame.proofs.SpanLemmas.{Spans, order-grows}
 
--- Where cells stand.
+-- Where cells are.
 
--- in front of the next break
+-- before the next break
 abbrev pub Before : Point → List LineBreak → Type 0
 Before p [] = Unit {0}
 Before p (b ∷ bs) = p.index < b.after.index
 
--- breaks with nothing in front of lines
+-- breaks with nothing before lines
 abbrev pub bared : List LineBreak → List LineBreak
 bared [] = []
 bared (b ∷ bs) = (record { after = b.after; front = [] }) ∷ bared bs
 
--- events that belong to the lines of a break, and more behind it
+-- events that belong to the lines of a break, and more after it
 abbrev pub put : LineBreak → (List Event → List Event) → List Event → List Event
 put b more [] = b.front ++ more []
 put b more (e ∷ es) = if belongs b.after.index e then e ∷ put b more es else b.front ++ more (e ∷ es)
 
--- events, with what stands in front of each line put where they belong to no earlier line
+-- events, with what is before each line put where they belong to no earlier line
 abbrev pub placed : List LineBreak → List Event → List Event
 placed [] es = es
 placed (b ∷ bs) es = put b (placed bs) es
 
--- events none of which comes behind a point
+-- events none of which comes after a point
 abbrev pub Upto : Point → List Event → Type 0
 Upto q [] = Unit {0}
 Upto q (e ∷ es) = (e.point.index ≤ q.index) × Upto q es
 
--- Events that begin at a point or behind it. Where they begin with an end at that very byte, it is not within a tab.
+-- Events that begin at a point or after it. Where they begin with an end at that very byte, it is not within a tab.
 abbrev pub FitsAt : Point → Kind → Point → Type 0
 FitsAt p Enter q = p.index ≤ q.index
 FitsAt p Exit q = (p.index ≤ q.index) × (p.index ≡ q.index → p.vs ≡ 0)
@@ -59,7 +59,7 @@ abbrev pub Fits : Point → List Event → Type 0
 Fits p [] = Unit {0}
 Fits p (e ∷ es) = FitsAt p e.kind e.point
 
--- they do so from a point in front of it
+-- they do so from a point before it
 pub fits-from : (p q : Point) (es : List Event) → p.index ≤ q.index → (p.index ≡ q.index → q.vs ≡ 0 → p.vs ≡ 0) →
     Fits q es → Fits p es
 fits-from p q [] le same fits = tt
@@ -71,7 +71,7 @@ fits-from p q (e ∷ es) le same fits = go e.kind fits
         let further = h.0 in
         (omega (arith, le, further), λ at. same (omega (arith, le, further, at)) (h.1 (omega (arith, le, further, at))))
 
--- and others may stand behind them
+-- and others may be after them
 pub fits-append : (p : Point) (xs ys : List Event) → Fits p xs → Fits p ys → Fits p (xs ++ ys)
 fits-append p [] ys h k = k
 fits-append p (x ∷ xs) ys h k = h
@@ -96,7 +96,7 @@ pub placed-here : (b : LineBreak) (bs : List LineBreak) (e : Event) (es : List E
 placed-here b bs e es h =
     ap (λ (x : Bool). cond x (e ∷ put b (placed bs) es) (b.front ++ placed bs (e ∷ es))) h
 
--- all up to a point in front of the break
+-- all up to a point before the break
 pub placed-upto : (bs : List LineBreak) (q : Point) (es more : List Event) → Upto q es → Before q bs →
     placed bs (es ++ more) ≡ es ++ placed bs more
 placed-upto [] q es more upto before = refl
@@ -105,7 +105,7 @@ placed-upto (b ∷ bs) q (e ∷ es) more upto before =
     placed-here b bs e (es ++ more) (belongs-upto e q b.after.index upto.0 before)
     ∙ ap (λ (l : List Event). e ∷ l) (placed-upto (b ∷ bs) q es more upto.1 before)
 
--- a break with nothing in front of its line changes nothing
+-- a break with nothing before its line changes nothing
 later-belongs : (e : Event) (i j : ℕ) → belongs i e ≡ true → i ≤ j → belongs j e ≡ true
 later-belongs e i j h le = go e.kind h
   where
@@ -129,7 +129,7 @@ placed-bare b bs (e ∷ es) bare le = go (belongs b.after.index e) refl (placed-
     go true h more = ap (λ (l : List Event). e ∷ l) more ∙ on bs refl h
     go false h more = ap (λ (l : List Event). l ++ placed bs (e ∷ es)) bare
 
--- At a break events that begin where the next line does belong to that line, unless nothing stands between.
+-- At a break events that begin where the next line does belong to that line, unless nothing is between.
 pub placed-break : (b : LineBreak) (bs : List LineBreak) (q : Point) (es : List Event) → Fits q es →
     b.after.index ≤ q.index →
     Before q bs → (q.index ≡ b.after.index → q.vs ≡ 0 → b.front ≡ []) →
@@ -159,9 +159,9 @@ placed-break b bs q (e ∷ es) fits le before bare = go (belongs b.after.index e
         ∙ ap (λ (l : List Event). l ++ placed bs (e ∷ es)) (sym empty)
     go false h = refl
 
--- What stands in front of a line.
+-- What is before a line.
 
--- behind events that go forward
+-- after events that go forward
 spans-then : (p q r : Point) (es : List Event) → Spans p q es → IsTrue (at_or_before q r) → IsTrue (at_or_before p r)
 spans-then p q r es span more =
     at_or_before-trans p q r
@@ -209,7 +209,7 @@ forward-flat p q (e ∷ es) f h whole same first =
     let vs = order-whole e.point q last whole end in
     (at, vs, subst (λ (i : ℕ). Flat i es) at (forward-flat e.point q es f.1 h whole end vs))
 
--- what stands in front of a line goes forward
+-- what is before a line goes forward
 fronts-order : (bytes : List ℕ) (opens : List Container) (p q : Point) (es : List Event) →
     LinePrefix bytes opens p q es → IsTrue (at_or_before p q)
 fronts-order bytes opens p q es (Behind at) = at_or_before-refl at
@@ -218,7 +218,7 @@ fronts-order bytes opens p q es (Goes same first mid last xs ys is more) =
 fronts-order bytes opens p q es (Begins c below first mid last xs ys is more) =
     spans-then first mid last xs is.common.nested.1 (fronts-order bytes below mid last ys more)
 
--- where no byte stands, nothing does
+-- where no byte is, nothing does
 pub bare-front : (bytes : List ℕ) (opens : List Container) (p q : Point) (es : List Event) →
     LinePrefix bytes opens p q es → opens ≡ [] → p.vs ≡ 0 → q.vs ≡ 0 → q.index ≡ p.index → es ≡ []
 bare-front bytes opens p q es (Behind at) none first last same = refl

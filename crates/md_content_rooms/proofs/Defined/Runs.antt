@@ -87,7 +87,7 @@ bytes-only bytes p q cells whole run = go run.spaces run.cells_are run.cut run.h
     }
     go (suc n) e cut here size end = let within = cut.0 in absurd (omega (arith, within, whole))
 
--- a byte that is no tab in front of others
+-- a byte that is no tab before others
 run-plain : (bytes : List ℕ) (p q : Point) (c : Cell) (cs : List Cell) → IsPlain bytes p c →
     is_ending (slice_index bytes p.index) ≡ false → p.index < length bytes →
     RunOf bytes c.after q cs → RunOf bytes p q (c ∷ cs)
@@ -119,7 +119,7 @@ run-plain bytes p q c cs is plain lt more =
       whole = more.whole;
     }
 
--- the same place behind a tab from a column further
+-- the same place after a tab from a column further
 past-column : (bytes : List ℕ) (p : Point) → 1 ≤ p.column → columns_more p ≡ suc (columns_more (next_column p)) →
     past_byte 9 (next_column p) ≡ past_byte 9 p
 past-column bytes p one more =
@@ -135,7 +135,7 @@ past-last p one none =
 column-white : (p : Point) → 0 < p.vs → column_byte p ≡ 32
 column-white p lt = let more : nat_lt 0 p.vs ≡ true = grind (arith, nat_tests) in rw more refl
 
--- a column of a tab in front of others
+-- a column of a tab before others
 run-column : (bytes : List ℕ) (p q : Point) (c : Cell) (cs : List Cell) → Stands bytes p → IsColumn bytes p c →
     RunOf bytes c.after q cs → RunOf bytes p q (c ∷ cs)
 run-column bytes p q c cs stands is more =
@@ -264,7 +264,7 @@ run-last bytes p q c cs stands is lt more =
           whole = run.whole;
         }
 
--- behind a cell of a line
+-- after a cell of a line
 pub step-stands : (bytes : List ℕ) (p : Point) (c : Cell) → Stands bytes p → IsStep bytes p c → Stands bytes c.after
 step-stands bytes p c stands is = go (kind bytes p c stands is)
   where

@@ -170,7 +170,7 @@ strand-last bytes last p c cs turns rest none walk whole =
       led = last-led bytes p q cells run walk.stands.column;
     }
 
--- a strand behind a line
+-- a strand after a line
 one-is : (bytes : List ℕ) (a e b r q : Point) (text : List ℕ) (front : List Event) (s : Strand) (cells : List Cell) →
     IsRun bytes text a e → IsBreak bytes e b r front → (cells ≡ [] → (s ≡ NoLine) × (r ≡ q) × (q.vs ≡ 0)) →
     (cells ≢ [] → IsStrand bytes r q s) → IsFilled s → IsStrand bytes a q (OneLine a e b r text front s)
@@ -186,7 +186,7 @@ one-is bytes a e b r q text front (OneLine x y z w t f s) [] run break none some
 one-is bytes a e b r q text front (OneLine x y z w t f s) (c ∷ cs) run break none some filled =
     (refl, run, break, filled, some (λ k. cc))
 
--- a line, and a strand behind its ending
+-- a line, and a strand after its ending
 strand-next : (bytes : List ℕ) (last p : Point) (line : List Cell) (d : Cell) (ds : List Cell) (turns : List Turn)
     (rest : List Cell) →
     NoFeed line → nat_eq d.byte 10 ≡ true → Walk bytes last p ((line ++ d ∷ ds) ++ rest) turns →

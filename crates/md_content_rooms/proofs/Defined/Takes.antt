@@ -59,7 +59,7 @@ step-whole bytes p c stands is other = go (kind bytes p c stands is)
     go (OfColumn k) = white p (ap (λ (d : Cell). d.byte) k.cell_is)
     go (OfLast k) = white p (ap (λ (d : Cell). d.byte) k.cell_is)
 
--- Where cells stand.
+-- Where cells are.
 
 pub before-from : (p q : Point) (bs : List LineBreak) → p.index ≤ q.index → Before q bs → Before p bs
 before-from p q [] le h = tt
@@ -71,7 +71,7 @@ pub record Walk (bytes : List ℕ) (last p : Point) (cells : List Cell) (turns :
   pub small : length cells ≤ any_size
   pub whole : last.vs ≡ 0
 
--- it ends behind where it begins, and each break is still to come
+-- it ends after where it begins, and each break is still to come
 pub turn-grows : (bytes : List ℕ) (p : Point) (c : Cell) (cs : List Cell) (turns left : List Turn) →
     (is : IsTurn bytes p c cs turns left) →
     (p.index < is.turn.break.after.index) × (is.turn.break.after.index ≤ c.after.index) × (c.after.line ≡ p.line + 1)
@@ -118,7 +118,7 @@ laid-quiet (b ∷ bs) (e ∷ es) more quiet =
     quiet.0
     ∙ ap (λ (l : List Event). e ∷ l) (laid-quiet (b ∷ bs) es more quiet.1)
 
--- and one in front of the next
+-- and one before the next
 pub laid-before : (bs : List LineBreak) (e : Event) (more : List Event) → Before e.point bs →
     laid bs (e ∷ more) ≡ e ∷ laid bs more
 laid-before [] e more before = refl
@@ -135,7 +135,7 @@ laid-before (b ∷ bs) e more before =
     go true = refl
     go false = refl
 
--- Each piece of some events ends in front of a point, or there.
+-- Each piece of some events ends before a point, or there.
 abbrev pub EndIn : Point → List Event → Type 0
 EndIn last [] = Unit {0}
 EndIn last (e ∷ es) =
@@ -150,7 +150,7 @@ quiet-end_in last [] quiet = tt
 quiet-end_in last (e ∷ es) quiet =
     (λ ends. let no : true ≡ false = sym ends ∙ quiet.0 in cc, quiet-end_in last es quiet.1)
 
--- Cells that end at a point begin there or in front of it.
+-- Cells that end at a point begin there or before it.
 step-apart : (bytes : List ℕ) (p last : Point) (c : Cell) → Stands bytes p → IsStep bytes p c → last.vs ≡ 0 →
     (c.after ≡ last) ⊎ (c.after.index < last.index) → p.index < last.index
 step-apart bytes p last c stands is whole h = go (kind bytes p c stands is)
@@ -220,16 +220,16 @@ pub record Takes (bytes : List ℕ) (last p : Point) (turns : List Turn) (q : Po
   pub before : (bs : List LineBreak) → Before q bs → Before p (breaks took ++ bs)
   pub lays : (bs : List LineBreak) → Before q bs → (more : List Event) →
       laid (breaks took ++ bs) (es ++ more) ≡ fs ++ laid bs more
-  -- where they end in no tab they begin in none, if no byte stands between
+  -- where they end in no tab they begin in none, if no byte is between
   pub kept : p.index ≡ q.index → q.vs ≡ 0 → p.vs ≡ 0
-  -- without what stands in front of lines they are these, to whose lines the events belong by their bytes
+  -- without what is before lines they are these, to whose lines the events belong by their bytes
   pub settled : List Event
   pub settles : (bs : List LineBreak) → Before q bs → (more : List Event) →
       laid (bared (breaks took) ++ bs) (es ++ more) ≡ settled ++ laid bs more
   pub begins : (more : List Event) → Fits q more → Fits p (settled ++ more)
   pub cuts : (bs : List LineBreak) → Before q bs → (more : List Event) → Fits q more →
       placed (breaks took ++ bs) (settled ++ more) ≡ fs ++ placed bs more
-  -- each piece ends in front of where all ends, or there
+  -- each piece ends before where all ends, or there
   pub ends : EndIn last es
 
 -- none
@@ -257,7 +257,7 @@ bared-append [] us bs = refl
 bared-append (t ∷ ts) us bs =
     ap (λ (l : List LineBreak). (record { after = t.break.after; front = [] }) ∷ l) (bared-append ts us bs)
 
--- in front of breaks with nothing in front of their lines
+-- before breaks with nothing before their lines
 pub before-bared : (p : Point) (bs cs : List LineBreak) → Before p (bs ++ cs) → Before p (bared bs ++ cs)
 before-bared p [] cs h = h
 before-bared p (b ∷ bs) cs h = h
@@ -266,7 +266,7 @@ breaks-append : (ts us : List Turn) (bs : List LineBreak) → breaks (ts ++ us) 
 breaks-append [] us bs = refl
 breaks-append (t ∷ ts) us bs = ap (λ (l : List LineBreak). t.break ∷ l) (breaks-append ts us bs)
 
--- one behind another
+-- one after another
 pub takes-then : (bytes : List ℕ) (last p : Point) (turns : List Turn) (q : Point) (rest : List Cell)
     (left : List Turn) (es fs : List Event) (r : Point) (behind : List Cell) (end : List Turn) (gs hs : List Event) →
     Takes bytes last p turns q rest left es fs → Takes bytes last q left r behind end gs hs →

@@ -44,7 +44,7 @@ use Rattle.md_content_rooms.proofs.Defined.Takes.{takes-quiet, column-is-white, 
 
 -- One byte.
 
--- a cell that is no whitespace is a byte, and a byte begins behind it
+-- a cell that is no whitespace is a byte, and a byte begins after it
 pub dark-plain : (bytes : List ℕ) (p : Point) (c : Cell) → Stands bytes p → IsStep bytes p c →
     is_white c.byte ≡ false → IsPlain bytes p c
 dark-plain bytes p c stands is dark = go (kind bytes p c stands is)
@@ -397,7 +397,7 @@ target-literal bytes last p c text d rest cells turns more opens closes none spl
     (literal-found bytes last p c text d rest turns opens closes none
     (subst (λ (l : List Cell). Walk bytes last p l turns) (sym split) walk) more text refl)
 
--- Any destination that stands there.
+-- Any destination that is there.
 
 -- what is found between angle brackets, by what follows the text
 literal-of : (bytes : List ℕ) (last p : Point) (c : Cell) (cs text rest : List Cell) (turns : List Turn)

@@ -1,4 +1,4 @@
--- The labels of footnote definitions among events that may stand as blocks do (`ItemsStand`) are those of the tree that
+-- The labels of footnote definitions among events that may be as blocks do (`ItemsStand`) are those of the tree that
 -- these spell out: each footnote definition begins with its label, which no container prefix parts.
 use Rattle.std.proofs.Common.{◌≡◌, ◌⊎◌, inl, inr, ℕ, Bool, true, false, cond, ◌&&◌, not, List, [], ◌∷◌, ◌++◌, refl, ap}
 use Rattle.std.proofs.Common.{ap₂, sym, ◌∙◌, append_assoc, append-nil, subst, slice_range}
@@ -29,7 +29,7 @@ use Rattle.md_seam.specs.Events.Spelled.{TableLeaf, is_before_blocks, kind_at, n
 use Rattle.md_meaning.specs.declared.alert.AlertKind.{AlertKind}
 use Rattle.md_content_rooms.proofs.Labels.Trees.{noted-then, noted_by, noted_in}
 
--- The labels of what was read so far, from the outermost container in; that of the innermost is in front of its blocks.
+-- The labels of what was read so far, from the outermost container in; that of the innermost is before its blocks.
 
 abbrev shape_notes : Shape → List (List ℕ)
 shape_notes (FootnoteShape label) = normal_form (label ∷ []) ∷ []
@@ -411,7 +411,7 @@ text-ends bytes held name _ p names span from r may = absurd may
 
 -- In the label of a footnote definition.
 
--- what stands in it changes neither what is open around it
+-- what is in it changes neither what is open around it
 above-begins : (name : Name) (x : Role) (names : List Name) → role name ≡ x → IsBetween x → Unbegun names →
     Unbegun (name ∷ names)
 above-begins name IsPrefix names e may h = subst (λ (y : Role). Above y (Unbegun names)) (sym e) h
@@ -589,7 +589,7 @@ label-begins bytes name IsQuiet p names span from r e may at =
     label-between bytes Enter name IsQuiet p names span from r e tt tt at
 label-begins bytes name _ p names span from r e may at = absurd may
 
--- its end tells it
+-- its end shows it
 label-told : (bytes : List ℕ) (p : Point) (from : ℕ) (r : Reading) (before : Blocks) (outer : List OpenContainer)
     (t : Text) →
     r.outer ≡ record { shape = FootnoteShape []; before = before } ∷ outer → r.here ≡ End → r.text ≡ Some t →

@@ -108,7 +108,7 @@ white-skipped : (bytes : List ℕ) (p q : Point) (es : List Event) →
     labels_in bytes (pair_unless_empty n.SpaceOrTab p q ++ es) ≡ labels_in bytes es
 white-skipped bytes p q es = labels-skip bytes (pair_unless_empty n.SpaceOrTab p q) es (white-none p q)
 
--- what stands behind the label's text in a definition
+-- what follows the label's text in a definition
 abbrev behind_text : Form → List Event
 behind_text x =
     (pair n.DefinitionMarker x.c x.d ++ gap_events x.gap ++ target_by string_unread x.target

@@ -44,7 +44,7 @@ step-same text from e xs ys h =
     go false true = ap (λ (l : List (List ℕ)). form ∷ l) (h from)
     go false false = h from
 
--- and one with another name tells nothing
+-- and one with another name shows nothing
 skip : (text : List ℕ) (from : ℕ) (e : Event) (es : List Event) → is_footnote_label e.name ≡ false →
     footnote_labels_from text from (e ∷ es) ≡ footnote_labels_from text from es
 skip text from e es h =
@@ -203,7 +203,7 @@ unlinked-kept text from e es lists plain h =
     (cond x (first_list lists ++ filled_from true es (further_lists lists)) (e ∷ filled_from false es lists))) plain
     ∙ step-same text from e (filled_from false es lists) es h
 
--- what a chunk is: its begin, and its end behind it
+-- what a chunk is: its begin, and its end after it
 record IsChunk (e f : Event) : Type 0 where
   kind : e.kind ≡ Enter
   name : is_data e.name ≡ true
@@ -225,7 +225,7 @@ chunk-is e f es h =
     exits Exit h = refl
     exits Enter h = cc
 
--- the events behind it stand as in front of it
+-- the events after it are as before it
 chunk-behind : (depth : ℕ) (e f : Event) (es : List Event) → IsChunk e f →
     chunks_stand (depth_behind e.kind (suc depth)) (f ∷ es) ≡ true → chunks_stand (suc depth) es ≡ true
 chunk-behind depth e f es is h =
@@ -244,7 +244,7 @@ chunk-behind depth e f es is h =
     stands : Event → Bool
     stands f = cond (is_linked f) ((suc depth == 0) && is_chunk f es) (stands_in_part f.kind f.name)
 
--- in the place of a chunk stands nothing of a label
+-- in the place of a chunk is nothing of a label
 linked-kept : (text : List ℕ) (from : ℕ) (e f : Event) (es : List Event) (lists : List (List Event)) →
     is_linked e ≡ true → IsChunk e f → AllUnlabelled lists →
     footnote_labels_from text from (filled_from false es (further_lists lists)) ≡ footnote_labels_from text from es →
@@ -265,7 +265,7 @@ linked-or : (x : Bool) → (x ≡ true) ⊎ (x ≡ false)
 linked-or true = inl refl
 linked-or false = inr refl
 
--- one that stands in a part is a chunk if it is linked,
+-- one that is in a part is a chunk if it is linked,
 chunk-in : (depth : ℕ) (e : Event) (es : List Event) → chunks_stand depth (e ∷ es) ≡ true → is_linked e ≡ true →
     (under : ℕ) × (depth ≡ suc under) × (is_chunk e es ≡ true)
     × (chunks_stand (depth_behind e.kind (suc under)) es ≡ true)
@@ -287,7 +287,7 @@ chunk-in (suc depth) e es h linked = go (is_part e.name) (is_linked e) linked h
         let a = and_parts _ _ k in (depth, refl, (and_parts _ _ a.0).1, a.1)
     go x false l k = absurd (cc)
 
--- and behind any other the rest stands
+-- and after any other the rest is
 rest-stands : (depth : ℕ) (e : Event) (es : List Event) → chunks_stand depth (e ∷ es) ≡ true → is_linked e ≡ false →
     (behind : ℕ) × (chunks_stand behind es ≡ true)
 rest-stands zero e es h plain = (_, (and_parts _ _ h).1)
@@ -333,7 +333,7 @@ filled-kept text depth (e ∷ f ∷ es) lists from h none =
         let rest = rest-stands depth e (f ∷ es) h plain in
         unlinked-kept text from e (f ∷ es) lists plain (λ i. next rest.0 i rest.1)
 
--- What is read in the places of chunks tells nothing of labels.
+-- What is read in the places of chunks shows nothing of labels.
 pub read-labels : (bytes : List ℕ) (blocks : List Event) → chunks_stand 0 blocks ≡ true →
     footnote_labels_in bytes (plain_read bytes blocks) ≡ footnote_labels_in bytes blocks
 read-labels bytes blocks h =

@@ -11,7 +11,7 @@ use Rattle.md_content_rooms.proofs.Labels.Trees.{defined-then, defined_by, defin
 use Rattle.md_frame.proofs.PrefixFacts.{begins}
 use Rattle.md_frame.proofs.Enters.{enters}
 
--- those in front of the innermost container
+-- those before the innermost container
 abbrev pub outer_labels : List OpenContainer → List (List ℕ)
 outer_labels [] = []
 outer_labels (around ∷ outer) = outer_labels outer ++ defined_in around.before

@@ -33,7 +33,7 @@ use Rattle.md_frame.proofs.PrefixNames.{ArePrefixes}
 words-white : (b : ℕ) (bs : List ℕ) → is_white b ≡ true → words (b ∷ bs) ≡ words bs
 words-white b bs e = rw e refl
 
--- whitespace in front of a line parts no words
+-- whitespace before a line parts no words
 words-trimmed : (line : List ℕ) → words (trim_start line) ≡ words line
 words-trimmed [] = refl
 words-trimmed (b ∷ bs) = go (is_white b) refl (words-trimmed bs)
@@ -54,7 +54,7 @@ words-each (line ∷ lines) =
     ap (λ (l : List (List ℕ)). l ++ flat_map words (trim_each lines)) (words-trimmed line)
     ∙ ap (λ (l : List (List ℕ)). words line ++ l) (words-each lines)
 
--- so its normal form is that of its lines as they stand
+-- so its normal form is that of its lines as they are
 pub normal-trimmed : (lines : List (List ℕ)) → normal_form (trim_further lines) ≡ normal_form lines
 unfolding normal_form
 normal-trimmed [] = refl
@@ -62,7 +62,7 @@ normal-trimmed (line ∷ lines) = rw (words-each lines) refl
 
 -- Chunks.
 
--- prefixes tell nothing of a label
+-- prefixes show nothing of a label
 pub prefix-label : (name : Name) → is_prefix name ≡ true → (is_label name ≡ false) × (is_data name ≡ false)
 prefix-label n.DefinitionLabelString h = cc
 prefix-label n.Data h = cc
@@ -89,7 +89,7 @@ fronts-skipped bytes (e ∷ g ∷ front) f es h =
     let names = prefix-label e.name h.0.0 in
     skipped bytes e g (front ++ f ∷ es) names.0 names.1 ∙ fronts-skipped bytes (g ∷ front) f es h.1
 
--- What stands in a label's chunks, up to its end.
+-- What is in a label's chunks, up to its end.
 pub record Told (bytes : List ℕ) (s : Strand) : Type 0 where
   pub text : List ℕ
   pub is : (q : Point) (more : List Event) →
@@ -119,13 +119,13 @@ begins-with (OneLine a e b r text front s) q more = (
   refl,
 )
 
--- behind a chunk, prefixes tell nothing
+-- after a chunk, prefixes show nothing
 chunk-ended : (bytes : List ℕ) (b : Point) (front : List Event) (f : Event) (es : List Event) → ArePrefixes front →
     label_text bytes (exit n.Data b ∷ front ++ f ∷ es) ≡ label_text bytes (f ∷ es)
 chunk-ended bytes b [] f es h = refl
 chunk-ended bytes b (e ∷ front) f es h = fronts-skipped bytes (e ∷ front) f es h
 
--- a line in front of others
+-- a line before others
 line-told : (bytes : List ℕ) (p a e b r : Point) (text : List ℕ) (front : List Event) (s : Strand) → a ≡ p →
     IsRun bytes text p e → IsBreak bytes e b r front → IsFilled s → Told bytes s →
     Told bytes (OneLine a e b r text front s)

@@ -34,7 +34,7 @@ three a b c =
     same-labels _ _ _ _ (append_assoc a.definitions b.definitions c.definitions)
     (append_assoc a.footnotes b.footnotes c.footnotes)
 
--- with one block more behind them
+-- with one block more after them
 labels-then : (bs : Blocks) (b : Block) → labels (then_block bs b) ≡ both (labels bs) (block_labels b)
 labels-then End b = none-behind (block_labels b)
 labels-then (More a bs) b =
@@ -46,7 +46,7 @@ defined-then bs b = ap (λ (l : Labels). l.definitions) (labels-then bs b)
 pub noted-then : (bs : Blocks) (b : Block) → noted_in (then_block bs b) ≡ noted_in bs ++ noted_by b
 noted-then bs b = ap (λ (l : Labels). l.footnotes) (labels-then bs b)
 
--- an item in front of lists
+-- an item before lists
 labels-item : (m : ℕ) (item : Block) (bs : Blocks) → labels (with_item m item bs) ≡ both (block_labels item) (labels bs)
 labels-item m item (More (ListOf k items) bs) = go (m == k)
   where

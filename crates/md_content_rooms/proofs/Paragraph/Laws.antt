@@ -31,7 +31,7 @@ open-cases IsSpan P none text span (OpenParagraph []) plain = absurd plain
 open-cases IsSpan P none text span (OpenParagraph (k ∷ ks)) plain = text k ks
 open-cases IsSpan P none text span leaf plain = span leaf plain
 
--- What its lines come to, an outline can show:
+-- What its lines become, an outline can show:
 shallow-remaining : (bs : Blocks) (lines : List (List ℕ)) → are_shallow bs ≡ true →
     are_shallow (then_paragraph bs lines) ≡ true
 shallow-remaining bs [] h = h

@@ -1,4 +1,4 @@
--- A paragraph with its lines leaves open what is open where it stands.
+-- A paragraph with its lines leaves open what is open where it is.
 use Rattle.std.proofs.Common.{◌≡◌, ℕ, Bool, List, refl}
 use Rattle.md_engine.specs.declared.event.Event.{Event}
 use Rattle.md_engine.specs.declared.event.Kind.{Kind}
@@ -12,7 +12,7 @@ use Rattle.md_seam.specs.Events.Spelled.{AsParagraph, IsEnding, IsPrefix, IsQuie
 use Rattle.md_seam.proofs.SpelledLemmas.{Between, Roles}
 use Rattle.md_frame.proofs.LeafStands.{Encloses, Moves, around-stands, roles-stand, site_of}
 
--- what stands between blocks stands in it
+-- what is between blocks is in it
 text-stays : (bytes : List ℕ) (held : List Bool) (kind : Kind) (x : Role) (p : Point) → Between x →
     Moves bytes (site_of held InText) (site_of held InText) kind x p
 text-stays bytes held Enter IsQuiet p h = record { may = tt; behind = refl }

@@ -1,11 +1,11 @@
--- Text in front of its reading.
+-- Text before its reading.
 use Rattle.std.proofs.Common.{◌<◌, ℕ, List, arith}
 use Rattle.md_engine.specs.declared.event.Name.TheVariants as n
 use Rattle.md_engine.specs.declared.event.Point.{Point}
 use Rattle.md_seam.specs.Events.Grammar.{Expression, behind, unread_text}
 use Rattle.md_seam.proofs.FeedLines.{ending-some, IsEnding}
 
--- what is left of a text behind its first line
+-- what is left of a text after its first line
 abbrev pub unread_rest : Expression
 unread_rest = behind n.Data unread_text
 

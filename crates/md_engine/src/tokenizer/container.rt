@@ -14,7 +14,7 @@ pub struct Container {
     /// The columns that a further line of a list item has to lose (CommonMark 5.2), or of a footnote definition.
     pub width: usize,
     pub kind: ContainerKind,
-    /// Whether the first line of a list item was blank behind its marker, and no further one was read yet.
+    /// Whether the first line of a list item was blank after its marker, and no further one was read yet.
     pub starts_blank: bool,
 }
 
@@ -30,7 +30,7 @@ impl Container {
         }
     }
 
-    /// Whether it goes on over an empty line, of which it takes nothing.
+    /// Whether it continues over an empty line, of which it takes nothing.
     pub fn goes_over_empty(self) -> bool
         ensures { result ≡ goes_over_empty self }
     {

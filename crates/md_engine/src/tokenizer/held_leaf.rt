@@ -19,21 +19,21 @@ pub enum HtmlKind {
     Complete,
 }
 
-/// How far the definitions at the front of a text have come behind some lines (CommonMark 4.7). An underline asks
-/// whether anything is left behind them, so this is kept of an open text, and no line of it is read again.
+/// How far the definitions at the front of a text have come after some lines (CommonMark 4.7). An underline asks
+/// whether anything is left after them, so this is kept of an open text, and no line of it is read again.
 #[derive(Clone, Copy)]
 pub enum Progress {
     /// The lines are whole definitions.
     Fresh,
     /// In a label: its bytes so far, and whether one of them is neither a space nor a tab.
     InLabel(usize, bool),
-    /// Behind the `:`: a destination is next.
+    /// After the `:`: a destination is next.
     BeforeDestination,
     /// The lines are whole definitions, and a title of the last may follow on the next line.
     Untitled,
     /// In a title: the mark that opened it, and the one that closes it.
     InTitle(u8, u8),
-    /// Something is left behind the definitions, whatever follows.
+    /// Something is left after the definitions, whatever follows.
     Left,
 }
 
@@ -44,23 +44,23 @@ pub struct OpenText {
     pub progress: Progress,
     /// How many cells its last line has as the head of a table (GFM 4.10); 0 where that line is no head.
     pub columns: usize,
-    /// How many columns of whitespace stand in front of its last line.
+    /// How many columns of whitespace are before its last line.
     pub indent: usize,
 }
 
-/// The leaf block that is open: what the next line goes on, or ends. Of a leaf of several lines this holds what is kept
-/// of it from line to line.
+/// The leaf block that is open: what the next line continues, or ends. Of a leaf of several lines this holds what is
+/// kept of it from line to line.
 #[derive(Clone, Copy)]
 pub enum HeldLeaf {
     /// None: the last one has ended.
     None,
     /// Lines of text, which are read once it ends.
     Text(OpenText),
-    /// The same, as a lazy line meets it: not all containers went on. Between two lines none is held so.
+    /// The same, as a lazy line meets it: not all containers continued. Between two lines none is held so.
     LazyText(OpenText),
     /// Indented code.
     Code,
-    /// Fenced code or math: the byte of its marker, how many of it, and the columns in front of them.
+    /// Fenced code or math: the byte of its marker, how many of it, and the columns before them.
     Fence {
         marker: u8,
         size: usize,

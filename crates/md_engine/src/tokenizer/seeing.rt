@@ -12,7 +12,7 @@ use crate::event::Point;
 use crate::stay::Stay;
 use crate::tokenizer::{Tokenizer, Whitespace, further, step};
 
-/// The point behind a space or behind a column of a tab.
+/// The point after a space or after a column of a tab.
 fn next_column(point: Point, byte: u8) -> Point
     requires white { is_white byte ≡ true }
     requires room { (point.index < 2 ^ 61) × (point.line < 2 ^ 62) × (point.column < 2 ^ 63 + 99) × (point.vs < 4) }
@@ -129,8 +129,8 @@ impl<'a> Tokenizer<'a> {
         self.see_while(stay);
     }
 
-    /// Sees, takes and counts byte after byte, as long as a state that stays takes it. It is compiled for the state that
-    /// calls it.
+    /// Sees, takes and counts byte after byte, as long as a state that stays takes it. It is compiled for the state
+    /// that calls it.
     #[inline(always)]
     pub fn see_while(&mut self, stay: Stay)
         ensures { SeesAll stay (world self.old) (world self.new) }

@@ -1,4 +1,4 @@
--- A line and its columns of whitespace by the cells: where they end, and what stands over them.
+-- A line and its columns of whitespace by the cells: where they end, and what is over them.
 use Rattle.std.proofs.Common.{◌≡◌, ℕ, zero, suc, ◌+◌, ◌-◌, ◌<◌, ◌≤◌, Bool, true, false, cond, List, [], ◌∷◌}
 use Rattle.std.proofs.Common.{◌++◌, refl, sym, ◌∙◌, ap, ap₂, arith, subst}
 use Rattle.std.specs.Prelude.{◌==◌, nat_lt}

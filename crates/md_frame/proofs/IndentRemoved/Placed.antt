@@ -1,4 +1,4 @@
--- What stands on a line that loses columns of whitespace is a stretch.
+-- What is on a line that loses columns of whitespace is a stretch.
 use Rattle.std.proofs.Common.{◌≡◌, ℕ, ◌+◌, ◌<◌, Bool, true, false, cond, ◌&&◌, ◌||◌, List, [], ◌∷◌}
 use Rattle.std.proofs.Common.{◌++◌, length, drop, refl, sym, ◌∙◌, ap, arith, subst}
 use Rattle.std.specs.Prelude.{◌==◌, nat_lt, IsTrue}

@@ -1,4 +1,4 @@
--- A line that loses columns of whitespace, where it stands: from the point where it begins to its end.
+-- A line that loses columns of whitespace, where it is: from the point where it begins to its end.
 use Rattle.std.proofs.Common.{◌≡◌, ℕ, zero, suc, ◌+◌, ◌≤◌, Bool, true, false, cond, ◌&&◌, List, [], ◌∷◌, length}
 use Rattle.std.proofs.Common.{◌++◌, drop, refl, sym, ◌∙◌, ap, arith, subst}
 use Rattle.std.specs.Prelude.{◌==◌, nat_lt}
@@ -24,12 +24,12 @@ use Rattle.md_frame.proofs.LineTexts.{line-stands}
 use Rattle.md_frame.proofs.IndentRemoved.Columns.{columns-end, first-white, past-line}
 use Rattle.md_frame.proofs.SpanLaws.{IsLineOf}
 
--- A line that is known where it stands, with the column where it begins.
+-- A line that is known where it is, with the column where it begins.
 pub record FurtherAt (bytes : List ℕ) (r : Rest) (p q : Point) : Type 0 where
   pub at : LineAt bytes r (rest_line r) p q
   pub column : p.column ≡ r.column + 1
 
--- so stands a line of a leaf
+-- so is a line of a leaf
 pub further-at : (options : ParseOptions) (bytes : List ℕ) (l : LineLeaf) (row : Row) →
     (is : IsLineOf options bytes l row) → FurtherAt bytes is.rest row.first row.end
 further-at options bytes l row is = record { at = is.at; column = is.column }
@@ -50,7 +50,7 @@ further-no_ending bytes r p q is = go r.spaces is.at.no_ending
     go zero h = h
     go (suc k) h = h.1
 
--- where the text ends nothing stands on it
+-- where the text ends nothing is on it
 pub line-over : (bytes : List ℕ) (r : Rest) (p q : Point) → FurtherAt bytes r p q → length bytes ≤ p.index →
     rest_line r ≡ []
 line-over bytes r p q is over =
@@ -60,7 +60,7 @@ line-over bytes r p q is over =
     go [] h = refl
     go (b ∷ bs) h = absurd (cc)
 
--- Behind so many columns of whitespace.
+-- After so many columns of whitespace.
 pub record HasLeft (bytes : List ℕ) (room : ℕ) (r : Rest) (p q : Point) : Type 0 where
   pub white : White bytes p (past_columns room r p)
   pub apart : (nat_lt 0 room && nat_lt 0 (indent r)) ≡ true → same_place p (past_columns room r p) ≡ false

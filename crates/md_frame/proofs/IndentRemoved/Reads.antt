@@ -17,7 +17,7 @@ on-last f [] x = refl
 on-last f (y ∷ []) x = refl
 on-last f (y ∷ z ∷ ys) x = ap (λ (l : List Line). y ∷ l) (on-last f (z ∷ ys) x)
 
--- an empty one becomes what is told of it
+-- an empty one becomes what is said of it
 pub empty-joined : (line : Line) → joined empty_line line ≡ line
 empty-joined line =
     ap (λ (s : ℕ). let l : Line = record { spaces = s; text = line.text } in l) (omega arith)

@@ -1,4 +1,4 @@
--- Where what stands on a line that loses columns of whitespace begins and ends.
+-- Where what is on a line that loses columns of whitespace begins and ends.
 use Rattle.std.proofs.Common.{◌≡◌, ℕ, zero, suc, Bool, true, false, cond, ◌&&◌, List, [], ◌∷◌, ◌++◌, drop, sym, arith}
 use Rattle.std.proofs.Common.{refl, subst}
 use Rattle.std.specs.Prelude.{◌==◌, nat_lt, not}
@@ -62,7 +62,7 @@ whole-clear bytes p e = low-clear bytes p (λ some. absurd (none some))
     none : (p.vs == 0) ≡ false → ⊥
     none some = grind (arith, nat_tests, e)
 
--- behind whitespace: a tab is cut, if any byte is
+-- after whitespace: a tab is cut, if any byte is
 pub left-clear : (bytes behind : List ℕ) (r : Rest) (p : Point) → RestAt bytes behind r p → clear bytes p ≡ true
 left-clear bytes behind r p is = go r.spaces is.cut is.text_is
   where

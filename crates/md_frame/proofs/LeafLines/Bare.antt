@@ -1,5 +1,5 @@
--- The lines of a leaf, joined, where some stand bare: those up to the last that is a pair of its own are inside of the
--- leaf, and the others stand behind it.
+-- The lines of a leaf, joined, where some are bare: those up to the last that is a pair of its own are inside of the
+-- leaf, and the others are after it.
 use Rattle.std.proofs.Common.{◌≡◌, Bool, true, false, cond, ◌||◌, List, [], ◌∷◌, ◌++◌, refl, ap, sym, ◌∙◌, append_assoc}
 use Rattle.std.proofs.Common.{append-nil}
 use Rattle.md_engine.specs.declared.event.Event.{Event}
@@ -9,7 +9,7 @@ use Rattle.md_frame.specs.Row.{is_framed, last_row, span_behind, span_by, span_r
 use Rattle.md_frame.proofs.LeafLines.Cuts.{but_ends-is}
 use Rattle.md_frame.proofs.LeafLines.Framed.{framed_by, framed_rest}
 
--- The rows up to the last that is a pair of its own, and those behind it.
+-- The rows up to the last that is a pair of its own, and those after it.
 abbrev pub inner : (Row → List Event) → List Row → List Row
 inner f [] = []
 inner f (row ∷ rows) = cond (any_framed f (row ∷ rows)) (row ∷ inner f rows) []
@@ -18,7 +18,7 @@ abbrev pub outer : (Row → List Event) → List Row → List Row
 outer f [] = []
 outer f (row ∷ rows) = cond (any_framed f (row ∷ rows)) (outer f rows) (row ∷ rows)
 
--- the last of those behind is the last of all
+-- the last of those after is the last of all
 pub outer-last : (f : Row → List Event) (row : Row) (rows : List Row) →
     last_row (last_row row (inner f rows)) (outer f rows) ≡ last_row row rows
 outer-last f row [] = refl
@@ -132,7 +132,7 @@ rest-split begin end f ended row (next ∷ rows) =
         ends : List Event
         ends = cond (any_framed f rows) (end_of (f last)) (end_by ended (f next))
 
--- Behind a line that is a pair.
+-- After a line that is a pair.
 pub span-split : (begin end : Row → Event) (f : Row → List Event) (row : Row) (rows : List Row) →
     is_framed (f row) ≡ true →
     span_by f row rows ≡

@@ -1,6 +1,6 @@
--- A line that shows no block, behind a leaf: what is known of both together.
+-- A line that shows no block, after a leaf: what is known of both together.
 --
--- Between them stand the ending of the leaf, and prefixes of the containers that go on.
+-- Between them are the ending of the leaf, and prefixes of the containers that continue.
 use Rattle.std.proofs.Common.{◌≡◌, ℕ, Bool, true, List, [], ◌∷◌, ◌++◌, map, refl, sym, ◌∙◌, ap, subst₂}
 use Rattle.std.proofs.Common.{append-nil, append_assoc}
 use Rattle.std.specs.Prelude.{None, not, Option, Some}
@@ -36,12 +36,12 @@ use Rattle.md_frame.proofs.Stretch.{Stretch, roles-as, stretch-append, stretch-a
 use Rattle.md_seam.proofs.FeedLines.{IsEnding}
 use Rattle.md_frame.proofs.LeafLines.Cuts.{ending-is}
 
--- What stands between two lines, from the end of one to the begin of the other: the ending of the first, by whether
--- this is blank to its ending, and prefixes.
+-- What is between two lines, from the end of one to the begin of the other: the ending of the first, by whether this is
+-- blank to its ending, and prefixes.
 pub record GapFacts (bytes : List ℕ) (blank : Bool) (p q : Point) (gap : List Event) : Type 0 where
-  -- it stands between blocks
+  -- it is between blocks
   pub stretch : Stretch Between bytes p q gap gap
-  -- behind it blocks may stand, and a line begins
+  -- after it blocks may be, and a line begins
   pub word : (text : Expression) (block : Bool) → grammar.Leads text (blocks_behind block ∷ []) (blocks ∷ []) gap
   pub ending : ending.Leads (spot_behind (not blank)) line_start gap
   -- it gives no quote a kind
@@ -73,7 +73,7 @@ gap-facts bytes blank p at q front whole is fronts = record {
     ended : List Event
     ended = pair (ending_name blank) p at
 
--- what stands between blocks is shown, and tells no text
+-- what is between blocks is shown, and shows no text
 between-untold : (x : Role) → Between x → Untold x
 between-untold IsQuiet h = (refl, refl)
 between-untold IsPrefix h = (refl, refl)
@@ -84,8 +84,8 @@ between-untold _ h = absurd h
 pub gap-plain : (bytes : List ℕ) (gap : List Event) → Roles Between gap → ArePlain bytes gap
 gap-plain bytes gap roles = plain-untold bytes gap (roles-as between-untold gap roles)
 
--- Events with others behind them, and what stands between two lines between them: all of them stand from the begin of
--- the first to the end of the last. No tab of a character is cut where the others begin.
+-- Events with others after them, and what is between two lines between them: all of them are from the begin of the
+-- first to the end of the last. No tab of a character is cut where the others begin.
 pub stand-behind : {bytes : List ℕ} {blank full : Bool} {p e at q : Point} {us ds gap vs ws : List Event} →
     StandFacts bytes (not blank) p e us ds → GapFacts bytes blank e at gap → clear bytes at ≡ true →
     StandFacts bytes full at q vs ws → StandFacts bytes full p q (us ++ (gap ++ vs)) (ds ++ (gap ++ ws))
@@ -126,7 +126,7 @@ stand-behind {bytes = bytes} {blank = blank} {full = full} {us = us} {ds = ds} {
         ending.leads-append line_start (spot_behind (not blank)) (spot_behind full) es (gap ++ fs) first
         (ending.leads-append (spot_behind (not blank)) line_start (spot_behind full) gap fs g.ending then)
 
--- The leaf with the line behind it shows what the leaf does; behind it one stands as behind the line.
+-- The leaf with the line after it shows what the leaf does; after it one is as after the line.
 pub facts-behind : {bytes : List ℕ} {block : Option Block} {blank full : Bool} {p e at q : Point}
     {us ds gap vs ws : List Event} →
     LeafFacts bytes block (not blank) p e us ds → GapFacts bytes blank e at gap → clear bytes at ≡ true →
@@ -150,7 +150,7 @@ facts-behind {bytes = bytes} {block = block} {ds = ds} {gap = gap} {ws = ws} h g
 
 -- Lines.
 
--- A line that stands so, as whitespace.
+-- A line that is so, as whitespace.
 pub record IsOutside (bytes : List ℕ) (f : Row → List Event) (row : Row) : Type 0 where
   -- no tab of a character is cut where it begins, and none where it ends
   pub clear : clear bytes row.first ≡ true
@@ -159,7 +159,7 @@ pub record IsOutside (bytes : List ℕ) (f : Row → List Event) (row : Row) : T
       LeafFacts bytes None (not (is_blank_row row)) row.first row.end (map (renamed Outside) (f row))
       (map (renamed Outside) (f row))
 
--- such lines behind one, behind prefixes of the containers alone
+-- such lines after one, after prefixes of the containers alone
 abbrev pub AreOutside : List ℕ → (Row → List Event) → Row → List Row → Type 0
 AreOutside bytes f row [] = Unit {0}
 AreOutside bytes f row (next ∷ rows) =
@@ -167,7 +167,7 @@ AreOutside bytes f row (next ∷ rows) =
     × (front : LinePrefix bytes [] q next.first next.front)
     × (is : IsOutside bytes f next) × AreOutside bytes f next rows
 
--- A leaf that ends on a line, with such lines behind it.
+-- A leaf that ends on a line, with such lines after it.
 pub rows-behind : (bytes : List ℕ) (block : Option Block) (f : Row → List Event) (p : Point) (row : Row)
     (rows : List Row) (unread done : List Event) →
     row.end.vs ≡ 0 → LeafFacts bytes block (not (is_blank_row row)) p row.end unread done →

@@ -8,7 +8,7 @@ use Rattle.md_seam.specs.Events.Nested.{around, enter, exit, pair}
 use Rattle.md_frame.specs.Row.{Row, ending_events, last_row, but_end, but_ends, end_of}
 use Rattle.md_frame.proofs.LeafLines.Framed.{framed_by, framed_rest}
 
--- events in front of an end
+-- events before an end
 pub but_end-is : (es : List Event) (e : Event) → but_end (es ++ e ∷ []) ≡ es
 but_end-is [] e = refl
 but_end-is (f ∷ []) e = refl

@@ -1,5 +1,5 @@
--- What holds of the events of the lines of a leaf, of endings, and of events one behind the other holds of the lines
--- once they are joined: no event is added, and what is bare behind the leaf may be whitespace there.
+-- What holds of the events of the lines of a leaf, of endings, and of events one after the other holds of the lines
+-- once they are joined: no event is added, and what is bare after the leaf may be whitespace there.
 use Rattle.std.proofs.Common.{Bool, true, false, List, [], ◌∷◌, ◌++◌, map}
 use Rattle.std.specs.Prelude.{Option, Some, None}
 use Rattle.md_engine.specs.declared.event.Event.{Event}
@@ -16,13 +16,13 @@ use Rattle.md_frame.specs.Row.{inside_leaf, is_blank_by, is_framed, span_behind,
 use Rattle.md_frame.proofs.EachEvent.{Each, each-drop}
 use Rattle.md_frame.proofs.SpanLemmas.{either}
 
--- what stands in front of further lines, and on them
+-- what is before further lines, and on them
 abbrev pub AreEach : (Event → Type 0) → List Row → Type 0
 AreEach P [] = Unit {0}
 AreEach P (row ∷ rows) = Each P row.front × Each P row.inside × AreEach P rows
 
--- What holds of lists of such events, of the endings of lines, of blank ones and of others, and of such lists one
--- behind the other; what is whitespace outside of a leaf is such an event.
+-- What holds of lists of such events, of the endings of lines, of blank ones and of others, and of such lists one after
+-- the other; what is whitespace outside of a leaf is such an event.
 pub record OfGaps (P : Event → Type 0) (L : List Event → Type 0) : Type 0 where
   pub all : (es : List Event) → Each P es → L es
   pub append : (xs ys : List Event) → L xs → L ys → L (xs ++ ys)
@@ -51,7 +51,7 @@ white-each : (P : Event → Type 0) (L : List Event → Type 0) → OfGaps P L �
 white-each P L of [] h = tt
 white-each P L of (e ∷ es) h = (of.white e h.0, white-each P L of es h.1)
 
--- Of what stands between two lines.
+-- Of what is between two lines.
 
 pair-each : (P : Event → Type 0) (L : List Event → Type 0) → OfGaps P L → (name : Name) (row : Row) →
     ((p q : Point) → L (pair name p q)) → L (ending_events name row)

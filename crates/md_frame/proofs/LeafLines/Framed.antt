@@ -1,4 +1,4 @@
--- The lines of a leaf, joined, where each further one has a begin and an end, and none stands bare.
+-- The lines of a leaf, joined, where each further one has a begin and an end, and none is bare.
 use Rattle.std.proofs.Common.{◌≡◌, Bool, true, false, cond, ◌||◌, List, [], ◌∷◌, ◌++◌, refl, ap, ap₂, sym, ◌∙◌}
 use Rattle.std.proofs.Common.{append_assoc, append-nil}
 use Rattle.std.proofs.lemmas.Bool.{or_from, or_right}
@@ -14,7 +14,7 @@ use Rattle.md_frame.specs.Row.{Row, any_framed, but_end, but_ends, end_of, endin
 use Rattle.md_frame.specs.Row.{end_by, inside_leaf, span_behind, span_by, span_rest}
 use Rattle.md_frame.proofs.SpanLaws.{IsSpanned}
 
--- behind the first of them, in front of the end of the last
+-- after the first of them, before the end of the last
 abbrev pub framed_rest : (Row → List Event) → Row → List Row → List Event
 framed_rest f row [] = []
 framed_rest f row (next ∷ rows) =
@@ -28,12 +28,12 @@ abbrev pub AreFramed : (Row → List Event) → List Row → Type 0
 AreFramed f [] = Unit {0}
 AreFramed f (row ∷ rows) = (is_framed (f row) ≡ true) × AreFramed f rows
 
--- the end tells it,
+-- the end shows it,
 framed-end : (es : List Event) (e : Event) → has_lines (role e.name) ≡ true → is_framed (es ++ e ∷ []) ≡ true
 framed-end [] e h = ap (λ (x : Bool). x || is_framed []) h
 framed-end (f ∷ es) e h = or_right (has_lines (role f.name)) (is_framed (es ++ e ∷ [])) (framed-end es e h)
 
--- so it is where a line stands as a block by itself
+-- so it is where a line is as a block by itself
 pub spanned-framed : (Lead : List Event → Type 0) (Begins : Event → Type 0) (es : List Event) →
     IsSpanned Lead Begins es → is_framed es ≡ true
 spanned-framed Lead Begins es s = ap is_framed s.is ∙ framed-end (s.lead ++ s.begin ∷ s.inside) s.end s.ends.lines
@@ -60,7 +60,7 @@ pub plain-unframed : (es : List Event) → NoLines es → is_framed es ≡ false
 plain-unframed [] h = refl
 plain-unframed (e ∷ es) h = or_from (has_lines (role e.name)) (is_framed es) h.0 (plain-unframed es h.1)
 
--- What stands behind a line: first one that has them,
+-- What follows a line: first one that has them,
 pub rest-framed : (f : Row → List Event) (end : List Event) (row next : Row) (rows : List Row) →
     is_framed (f next) ≡ true →
     span_rest f end row (next ∷ rows) ≡
@@ -73,7 +73,7 @@ rest-framed f end row next rows is =
     ++ span_rest f (cond x (end_of (f next)) end) next rows)
     (end ++ span_behind f row (next ∷ rows))) is
 
--- a bare one, in front of one that has them,
+-- a bare one, before one that has them,
 pub rest-bare : (f : Row → List Event) (end : List Event) (row next : Row) (rows : List Row) →
     is_framed (f next) ≡ false → any_framed f rows ≡ true →
     span_rest f end row (next ∷ rows) ≡

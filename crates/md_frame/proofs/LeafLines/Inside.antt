@@ -1,7 +1,7 @@
--- What is known of events that stand inside of a leaf of several lines, from a point to a point.
+-- What is known of events that are inside of a leaf of several lines, from a point to a point.
 --
--- It is what is asked of the events of a leaf, so that those of its lines are joined: one behind the other, with an
--- ending between two lines, and with prefixes of the containers that go on.
+-- It is what is asked of the events of a leaf, so that those of its lines are joined: one after the other, with an
+-- ending between two lines, and with prefixes of the containers that continue.
 use Rattle.std.proofs.Common.{◌≡◌, ℕ, true, List, [], ◌++◌, refl}
 use Rattle.md_engine.specs.declared.event.Event.{Event}
 use Rattle.md_engine.specs.declared.event.Name.TheVariants as n
@@ -31,9 +31,9 @@ pub record InsideFacts (bytes : List ℕ) (p q : Point) (x y : Expression) (from
   -- they may be outlined
   pub plain : clear bytes p ≡ true → ArePlainFrom bytes start end done
 
--- Events one behind the other.
+-- Events one after the other.
 
--- where some end and others begin, which go on to a point: between characters, and where no tab is cut off one
+-- where some end and others begin, which continue to a point: between characters, and where no tab is cut off one
 pub record Meets (bytes : List ℕ) (q r : Point) : Type 0 where
   pub between : is_between bytes r.index ≡ true → is_between bytes q.index ≡ true
   pub clear : clear bytes q ≡ true
@@ -66,7 +66,7 @@ ending-inside bytes p q x leaf site whole is on = record {
   };
 }
 
--- prefixes of containers that go on, in front of a further line
+-- prefixes of containers that continue, before a further line
 pub front-inside : (bytes : List ℕ) (p q : Point) (x : Expression) (leaf : OpenLeaf) (site : Site)
     (front : List Event) →
     TakesPrefixes x → IsOnLine site → LinePrefix bytes [] p q front →

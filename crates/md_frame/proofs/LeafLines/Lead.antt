@@ -1,4 +1,4 @@
--- What is known of the whitespace in front of the begin of a leaf.
+-- What is known of the whitespace before the begin of a leaf.
 use Rattle.std.proofs.Common.{◌≡◌, ℕ, true, List, [], ◌∷◌, refl}
 use Rattle.std.specs.Prelude.{IsTrue}
 use Rattle.md_engine.specs.declared.event.Event.{Event}
@@ -16,12 +16,12 @@ use Rattle.md_frame.proofs.PartedFacts.{clear}
 use Rattle.md_frame.proofs.PieceFacts.{span}
 use Rattle.md_frame.proofs.Stretch.{Stretch, stretch-none, stretch-pair, white-piece}
 
--- It stands from a point to a point, and tells nothing.
+-- It is from a point to a point, and shows nothing.
 pub record LeadFacts (bytes : List ℕ) (p q : Point) (lead : List Event) : Type 0 where
   pub stretch : Stretch Quiet bytes p q lead lead
-  -- it may stand in front of a block
+  -- it may be before a block
   pub word : (text : Expression) → grammar.Leads text (blocks ∷ []) (blocks ∷ []) lead
-  -- no ending stands in it, and no begin or end of a leaf
+  -- no ending is in it, and no begin or end of a leaf
   pub others : AreOthers lead
   -- it ends between characters, and where no tab of one is cut, if it begins so
   pub behind : is_between bytes p.index ≡ true → is_between bytes q.index ≡ true

@@ -1,4 +1,4 @@
--- Events that stand inside of a leaf, with its begin and its end and whitespace in front of it, are a leaf.
+-- Events that are inside of a leaf, with its begin and its end and whitespace before it, are a leaf.
 use Rattle.std.proofs.Common.{◌≡◌, ℕ, Bool, true, false, ◌&&◌, ◌||◌, not, List, [], ◌∷◌, ◌++◌, refl, ap, sym, ◌∙◌}
 use Rattle.std.proofs.Common.{subst, append_assoc}
 use Rattle.std.specs.Prelude.{Option, Some, None}
@@ -51,7 +51,7 @@ pub record IsLeafName (name : Name) (kind : LeafKind) : Type 0 where
   pub begin : Expression
   pub begins : (text : Expression) → inside text name ≡ begin
 
--- where its line ends, by whether anything stands on the last line of the leaf
+-- where its line ends, by whether anything is on the last line of the leaf
 around-leads : (name : Name) (p q : Point) (es : List Event) (filled : Bool) → on_line name ≡ IsLeaf →
     ending.Leads (in_leaf true) (in_leaf filled) es →
     ending.Leads line_start (leaf.spot_behind filled) (around name p q es)
@@ -104,8 +104,8 @@ around-plain bytes name kind p q end es is lined leave h = record {
     untold : (x : Point) → (not (is_told (role name)) || clear bytes x) ≡ true
     untold x = ap (λ (y : Role). not (is_told y) || clear bytes x) is
 
--- What stands inside of a leaf with this name, which shows this block: whether anything stands on its last line, and
--- what is asked of all of it together.
+-- What is inside of a leaf with this name, which shows this block: whether anything is on its last line, and what is
+-- asked of all of it together.
 pub record LeafInside (bytes : List ℕ) (name : Name) (block : Block) (full : Bool) (p q : Point)
     (unread done : List Event) : Type 0 where
   pub unread_starts : Starts unread
@@ -146,7 +146,7 @@ leaf-around {bytes = bytes} {full = full} {p = p} {q = q} {us = us} {es = es} na
   reads = h.reads;
 }
 
--- The same behind whitespace.
+-- The same after whitespace.
 pub facts-behind_lead : {bytes : List ℕ} {block : Option Block} {full : Bool} {p a q : Point}
     {lead us es : List Event} →
     LeadFacts bytes p a lead → LeafFacts bytes block full a q us es →
@@ -179,7 +179,7 @@ facts-behind_lead {bytes = bytes} {full = full} {lead = lead} {us = us} {es = es
     lead_ends : ending.Leads line_start line_start lead
     lead_ends = others-lead line_start lead refl front.others
 
--- The leaf of what is known of events inside of it. Behind an empty line its ending is that of a blank line.
+-- The leaf of what is known of events inside of it. After an empty line its ending is that of a blank line.
 pub inside-leaf : {bytes : List ℕ} {a q : Point} {left : Expression} {to : OpenLeaf} {end : Site} {full : Bool}
     {us es : List Event} (name : Name) (kind : LeafKind) →
     (named : IsLeafName name kind) → Starts us → Starts es →

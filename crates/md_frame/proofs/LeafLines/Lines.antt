@@ -38,42 +38,42 @@ pub record EndsLeaf (unread done : Row → List Event) (name : Name) (row : Row)
   -- no tab is cut there
   pub whole : row.end.vs ≡ 0
 
--- The first line of a leaf: what stands in it behind its begin, from a leaf that has just begun.
+-- The first line of a leaf: what is in it after its begin, from a leaf that has just begun.
 pub record SpanFirst (bytes : List ℕ) (unread done : Row → List Event) (name : Name) (begin : Expression)
     (from : OpenLeaf) (start : Site) (row : Row) : Type 0 where
   pub ends : EndsLeaf unread done name row
-  -- the whitespace in front of it, and where it begins
+  -- the whitespace before it, and where it begins
   pub lead : List Event
   pub at : Point
   pub lead_is : LeadFacts bytes row.first at lead
-  -- behind its begin
+  -- after its begin
   pub unread_inside : List Event
   pub inside : List Event
   pub unread_is : but_end (unread row) ≡ lead ++ enter name at ∷ unread_inside
   pub is : but_end (done row) ≡ lead ++ enter name at ∷ inside
   pub unread_starts : Starts unread_inside
   pub starts : Starts inside
-  -- what is left of the grammar behind it, what the leaf is then, and where in it an outline is
+  -- what is left of the grammar after it, what the leaf is then, and where in it an outline is
   pub left : Expression
   pub leaf : OpenLeaf
   pub site : Site
   pub facts : InsideFacts bytes at row.end begin left from leaf start site unread_inside inside
 
--- A further line, in front of which this is left of the grammar, the leaf is this, and an outline is here in it.
+-- A further line, before which this is left of the grammar, the leaf is this, and an outline is here in it.
 pub record SpanLine (bytes : List ℕ) (unread done : Row → List Event) (name : Name) (x : Expression)
     (from : OpenLeaf) (start : Site) (row : Row) : Type 0 where
   pub ends : EndsLeaf unread done name row
   -- it cuts no tab of a character
   pub clear : clear bytes row.first ≡ true
-  -- the same behind it
+  -- the same after it
   pub left : Expression
   pub leaf : OpenLeaf
   pub site : Site
   pub facts :
       InsideFacts bytes row.first row.end x left from leaf start site (but_ends (unread row)) (but_ends (done row))
 
--- Further lines behind one, in front of whose ending this is left of the grammar, the leaf is this and an outline is
--- here in it, with the leaf that they come to. No container opens in front of them.
+-- Further lines after one, before whose ending this is left of the grammar, the leaf is this and an outline is here in
+-- it, with the leaf that they become. No container opens before them.
 abbrev pub AreFurther : List ℕ → (Row → List Event) → (Row → List Event) → Name → Expression → OpenLeaf → OpenLeaf →
     Site → Row → List Row → Type 0
 AreFurther bytes unread done name left leaf to site row [] =
@@ -86,7 +86,7 @@ AreFurther bytes unread done name left leaf to site row (next ∷ rows) =
     (ended_site bytes q site) next) ×
     AreFurther bytes unread done name line.left line.leaf to line.site next rows
 
--- Such lines by their events: a begin, what stands inside, and the end.
+-- Such lines by their events: a begin, what is inside, and the end.
 
 pub ends-by : (unread done : Row → List Event) (name : Name) (row : Row) (us es : List Event) → row.end.vs ≡ 0 →
     unread row ≡ us ++ exit name row.end ∷ [] → done row ≡ es ++ exit name row.end ∷ [] →
@@ -97,7 +97,7 @@ ends-by unread done name row us es whole unread_is is = record {
   whole = whole;
 }
 
--- The last of them, and what stands behind one.
+-- The last of them, and what follows one.
 
 -- the last line ends the leaf
 pub last-ends : (bytes : List ℕ) (unread done : Row → List Event) (name : Name) (left : Expression) (leaf to : OpenLeaf)
@@ -108,7 +108,7 @@ last-ends bytes unread done name left leaf to site row [] ends are = ends
 last-ends bytes unread done name left leaf to site row (next ∷ rows) ends are =
     last-ends bytes unread done name are.6.left are.6.leaf to are.6.site next rows are.6.ends are.7
 
--- the end of a line, and what goes on behind it
+-- the end of a line, and what continues after it
 meets-end : (bytes : List ℕ) (unread done : Row → List Event) (name : Name) (left : Expression) (leaf to : OpenLeaf)
     (site : Site) (row : Row) (rows : List Row) →
     row.end.vs ≡ 0 → AreFurther bytes unread done name left leaf to site row rows →
@@ -123,7 +123,7 @@ meets-end bytes unread done name left leaf to site row rows whole are = record {
     go [] are last = last
     go (next ∷ rows) are last = ending-before bytes row.end are.0 are.2
 
--- what stands behind a line
+-- what follows a line
 pub record RestInside (bytes : List ℕ) (p q : Point) (x : Expression) (from to : OpenLeaf) (start : Site)
     (unread done : List Event) : Type 0 where
   pub left : Expression
@@ -132,7 +132,7 @@ pub record RestInside (bytes : List ℕ) (p q : Point) (x : Expression) (from to
   pub leave : MayLeave site
   pub facts : InsideFacts bytes p q x left from to start site unread done
 
--- one more in front: the ending of the line before, the prefixes in front of it, and what stands inside of it
+-- one more in front: the ending of the line before, the prefixes before it, and what is inside of it
 next-inside : (bytes : List ℕ) (unread done : Row → List Event) (name : Name) (left : Expression) (leaf to : OpenLeaf)
     (site : Site) (row next : Row) (rows : List Row) →
     row.end.vs ≡ 0 → (are : AreFurther bytes unread done name left leaf to site row (next ∷ rows)) →
@@ -209,7 +209,7 @@ rest-inside bytes unread done name left leaf to site row (next ∷ rows) whole a
     next-inside bytes unread done name left leaf to site row next rows whole are
     (rest-inside bytes unread done name are.6.left are.6.leaf to are.6.site next rows are.6.ends.whole are.7)
 
--- what stands in the leaf behind its begin
+-- what is in the leaf after its begin
 pub span-inside : (bytes : List ℕ) (unread done : Row → List Event) (name : Name) (kind : LeafKind) (to : OpenLeaf)
     (row : Row) (rows : List Row) →
     (named : IsLeafName name kind) →
@@ -227,7 +227,7 @@ span-inside bytes unread done name kind to row rows named first are =
         (framed_rest unread row rows) (framed_rest done row rows)
     rest = rest-inside bytes unread done name first.left first.leaf to first.site row rows first.ends.whole are
 
--- All that the frame asks of the lines of a leaf, joined, by whether anything stands on the last of them.
+-- All that the frame asks of the lines of a leaf, joined, by whether anything is on the last of them.
 pub span-facts : (bytes : List ℕ) (unread done : Row → List Event) (name : Name) (kind : LeafKind) (to : OpenLeaf)
     (row : Row) (rows : List Row) (filled : Bool) →
     (named : IsLeafName name kind) → HasLines kind →

@@ -58,7 +58,7 @@ row_done bytes row = if goes_back row.inside then row.inside else plain_read byt
 abbrev pub ShutsAs : LeafResult → Block → Type 0
 ShutsAs c block = (options : ParseOptions) (bs : Blocks) → shut options (came bs c) ≡ then_block bs block
 
--- Whether anything stands on the last of some lines, in a leaf on a line on which something stands, or nothing.
+-- Whether anything is on the last of some lines, in a leaf on a line on which something is, or nothing.
 
 abbrev pub full_behind : Bool → List Row → Bool
 full_behind full [] = full
@@ -89,8 +89,8 @@ others-fill false (e ∷ es) others balanced = λ ys.
     one Enter name (Ends blank) zs fits h = cc
     one Exit name x zs fits h = absurd fits
 
--- A further line, in front of which this is left of the grammar, and that behind it; it is read from this leaf to that,
--- and an outline goes from here in it to there.
+-- A further line, before which this is left of the grammar, and that after it; it is read from this leaf to that, and
+-- an outline goes from here in it to there.
 pub record FurtherLine (bytes : List ℕ) (name : Name) (x left : Expression) (from leaf : OpenLeaf) (start site : Site)
     (row : Row) : Type 0
   where
@@ -101,13 +101,13 @@ pub record FurtherLine (bytes : List ℕ) (name : Name) (x left : Expression) (f
     pub clear : clear bytes row.first ≡ true
     pub others : AreOthers parts
     pub balanced : Balanced parts
-    -- nothing stands in it just where it ends where it began; its ending is then that of a blank line, where no prefix
-    -- stands in front
+    -- nothing is in it just where it ends where it began; its ending is then that of a blank line, where no prefix is
+    -- in front
     pub bare : is_bare parts ≡ is_empty_row row
     pub empty : row.empty ≡ (is_empty_row row && (row.first.column == 1))
     pub facts : InsideFacts bytes row.first row.end x left from leaf start site parts parts
 
--- Further lines behind one: what the leaf is with them.
+-- Further lines after one: what the leaf is with them.
 pub record HasRest (bytes : List ℕ) (name : Name) (left : Expression) (leaf : OpenLeaf) (site : Site) (row : Row)
     (rows : List Row) (c : LeafResult) : Type 0 where
   pub to : OpenLeaf
@@ -116,7 +116,7 @@ pub record HasRest (bytes : List ℕ) (name : Name) (left : Expression) (leaf : 
   pub further : AreFurther bytes row_unread (row_done bytes) name left leaf to site row rows
   -- the block is that of the line definition
   pub shuts : ShutsAs c (block_of to)
-  -- whether something stands on the last line, as its endings say
+  -- whether something is on the last line, as its endings say
   pub fills : (full : Bool) → Leads (in_leaf full) (in_leaf (full_behind full rows)) (framed_rest row_unread row rows)
   -- nothing is read of them
   pub same : framed_rest (row_done bytes) row rows ≡ framed_rest row_unread row rows
@@ -181,7 +181,7 @@ rest-more bytes name left x after leaf to site end row next rows c q at ending f
     parts : but_ends next.inside ≡ line.parts
     parts = ap but_ends line.is ∙ but_ends-is (enter_link name next.first further_link) line.parts (exit name next.end)
 
-    -- behind an ending prefixes alone take columns
+    -- after an ending prefixes alone take columns
     filled : (not (is_bare next.front) || not (is_bare line.parts)) ≡ not next.empty
     filled =
         ap₂ (λ (a b : Bool). not a || not b)

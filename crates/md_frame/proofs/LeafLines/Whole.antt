@@ -14,7 +14,7 @@ use Rattle.md_frame.proofs.LeafLines.Leaf.{IsLeafName}
 use Rattle.md_frame.proofs.LeafLines.Lines.{SpanFirst, span-facts}
 use Rattle.md_frame.proofs.LeafLines.Rest.{HasRest, full-last, full_behind, row_done, row_unread}
 
--- All that the frame asks of the lines of such a leaf, on the first of which something stands.
+-- All that the frame asks of the lines of such a leaf, on the first of which something is.
 pub rest-facts : (bytes : List ℕ) (name : Name) (kind : LeafKind) (row : Row) (rows : List Row) (c : LeafResult) →
     (named : IsLeafName name kind) → HasLines kind →
     (first : SpanFirst bytes row_unread (row_done bytes) name named.begin (fresh kind) (begun_site kind) row) →

@@ -1,4 +1,4 @@
--- Which lines a leaf takes behind a small indent: by their cells those that it takes by their bytes.
+-- Which lines a leaf takes after a small indent: by their cells those that it takes by their bytes.
 use Rattle.std.proofs.Common.{◌≡◌, ℕ, ◌^◌, ◌<◌, Bool, true, false, ◌&&◌, List, [], ◌∷◌, ◌++◌, length, refl, sym, ap}
 use Rattle.std.proofs.Common.{◌∙◌, subst}
 use Rattle.md_engine.specs.declared.configuration.ParseOptions.{ParseOptions}
@@ -14,7 +14,7 @@ use Rattle.md_seam.proofs.FeedLines.{Stops, bytes_of, spread}
 use Rattle.md_seam.proofs.RestCells.{RestAt, rest_cells}
 use Rattle.md_frame.proofs.RestFacts.{large-white, small-indented}
 
--- A test of the bytes behind an indent: it does not tell a tab from its columns, and it refuses whitespace.
+-- A test of the bytes after an indent: it does not show a tab from its columns, and it refuses whitespace.
 pub record Tells (is : List ℕ → Bool) : Type 0 where
   pub spread_same : (line : Line) (bytes : List ℕ) (p : Point) → is (bytes_of (spread line bytes p)) ≡ is bytes
   pub dark : (b : ℕ) (bs : List ℕ) → is_white b ≡ true → is (b ∷ bs) ≡ false

@@ -37,7 +37,7 @@ of_last number (k ∷ []) = number k
 of_last number (k ∷ next ∷ ks) = of_last number (next ∷ ks)
 
 -- what is kept of an open text of these lines: how far what is cut from its front has come, and what of its last line a
--- line behind it may ask
+-- line after it may ask
 abbrev pub open_lines : List ParagraphLine → OpenText
 open_lines lines = record {
   progress = progress (texts lines);

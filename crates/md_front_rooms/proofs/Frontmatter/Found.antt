@@ -1,4 +1,4 @@
--- The frontmatter that the lines of a text have: where its parts stand, and that it is what the line definition finds.
+-- The frontmatter that the lines of a text have: where its parts are, and that it is what the line definition finds.
 use Rattle.std.proofs.Common.{◌≡◌, ℕ, ◌+◌, ◌≤◌, Bool, true, false, cond, ◌||◌, List, [], ◌∷◌, ◌++◌, drop, take, map}
 use Rattle.std.proofs.Common.{suc, Option, Some, None, refl, sym, ◌∙◌, ap, ap₂, subst, subst₂, arith, append_assoc}
 use Rattle.std.proofs.Common.{append-nil}
@@ -54,12 +54,12 @@ pub record Here (bytes text : List ℕ) (p : Point) : Type 0 where
   pub whole : p.vs ≡ 0
   pub column : 1 ≤ p.column
 
--- What stands behind the closing fence: nothing, where the text ends there, or its ending.
+-- What follows the closing fence: nothing, where the text ends there, or its ending.
 pub data Tail (bytes : List ℕ) (z : Point) : Point → List Event → Type 0 where
   AtEnd : drop z.index bytes ≡ [] → Tail bytes z z []
   Ended : (r : Point) → IsEnding bytes z r → Tail bytes z r (pair n.LineEnding z r)
 
--- The lines behind the opening fence, where one closes: their texts, and what the line definition has of them.
+-- The lines after the opening fence, where one closes: their texts, and what the line definition has of them.
 pub record RestFound (bytes : List ℕ) (m : ℕ) (p : Point) (lines : List (List ℕ)) (f : FrontRead) : Type 0 where
   pub texts : List (List ℕ)
   pub es : List Event
@@ -80,7 +80,7 @@ RestMeans bytes m p lines (Some f) = RestFound bytes m p lines f
 abbrev Means : List ℕ → ℕ → Point → List (List ℕ) → List ℕ → List ℕ → List (List ℕ) → Type 0
 Means bytes m p lines line ending more = RestMeans bytes m p lines (lines_from m line ending more p)
 
--- the line closes, where nothing or its ending stands behind it
+-- the line closes, where nothing or its ending is after it
 closes-mean : (bytes : List ℕ) (m : ℕ) (p : Point) (full line : List ℕ) (more : List (List ℕ)) (f : FrontRead)
     (tail : List Event) →
     is_marker m ≡ true → without_ending full ≡ line → HasText bytes line p (past_text line p) →
@@ -103,7 +103,7 @@ closes-mean bytes m p full line more f tail marks is text fence behind events le
       after = first.1 ∙ left;
     }
 
--- or goes on
+-- or continues
 more-means : (bytes : List ℕ) (m : ℕ) (p : Point) (full line : List ℕ) (more : List (List ℕ)) (r : Point) →
     without_ending full ≡ line → HasText bytes line p (past_text line p) → is_front_fence m line ≡ false →
     IsEnding bytes (past_text line p) r → (o : Option FrontRead) → RestMeans bytes m r more o →
@@ -132,7 +132,7 @@ more-means bytes m p full line more r is text other ending (Some f) found =
       after = first.1 ∙ found.after;
     }
 
--- where a line stands
+-- where a line is
 last-text : (bytes line : List ℕ) (p : Point) → Here bytes line p → NoEnding line →
     (text : HasText bytes line p (past_text line p)) × (drop (past_text line p).index bytes ≡ [])
 last-text bytes line p at bare =
@@ -184,7 +184,7 @@ left-lines : (bytes text : List ℕ) (lines : List (List ℕ)) (p : Point) → H
 left-lines bytes text lines p at is =
     ap (map without_ending) is ∙ ap lines_of (sym at.stands)
 
--- Behind the opening fence: the last line,
+-- After the opening fence: the last line,
 last-means : (bytes : List ℕ) (m : ℕ) (line : List ℕ) (p : Point) → is_marker m ≡ true → NoEnding line →
     Here bytes line p → Means bytes m p (line ∷ []) line [] []
 last-means bytes m line p marks bare at = go (is_front_fence m line) refl

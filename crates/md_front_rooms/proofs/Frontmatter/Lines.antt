@@ -1,4 +1,4 @@
--- What is known of the lines of frontmatter, one behind the other, and of all that stands in it.
+-- What is known of the lines of frontmatter, one after the other, and of all that is in it.
 use Rattle.std.proofs.Common.{◌≡◌, ℕ, ◌+◌, ◌<◌, Bool, true, false, cond, List, [], ◌∷◌, ◌++◌, length, take, drop, map}
 use Rattle.std.proofs.Common.{nat_lt, refl, sym, ◌∙◌, ap, subst, arith, append_assoc, append-nil}
 use Rattle.std.specs.Prelude.{◌==◌}
@@ -28,14 +28,14 @@ use Rattle.md_frame.proofs.PartsFacts.{behind_ending}
 abbrev pub line_over : List ℕ → Point → Point → List Event
 line_over line p q = part_over n.FrontmatterChunk line p q
 
--- The lines behind the opening fence, up to the end of the closing one: their texts, and all events.
+-- The lines after the opening fence, up to the end of the closing one: their texts, and all events.
 pub data IsRest (bytes : List ℕ) (m : ℕ) : Point → List (List ℕ) → List Event → Point → Type 0 where
   Closes : (line : List ℕ) (p q : Point) → HasFence bytes line m p q → IsRest bytes m p [] (fence_over line p q) q
   More : (line : List ℕ) (p q r z : Point) (texts : List (List ℕ)) (es : List Event) → HasText bytes line p q →
       IsEnding bytes q r → IsRest bytes m r texts es z →
       IsRest bytes m p (line ∷ texts) ((line_over line p q ++ pair n.LineEnding q r) ++ es) z
 
--- the text goes on there
+-- the text continues there
 rest-goes : (bytes : List ℕ) (m : ℕ) (p : Point) (texts : List (List ℕ)) (es : List Event) (z : Point) →
     IsRest bytes m p texts es z → p.index < length bytes
 rest-goes bytes m p _ _ z (Closes line _ _ h) =
@@ -55,7 +55,7 @@ rest-goes bytes m p _ _ z (More line _ q r _ texts es is ending more) =
     let within = ending.in_text in
     omega (arith, size, some, next, within)
 
--- behind an ending, a line of it begins
+-- after an ending, a line of it begins
 ended-leaf : (bytes markers : List ℕ) (lines : List Line) (q : Point) → q.index < length bytes →
     behind_ending bytes q (front_leaf markers lines false) ≡ front_leaf markers (lines ++ empty_line ∷ []) false
 ended-leaf bytes markers lines q lt =
@@ -158,7 +158,7 @@ rest-fills bytes m p _ _ z (More line _ q r _ texts es is ending more) =
     (line-inside bytes line [] [] p q r is ending (rest-goes bytes m r texts es z more)).parts.stays
     (rest-fills bytes m r texts es z more)
 
--- Frontmatter: its opening fence, and the lines behind that.
+-- Frontmatter: its opening fence, and the lines after that.
 pub record IsFront (bytes : List ℕ) (p : Point) (texts : List (List ℕ)) (es : List Event) (z : Point) : Type 0 where
   pub m : ℕ
   pub line : List ℕ
@@ -170,7 +170,7 @@ pub record IsFront (bytes : List ℕ) (p : Point) (texts : List (List ℕ)) (es 
   pub lines : IsRest bytes m r texts rest z
   pub all : es ≡ (fence_over line p q ++ pair n.LineEnding q r) ++ rest
 
--- what stands in it
+-- what is in it
 pub front-inside : (bytes : List ℕ) (p : Point) (texts : List (List ℕ)) (es : List Event) (z : Point) →
     (is : IsFront bytes p texts es z) →
     InsideFacts bytes p z (inside plain_text n.Frontmatter) Nothing (fresh OfFrontmatter)

@@ -48,7 +48,7 @@ use Rattle.md_frame.proofs.PartsFacts.{ReadsLeaf, PartsFacts}
 use Rattle.md_frame.proofs.Stretch.{Stretch, stretch-append, stretch-around, stretch-pair, white-piece}
 use Rattle.md_frame.proofs.ChunkFacts.{in-line}
 
--- A line, where it stands: it begins at a byte, and ends behind its bytes.
+-- A line, where it is: it begins at a byte, and ends after its bytes.
 pub record HasText (bytes line : List ℕ) (p q : Point) : Type 0 where
   pub no_ending : NoEnding line
   pub stands : drop p.index bytes ≡ line ++ drop q.index bytes
@@ -59,7 +59,7 @@ pub record HasText (bytes line : List ℕ) (p q : Point) : Type 0 where
 pub end-whole : (bytes line : List ℕ) (p q : Point) → HasText bytes line p q → q.vs ≡ 0
 end-whole bytes line p q is = ap (λ (x : Point). x.vs) is.end ∙ past_text-whole line p is.whole
 
--- What is left of the grammar of frontmatter: behind its opening fence, where a further line begins, and behind a line
+-- What is left of the grammar of frontmatter: after its opening fence, where a further line begins, and after a line
 -- that is not empty.
 abbrev pub behind_open : Expression
 behind_open = behind n.FrontmatterFence (inside plain_text n.Frontmatter)
@@ -77,7 +77,7 @@ front_leaf markers lines closed = FrontmatterLeaf (record { markers = markers; l
 abbrev pub text_line : List ℕ → Line
 text_line text = record { spaces = 0; text = text }
 
--- what a part that begins at a byte tells
+-- what a part that begins at a byte shows
 told-text : (bytes line rest : List ℕ) (p q : Point) → p.vs ≡ 0 → drop p.index bytes ≡ line ++ rest →
     q ≡ past_text line p → code.chunk_line bytes p q ≡ text_line line
 told-text bytes line rest p q whole stands end =
@@ -169,7 +169,7 @@ has-fence bytes line m p q is marks fence =
       blank = both.1;
     }
 
--- Where its markers stand.
+-- Where its markers are.
 record HasMarks (bytes line : List ℕ) (m : ℕ) (p q : Point) : Type 0 where
   pub stands : drop p.index bytes ≡ take 3 line ++ (drop 3 line ++ drop q.index bytes)
   pub left : drop (marks_end line p).index bytes ≡ drop 3 line ++ drop q.index bytes
@@ -226,7 +226,7 @@ has-marks bytes line m p q h =
           (omega (arith, size)));
     }
 
--- what stands in it
+-- what is in it
 abbrev pub fence_inside : List ℕ → Point → Point → List Event
 fence_inside line p q =
     pair n.FrontmatterSequence p (marks_end line p) ++ part_over n.SpaceOrTab (drop 3 line) (marks_end line p) q
@@ -250,7 +250,7 @@ fence-stretch bytes line m p q h =
     (over-stretch IsPart bytes n.SpaceOrTab (drop 3 line) (drop q.index bytes) end q (white-piece IsPart bytes tt)
     marks.left marks.ends (begins-cut n.SpaceOrTab end refl) h.blank) (λ first last. marks.low))
 
--- whitespace behind the markers, or none
+-- whitespace after the markers, or none
 white-leads : (text : Expression) (line : List ℕ) (p q : Point) →
     (left : Expression) × Leads text (behind n.FrontmatterSequence (inside text n.FrontmatterFence) ∷ []) (left ∷ [])
     (part_over n.SpaceOrTab line p q) × (may_end left ≡ true)
@@ -277,7 +277,7 @@ fence-word text x line p q =
       ends = white.2;
     })
 
--- what holds with whitespace behind the markers and without
+-- what holds with whitespace after the markers and without
 fence-by : (P : List Event → Type 0) (line : List ℕ) (p q : Point) →
     P (around n.FrontmatterFence p q (pair n.FrontmatterSequence p (marks_end line p) ++ [])) →
     P

@@ -85,7 +85,7 @@ over (c ∷ cs) p q = pair n.FrontmatterChunk p q
 
 -- A fence.
 
--- behind its markers and its whitespace
+-- after its markers and its whitespace
 abbrev pub fence_done : List ℕ → Here → Here
 fence_done line h =
     let q = past_text (take 3 line) h.point in
@@ -96,7 +96,7 @@ fence_done line h =
       scratch = without_size h.scratch;
     }
 
--- where the line ends, whitespace may stand in front
+-- where the line ends, whitespace may be in front
 white-over : (said : Line) (behind : List Cell → Here → Outcome) (line : List ℕ) (stop : List Cell) (h : Here) →
     is_blank line ≡ true → NoEnding line → Stops stop → 1 ≤ h.point.column → calmed h.scratch ≡ h.scratch →
     length (spread said line h.point ++ stop) < 2 ^ 63 →
@@ -385,7 +385,7 @@ content-line said line stop h bare k one =
     ∙ ap (λ (es : List Event). behind_line stop (record h { events = h.events ++ es; point = q }))
     (over-line said line h.point q)
 
--- A line in front of which one stands: the closing fence, or one between.
+-- A line before which one is: the closing fence, or one between.
 pub one-line : (said : Line) (line : List ℕ) (stop : List Cell) (h : Here) →
     is_marker h.scratch.marker ≡ true → h.scratch.size ≡ 0 → calmed h.scratch ≡ h.scratch → NoEnding line → Stops stop →
     1 ≤ h.point.column → length (spread said line h.point ++ stop) < 2 ^ 63 →

@@ -1,4 +1,4 @@
--- What is known of the events in front of the lines of a text: its mark, its frontmatter, and the ending behind that.
+-- What is known of the events before the lines of a text: its mark, its frontmatter, and the ending after that.
 use Rattle.std.proofs.Common.{◌≡◌, ℕ, ◌≤◌, Bool, true, false, cond, ◌||◌, List, [], ◌∷◌, ◌++◌}
 use Rattle.std.proofs.Common.{length, map, Option, Some, None, refl, sym, ◌∙◌, ap, subst, arith, append_assoc}
 use Rattle.std.proofs.Common.{append-nil, ap₂, nat_lt, slice_range, take}
@@ -45,7 +45,7 @@ use Rattle.md_frame.proofs.EndingFacts.{stretch-ended}
 use Rattle.md_frame.proofs.EventNames.{NoContainer, part-no_container}
 use Rattle.md_frame.proofs.Stretch.{Stretch, stretch-append, stretch-around, stretch-as, stretch-none, stretch-pair}
 
--- Events in front of the lines, from a point to a point, whatever they are read as.
+-- Events before the lines, from a point to a point, whatever they are read as.
 pub record FrontPart (bytes : List ℕ) (p q : Point) (es : List Event) : Type 0 where
   pub stretch : Stretch NoContainer bytes p q es es
   pub first : is_between bytes p.index ≡ true
@@ -53,7 +53,7 @@ pub record FrontPart (bytes : List ℕ) (p q : Point) (es : List Event) : Type 0
   pub stands : StandsTo bytes (among []) (among []) es
   pub plain : ArePlain bytes es
 
--- it stands between characters
+-- it is between characters
 pub part-between : (bytes : List ℕ) (p q : Point) (es : List Event) → FrontPart bytes p q es → AreBetween bytes es
 part-between bytes p q es h = h.stretch.between h.first h.last
 
@@ -76,7 +76,7 @@ part-append bytes p q r xs ys h k = record {
   plain = plain-append bytes xs ys h.plain k.plain;
 }
 
--- The ending behind frontmatter.
+-- The ending after frontmatter.
 ending-part : (bytes : List ℕ) (p q : Point) → p.vs ≡ 0 → is_between bytes p.index ≡ true →
     is_between bytes q.index ≡ true → IsEnding bytes p q → FrontPart bytes p q (pair n.LineEnding p q)
 ending-part bytes p q whole first last is = record {
@@ -173,14 +173,14 @@ mark-part bytes = go (has_mark bytes) refl
           plain = plain-quiet bytes mark (tt, (tt, tt));
         }
 
--- What stands in front of the lines.
+-- What is before the lines.
 
--- the blocks in front of those of the lines
+-- the blocks before those of the lines
 abbrev pub block_first : Option Block → Blocks
 block_first None = End
 block_first (Some b) = More b End
 
--- what stands there ends with a line, or the text ends with it
+-- what is there ends with a line, or the text ends with it
 pub data Leaves (bytes : List ℕ) (p : Point) (es : List Event) : Type 0 where
   ToLine : Leads line_start line_start es →
       ((text : Expression) → IsText text → (more : List Event) →
@@ -240,7 +240,7 @@ front-form text events x h = go x h
         (or_right (whole marked) (whole two || (whole three || false))
         (or_right (whole two) (whole three || false) (or_left (whole three) false h)))
 
--- the mark leaves what stands behind it
+-- the mark leaves what follows it
 mark-leads : (bytes : List ℕ) → Leads line_start line_start (mark_events bytes)
 mark-leads bytes = go (has_mark bytes)
   where
@@ -308,7 +308,7 @@ ending-leads z r = λ ys. refl
 body-clear : (bytes : List ℕ) → clear bytes (mark_point bytes) ≡ true
 body-clear bytes = whole-clear bytes (mark_point bytes) (body-vs bytes)
 
--- and what stands behind it
+-- and what follows it
 pub front-fronted : (bytes : List ℕ) (texts : List (List ℕ)) (es : List Event) (z q : Point) (tail : List Event) →
     (is : IsFront bytes (mark_point bytes) texts es z) → z.vs ≡ 0 → z.index ≤ length bytes → Tail bytes z q tail →
     IsFronted bytes (Some (Frontmatter is.m texts)) q

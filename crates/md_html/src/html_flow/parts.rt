@@ -1,4 +1,4 @@
-// What the states of HTML share: bytes of tags, the byte with which the end of a kind begins, and how they go on.
+// What the states of HTML share: bytes of tags, the byte with which the end of a kind begins, and how they continue.
 
 ghost use Rattle.std.specs.Prelude.{◌≡◌, ◌≢◌, ◌<◌, length};
 ghost use Rattle.md_meaning.specs.Leaves as definition;
@@ -110,7 +110,7 @@ pub fn is_value_byte(byte: u8) -> bool
     )
 }
 
-/// Whether a byte of a tag name stands here,
+/// Whether a byte of a tag name is here,
 pub fn sees_tag_byte(current: Option<u8>) -> bool
     ensures { result ≡ sees_tag_byte current }
 {
@@ -169,7 +169,7 @@ pub fn refuse(tokenizer: &mut Tokenizer) -> State
     State::Nok
 }
 
-/// The kind is known: it goes on here,
+/// The kind is known: it continues here,
 pub fn begin_here(tokenizer: &mut Tokenizer, kind: HtmlKind, state: HtmlState) -> State
     ensures to { result ≡ (moved (world tokenizer.old) (turns_as kind state (world tokenizer.old).scratch)).to }
     ensures world { world tokenizer.new ≡
@@ -180,7 +180,7 @@ pub fn begin_here(tokenizer: &mut Tokenizer, kind: HtmlKind, state: HtmlState) -
     State::Retry(StateName::HtmlFlow(state))
 }
 
-/// or behind what stands here.
+/// or after what is here.
 pub fn begin_behind(tokenizer: &mut Tokenizer, kind: HtmlKind, state: HtmlState) -> State
     requires { (world tokenizer.old).point.index < length (world tokenizer.old).setting.bytes }
     ensures to { result ≡ (moved (world tokenizer.old) (takes_as kind state (world tokenizer.old).scratch)).to }
@@ -193,7 +193,7 @@ pub fn begin_behind(tokenizer: &mut Tokenizer, kind: HtmlKind, state: HtmlState)
     State::Next(StateName::HtmlFlow(state))
 }
 
-/// The end stands here: the block ends with its line.
+/// The end is here: the block ends with its line.
 pub fn shut(tokenizer: &mut Tokenizer) -> State
     requires { (world tokenizer.old).point.index < length (world tokenizer.old).setting.bytes }
     ensures to { result ≡ (moved (world tokenizer.old) (shut (world tokenizer.old).scratch)).to }
@@ -215,7 +215,7 @@ pub fn clear_to(tokenizer: &mut Tokenizer, state: HtmlState) -> State
     State::Retry(StateName::HtmlFlow(state))
 }
 
-/// Takes what stands here, and goes on at a state, at rest.
+/// Takes what is here, and continues at a state, at rest.
 pub fn take_clear_to(tokenizer: &mut Tokenizer, state: HtmlState) -> State
     requires { (world tokenizer.old).point.index < length (world tokenizer.old).setting.bytes }
     ensures to { result ≡ State.Next (StateName.HtmlFlow state) }
@@ -227,7 +227,7 @@ pub fn take_clear_to(tokenizer: &mut Tokenizer, state: HtmlState) -> State
     State::Next(StateName::HtmlFlow(state))
 }
 
-/// At the end of a line: what stood on it ends.
+/// At the end of a line: what was on it ends.
 pub fn end_data(tokenizer: &mut Tokenizer) -> State
     ensures to { result ≢ State.Error → result ≡ (data_ended (world tokenizer.old)).to }
     ensures world { result ≢ State.Error → world tokenizer.new ≡ (data_ended (world tokenizer.old)).world }

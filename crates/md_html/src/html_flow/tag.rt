@@ -1,4 +1,4 @@
-// The rest of a complete tag (CommonMark 6.6), behind its name: its attributes, its end, and nothing but whitespace.
+// The rest of a complete tag (CommonMark 6.6), after its name: its attributes, its end, and nothing but whitespace.
 
 ghost use Rattle.std.specs.Prelude.{◌≡◌};
 ghost use Rattle.md_html.specs.HtmlRule.{HtmlMeans};
@@ -23,7 +23,7 @@ use md_engine::state::{Name as StateName, State};
 use md_engine::tokenizer::{HtmlKind, Tokenizer};
 use md_seam::space_or_tab::is_space_or_tab;
 
-/// Behind the name of a closing tag.
+/// After the name of a closing tag.
 ///
 /// ```markdown
 /// > | </x >
@@ -95,7 +95,7 @@ pub fn complete_attribute_name(tokenizer: &mut Tokenizer) -> State
     }
 }
 
-/// Behind it: whitespace may stand in front of `=`, or of another attribute.
+/// After it: whitespace may be before `=`, or of another attribute.
 ///
 /// ```markdown
 /// > | <a b=c>
@@ -204,7 +204,7 @@ pub fn complete_attribute_value_unquoted(tokenizer: &mut Tokenizer) -> State
     }
 }
 
-/// Behind a value in quotes.
+/// After a value in quotes.
 ///
 /// ```markdown
 /// > | <a b="c">
@@ -243,7 +243,7 @@ pub fn complete_end(tokenizer: &mut Tokenizer) -> State
     }
 }
 
-/// Behind a tag, where nothing but whitespace may stand.
+/// After a tag, where nothing but whitespace may be.
 ///
 /// ```markdown
 /// > | <x>

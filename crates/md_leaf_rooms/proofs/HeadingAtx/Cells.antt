@@ -1,4 +1,4 @@
--- A heading by the cells of its line: it stands where the line definition says, and adds what its bytes say.
+-- A heading by the cells of its line: it is where the line definition says, and adds what its bytes say.
 use Rattle.md_engine.specs.declared.tokenizer.held_leaf.HeldLeaf.TheVariants as held_leaf
 use Rattle.std.proofs.Common.{◌≡◌, ℕ, zero, suc, ◌^◌, ◌<◌, ◌≤◌, Bool, true, false, cond, List, [], ◌∷◌, ◌++◌, length}
 use Rattle.std.proofs.Common.{refl, sym, ap, ◌∙◌, subst, arith, ◌+◌, ◌-◌, ◌&&◌, append_assoc, append-nil, length-append}
@@ -42,7 +42,7 @@ use Rattle.md_frame.proofs.MarkRuns.Fits.{Tells, line-fits}
 use Rattle.md_frame.proofs.RestFacts.{Indented, rest-line_end, rest-no_ending, rest-same, rest-trim, small-indented}
 use Rattle.md_frame.proofs.TextBehind.{whole-rest}
 
--- Where it stands.
+-- Where it is.
 
 -- `#` at the front of bytes: one more, and none
 hash-one : (b : ℕ) (bs : List ℕ) → (b == 35) ≡ true → run_len 35 (b ∷ bs) ≡ suc (run_len 35 bs)
@@ -51,7 +51,7 @@ hash-one b bs e = rw e (omega arith)
 hash-none : (b : ℕ) (bs : List ℕ) → (b == 35) ≡ false → run_len 35 (b ∷ bs) ≡ 0
 hash-none b bs e = rw e refl
 
--- an opening run goes on behind one more, and ends at another byte
+-- an opening run continues after one more, and ends at another byte
 opening-hash : (n b : ℕ) (bs : List ℕ) → (b == 35) ≡ true → is_opening n (b ∷ bs) ≡ is_opening (n + 1) bs
 opening-hash n b bs e =
     let k = run_len 35 bs in
@@ -91,7 +91,7 @@ no_tab line b bs p e =
     (cond t (tab_cells line (columns_more p) 9 p) (cell b (past_byte b p) line ∷ [])
     ++ spread line bs (past_byte b p))) e
 
--- an opening run goes on in the cells as in the bytes
+-- an opening run continues in the cells as in the bytes
 opening-spread : (n : ℕ) (line : Line) (bytes : List ℕ) (p : Point) →
     is_opening n (bytes_of (spread line bytes p)) ≡ is_opening n bytes
 opening-spread n line [] p = refl
@@ -140,7 +140,7 @@ heading-tells = record {
     other : (b : ℕ) → is_white b ≡ true → (b == 35) ≡ false
     other b e = grind (arith, nat_tests)
 
--- A heading stands on the cells of the rest of a line where the line definition has one.
+-- A heading is on the cells of the rest of a line where the line definition has one.
 pub heading-fits : (options : ParseOptions) (said : Line) (text behind : List ℕ) (r : Rest) (p : Point)
     (stop : List Cell) →
     RestAt text behind r p → NoEnding r.bytes → Stops stop → length (rest_cells said r p ++ stop) < 2 ^ 63 →
@@ -209,14 +209,14 @@ white-taken (suc room) (c ∷ xs) rest p white e h =
       end = ap (λ (t : Bool). cond t (white_end room (xs ++ rest) c.after) p) white.0 ∙ more.end;
     }
 
--- a line goes on without whitespace by its cells where it does by its bytes
+-- a line continues without whitespace by its cells where it does by its bytes
 spread-dark : (said : Line) (bytes : List ℕ) (p : Point) (stop : List Cell) → begins is_white bytes ≡ false →
     Stops stop → begins_white (spread said bytes p ++ stop) ≡ false
 spread-dark said [] p stop e k = stops-white stop k
 spread-dark said (b ∷ bs) p stop e k =
     ap (λ (l : List Cell). begins_white ((l ++ spread said bs (past_byte b p)) ++ stop)) (byte-one said b p e) ∙ e
 
--- so whitespace in front of other bytes is taken as a whole
+-- so whitespace before other bytes is taken as a whole
 spread-taken : (room : ℕ) (said : Line) (white bytes : List ℕ) (p : Point) (stop : List Cell) →
     AllPass is_white white → begins is_white bytes ≡ false → Stops stop → 1 ≤ p.column →
     let rest = spread said bytes (past_text white p) ++ stop in
@@ -262,7 +262,7 @@ white-events said (b ∷ bs) bytes p stop some none are dark k same =
     (spread-white said b bs p (spread said bytes q ++ stop) (pass-first is_white b bs are))
     ∙ ap (λ (es : List Event). es ++ some) (sym (white-runs b bs p are))
 
--- The text, behind a byte.
+-- The text, after a byte.
 text-inside : (said : Line) (bytes : List ℕ) (p : Point) (stop : List Cell) → NoEnding bytes → Stops stop →
     p.vs ≡ 0 → 1 ≤ p.column → text_inside (spread said bytes p ++ stop) p ≡ text_events bytes p
 text-inside said bytes p stop none k whole one =
@@ -279,7 +279,7 @@ text-inside said bytes p stop none k whole one =
     here : ((p.vs == 0) && (p.index == whole_from p)) ≡ true
     here = rw whole (grind (arith, nat_tests))
 
--- Behind the opening sequence.
+-- After the opening sequence.
 gap-inside : (said : Line) (gap bytes : List ℕ) (p : Point) (stop : List Cell) → AllPass is_white gap →
     begins is_white bytes ≡ false → NoEnding bytes → Stops stop → p.vs ≡ 0 → 1 ≤ p.column →
     length (spread said gap p ++ (spread said bytes (past_text gap p) ++ stop)) ≤ any_size →
@@ -375,7 +375,7 @@ sequence-inside said (b ∷ bs) bytes p stop some are other k =
     ap (λ (es : List Event). enter HeadingAtxSequence p ∷ es) (hashes-inside said (b ∷ bs) bytes p stop are other k)
     ∙ ap (λ (es : List Event). es ++ gap_inside (spread said bytes q ++ stop) q) (sym (hash-runs b bs p are))
 
--- What stands in a heading, where its indent may be so large.
+-- What is in a heading, where its indent may be so large.
 abbrev front_inside : ℕ → List Cell → Point → List Event
 front_inside room cells p =
     let q = white_end room cells p in
@@ -393,7 +393,7 @@ dark-same : (room : ℕ) (said : Line) (at : Point) (cs : List Cell) →
 dark-same zero said at cs = refl
 dark-same (suc room) said at cs = refl
 
--- By the cells of a line the same stands in it as by its bytes.
+-- By the cells of a line the same is in it as by its bytes.
 front-inside : (room : ℕ) (said : Line) (line : List ℕ) (p : Point) (stop : List Cell) → NoEnding line → Stops stop →
     1 ≤ p.column → begins_white (white_rest room (spread said line p ++ stop)) ≡ false →
     length (spread said line p ++ stop) ≤ any_size → is_heading (trim_start line) ≡ true →
@@ -429,7 +429,7 @@ front-inside room said line p stop none k one room_is short heading =
     p3 : Point
     p3 = past_text x.gap p2
 
-    -- behind the indent
+    -- after the indent
     left : List Cell
     left = spread said (x.hashes ++ (x.gap ++ text)) p1 ++ stop
 

@@ -1,4 +1,4 @@
--- No ending stands in a heading, and no begin or end of another leaf.
+-- No ending is in a heading, and no begin or end of another leaf.
 use Rattle.std.proofs.Common.{ℕ, List, ◌++◌, take, refl}
 use Rattle.std.specs.Prelude.{Option, Some, None}
 use Rattle.md_engine.specs.declared.event.Event.{Event}
@@ -12,7 +12,7 @@ use Rattle.md_seam.proofs.EndingsLemmas.{AreOthers, others-append}
 use Rattle.md_leaf_rooms.proofs.HeadingAtx.Places.{back_bytes, text_end}
 use Rattle.md_leaf_rooms.proofs.HeadingAtx.Runs.{runs-each}
 
--- what stands around the text of a heading
+-- what is around the text of a heading
 closes-others : (run : heading.Run) (p : Point) → AreOthers (heading.closes run p)
 closes-others heading.Apart p = refl
 closes-others heading.White p = refl
@@ -33,7 +33,7 @@ runs-others run xs p =
       next = λ b q h. tt;
     }) run xs p tt
 
--- what stands in a heading, with its text
+-- what is in a heading, with its text
 pub title-others : (line : List ℕ) (p : Point) (text : List Event) → AreOthers text →
     AreOthers ((title_of line p).front ++ text ++ (title_of line p).back)
 title-others line p text h =

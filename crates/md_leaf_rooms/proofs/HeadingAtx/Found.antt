@@ -10,7 +10,7 @@ use Rattle.md_meaning.specs.Rest.{Rest, has_small_indent, is_parted, run_len, tr
 use Rattle.md_leaf_rooms.specs.Leaf.HeadingAtx.{heading_block, heading_leaf}
 use Rattle.md_outline.specs.HeadingDepths.{is_shallow}
 
--- a heading starts where its leaf says, and comes to its block
+-- a heading starts where its leaf says, and becomes its block
 pub heading-found : (options : ParseOptions) (r : Rest) →
     heading_at options r ≡ cond (heading_leaf.starts options held_leaf.None r) (Some (Finished (heading_block r))) None
 unfolding heading_at

@@ -1,4 +1,4 @@
--- The runs around the text of a heading stand over their bytes.
+-- The runs around the text of a heading are over their bytes.
 use Rattle.std.proofs.Common.{◌≡◌, ℕ, Bool, true, false, ◌||◌, List, [], ◌∷◌, ◌++◌, length, drop, refl, ap, sym, subst}
 use Rattle.std.proofs.Common.{arith}
 use Rattle.std.specs.Prelude.{◌==◌, nat_le}
@@ -27,7 +27,7 @@ heading_run Apart = heading.Apart
 heading_run Marks = heading.Hashes
 heading_run White = heading.White
 
--- where no text stands, the runs of a heading are of `#` and whitespace
+-- where no text is, the runs of a heading are of `#` and whitespace
 hashes-are : (run : Run) (xs : List ℕ) (p : Point) → AreMarks 35 xs →
     line_runs (heading_run run) xs p ≡ mark_runs n.HeadingAtxSequence run 35 xs p
 hashes-are Apart [] p h = refl

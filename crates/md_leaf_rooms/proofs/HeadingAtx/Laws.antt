@@ -33,7 +33,7 @@ use Rattle.md_frame.proofs.LeafLaws.{LeafLaws}
 use Rattle.md_frame.proofs.LeafLines.Leaf.{leaf-around}
 use Rattle.md_frame.proofs.RestFacts.{rest-trim}
 
--- the line of a heading begins with its markers, behind whitespace
+-- the line of a heading begins with its markers, after whitespace
 line-begins : (options : ParseOptions) (r : Rest) → heading_leaf.starts options held_leaf.None r ≡ true →
     is_heading (trim_start (rest_line r)) ≡ true
 line-begins options r starts =

@@ -61,7 +61,7 @@ data-each : (P : Event → Type 0) → OfNames P → (text : Option Chunk) → E
 data-each P of None = tt
 data-each P of (Some chunk) = (of.chunk _ refl, (of.chunk _ refl, tt))
 
--- and of what stands around these events
+-- and of what is around these events
 title-each : (P : Event → Type 0) → OfNames P → (line : List ℕ) (p : Point) (text : List Event) → Each P text →
     Each P ((title_of line p).front ++ text ++ (title_of line p).back)
 title-each P of line p text h =

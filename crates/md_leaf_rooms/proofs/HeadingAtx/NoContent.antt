@@ -1,4 +1,4 @@
--- No content stands in a heading, and its links are to text.
+-- No content is in a heading, and its links are to text.
 use Rattle.md_engine.specs.declared.tokenizer.held_leaf.HeldLeaf.TheVariants as held_leaf
 use Rattle.std.proofs.Common.{◌≡◌, ℕ, Bool, true, false, cond, ◌&&◌, ◌==◌, List, [], ◌∷◌, ◌++◌, drop, length, refl, ap}
 use Rattle.std.specs.Prelude.{Option, Some, None, take}
@@ -56,7 +56,7 @@ data-no_content wants w None = tt
 data-no_content wants w (Some chunk) =
     (ap (λ (x : Bool). cond x (Some content.Text) None) w, refl, (refl, refl, tt))
 
--- so it is in the text with what stands behind it
+-- so it is in the text with what follows it
 text-no_content : (wants : Content → Bool) → wants content.Text ≡ false → (line : List ℕ) (p : Point) →
     NoContent wants (text_events line p)
 text-no_content wants w line p =
@@ -79,7 +79,7 @@ inside-no_content : (wants : Content → Bool) → wants content.Text ≡ false 
     NoContent wants (heading.text_inside cells p)
 inside-no_content wants w cells p = from-no_content wants w p (text_begun p REST) (whole_line p cells)
 
--- behind the opening sequence
+-- after the opening sequence
 gap-no_content : (wants : Content → Bool) → wants content.Text ≡ false → (cells : List Cell) (p : Point) →
     NoContent wants (heading.gap_inside cells p)
 gap-no_content wants w cells p =

@@ -1,4 +1,4 @@
--- Events outside of headings: the resolver of headings passes them, and what is in front of a line is such.
+-- Events outside of headings: the resolver of headings passes them, and what is before a line is such.
 use Rattle.std.proofs.Common.{◌≡◌, true, false, List, [], ◌∷◌, ◌++◌, refl, ap}
 use Rattle.md_engine.specs.declared.event.Event.{Event}
 use Rattle.md_engine.specs.declared.event.Name.{Name}

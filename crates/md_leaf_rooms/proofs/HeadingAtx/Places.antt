@@ -1,4 +1,4 @@
--- Where the parts of a heading stand, on its line and in a text.
+-- Where the parts of a heading are, on its line and in a text.
 use Rattle.std.proofs.Common.{◌≡◌, ℕ, ◌+◌, List, ◌++◌, length, take, drop, ap, sym, ◌∙◌, subst, take-add}
 use Rattle.std.proofs.Common.{slice_range, arith}
 use Rattle.std.proofs.lemmas.List.{length-take-le, take-append-drop}
@@ -22,14 +22,14 @@ text_begin line p = past_text (take (front_len line) line) p
 abbrev pub text_end : List ℕ → Point → Point
 text_end line p = past_text (take (front_len line + length (text_of line)) line) p
 
--- the bytes of the text, and those behind it
+-- the bytes of the text, and those after it
 abbrev pub text_bytes : List ℕ → List ℕ
 text_bytes line = take (length (text_of line)) (drop (front_len line) line)
 
 abbrev pub back_bytes : List ℕ → List ℕ
 back_bytes line = drop (front_len line + length (text_of line)) line
 
--- the text ends behind its bytes, and the line behind those that are left
+-- the text ends after its bytes, and the line after those that are left
 pub text-end-is : (line : List ℕ) (p : Point) → text_end line p ≡ past_text (text_bytes line) (text_begin line p)
 text-end-is line p =
     ap (λ (l : List ℕ). past_text l p) (take-add (front_len line) (length (text_of line)) line)

@@ -63,7 +63,7 @@ plain-text bytes size p q hp hq = go (size == 0)
               (chunk-roles QuietOrEnding bytes chunk tt tt) tt);
         }
 
--- what stands in it
+-- what is in it
 plain-title : (bytes line : List ℕ) (p : Point) → clear bytes p ≡ true →
     ArePlain bytes (read_title bytes (title_of line p))
 plain-title bytes line p h =

@@ -5,7 +5,7 @@ use Rattle.md_engine.specs.declared.event.Point.{Point}
 use Rattle.md_leaves.specs.HeadingRuns.{Run, begun, closes, goes_on, line_runs, opens}
 use Rattle.md_seam.specs.Events.Places.{past_byte}
 
--- a fact of events that holds where runs begin and end at points of this kind, which all points behind a byte are
+-- a fact of events that holds where runs begin and end at points of this kind, which all points after a byte are
 pub record OfRuns (At : Point → Type 0) (P : List Event → Type 0) : Type 0 where
   pub append : (xs ys : List Event) → P xs → P ys → P (xs ++ ys)
   pub closes : (run : Run) (p : Point) → At p → P (closes run p)

@@ -42,7 +42,7 @@ use Rattle.md_frame.proofs.PieceFacts.{CutsFirst}
 use Rattle.md_frame.proofs.PlainRoles.{plain-roles}
 use Rattle.md_frame.proofs.RestFacts.{rest-trim}
 
--- how many bytes a run of `#` has, and the whitespace behind it
+-- how many bytes a run of `#` has, and the whitespace after it
 abbrev opening_by : ℕ → List ℕ → ℕ
 opening_by depth bs = depth + prefix_len is_white (drop depth bs)
 
@@ -53,7 +53,7 @@ opening_len bs = opening_by (run_len 35 bs) bs
 opening-more : (depth b : ℕ) (bs : List ℕ) → opening_by (suc depth) (b ∷ bs) ≡ suc (opening_by depth bs)
 opening-more depth b bs = omega arith
 
--- it goes on behind `#`, and is whitespace from another byte on
+-- it continues after `#`, and is whitespace from another byte on
 opening-hash : (b : ℕ) (bs : List ℕ) → (b == 35) ≡ true → opening_len (b ∷ bs) ≡ suc (opening_len bs)
 opening-hash b bs e =
     ap (λ (k : ℕ). opening_by k (b ∷ bs)) (count-one (λ (c : ℕ). c == 35) b bs e)
@@ -62,11 +62,11 @@ opening-hash b bs e =
 opening-other : (b : ℕ) (bs : List ℕ) → (b == 35) ≡ false → opening_len (b ∷ bs) ≡ prefix_len is_white (b ∷ bs)
 opening-other b bs e = ap (λ (k : ℕ). opening_by k (b ∷ bs)) (count-none (λ (c : ℕ). c == 35) b bs e) ∙ omega arith
 
--- the same behind an indent
+-- the same after an indent
 abbrev front_by : ℕ → List ℕ → ℕ
 front_by indent line = let depth = run_len 35 (drop indent line) in opening_by (indent + depth) line
 
--- it goes on behind whitespace, and begins at another byte
+-- it continues after whitespace, and begins at another byte
 front-white : (b : ℕ) (bs : List ℕ) → is_white b ≡ true → front_len (b ∷ bs) ≡ suc (front_len bs)
 front-white b bs e =
     let indent = prefix_len is_white bs in
@@ -83,7 +83,7 @@ front-other b bs e =
 
 -- Runs.
 
--- a run goes on with a byte, or another one begins with it
+-- a run continues with a byte, or another one begins with it
 run-goes : (run : Run) (b : ℕ) (bs : List ℕ) (p : Point) → goes_on run b ≡ true →
     line_runs run (b ∷ bs) p ≡ line_runs run bs (past_byte b p)
 run-goes run b bs p e =
@@ -101,7 +101,7 @@ run-turns run into b bs p e f =
     (closes run p ++ opens (runs.begun b) p ++ line_runs (runs.begun b) bs (past_byte b p))) e
     ∙ ap (λ (x : Run). closes run p ++ opens x p ++ line_runs x bs (past_byte b p)) f
 
--- a run of `#` goes on with `#`
+-- a run of `#` continues with `#`
 hash-goes : (b : ℕ) → (b == 35) ≡ true → goes_on Hashes b ≡ true
 hash-goes b e = ap (goes_on Hashes) (eqb-true b 35 e)
 
@@ -188,7 +188,7 @@ Gap Apart = Unit {0}
 Gap White = Unit {0}
 Gap _ = ⊥
 
--- it goes on with whitespace, and ends at the first marker
+-- it continues with whitespace, and ends at the first marker
 gap-white : (bytes : List ℕ) (r : Reading) (run : Run) (b : ℕ) (bs : List ℕ) (p : Point) → Gap run → is_white b ≡ true →
     read bytes r (line_runs run (b ∷ bs) p) ≡ read bytes r (line_runs White bs (past_byte b p))
 gap-white bytes r Apart b bs p gap e = ap (read bytes r) (run-turns Apart White b bs p refl (begun-white b e))
@@ -221,7 +221,7 @@ heading-first b bs h = go (b == 35) refl
 abbrev behind_white : List ℕ → Point → Point
 behind_white line p = past_text (take (prefix_len is_white line) line) p
 
--- the markers of a heading, and what stands around them
+-- the markers of a heading, and what is around them
 read-front : (bytes : List ℕ) (r : Reading) (run : Run) (line : List ℕ) (p : Point) → Gap run →
     is_heading (trim_start line) ≡ true → r.leaf ≡ Some (fresh OfHeadingAtx) →
     read bytes r (line_runs run (take (front_len line) line) p) ≡
@@ -261,7 +261,7 @@ read-front bytes r run (b ∷ bs) p gap h l = go (is_white b) refl (read-front b
         ∙ ap (λ (k : ℕ). marked r (slice_range bytes (byte_at p) k)) end
         ∙ ap to (sym none)
 
--- Behind the text.
+-- After the text.
 
 -- a further run of markers is a text
 abbrev text_in : Run → Point → Option Text
@@ -272,7 +272,7 @@ abbrev InRun : Run → Option Text → Type 0
 InRun Hashes text = (first : Point) × (text ≡ Some (begun first))
 InRun _ text = text ≡ None
 
--- so it is behind the begin of a run
+-- so it is after the begin of a run
 in-run : (run : Run) (p : Point) → InRun run (text_in run p)
 in-run Hashes p = (p, refl)
 in-run Apart p = refl
@@ -285,7 +285,7 @@ read-opens bytes r Hashes p t = refl
 read-opens bytes r Apart p t = ap (λ (x : Option Text). record r { text = x }) t
 read-opens bytes r White p t = ap (λ (x : Option Text). record r { text = x }) t
 
--- a run behind the first one of markers says nothing
+-- a run after the first one of markers says nothing
 read-closes : (bytes : List ℕ) (r : Reading) (heading : HeadingSoFar) (m : ℕ) (ms : List ℕ) (run : Run) (p : Point) →
     r.leaf ≡ Some (HeadingAtxLeaf heading) → heading.markers ≡ m ∷ ms → InRun run r.text →
     read bytes r (closes run p) ≡ record r { text = None }
@@ -432,7 +432,7 @@ record IsAt (bytes line : List ℕ) (p : Point) (end : ℕ) : Type 0 where
   text_whole : (past_text (take (front_len line) line) p).vs ≡ 0
   no_ending : NoEnding line
   heading : is_heading (trim_start line) ≡ true
-  -- where the text of the heading stands in it
+  -- where the text of the heading is in it
   title : IsTitle bytes line p
   fits : front_len line + length (text_of line) ≤ length line
 
@@ -455,7 +455,7 @@ markers-are bytes line p end is =
     ∙ ap length (slice-inside bytes line p.index end indent depth is.text is.size (omega (arith, fits)))
     ∙ length-prefix_len (λ (c : ℕ). c == 35) (trim_start line)
 
--- what stands in a heading is read as its markers and its text
+-- what is in a heading is read as its markers and its text
 read-inside : (bytes line : List ℕ) (p : Point) (end : ℕ) (r : Reading) → IsAt bytes line p end → r.text ≡ None →
     read bytes (record r { leaf = Some (fresh OfHeadingAtx) }) (read_title bytes (title_of line p)) ≡
     record r {
@@ -503,7 +503,7 @@ read-at bytes line p q end r is t l =
     ∙ ap (λ (x : List ℕ). add_block (Heading depth (heading_lines (heading_text x))) r)
     (sym (drop-drop depth indent line))
 
--- behind a byte no tab is cut
+-- after a byte no tab is cut
 taken-whole : (n : ℕ) (line : List ℕ) (p : Point) → (p.vs ≡ 0) ⊎ ((0 < n) × (0 < length line)) →
     (past_text (take n line) p).vs ≡ 0
 taken-whole n line p (inl whole) = past_text-whole (take n line) p whole

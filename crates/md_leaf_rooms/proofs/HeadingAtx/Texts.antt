@@ -10,7 +10,7 @@ use Rattle.md_leaves.proofs.TitleLemmas.{title-resolved}
 use Rattle.md_seam.specs.Events.Nested.{around, enter, exit}
 use Rattle.md_meaning.specs.Rest.{trim_start}
 
--- the resolver sets the text of a heading, and goes on behind it
+-- the resolver sets the text of a heading, and continues after it
 pub heading-resolved : (line : List ℕ) (p q : Point) (es : List Event) → heading.is_heading (trim_start line) ≡ true →
     headings_resolved (around n.HeadingAtx p q (flow_title (title_of line p)) ++ es) ≡
     around n.HeadingAtx p q (unread_title (title_of line p)) ++ headings_resolved es

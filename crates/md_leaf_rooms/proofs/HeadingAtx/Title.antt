@@ -1,4 +1,4 @@
--- What is known of the events that stand in a heading: its runs and its text, before it is read and once it is.
+-- What is known of the events that are in a heading: its runs and its text, before it is read and once it is.
 use Rattle.std.proofs.Common.{◌≡◌, ℕ, zero, suc, ◌+◌, ◌-◌, ◌<◌, ◌≤◌, true, false, List, [], ◌∷◌, ◌++◌, length, take}
 use Rattle.std.proofs.Common.{drop, refl, ap, sym, ◌∙◌, subst, append_assoc, drop-drop, arith}
 use Rattle.std.specs.Prelude.{◌==◌, nat_le, slice_index}
@@ -66,7 +66,7 @@ text-others bytes (b ∷ bs) rest p at =
 mark-low : (b : ℕ) → is_mark b ≡ true → is_low b ≡ true
 mark-low b h = grind (arith, nat_tests)
 
--- behind such bytes
+-- after such bytes
 between-past_marks : (bytes xs rest : List ℕ) (p : Point) → drop p.index bytes ≡ xs ++ rest → AllPass is_mark xs →
     is_between bytes p.index ≡ true → is_between bytes (past_text xs p).index ≡ true
 between-past_marks bytes [] rest p text marks h = h
@@ -79,7 +79,7 @@ between-past_marks bytes (b ∷ xs) rest p text marks h =
     (sym (ap (slice_index bytes) same ∙ at-next p.index bytes b (xs ++ rest) text))
     (mark-low b (pass-first is_mark b xs marks))))
 
--- and in front of them
+-- and before them
 between-at_marks : (bytes xs rest : List ℕ) (p : Point) → drop p.index bytes ≡ xs ++ rest → AllPass is_mark xs →
     is_between bytes (past_text xs p).index ≡ true → is_between bytes p.index ≡ true
 between-at_marks bytes [] rest p text marks h = h
@@ -88,16 +88,16 @@ between-at_marks bytes (b ∷ xs) rest p text marks h =
     (subst (λ (c : ℕ). is_low c ≡ true) (sym (at-next p.index bytes b (xs ++ rest) text))
     (mark-low b (pass-first is_mark b xs marks)))
 
--- What stands in a heading.
+-- What is in a heading.
 pub record TitleFacts (bytes line : List ℕ) (p : Point) : Type 0 where
   pub unread_starts : Starts (unread_title (title_of line p))
   pub starts : Starts (read_title bytes (title_of line p))
   pub stretch :
       Stretch IsPart bytes p (past_text line p) (unread_title (title_of line p)) (read_title bytes (title_of line p))
-  -- no ending stands in its text
+  -- no ending is in its text
   pub others : AreOthers (read_text bytes (title_of line p).text)
 
--- a tab that is cut in front of a line is cut in front of its first bytes
+-- a tab that is cut before a line is cut before its first bytes
 cuts-take : (p : Point) (k : ℕ) (line : List ℕ) → CutsFirst p line → CutsFirst p (take k line)
 cuts-take p zero line h = tt
 cuts-take p (suc k) [] h = tt
@@ -170,7 +170,7 @@ title-facts bytes r line p q is heading = record {
         let begins = front-some line heading in
         omega (arith, long, begins)
 
-    -- the text and what stands behind it
+    -- the text and what follows it
     behind : drop (front_len line) line ≡ text ++ back
     behind =
         sym (take-append-drop size (drop (front_len line) line))

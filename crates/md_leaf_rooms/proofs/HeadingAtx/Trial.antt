@@ -21,7 +21,7 @@ use Rattle.md_frame.proofs.FromEnding.{from_ending-again, from_ending-shrinks}
 use Rattle.md_frame.proofs.LeafLaws.{Shrinks, cond-shrinks, whole_line}
 use Rattle.md_frame.proofs.LeafStarts.{start-shrinks}
 
--- a line where another byte than `#` stands first behind whitespace holds no heading
+-- a line where another byte than `#` is first after whitespace holds no heading
 pub trial-looked : (options : ParseOptions) (cells : List Cell) (b : ℕ) → seen_behind cells ≡ Some b →
     may_begin b ≡ false → is_heading_line options cells ≡ false
 trial-looked options cells b seen e =

@@ -1,4 +1,4 @@
--- What stands in a heading keeps the grammar of events.
+-- What is in a heading keeps the grammar of events.
 use Rattle.std.proofs.Common.{◌≡◌, ℕ, Bool, true, false, List, [], ◌∷◌, ◌++◌, refl, sym, subst, append-nil}
 use Rattle.std.specs.Prelude.{Option, Some, None}
 use Rattle.md_engine.specs.declared.event.Event.{Event}
@@ -16,7 +16,7 @@ use Rattle.md_leaf_rooms.specs.Leaf.HeadingAtx.{read_text, read_title}
 use Rattle.md_frame.proofs.ChunkFacts.{chunk-word}
 use Rattle.md_leaves.proofs.HeadingGrammar.{title-word}
 
--- what stands there is a text, or nothing
+-- what is there is a text, or nothing
 abbrev IsHeadingText : Expression → List Event → Type 0
 IsHeadingText text events =
     (some : Bool) × ((x : Expression) → Leads text (x ∷ []) (maybe some n.HeadingAtxText x ∷ []) events)
@@ -37,7 +37,7 @@ read-text bytes (Some chunk) =
       λ x. leads-around plain_text x n.HeadingAtxText chunk.first chunk.after (plain_chunk bytes chunk ++ []) words,
     )
 
--- so what stands in the heading is a word of it, before its text is read and once it is
+-- so what is in the heading is a word of it, before its text is read and once it is
 pub unread-word : (line : List ℕ) (p : Point) → is_heading (trim_start line) ≡ true →
     IsWord unread_text (inside unread_text n.HeadingAtx ∷ []) (unread_title (title_of line p))
 unread-word line p h =

@@ -1,4 +1,4 @@
--- The bytes of the line of an underline: one run of its marker, and whitespace in front of it and behind.
+-- The bytes of the line of an underline: one run of its marker, and whitespace before it and after.
 use Rattle.std.proofs.Common.{◌≡◌, ℕ, Bool, true, false, List, [], ◌∷◌, ◌++◌, drop, refl, ap, sym, ◌∙◌, subst, arith}
 use Rattle.std.specs.Prelude.{◌==◌}
 use Rattle.std.specs.List.{list_all}
@@ -12,7 +12,7 @@ use Rattle.md_leaf_rooms.proofs.HeadingSetext.Kinds.{run-one, run-other, underli
 use Rattle.md_leaf_rooms.proofs.MarkRuns.Cells.{IsMark}
 use Rattle.md_leaf_rooms.proofs.MarkRuns.Line.{HasRun}
 
--- what is left of a run: markers, and whitespace behind them
+-- what is left of a run: markers, and whitespace after them
 record RunAhead (m : ℕ) (bs : List ℕ) : Type 0 where
   marks : List ℕ
   back : List ℕ

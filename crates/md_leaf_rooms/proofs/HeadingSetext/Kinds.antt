@@ -43,11 +43,11 @@ underline-first (m ∷ bytes) e = (and_parts (is_marker m) (is_run m (m ∷ byte
 
 -- Its run.
 
--- it goes on with the marker
+-- it continues with the marker
 pub run-one : (m b : ℕ) (bs : List ℕ) → (b == m) ≡ true → is_run m (b ∷ bs) ≡ is_run m bs
 run-one m b bs e = ap (λ (k : ℕ). is_blank (drop k (b ∷ bs))) (count-one (λ (c : ℕ). c == m) b bs e)
 
--- and behind it stands whitespace
+-- and after it is whitespace
 pub run-other : (m b : ℕ) (bs : List ℕ) → (b == m) ≡ false → is_run m (b ∷ bs) ≡ is_blank (b ∷ bs)
 run-other m b bs e = ap (λ (k : ℕ). is_blank (drop k (b ∷ bs))) (count-none (λ (c : ℕ). c == m) b bs e)
 
@@ -62,7 +62,7 @@ spread-dark : (line : Line) (b : ℕ) (bs : List ℕ) (p : Point) → is_white b
 spread-dark line b bs p dark =
     ap (λ (l : List Cell). bytes_of (l ++ spread line bs (past_byte b p))) (byte-one line b p dark)
 
--- it does not tell a tab from its columns
+-- it does not show a tab from its columns
 run-spread : (m : ℕ) (line : Line) (bytes : List ℕ) (p : Point) → is_white m ≡ false →
     is_run m (bytes_of (spread line bytes p)) ≡ is_run m bytes
 run-spread m line [] p dark = refl
@@ -91,7 +91,7 @@ underline-none : (bs : List ℕ) → is_marker (first_byte bs) ≡ false → is_
 underline-none [] e = refl
 underline-none (b ∷ bs) e = rw e refl
 
--- by its bytes it is told as the lines of leaves are
+-- by its bytes it is said as the lines of leaves are
 pub underline-tells : Tells is_underline
 underline-tells = record {
   spread_same = λ line bytes p. go line bytes p (is_marker (first_byte bytes)) refl;
@@ -115,7 +115,7 @@ underline-tells = record {
         ∙ run-spread m line bytes (past_byte m p) mark.dark
         ∙ sym (run-one m m bytes (eq-eqb m m refl)))
 
--- It stands on a line by its cells if it does by its rest.
+-- It is on a line by its cells if it does by its rest.
 pub setext-fits : (options : ParseOptions) (on : HeldLeaf) (said : Line) (text behind : List ℕ) (r : Rest) (p : Point)
     (stop : List Cell) →
     RestAt text behind r p → NoEnding r.bytes → Stops stop → length (rest_cells said r p ++ stop) < 2 ^ 63 →

@@ -11,7 +11,7 @@ use Rattle.md_leaf_rooms.proofs.HeadingSetext.Trial.{setext-looked, setext-refus
 use Rattle.md_frame.proofs.LeafLaws.{LeafLaws}
 use Rattle.md_frame.proofs.OutsideFacts.{LineResolver}
 
--- a line may go on a text
+-- a line may continue a text
 text-goes_on : (on : HeldLeaf) → is_text on ≡ true → may_go_on on ≡ true
 text-goes_on (held_leaf.Text at) e = refl
 text-goes_on _ e = cc
@@ -21,7 +21,7 @@ text-alone : (on : HeldLeaf) → is_text on ≡ true → (is_text on ≡ true �
 text-alone (held_leaf.Text at) e lines = let bad : false ≡ true = lines refl in cc
 text-alone _ e lines = cc
 
--- All that the frame asks of an underline: it goes on the text that it meets, and leaves no leaf open.
+-- All that the frame asks of an underline: it continues the text that it meets, and leaves no leaf open.
 pub setext-laws : (resolver : LineResolver) → LeafLaws resolver setext_leaf
 setext-laws resolver = record {
   looked = setext-looked;

@@ -54,7 +54,7 @@ use Rattle.md_frame.proofs.PlainFacts.{ArePlainFrom, known-around, known-none, p
 use Rattle.md_frame.proofs.RestFacts.{rest-trim}
 use Rattle.md_frame.proofs.SpannedFacts.{AreUnspanned, IsUnspanned}
 
--- what stands in it
+-- what is in it
 abbrev pub underline_parts : List ℕ → Point → List Event
 underline_parts line p = mark_runs n.HeadingSetextUnderlineSequence Apart (first_byte (trim_start line)) line p
 
@@ -63,7 +63,7 @@ pub underline-begins : (options : ParseOptions) (on : HeldLeaf) (r : Rest) → s
     is_underline (trim_start (rest_line r)) ≡ true
 underline-begins options on r starts = ap is_underline (rest-trim r) ∙ (setext-starts options on r starts).underline
 
--- Behind its indent its run stands, and whitespace behind that.
+-- After its indent its run is, and whitespace after that.
 parts-are : (line : List ℕ) (p : Point) → (is : is_underline (trim_start line) ≡ true) →
     underline_parts line p ≡
     run_parts n.HeadingSetextUnderlineSequence (underline-run line is).front (underline-run line is).marks
@@ -180,7 +180,7 @@ underline-stretch bytes r line p q at is =
 
 -- The grammar.
 
--- by whether whitespace stands in front and behind
+-- by whether whitespace is in front and after
 parts-word : (text : Expression) (front marks back : List ℕ) (p : Point) →
     IsWord text (inside text n.HeadingSetextUnderline ∷ [])
     (run_parts n.HeadingSetextUnderlineSequence front marks back p)
@@ -189,7 +189,7 @@ parts-word text [] marks (b ∷ back) p = record { left = _; leads = λ outer. r
 parts-word text (b ∷ front) marks [] p = record { left = _; leads = λ outer. refl; ends = refl }
 parts-word text (b ∷ front) marks (c ∷ back) p = record { left = _; leads = λ outer. refl; ends = refl }
 
--- what stands in it is a word of its name
+-- what is in it is a word of its name
 pub underline-word : (text : Expression) (line : List ℕ) (p : Point) → is_underline (trim_start line) ≡ true →
     IsWord text (inside text n.HeadingSetextUnderline ∷ []) (underline_parts line p)
 underline-word text line p is =
@@ -197,7 +197,7 @@ underline-word text line p is =
     subst (IsWord text (inside text n.HeadingSetextUnderline ∷ [])) (sym (parts-are line p is))
     (parts-word text run.front run.marks run.back p)
 
--- What an outline asks: it tells the markers of a heading behind its text.
+-- What an outline asks: it shows the markers of a heading after its text.
 
 -- whitespace is not shown
 blank-quiet : (bs : List ℕ) (p : Point) → Roles Quiet (blank_line bs p)
@@ -244,7 +244,7 @@ underline-plain bytes line p is whole =
       lines = passes-underline bytes n.HeadingSetextUnderlineSequence a b [] refl tt;
     }
 
--- What it is read as: its markers are told, of which the first tells the depth.
+-- What it is read as: its markers are said, of which the first shows the depth.
 
 -- the markers
 abbrev pub underline_marks : (line : List ℕ) → is_underline (trim_start line) ≡ true → List ℕ

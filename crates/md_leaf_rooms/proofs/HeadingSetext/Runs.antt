@@ -46,7 +46,7 @@ setext-each P around_it space mark options on cells p =
     (begins_white cells) (first_cell left) (line_cells left) p (white_end (small_indent options) cells p)
     (line_end cells p)
 
--- no content stands in it
+-- no content is in it
 pub setext-no_content : (wants : Content → Bool) (options : ParseOptions) (on : HeldLeaf) (cells : List Cell)
     (p : Point) →
     NoContent wants (setext_leaf.adds options on cells p)

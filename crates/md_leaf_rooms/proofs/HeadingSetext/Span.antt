@@ -1,4 +1,4 @@
--- An underline as a line of a leaf of several: it goes on the text that it meets, and so begins none.
+-- An underline as a line of a leaf of several: it continues the text that it meets, and so begins none.
 use Rattle.std.proofs.Common.{◌≡◌, ℕ, true, false, List, [], ◌∷◌, refl, sym, ap, ◌∙◌, subst, inr}
 use Rattle.std.specs.Prelude.{map}
 use Rattle.md_engine.specs.declared.configuration.ParseOptions.{ParseOptions}
@@ -19,13 +19,13 @@ use Rattle.md_leaf_rooms.proofs.HeadingSetext.Kinds.{setext-starts}
 use Rattle.md_leaf_rooms.proofs.HeadingSetext.Line.{underline-each}
 use Rattle.md_frame.proofs.SpanLaws.{IsBare, SpanLaws}
 
--- It goes on a text wherever it starts.
+-- It continues a text wherever it starts.
 pub setext-begins : (options : ParseOptions) (on : HeldLeaf) (r : Rest) → setext_leaf.starts options on r ≡ true →
     setext_leaf.further on ≡ false → ⊥
 setext-begins options on r starts begins =
     let bad : true ≡ false = sym (setext-starts options on r starts).text ∙ begins in cc
 
--- It stands bare: no block begins in it, and between two lines it stays as it is.
+-- It is bare: no block begins in it, and between two lines it stays as it is.
 
 -- no event is of a block
 each-no_blocks : (es : List Event) → Each (λ (e : Event). is_block (role e.name) ≡ false) es → NoBlocks es

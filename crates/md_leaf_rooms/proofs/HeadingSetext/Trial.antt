@@ -1,4 +1,4 @@
--- What the underline of a setext heading comes to, where it takes a line and where it refuses one.
+-- What the underline of a setext heading becomes, where it takes a line and where it refuses one.
 use Rattle.std.proofs.Common.{◌≡◌, ℕ, ◌≤◌, true, false, ◌&&◌, List, [], ◌∷◌, length, arith}
 use Rattle.std.specs.Prelude.{Some}
 use Rattle.std.proofs.lemmas.Bool.{and_right}
@@ -18,7 +18,7 @@ use Rattle.md_frame.proofs.FromEnding.{from_ending-again, from_ending-shrinks}
 use Rattle.md_frame.proofs.LeafLaws.{Shrinks, cond-shrinks, whole_line}
 use Rattle.md_frame.proofs.LeafStarts.{start-shrinks}
 
--- No underline stands where another byte than a marker stands first behind whitespace.
+-- No underline is where another byte than a marker is first after whitespace.
 pub setext-looked : (options : ParseOptions) (on : HeldLeaf) (cells : List Cell) (b : ℕ) → seen_behind cells ≡ Some b →
     may_begin b ≡ false → setext_leaf.takes options on cells ≡ false
 setext-looked options on cells b seen e =
@@ -31,14 +31,14 @@ pub setext-took : (options : ParseOptions) (cells : List Cell) (h : Here) → Is
     whole_line (setext_leaf.adds options h.flags.leaf cells h.point) held_leaf.None false cells h
 setext-took options cells h is e = whole.setext-took options cells h is e
 
--- and where none stands all is left as it was.
+-- and where none is all is left as it was.
 pub setext-refused : (options : ParseOptions) (cells : List Cell) (h : Here) → IsRest h.scratch →
     setext_leaf.takes options h.flags.leaf cells ≡ false → setext_at options cells h ≡ Refuses h.scratch h.flags
 setext-refused options cells h is e = whole.setext-refused options cells h is e
 
 -- What is left of a line.
 
--- behind the indent
+-- after the indent
 before_run-shrinks : (n : ℕ) (cells : List Cell) (h : Here) → length cells ≤ n → Shrinks n (before_run cells h)
 unfolding before_run
 before_run-shrinks n [] h le = tt

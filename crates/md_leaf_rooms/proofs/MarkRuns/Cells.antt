@@ -29,7 +29,7 @@ use Rattle.md_frame.specs.RestLine.{rest_line}
 use Rattle.md_frame.specs.MarkRuns.{Apart, Marks, Run, White, mark_runs}
 use Rattle.md_frame.proofs.RestFacts.{rest-line_end, rest-no_ending, rest-same, rest-trim, small-indented}
 
--- What may mark a run: no whitespace, and no ending of a line; and 0 stands for none.
+-- What may mark a run: no whitespace, and no ending of a line; and 0 represents none.
 pub record IsMark (m : ℕ) : Type 0 where
   pub dark : is_white m ≡ false
   pub no_ending : (m == 10) ≡ false
@@ -65,7 +65,7 @@ cell_runs name m run cells p = celled.mark_runs name (cell_run run) m cells p
 abbrev byte_runs : Name → ℕ → Run → List ℕ → Point → List Event
 byte_runs name m run bytes p = mark_runs name run m bytes p
 
--- in front of whitespace another run ends
+-- before whitespace another run ends
 abbrev mark_turns : Name → Run → Point → List Event → List Event
 mark_turns name Apart p es = enter n.SpaceOrTab p ∷ es
 mark_turns name Marks p es = exit name p ∷ enter n.SpaceOrTab p ∷ es
@@ -134,12 +134,12 @@ rest-runs name line m r p stop dark h k one cut =
 
 -- The indent is the first run.
 
--- a marker stands first
+-- a marker is first
 abbrev Marked : ℕ → List Cell → Type 0
 Marked m [] = ⊥
 Marked m (c ∷ cs) = (c.byte == m) ≡ true
 
--- in front of it whitespace ends
+-- before it whitespace ends
 marked-white : (name : Name) (m : ℕ) (c : Cell) (cs : List Cell) (p : Point) → IsMark m → (c.byte == m) ≡ true →
     celled.mark_runs name celled.White m (line_cells (c ∷ cs)) p ≡
     exit n.SpaceOrTab p ∷ celled.mark_runs name celled.Apart m (line_cells (c ∷ cs)) p
@@ -148,7 +148,7 @@ marked-white name m c cs p mark e = rw (no_ending c.byte e, e) refl
     no_ending : (b : ℕ) → (b == m) ≡ true → (b == 10) ≡ false
     no_ending b e = subst (λ (c : ℕ). (c == 10) ≡ false) (sym (eqb-true b m e)) mark.no_ending
 
--- so it is behind whitespace
+-- so it is after whitespace
 white-run : (name : Name) (m room : ℕ) (cells : List Cell) (p : Point) → IsMark m → Marked m (white_rest room cells) →
     celled.mark_runs name celled.White m (line_cells cells) p ≡
     exit n.SpaceOrTab (white_end room cells p)
@@ -171,7 +171,7 @@ white-run name m (suc room) (c ∷ cs) p mark h = go (is_white c.byte) refl h (w
     go true e h more = rw (white-no_ending c.byte e, white-other c.byte m e mark.dark) (more h)
     go false e h more = marked-white name m c cs p mark h
 
--- the indent and the runs behind it are all runs of the line
+-- the indent and the runs after it are all runs of the line
 indent-runs : (name : Name) (m room : ℕ) (cells : List Cell) (p : Point) → 1 ≤ room → IsMark m →
     Marked m (white_rest room cells) →
     cond (begins_white cells) (pair n.SpaceOrTab p (white_end room cells p)) []
@@ -236,7 +236,7 @@ spread-first line (b ∷ bs) p = go (b == 9) refl
         (cond t (tab_cells line (columns_more p) 9 p) (cell b (past_byte b p) line ∷ [])
         ++ spread line bs (past_byte b p)))) e
 
--- A whole line, behind a small indent: by its cells the runs are those by its bytes.
+-- A whole line, after a small indent: by its cells the runs are those by its bytes.
 pub line-adds : (name marks : Name) (options : ParseOptions) (said : Line) (text behind : List ℕ) (r : Rest) (p : Point)
     (stop : List Cell) →
     RestAt text behind r p → NoEnding r.bytes → Stops stop → length (rest_cells said r p ++ stop) < 2 ^ 63 →

@@ -1,4 +1,4 @@
--- A line with one run of markers, and whitespace in front of it and behind.
+-- A line with one run of markers, and whitespace before it and after.
 use Rattle.std.proofs.Common.{◌≡◌, ℕ, ◌<◌, Bool, true, false, ◌||◌, List, [], ◌∷◌, ◌++◌, length, drop}
 use Rattle.std.proofs.Common.{slice_range, refl, ap, sym, subst, ◌∙◌, append_assoc, arith}
 use Rattle.std.specs.Prelude.{◌==◌}
@@ -40,14 +40,14 @@ run_begin m line is p = past_text is.front p
 abbrev pub run_end : (m : ℕ) (line : List ℕ) → HasRun m line → Point → Point
 run_end m line is p = past_text is.marks (past_text is.front p)
 
--- What stands in it: whitespace, the markers, whitespace.
+-- What is in it: whitespace, the markers, whitespace.
 abbrev pub run_parts : Name → List ℕ → List ℕ → List ℕ → Point → List Event
 run_parts name front marks back p =
     let a = past_text front p in
     let b = past_text marks a in
     blank_line front p ++ (pair name a b ++ blank_line back b)
 
--- whitespace goes on over whitespace
+-- whitespace continues over whitespace
 white-more : (name : Name) (m : ℕ) (xs bs : List ℕ) (p : Point) → is_white m ≡ false → is_blank xs ≡ true →
     mark_runs name White m (xs ++ bs) p ≡ mark_runs name White m bs (past_text xs p)
 white-more name m [] bs p dark white = refl
@@ -63,7 +63,7 @@ white-ends name m (b ∷ xs) p dark white =
     let both = and_parts (is_white b) (is_blank xs) white in
     rw (white-other b m both.0 dark) (white-ends name m xs (past_byte b p) dark both.1)
 
--- markers go on over markers
+-- markers continue over markers
 marks-more : (name : Name) (m : ℕ) (xs bs : List ℕ) (p : Point) → list_all (λ b. b == m) xs ≡ true →
     mark_runs name Marks m (xs ++ bs) p ≡ mark_runs name Marks m bs (past_text xs p)
 marks-more name m [] bs p all = refl
@@ -71,7 +71,7 @@ marks-more name m (b ∷ xs) bs p all =
     let both = and_parts (b == m) (list_all (λ b. b == m) xs) all in
     rw both.0 (marks-more name m xs bs (past_byte b p) both.1)
 
--- and end in front of whitespace
+-- and end before whitespace
 marks-end : (name : Name) (m : ℕ) (xs : List ℕ) (p : Point) → is_white m ≡ false → is_blank xs ≡ true →
     mark_runs name Marks m xs p ≡ exit name p ∷ blank_line xs p
 marks-end name m [] p dark white = refl
@@ -81,7 +81,7 @@ marks-end name m (b ∷ xs) p dark white =
     (ap (λ (es : List Event). exit name p ∷ enter n.SpaceOrTab p ∷ es)
     (white-ends name m xs (past_byte b p) dark both.1))
 
--- the markers, and what stands behind them
+-- the markers, and what follows them
 marks-are : (name : Name) (m : ℕ) (marks back : List ℕ) (p : Point) → is_white m ≡ false →
     list_all (λ b. b == m) marks ≡ true → is_blank back ≡ true →
     mark_runs name Marks m (marks ++ back) p ≡ exit name (past_text marks p) ∷ blank_line back (past_text marks p)
@@ -99,7 +99,7 @@ first-marks name m (b ∷ marks) back p dark some all white =
     rw both.0
     (ap (λ (es : List Event). enter name p ∷ es) (marks-are name m marks back (past_byte b p) dark both.1 white))
 
--- behind whitespace
+-- after whitespace
 white-marks : (name : Name) (m : ℕ) (marks back : List ℕ) (p : Point) → is_white m ≡ false → 0 < length marks →
     list_all (λ b. b == m) marks ≡ true → is_blank back ≡ true →
     mark_runs name White m (marks ++ back) p ≡
@@ -140,7 +140,7 @@ run-first m line is = go is.marks is.some is.all
     go [] some all = absurd (omega arith)
     go (b ∷ marks) some all = eqb-true b m (and_parts (b == m) (list_all (λ b. b == m) marks) all).0
 
--- and stand between their begin and their end
+-- and are between their begin and their end
 pub run-text : (bytes : List ℕ) (m : ℕ) (line : List ℕ) (p : Point) (rest : List ℕ) → (is : HasRun m line) →
     drop p.index bytes ≡ line ++ rest →
     slice_range bytes (run_begin m line is p).index (run_end m line is p).index ≡ is.marks
@@ -198,7 +198,7 @@ all-marks m (b ∷ bs) h =
     let both = and_parts (b == m) (list_all (λ b. b == m) bs) h in
     (or_left (b == m) (is_white b) both.0, all-marks m bs both.1)
 
--- and both, one behind the other
+-- and both, one after the other
 marks-append : (m : ℕ) (xs ys : List ℕ) → AreMarks m xs → AreMarks m ys → AreMarks m (xs ++ ys)
 marks-append m [] ys h k = k
 marks-append m (b ∷ xs) ys h k = (h.0, marks-append m xs ys h.1 k)

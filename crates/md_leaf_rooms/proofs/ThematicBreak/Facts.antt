@@ -133,7 +133,7 @@ indent-marks m (b ∷ line) h = go (is_white b) refl (indent-marks m line) h
 marker-low : (b : ℕ) → is_rule_marker b ≡ true → is_low b ≡ true
 marker-low b h = grind (arith, nat_tests)
 
--- its runs may stand in a text
+-- its runs may be in a text
 rule-runs : (bytes : List ℕ) (m : ℕ) → is_rule_marker m ≡ true → AreRuns IsPart bytes n.ThematicBreakSequence m
 rule-runs bytes m mark = record {
   marker = rule-marker m mark;
@@ -145,7 +145,7 @@ rule-runs bytes m mark = record {
 
 -- The grammar.
 
--- a run that has begun, and what is left of a break behind it
+-- a run that has begun, and what is left of a break after it
 abbrev run_of : Bool → Run
 run_of true = Marks
 run_of false = White

@@ -10,7 +10,7 @@ use Rattle.md_leaf_rooms.specs.Leaf.ThematicBreak.{break_leaf}
 use Rattle.md_leaves.specs.HeadingSetext.{turns_nothing}
 use Rattle.md_leaves.specs.HeadingSetextRule.{is_underline}
 
--- where it meets no underline that has nothing to turn, a break starts where its leaf says, and comes to its block
+-- where it meets no underline that has nothing to turn, a break starts where its leaf says, and becomes its block
 pub break-found : (options : ParseOptions) (on : HeldLeaf) (r : Rest) →
     (has_small_indent options r && turns_nothing options on && is_underline (trim_start r.bytes)) ≡ false →
     break_at options r ≡ cond (break_leaf.starts options on r) (Some (Finished Break)) None

@@ -41,7 +41,7 @@ rule-first (m ∷ bytes) e =
     (nat_le 2 (count_by (λ b. b == m) bytes)) e).0 in
     (and_parts (is_rule_marker m) (list_all (λ b. (b == m) || is_white b) bytes) both).0
 
--- in front of it stands whitespace
+-- before it is whitespace
 pub first-behind : (b : ℕ) (bs : List ℕ) (m : ℕ) → first_byte (trim_start (b ∷ bs)) ≡ m → (b == m) ≡ false →
     first_byte (trim_start bs) ≡ m
 first-behind b bs m first other = go (is_white b) first
@@ -119,7 +119,7 @@ rule-tells = record {
     unmarked : (b : ℕ) → is_white b ≡ true → is_rule_marker b ≡ false
     unmarked b e = grind (arith, nat_tests)
 
--- A break stands on a line by its cells if it does by its rest.
+-- A break is on a line by its cells if it does by its rest.
 pub break-fits : (options : ParseOptions) (on : HeldLeaf) (said : Line) (text behind : List ℕ) (r : Rest) (p : Point)
     (stop : List Cell) →
     RestAt text behind r p → NoEnding r.bytes → Stops stop → length (rest_cells said r p ++ stop) < 2 ^ 63 →
@@ -131,7 +131,7 @@ break-fits options on said text behind r p stop is h k short =
     ∙ go options.constructs.thematic_break (has_small_indent options r) (is_rule (trim_start r.bytes))
     (turns_nothing options on) (is_underline (trim_start r.bytes))
   where
-    -- without a small indent neither stands
+    -- without a small indent neither is
     go : (a s b t u : Bool) → ((a && s && b) && not (t && s && u)) ≡ ((a && s && b) && not (t && u))
     go false s b t u = refl
     go true false b t u = refl

@@ -17,7 +17,7 @@ use Rattle.md_meaning.specs.Rest.{Rest, trim_start}
 use Rattle.md_leaves.specs.HeadingSetext.{turns_nothing}
 use Rattle.md_leaves.specs.HeadingSetextRule.{is_underline}
 
--- a rule stands where one starts
+-- a rule is where one starts
 ruled : (options : ParseOptions) (on : HeldLeaf) (r : Rest) → break_leaf.starts options on r ≡ true →
     is_ruled options r ≡ true
 ruled options on r starts =

@@ -52,7 +52,7 @@ break-each P around_it space mark options cells p =
     cell_line-holds P n.ThematicBreak n.ThematicBreakSequence around_it space mark (begins_white cells)
     (first_cell left) (line_cells left) p (white_end (small_indent options) cells p) (line_end cells p)
 
--- no content stands in it
+-- no content is in it
 pub break-no_content : (wants : Content → Bool) (options : ParseOptions) (cells : List Cell) (p : Point) →
     NoContent wants (break_leaf.adds options held_leaf.None cells p)
 break-no_content wants options cells p =

@@ -1,4 +1,4 @@
--- What a thematic break comes to, where it takes a line and where it refuses one.
+-- What a thematic break becomes, where it takes a line and where it refuses one.
 use Rattle.std.proofs.Common.{◌≡◌, ℕ, ◌≤◌, Bool, true, false, cond, List, [], ◌∷◌, ◌++◌, length, arith, refl, sym, ◌∙◌}
 use Rattle.std.proofs.Common.{ap, ap₂, append_assoc, Some}
 use Rattle.std.proofs.lemmas.Bool.{and_from, and_left, and_parts}
@@ -29,11 +29,11 @@ use Rattle.md_frame.proofs.FromEnding.{from_ending-again, from_ending-shrinks}
 use Rattle.md_frame.proofs.LeafStarts.{start-shrinks}
 use Rattle.md_frame.proofs.LeafLaws.{Shrinks, cond-shrinks, whole_line}
 
--- what stands in it behind its indent
+-- what is in it after its indent
 abbrev behind_indent : List Cell → Point → List Event
 behind_indent cells p = runs Apart (first_cell cells) (line_cells cells) p
 
--- whether a rule stands on these cells that is no underline with nothing to turn
+-- whether a rule is on these cells that is no underline with nothing to turn
 abbrev breaks : ParseOptions → HeldLeaf → List Cell → Bool
 breaks options on cells =
     is_rule (line_bytes cells) && not (turns_nothing options on && is_underline (line_bytes cells))
@@ -53,7 +53,7 @@ unmarked options [] h e = refl
 unmarked options (c ∷ cs) h e =
     ap (λ (x : Bool). cond x (broken Apart c.byte (c ∷ cs) h) (Refuses (without_marker h.scratch) h.flags)) e
 
--- the events of a break, behind those that were there
+-- the events of a break, after those that were there
 regroup : (es rs : List Event) (a d : Event) → (es ++ a ∷ []) ++ rs ++ d ∷ [] ≡ es ++ (a ∷ rs ++ d ∷ [])
 regroup es rs a d =
     ap (λ (xs : List Event). xs ++ d ∷ []) (append_assoc es (a ∷ []) rs) ∙ append_assoc es (a ∷ rs) (d ∷ [])
@@ -70,7 +70,7 @@ rest-marker s e = ap without_marker e ∙ sym e
 rest-white : (s : Scratch) → IsRest s → without_marker (calmed s) ≡ s
 rest-white s e = ap (λ (t : Scratch). without_marker (calmed t)) e ∙ sym e
 
--- A line where another byte than a marker stands first behind whitespace is no break.
+-- A line where another byte than a marker is first after whitespace is no break.
 pub break-looked : (options : ParseOptions) (on : HeldLeaf) (cells : List Cell) (b : ℕ) →
     seen_behind cells ≡ Some b → may_begin b ≡ false → break_leaf.takes options on cells ≡ false
 break-looked options on cells b seen e =
@@ -155,7 +155,7 @@ break-took options cells h is e = go (begins_white cells) refl
         at-none n.ThematicBreak _ (before_marker options) options cells h on s ∙ marked options cells at here'
         ∙ ap₂ (λ (xs : List Event) (t : Scratch). new xs p t (from_ending cells)) same (rest-marker h.scratch is)
 
--- and where none stands all is left as it was.
+-- and where none is all is left as it was.
 pub break-refused : (options : ParseOptions) (cells : List Cell) (h : Here) → IsRest h.scratch →
     break_leaf.takes options h.flags.leaf cells ≡ false → break_at options cells h ≡ Refuses h.scratch h.flags
 break-refused options cells h is e = by options.constructs.thematic_break refl

@@ -31,7 +31,7 @@ read_text bytes (Some chunk) =
 abbrev pub read_title : List ℕ → Title → List Event
 read_title bytes title = title.front ++ read_text bytes title.text ++ title.back
 
--- the heading behind the indent of a line
+-- the heading after the indent of a line
 abbrev pub heading_block : Rest → Block
 heading_block r =
     let text = trim_start r.bytes in

@@ -1,5 +1,5 @@
--- The underline of a setext heading (CommonMark 4.3), as a leaf on one line that goes on the text in front of it: with
--- it that text comes to a heading.
+-- The underline of a setext heading (CommonMark 4.3), as a leaf on one line that continues the text before it: with it
+-- that text becomes a heading.
 use Rattle.std.specs.Prelude.{ℕ, true, false, ◌&&◌, ◌==◌, if◌then◌else◌, List, []}
 use Rattle.md_engine.specs.declared.event.Event.{Event}
 use Rattle.md_engine.specs.declared.event.Name.TheVariants as n

@@ -32,7 +32,7 @@ abbrev pub first_cell : List Cell → ℕ
 first_cell [] = 0
 first_cell (c ∷ cs) = c.byte
 
--- whether a break stands here, with as much whitespace before it as there may be
+-- whether a break is here, with as much whitespace before it as there may be
 abbrev pub is_break : ParseOptions → List Cell → Bool
 is_break options cells =
     options.constructs.thematic_break && is_rule (line_bytes (white_rest (small_indent options) cells))
@@ -42,7 +42,7 @@ abbrev pub is_lost : ParseOptions → HeldLeaf → List Cell → Bool
 is_lost options on cells =
     turns_nothing options on && is_underline (line_bytes (white_rest (small_indent options) cells))
 
--- what stands in it: its indent, and its runs
+-- what is in it: its indent, and its runs
 abbrev pub break_inside : ParseOptions → List Cell → Point → List Event
 break_inside options cells p =
     let room = small_indent options in
@@ -63,7 +63,7 @@ break_line line p =
     around n.ThematicBreak p (past_text line p)
     (mark_runs n.ThematicBreakSequence mark.Apart (first_byte (trim_start line)) line p)
 
--- whether a break stands on a line of this rest, if that is no underline
+-- whether a break is on a line of this rest, if that is no underline
 abbrev pub is_ruled : ParseOptions → Rest → Bool
 is_ruled options r = options.constructs.thematic_break && has_small_indent options r && is_rule (trim_start r.bytes)
 

@@ -1,5 +1,5 @@
 -- A blank line where code was open, as the resolver that joins lines gives it: between two lines of code as it is, and
--- behind the code as whitespace, which shows no block.
+-- after the code as whitespace, which shows no block.
 use Rattle.std.proofs.Common.{◌≡◌, ℕ, Bool, true, false, cond, List, [], ◌∷◌, ◌++◌, refl, ◌∙◌, ap}
 use Rattle.std.specs.Prelude.{map, nat_lt, None}
 use Rattle.md_engine.specs.declared.event.Event.{Event}
@@ -33,15 +33,15 @@ use Rattle.md_frame.proofs.Stretch.{white-piece}
 pub blank-blocks : (r : Rest) (p q : Point) → NoBlocks (code_parts r p q)
 blank-blocks r p q = inside-blocks (code_parts r p q) (code-inside r p q)
 
--- What stands on a line with a part of this name, by whether whitespace comes first, and whether anything is left.
+-- What is on a line with a part of this name, by whether whitespace comes first, and whether anything is left.
 abbrev line_by : Name → Bool → List ℕ → Point → Point → Point → List Event
 line_by name white line p at q = cond white (pair n.SpaceOrTab p at) [] ++ part_over name line at q
 
--- Behind the code this is whitespace.
+-- After the code this is whitespace.
 abbrev pub blank_behind : Rest → Point → Point → List Event
 blank_behind r p q = lost_line n.SpaceOrTab 4 r p q
 
--- It has the name that its place gives it: between two lines of code it stays as it is, and behind them it is
+-- It has the name that its place gives it: between two lines of code it stays as it is, and after them it is
 -- whitespace.
 pub blank-placed : (place : Place) (r : Rest) (p q : Point) →
     map (renamed place) (code_parts r p q) ≡ lost_line (name_at place n.CodeFlowChunk) 4 r p q

@@ -67,7 +67,7 @@ code_further-fits options on said text behind r p stop is h k short =
     ∙ ap₂ (λ (blank some : Bool). is_code on && (blank || some)) (blank-cells said r p stop h k)
     (indented-same said text behind r p stop is k)
 
--- What is known of the rest of a first line: an indent, and text behind it.
+-- What is known of the rest of a first line: an indent, and text after it.
 pub record IsCodeRest (options : ParseOptions) (on : HeldLeaf) (r : Rest) : Type 0 where
   pub enabled : options.constructs.code_indented ≡ true
   pub indented : nat_le 4 (indent r) ≡ true
@@ -110,7 +110,7 @@ over-some name left p q e = go left.spaces left.bytes e
     go zero (b ∷ bs) h = refl
     go (suc k) bytes h = refl
 
--- a line of code has its four columns, and a chunk behind them
+-- a line of code has its four columns, and a chunk after them
 pub code-parts : (r : Rest) (p q : Point) → nat_le 4 (indent r) ≡ true → is_blank r.bytes ≡ false →
     code_parts r p q ≡
     (pair n.SpaceOrTab p (past_columns 4 r p) ++ pair n.CodeFlowChunk (past_columns 4 r p) q)

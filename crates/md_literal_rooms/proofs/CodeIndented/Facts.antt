@@ -1,4 +1,4 @@
--- What is known of what stands on a line of code, and on a blank line where code is open, inside of the code.
+-- What is known of what is on a line of code, and on a blank line where code is open, inside of the code.
 use Rattle.std.proofs.Common.{◌≡◌, ℕ, true, false, List, [], ◌∷◌, ◌++◌, refl, sym, subst}
 use Rattle.std.specs.Prelude.{nat_le}
 use Rattle.md_engine.specs.declared.event.Event.{Event}
@@ -37,11 +37,11 @@ pub parts-stretch : (bytes : List ℕ) (r : Rest) (p q : Point) → FurtherAt by
     Stretch IsPart bytes p q (code_parts r p q) (code_parts r p q)
 parts-stretch bytes r p q is = line-stretch bytes n.CodeFlowChunk 4 r p q code_chunk is
 
--- An outline is here in the code behind it.
+-- An outline is here in the code after it.
 abbrev pub code_site : Rest → Site
 code_site r = line_site OfCode (is_told_of (rest_line (lose 4 r)))
 
--- All of it, in front of which this is left of the grammar, and that behind it; it is read from this leaf to that.
+-- All of it, before which this is left of the grammar, and that after it; it is read from this leaf to that.
 parts-facts : (bytes : List ℕ) (r : Rest) (p q : Point) (x left : Expression) (from to : OpenLeaf) →
     FurtherAt bytes r p q → ((text : Expression) → Leads text (x ∷ []) (left ∷ []) (code_parts r p q)) →
     ReadsLeaf bytes from to (code_parts r p q) →
@@ -57,7 +57,7 @@ line-facts bytes r p q before is =
     parts-facts bytes r p q in_line (line_left r) (CodeLeaf (before ++ empty_line ∷ []))
     (CodeLeaf (before ++ code_line r ∷ [])) is (λ text. line-leads text r p q) (parts-read bytes r p q before is)
 
--- The first line has its four columns, and a chunk behind them.
+-- The first line has its four columns, and a chunk after them.
 abbrev pub first_parts : Rest → Point → Point → List Event
 first_parts r p q = pair n.SpaceOrTab p (past_columns 4 r p) ++ pair n.CodeFlowChunk (past_columns 4 r p) q
 

@@ -1,4 +1,4 @@
--- Where the line definition has indented code, and how it goes on.
+-- Where the line definition has indented code, and how it continues.
 use Rattle.std.proofs.Common.{◌≡◌, Bool, true, false, cond, ◌&&◌, List, Some, None, refl}
 use Rattle.std.specs.Prelude.{nat_le}
 use Rattle.md_engine.specs.declared.configuration.ParseOptions.{ParseOptions}
@@ -28,7 +28,7 @@ code-found options on against r free dark =
     (with-text (options.constructs.code_indented && is_free against && nat_le 4 (indent r))
     (code_leaf.comes options NoLeaf r))
 
--- Code that is open goes on where a further line of it does.
+-- Code that is open continues where a further line of it does.
 pub code-goes : (options : ParseOptions) (lines : List Line) (r : Rest) →
     goes_on options (OpenCode lines) r ≡
     cond (code_further.starts options held_leaf.Code r) (Some (code_further.comes options (OpenCode lines) r)) None

@@ -11,7 +11,7 @@ use Rattle.md_literal_rooms.specs.Leaf.CodeIndented.{code_parts}
 use Rattle.md_frame.proofs.ContainerNames.{TakesPrefixes}
 use Rattle.md_literal_rooms.proofs.IndentRemoved.Grammar.{left_over, lost-leads}
 
--- What is left of code, which has no text parts: at its begin, behind a line with something in it, and where a further
+-- What is left of code, which has no text parts: at its begin, after a line with something in it, and where a further
 -- line begins.
 abbrev pub code_begun : Expression
 code_begun = inside plain_text n.CodeIndented
@@ -22,12 +22,11 @@ behind_line = behind n.CodeFlowChunk (behind n.SpaceOrTab code_begun)
 abbrev pub in_line : Expression
 in_line = behind n.LineEnding behind_line
 
--- behind a line of it
+-- after a line of it
 abbrev pub line_left : Rest → Expression
 line_left r = left_over in_line behind_line (rest_line (lose 4 r))
 
--- An ending begins a further line, also behind an empty one; prefixes may stand in front of it, and code may end behind
--- any line.
+-- An ending begins a further line, also after an empty one; prefixes may be before it, and code may end after any line.
 pub line-ending : (line : List ℕ) → behind n.LineEnding (left_over in_line behind_line line) ≡ in_line
 line-ending [] = refl
 line-ending (b ∷ bs) = refl
@@ -39,7 +38,7 @@ line-ends (b ∷ bs) = refl
 pub line-takes : TakesPrefixes in_line
 line-takes = (refl, refl)
 
--- The first line has its four columns, and something behind them;
+-- The first line has its four columns, and something after them;
 pub first-leads : (text : Expression) (p at q : Point) →
     Leads text (code_begun ∷ []) (behind_line ∷ []) (pair n.SpaceOrTab p at ++ pair n.CodeFlowChunk at q)
 first-leads text p at q = λ outer. refl

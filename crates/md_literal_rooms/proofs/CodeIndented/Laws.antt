@@ -39,12 +39,12 @@ code-laws resolver = record {
   facts = λ ends options on bytes r p q starts is. absurd (cc);
 }
 
--- a line may go on open code
+-- a line may continue open code
 code-lines : (on : HeldLeaf) → is_code on ≡ true → may_go_on on ≡ true
 code-lines held_leaf.Code e = refl
 code-lines _ e = cc
 
--- and of a further line: it goes on the code that it meets.
+-- and of a further line: it continues the code that it meets.
 pub code_further-laws : (resolver : LineResolver) → LeafLaws resolver code_further
 code_further-laws resolver = record {
   looked = code_further-looked;

@@ -1,4 +1,4 @@
--- Lines of indented code, joined: a first line, and rows behind it that stand in the code.
+-- Lines of indented code, joined: a first line, and rows after it that are in the code.
 use Rattle.std.proofs.Common.{◌≡◌, ℕ, true, List, [], ◌∷◌, ◌++◌, refl, ◌∙◌, ap}
 use Rattle.std.specs.Prelude.{Some}
 use Rattle.md_engine.specs.declared.configuration.ParseOptions.{ParseOptions}
@@ -69,7 +69,7 @@ first-begins options bytes row is =
     ∙ but_end-is (enter n.CodeIndented row.first ∷ first_parts is.rest row.first row.end)
     (exit n.CodeIndented row.end)
 
--- All that the frame asks of it: it shows the block of all its lines, and on the last of them something stands.
+-- All that the frame asks of it: it shows the block of all its lines, and on the last of them something is.
 pub lines-facts : (options : ParseOptions) (bytes : List ℕ) (row : Row) (rows : List Row) →
     (is : IsLineOf options bytes code_leaf row) → (are : AreInCode bytes is.rest row rows) →
     LeafFacts bytes (Some (Code (code_line is.rest ∷ lines_behind bytes is.rest row rows are))) true row.first
@@ -121,7 +121,7 @@ lines-facts options bytes row rows is are =
     further =
         lines-further bytes r row rows are (code_line r ∷ []) behind_line (is_told_of (rest_line (lose 4 r))) refl refl
 
-    -- something stands on the last line, also in what is read of it
+    -- something is on the last line, also in what is read of it
     ends : Leads (in_leaf true) (in_leaf true) (es ++ framed_rest as_line row rows)
     ends =
         leads-append (in_leaf true) (in_leaf true) (in_leaf true) es (framed_rest as_line row rows)

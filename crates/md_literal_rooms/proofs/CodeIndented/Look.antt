@@ -1,5 +1,4 @@
--- One look at what stands here tells whether indented code may begin: whitespace stands in front of it, and any byte
--- behind that.
+-- One look at what is here shows whether indented code may begin: whitespace is before it, and any byte after that.
 use Rattle.std.proofs.Common.{◌≡◌, ℕ, Bool, true, false, cond, ◌&&◌, nat_le, List, Option, Some, None, refl, ◌∙◌, ap}
 use Rattle.std.specs.Option.{is_some}
 use Rattle.std.specs.Prelude.{not, slice_range}
@@ -30,14 +29,14 @@ code-looked options on cells b seen e =
     none true y = refl
     none false y = refl
 
--- Any byte may stand first on a further line.
+-- Any byte may be first on a further line.
 pub code_further-looked : (options : ParseOptions) (on : HeldLeaf) (cells : List Cell) (b : ℕ) →
     seen_behind cells ≡ Some b → code_further.may_begin on (begins_white cells) b ≡ false →
     code_further.takes options on cells ≡ false
 code_further-looked options on cells b seen e = cc
 
--- What stands first behind whitespace does not count, and where nothing stands that may be read, it is tried: so it is
--- told by what stands here alone.
+-- What is first after whitespace does not count, and where nothing is that may be read, it is tried: so it is known
+-- from what is here alone.
 pub code-may : (w : World) →
     may_with (code_leaf.may_begin w.flags.leaf (sees_white w.current)) (looks_behind w) ≡ may_with is_white w.current
 unfolding looks_behind

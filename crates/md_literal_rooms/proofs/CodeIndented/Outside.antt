@@ -1,4 +1,4 @@
--- Nothing stands on a line of code that a resolver rewrites, and no content.
+-- Nothing is on a line of code that a resolver rewrites, and no content.
 use Rattle.std.proofs.Common.{◌≡◌, ℕ, Bool, true, false, cond, List, [], ◌∷◌, refl, ap}
 use Rattle.std.specs.Prelude.{Some, None}
 use Rattle.md_engine.specs.declared.configuration.ParseOptions.{ParseOptions}
@@ -27,7 +27,7 @@ use Rattle.md_frame.proofs.EachEvent.{each-append}
 use Rattle.md_literal_rooms.proofs.IndentRemoved.Names.{AreInside, More, either-part, inside-lined, inside-no_content}
 use Rattle.md_frame.proofs.LinedFacts.{AreLined, IsLined}
 
--- On a blank line whitespace stands, and a part of a leaf.
+-- On a blank line whitespace is, and a part of a leaf.
 blank-inside : (cells : List Cell) (p : Point) → AreInside (blank_adds cells p)
 blank-inside cells p = λ P none more.
     either-part P more (begins_white cells) n.SpaceOrTab p (white_end 4 cells p) _ refl
@@ -47,7 +47,7 @@ either P false xs ys a b = b
 
 -- No part of it is rewritten.
 
--- Its names may stand in a leaf of several lines.
+-- Its names may be in a leaf of several lines.
 
 line-lined : (begin : Event) (r : Rest) (p q : Point) → IsLined begin → AreLined (line_parts begin r p q)
 line-lined begin r p q is = (
@@ -69,7 +69,7 @@ code_further-lined options on line p =
     either AreLined (is_blank r.bytes) (code_parts r p q) (line_parts begin r p q)
     (inside-lined (code_parts r p q) (code-inside r p q)) (line-lined begin r p q refl)
 
--- No content stands in it, and its link is to none that is read later.
+-- No content is in it, and its link is to none that is read later.
 
 line-no_content : (wants : Content → Bool) (begin : Event) (cells : List Cell) (p : Point) →
     wanted wants begin ≡ None → is_told begin.name ≡ false → NoContent wants (line_adds begin cells p)

@@ -1,4 +1,4 @@
--- What stands on a line of indented code, its first one or a further one, blank or not.
+-- What is on a line of indented code, its first one or a further one, blank or not.
 use Rattle.std.proofs.Common.{◌≡◌, ℕ, List, drop, refl, sym, ap₂}
 use Rattle.md_engine.specs.declared.event.Event.{Event}
 use Rattle.md_engine.specs.declared.event.Name.TheVariants as n
@@ -17,13 +17,13 @@ use Rattle.md_frame.proofs.IndentRemoved.Places.{FurtherAt, further-rest}
 pub code-inside : (r : Rest) (p q : Point) → AreInside (code_parts r p q)
 code-inside r p q = lost-inside n.CodeFlowChunk 4 r p q refl
 
--- What is said of a line by its bytes is said of its rest, where it stands,
+-- What is said of a line by its bytes is said of its rest, where it is,
 parts-at : (parts : Rest → Point → List Event) (bytes : List ℕ) (r : Rest) (p q : Point) → FurtherAt bytes r p q →
     parts (rest_of p (rest_line r)) (past_text (rest_line r) p) ≡ parts r q
 parts-at parts bytes r p q is =
     ap₂ parts (rest-again bytes (drop q.index bytes) r p (further-rest bytes r p q is)) (sym is.at.end)
 
--- so also what stands on the first line, and on a further one.
+-- so also what is on the first line, and on a further one.
 pub code-is : (bytes : List ℕ) (r : Rest) (p q : Point) → FurtherAt bytes r p q →
     code_events (rest_line r) p ≡ line_parts (enter n.CodeIndented p) r p q
 code-is bytes r p q is =

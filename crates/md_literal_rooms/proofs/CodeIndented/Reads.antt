@@ -13,7 +13,7 @@ use Rattle.md_frame.proofs.IndentRemoved.Reads.{empty-joined, on-last}
 use Rattle.md_literal_rooms.proofs.IndentRemoved.Reads.{lost-read}
 use Rattle.md_frame.proofs.PartsFacts.{ReadsLeaf}
 
--- an empty line becomes the one that is told
+-- an empty line becomes the one that is said
 line-noted : (before : List Line) (line : Line) →
     noted AsLine line (CodeLeaf (before ++ empty_line ∷ [])) ≡ CodeLeaf (before ++ line ∷ [])
 line-noted before line =

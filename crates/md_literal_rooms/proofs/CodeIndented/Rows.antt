@@ -1,8 +1,8 @@
--- The rows of indented code behind its first line: further lines of it, and blank ones.
+-- The rows of indented code after its first line: further lines of it, and blank ones.
 --
--- A blank line is bare, as it may be behind the code. Between two lines of code it is one of them, so it is
--- taken for a further line: with a begin and an end, which go when the lines are joined. Behind the last line of code
--- it is whitespace.
+-- A blank line is bare, as it may be after the code. Between two lines of code it is one of them, so it is taken for a
+-- further line: with a begin and an end, which go when the lines are joined. After the last line of code it is
+-- whitespace.
 use Rattle.std.proofs.Common.{◌≡◌, ℕ, ◌<◌, Bool, true, false, cond, ◌||◌, not, List, [], ◌∷◌}
 use Rattle.std.proofs.Common.{◌++◌, length, drop, map, refl, sym, ◌∙◌, ap, subst₂, arith}
 use Rattle.std.specs.Prelude.{◌==◌, ◌&&◌, None, Some}
@@ -48,11 +48,11 @@ ends row = exit n.CodeIndented row.end
 abbrev pub as_line : Row → List Event
 as_line row = paired begins ends row_unread row
 
--- with what stands between them
+-- with what is between them
 abbrev pub line_in : Rest → Point → Point → List Event
 line_in r p q = line_parts (enter_link n.CodeIndented p further_link) r p q
 
--- A further line of code, blank or not, where it stands: its rest, and what is added for it.
+-- A further line of code, blank or not, where it is: its rest, and what is added for it.
 pub record InCode (bytes : List ℕ) (row : Row) : Type 0 where
   pub rest : Rest
   pub at : FurtherAt bytes rest row.first row.end
@@ -74,7 +74,7 @@ in-framed bytes row is = ap is_framed is.inside ∙ go (is_blank is.rest.bytes)
     go true = parts-bare is.rest row.first row.end
     go false = refl
 
--- and taken for a line it has what stands on it between a begin and an end
+-- and taken for a line it has what is on it between a begin and an end
 pub as-line : (bytes : List ℕ) (row : Row) → (is : InCode bytes row) →
     as_line row ≡ line_in is.rest row.first row.end
 as-line bytes row is = ap line is.inside ∙ go (is_blank is.rest.bytes)
@@ -93,7 +93,7 @@ as-line bytes row is = ap line is.inside ∙ go (is_blank is.rest.bytes)
         (parts-bare is.rest row.first row.end)
     go false = refl
 
--- Such rows behind one with this rest; on the last of them stands text, as on each line of code.
+-- Such rows after one with this rest; on the last of them is text, as on each line of code.
 abbrev pub AreInCode : List ℕ → Rest → Row → List Row → Type 0
 AreInCode bytes r row [] = is_blank r.bytes ≡ false
 AreInCode bytes r row (next ∷ rows) =
@@ -108,7 +108,7 @@ lines_behind bytes r row [] are = []
 lines_behind bytes r row (next ∷ rows) are =
     code_line are.4.rest ∷ lines_behind bytes are.4.rest next rows are.5
 
--- The text goes on with them: behind a line with text stands no end of it, nor in front of one.
+-- The text continues with them: after a line with text is no end of it, nor before one.
 pub goes-on : (bytes : List ℕ) (r : Rest) (row : Row) (rows : List Row) → FurtherAt bytes r row.first row.end →
     AreInCode bytes r row rows → row.first.index < length bytes
 goes-on bytes r row [] is dark = text-behind bytes r row.first row.end is.at (some-text r dark)
@@ -120,7 +120,7 @@ goes-on bytes r row (next ∷ rows) is are =
     let ending = are.2.size in
     omega (arith, further, grow, size, ending)
 
--- Something stands on a line with text.
+-- Something is on a line with text.
 pub text-some : (bytes : List ℕ) (r : Rest) (row : Row) → FurtherAt bytes r row.first row.end →
     is_blank r.bytes ≡ false → is_empty_row row ≡ false
 text-some bytes r row is dark =
@@ -137,7 +137,7 @@ last-in bytes r row [] at ending are = (at.at.end_whole, ending ∙ are)
 last-in bytes r row (next ∷ rows) at ending are =
     last-in bytes are.4.rest next rows are.4.at are.4.ending are.5
 
--- Behind the last of them a blank line stands as whitespace.
+-- After the last of them a blank line is as whitespace.
 pub row-outside : (bytes : List ℕ) (row : Row) → (is : InCode bytes row) → is_blank is.rest.bytes ≡ true →
     IsOutside bytes row_unread row
 row-outside bytes row is blank = record {

@@ -50,7 +50,7 @@ first-spanned options bytes row is =
     (record { kind = refl; lines = refl; link = refl })
     (is.inside ∙ code-is bytes r row.first row.end (further-at options bytes code_leaf row is))
 
--- a further one says that it goes on the one before, and a blank one stands bare
+-- a further one says that it continues the one before, and a blank one is bare
 further-spanned : (bytes : List ℕ) (row : Row) → InCode bytes row →
     IsSpanned IsNone IsFurther row.inside ⊎ IsBare row.inside
 further-spanned bytes row is =
@@ -80,7 +80,7 @@ ins rows = inner row_unread rows
 abbrev outs : List Row → List Row
 outs rows = outer row_unread rows
 
--- the first has text, so they are in the code and behind it
+-- the first has text, so they are in the code and after it
 abbrev all-split : (options : ParseOptions) (bytes : List ℕ) (row : Row) (rows : List Row) →
     (is : IsLineOf options bytes code_leaf row) → (are : AreBehind options bytes code_further row rows) →
     AreSplit options bytes is.rest row rows (ins rows) (outs rows) are
@@ -104,14 +104,14 @@ first-ending options bytes row is =
     (text-some bytes is.rest row (further-at options bytes code_leaf row is) dark)
     ∙ sym dark
 
--- the ending of the last has the name that it tells
+-- the ending of the last has the name that it shows
 last-ending : (options : ParseOptions) (bytes : List ℕ) (row : Row) (rows : List Row) →
     is_blank_row row ≡ row.empty → AreBehind options bytes code_further row rows →
     is_blank_row (last_row row rows) ≡ (last_row row rows).empty
 last-ending options bytes row [] is are = is
 last-ending options bytes row (next ∷ rows) is are = last-ending options bytes next rows are.6.ending are.7
 
--- their events: those of the lines in the code, and whitespace behind it
+-- their events: those of the lines in the code, and whitespace after it
 all-joined : (options : ParseOptions) (bytes : List ℕ) (row : Row) (rows : List Row) →
     IsLineOf options bytes code_leaf row →
     span_by row_unread row rows ≡

@@ -1,5 +1,5 @@
--- The rows behind the first line of indented code: those up to the last with text are in the code, and the others,
--- which are blank, stand behind it.
+-- The rows after the first line of indented code: those up to the last with text are in the code, and the others, which
+-- are blank, are after it.
 use Rattle.std.proofs.Common.{◌≡◌, ℕ, Bool, true, false, cond, ◌||◌, not, List, [], ◌∷◌, ◌++◌, length, refl, sym, ◌∙◌}
 use Rattle.std.proofs.Common.{ap, arith, append_assoc, append-nil}
 use Rattle.std.specs.Prelude.{nat_lt}
@@ -23,12 +23,12 @@ use Rattle.md_frame.proofs.LeafLines.Bare.{inner, outer}
 use Rattle.md_frame.proofs.LeafLines.Behind.{AreOutside}
 use Rattle.md_frame.proofs.SpanLaws.{AreBehind, come_behind}
 
--- Such rows behind a line with this rest, of which these are in the code and those behind it.
+-- Such rows after a line with this rest, of which these are in the code and those after it.
 pub record AreSplit (options : ParseOptions) (bytes : List ℕ) (r : Rest) (row : Row) (rows ins outs : List Row)
     (are : AreBehind options bytes code_further row rows) : Type 0 where
   pub within : AreInCode bytes r row ins
   pub outside : AreOutside bytes row_unread (last_row row ins) outs
-  -- the line definition comes to the lines of the code, and some blank ones
+  -- the line definition becomes the lines of the code, and some blank ones
   pub comes : (lines : List Line) →
       (blanks : List Line) × (all : AreBlank blanks) ×
       (come_behind options bytes code_further row rows are (Opened (OpenCode lines)) ≡
@@ -84,7 +84,7 @@ blank-split options bytes r row rows are dark none = record {
             (blanks : List Line) × (all : AreBlank blanks) ×
             (come_behind options bytes code_further next rows are.7 c ≡ Opened (OpenCode (before ++ blanks)))
 
-        -- an empty line behind the ending that the text ends with is none
+        -- an empty line after the ending that the text ends with is none
         go : (x : Bool) →
             All (lines ++ code_line are.6.rest ∷ []) (Opened (OpenCode (lines ++ code_line are.6.rest ∷ []))) →
             All lines (Opened (OpenCode lines)) → is_blank (code_line are.6.rest).text ≡ true →
@@ -101,7 +101,7 @@ dark : (x : Bool) → (not x || false) ≡ true → x ≡ false
 dark true h = cc
 dark false h = refl
 
--- Further rows, behind a line with text or where some stands on one of them.
+-- Further rows, after a line with text or where some is on one of them.
 pub rows-split : (options : ParseOptions) (bytes : List ℕ) (r : Rest) (row : Row) (rows : List Row) →
     (are : AreBehind options bytes code_further row rows) →
     (not (is_blank r.bytes) || any_framed row_unread rows) ≡ true →
@@ -140,7 +140,7 @@ rows-split options bytes r row (next ∷ rows) are some =
           );
     }
       where
-        -- the text goes on behind the ending
+        -- the text continues after the ending
         some_text : nat_lt are.0.index (length bytes) ≡ true
         some_text =
             let further = goes-on bytes s next (inner row_unread rows) is.at more.within in

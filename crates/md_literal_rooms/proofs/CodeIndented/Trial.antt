@@ -33,7 +33,7 @@ pub kept-some : (x : Bool) → is_some (kept_by x) ≡ x
 kept-some true = refl
 kept-some false = refl
 
--- whether a first line of code stands here
+-- whether a first line of code is here
 abbrev pub is_code_line : ParseOptions → HeldLeaf → List Cell → Bool
 is_code_line options on cells =
     options.constructs.code_indented && may_open on && is_indented cells && not (is_blank (line_bytes cells))
@@ -63,7 +63,7 @@ code-refused options cells h is e =
     ∙ ap (line_by false (code_leaf.adds options h.flags.leaf cells h.point) cells h)
     (kept-is (is_code_line options h.flags.leaf cells) false e)
 
--- Where code is open a line goes on it, which leaves it open,
+-- Where code is open a line continues it, which leaves it open,
 goes-by : (leaf : HeldLeaf) (cells : List Cell) (x : Bool) → is_code leaf ≡ true → is_some (code_goes leaf cells) ≡ x →
     code_goes leaf cells ≡ kept_by x
 goes-by held_leaf.Code cells x on e = go (is_blank (line_bytes cells)) (is_indented cells) e

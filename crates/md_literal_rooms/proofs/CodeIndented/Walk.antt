@@ -1,4 +1,4 @@
--- All lines of indented code behind its first one: each, also a blank one, is one more line of it.
+-- All lines of indented code after its first one: each, also a blank one, is one more line of it.
 use Rattle.std.proofs.Common.{◌≡◌, ℕ, Bool, true, false, cond, ◌||◌, not, List, [], ◌∷◌, ◌++◌, length, drop, refl}
 use Rattle.std.proofs.Common.{sym, ◌∙◌, ap, subst, arith, append_assoc, append-nil}
 use Rattle.std.specs.Prelude.{nat_lt}
@@ -43,7 +43,7 @@ use Rattle.md_frame.proofs.LeafLines.Inside.{InsideFacts}
 use Rattle.md_frame.proofs.PartsFacts.{behind_ending}
 use Rattle.md_frame.proofs.LeafLines.Lines.{AreFurther, SpanLine, ends-by}
 
--- what stands inside of a row of the code
+-- what is inside of a row of the code
 in-parts : (bytes : List ℕ) (row : Row) → (is : InCode bytes row) →
     but_ends (as_line row) ≡ code_parts is.rest row.first row.end
 in-parts bytes row is =
@@ -77,7 +77,7 @@ line-next bytes r row next rows are lines left told to line rest =
     same : as_line next ≡ line_in are.4.rest next.first next.end
     same = as-line bytes next are.4
 
-    -- the text goes on behind the ending
+    -- the text continues after the ending
     some : nat_lt q.index (length bytes) ≡ true
     some =
         let further = goes-on bytes s next rows at are.5 in
@@ -128,7 +128,7 @@ line-next bytes r row next rows are lines left told to line rest =
           (sym (in-parts bytes next are.4)) facts;
     }
 
--- all of them, behind these lines, whether the last of those told anything or not
+-- all of them, after these lines, whether the last of those said anything or not
 pub lines-further : (bytes : List ℕ) (r : Rest) (row : Row) (rows : List Row) →
     (are : AreInCode bytes r row rows) → (lines : List Line) (left : Expression) (told : Bool) → may_end left ≡ true →
     behind n.LineEnding left ≡ in_line →
@@ -149,7 +149,7 @@ lines-further bytes r row (next ∷ rows) are lines left told ends line =
     (lines-further bytes s next rows are.5 more (line_left s) (is_told_of (rest_line (lose 4 s)))
     (line-ends (rest_line (lose 4 s))) (line-ending (rest_line (lose 4 s)))))
 
--- Something stands on the last line.
+-- Something is on the last line.
 
 -- text is something
 text-full : (r : Rest) (p q : Point) → is_blank r.bytes ≡ false → is_bare (code_parts r p q) ≡ false

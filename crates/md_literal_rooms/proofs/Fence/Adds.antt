@@ -45,7 +45,7 @@ use Rattle.md_literal_rooms.proofs.Fence.Opened.{FenceStarts, fence-starts}
 use Rattle.md_literal_rooms.proofs.Fence.White.{HasWhite, rest-white}
 use Rattle.md_frame.proofs.RestFacts.{rest-trim, small-indented}
 
--- Bytes that are fed: they stand in a text, without an ending, and no more cells are left than can be counted.
+-- Bytes that are fed: they are in a text, without an ending, and no more cells are left than can be counted.
 record Fed (said : Line) (text behind bytes : List ℕ) (p : Point) (stop : List Cell) : Type 0 where
   stands : Stands text behind bytes p
   none : NoEnding bytes
@@ -78,7 +78,7 @@ fed-drop said text behind bytes p stop k fed = record {
       omega (arith, less, front, back, most);
 }
 
--- the whitespace in front of them
+-- the whitespace before them
 fed-white : (said : Line) (text behind bytes : List ℕ) (p : Point) (stop : List Cell) →
     Fed said text behind bytes p stop → HasWhite any_size said (bytes_at bytes p) p stop
 fed-white said text behind bytes p stop fed =
@@ -86,13 +86,13 @@ fed-white said text behind bytes p stop fed =
     rest-white any_size said (bytes_at bytes p) p stop (omega arith) fed.stands.1 fed.stands.0.cut fed.stops
     (white-all any_size (spread said bytes p ++ stop) (omega (arith, short)))
 
--- Behind the sequence.
+-- After the sequence.
 
 part-is : (name : Name) (text : List ℕ) (p : Point) → part_of name (nonempty text) p ≡ text_part linked name text p
 part-is name [] p = refl
 part-is name (b ∷ bs) p = refl
 
--- info, and what is behind it
+-- info, and what is after it
 words-are : (said : Line) (m : ℕ) (text behind bytes : List ℕ) (p : Point) (stop : List Cell) →
     Fed said text behind bytes p stop →
     parts_of m bytes p (between said bytes p stop) (meta_point said bytes p stop) ≡ text_parts linked m bytes p
@@ -203,7 +203,7 @@ opened-is said m text behind bytes p stop may fed =
 
 -- The whole line.
 
--- a rest without an indent stands as its bytes do
+-- a rest without an indent is as its bytes do
 bare-stands : (text behind : List ℕ) (r : Rest) (p : Point) → RestAt text behind r p → indent r ≡ 0 →
     Stands text behind r.bytes p
 bare-stands text behind r p is none = go r.spaces (bare r none) is.cut is.text_is

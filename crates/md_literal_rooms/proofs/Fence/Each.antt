@@ -25,7 +25,7 @@ use Rattle.md_literal_rooms.specs.Leaf.Fence.{text_part, text_parts, white_part,
 use Rattle.md_frame.proofs.EachEvent.{Each, each-append}
 use Rattle.md_frame.proofs.SpanLemmas.{either}
 
--- the names of what stands in a block, but for that of what is read later
+-- the names of what is in a block, but for that of what is read later
 abbrev pub is_fence_name : Name → Bool
 is_fence_name n.SpaceOrTab = true
 is_fence_name n.CodeFencedFence = true
@@ -77,7 +77,7 @@ each-around : (P : Event → Type 0) → OfNames P → (name : Name) (p q : Poin
 each-around P of name p q es is h =
     ((of name is p).0, each-append P es (exit name q ∷ []) h ((of name is q).1, tt))
 
--- By the bytes of the line, with what stands in info and meta.
+-- By the bytes of the line, with what is in info and meta.
 
 pub white-each : (P : Event → Type 0) → OfNames P → (bytes : List ℕ) (p : Point) → Each P (white_part bytes p)
 white-each P of [] p = tt
@@ -205,7 +205,7 @@ open-each P of blocks chunk m cells p =
       ),
     )
 
--- all that the line adds, whatever is held behind it
+-- all that the line adds, whatever is held after it
 pub adds-each : (P : Event → Type 0) → OfNames P → OfBlocks P → OfChunk P → (options : ParseOptions) (leaf : HeldLeaf)
     (cells : List Cell) (p : Point) → Each P (fence_adds options leaf cells p)
 adds-each P of blocks chunk options leaf cells p =

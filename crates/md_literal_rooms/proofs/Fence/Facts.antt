@@ -1,4 +1,4 @@
--- What is known of the parts of an opening fence, one by one and behind one another, before its texts are read and once
+-- What is known of the parts of an opening fence, one by one and after one another, before its texts are read and once
 -- they are.
 use Rattle.std.proofs.Common.{◌≡◌, ℕ, Bool, true, false, cond, ◌||◌, not, List, [], ◌∷◌, ◌++◌, length, refl, sym, subst}
 use Rattle.std.proofs.Common.{arith}
@@ -48,13 +48,12 @@ use Rattle.md_frame.proofs.PlainFacts.{AreKnown, chunk-plain, known-append, know
 use Rattle.md_frame.proofs.SpanLemmas.{Nested_in, nested_in-append}
 use Rattle.md_frame.proofs.Stretch.{Stretch, stretch-none, stretch-pair, white-piece}
 
--- A place in a fence that stands from a point to a point is between characters, and cuts no tab of one, if its ends
--- are so.
+-- A place in a fence that is from a point to a point is between characters, and cuts no tab of one, if its ends are so.
 abbrev IsInFence : List ℕ → Point → Point → Point → Type 0
 IsInFence bytes a e x =
     (IsPlace bytes a → IsPlace bytes e → IsPlace bytes x) × (clear bytes a ≡ true → clear bytes x ≡ true)
 
--- Events that stand in it from a point to a point: a stretch, with what else is asked of them.
+-- Events that are in it from a point to a point: a stretch, with what else is asked of them.
 record FencePart (bytes : List ℕ) (a e p q : Point) (unread done : List Event) : Type 0 where
   unread_roles : Roles IsPart unread
   roles : Roles IsPart done
@@ -92,7 +91,7 @@ part-of bytes a e p q us es h between us_others others known = record {
   known = known;
 }
 
--- one behind the other
+-- one after the other
 part-append : (bytes : List ℕ) (a e p q r : Point) (us vs es fs : List Event) → FencePart bytes a e p q us es →
     FencePart bytes a e q r vs fs → FencePart bytes a e p r (us ++ vs) (es ++ fs)
 part-append bytes a e p q r us vs es fs h k = record {
@@ -219,7 +218,7 @@ fence-walks bytes a e = record {
       (chunk-plain bytes (record { first = p; after = q })).known (known-none bytes)));
 }
 
--- What stands in a fence.
+-- What is in a fence.
 pub record FenceInside (bytes : List ℕ) (p q : Point) (unread done : List Event) : Type 0 where
   pub stretch : Stretch IsPart bytes p q unread done
   pub unread_others : AreOthers unread

@@ -1,4 +1,4 @@
--- What stands in a fence is a part of its block.
+-- What is in a fence is a part of its block.
 use Rattle.std.proofs.Common.{◌≡◌, ℕ, Bool, true, false, cond, List, [], ◌∷◌, refl, ap, ◌∙◌, arith}
 use Rattle.md_engine.specs.declared.event.Event.{Event}
 use Rattle.md_engine.specs.declared.event.Name.{Name}
@@ -30,7 +30,7 @@ each-roles : (P : Role → Type 0) (es : List Event) → Roles P es → Each (λ
 each-roles P [] h = tt
 each-roles P (e ∷ es) h = (h.0, each-roles P es h.1)
 
--- what stands in a block is a part of it
+-- what is in a block is a part of it
 name-part : (name : Name) → is_fence_name name ≡ true → IsPart (role name)
 name-part n.SpaceOrTab e = tt
 name-part n.CodeFencedFence e = tt

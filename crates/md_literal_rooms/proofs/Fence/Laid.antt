@@ -27,7 +27,7 @@ use Rattle.md_frame.proofs.LineTexts.{line-stands}
 use Rattle.md_frame.proofs.PieceFacts.{CutsFirst}
 use Rattle.md_frame.proofs.RestFacts.{rest-trim}
 
--- a line in a text, and the fence behind its whitespace
+-- a line in a text, and the fence after its whitespace
 pub record Laid (options : ParseOptions) (bytes line : List ℕ) (p : Point) (rest : List ℕ) : Type 0 where
   pub stands : drop p.index bytes ≡ line ++ rest
   pub cut : CutsFirst p line

@@ -9,7 +9,7 @@ use Rattle.md_literal_rooms.proofs.Fence.Trial.{fence-looked, fence-took, trial-
 use Rattle.md_frame.proofs.LeafLaws.{LeafLaws}
 use Rattle.md_frame.proofs.OutsideFacts.{LineResolver}
 
--- All that the frame asks of the line that begins fenced code or math: it goes on no leaf, and never ends its block.
+-- All that the frame asks of the line that begins fenced code or math: it continues no leaf, and never ends its block.
 pub fence-laws : (resolver : LineResolver) → LeafLaws resolver fence_leaf
 fence-laws resolver = record {
   looked = λ options on. fence-looked options;

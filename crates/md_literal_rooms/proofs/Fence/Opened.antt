@@ -1,4 +1,4 @@
--- What the line definition opens where a fence stands on the rest of a line.
+-- What the line definition opens where a fence is on the rest of a line.
 use Rattle.std.proofs.Common.{◌≡◌, ℕ, Bool, true, false, cond, ◌&&◌, List, [], ◌∷◌, drop, Option, Some, None, refl}
 use Rattle.std.proofs.Common.{ap, ◌∙◌}
 use Rattle.std.specs.Prelude.{nat_le}
@@ -11,7 +11,7 @@ use Rattle.md_meaning.specs.State.{OpenFence, Opening}
 use Rattle.md_meaning.specs.Texts.{first_byte}
 use Rattle.md_literal_rooms.specs.Leaf.Fence.{opening_at}
 
--- the bytes behind an indent begin with the marker of a fence, and with enough of it
+-- the bytes after an indent begin with the marker of a fence, and with enough of it
 pub record IsFence (options : ParseOptions) (bytes : List ℕ) : Type 0 where
   pub marker : is_fence_marker options (first_byte bytes) ≡ true
   pub size : nat_le (least_size (first_byte bytes)) (run_len (first_byte bytes) bytes) ≡ true

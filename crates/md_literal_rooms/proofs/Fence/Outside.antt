@@ -1,4 +1,4 @@
--- Nothing stands in a fence that a resolver rewrites, and no content; its links are to strings.
+-- Nothing is in a fence that a resolver rewrites, and no content; its links are to strings.
 use Rattle.std.proofs.Common.{◌≡◌, ℕ, Bool, true, false, cond, List, refl, ap}
 use Rattle.std.specs.Prelude.{◌-◌, ◌==◌, Option, Some, None}
 use Rattle.md_engine.specs.declared.configuration.ParseOptions.{ParseOptions}
@@ -37,7 +37,7 @@ name-content _ e = refl
 
 -- No part of it is rewritten.
 
--- Its names may stand in a leaf of several lines.
+-- Its names may be in a leaf of several lines.
 
 name-lined : (name : Name) → is_fence_name name ≡ true → is_lined name ≡ true
 name-lined n.SpaceOrTab e = refl
@@ -52,7 +52,7 @@ fence-lined line p =
     line-each IsLined (λ name is q. (name-lined name is, name-lined name is))
     (λ name is q. (block-lined name is, block-lined name is)) linked (λ p q. (refl, (refl, tt))) line p
 
--- No content stands in it.
+-- No content is in it.
 
 pub fence-no_content : (wants : Content → Bool) → wants content.String ≡ false →
     (options : ParseOptions) (leaf : HeldLeaf) (cells : List Cell) (p : Point) →
@@ -64,7 +64,7 @@ fence-no_content wants w options leaf cells p =
     (λ name is q. ((refl, block-content name is), (refl, block-content name is)))
     (λ q. ((ap (λ (x : Bool). cond x (Some content.String) None) w, refl), (refl, refl))) options leaf cells p)
 
--- No line goes on it lazily.
+-- No line continues it lazily.
 
 pub fence-lazy : (options : ParseOptions) (cells : List Cell) (p : Point) →
     takes_lazy (fence_keeps options cells p) ≡ false

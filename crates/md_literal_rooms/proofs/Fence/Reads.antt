@@ -165,7 +165,7 @@ take-first zero l = tt
 take-first (suc k) [] = tt
 take-first (suc k) (b ∷ bs) = refl
 
--- some stand in a sequence
+-- some are in a sequence
 pub sequence-some : (m : ℕ) → stands_over (sequence_name m) [] ≡ true → ⊥
 sequence-some m k = empty (m == 36) k
   where
@@ -173,7 +173,7 @@ sequence-some m k = empty (m == 36) k
     empty true k = cc
     empty false k = cc
 
--- What stands in the block, where the leaf is open.
+-- What is in the block, where the leaf is open.
 pub fence-opened : (options : ParseOptions) (bytes line rest : List ℕ) (p e : Point) (o : Reading) →
     Laid options bytes line p rest → o.text ≡ None →
     let text = trim_start line in

@@ -31,7 +31,7 @@ use Rattle.md_literal_rooms.specs.Leaf.Fence.{fence_keeps, fence_leaf, is_fence,
 use Rattle.md_frame.proofs.FromEnding.{from_ending-again}
 use Rattle.md_frame.proofs.LeafLaws.{Shrinks, cond-shrinks, whole_line}
 
--- A line where what begins no fence stands first behind whitespace holds none.
+-- A line where what begins no fence is first after whitespace holds none.
 
 white-begins : (c : ℕ) → is_white c ≡ true → may_begin c ≡ false
 white-begins c e = grind (arith, nat_tests)
@@ -142,7 +142,7 @@ end-shrinks : (n : ℕ) (x : Bool) (a b : Outcome) → (x ≡ true → Shrinks n
 end-shrinks n true a b p q = p refl
 end-shrinks n false a b p q = q
 
--- in meta, and in front of it
+-- in meta, and before it
 in_meta-shrinks : (n : ℕ) (cells : List Cell) (h : Here) → length cells ≤ n → Shrinks n (in_meta cells h)
 unfolding in_meta
 in_meta-shrinks n cells h le =
@@ -159,7 +159,7 @@ meta-shrinks n cells h le =
     (opens-shrinks n cells h le)
     (cond-shrinks n (begins_white cells) (refuses h) (in_meta cells k) tt (in_meta-shrinks n cells k le))
 
--- in info, and in front of it
+-- in info, and before it
 in_info-shrinks : (n : ℕ) (cells : List Cell) (h : Here) → length cells ≤ n → Shrinks n (in_info cells h)
 unfolding in_info
 in_info-shrinks n cells h le =

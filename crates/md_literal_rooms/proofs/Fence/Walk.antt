@@ -29,7 +29,7 @@ use Rattle.md_frame.proofs.LineTexts.{no_ending-parts}
 use Rattle.md_frame.proofs.PieceFacts.{CutsFirst, whole-first}
 use Rattle.md_frame.proofs.LineWalk.{At, past-stands}
 
--- so many of them, and those behind
+-- so many of them, and those after
 pub at-take : (bytes xs rest : List ℕ) (p : Point) (k : ℕ) → At bytes xs p rest →
     At bytes (take k xs) p (drop k xs ++ rest)
 at-take bytes xs rest p k is =
@@ -69,8 +69,8 @@ meta-text m = go (m == 36)
     go true = refl
     go false = refl
 
--- What holds of nothing and of each part holds of parts one behind the other, if what is asked of the places between
--- them does: behind whitespace and in front of it, and behind markers.
+-- What holds of nothing and of each part holds of parts one after the other, if what is asked of the places between
+-- them does: after whitespace and before it, and after markers.
 pub record Walks (bytes : List ℕ) (inner read : Inner) (M : Point → Type 0) (Q : Point → Point → List Event →
     List Event → Type 0) : Type 0
   where
@@ -108,7 +108,7 @@ front-blank (b ∷ bs) = go (is_white b) refl (front-blank bs)
         ∙ and_from (is_white b) (is_blank (take (prefix_len is_white bs) bs)) e more
     go false e more = ap (λ (k : ℕ). is_blank (take k (b ∷ bs))) (count-none is_white b bs e)
 
--- The whitespace in front of some bytes: where it ends, and its events.
+-- The whitespace before some bytes: where it ends, and its events.
 pub white-mid : (bytes : List ℕ) (inner read : Inner) (M : Point → Type 0) (Q : Point → Point → List Event →
     List Event → Type 0) →
     Walks bytes inner read M Q → (xs rest : List ℕ) (p : Point) → drop p.index bytes ≡ xs ++ rest → M p →
@@ -167,12 +167,12 @@ part-walks : (bytes : List ℕ) (inner read : Inner) (M : Point → Type 0) (Q :
 part-walks bytes inner read M Q walks name [] rest p is mid end at = walks.none p
 part-walks bytes inner read M Q walks name (b ∷ bs) rest p is mid end at = walks.text name b bs rest p is mid end at
 
--- where bytes end, behind so many of them
+-- where bytes end, after so many of them
 ends-behind : (xs : List ℕ) (p : Point) (k : ℕ) → past_text (drop k xs) (past_text (take k xs) p) ≡ past_text xs p
 ends-behind xs p k =
     sym (past_text-append (take k xs) (drop k xs) p) ∙ ap (λ (l : List ℕ). past_text l p) (take-append-drop k xs)
 
--- what is left behind a word begins with whitespace, or is nothing
+-- what is left after a word begins with whitespace, or is nothing
 pub behind-first : (xs : List ℕ) → CutsWord (drop (prefix_len (λ b. not (is_white b)) xs) xs)
 behind-first [] = tt
 behind-first (b ∷ bs) = go (is_white b) refl (behind-first bs)
@@ -212,7 +212,7 @@ texts-walk bytes inner read M Q walks m xs rest p mid end at = go (m == 36)
     at_left = subst (λ (k : ℕ). At bytes (drop k xs) (past_text word p) rest) (sym long)
         (at-drop bytes xs rest p size at)
 
-    -- the word ends with the line, or in front of whitespace
+    -- the word ends with the line, or before whitespace
     left_first : CutsWord left
     left_first = subst (λ (k : ℕ). CutsWord (drop k xs)) (sym long) (behind-first xs)
 
@@ -270,7 +270,7 @@ texts-walk bytes inner read M Q walks m xs rest p mid end at = go (m == 36)
         (text_part read n.CodeFencedFenceInfo word p) (white_part left q) mid_left info white)
         meta
 
--- What stands behind the sequence.
+-- What follows the sequence.
 behind-walks : (bytes : List ℕ) (inner read : Inner) (M : Point → Type 0) (Q : Point → Point → List Event →
     List Event → Type 0) →
     Walks bytes inner read M Q → (m : ℕ) (xs rest : List ℕ) (p : Point) → M p → M (past_text xs p) →
@@ -334,7 +334,7 @@ sequence-over options xs is =
         none true k = cc
         none false k = cc
 
--- What stands in the fence.
+-- What is in the fence.
 pub parts-walk : (options : ParseOptions) (bytes : List ℕ) (inner read : Inner) (M : Point → Type 0)
     (Q : Point → Point → List Event → List Event → Type 0) →
     Walks bytes inner read M Q → (xs rest : List ℕ) (p : Point) → IsFence options xs → M p → M (past_text xs p) →

@@ -97,7 +97,7 @@ spread-part line (b ∷ bs) p stop k =
     ap (λ (x : Bool). cond x (pair n.SpaceOrTab p (past_white (b ∷ bs) p)) [])
     (first-white (spread line (b ∷ bs) p ++ stop) b (first-spread line b bs p stop))
 
--- The whitespace in front of the rest of a line, where there is room for all of it.
+-- The whitespace before the rest of a line, where there is room for all of it.
 pub record HasWhite (room : ℕ) (said : Line) (r : Rest) (p : Point) (stop : List Cell) : Type 0 where
   pub end : white_end room (rest_cells said r p ++ stop) p ≡ past_white (rest_line r) p
   pub part : spaces room (rest_cells said r p ++ stop) p ≡ white_part (rest_line r) p

@@ -21,7 +21,7 @@ use Rattle.md_literal_rooms.specs.Leaf.Fence.{Inner, linked, past_white, read_in
 use Rattle.md_frame.proofs.ChunkFacts.{chunk-word}
 use Rattle.md_literal_rooms.proofs.Fence.Walk.{CutsWord, behind-first}
 
--- What stands in info and in meta is a text.
+-- What is in info and in meta is a text.
 abbrev pub Word : Expression → Inner → Type 0
 Word text inner = (p q : Point) → IsWord text (text ∷ []) (inner p q)
 
@@ -47,11 +47,11 @@ white-leads text x (b ∷ bs) p = go (is_white b)
     go true = (true, leads-pair text x n.SpaceOrTab p (past_white (b ∷ bs) p) refl)
     go false = (false, λ outer. refl)
 
--- behind the sequence of math
+-- after the sequence of math
 abbrev math_marked : Expression → Bool → Expression
 math_marked text some = maybe some n.SpaceOrTab (behind n.MathFlowFenceSequence (inside text n.MathFlowFence))
 
--- a part of text behind which nothing has to stand
+-- a part of text after which nothing has to be
 part-word : (text x : Expression) (inner : Inner) (name : Name) → may_end (behind name x) ≡ true → (b : ℕ)
     (bs : List ℕ) (p : Point) → IsWord text (inside text name ∷ []) (inner p (past_text (b ∷ bs) p)) →
     IsWord text (x ∷ []) (text_part inner name (b ∷ bs) p)
@@ -68,7 +68,7 @@ math-word text inner word (b ∷ bs) p true =
 math-word text inner word (b ∷ bs) p false =
     part-word text (math_marked text false) inner n.MathFlowFenceMeta refl b bs p (word p (past_text (b ∷ bs) p))
 
--- behind the sequence of code, and behind info
+-- after the sequence of code, and after info
 abbrev marked : Expression → Bool → Expression
 marked text some = maybe some n.SpaceOrTab (behind n.CodeFencedFenceSequence (inside text n.CodeFencedFence))
 
@@ -153,7 +153,7 @@ code-word text inner word (b ∷ bs) p some dark =
     (subst (λ (k : ℕ). CutsWord (drop k (b ∷ bs))) (sym (prefix-take (λ c. not (is_white c)) (b ∷ bs)))
     (behind-first (b ∷ bs)))))
 
--- What stands in a fence is a word of it.
+-- What is in a fence is a word of it.
 
 abbrev pub parts_by : Bool → Inner → List ℕ → Point → List Event
 parts_by math inner xs p =

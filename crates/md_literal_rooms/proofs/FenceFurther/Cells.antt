@@ -263,7 +263,7 @@ further-adds options on said text behind r p stop is h k short e =
     enter_link (block_name m) p further_link ∷ further_parts options on s p q ++ exit (block_name m) q ∷ [])
     (rest-again text behind r p is))
 
--- and holds behind it what the line definition has there.
+-- and holds after it what the line definition has there.
 pub further-keeps : (options : ParseOptions) (on : HeldLeaf) (said : Line) (text behind : List ℕ) (r : Rest) (p : Point)
     (stop : List Cell) →
     RestAt text behind r p → NoEnding r.bytes → Stops stop → length (rest_cells said r p ++ stop) < 2 ^ 63 →

@@ -1,5 +1,5 @@
 -- Further lines of fenced code and math by the line definition: where a fence has opened a block, what is held of it is
--- a fence, and the line definition goes on the block as the line does.
+-- a fence, and the line definition continues the block as the line does.
 use Rattle.std.proofs.Common.{◌≡◌, ℕ, Bool, true, false, cond, ◌&&◌, List, [], ◌∷◌, ◌++◌, Option, Some, None, refl}
 use Rattle.std.proofs.Common.{ap, subst}
 use Rattle.std.specs.Prelude.{nat_le, drop}
@@ -17,7 +17,7 @@ use Rattle.md_code.proofs.FenceOpened.{marker-may}
 use Rattle.md_frame.specs.HeldLeaf.{kind_of_leaf, left_by}
 use Rattle.md_literal_rooms.specs.Leaf.FenceFurther.{fence_comes, further_holds, opening_of}
 
--- what is held of a block behind its opening
+-- what is held of a block after its opening
 abbrev pub held_of : Opening → HeldLeaf
 held_of o = held_leaf.Fence o.marker o.size o.indent
 
@@ -62,7 +62,7 @@ opening-fence options r o lines e = go (has_small_indent options r) e
     go true e = from-fence options (indent r) (trim_start r.bytes) o lines e
     go false e = cc
 
--- The line definition closes it where a closing fence stands, and else it has one line more.
+-- The line definition closes it where a closing fence is, and else it has one line more.
 pub further-goes : (options : ParseOptions) (o : Opening) (lines : List Line) (r : Rest) →
     fence_goes_on options o lines r ≡
     cond (closes options (opening_of (held_of o)) r) (Finished (fence_block o lines true))
@@ -70,7 +70,7 @@ pub further-goes : (options : ParseOptions) (o : Opening) (lines : List Line) (r
 unfolding fence_goes_on
 further-goes options o lines r = refl
 
--- So what is held behind the line is the leaf that the open one comes to with it.
+-- So what is held after the line is the leaf that the open one reaches with it.
 pub further-held : (options : ParseOptions) (leaf : Leaf) (r : Rest) → is_fence (kind_of_leaf leaf) ≡ true →
     kind_of_leaf (left_by (fence_comes options leaf r)) ≡ further_holds options (kind_of_leaf leaf) r
 unfolding fence_goes_on

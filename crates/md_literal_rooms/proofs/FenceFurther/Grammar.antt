@@ -22,7 +22,7 @@ use Rattle.md_literal_rooms.proofs.IndentRemoved.Grammar.{columns-lead, left_ove
 
 -- What is left of a block.
 
--- behind its opening fence, and behind a line with something in it
+-- after its opening fence, and after a line with something in it
 abbrev pub behind_line : Expression → ℕ → Expression
 behind_line text m = behind (fence_name m) (inside text (block_name m))
 
@@ -44,7 +44,7 @@ begun_by text x =
     behind n.LineEnding
     (behind (cond x n.MathFlowFence n.CodeFencedFence) (inside text (cond x n.MathFlow n.CodeFenced)))
 
--- An ending begins a further line, also behind an empty one; prefixes of containers and whitespace leave it,
+-- An ending begins a further line, also after an empty one; prefixes of containers and whitespace leave it,
 pub ending-line : (text : Expression) (m : ℕ) → behind n.LineEnding (in_line text m) ≡ in_line text m
 ending-line text m =
     by-marker (λ x. behind n.LineEnding (begun_by text x) ≡ begun_by text x) m refl refl
@@ -56,7 +56,7 @@ white-line text m =
 pub takes-line : (text : Expression) (m : ℕ) → TakesPrefixes (in_line text m)
 takes-line text m = by-marker (λ x. TakesPrefixes (begun_by text x)) m (refl, refl) (refl, refl)
 
--- and the block may end in it, and behind it.
+-- and the block may end in it, and after it.
 pub in-line-ends : (text : Expression) (m : ℕ) → may_end (in_line text m) ≡ true
 in-line-ends text m = by-marker (λ x. may_end (begun_by text x) ≡ true) m refl refl
 
@@ -83,7 +83,7 @@ chunk-empty text m = by-marker (λ x. may_end (inside text (cond x n.MathFlowChu
 
 -- What a further line leaves.
 
--- behind what it has: a line with something in it, or an empty one; nothing behind a closing fence
+-- after what it has: a line with something in it, or an empty one; nothing after a closing fence
 abbrev pub left_by : Expression → ℕ → List ℕ → Expression
 left_by text m line = left_over (in_line text m) (behind_line text m) line
 

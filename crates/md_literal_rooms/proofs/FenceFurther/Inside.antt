@@ -1,4 +1,4 @@
--- What is known of what stands in a further line of fenced code or math, from the point where it begins to its end.
+-- What is known of what is in a further line of fenced code or math, from the point where it begins to its end.
 use Rattle.std.proofs.Common.{◌≡◌, ℕ, ◌<◌, Bool, true, false, cond, ◌&&◌, ◌||◌, List, ◌++◌, length, drop, take, refl}
 use Rattle.std.proofs.Common.{◌∙◌, ap, arith, subst, append_assoc, ◌-◌}
 use Rattle.std.specs.Prelude.{◌==◌, nat_le, IsTrue}
@@ -127,7 +127,7 @@ abbrev pub sequence_end : HeldLeaf → Rest → Point → Point
 sequence_end on r p =
     let text = trim_start r.bytes in past_text (take (run_len (held_marker on) text) text) (past_columns (indent r) r p)
 
--- behind which is a place between characters
+-- after which is a place between characters
 marker-low : (m b : ℕ) → may_begin m ≡ true → (b == m) ≡ true → is_low b ≡ true
 marker-low m b may e = grind (arith, nat_tests)
 

@@ -1,5 +1,5 @@
--- A further line of fenced code or math as a line that is joined to the one in front: its begin, its end, and what
--- stands between them.
+-- A further line of fenced code or math as a line that is joined to the one in front: its begin, its end, and what is
+-- between them.
 use Rattle.std.proofs.Common.{◌≡◌, ℕ, zero, suc, Bool, true, false, cond, ◌&&◌, List, [], ◌∷◌, ◌++◌, drop, refl, sym}
 use Rattle.std.proofs.Common.{◌∙◌, ap, ap₂, arith}
 use Rattle.std.specs.Prelude.{◌==◌, nat_le, nat_lt}
@@ -24,7 +24,7 @@ use Rattle.md_frame.proofs.IndentRemoved.Columns.{rest-again}
 use Rattle.md_literal_rooms.proofs.FenceFurther.Names.{either-name}
 use Rattle.md_frame.proofs.IndentRemoved.Places.{FurtherAt, further-rest}
 
--- The line, where it stands.
+-- The line, where it is.
 pub further-is : (options : ParseOptions) (bytes : List ℕ) (on : HeldLeaf) (r : Rest) (p q : Point) →
     FurtherAt bytes r p q →
     fence_further.added options on (rest_line r) p ≡
@@ -47,7 +47,7 @@ further-begins m p = record { kind = refl; lines = block-lines m; link = refl }
 pub further-ends : (m : ℕ) (q : Point) → IsEnd (exit (block_name m) q)
 further-ends m q = record { kind = refl; lines = block-lines m }
 
--- Nothing stands in an empty line, as behind the last ending of a text.
+-- Nothing is in an empty line, as after the last ending of a text.
 
 abbrev pub nothing_from : ℕ → Rest
 nothing_from column = record { column = column; spaces = 0; bytes = [] }

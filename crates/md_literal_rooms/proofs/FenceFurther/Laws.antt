@@ -14,7 +14,7 @@ use Rattle.md_literal_rooms.proofs.FenceFurther.Trial.{further-shrinks, further-
 use Rattle.md_frame.proofs.LeafLaws.{LeafLaws}
 use Rattle.md_frame.proofs.OutsideFacts.{LineResolver}
 
--- a line may go on a block with a fence
+-- a line may continue a block with a fence
 fence-lines : (on : HeldLeaf) → is_fence on ≡ true → may_go_on on ≡ true
 fence-lines held_leaf.None e = absurd (cc)
 fence-lines (held_leaf.Text at) e = absurd (cc)
@@ -24,7 +24,7 @@ fence-lines (held_leaf.Fence m size indent) e = refl
 fence-lines (held_leaf.Html kind) e = refl
 fence-lines held_leaf.Table e = refl
 
--- All that the frame asks of a further line: it goes on the block that it meets, and does not always end it.
+-- All that the frame asks of a further line: it continues the block that it meets, and does not always end it.
 pub fence_further-laws : (resolver : LineResolver) → LeafLaws resolver fence_further
 fence_further-laws resolver = record {
   looked = further-looked;

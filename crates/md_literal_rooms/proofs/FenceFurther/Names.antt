@@ -43,7 +43,7 @@ sequence-inside m = either-name (λ a. is_inside a ≡ true) (m == 36) _ _ refl 
 chunk-inside : (m : ℕ) → is_inside (chunk_name m) ≡ true
 chunk-inside m = either-name (λ a. is_inside a ≡ true) (m == 36) _ _ refl refl
 
--- By its rest: what holds of no events, and of one more such, holds of what stands in the line.
+-- By its rest: what holds of no events, and of one more such, holds of what is in the line.
 pub parts-each : (P : List Event → Type 0) → P [] → More P → (options : ParseOptions) (on : HeldLeaf) (r : Rest)
     (p q : Point) → P (further_parts options on r p q)
 parts-each P none more options on r p q = go (closes options (opening_of on) r)
@@ -74,7 +74,7 @@ pub parts-inside : (options : ParseOptions) (on : HeldLeaf) (r : Rest) (p q : Po
     AreInside (further_parts options on r p q)
 parts-inside options on r p q = λ P none more. parts-each P none more options on r p q
 
--- By its cells: the same, in front of others of which it holds.
+-- By its cells: the same, before others of which it holds.
 pub inside-each : (P : List Event → Type 0) → More P → (options : ParseOptions) (on : HeldLeaf) (cells : List Cell)
     (p : Point) (es : List Event) → P es → P (further_inside options on cells p ++ es)
 inside-each P more options on cells p es h = go (closes_here options on cells)
@@ -130,12 +130,12 @@ inside-each P more options on cells p es h = go (closes_here options on cells)
         let at = white_end lost cells p in
         white lost cells p (chunk_events m rest at) es (chunk rest at)
 
--- What stands in the line has no name of a resolver's, and no content.
+-- What is in the line has no name of a resolver's, and no content.
 
 block-content : (m : ℕ) → is_told (block_name m) ≡ false
 block-content m = either-name (λ a. is_told a ≡ false) (m == 36) _ _ refl refl
 
--- Its names may stand in a leaf of several lines.
+-- Its names may be in a leaf of several lines.
 
 block-lined : (m : ℕ) → is_lined (block_name m) ≡ true
 block-lined m = either-name (λ a. is_lined a ≡ true) (m == 36) _ _ refl refl

@@ -1,5 +1,5 @@
--- What stands in a further line of fenced code or math, by its names: parts of a leaf, no line of one, no linked text,
--- and none that ends a line.
+-- What is in a further line of fenced code or math, by its names: parts of a leaf, no line of one, no linked text, and
+-- none that ends a line.
 use Rattle.md_engine.specs.declared.configuration.ParseOptions.{ParseOptions}
 use Rattle.md_engine.specs.declared.event.Point.{Point}
 use Rattle.md_engine.specs.declared.tokenizer.held_leaf.HeldLeaf.{HeldLeaf}

@@ -1,4 +1,4 @@
--- Where the parts of a further line of fenced code or math stand: from the point where it begins to its end.
+-- Where the parts of a further line of fenced code or math are: from the point where it begins to its end.
 use Rattle.std.proofs.Common.{◌≡◌, ℕ, zero, suc, ◌≤◌, Bool, true, false, ◌&&◌, List, [], ◌∷◌}
 use Rattle.std.proofs.Common.{◌++◌, length, drop, take, refl, sym, ◌∙◌, ap, arith, subst}
 use Rattle.std.specs.Prelude.{◌==◌, nat_le}
@@ -38,13 +38,13 @@ take-run t (b ∷ bs) = go (t b) refl (take-run t bs)
         subst Run (sym (count-one t b bs e)) (ap suc next.0, and_from (t b) _ e next.1)
     go false e next = subst Run (sym (count-none t b bs e)) (refl, refl)
 
--- it stands behind its indent: enough markers, and whitespace alone
+-- it is after its indent: enough markers, and whitespace alone
 pub record HasClosing (bytes : List ℕ) (on : HeldLeaf) (r : Rest) (p q : Point) : Type 0 where
-  -- what stands there
+  -- what is there
   pub whole : (past_columns (indent r) r p).vs ≡ 0
   pub text : drop (past_columns (indent r) r p).index bytes ≡ trim_start r.bytes ++ drop q.index bytes
   pub ends : q ≡ past_text (trim_start r.bytes) (past_columns (indent r) r p)
-  -- its sequence, and the whitespace behind it
+  -- its sequence, and the whitespace after it
   pub cut : trim_start r.bytes ≡
       take (run_len (held_marker on) (trim_start r.bytes)) (trim_start r.bytes)
       ++ drop (run_len (held_marker on) (trim_start r.bytes)) (trim_start r.bytes)

@@ -29,7 +29,7 @@ use Rattle.md_frame.proofs.WhiteQuiet.{white-quiet}
 
 -- The block.
 
--- it has an opening fence and no closing one, and behind these lines an empty one, which the ending in front opened
+-- it has an opening fence and no closing one, and after these lines an empty one, which the ending in front opened
 pub record IsFenced (before : List Line) (fences : Fenced) : Type 0 where
   pub lines : fences.lines ≡ before ++ empty_line ∷ []
   pub some : (length fences.markers == 0) ≡ false
@@ -44,7 +44,7 @@ IsOpen before _ = ⊥
 abbrev pub with_lines : List Line → OpenLeaf → OpenLeaf
 with_lines lines leaf = on_fences (λ fences. record fences { lines = lines }) leaf
 
--- and with a closing fence behind them
+-- and with a closing fence after them
 abbrev pub with_closing : List Line → OpenLeaf → OpenLeaf
 with_closing lines leaf = on_fences (λ fences. record fences { lines = lines; closed = true }) leaf
 
@@ -55,7 +55,7 @@ without-last [] x = refl
 without-last (y ∷ []) x = refl
 without-last (y ∷ z ∷ ys) x = ap (λ (l : List Line). y ∷ l) (without-last (z ∷ ys) x)
 
--- it becomes what is told of it
+-- it becomes what is said of it
 line-told : (before : List Line) (line : Line) (fences : Fenced) → IsFenced before fences →
     on_last (λ l. joined l line) fences.lines ≡ before ++ line ∷ []
 line-told before line fences h =

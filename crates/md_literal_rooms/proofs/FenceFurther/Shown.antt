@@ -1,4 +1,4 @@
--- What stands in a further line of fenced code or math begins and ends clear, and an outline knows its names.
+-- What is in a further line of fenced code or math begins and ends clear, and an outline knows its names.
 use Rattle.std.proofs.Common.{◌≡◌, ℕ, Bool, true, false, cond, List, [], ◌∷◌, drop, refl}
 use Rattle.std.specs.List.{list_all}
 use Rattle.std.proofs.lemmas.Bool.{and_from}

@@ -1,4 +1,4 @@
--- What a further line of fenced code or math comes to: it is always taken, where such a block is open.
+-- What a further line of fenced code or math becomes: it is always taken, where such a block is open.
 use Rattle.std.proofs.Common.{◌≡◌, ◌≤◌, ◌+◌, ℕ, Bool, true, false, cond, List, [], ◌∷◌, ◌++◌, length, arith, refl, ◌∙◌}
 use Rattle.std.proofs.Common.{ap, ap₂, sym, Some}
 use Rattle.std.specs.Prelude.{◌==◌, ◌&&◌, nat_le, nat_lt}
@@ -33,7 +33,7 @@ fence-marker on e = (and_parts (may_begin (held_marker on)) (nat_le (least_size 
 pub fence-size : (on : HeldLeaf) → is_fence on ≡ true → nat_le (least_size (held_marker on)) (held_size on) ≡ true
 fence-size on e = (and_parts (may_begin (held_marker on)) (nat_le (least_size (held_marker on)) (held_size on)) e).1
 
--- Any byte may stand first.
+-- Any byte may be first.
 pub further-looked : (options : ParseOptions) (on : HeldLeaf) (cells : List Cell) (b : ℕ) → seen_behind cells ≡ Some b →
     fence_further.may_begin on (begins_white cells) b ≡ false → fence_further.takes options on cells ≡ false
 further-looked options on cells b seen e = cc
@@ -150,7 +150,7 @@ further-shrinks options cells h =
     or-shrinks (length cells) (close_at options cells _) cells _ (omega arith)
     (close-shrinks (length cells) options cells _ (omega arith))
 
--- What is held behind it takes no lazy line.
+-- What is held after it takes no lazy line.
 
 lazy-none : (on : HeldLeaf) → is_fence on ≡ true → takes_lazy on ≡ false
 lazy-none held_leaf.None e = refl

@@ -1,4 +1,4 @@
--- The opening line of fenced code or math as the first line of its block: what is known of what stands in it behind its
+-- The opening line of fenced code or math as the first line of its block: what is known of what is in it after its
 -- begin.
 use Rattle.std.proofs.Common.{◌≡◌, ℕ, Bool, true, false, cond, List, [], ◌∷◌, length, take, drop, refl, ap, ◌∙◌}
 use Rattle.std.proofs.Common.{◌||◌, not, suc, arith}
@@ -44,7 +44,7 @@ use Rattle.md_literal_rooms.proofs.Fence.Facts.{FenceInside, fence-inside}
 use Rattle.md_literal_rooms.proofs.FenceSpan.White.{white-lead}
 use Rattle.md_seam.specs.Events.Tiles.{part_kind}
 
--- What a fence opens, by what stands behind its whitespace.
+-- What a fence opens, by what follows its whitespace.
 abbrev pub opened_by : ℕ → List ℕ → Opening
 opened_by columns text =
     let m = first_byte text in
@@ -87,7 +87,7 @@ leaf-same columns text = go (first_byte text == 36)
     go true = refl
     go false = refl
 
--- What stands behind its begin.
+-- What follows its begin.
 abbrev pub first_inside : Inner → List ℕ → Point → Point → List Event
 first_inside inner line p e =
     let text = trim_start line in
@@ -181,7 +181,7 @@ first-facts options bytes line rest p columns is = record {
     untold : (x : Point) → (not (is_told (role (fence_name (first_byte (trim_start line))))) || clear bytes x) ≡ true
     untold x = ap (λ (b : Bool). not b || clear bytes x) (fence-untold (first_byte (trim_start line)))
 
--- No ending stands there, and no begin or end of a leaf.
+-- No ending is there, and no begin or end of a leaf.
 pub first-others : (options : ParseOptions) (bytes line rest : List ℕ) (p e : Point) → Laid options bytes line p rest →
     AreOthers (first_inside linked line p e) × AreOthers (first_inside (read_inner bytes) line p e)
 first-others options bytes line rest p e is =

@@ -1,4 +1,4 @@
--- A further line of fenced code or math in its block: what is known of what stands in it.
+-- A further line of fenced code or math in its block: what is known of what is in it.
 use Rattle.std.proofs.Common.{◌≡◌, ℕ, zero, suc, ◌≤◌, Bool, true, false, cond, List, [], ◌∷◌, ◌++◌, length, refl, sym}
 use Rattle.std.proofs.Common.{ap, ◌∙◌, subst, arith}
 use Rattle.std.specs.Prelude.{◌==◌, Some}
@@ -33,7 +33,7 @@ use Rattle.md_frame.proofs.PiecesLemmas.{Covered}
 use Rattle.md_frame.proofs.LeafLines.Inside.{InsideFacts, inside-none}
 use Rattle.md_frame.proofs.PartsFacts.{ReadsLeaf}
 
--- What is left of the grammar behind it is the same before text parts are read.
+-- What is left of the grammar after it is the same before text parts are read.
 left-same : (text : Expression) (options : ParseOptions) (on : HeldLeaf) (r : Rest) →
     further_left text options on r ≡ further_left plain_text options on r
 left-same text options on r = go (closes options (opening_of on) r)
@@ -108,7 +108,7 @@ closing-reads options bytes o marks lines r p q are closed rd none at =
     at (opened-line o marks lines are)
     ∙ ap (λ (l : OpenLeaf). let x : Reading = record rd { leaf = Some l } in x) (closing-told o marks lines)
 
--- A line on which nothing stands.
+-- A line on which nothing is.
 pub record IsBare (options : ParseOptions) (on : HeldLeaf) (r : Rest) (p q : Point) : Type 0 where
   pub none : further_parts options on r p q ≡ []
   pub stays : q ≡ p
@@ -149,7 +149,7 @@ same-bare options bytes on r p q e is same =
     go [] h = refl
     go (b ∷ bs) h = absurd (cc)
 
--- and then alone nothing stands on it
+-- and then alone nothing is on it
 pub bare-same : (options : ParseOptions) (bytes : List ℕ) (on : HeldLeaf) (r : Rest) (p q : Point) →
     is_fence on ≡ true → FurtherAt bytes r p q → further_parts options on r p q ≡ [] → (p.index == q.index) ≡ true
 bare-same options bytes on r p q e is none =

@@ -59,7 +59,7 @@ parts-lines : (es : List Event) → Roles IsPart es → NoLines es
 parts-lines [] h = tt
 parts-lines (e ∷ es) h = (part-lines (role e.name) h.0, parts-lines es h.1)
 
--- the whitespace in front of it
+-- the whitespace before it
 white-unspanned : (line : List ℕ) (p : Point) → AreUnspanned (white_part line p)
 white-unspanned [] p = tt
 white-unspanned (b ∷ line) p = go (is_white b)
@@ -112,7 +112,7 @@ further-spanned options bytes row is =
 
 -- All lines.
 
--- what stands behind the first
+-- what follows the first
 rest-of : (options : ParseOptions) (bytes : List ℕ) (row : Row) (rows : List Row) →
     (is : IsLineOf options bytes fence_leaf row) → (are : AreBehind options bytes fence_further row rows) →
     HasRest bytes (name_of is.rest) (behind_line plain_text (first_byte (text_of is.rest)))

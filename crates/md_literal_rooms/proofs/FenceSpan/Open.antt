@@ -22,7 +22,7 @@ use Rattle.md_frame.proofs.LeafLines.Leaf.{IsLeafName}
 abbrev pub kind_of : ℕ → LeafKind
 kind_of m = cond (m == 36) OfMath OfFence
 
--- what may stand in it, which is the same before text parts are read
+-- what may be in it, which is the same before text parts are read
 abbrev pub begin_of : ℕ → Expression
 begin_of m = inside plain_text (block_name m)
 
@@ -52,7 +52,7 @@ pub fence-begin : (m : ℕ) → (fence-name m).begin ≡ begin_of m
 unfolding fence-name
 fence-begin m = refl
 
--- The same behind its opening fence, and in a further line.
+-- The same after its opening fence, and in a further line.
 pub behind-same : (text : Expression) (m : ℕ) → behind_line text m ≡ behind_line plain_text m
 behind-same text m =
     by-marker
@@ -80,7 +80,7 @@ pub record AreMarks (o : Opening) (marks : List ℕ) : Type 0 where
   pub some : (length marks == 0) ≡ false
   pub first : first_byte marks ≡ o.marker
 
--- behind an ending it has one line more, which is empty
+-- after an ending it has one line more, which is empty
 pub opened-line : (o : Opening) (marks : List ℕ) (lines : List Line) → AreMarks o marks →
     IsOpen lines (next_line (leaf_of o marks lines false))
 opened-line o marks lines is = go (o.marker == 36)

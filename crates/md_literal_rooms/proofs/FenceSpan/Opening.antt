@@ -1,4 +1,4 @@
--- The opening line of fenced code or math as a row: what it opens, its events, and what stands in it.
+-- The opening line of fenced code or math as a row: what it opens, its events, and what is in it.
 use Rattle.std.proofs.Common.{◌≡◌, ℕ, ◌+◌, ◌<◌, Bool, true, false, cond, ◌&&◌, not, List, [], ◌∷◌, ◌++◌, length, drop}
 use Rattle.std.proofs.Common.{refl, sym, ap, ◌∙◌, subst, append_assoc, arith}
 use Rattle.std.specs.Prelude.{◌==◌}
@@ -40,7 +40,7 @@ use Rattle.md_frame.proofs.LeafLines.Lead.{LeadFacts}
 use Rattle.md_frame.proofs.LeafLines.Lines.{EndsLeaf, ends-by}
 use Rattle.md_frame.proofs.SpanLaws.{IsLineOf}
 
--- By the rest of the line: its bytes, what stands behind its whitespace, and what it opens.
+-- By the rest of the line: its bytes, what follows its whitespace, and what it opens.
 abbrev pub text_of : Rest → List ℕ
 text_of r = trim_start (rest_line r)
 
@@ -66,7 +66,7 @@ line-marks options bytes row is =
     marks-are options bytes (rest_line is.rest) (drop row.end.index bytes) row.first (indent is.rest)
     (line-laid options bytes row is)
 
--- what is held behind it is a fence
+-- what is held after it is a fence
 pub line-fence : (options : ParseOptions) (bytes : List ℕ) (row : Row) → (is : IsLineOf options bytes fence_leaf row) →
     is_fence (held_of (opening_of is.rest)) ≡ true
 line-fence options bytes row is =
@@ -77,7 +77,7 @@ pub line-held : (options : ParseOptions) (bytes : List ℕ) (row : Row) → (is 
     row.behind ≡ held_of (opening_of is.rest)
 line-held options bytes row is = is.behind ∙ ap held_of (opening-same is.rest)
 
--- something stands on it
+-- something is on it
 pub line-full : (options : ParseOptions) (bytes : List ℕ) (row : Row) → (is : IsLineOf options bytes fence_leaf row) →
     not row.empty ≡ true
 line-full options bytes row is =
@@ -179,7 +179,7 @@ begin-is name at e front es inside is =
     ap but_end (is ∙ sym (append_assoc front (enter name at ∷ inside) (exit name e ∷ [])))
     ∙ but_end-is (front ++ enter name at ∷ inside) (exit name e)
 
--- what stands in front of its begin, and behind it
+-- what is before its begin, and after it
 pub line-lead : (options : ParseOptions) (bytes : List ℕ) (row : Row) → (is : IsLineOf options bytes fence_leaf row) →
     LeadFacts bytes row.first (past_white (rest_line is.rest) row.first) (white_part (rest_line is.rest) row.first)
 line-lead options bytes row is =

@@ -1,4 +1,4 @@
--- Where an outline is in fenced code and math, line by line: all that stands in such a block may stand there.
+-- Where an outline is in fenced code and math, line by line: all that is in such a block may be there.
 use Rattle.std.proofs.Common.{◌≡◌, ℕ, ◌+◌, Bool, true, false, cond, not, List, [], ◌∷◌, ◌++◌, length, take, drop, refl}
 use Rattle.std.proofs.Common.{sym, ap, ◌∙◌, subst, slice_range, arith}
 use Rattle.std.specs.Prelude.{◌==◌}
@@ -42,7 +42,7 @@ use Rattle.md_frame.proofs.IndentRemoved.Reads.{columns-quiet}
 use Rattle.md_frame.proofs.PieceFacts.{over-front}
 use Rattle.md_literal_rooms.proofs.IndentRemoved.Sites.{is_told_of, line_site, lost-passes}
 
--- The opening fence: its markers, and what stands behind them.
+-- The opening fence: its markers, and what follows them.
 
 -- what is read of bytes without an ending the tree does not show
 inner-quiet : (bytes : List ℕ) (b : ℕ) (bs rest : List ℕ) (p : Point) → At bytes (b ∷ bs) p rest →
@@ -80,7 +80,7 @@ info-stands bytes [] rest p zs at none some = none
 info-stands bytes (b ∷ bs) rest p zs at none some =
     (tt, inner-stands bytes OfFence AsInfo n.CodeFencedFenceInfo b bs rest p zs at (tt, some))
 
--- meta, behind an info or none
+-- meta, after an info or none
 abbrev before_meta : Bool → Site
 before_meta info = cond info (AtMeta OfFence) (AtInfo OfFence)
 

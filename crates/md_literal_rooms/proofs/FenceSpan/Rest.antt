@@ -1,4 +1,4 @@
--- A further line of fenced code or math as one of its block, with what is known of what stands in it.
+-- A further line of fenced code or math as one of its block, with what is known of what is in it.
 use Rattle.std.proofs.Common.{◌≡◌, ℕ, Bool, true, false, List, [], ◌∷◌, drop, refl, sym, ap, ◌∙◌}
 use Rattle.std.proofs.lemmas.Bool.{true≢false}
 use Rattle.md_engine.specs.declared.configuration.ParseOptions.{ParseOptions}
@@ -24,7 +24,7 @@ use Rattle.md_frame.proofs.LeafLines.Inside.{InsideFacts}
 use Rattle.md_frame.proofs.SpanLaws.{IsLineOf}
 use Rattle.md_frame.proofs.LeafLines.Rest.{FurtherLine}
 
--- A line, where the block is open, with what is known of what stands in it.
+-- A line, where the block is open, with what is known of what is in it.
 pub further-line : (options : ParseOptions) (bytes : List ℕ) (o : Opening) (x left : Expression) (from leaf : OpenLeaf)
     (start site : Site) (row : Row) → (is : IsLineOf options bytes fence_further row) → row.on ≡ held_of o →
     is_fence (held_of o) ≡ true →

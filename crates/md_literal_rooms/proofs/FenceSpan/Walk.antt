@@ -40,7 +40,7 @@ use Rattle.md_frame.proofs.PartsFacts.{ReadsLeaf, behind_ending}
 use Rattle.md_frame.proofs.LeafLines.Rest.{HasRest, rest-more, rest-none}
 use Rattle.md_frame.proofs.SpanLaws.{AreBehind, IsLineOf, come_behind}
 
--- what is left of the grammar behind a line of the block
+-- what is left of the grammar after a line of the block
 left-ends : (m : ℕ) (line : List ℕ) → may_end (left_by plain_text m line) ≡ true
 left-ends m [] = in-line-ends plain_text m
 left-ends m (b ∷ bs) = behind-line-ends plain_text m
@@ -52,7 +52,7 @@ left-line m (b ∷ bs) = refl
 line-takes : (m : ℕ) → TakesPrefixes (in_line plain_text m)
 line-takes m = takes-line plain_text m
 
--- what is held behind a further line
+-- what is held after a further line
 line-held : (options : ParseOptions) (bytes : List ℕ) (o : Opening) (row : Row) (closed : Bool) →
     (is : IsLineOf options bytes fence_further row) → row.on ≡ held_of o → is_fence (held_of o) ≡ true →
     closes options (opening_of (held_of o)) is.rest ≡ closed → row.behind ≡ cond closed held_leaf.None (held_of o)
@@ -64,7 +64,7 @@ line-held options bytes o row closed is on e f =
     cond x (cond (closes options (opening_of (held_of o)) is.rest) held_leaf.None (held_of o)) held_leaf.None) e
     ∙ ap (λ (x : Bool). cond x held_leaf.None (held_of o)) f
 
--- no line goes on it behind its closing fence
+-- no line continues it after its closing fence
 rest-closed : (options : ParseOptions) (bytes : List ℕ) (o : Opening) (marks : List ℕ) (lines : List Line) (row : Row)
     (rows : List Row) →
     AreMarks o marks → row.behind ≡ held_leaf.None → (are : AreBehind options bytes fence_further row rows) →
@@ -80,7 +80,7 @@ rest-closed options bytes o marks lines row (next ∷ rows) marked none are =
     closed : is_fence held_leaf.None ≡ true → ⊥
     closed e = cc
 
--- What further lines are behind a line, whatever lines the block has there, and whether the line told one or none.
+-- What further lines are after a line, whatever lines the block has there, and whether the line said one or none.
 abbrev Rests : (options : ParseOptions) (bytes : List ℕ) → Opening → List ℕ → Row → List Row → Type 0
 Rests options bytes o marks row rows =
     (lines : List Line) (left : Expression) (told : Bool) → may_end left ≡ true →
@@ -146,7 +146,7 @@ rest-next options bytes o marks lines left told row next rows marked fence line 
         HasRest bytes (block_name o.marker) left leaf site row (next ∷ rows)
         (come_behind options bytes fence_further next rows are.7 c)
 
-    -- the line in front of those behind it
+    -- the line before those after it
     joined : (after : Expression) (to : OpenLeaf) (end : Site) (c : LeafResult) →
         InsideFacts bytes next.first next.end x after (behind_ending bytes q leaf) to (ended_site bytes q site) end
         parts parts →
@@ -159,7 +159,7 @@ rest-next options bytes o marks lines left told row next rows marked fence line 
         (further-line options bytes o x after (behind_ending bytes q leaf) to (ended_site bytes q site) end next is on
         fence facts) rest
 
-    -- a line that the text goes on with
+    -- a line that the text continues with
     one : (closed : Bool) (to : OpenLeaf) → nat_lt q.index (length bytes) ≡ true → closing ≡ closed →
         ReadsLeaf bytes (next_line leaf) to parts →
         InsideFacts bytes next.first next.end x (cond closed Nothing chunk) (behind_ending bytes q leaf) to
@@ -196,7 +196,7 @@ rest-next options bytes o marks lines left told row next rows marked fence line 
         (rests more chunk some (left-ends o.marker (rest_line (lose o.indent r)))
         (left-line o.marker (rest_line (lose o.indent r))) (line-held options bytes o next false is on fence k) are.7)
 
-    -- where the text ends no line is told
+    -- where the text ends no line is said
     ended : nat_lt q.index (length bytes) ≡ false → IsBare options (held_of o) r next.first next.end
     ended goes =
         let grow = fronts-grow bytes [] q next.first next.front are.3 in

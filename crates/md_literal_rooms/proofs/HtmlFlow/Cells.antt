@@ -25,7 +25,7 @@ use Rattle.md_frame.proofs.LineEnds.{line-ends}
 
 -- They take the lines that the line definition says.
 
--- text that is open by the leaf that a line meets is open by what it stands against
+-- text that is open by the leaf that a line meets is open by what it is against
 pub text-same : (on : HeldLeaf) → is_open_text on ≡ is_text (context_of on)
 text-same (held_leaf.Text at) = refl
 text-same (held_leaf.LazyText at) = refl
@@ -66,7 +66,7 @@ further-adds options on said text behind r p stop is h k short starts =
     enter_link n.HtmlFlow p further_link ∷ cond empty [] (pair n.HtmlFlowData p q) ++ exit n.HtmlFlow q ∷ [])
     (end-cells said r p stop h k) (line-ends said text behind r p stop is h k)
 
--- What is open behind them is what the line definition has there.
+-- What is open after them is what the line definition has there.
 
 pub html-keeps : (options : ParseOptions) (on : HeldLeaf) (said : Line) (text behind : List ℕ) (r : Rest) (p : Point)
     (stop : List Cell) →

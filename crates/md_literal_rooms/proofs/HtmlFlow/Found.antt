@@ -1,4 +1,4 @@
--- Where the line definition has HTML, how it goes on, and what is open behind a line of it.
+-- Where the line definition has HTML, how it continues, and what is open after a line of it.
 use Rattle.std.proofs.Common.{◌≡◌, ℕ, Bool, true, false, cond, ◌&&◌, List, [], ◌∷◌, ◌++◌, Option, Some, None, refl}
 use Rattle.std.specs.Prelude.{◌==◌, not}
 use Rattle.std.specs.Option.{is_some}
@@ -24,7 +24,7 @@ use Rattle.md_frame.specs.Context.{context_of}
 use Rattle.md_frame.specs.HeldLeaf.{kind_of_leaf, left_by, may_go_on, takes_lazy}
 use Rattle.md_literal_rooms.specs.Leaf.HtmlFlow.{begins_as, html_further, html_leaf, kind_begun}
 
--- It begins where its leaf says, and comes to what that says: where this leaf is open, by what the line stands against.
+-- It begins where its leaf says, and becomes what that says: where this leaf is open, by what the line is against.
 pub html-found : (options : ParseOptions) (on : HeldLeaf) (against : ParagraphContext) (r : Rest) →
     against ≡ context_of on →
     html_at options against r ≡
@@ -47,7 +47,7 @@ html-found options on against r same =
         by true = refl
         by false = refl
 
--- HTML that is open goes on where a further line of it does.
+-- HTML that is open continues where a further line of it does.
 pub html-goes : (options : ParseOptions) (kind : HtmlKind) (lines : List Line) (r : Rest) →
     goes_on options (OpenHtml kind lines) r ≡
     cond (html_further.starts options (held_leaf.Html kind) r)
@@ -100,7 +100,7 @@ html-enabled options on r e = go options.constructs.html_flow (has_small_indent 
     go true y e = refl
     go false y e = cc
 
--- and `<` stands first behind its indent
+-- and `<` is first after its indent
 pub html-first : (options : ParseOptions) (on : HeldLeaf) (r : Rest) → html_leaf.starts options on r ≡ true →
     first_byte (trim_start r.bytes) ≡ 60
 unfolding html_at html_kind
@@ -118,12 +118,12 @@ html-first options on r e =
     go true [] e = cc
     go true (b ∷ bytes) e = by b bytes (b == 60) refl e
 
--- a line may go on open HTML
+-- a line may continue open HTML
 pub html-lines : (on : HeldLeaf) → is_html on ≡ true → may_go_on on ≡ true
 html-lines (held_leaf.Html kind) e = refl
 html-lines _ e = cc
 
--- What is held behind a line is the leaf that it comes to.
+-- What is held after a line is the leaf that it becomes.
 
 line-held : (kind : HtmlKind) (lines : List Line) (r : Rest) →
     kind_of_leaf (left_by (html_line kind lines r)) ≡ left kind r.bytes
@@ -155,7 +155,7 @@ further-held options (OpenCode lines) r = refl
 further-held options (OpenFence o lines) r = refl
 further-held options (OpenTable delimiter rows) r = refl
 
--- No line goes on it lazily.
+-- No line continues it lazily.
 
 left-not_lazy : (kind : HtmlKind) (line : List ℕ) → takes_lazy (left kind line) ≡ false
 left-not_lazy kind line = go (html_ends kind line)

@@ -36,7 +36,7 @@ html-laws resolver = record {
   facts = λ ends options on bytes r p q starts is. absurd (cc);
 }
 
--- and of a further line: it goes on the HTML that it meets.
+-- and of a further line: it continues the HTML that it meets.
 pub html_further-laws : (resolver : LineResolver) → LeafLaws resolver html_further
 html_further-laws resolver = record {
   looked = further-looked;

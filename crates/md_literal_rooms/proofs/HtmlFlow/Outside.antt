@@ -1,4 +1,4 @@
--- Nothing stands on a line of HTML that a resolver rewrites, and no content.
+-- Nothing is on a line of HTML that a resolver rewrites, and no content.
 use Rattle.std.proofs.Common.{◌≡◌, ℕ, Bool, true, false, cond, List, [], ◌∷◌, ◌++◌, refl, ap}
 use Rattle.std.specs.Prelude.{Some, None}
 use Rattle.md_engine.specs.declared.configuration.ParseOptions.{ParseOptions}
@@ -24,7 +24,7 @@ abbrev further_line : Bool → Point → Point → List Event
 further_line empty p q =
     enter_link n.HtmlFlow p further_link ∷ cond empty [] (pair n.HtmlFlowData p q) ++ exit n.HtmlFlow q ∷ []
 
--- Their names may stand in a leaf of several lines.
+-- Their names may be in a leaf of several lines.
 
 pub html-lined : (options : ParseOptions) (on : HeldLeaf) (line : List ℕ) (p : Point) →
     AreLined (html_leaf.added options on line p)
@@ -38,7 +38,7 @@ pub further-lined : (options : ParseOptions) (on : HeldLeaf) (line : List ℕ) (
     AreLined (html_further.added options on line p)
 further-lined options on line p = line-lined (is_end line) p (past_text line p)
 
--- No content stands in them, and the link is to none that is read later.
+-- No content is in them, and the link is to none that is read later.
 
 pub html-no_content : (wants : Content → Bool) (options : ParseOptions) (on : HeldLeaf) (cells : List Cell)
     (p : Point) → NoContent wants (html_leaf.adds options on cells p)

@@ -21,7 +21,7 @@ use Rattle.md_literal_rooms.specs.Leaf.HtmlFlow.{html_further, html_leaf}
 use Rattle.md_frame.proofs.FromEnding.{from_ending-again, from_ending-shrinks}
 use Rattle.md_frame.proofs.LeafLaws.{Shrinks, left_open, whole_line}
 
--- A line where another byte than `<` stands first behind whitespace begins none.
+-- A line where another byte than `<` is first after whitespace begins none.
 
 kind-some : (x : Bool) (o : Option HtmlKind) → is_some (cond x o None) ≡ (x && is_some o)
 kind-some true o = refl
@@ -44,7 +44,7 @@ html-looked options on cells b seen e =
     ∙ rule-refused may_begin options.constructs.html_flow (λ line. is_some (allowed on (html_kind line))) room cells b
     (no-kind on) (other-kind on) (λ c white. grind (arith, nat_tests)) seen e
 
--- Any byte may stand first on a further line.
+-- Any byte may be first on a further line.
 pub further-looked : (options : ParseOptions) (on : HeldLeaf) (cells : List Cell) (b : ℕ) →
     seen_behind cells ≡ Some b → html_further.may_begin on (begins_white cells) b ≡ false →
     html_further.takes options on cells ≡ false

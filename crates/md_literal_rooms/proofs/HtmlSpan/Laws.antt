@@ -106,7 +106,7 @@ abbrev all_came : (options : ParseOptions) (bytes : List ℕ) (row : Row) (rows 
     IsLineOf options bytes html_leaf row → AreBehind options bytes html_further row rows → LeafResult
 all_came options bytes row rows is are = come_behind options bytes html_further row rows are (first_came is.rest)
 
--- what stands behind the first
+-- what follows the first
 rest-of : (options : ParseOptions) (bytes : List ℕ) (row : Row) (rows : List Row) →
     (is : IsLineOf options bytes html_leaf row) → (are : AreBehind options bytes html_further row rows) →
     HasRest bytes n.HtmlFlow behind_first (HtmlLeaf (line_of is.rest ∷ [])) (html_site is.rest) row rows

@@ -1,4 +1,4 @@
--- Lines of HTML: what stands on one inside of the HTML, in the grammar and as it is read.
+-- Lines of HTML: what is on one inside of the HTML, in the grammar and as it is read.
 use Rattle.std.proofs.Common.{◌≡◌, ℕ, true, List, [], ◌∷◌, ◌++◌, refl, ◌∙◌, ap}
 use Rattle.std.specs.Prelude.{Some}
 use Rattle.md_engine.specs.declared.event.Event.{Event}
@@ -38,8 +38,8 @@ html-inside r p q = lost-inside n.HtmlFlowData 0 r p q refl
 
 -- The grammar.
 
--- What is left of HTML, which has no text parts: at its begin, behind its first line, where a further line begins, and
--- behind one with something on it.
+-- What is left of HTML, which has no text parts: at its begin, after its first line, where a further line begins, and
+-- after one with something on it.
 abbrev pub html_begun : Expression
 html_begun = inside plain_text n.HtmlFlow
 
@@ -52,12 +52,11 @@ in_line = behind n.LineEnding behind_first
 abbrev pub behind_line : Expression
 behind_line = behind n.HtmlFlowData in_line
 
--- behind a further line
+-- after a further line
 abbrev pub line_left : Rest → Expression
 line_left r = left_over in_line behind_line (rest_line r)
 
--- An ending begins a further line, also behind an empty one; prefixes may stand in front of it, and HTML may end behind
--- any line.
+-- An ending begins a further line, also after an empty one; prefixes may be before it, and HTML may end after any line.
 pub line-ending : (line : List ℕ) → behind n.LineEnding (left_over in_line behind_line line) ≡ in_line
 line-ending [] = refl
 line-ending (b ∷ bs) = refl
@@ -79,7 +78,7 @@ html_name = record {
 
 -- How it is read: as the last line of the HTML.
 
--- an empty line becomes the one that is told
+-- an empty line becomes the one that is said
 line-noted : (before : List Line) (line : Line) →
     noted AsLine line (HtmlLeaf (before ++ empty_line ∷ [])) ≡ HtmlLeaf (before ++ line ∷ [])
 line-noted before line =
@@ -96,7 +95,7 @@ parts-read bytes r p q before is = λ rd none at.
 
 -- All that is asked of it.
 
--- where an outline is behind it
+-- where an outline is after it
 abbrev pub html_site : Rest → Site
 html_site r = line_site OfHtml (is_told_of (rest_line r))
 

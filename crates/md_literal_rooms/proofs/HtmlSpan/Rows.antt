@@ -1,4 +1,4 @@
--- Lines of HTML as rows: their events, and what is held behind them.
+-- Lines of HTML as rows: their events, and what is held after them.
 use Rattle.std.proofs.Common.{◌≡◌, ℕ, zero, suc, ◌+◌, Bool, true, false, cond, ◌&&◌, List, [], ◌∷◌, ◌++◌, length, drop}
 use Rattle.std.proofs.Common.{refl, sym, ◌∙◌, ap, arith}
 use Rattle.std.specs.Prelude.{◌==◌, Option, Some, None, not}
@@ -75,7 +75,7 @@ first-parts options bytes row is =
     let begun = html-begun options row.on is.rest is.starts in
     text-parts is.rest row.first row.end (some-bytes is.rest.bytes begun.0 begun.1)
 
--- What stands on a line, where it ends and where it began.
+-- What is on a line, where it ends and where it began.
 pub html-bare : (bytes : List ℕ) (r : Rest) (p q : Point) → FurtherAt bytes r p q →
     is_bare (html_parts r p q) ≡ (p.index == q.index)
 html-bare bytes r p q is = go (rest_line r) is.at.size
@@ -85,7 +85,7 @@ html-bare bytes r p q is = go (rest_line r) is.at.size
     go [] size = let same : (p.index == q.index) ≡ true = grind (arith, nat_tests) in sym same
     go (b ∷ bs) size = let apart : (p.index == q.index) ≡ false = grind (arith, nat_tests) in sym apart
 
--- something stands on it
+-- something is on it
 pub first-full : (options : ParseOptions) (bytes : List ℕ) (row : Row) → (is : IsLineOf options bytes html_leaf row) →
     not row.empty ≡ true
 first-full options bytes row is =
@@ -140,7 +140,7 @@ pub further-inside : (options : ParseOptions) (bytes : List ℕ) (row : Row) →
     ++ exit n.HtmlFlow row.end ∷ []
 further-inside options bytes row is = is.inside ∙ line-is (rest_line is.rest) row.first row.end is.at.end
 
--- with what is known of what stands on it
+-- with what is known of what is on it
 pub further-line : (options : ParseOptions) (bytes : List ℕ) (x left : Expression) (from leaf : OpenLeaf)
     (start site : Site) (row : Row) → (is : IsLineOf options bytes html_further row) →
     InsideFacts bytes row.first row.end x left from leaf start site (html_parts is.rest row.first row.end)

@@ -38,7 +38,7 @@ use Rattle.md_frame.proofs.PartsFacts.{behind_ending}
 use Rattle.md_frame.proofs.LeafLines.Rest.{HasRest, rest-more, rest-none}
 use Rattle.md_frame.proofs.SpanLaws.{AreBehind, IsLineOf, come_behind}
 
--- Where its end has come, no line goes on it.
+-- Where its end has come, no line continues it.
 rest-closed : (options : ParseOptions) (bytes : List ℕ) (lines : List Line) (left : Expression) (told : Bool)
     (row : Row) (rows : List Row) →
     may_end left ≡ true → row.behind ≡ held_leaf.None → (are : AreBehind options bytes html_further row rows) →
@@ -53,7 +53,7 @@ rest-closed options bytes lines left told row (next ∷ rows) ends held are =
     closed : is_html held_leaf.None ≡ true → ⊥
     closed e = cc
 
--- What further lines are behind a line, whatever lines the HTML has there: where it is open,
+-- What further lines are after a line, whatever lines the HTML has there: where it is open,
 abbrev Rests : (options : ParseOptions) (bytes : List ℕ) → HtmlKind → Row → List Row → Type 0
 Rests options bytes kind row rows =
     (lines : List Line) (left : Expression) (told : Bool) → may_end left ≡ true →
@@ -62,7 +62,7 @@ Rests options bytes kind row rows =
     HasRest bytes n.HtmlFlow left (HtmlLeaf lines) (line_site OfHtml told) row rows
     (come_behind options bytes html_further row rows are (Opened (OpenHtml kind lines)))
 
--- and behind a line that may hold its end.
+-- and after a line that may hold its end.
 rest-by : (options : ParseOptions) (bytes : List ℕ) (kind : HtmlKind) (before : List Line) (r : Rest)
     (behind_it : Expression) (told : Bool) (row : Row) (rows : List Row) →
     may_end behind_it ≡ true → behind n.LineEnding behind_it ≡ in_line → row.behind ≡ left kind r.bytes →
@@ -85,7 +85,7 @@ rest-by options bytes kind before r behind_it told row rows ends line held are r
     go true e = rest-closed options bytes all behind_it told row rows ends (same true e) are
     go false e = rests all behind_it told ends line (same false e) are
 
--- on a line with no bytes stands nothing
+-- on a line with no bytes is nothing
 no-bytes : (r : Rest) → rest_line r ≡ [] → r.bytes ≡ []
 no-bytes r none = go r.spaces r.bytes none
   where
@@ -104,7 +104,7 @@ bare-facts bytes r p q x leaf site is none =
     (subst (λ (z : Point). InsideFacts bytes p z x x leaf leaf site site [] [])
     (sym (is.at.end ∙ ap (λ (l : List ℕ). past_text l p) none)) (inside-none bytes p x leaf site))
 
--- a line more, which the text goes on with, or which is empty where it ends
+-- a line more, which the text continues with, or which is empty where it ends
 rest-next : (options : ParseOptions) (bytes : List ℕ) (kind : HtmlKind) (lines : List Line) (left : Expression)
     (told : Bool) (row next : Row) (rows : List Row) →
     behind n.LineEnding left ≡ in_line → row.behind ≡ held_leaf.Html kind →
@@ -149,7 +149,7 @@ rest-next options bytes kind lines left_of_it told row next rows line held are r
         HasRest bytes n.HtmlFlow left_of_it leaf site row (next ∷ rows)
         (come_behind options bytes html_further next rows are.7 c)
 
-    -- the line in front of those behind it
+    -- the line before those after it
     joined : (after : Expression) (to : OpenLeaf) (end : Site) (c : LeafResult) →
         InsideFacts bytes next.first next.end in_line after (behind_ending bytes q leaf) to (ended_site bytes q site)
         end parts parts →
@@ -175,7 +175,7 @@ rest-next options bytes kind lines left_of_it told row next rows line held are r
         InsideFacts bytes next.first next.end in_line (line_left r) (next_line leaf) more start (html_site r) parts
         parts) (sym (ended-goes bytes q OfHtml told goes)) (line-facts bytes r next.first next.end lines at))
 
-    -- where the text ends nothing stands on it
+    -- where the text ends nothing is on it
     none : nat_lt q.index (length bytes) ≡ false → rest_line r ≡ []
     none goes =
         let grow = fronts-grow bytes [] q next.first next.front are.3 in
@@ -221,7 +221,7 @@ rest-open options bytes kind row (next ∷ rows) lines left told ends line held 
     rest-next options bytes kind lines left told row next rows line held are
     (rest-open options bytes kind next rows)
 
--- So behind a line with its end or without one.
+-- So after a line with its end or without one.
 pub rest-line : (options : ParseOptions) (bytes : List ℕ) (kind : HtmlKind) (before : List Line) (r : Rest)
     (behind_it : Expression) (told : Bool) (row : Row) (rows : List Row) →
     may_end behind_it ≡ true → behind n.LineEnding behind_it ≡ in_line → row.behind ≡ left kind r.bytes →

@@ -1,4 +1,4 @@
--- What is known of what stands on a line that loses columns of whitespace, inside of its leaf.
+-- What is known of what is on a line that loses columns of whitespace, inside of its leaf.
 use Rattle.std.proofs.Common.{◌≡◌, ℕ, true, ◌||◌, not, List, [], ◌∷◌, drop, ap}
 use Rattle.std.proofs.lemmas.Bool.{or_right}
 use Rattle.md_engine.specs.declared.event.Name.{Name}
@@ -73,7 +73,7 @@ lost-known bytes name lost r p q named is =
         known-around bytes name at q [] (ap is_unlisted named.told) (told at begin)
         (told q (whole-clear bytes q is.at.end_whole)) (known-none bytes)
 
--- All of it, in front of which this is left of the grammar, and that behind it; it is read from this leaf to that.
+-- All of it, before which this is left of the grammar, and that after it; it is read from this leaf to that.
 pub lost-facts : (bytes : List ℕ) (name : Name) (kind : LeafKind) (lost : ℕ) (r : Rest) (p q : Point)
     (x left : Expression) (from to : OpenLeaf) →
     IsLineName name → FurtherAt bytes r p q →

@@ -11,12 +11,12 @@ use Rattle.md_seam.proofs.GrammarLemmas.{Leads, leads-append, leads-pair}
 use Rattle.md_frame.specs.RestLine.{rest_line}
 use Rattle.md_frame.specs.LineColumns.{columns_part, lost_line, part_over, past_columns}
 
--- What is left behind a part over these bytes: the same as in front of it, if there are none.
+-- What is left after a part over these bytes: the same as before it, if there are none.
 abbrev pub left_over : Expression → Expression → List ℕ → Expression
 left_over x after [] = x
 left_over x after (b ∷ bs) = after
 
--- whitespace may stand in front of it
+-- whitespace may be before it
 pub columns-lead : (text x : Expression) (room : ℕ) (r : Rest) (p : Point) → behind n.SpaceOrTab x ≡ x →
     Leads text (x ∷ []) (x ∷ []) (columns_part room r p)
 columns-lead text x room r p white = go (nat_lt 0 room && nat_lt 0 (indent r))

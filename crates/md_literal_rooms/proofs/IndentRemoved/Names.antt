@@ -1,4 +1,4 @@
--- The names of what stands on a line of a leaf, which may lose columns of whitespace, and in a fence.
+-- The names of what is on a line of a leaf, which may lose columns of whitespace, and in a fence.
 use Rattle.std.proofs.Common.{◌≡◌, ℕ, Bool, true, false, cond, ◌&&◌, List, [], ◌∷◌, ◌++◌, refl}
 use Rattle.std.specs.Prelude.{nat_lt, None}
 use Rattle.md_engine.specs.declared.event.Content.{Content}
@@ -22,7 +22,7 @@ use Rattle.md_frame.proofs.LinedFacts.{AreLined}
 abbrev pub part_event : Kind → Name → Point → Event
 part_event kind name p = record { kind = kind; name = name; point = p; link = None }
 
--- what may stand in the line
+-- what may be in the line
 abbrev pub is_inside : Name → Bool
 is_inside n.SpaceOrTab = true
 is_inside n.CodeFencedFence = true
@@ -65,7 +65,7 @@ pub over-each : (P : List Event → Type 0) → More P → (name : Name) (bytes 
 over-each P more name [] p q es e h = h
 over-each P more name (b ∷ bs) p q es e h = more Enter name p _ e (more Exit name q es e h)
 
--- what stands on a line that loses columns
+-- what is on a line that loses columns
 pub lost-each : (P : List Event → Type 0) → P [] → More P → (name : Name) (lost : ℕ) (r : Rest) (p q : Point) →
     is_inside name ≡ true → P (lost_line name lost r p q)
 lost-each P none more name lost r p q e =
@@ -85,7 +85,7 @@ pub lost-inside : (name : Name) (lost : ℕ) (r : Rest) (p q : Point) → is_ins
     AreInside (lost_line name lost r p q)
 lost-inside name lost r p q e = λ P none more. lost-each P none more name lost r p q e
 
--- They may stand in a leaf of several lines.
+-- They may be in a leaf of several lines.
 
 name-lined : (name : Name) → is_inside name ≡ true → is_lined name ≡ true
 name-lined n.SpaceOrTab e = refl
@@ -94,7 +94,7 @@ name-lined _ e = cc
 pub inside-lined : (es : List Event) → AreInside es → AreLined es
 inside-lined es all = all AreLined tt (λ kind name x es e k. (name-lined name e, k))
 
--- No content stands among them.
+-- No content is among them.
 
 inside-content : (name : Name) → is_inside name ≡ true → is_told name ≡ false
 inside-content n.Content e = absurd (cc)

@@ -1,5 +1,5 @@
--- What stands on a line that loses columns of whitespace, and in a fence, by its names: parts of a leaf, no block, no
--- text part, and none that ends a line.
+-- What is on a line that loses columns of whitespace, and in a fence, by its names: parts of a leaf, no block, no text
+-- part, and none that ends a line.
 use Rattle.std.proofs.Common.{◌≡◌, true, false, List, refl}
 use Rattle.std.specs.Prelude.{None}
 use Rattle.std.proofs.lemmas.Bool.{and_from}

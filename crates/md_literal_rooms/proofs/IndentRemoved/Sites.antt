@@ -14,7 +14,7 @@ use Rattle.md_frame.specs.RestLine.{rest_line}
 use Rattle.md_frame.specs.LineColumns.{columns_part, part_over, past_columns, lost_line}
 use Rattle.md_frame.proofs.IndentRemoved.Reads.{columns-quiet}
 
--- On a line of the block, by whether anything is told of it.
+-- On a line of the block, by whether anything is said of it.
 abbrev pub line_site : LeafKind → Bool → Site
 line_site kind told = cond told (AtEnding kind) (AtLine kind)
 
@@ -26,7 +26,7 @@ pub line-leaves : (kind : LeafKind) (told : Bool) → MayLeave (line_site kind t
 line-leaves kind true = tt
 line-leaves kind false = tt
 
--- its ending opens a line, if the text goes on
+-- its ending opens a line, if the text continues
 pub ended-goes : (bytes : List ℕ) (q : Point) (kind : LeafKind) (told : Bool) →
     nat_lt q.index (length bytes) ≡ true → ended_site bytes q (line_site kind told) ≡ AtLine kind
 ended-goes bytes q kind true goes = ap (λ (x : Bool). cond x (AtLine kind) (AtEnding kind)) goes
@@ -37,7 +37,7 @@ pub ended-over : (bytes : List ℕ) (q : Point) (kind : LeafKind) (told : Bool) 
 ended-over bytes q kind true over = ap (λ (x : Bool). cond x (AtLine kind) (AtEnding kind)) over
 ended-over bytes q kind false over = refl
 
--- A further line: what is left of it is told, if it is anything, or its fence closes the block.
+-- A further line: what is left of it is said, if it is anything, or its fence closes the block.
 abbrev pub is_told_of : List ℕ → Bool
 is_told_of [] = false
 is_told_of (b ∷ bs) = true

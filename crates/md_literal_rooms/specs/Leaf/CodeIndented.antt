@@ -30,12 +30,12 @@ is_code _ = false
 
 -- By the rest of a line.
 
--- whether code begins on it: an indent of 4 columns and text behind it, where no text is open
+-- whether code begins on it: an indent of 4 columns and text after it, where no text is open
 abbrev pub starts_code : ParseOptions → HeldLeaf → Rest → Bool
 starts_code options on r =
     options.constructs.code_indented && may_open on && nat_le 4 (indent r) && not (is_blank r.bytes)
 
--- whether it goes on open code: it is blank, or has such an indent
+-- whether it continues open code: it is blank, or has such an indent
 abbrev pub goes_on_code : HeldLeaf → Rest → Bool
 goes_on_code on r = is_code on && (is_blank r.bytes || nat_le 4 (indent r))
 
@@ -44,13 +44,13 @@ abbrev pub lines_of : Leaf → List Line
 lines_of (OpenCode lines) = lines
 lines_of leaf = []
 
--- what code comes to with one line more
+-- what code becomes with one line more
 abbrev pub code_comes : Leaf → Rest → LeafResult
 code_comes leaf r = Opened (OpenCode (lines_of leaf ++ code_line r ∷ []))
 
 -- By the bytes of a line.
 
--- What stands on a line of code: at most four columns of whitespace, and a chunk over the rest, if there is any.
+-- What is on a line of code: at most four columns of whitespace, and a chunk over the rest, if there is any.
 abbrev pub code_parts : Rest → Point → Point → List Event
 code_parts r p q = lost_line n.CodeFlowChunk 4 r p q
 
@@ -58,7 +58,7 @@ code_parts r p q = lost_line n.CodeFlowChunk 4 r p q
 abbrev pub line_parts : Event → Rest → Point → Point → List Event
 line_parts begin r p q = begin ∷ code_parts r p q ++ exit n.CodeIndented q ∷ []
 
--- a further line is linked to the one in front; a blank one stands bare, as it may stand behind the code
+-- a further line is linked to the one in front; a blank one is bare, as it may be after the code
 abbrev pub further_parts : Rest → Point → Point → List Event
 further_parts r p q =
     if is_blank r.bytes then code_parts r p q else line_parts (enter_link n.CodeIndented p further_link) r p q
@@ -70,10 +70,10 @@ code_events line p = line_parts (enter n.CodeIndented p) (rest_of p line) p (pas
 abbrev pub further_events : List ℕ → Point → List Event
 further_events line p = further_parts (rest_of p line) p (past_text line p)
 
--- Code has no text parts, and what it is with all its lines shows when they are joined: so the events of a line behind
+-- Code has no text parts, and what it is with all its lines shows when they are joined: so the events of a line after
 -- that are not asked, and its block is that of one line.
 
--- The line that begins it, which is tried in front of all other leaves.
+-- The line that begins it, which is tried before all other leaves.
 abbrev pub code_leaf : LineLeaf
 code_leaf = record {
   start = s.CodeIndented its.Start;

@@ -1,5 +1,5 @@
 -- The opening line of fenced code and of math (CommonMark 4.5, own choice), as a leaf on one line: a block without
--- lines that is open behind it.
+-- lines that is open after it.
 use Rattle.std.specs.Prelude.{ℕ, Bool, true, false, ◌&&◌, ◌==◌, if◌then◌else◌, List, [], ◌∷◌, ◌++◌, length, take, drop}
 use Rattle.std.specs.Prelude.{Option, Some, None}
 use Rattle.std.specs.List.{prefix_len}
@@ -33,12 +33,12 @@ use Rattle.md_frame.specs.LineLeaf.{LineLeaf}
 
 -- By the cells of a line.
 
--- whether a fence of the marker that stands here does
+-- whether a fence of the marker that is here does
 abbrev pub is_fence_of : Option ℕ → List Cell → Bool
 is_fence_of None cells = false
 is_fence_of (Some m) cells = is_opening m cells
 
--- whether a fence stands here, with as much whitespace before it as there may be
+-- whether a fence is here, with as much whitespace before it as there may be
 abbrev pub is_fence : ParseOptions → List Cell → Bool
 is_fence options cells =
     let rest = white_rest (small_indent options) cells in is_on options && is_fence_of (marker_at options rest) rest
@@ -53,7 +53,7 @@ fence_keeps options cells p = or_none (fence_begins options cells p)
 
 -- By the rest of a line.
 
--- what the fence behind its indent opens
+-- what the fence after its indent opens
 abbrev pub opening_at : Rest → Opening
 opening_at r =
     let text = trim_start r.bytes in
@@ -74,7 +74,7 @@ abbrev pub white_part : List ℕ → Point → List Event
 white_part [] p = []
 white_part (b ∷ bs) p = if is_white b then pair n.SpaceOrTab p (past_white (b ∷ bs) p) else []
 
--- What stands in info and in meta, between two points: as it is read later, and once it is read.
+-- What is in info and in meta, between two points: as it is read later, and once it is read.
 abbrev pub Inner : Type 0
 Inner = Point → Point → List Event
 
@@ -102,11 +102,11 @@ word_parts inner m text p =
 abbrev pub text_parts : Inner → ℕ → List ℕ → Point → List Event
 text_parts inner m text p = if m == 36 then text_part inner (meta_name m) text p else word_parts inner m text p
 
--- what stands behind the sequence
+-- what follows the sequence
 abbrev pub behind_parts : Inner → ℕ → List ℕ → Point → List Event
 behind_parts inner m bytes p = white_part bytes p ++ text_parts inner m (trim_start bytes) (past_white bytes p)
 
--- what stands in the fence: its sequence, and what is behind it
+-- what is in the fence: its sequence, and what is after it
 abbrev pub fence_parts : Inner → ℕ → List ℕ → Point → List Event
 fence_parts inner m text p =
     let size = run_len m text in

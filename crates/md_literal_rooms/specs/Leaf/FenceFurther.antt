@@ -36,7 +36,7 @@ opening_of on = record {
   meta = None;
 }
 
--- what is held of it behind the line, by the cells of the line, and by its rest: nothing behind a closing fence
+-- what is held of it after the line, by the cells of the line, and by its rest: nothing after a closing fence
 abbrev pub further_keeps : ParseOptions → HeldLeaf → List Cell → HeldLeaf
 further_keeps options on cells = if is_fence on then fence_goes options on cells else held_leaf.None
 
@@ -44,16 +44,16 @@ abbrev pub further_holds : ParseOptions → HeldLeaf → Rest → HeldLeaf
 further_holds options on r =
     if is_fence on then (if closes options (opening_of on) r then held_leaf.None else on) else held_leaf.None
 
--- What stands in the line, from the point where it begins to its end.
+-- What is in the line, from the point where it begins to its end.
 
--- a closing fence: its sequence, and the whitespace behind it
+-- a closing fence: its sequence, and the whitespace after it
 abbrev pub closing_part : ℕ → List ℕ → Point → Point → List Event
 closing_part m text p q =
     let size = run_len m text in
     let end = past_text (take size text) p in
     around (fence_name m) p q (pair (sequence_name m) p end ++ part_over n.SpaceOrTab (drop size text) end q)
 
--- the line with a closing fence, behind its indent, and any other: what it loses, and what is left of it
+-- the line with a closing fence, after its indent, and any other: what it loses, and what is left of it
 abbrev pub closing_line : ℕ → Rest → Point → Point → List Event
 closing_line m r p q =
     columns_part (indent r) r p ++ closing_part m (trim_start r.bytes) (past_columns (indent r) r p) q
@@ -73,13 +73,13 @@ further_line options on line p =
     let q = past_text line p in
     enter_link name p further_link ∷ further_parts options on (rest_of p line) p q ++ exit name q ∷ []
 
--- what an open block comes to with the line
+-- what an open block becomes with the line
 abbrev pub fence_comes : ParseOptions → Leaf → Rest → LeafResult
 fence_comes options (OpenFence o lines) r = fence_goes_on options o lines r
 fence_comes options leaf r = Opened leaf
 
--- By itself it is no block, and it has no text parts: what it is with the lines in front of it shows when they are
--- joined, so its block and its events behind that are not asked.
+-- By itself it is no block, and it has no text parts: what it is with the lines before it shows when they are joined,
+-- so its block and its events after that are not asked.
 abbrev pub fence_further : LineLeaf
 fence_further = record {
   start = s.RawFlow its.AtNonLazyBreak;

@@ -36,16 +36,16 @@ kind_begun r = html_kind (trim_start r.bytes)
 abbrev pub starts_html : ParseOptions → HeldLeaf → Rest → Bool
 starts_html options on r = is_some (definition.html_at options (context_of on) r)
 
--- what HTML of a kind comes to with it
+-- what HTML of a kind becomes with it
 abbrev pub begins_as : Option HtmlKind → Rest → LeafResult
 begins_as None r = Finished (Html [])
 begins_as (Some kind) r = html_line kind [] r
 
--- whether it goes on open HTML: some kinds end in front of a blank line
+-- whether it continues open HTML: some kinds end before a blank line
 abbrev pub goes_on_html : HeldLeaf → Rest → Bool
 goes_on_html on r = is_html on && not (ends_in_front on && is_blank r.bytes)
 
--- what open HTML comes to with it
+-- what open HTML becomes with it
 abbrev pub html_comes : Leaf → Rest → LeafResult
 html_comes (OpenHtml kind lines) r = html_line kind lines r
 html_comes leaf r = Finished (Html [])
@@ -64,7 +64,7 @@ abbrev pub further_events : List ℕ → Point → List Event
 further_events line p =
     enter_link n.HtmlFlow p further_link ∷ data_of line p ++ exit n.HtmlFlow (past_text line p) ∷ []
 
--- HTML has no text parts, and what it is with all its lines shows when they are joined: so the events of a line behind
+-- HTML has no text parts, and what it is with all its lines shows when they are joined: so the events of a line after
 -- that are not asked, and its block is that of one line.
 
 -- The line that begins it.

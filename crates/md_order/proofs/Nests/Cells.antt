@@ -47,17 +47,17 @@ HoldsPart k [] = ⊥
 HoldsPart k (name ∷ []) = is_inner k name ≡ true
 HoldsPart k (name ∷ outer ∷ names) = HoldsPart k (outer ∷ names)
 
--- in what a cell holds: in a part of it, or in front of a further one
+-- in what a cell holds: in a part of it, or before a further one
 abbrev InPart : RowKind → List Name → List Event → Type 0
 InPart k names es = HoldsPart k names ⊎ ((names ≡ []) × (first_is (begins_inner k) es ≡ true))
 
--- so many events of whitespace in front of a word
+-- so many events of whitespace before a word
 abbrev WhiteAhead : ℕ → List Event → Type 0
 WhiteAhead zero es = first_is (begins_inner Text) es ≡ true
 WhiteAhead (suc m) [] = ⊥
 WhiteAhead (suc m) (e ∷ es) = (is_white e.name ≡ true) × WhiteAhead m es
 
--- a stage in a row of a kind, where these names are open in the row, in front of these events
+-- a stage in a row of a kind, where these names are open in the row, before these events
 abbrev pub IsIn : RowKind → Stage → List Name → List Event → Type 0
 IsIn k Outside names es = ⊥
 IsIn k (Front j) names es = j ≡ k
@@ -153,7 +153,7 @@ stops : {names outer start : List Name} {p q : Point} (xs : List Event) → name
 stops {outer = outer} {start = start} {p = p} {q = q} xs none h =
     subst (λ (l : List Name). Leads start (l ++ outer) p q xs) (sym none) h
 
--- the begin of a part that stands by itself
+-- the begin of a part that is by itself
 begins-part : {k : RowKind} {names : List Name} {p : Point} {e : Event} → Comes k names p e → Begun k e →
     (outer : List Name) → Leads outer (open_behind names e.kind e.name ++ outer) e.point e.point (e ∷ [])
 begins-part {names = names} {e = e} c begun outer =

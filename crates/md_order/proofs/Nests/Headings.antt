@@ -119,7 +119,7 @@ held-more {since = since} {names = names} {p = p} e h fits on = record {
   since_leads = leads-append since (e ∷ []) h.since_leads (leads-event names p e fits on);
 }
 
--- at the end of text, behind which nothing is open in the heading
+-- at the end of text, after which nothing is open in the heading
 held-text : {first : Point} {after last : Option Point} {closing since : List Event} {names : List Name}
     {p : Point} (q : Point) → Held first after last closing since names p → Before p q →
     Held first (Some q) (Some q) [] [] [] q
@@ -149,7 +149,7 @@ held-sequence {first = first} {last = last} {since = since} {names = names} {p =
       since_leads = leads-none [] e.point e.point (at_or_before-refl e.point);
     }
 
--- Where the walk stands: what was given ends at a point `q`, and what it has read at a point `p`, where these names are
+-- Where the walk is: what was given ends at a point `q`, and what it has read at a point `p`, where these names are
 -- open in the heading.
 
 abbrev Stands : Place → Point → List Name → Point → Type 0
@@ -161,7 +161,7 @@ abbrev asked : Place → List Name → Option (List Name)
 asked Outside names = None
 asked _ names = Some names
 
--- what is open where the rest begins, and behind what was given
+-- what is open where the rest begins, and after what was given
 abbrev open_read : Place → List Name → List Name → List Name
 open_read Outside names outer = outer
 open_read _ names outer = names ++ n.HeadingAtx ∷ outer
@@ -171,7 +171,7 @@ open_given (Within first after last closing since) names outer = n.HeadingAtx �
 open_given Outside names outer = outer
 open_given _ names outer = names ++ n.HeadingAtx ∷ outer
 
--- what is held, in front of the rest
+-- what is held, before the rest
 held-under : {first : Point} {after last : Option Point} {closing since : List Event} {names : List Name} {p : Point}
     (outer : List Name) (q : Point) (es : List Event) → Before q first →
     Held first after last closing since names p → Under (names ++ n.HeadingAtx ∷ outer) p es →
@@ -180,7 +180,7 @@ held-under {first = first} {after = after} {closing = closing} {since = since} o
     let xs : List Event = text_between first after ++ closing ++ since in
     under-leads xs es (leads-under (n.HeadingAtx ∷ outer) xs (leads-from q xs on (held-leads h))) rest
 
--- The names that are open behind an event, and those that are in the heading.
+-- The names that are open after an event, and those that are in the heading.
 behind-inside : (names outer : List Name) (p : Point) (e : Event) (es : List Event) → ends is_heading e ≡ false →
     Under (names ++ n.HeadingAtx ∷ outer) p (e ∷ es) →
     Under (open_behind names e.kind e.name ++ n.HeadingAtx ∷ outer) e.point es
@@ -188,7 +188,7 @@ behind-inside names outer p e es inside h =
     subst (λ (l : List Name). Under l e.point es)
     (behind-under names (n.HeadingAtx ∷ outer) e (inside-fits names outer e inside h.matches.0)) (under-rest e es h)
 
--- What is shown of a walk over some events, wherever it stands.
+-- What is shown of a walk over some events, wherever it is.
 abbrev Goes : List Event → List Name → Point → Place → List Name → Point → Type 0
 Goes es outer q place names p =
     Stands place q names p → RunsStand (asked place names) es → Under (open_read place names outer) p es →
@@ -224,7 +224,7 @@ outside-step e es more outer q names p at runs h =
         (subst (λ (l : List Name). Under l e.point es) (heading is) (under-rest e es h)))
     go false is asks = more behind e.point Outside [] e.point here asks (under-rest e es h)
 
--- In a heading: what is open behind an event that does not end it.
+-- In a heading: what is open after an event that does not end it.
 inside-open : (names outer : List Name) (e : Event) → ends is_heading e ≡ false →
     Fits (names ++ n.HeadingAtx ∷ outer) e.kind e.name →
     open_behind names e.kind e.name ++ n.HeadingAtx ∷ outer ≡ open_behind (names ++ n.HeadingAtx ∷ outer) e.kind e.name
@@ -400,13 +400,13 @@ resolved-under (e ∷ es) outer q Opened names p at runs h =
 resolved-under (e ∷ es) outer q (Within first after last closing since) names p at runs h =
     within-step e es (resolved-under es) outer q first after last closing since names p at runs h
 
--- Where the runs of each heading stand by themselves, a nested list stays nested.
+-- Where the runs of each heading are by themselves, a nested list stays nested.
 pub headings-nested : (es : List Event) → HeadingsNest es → Nested es → Nested (headings_resolved es)
 headings-nested es runs h =
     under-nested (headings_resolved es)
     (resolved-under es [] first_point Outside [] first_point (at_or_before-refl first_point) runs (nested-under es h))
 
--- The runs of a heading as its states give it, `#` in front of text, stand so.
+-- The runs of a heading as its states give it, `#` before text, are so.
 sample : (p q : Point) →
     HeadingsNest
     (around n.HeadingAtx p q (pair n.HeadingAtxSequence p q ++ pair n.SpaceOrTab p q ++ pair n.Data p q))

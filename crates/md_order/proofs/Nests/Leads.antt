@@ -13,7 +13,7 @@ use Rattle.md_seam.proofs.NestedLemmas.{forward-last, last_point-append, matches
 use Rattle.md_seam.proofs.NestedLemmas.{open_after-append, open_after-under}
 use Rattle.md_order.specs.HeadingsNest.{StandsAlone}
 
--- one point does not stand behind another
+-- one point is not after another
 abbrev pub Before : Point → Point → Type 0
 Before p q = IsTrue (at_or_before p q)
 
@@ -43,7 +43,7 @@ leads-event names p e fits h = record {
   ends = at_or_before-refl e.point;
 }
 
--- Some behind others.
+-- Some after others.
 
 pub leads-from : {from to : List Name} {q r : Point} (p : Point) (xs : List Event) → Before p q →
     Leads from to q r xs → Leads from to p r xs
@@ -86,7 +86,7 @@ leads-under {from = from} outer xs h = record {
   ends = h.ends;
 }
 
--- In front of the rest.
+-- Before the rest.
 
 pub under-leads : {names to : List Name} {p q : Point} (xs ys : List Event) → Leads names to p q xs → Under to q ys →
     Under names p (xs ++ ys)
@@ -104,7 +104,7 @@ under-from {q = q} p xs h k = record {
   forward = forward-from p q xs h k.forward;
 }
 
--- one event, and what stands behind it
+-- one event, and what follows it
 pub under-event : {names : List Name} {p : Point} (e : Event) (es : List Event) → Fits names e.kind e.name →
     Before p e.point → Under (open_behind names e.kind e.name) e.point es → Under names p (e ∷ es)
 under-event e es fits h k = record {
@@ -144,7 +144,7 @@ fits-inside names name outer e inside fits = go names e.kind inside fits
     go [] Exit h k = absurd (h refl k)
     go (innermost ∷ names) Exit h k = k
 
--- A part that stands by itself: nothing is open where it begins, nor behind its end.
+-- A part that is by itself: nothing is open where it begins, nor after its end.
 
 pub alone-begun : (names : List Name) (e : Event) → e.kind ≡ Enter → StandsAlone names e.kind e.name → names ≡ []
 alone-begun names e enters h = subst (λ (k : Kind). StandsAlone names k e.name) enters h

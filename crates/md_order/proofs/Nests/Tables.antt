@@ -33,7 +33,7 @@ use Rattle.md_order.proofs.Nests.Cells.{Goes as CellGoes, IsIn, cell-goes, opene
 use Rattle.md_order.proofs.Nests.Leads.{Before, Under, behind-under, fits-inside, leads-append, leads-event}
 use Rattle.md_order.proofs.Nests.Leads.{leads-under, nested-under, under-event, under-leads, under-nested, under-rest}
 
--- Where the walk stands.
+-- Where the walk is.
 
 -- what the section of a table has open
 abbrev has_open : Section → List Name
@@ -55,7 +55,7 @@ Stands (InTable headed names) s row.Outside es = IsSection headed s
 Stands (InRow headed k names) s stage es = IsSection headed s × IsIn k stage names es
 Stands _ _ _ _ = ⊥
 
--- what is open where the rest begins, and behind what was given
+-- what is open where the rest begins, and after what was given
 abbrev open_read : Place → List Name → List Name
 open_read Outside outer = outer
 open_read (InTable headed names) outer = names ++ n.GfmTable ∷ outer
@@ -67,7 +67,7 @@ open_given (InTable headed names) s stage outer = names ++ (has_open s ++ n.GfmT
 open_given (InRow headed k names) s stage outer =
     opened stage names ++ row_name k ∷ (has_open s ++ n.GfmTable ∷ outer)
 
--- What is shown of a walk over some events, wherever it stands.
+-- What is shown of a walk over some events, wherever it is.
 abbrev Goes : List Event → List Name → Place → Section → Stage → Point → Type 0
 Goes es outer place s stage p =
     Stands place s stage es → RowsStand place es → Under (open_read place outer) p es →
@@ -100,7 +100,7 @@ no-section : (headed : Bool) → IsSection headed part.Outside → ⊥
 no-section true h = h
 no-section false h = h
 
--- what is given for one is told by its row
+-- what is given for one is known from its row
 quiet-given : (headed : Bool) (s : Section) (stage : Stage) (e : Event) (es : List Event) → IsSection headed s →
     is_quiet (bound_of e) ≡ true →
     tabled_from s stage (e ∷ es) ≡ (step stage e es).given ++ tabled_from s (step stage e es).stage es
@@ -488,13 +488,13 @@ tabled-under (e ∷ es) outer (InRow headed k names) s stage p at asks h =
     row-step e es (tabled-under es) outer headed k names s stage p at asks h
 tabled-under (e ∷ es) outer place s stage p at asks h = absurd at
 
--- Where the rows of each table stand by themselves, a nested list stays nested.
+-- Where the rows of each table are by themselves, a nested list stays nested.
 pub tables-nested : (es : List Event) → TablesNest es → Nested es → Nested (tabled es)
 tables-nested es rows h =
     under-nested (tabled es)
     (tabled-under es [] Outside part.Outside row.Outside first_point tt rows (nested-under es h))
 
--- The rows of a table as its states give it, of one cell, stand so.
+-- The rows of a table as its states give it, of one cell, are so.
 
 never : {A : Type 0} → false ≡ true → A
 never h = absurd (let no : false ≡ true = h in cc)

@@ -1,6 +1,6 @@
 -- Events with their setext headings nest as they did.
 --
--- What is open in the events with headings follows from what is open in those without: a heading stands around what was
+-- What is open in the events with headings follows from what is open in those without: a heading is around what was
 -- entered since its text ended, and around its text and its underline.
 use Rattle.std.proofs.Common.{◌≡◌, Bool, true, false, cond, List, [], ◌∷◌, ◌++◌, refl, ap, sym, ◌∙◌, subst}
 use Rattle.std.specs.Prelude.{IsTrue, length, Option}
@@ -79,7 +79,7 @@ event kind name p link = record { kind = kind; name = name; point = p; link = li
 abbrev KeepsBy : List Event → Point → Option Link → Kind → Name → Type 0
 KeepsBy es p link kind name = Keeps (event kind name p link ∷ es)
 
--- where others stand alone no paragraph begins, and what is innermost is neither a paragraph nor an underline
+-- where others are alone no paragraph begins, and what is innermost is neither a paragraph nor an underline
 is_none : {X : Type 0} → IsOther true false → X
 is_none h = absurd (let no : true ≡ false = h.0 in cc)
 
@@ -212,7 +212,7 @@ pass-gap Exit name p link es [] outer keeps other good matches may more = absurd
 pass-gap Exit name p link es (same ∷ inside) outer keeps other good matches may more =
     let k : Kept (Gap inside outer) es = keeps (Gap inside outer) good.1 matches.1 more in ((matches.0, k.0), k.1)
 
--- what is asked of such an event, and where one is behind it
+-- what is asked of such an event, and where one is after it
 same-spot : (spot : Spot) (kind : Kind) (x y turned : Bool) (es : List Event) → IsOther x y →
     MayStandAt spot kind x y × TurnsNestFrom (spot_by spot kind x y turned) es →
     MayStandAt spot kind false false × TurnsNestFrom (spot_by spot kind false false turned) es
@@ -313,7 +313,7 @@ turned-forward on p (e ∷ es) h =
     given-forward (turn e) on (is_turned es) p e (turned_from (on_after on e es) es) h.0
     (turned-forward (on_after on e es) e.point es h.1)
 
--- Events with their setext headings nest, if they did and headings may stand there.
+-- Events with their setext headings nest, if they did and headings may be there.
 pub turned-nested : (events : List Event) → TurnsNest events → Nested events → Nested (turned events)
 turned-nested events nests nested =
     let k : Kept (Free []) events = keeps-all events (Free []) tt nested.balanced.matches nests in
@@ -322,7 +322,7 @@ turned-nested events nests nested =
       forward = turned-forward false first_point events nested.forward;
     }
 
--- A paragraph and its underline stand so as states give them, an ending between them.
+-- A paragraph and its underline are so as states give them, an ending between them.
 sample : (p q r s : Point) →
     TurnsNest
     (around n.Paragraph p q (pair n.Data p q) ++ pair n.LineEnding q r

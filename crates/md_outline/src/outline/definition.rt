@@ -12,7 +12,7 @@ use crate::outline::lines::{
 use md_engine::message::Message;
 use md_meaning::outline::{OutlineLine, Word};
 
-/// The word that shows the lines of the part that is read, if a definition is open: its label, and behind that its
+/// The word that shows the lines of the part that is read, if a definition is open: its label, and after that its
 /// title.
 pub fn part_of(form: Form, is_told: bool) -> Option<Word>
     ensures { result ≡ part_of form is_told }
@@ -23,7 +23,7 @@ pub fn part_of(form: Form, is_told: bool) -> Option<Word>
     }
 }
 
-/// Adds what the text of a part ends with: all of it, or what is left behind a prefix.
+/// Adds what the text of a part ends with: all of it, or what is left after a prefix.
 pub fn push_part_end<'a>(
     lines: &mut Vec<OutlineLine<'a>>,
     depth: usize,
@@ -42,7 +42,7 @@ pub fn push_part_end<'a>(
     }
 }
 
-/// Adds what stands in the text of a part in front of a prefix.
+/// Adds what is in the text of a part before a prefix.
 pub fn push_part_piece<'a>(
     lines: &mut Vec<OutlineLine<'a>>,
     depth: usize,

@@ -1,6 +1,6 @@
 // What an outline knows of a leaf block of several lines that is open, and what it shows of it: indented code, fenced
 // code, math, HTML, setext headings, definitions, tables and frontmatter. Its lines are shown as they come, and the
-// line of its word is told later what its fences, its underline or its cells say.
+// line of its word is said later what its fences, its underline or its cells say.
 
 ghost use Rattle.std.specs.Prelude.{◌≡◌, ◌+◌, ◌∷◌, [], ◌++◌, OnOk};
 ghost use Rattle.std.specs.Str.{IsUtf8};
@@ -18,9 +18,9 @@ use md_meaning::outline::{OutlineLine, Word};
 /// How the lines of a leaf block come.
 #[derive(Clone, Copy)]
 pub enum Form {
-    /// Each by itself, behind a line ending.
+    /// Each by itself, after a line ending.
     Lines,
-    /// The same, without the virtual spaces in front of it: frontmatter.
+    /// The same, without the virtual spaces before it: frontmatter.
     Texts,
     /// As those of its text: a heading.
     Heading,
@@ -35,7 +35,7 @@ pub enum Form {
 pub struct Lined {
     /// The line of the outline that has its word.
     pub place: usize,
-    /// Whether it has told its markers, so that a further fence closes it, or its label, or its delimiter row.
+    /// Whether it has said its markers, so that a further fence closes it, or its label, or its delimiter row.
     pub is_fenced: bool,
     pub form: Form,
 }
@@ -55,7 +55,7 @@ impl Form {
         matches!(self, Form::Lines | Form::Texts)
     }
 
-    /// The virtual spaces that a line is shown with, of those in front of it.
+    /// The virtual spaces that a line is shown with, of those before it.
     pub fn spaces(self, spaces: usize) -> usize
         ensures { result ≡ spaces_of self spaces }
     {
@@ -156,7 +156,7 @@ pub fn drop_end(lines: &mut Vec<OutlineLine>)
     lines.truncate(lines.len().saturating_sub(1));
 }
 
-/// Closes it: its last line, on which the fence stands, is none.
+/// Closes it: its last line, on which the fence is, is none.
 pub fn close_head(lines: &mut Vec<OutlineLine>, place: usize)
     ensures { entries_of lines.new.items ≡ with_head closed_word place (without_end (entries_of lines.old.items)) }
 {

@@ -29,7 +29,7 @@ pub fn is_space_or_tab(byte: u8) -> bool
     byte == b' ' || byte == b'\t'
 }
 
-/// How many spaces and tabs stand at the front.
+/// How many spaces and tabs are at the front.
 pub fn white_len(bytes: &[u8]) -> usize
     ensures value { result ≡ prefix_len is_white bytes.now }
     ensures bound { result ≤ length bytes.now }
@@ -40,7 +40,7 @@ pub fn white_len(bytes: &[u8]) -> usize
         .count()
 }
 
-/// How many spaces and tabs stand at the end.
+/// How many spaces and tabs are at the end.
 fn white_end_len(bytes: &[u8]) -> usize
     ensures value { result ≡ suffix_len is_white bytes.now }
     ensures bound { result ≤ length bytes.now }
@@ -52,7 +52,7 @@ fn white_end_len(bytes: &[u8]) -> usize
         .count()
 }
 
-/// How many bytes stand before the first line ending. Most bytes are greater than CR, and many of them are compared at
+/// How many bytes are before the first line ending. Most bytes are greater than CR, and many of them are compared at
 /// once.
 pub fn first_line_len(text: &[u8]) -> usize
     ensures value { result ≡ line_len text.now }
@@ -102,7 +102,7 @@ pub fn text_of(bytes: &[u8]) -> &str
     str::from_utf8(bytes).unwrap_or("")
 }
 
-/// The text of a line after the spaces and tabs in front of it.
+/// The text of a line after the spaces and tabs before it.
 pub fn line_text(line: &[u8]) -> &str
     ensures { IsUtf8 line.now → result.now ≡ trim_start line.now }
 {
@@ -141,7 +141,7 @@ pub fn push<'a>(
     }
 }
 
-/// Adds the lines of a text that have an ending, and answers what stands behind the last ending.
+/// Adds the lines of a text that have an ending, and answers what follows the last ending.
 #[inline(always)]
 pub fn push_full_lines<'a>(
     lines: &mut Vec<OutlineLine<'a>>,
@@ -179,7 +179,7 @@ pub fn push_lines<'a>(
     push(lines, depth, word, line_text(rest))
 }
 
-/// Adds the lines of a text, the first as it stands.
+/// Adds the lines of a text, the first as it is.
 pub fn push_first_lines<'a>(
     lines: &mut Vec<OutlineLine<'a>>,
     depth: usize,
@@ -197,7 +197,7 @@ pub fn push_first_lines<'a>(
     push_lines(lines, depth, word, behind_ending(ending))
 }
 
-/// Adds the first line of a text, as it stands, and those behind it that have an ending.
+/// Adds the first line of a text, as it is, and those after it that have an ending.
 pub fn push_first_full<'a>(
     lines: &mut Vec<OutlineLine<'a>>,
     depth: usize,
@@ -213,8 +213,8 @@ pub fn push_first_full<'a>(
     Ok(())
 }
 
-/// Whether a text, which is short, is seen to be one line: each of its bytes comes behind CR. All are
-/// looked at, so that no look waits for the one before.
+/// Whether a text, which is short, is seen to be one line: each of its bytes comes after CR. All are looked at, so that
+/// no look waits for the one before.
 fn is_one_line(text: &[u8]) -> bool
     ensures { result ≡ true → line_len text.now ≡ length text.now }
 {

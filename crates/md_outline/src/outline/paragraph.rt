@@ -41,7 +41,7 @@ pub fn push_block<'a>(
     push_lines(lines, next(depth)?, Word::Line, text)
 }
 
-/// Adds what stands in it in front of a prefix: nothing where another prefix ends there.
+/// Adds what is in it before a prefix: nothing where another prefix ends there.
 pub fn push_piece<'a>(
     lines: &mut Vec<OutlineLine<'a>>,
     depth: usize,

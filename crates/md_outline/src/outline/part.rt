@@ -21,8 +21,8 @@ fn entered(event: Event) -> usize
     }
 }
 
-/// How many events the first blocks are: the fewest behind which each part has ended, but not fewer than
-/// `LEAST_EVENTS`, or all.
+/// How many events the first blocks are: the fewest after which each part has ended, but not fewer than `LEAST_EVENTS`,
+/// or all.
 ///
 /// It counts the first of them four at a time.
 pub fn part_end(events: &[Event]) -> usize

@@ -12,7 +12,7 @@ use md_engine::event::Name;
 use md_engine::message::Message;
 use md_meaning::outline::{OutlineLine, Word};
 
-/// What a text tells the leaf block that it stands in.
+/// What a text shows the leaf block that it is in.
 #[derive(Clone, Copy)]
 pub enum Note {
     /// A run of markers.
@@ -52,7 +52,7 @@ pub enum Purpose {
     FootnoteLabel,
 }
 
-/// A leaf block that is open, with what it was told.
+/// A leaf block that is open, with what it was said.
 #[derive(Clone, Copy)]
 pub enum Leaf<'a> {
     Break,
@@ -147,7 +147,7 @@ pub fn role_of<'a>(name: Name) -> Role<'a>
 }
 
 impl<'a> Leaf<'a> {
-    /// The leaf behind a text that tells it this.
+    /// The leaf after a text that shows it this.
     pub fn noted(self, note: Note, text: &'a [u8]) -> Leaf<'a>
         ensures { IsUtf8 text.now → leaf_of result ≡ noted note text.now (leaf_of self.entry) }
     {

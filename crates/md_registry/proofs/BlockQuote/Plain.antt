@@ -15,7 +15,7 @@ use Rattle.md_container_rooms.specs.Containers.BlockQuote.{quote_rules}
 use Rattle.md_registry.specs.States.{FlowStep}
 use Rattle.md_registry.proofs.PlainLaws.{PlainLaws, others}
 
--- what is seen here stands first behind whitespace, unless it is whitespace
+-- what is seen here is first after whitespace, unless it is whitespace
 sees-quote : (w : World) → w.current ≡ Some 62 → looks_behind w ≡ Some 62
 unfolding looks_behind
 sees-quote w e =

@@ -33,7 +33,7 @@ row-flows name w to new (OfRow p named to_is new_is) =
 row-flows name w to new (OfWhite state named to_is new_is) =
     subst (λ (x : StateName). FlowStep x w to new) (sym named) (record { to_is = to_is; new_is = new_is })
 
--- From a state of flow one has come to another, where its table stands and sees what stands here.
+-- From a state of flow one has reached another, where its table is and sees what is here.
 pub record Stood (first : StateName) (old : World) (name : StateName)
     (w : World) : Type 0 where
   pub came : CameHere FlowStep first old name w
@@ -62,7 +62,7 @@ stood-leaves first old name w to new h runs sees =
       sees-from to old w new sees kept.2 h.may,
     )
 
--- or goes on with the state that it answers
+-- or continues with the state that it answers
 pub stood-goes : (first : StateName) (old : World) (name : StateName)
     (w : World) (to : State) (u : World) (next : StateName) (new : World) →
     Stood first old name w → RunsHere FlowStep name w to u → SeesOn to w u →

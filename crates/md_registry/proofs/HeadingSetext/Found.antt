@@ -31,7 +31,7 @@ use Rattle.md_literal_rooms.proofs.HtmlFlow.Found.{html-first}
 
 -- Its depth.
 
--- what is left of a run without the whitespace behind it is all the marker
+-- what is left of a run without the whitespace after it is all the marker
 run-all : (m : ℕ) (bs : List ℕ) → is_white m ≡ false → list_all (λ c. c == m) (trim_end bs) ≡ is_run m bs
 run-all m [] dark = refl
 run-all m (b ∷ bs) dark =
@@ -64,7 +64,7 @@ run-trims m b bs dark black =
     left =
         trim-more b bs ∙ ap (λ (x : Bool). cond x [] (b ∷ trim_end bs)) (ap (λ (x : Bool). x && is_blank bs) black)
 
--- the depth of what stands behind the indent
+-- the depth of what follows the indent
 abbrev by_line : List ℕ → Option ℕ
 by_line bs = cond (is_underline bs) (Some (cond (first_byte bs == equals_sign) 1 2)) None
 
@@ -77,7 +77,7 @@ by_runs text =
 no-run : (m b : ℕ) (bs : List ℕ) → (b == m) ≡ false → is_white b ≡ false → is_run m (b ∷ bs) ≡ false
 no-run m b bs other black = run-other m b bs other ∙ ap (λ (x : Bool). x && is_blank bs) black
 
--- both are the same, behind whitespace
+-- both are the same, after whitespace
 depth-is : (b : ℕ) (bs : List ℕ) → is_white b ≡ false → by_runs (trim_end (b ∷ bs)) ≡ by_line (b ∷ bs)
 depth-is b bs black =
     ap₂ (λ (x y : Bool). cond x (Some 1) (cond y (Some 2) None)) (run-trims equals_sign b bs refl black)
@@ -97,7 +97,7 @@ depth-is b bs black =
         ∙ sym
         (ap₂ (λ (x y : Bool). cond ((x || y) && is_run b (b ∷ bs)) (Some (cond x 1 2)) None) e k)
 
--- also where nothing stands
+-- also where nothing is
 depth-at : (bs : List ℕ) → begins is_white bs ≡ false → by_runs (trim_end bs) ≡ by_line bs
 depth-at [] black = refl
 depth-at (b ∷ bs) black = depth-is b bs black
@@ -140,7 +140,7 @@ setext-found options on r may =
     depth-found options r
     ∙ ap (λ (x : Bool). cond x (Some (depth_of r)) None) (sym (starts-by options on r true may))
 
--- where none stands, no line is one
+-- where none is, no line is one
 pub none-underlined : (options : ParseOptions) (r : Rest) → underline_depth options r ≡ None →
     is_underlined options r ≡ false
 none-underlined options r none = go (is_underlined options r) (sym (depth-found options r) ∙ none)
@@ -204,7 +204,7 @@ pub record StartsNone (options : ParseOptions) (on : HeldLeaf) (r : Rest) : Type
   pub html : html_leaf.starts options on r ≡ false
   pub heading : heading_leaf.starts options on r ≡ false
 
--- so it is behind text
+-- so it is after text
 pub underlined-first : (options : ParseOptions) (on : HeldLeaf) (r : Rest) → is_text on ≡ true →
     is_underlined options r ≡ true → StartsNone options on r
 underlined-first options on r text is = record {

@@ -155,7 +155,7 @@ lines-small options bytes small row rows h =
     (text-follows w.setting w.setting.limit true r.small (omega arith) (λ e. refl)).short w.point in
     omega (arith, short)
 
--- Where they stand.
+-- Where they are.
 
 -- cells that are fed, of which none ends a line
 feed-steps : (x : Setting) (bytes : List ℕ) (xs ys : List Cell) (p : Point) → x.limit < 2 ^ 61 → x.bytes ≡ bytes →
@@ -284,7 +284,7 @@ lines-go options bytes row [] h =
 lines-go options bytes row (next ∷ rows) h =
     row-goes options bytes h.0 row h.1 h.2 (cell 10 next.first no_line ∷ lines_are options bytes next rows h.7)
 
--- cells of a line in front of others
+-- cells of a line before others
 steps-walk : (bytes : List ℕ) (last p : Point) (xs ys : List Cell) (turns : List Turn) → Steps bytes p xs →
     Walks bytes last (point_after xs p) ys turns → Walks bytes last p (xs ++ ys) turns
 steps-walk bytes last p [] ys turns steps walks = walks
@@ -365,7 +365,7 @@ lines-walks options bytes sized x k row (next ∷ rows) h r said within =
     next-stands row [] h = row-stands options bytes h.0 row h.1 h.2
     next-stands row (next ∷ rows) h = row-stands options bytes h.0 row h.1 h.2
 
--- The cells of lines stand in the text, one after another.
+-- The cells of lines are in the text, one after another.
 pub lines-walk : (options : ParseOptions) (bytes : List ℕ) → length bytes < 2 ^ 61 → (row : Row) (rows : List Row) →
     AreLines options bytes row rows →
     Walk bytes (last_row row rows).end row.first (lines_cells options bytes row rows) (turns_of options bytes row rows)

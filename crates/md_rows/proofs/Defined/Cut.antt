@@ -1,4 +1,4 @@
--- A definition that lines of a text begin with takes some of these lines, over which it has a form, and behind it stand
+-- A definition that lines of a text begin with takes some of these lines, over which it has a form, and after it are
 -- the others.
 use Rattle.std.proofs.Common.{◌≡◌, inl, inr, ℕ, ◌+◌, ◌^◌, ◌<◌, ◌≤◌, true, false, nat_eq, List, [], ◌∷◌, ◌++◌, length}
 use Rattle.std.proofs.Common.{take, drop, refl, sym, ap, ◌∙◌, subst, arith, append-nil, Some}
@@ -26,14 +26,14 @@ use Rattle.md_content_rooms.proofs.Defined.Placed.{Before, Fits, bared, placed}
 use Rattle.md_content_rooms.proofs.Defined.Takes.{EndIn, Walk, step-plain}
 use Rattle.md_rows.proofs.GroupLines.{AreLines}
 
--- what stands behind it: nothing, or the ending of its last line and the cells of the others
+-- what follows it: nothing, or the ending of its last line and the cells of the others
 abbrev pub IsBehind : ParseOptions → List ℕ → DefinitionParts → List Row → Type 0
 IsBehind options bytes d [] = definition_rest d ≡ []
 IsBehind options bytes d (next ∷ more) =
     (said : Line) × (definition_rest d ≡ cell 10 next.first said ∷ lines_cells options bytes next more)
 
--- its events over lines that end all at a point: without what stands in front of these lines they are others, which
--- belong to their lines by their bytes
+-- its events over lines that end all at a point: without what is before these lines they are others, which belong to
+-- their lines by their bytes
 pub record IsSet (last : Point) (d : DefinitionParts) (row : Row) (rows : List Row) : Type 0 where
   pub settled : List Event
   pub settles : (bs : List LineBreak) → Before (definition_end d) bs → (more : List Event) →
@@ -85,7 +85,7 @@ taken options bytes row (next ∷ rows) (t ∷ took) left e =
       last = more.last;
     }
 
--- What stands behind a definition.
+-- What follows a definition.
 
 record Behind (options : ParseOptions) (bytes : List ℕ) (d : DefinitionParts) (row : Row) (rows : List Row) :
     Type 0 where

@@ -1,4 +1,4 @@
--- No leaf but a definition has a label: what a line comes to, and the block that a leaf shows.
+-- No leaf but a definition has a label: what a line becomes, and the block that a leaf shows.
 use Rattle.std.proofs.Common.{◌≡◌, ℕ, Bool, true, false, cond, List, [], ◌∷◌, ◌++◌, refl, ap, ◌∙◌, append-nil}
 use Rattle.std.specs.Prelude.{◌==◌, nat_lt, length, Option, Some, None}
 use Rattle.md_engine.specs.declared.configuration.ParseOptions.{ParseOptions}
@@ -29,7 +29,7 @@ abbrev pub IsNoText : Leaf → Type 0
 IsNoText (OpenParagraph lines) = ⊥
 IsNoText _ = Unit {0}
 
--- what a line came to is no text, and has no label
+-- what a line became is no text, and has no label
 abbrev pub IsUnlabelled : LeafResult → Type 0
 IsUnlabelled (Opened open_leaf) = IsNoText open_leaf
 IsUnlabelled (Finished block) = defined_by block ≡ []

@@ -31,14 +31,14 @@ lines-front options bytes row [] (next ∷ rest) h = (h.0, h.1, h.2)
 lines-front options bytes row (x ∷ own) rest h =
     (h.0, h.1, h.2, h.3, h.4, h.5, h.6, lines-front options bytes x own rest h.7)
 
--- What stands in the place of lines, three times: what these functions have, cut at definitions. Behind a definition
--- more lines remain, of which something is known, or none, and then it is all.
+-- What is in the place of lines, three times: what these functions have, cut at definitions. After a definition more
+-- lines remain, of which something is known, or none, and then it is all.
 abbrev pub IsRest : (options : ParseOptions) (bytes : List ℕ) →
     ((row : Row) (rows : List Row) → AreLines options bytes row rows → Type 0) → Type 0 → List Row → Type 0
 IsRest options bytes C All [] = All
 IsRest options bytes C All (next ∷ more) = (are : AreLines options bytes next more) → C next more are
 
--- What is asked of such events: where no definition is cut, of one alone, and of one with further lines behind it.
+-- What is asked of such events: where no definition is cut, of one alone, and of one with further lines after it.
 pub record OfCuts (options : ParseOptions) (bytes : List ℕ)
     (C : (row : Row) (rows : List Row) → AreLines options bytes row rows → Type 0)
     (before unread done : Row → List Row → List Event)
@@ -75,7 +75,7 @@ module _ (options : ParseOptions) (bytes : List ℕ)
   abbrev cut_done : ℕ → Row → List Row → List Event
   cut_done k = cut_at_most (defined_done bytes) done options bytes k
 
-  -- by the lines behind a definition
+  -- by the lines after a definition
   behind-cut : (k : ℕ) (row : Row) (own left : List Row) (d : DefinitionParts) →
       AreLines options bytes row (own ++ left) → IsDefined bytes d row own →
       IsRest options bytes C
@@ -152,7 +152,7 @@ module _ (options : ParseOptions) (bytes : List ℕ)
           (λ next below shorter.
           further next below (let size = length-drop few rows in omega (arith, size, lt, shorter))))
 
--- What stands in the place of the lines of a text is such.
+-- What is in the place of the lines of a text is such.
 pub cut-is : (options : ParseOptions) (bytes : List ℕ) (row : Row) (rows : List Row) → AreLines options bytes row rows →
     IsCutText options bytes row rows (text_unread options bytes row rows) (text_done options bytes row rows)
 cut-is options bytes row rows are =

@@ -21,7 +21,7 @@ use Rattle.md_rows.proofs.GroupLemmas.{line_end-alone, text-some}
 use Rattle.md_rows.proofs.RowFacts.{IsRow}
 use Rattle.md_content_rooms.proofs.Text.ChunkStays.{chunk-stays}
 
--- a line of a text part with what stands in front of the next, and the next
+-- a line of a text part with what is before the next, and the next
 pub filling-next : (bytes : List ℕ) (q r : Point) (chunk front rest : List Event) → Stays chunk →
     LinePrefix bytes [] q r front → Filling rest → Filling (chunk ++ front ++ rest)
 filling-next bytes q r chunk front rest h is k =

@@ -1,5 +1,5 @@
 -- The names of the events of a definition: what holds of lists of events with such names, of endings, and of such lists
--- one behind the other holds of all of it, and of a text from which definitions are cut.
+-- one after the other holds of all of it, and of a text from which definitions are cut.
 use Rattle.std.proofs.Common.{◌≡◌, ℕ, Bool, true, false, cond, List, [], ◌∷◌, ◌++◌, refl, sym, subst, ◌&&◌, not}
 use Rattle.std.specs.Prelude.{Option, Some, None}
 use Rattle.md_engine.specs.declared.configuration.ParseOptions.{ParseOptions}
@@ -49,7 +49,7 @@ prefix-in : (name : Name) → is_prefix name ≡ true → is_in_definition name 
 prefix-in n.SpaceOrTab h = refl
 prefix-in _ h = cc
 
--- what holds of lists of such events, of an ending, and of such lists one behind the other
+-- what holds of lists of such events, of an ending, and of such lists one after the other
 pub record OfDefinitions (L : List Event → Type 0) : Type 0 where
   pub all : (es : List Event) → Each IsInDefinition es → L es
   pub append : (xs ys : List Event) → L xs → L ys → L (xs ++ ys)
@@ -86,7 +86,7 @@ not-turned _ h = cc
 pub unturned-of : OfDefinitions AreUnturned
 unturned-of = of-each IsUnturned (λ e is. not-turned e.name is)
 
--- none of a block that others are held from is open behind them.
+-- none of a block that others are held from is open after them.
 opens-none : (name : Name) → is_in_definition name ≡ true → opened_by name ≡ Nothing
 opens-none n.HeadingAtx h = cc
 opens-none _ h = cc
@@ -121,7 +121,7 @@ around-of L of name p q inside h k =
     let end : List Event = exit name q ∷ [] in
     of.append begin (inside ++ end) (of.all begin (h, tt)) (of.append inside end k (of.all end (h, tt)))
 
--- a mark, what it stands in front of, and the mark behind that
+-- a mark, what it is before, and the mark after that
 marked-of : (L : List Event → Type 0) → OfDefinitions L → (name : Name) (p a b q : Point) (inside : List Event) →
     is_in_definition name ≡ true → L inside → L (pair name p a ++ inside ++ pair name b q)
 marked-of L of name p a b q inside h k =

@@ -1,4 +1,4 @@
--- The lines of a text stand one behind the other.
+-- The lines of a text are one after the other.
 use Rattle.std.proofs.Common.{◌≡◌, ℕ, true, List, [], ◌∷◌, refl, sym, subst, ◌&&◌}
 use Rattle.std.specs.Prelude.{IsTrue}
 use Rattle.std.proofs.lemmas.Bool.{and_from}
@@ -23,7 +23,7 @@ pub line-order : (options : ParseOptions) (bytes line : List ℕ) (row : Row) �
 line-order options bytes line row is =
     subst (λ (q : Point). IsTrue (at_or_before row.first q)) (sym is.end) (before-text line row.first)
 
--- the chunks of a text stand one behind the other
+-- the chunks of a text are one after the other
 pub chunks-order : (options : ParseOptions) (bytes : List ℕ) (row : Row) (rows : List Row) →
     AreLines options bytes row rows → in_order row.first (chunks_of row rows) ≡ true
 chunks-order options bytes row [] h =
@@ -51,7 +51,7 @@ line-before options bytes row next rows h =
     (at_or_before-trans row.first row.end h.3 (line-order options bytes h.0 row h.1)
     (ending-order bytes row.end h.3 h.5))
 
--- what stands in front of the next line, from behind the ending of the one before
+-- what is before the next line, from the end the ending of the one before
 pub next-front : (options : ParseOptions) (bytes : List ℕ) (row next : Row) (rows : List Row) →
     AreLines options bytes row (next ∷ rows) → LinePrefix bytes [] (behind_row row) next.first next.front
 next-front options bytes row next rows h =

@@ -32,13 +32,13 @@ use Rattle.md_frame.proofs.BetweenFacts.{ending-behind}
 use Rattle.md_rows.proofs.GroupLines.{AreLines}
 use Rattle.md_content_rooms.proofs.Text.MayPart.{MayPart, feed-none, line-at, line-clear, line-tab}
 
--- where a line of text begins: behind a tab that is cut stands a byte of it, and no line feed
+-- where a line of text begins: after a tab that is cut is a byte of it, and no line feed
 pub record BeginsText (bytes : List ℕ) (row : Row) : Type 0 where
   fine : not (slice_index bytes (byte_at row.first) == 10) ≡ true
   within : byte_at row.first ≤ row.end.index
   white : is_blank (slice_range bytes row.first.index (byte_at row.first)) ≡ true
 
--- it stands in a text that goes on with a line
+-- it is in a text that continues with a line
 abbrev pub Core : List ℕ → Row → List Event → Type 0
 Core bytes row es =
     (span : OpenTextSpan) → Fine bytes span → span.from ≤ row.end.index → are_parted bytes (Some span) es ≡ true
@@ -118,7 +118,7 @@ core-alone bytes name purpose row ys tells may h span fine within =
     ∙ and_from (parts_exit bytes (TextRole purpose) row.end span) (are_parted bytes None ys)
     (may row.end span ∙ begins-fine bytes span row.end.index fine) h
 
--- so it is behind the first line, and what stands in front of the next
+-- so it is after the first line, and what is before the next
 pub read-parted : (options : ParseOptions) (bytes : List ℕ) (name : Name) (purpose : Purpose) (row : Row)
     (rows : List Row) (ys : List Event) →
     role name ≡ TextRole purpose → MayPart bytes purpose → AreLines options bytes row rows →

@@ -1,5 +1,5 @@
--- What stands in the place of the lines of a text is read as what the line definition comes to where it shuts an open
--- text of these lines: the definitions that are cut from their front, and a paragraph of those that remain.
+-- What is in the place of the lines of a text is read as what the line definition reaches where it shuts an open text
+-- of these lines: the definitions that are cut from their front, and a paragraph of those that remain.
 use Rattle.std.proofs.Common.{◌≡◌, ℕ, zero, suc, ◌<◌, ◌≤◌, Bool, true, false, cond, List, [], ◌∷◌, ◌++◌, length, drop}
 use Rattle.std.proofs.Common.{take, inl, inr, refl, ap, sym, ◌∙◌, subst, arith}
 use Rattle.std.specs.Prelude.{Option, Some, None, option_map}
@@ -101,7 +101,7 @@ lines-definition options bytes row rows are =
     (cells-whole options bytes row rows are)
     ∙ ap (λ (cells : List Cell). cut_of (definition_parts cells)) (sym same)
 
--- What it tells.
+-- What it shows.
 abbrev pub defined_of : DefinitionParts → Defined
 defined_of d = record {
   label = cell_lines false (whole_cells d.label.opener.after d.label.text);
@@ -140,7 +140,7 @@ defined-reads bytes d row rows r is none shut =
         ∙ ap (λ (title : Option (List (List ℕ))). Definition (defined_of d).label (defined_of d).destination title)
         (is.title_lines ∙ titles d.title)
 
--- What the line definition comes to.
+-- What the line definition becomes.
 
 -- it cuts definitions where they are on
 pub cut-as : (options : ParseOptions) (lines : List (List ℕ)) (x : Bool) → options.constructs.definition ≡ x →
@@ -164,7 +164,7 @@ lines-alone options bytes row (next ∷ rows) are r none shut =
     read-lines bytes row (next ∷ rows) (kept-of options bytes row (next ∷ rows) are) r
     (lines-read options bytes row (next ∷ rows) are) none
 
--- those behind some of them
+-- those after some of them
 abbrev pub IsMore : ParseOptions → List ℕ → List Row → Type 0
 IsMore options bytes [] = Unit {0}
 IsMore options bytes (next ∷ more) =
@@ -177,7 +177,7 @@ lines-behind options bytes zero row (next ∷ rows) are = (are.3, are.6, are.7)
 lines-behind options bytes (suc k) row [] are = tt
 lines-behind options bytes (suc k) row (next ∷ rows) are = lines-behind options bytes k next rows are.7
 
--- what stands behind a definition are these lines
+-- what follows a definition are these lines
 pub further-behind : (options : ParseOptions) (bytes : List ℕ) (d : DefinitionParts) (next : Row) (below : List Row) →
     (are : AreLines options bytes next below) → IsBehind options bytes d (next ∷ below) →
     further (definition_rest d) ≡ texts (kept-of options bytes next below are)
@@ -193,7 +193,7 @@ pub none-behind : (options : ParseOptions) (bytes : List ℕ) (d : DefinitionPar
 none-behind options bytes d behind =
     ap (λ (cells : List Cell). cut_definitions (further cells)) behind ∙ cut_definitions-none [] none-found
 
--- what stands between it and the next line is not read
+-- what is between it and the next line is not read
 pub read-gap : (options : ParseOptions) (bytes : List ℕ) (last next : Row) (left : List Row) (r : Reading) →
     IsMore options bytes (next ∷ left) → r.text ≡ None → r.leaf ≡ None →
     read bytes r (ending_events n.LineEnding last ++ next.front) ≡ r
@@ -207,14 +207,14 @@ read-gap options bytes last next left r more none shut =
 
 -- At most so many definitions, and what remains.
 
--- behind a definition more lines remain, of which something is known, or none, and then nothing is read
+-- after a definition more lines remain, of which something is known, or none, and then nothing is read
 abbrev pub IsLeft : (options : ParseOptions) (bytes : List ℕ) →
     ((row : Row) (rows : List Row) → AreLines options bytes row rows → Type 0) → (Blocks → List (List ℕ) → Blocks) →
     List Row → Type 0
 IsLeft options bytes C last [] = (bs : Blocks) → last bs [] ≡ bs
 IsLeft options bytes C last (next ∷ more) = (are : AreLines options bytes next more) → C next more are
 
--- The lines of which this is known are read so where no definition is cut, and others behind a definition.
+-- The lines of which this is known are read so where no definition is cut, and others after a definition.
 pub record ReadsRest (options : ParseOptions) (bytes : List ℕ)
     (C : (row : Row) (rows : List Row) → AreLines options bytes row rows → Type 0) (done : Row → List Row → List Event)
     (last : Blocks → List (List ℕ) → Blocks) : Type 0 where
@@ -230,7 +230,7 @@ pub record ReadsRest (options : ParseOptions) (bytes : List ℕ)
 module _ (options : ParseOptions) (bytes : List ℕ)
     (C : (row : Row) (rows : List Row) → AreLines options bytes row rows → Type 0) (done : Row → List Row → List Event)
     (last : Blocks → List (List ℕ) → Blocks) (of : ReadsRest options bytes C done last) where
-  -- behind these blocks, where these were cut
+  -- after these blocks, where these were cut
   abbrev then_cut : Blocks → List Defined × List (List ℕ) → Blocks
   then_cut bs c = last (then_definitions bs c.0) c.1
 
@@ -245,7 +245,7 @@ module _ (options : ParseOptions) (bytes : List ℕ)
       read bytes r (cut_done n row rows) ≡
       record r { here = then_cut r.here (cut options (texts (kept-of options bytes row rows are))) }
 
-  -- behind one definition
+  -- after one definition
   cut-behind : (k : ℕ) (d : DefinitionParts) (end : Row) (left : List Row) (r : Reading) →
       options.constructs.definition ≡ true → ReadsBy k → length left ≤ k → IsMore options bytes left →
       IsBehind options bytes d left → IsLeft options bytes C last left → r.text ≡ None → r.leaf ≡ None →
@@ -308,13 +308,13 @@ module _ (options : ParseOptions) (bytes : List ℕ)
           ∙ cut_definitions-some lines
           (record { defined = defined_of d; rest = further (definition_rest d) }) (found ∙ ap cut_of e)))
 
-  -- so it goes on
+  -- so it continues
   pub reads-by : (k : ℕ) → ReadsBy k
   reads-by zero = λ row rows few are holds r none shut. absurd (omega (arith, few))
   reads-by (suc k) =
       λ row rows few are holds r none shut. reads-more k row rows few are holds r none shut (reads-by k)
 
--- The lines of a text are read as what it comes to.
+-- The lines of a text are read as what it becomes.
 pub text-read : (options : ParseOptions) (bytes : List ℕ) (row : Row) (rows : List Row) →
     (are : AreLines options bytes row rows) → (r : Reading) → r.text ≡ None → r.leaf ≡ None →
     read bytes r (text_done options bytes row rows) ≡

@@ -1,5 +1,5 @@
--- All that the frame asks of what stands in the place of the lines of a text, whatever it is read as: definitions at
--- its front, one behind the other, and the leaf of the lines that remain.
+-- All that the frame asks of what is in the place of the lines of a text, whatever it is read as: definitions at its
+-- front, one after the other, and the leaf of the lines that remain.
 use Rattle.std.proofs.Common.{◌≡◌, ℕ, Bool, true, false, List, [], ◌∷◌, ◌++◌, refl, sym, ◌∙◌, ap, subst, append_assoc}
 use Rattle.std.proofs.Common.{subst₂}
 use Rattle.md_engine.specs.declared.configuration.ParseOptions.{ParseOptions}
@@ -27,10 +27,10 @@ use Rattle.md_rows.proofs.Text.Facts.{text-facts}
 use Rattle.md_rows.proofs.Text.Parted.{rest-clear}
 use Rattle.md_rows.proofs.Turned.Under.{text-whole}
 
--- One behind the other.
+-- One after the other.
 
--- Events that stand from a point to a point, and others behind the ending of their last line and the prefixes of the
--- next: all of them stand from the first point to the last. No tab of a character is cut where the others begin.
+-- Events that are from a point to a point, and others after the ending of their last line and the prefixes of the next:
+-- all of them are from the first point to the last. No tab of a character is cut where the others begin.
 pub stand-then : (bytes : List ℕ) (full : Bool) (p q r s t : Point) (front us ds vs ws : List Event) →
     StandFacts bytes true p q us ds → q.vs ≡ 0 → IsEnding bytes q r → LinePrefix bytes [] r s front →
     clear bytes s ≡ true → StandFacts bytes full s t vs ws →
@@ -48,7 +48,7 @@ pub done-is : (bytes : List ℕ) (d : DefinitionParts) (row : Row) (rows : List 
 done-is bytes d row rows is =
     ap (plain_read bytes) is.unread ∙ defined-done bytes is.form is.behind_gap is.behind_target is.is
 
--- it stands from the begin of its first line to the end of its last
+-- it is from the begin of its first line to the end of its last
 pub defined-stands : (bytes : List ℕ) (d : DefinitionParts) (row : Row) (rows : List Row) → IsDefined bytes d row rows →
     StandFacts bytes true row.first (last_row row rows).end (defined_unread d row rows) (defined_done bytes d row rows)
 defined-stands bytes d row rows is =
@@ -76,13 +76,13 @@ cut-clear options bytes _ _ _ _ (Defines d row rows are is) = lines-clear option
 cut-clear options bytes _ _ _ _ (Follows d row own next more q es fs are is after ends front behind) =
     lines-clear options bytes row own are
 
--- the last of lines with further ones behind them is the last of these
+-- the last of lines with further ones after them is the last of these
 pub last-behind : (row : Row) (own : List Row) (next : Row) (more : List Row) →
     last_row row (own ++ next ∷ more) ≡ last_row next more
 last-behind row [] next more = refl
 last-behind row (second ∷ own) next more = last-behind second own next more
 
--- What stands in the place of the lines of a text stands from the begin of the first to the end of the last.
+-- What is in the place of the lines of a text is from the begin of the first to the end of the last.
 pub cut-stands : (options : ParseOptions) (bytes : List ℕ) (row : Row) (rows : List Row) (unread done : List Event) →
     IsCutText options bytes row rows unread done →
     StandFacts bytes true row.first (last_row row rows).end unread done

@@ -42,7 +42,7 @@ linked-word options bytes x row (next ∷ rows) e is =
     (λ outer. ap (λ (y : Expression). y ∷ outer) e) front)
     (linked-word options bytes unread_rest next rows refl is.7)
 
--- a line in front of another one has an ending
+-- a line before another one has an ending
 pub ended-leads : (options : ParseOptions) (bytes line : List ℕ) (first : Bool) (row : Row) (q : Point) →
     IsRow options bytes line row →
     row.after ≡ Some q → IsEnding bytes row.end q →

@@ -1,5 +1,5 @@
--- What stands in the place of the lines of a text and the line that turns it: definitions one after the other, as they
--- are cut from the front of the text, and then what that line turns the lines that remain into. Some lines remain.
+-- What is in the place of the lines of a text and the line that turns it: definitions one after the other, as they are
+-- cut from the front of the text, and then what that line turns the lines that remain into. Some lines remain.
 use Rattle.std.proofs.Common.{◌≡◌, ℕ, suc, true, false, List, [], ◌∷◌, ◌++◌, length, Some, ap, sym, ◌∙◌}
 use Rattle.std.proofs.Common.{subst, arith}
 use Rattle.md_engine.specs.declared.configuration.ParseOptions.{ParseOptions}
@@ -27,14 +27,14 @@ use Rattle.md_rows.proofs.Text.Cuts.{IsRest, cuts}
 use Rattle.md_rows.proofs.Text.Reads.{defined_of, further-behind, lines-definition, none-behind}
 use Rattle.md_rows.proofs.Text.Stands.{last-behind}
 
--- where definitions are on, something is left of these lines behind the definitions at their front
+-- where definitions are on, something is left of these lines after the definitions at their front
 abbrev pub Remains : (options : ParseOptions) (bytes : List ℕ) (row : Row) (rows : List Row) →
     AreLines options bytes row rows → Type 0
 Remains options bytes row rows are =
     options.constructs.definition ≡ true →
     is_none_left (cut_definitions (texts (kept-of options bytes row rows are))).1 ≡ false
 
--- how far the definitions have come tells it
+-- how far the definitions have come shows it
 pub left-remains : (options : ParseOptions) (bytes : List ℕ) (row : Row) (rows : List Row) →
     (are : AreLines options bytes row rows) → IsLeft options bytes row rows are → Remains options bytes row rows are
 left-remains options bytes row rows are left =
@@ -43,12 +43,12 @@ left-remains options bytes row rows are left =
 -- the events of the text before it is turned, those of what it is turned into, and those once its texts are read
 pub data IsCutHeading (options : ParseOptions) (bytes : List ℕ) (under : Row) :
     Row → List Row → List Event → List Event → List Event → Type 0 where
-  -- no definition stands at its front: all of it is turned
+  -- no definition is at its front: all of it is turned
   Turned : (row : Row) (rows : List Row) → AreLines options bytes row rows →
       IsUnder options bytes (last_row row rows) under →
       IsCutHeading options bytes under row rows (lines_unread row rows) (heading_unread under row rows)
       (heading_done bytes under row rows)
-  -- a definition, and behind it more
+  -- a definition, and after it more
   Follows : (d : DefinitionParts) (row : Row) (own : List Row) (next : Row) (more : List Row) (q : Point)
       (ts es fs : List Event) →
       AreLines options bytes row own → IsDefined bytes d row own → (last_row row own).after ≡ Some q →
@@ -65,7 +65,7 @@ abbrev AreTurned : (options : ParseOptions) (bytes : List ℕ) (under row : Row)
 AreTurned options bytes under row rows are =
     IsUnder options bytes (last_row row rows) under × Remains options bytes row rows are
 
--- so it is behind a definition: there are lines, since something remains
+-- so it is after a definition: there are lines, since something remains
 rest-turned : (options : ParseOptions) (bytes : List ℕ) (under row : Row) (rows : List Row)
     (are : AreLines options bytes row rows) → AreTurned options bytes under row rows are → (d : DefinitionParts) →
     options.constructs.definition ≡ true → definition_parts (lines_cells options bytes row rows) ≡ Some d →
@@ -96,7 +96,7 @@ rest-turned options bytes under row rows are holds d on e own left all behind Al
           (sym (further-behind options bytes d next below lines behind)) ∙ some,
     )
 
--- What stands in their place is such.
+-- What is in their place is such.
 pub heading-cut : (options : ParseOptions) (bytes : List ℕ) (row : Row) (rows : List Row) (under : Row) →
     (are : AreLines options bytes row rows) → IsUnder options bytes (last_row row rows) under →
     Remains options bytes row rows are →

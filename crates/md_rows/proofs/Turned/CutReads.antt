@@ -1,5 +1,5 @@
--- What stands in the place of the lines of a text and the line that turns it is read as what the line definition comes
--- to there: the definitions that are cut from the front of the text, and the block of the lines that remain.
+-- What is in the place of the lines of a text and the line that turns it is read as what the line definition becomes
+-- there: the definitions that are cut from the front of the text, and the block of the lines that remain.
 use Rattle.std.proofs.Common.{◌≡◌, ℕ, zero, suc, true, false, List, [], ◌∷◌, length, drop, refl, ap}
 use Rattle.std.proofs.Common.{sym, ◌∙◌, subst, arith}
 use Rattle.std.specs.Prelude.{Some, None}
@@ -28,13 +28,13 @@ use Rattle.md_rows.proofs.Turned.Reads.{read-turned}
 use Rattle.md_rows.proofs.Turned.Turns.{Turns}
 use Rattle.md_rows.proofs.Turned.Under.{under-turns}
 
--- What the line definition comes to.
+-- What the line definition becomes.
 
 -- where these were cut
 abbrev turned_cut : Blocks → List Defined × List (List ℕ) → Rest → Blocks
 turned_cut bs c r = then_block (then_definitions bs c.0) (turn_leaf.block c.1 r)
 
--- behind these blocks, with these lines and the rest of the line that turns them
+-- after these blocks, with these lines and the rest of the line that turns them
 abbrev pub then_turned : ParseOptions → Blocks → List (List ℕ) → Rest → Blocks
 then_turned options bs lines r = turned_cut bs (cut options lines) r
 
@@ -51,7 +51,7 @@ last-behind zero row (next ∷ rows) = refl
 last-behind (suc k) row [] = tt
 last-behind (suc k) row (next ∷ rows) = last-behind k next rows
 
--- a line that turns the text behind one turns it behind the same
+-- a line that turns the text after one turns it after the same
 abbrev turns-at : (options : ParseOptions) (bytes : List ℕ) (last same under : Row) → last ≡ same →
     Turns options bytes last under → Turns options bytes same under
 turns-at options bytes last same under e turns = record {
@@ -72,7 +72,7 @@ AreTurned options bytes under rest row rows are =
 abbrev last_turned : Rest → Blocks → List (List ℕ) → Blocks
 last_turned rest bs lines = then_block bs (turn_leaf.block lines rest)
 
--- so it is behind one definition
+-- so it is after one definition
 left-turned : (options : ParseOptions) (bytes : List ℕ) (under : Row) (rest : Rest) (row : Row) (rows : List Row)
     (are : AreLines options bytes row rows) → AreTurned options bytes under rest row rows are →
     options.constructs.definition ≡ true → (d : DefinitionParts) →
@@ -103,7 +103,7 @@ left-turned options bytes under rest row rows are holds on d e left same behind 
           (sym (further-behind options bytes d next more lines behind)) ∙ some,
     )
 
--- A text and the line that turns it are read as what they come to.
+-- A text and the line that turns it are read as what they become.
 pub turned-read : (options : ParseOptions) (bytes : List ℕ) (row : Row) (rows : List Row) (under : Row) →
     (are : AreLines options bytes row rows) → (is : IsUnder options bytes (last_row row rows) under) →
     IsLeft options bytes row rows are → (r : Reading) → r.text ≡ None → r.leaf ≡ None →

@@ -1,4 +1,4 @@
--- The events of a text with its underline, as a heading: its text, what stands behind that, and the underline.
+-- The events of a text with its underline, as a heading: its text, what follows that, and the underline.
 use Rattle.std.proofs.Common.{◌≡◌, ℕ, List, ◌++◌, ap, ◌∙◌, append_assoc}
 use Rattle.std.specs.Prelude.{Some}
 use Rattle.md_engine.specs.declared.event.Event.{Event}
@@ -16,7 +16,7 @@ use Rattle.md_frame.proofs.LeafLines.Cuts.{ending-is}
 abbrev pub text_events : Point → Point → List Event → List Event
 text_events p q text = around turn_leaf.text p q text
 
--- Behind the text: its ending, and prefixes of the containers.
+-- After the text: its ending, and prefixes of the containers.
 abbrev pub gap_events : Point → Point → List Event → List Event
 gap_events p q front = pair n.LineEnding p q ++ front
 
@@ -44,7 +44,7 @@ turned-is row rows under after text after_is =
     whole : List Event
     whole = text_events row.first last.end text
 
--- Of the grammar: what stands in such a heading, what is left of it behind its text, and in front of its underline.
+-- Of the grammar: what is in such a heading, what is left of it after its text, and before its underline.
 abbrev pub heading_left : Expression
 heading_left = grammar.inside grammar.plain_text turn_leaf.name
 

@@ -1,4 +1,4 @@
--- What stands between the text of a heading and its underline.
+-- What is between the text of a heading and its underline.
 use Rattle.std.proofs.Common.{◌≡◌, ℕ, false, List, [], ◌∷◌, refl, ap, ◌∙◌}
 use Rattle.std.specs.Prelude.{Option}
 use Rattle.md_engine.specs.declared.event.Event.{Event}

@@ -1,4 +1,4 @@
--- The events of an underline, behind the text of a heading.
+-- The events of an underline, after the text of a heading.
 use Rattle.std.proofs.Common.{◌≡◌, ℕ, true, List, [], ◌∷◌, ◌++◌, refl, ap, sym, ◌∙◌, subst}
 use Rattle.std.specs.Prelude.{Option, option_map}
 use Rattle.md_engine.specs.declared.configuration.ParseOptions.{ParseOptions}
@@ -28,13 +28,13 @@ use Rattle.md_frame.proofs.SpanLaws.{IsLineOf}
 use Rattle.md_content_rooms.proofs.Text.MayPart as text
 use Rattle.md_rows.proofs.Turned.Events.{line_left, so_far}
 
--- Events from a point to a point that tell the markers of an underline.
+-- Events from a point to a point that show the markers of an underline.
 pub record LineInside (bytes : List ℕ) (p q : Point) (r : Rest) (es : List Event) : Type 0 where
   pub markers : List ℕ
   pub marker : first_byte markers ≡ first_byte (trim_start r.bytes)
   pub facts : (lines : List (List ℕ)) →
       InsideFacts bytes p q line_left Nothing (so_far [] lines) (so_far markers lines) BehindTitle BehindUnderline es es
-  -- something stands on their line
+  -- something is on their line
   pub fills : Filling es
 
 -- where it begins no tab of a character is cut

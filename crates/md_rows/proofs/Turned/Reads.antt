@@ -20,7 +20,7 @@ use Rattle.md_rows.proofs.Turned.Line.{LineInside, line-inside}
 use Rattle.md_rows.proofs.Turned.TextReads.{text-reads}
 use Rattle.md_rows.proofs.Turned.Turns.{Turns}
 
--- Its text, what stands behind that, and the underline are read in turn.
+-- Its text, what follows that, and the underline are read in turn.
 pub read-inside : (options : ParseOptions) (bytes : List ℕ) (row : Row) (rows : List Row) (under : Row)
     (lines : List ParagraphLine) (r : Reading) →
     IsRead bytes row rows lines → (turns : Turns options bytes (last_row row rows) under) → r.text ≡ None →
@@ -57,7 +57,7 @@ read-inside options bytes row rows under lines r is turns none shut =
     titled : Reading
     titled = record r { leaf = Some (so_far [] (texts lines)) }
 
--- The lines of the text are those of the heading, and its depth is told by the first of the markers.
+-- The lines of the text are those of the heading, and its depth is known from the first of the markers.
 pub read-turned : (options : ParseOptions) (bytes : List ℕ) (row : Row) (rows : List Row) (under : Row)
     (lines : List ParagraphLine) (r : Reading) →
     IsRead bytes row rows lines → (turns : Turns options bytes (last_row row rows) under) → r.text ≡ None →

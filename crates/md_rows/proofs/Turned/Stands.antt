@@ -1,5 +1,5 @@
--- All that the frame asks of what stands in the place of a text and the line that turns it: definitions at its front,
--- one behind the other, and what that line turns the lines that remain into.
+-- All that the frame asks of what is in the place of a text and the line that turns it: definitions at its front, one
+-- after the other, and what that line turns the lines that remain into.
 use Rattle.std.proofs.Common.{◌≡◌, ℕ, true, List}
 use Rattle.md_engine.specs.declared.configuration.ParseOptions.{ParseOptions}
 use Rattle.md_engine.specs.declared.event.Event.{Event}
@@ -23,7 +23,7 @@ cut-clear options bytes under _ _ _ _ _ (Turned row rows are is) = lines-clear o
 cut-clear options bytes under _ _ _ _ _ (Follows d row own next more q ts es fs are is after ends front behind) =
     lines-clear options bytes row own are
 
--- It stands from the begin of its first line to the end of the line that turns it.
+-- It is from the begin of its first line to the end of the line that turns it.
 cut-stands : (options : ParseOptions) (bytes : List ℕ) (under row : Row) (rows : List Row) (ts es fs : List Event) →
     IsCutHeading options bytes under row rows ts es fs → StandFacts bytes true row.first under.end es fs
 cut-stands options bytes under _ _ _ _ _ (Turned row rows are is) =

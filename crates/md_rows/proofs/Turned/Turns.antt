@@ -9,8 +9,8 @@ use Rattle.md_frame.proofs.FrontFacts.{LinePrefix}
 use Rattle.md_seam.proofs.FeedLines.{IsEnding}
 use Rattle.md_frame.proofs.SpanLaws.{IsLineOf}
 
--- The line behind the last line of a text that turns it, where it stands: an underline, behind the ending of that line
--- and prefixes of the containers alone.
+-- The line after the last line of a text that turns it, where it is: an underline, after the ending of that line and
+-- prefixes of the containers alone.
 pub record Turns (options : ParseOptions) (bytes : List ℕ) (last under : Row) : Type 0 where
   pub after : Point
   pub after_is : last.after ≡ Some after

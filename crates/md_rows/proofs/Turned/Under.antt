@@ -1,4 +1,4 @@
--- The line that turns a text is an underline, and where it stands.
+-- The line that turns a text is an underline, and where it is.
 use Rattle.std.proofs.Common.{◌≡◌, ℕ, true, false, List, [], ◌∷◌, sym, ap, ◌∙◌}
 use Rattle.md_engine.specs.declared.configuration.ParseOptions.{ParseOptions}
 use Rattle.md_engine.specs.declared.tokenizer.held_leaf.HeldLeaf.TheVariants as held_leaf
@@ -16,7 +16,7 @@ use Rattle.md_rows.proofs.RowLeaf.{row-as}
 use Rattle.md_registry.proofs.UnderNames.{further-text}
 use Rattle.md_rows.proofs.Turned.Turns.{Turns}
 
--- behind a line of text, text is open
+-- after a line of text, text is open
 pub text-open : (options : ParseOptions) (bytes : List ℕ) (row : Row) (rows : List Row) →
     AreLines options bytes row rows → (at : OpenText) × ((last_row row rows).behind ≡ held_leaf.Text at)
 text-open options bytes row [] h = (
@@ -25,7 +25,7 @@ text-open options bytes row [] h = (
 )
 text-open options bytes row (next ∷ rows) h = text-open options bytes next rows h.7
 
--- so a line that goes on it goes on text, and is one
+-- so a line that continues it continues text, and is one
 pub under-text : (options : ParseOptions) (bytes : List ℕ) (row : Row) (rows : List Row) (under : Row) →
     AreLines options bytes row rows → (is : IsUnder options bytes (last_row row rows) under) →
     (at : OpenText) × (further : (leaf is.name).further (held_leaf.Text at) ≡ true) × ((leaf is.name).heads ≡ false)

@@ -1,7 +1,7 @@
 -- Which line endings end a blank line.
 --
--- A line is blank if nothing but whitespace stands on it behind the prefixes of its containers, and no leaf goes on
--- over it. Its ending is a `BlankLineEnding`; any other is a `LineEnding`.
+-- A line is blank if nothing but whitespace is on it after the prefixes of its containers, and no leaf continues over
+-- it. Its ending is a `BlankLineEnding`; any other is a `LineEnding`.
 use Rattle.std.specs.Prelude.{Bool, true, false, ◌&&◌, ◌||◌, not, List, [], ◌∷◌}
 use Rattle.md_engine.specs.declared.event.Event.{Event}
 use Rattle.md_engine.specs.declared.event.Kind.{Kind}
@@ -9,7 +9,7 @@ use Rattle.md_engine.specs.declared.event.Kind.TheVariants.{Enter, Exit}
 use Rattle.md_engine.specs.declared.event.Name.{Name}
 use Rattle.md_engine.specs.declared.event.Name.TheVariants as n
 
--- What a name says of the line on which it stands.
+-- What a name says of the line on which it is.
 pub data OnLine : Type 0 where
   -- a leaf block begins or ends
   IsLeaf : OnLine
@@ -33,7 +33,7 @@ on_line n.LineEnding = Ends false
 on_line n.BlankLineEnding = Ends true
 on_line _ = IsOther
 
--- where one is in a text: whether in a leaf, and whether one stood on the line before here
+-- where one is in a text: whether in a leaf, and whether one was on the line before here
 pub record EndingPlace : Type 0 where
   pub in_leaf : Bool
   pub after_leaf : Bool

@@ -1,6 +1,6 @@
--- The grammar of events: in which names a name may stand, in which order, and how often.
+-- The grammar of events: in which names a name may be, in which order, and how often.
 --
--- The names that stand directly in a part make a word, and `inside` is the table of the words that each name allows:
+-- The names that are directly in a part make a word, and `inside` is the table of the words that each name allows:
 -- regular expressions over names. Pieces of the text hold nothing, so they have no line in it.
 use Rattle.std.specs.Prelude.{Bool, true, false, ◌&&◌, ◌||◌, if◌then◌else◌, List, [], ◌∷◌}
 use Rattle.std.specs.List.{list_any}
@@ -20,7 +20,7 @@ pub data Expression : Type 0 where
   Nothing : Expression
   -- one of these names
   One : List Name → Expression
-  -- a word of the one, and behind it one of the other
+  -- a word of the one, and after it one of the other
   Then : Expression → Expression → Expression
   -- a word of the one or of the other
   Or : Expression → Expression → Expression
@@ -46,7 +46,7 @@ or_else Never y = y
 or_else x Never = x
 or_else x y = Or x y
 
--- what may come behind this name
+-- what may come after this name
 abbrev pub behind : Name → Expression → Expression
 behind name Never = Never
 behind name Nothing = Never
@@ -89,7 +89,7 @@ block =
     ∷ n.ThematicBreak ∷ n.CodeIndented ∷ n.CodeFenced ∷ n.MathFlow ∷ n.HtmlFlow ∷ n.Definition ∷ n.Paragraph
     ∷ n.GfmTable ∷ [])
 
--- behind a block: two blocks never stand on one line
+-- after a block: two blocks never are on one line
 abbrev pub behind_block : Expression
 behind_block = Many (Then line_break (optional block))
 
@@ -105,7 +105,7 @@ unread_text = Then (one n.Data) (Many (One (n.Data ∷ n.SpaceOrTab ∷ n.BlockQ
 abbrev pub plain_text : Expression
 plain_text = Then (optional (one n.Data)) (Many (Then next_line (optional (one n.Data))))
 
--- What stands in a part of each name, where this stands in text parts.
+-- What is in a part of each name, where this is in text parts.
 abbrev pub inside : Expression → Name → Expression
 -- frontmatter: a fence, lines, and a fence
 inside text n.Frontmatter =
@@ -190,7 +190,7 @@ inside text n.DefinitionTitle =
 inside text n.DefinitionTitleString = text
 -- a paragraph
 inside text n.Paragraph = text
--- a table: its head, its delimiter row, and perhaps rows behind them
+-- a table: its head, its delimiter row, and perhaps rows after them
 inside text n.GfmTable = Then (one n.GfmTableHead) (optional (Then next_line (one n.GfmTableBody)))
 inside text n.GfmTableHead = Then (one n.GfmTableRow) (Then next_line (one n.GfmTableDelimiterRow))
 inside text n.GfmTableBody = Then (one n.GfmTableRow) (Many (Then next_line (one n.GfmTableRow)))
@@ -232,6 +232,6 @@ texts =
     blocks ∷ Then (one n.ByteOrderMark) blocks ∷ Then (one n.Frontmatter) behind_block
     ∷ Then (one n.ByteOrderMark) (Then (one n.Frontmatter) behind_block) ∷ []
 
--- Whether events keep the grammar, where this stands in text parts.
+-- Whether events keep the grammar, where this is in text parts.
 unfoldable pub keeps_grammar : Expression → List Event → Bool
 keeps_grammar text events = list_any (λ (x : Expression). is_whole (left_of text (x ∷ []) events)) texts

@@ -1,4 +1,4 @@
--- Every byte of a text stands in a piece that says what it is, and no block holds bytes of its own.
+-- Every byte of a text is in a piece that says what it is, and no block holds bytes of its own.
 use Rattle.std.specs.Prelude.{ℕ, not, IsTrue, List}
 use Rattle.std.specs.List.{Contains}
 use Rattle.md_engine.specs.declared.event.Point.{Point}
@@ -6,13 +6,12 @@ use Rattle.md_seam.specs.Events.Inline.{Piece}
 use Rattle.md_seam.specs.Events.Pieces.{is_piece_name, piece_stands}
 use Rattle.md_seam.specs.Events.Places.{at_or_before, first_point}
 
--- where a byte begins; a tab has further columns behind it
+-- where a byte begins; a tab has further columns after it
 abbrev pub byte_point : ℕ → Point
 byte_point index = record first_point { index = index }
 
--- A piece in which a byte stands: it begins at the byte or before, and ends behind the byte's first column. It is over
--- what its name says, and that is the name of no block, group or part. A tab may stand in further pieces by its other
--- columns.
+-- A piece in which a byte is: it begins at the byte or before, and ends after the byte's first column. It is over what
+-- its name says, and that is the name of no block, group or part. A tab may be in further pieces by its other columns.
 pub record Holds (bytes : List ℕ) (pieces : List Piece) (index : ℕ) : Type 0 where
   pub piece : Piece
   pub among : Contains pieces piece

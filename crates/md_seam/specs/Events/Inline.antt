@@ -21,7 +21,7 @@ pub record Part : Type 0 where
   pub kind : PartKind
   pub chunks : List Chunk
 
--- A piece of the text: an enter with its exit right behind it. `linked` holds of a chunk that is not read yet.
+-- A piece of the text: an enter with its exit right after it. `linked` holds of a chunk that is not read yet.
 pub record Piece : Type 0 where
   pub name : Name
   pub linked : Bool
@@ -49,7 +49,7 @@ abbrev pub Covers : Point → List Piece → Point → Type 0
 Covers from [] to = IsTrue (same_place from to)
 Covers from (piece ∷ pieces) to = IsTrue (same_place from piece.first) × Covers piece.after pieces to
 
--- whether chunks stand behind a point, one behind the other
+-- whether chunks are after a point, one after the other
 abbrev pub in_order : Point → List Chunk → Bool
 in_order p [] = true
 in_order p (chunk ∷ chunks) =
@@ -125,7 +125,7 @@ plain_events bytes part = together (plain_chunks bytes part.chunks)
 
 -- The promise of every layer.
 
--- whether a name may stand inside a text part: the others are names of blocks and of their parts
+-- whether a name may be inside a text part: the others are names of blocks and of their parts
 abbrev pub is_inline : Name → Bool
 is_inline n.ByteOrderMark = true
 is_inline n.SpaceOrTab = true
@@ -146,7 +146,7 @@ abbrev pub line_endings : List Event → List Event
 line_endings [] = []
 line_endings (e ∷ es) = if is_line_ending e.name then e ∷ line_endings es else line_endings es
 
--- what stands in the place of each chunk lies in it, never goes back, and covers it with its innermost pairs
+-- what is in the place of each chunk lies in it, never goes back, and covers it with its innermost pairs
 abbrev pub Fills : List Chunk → List (List Event) → Type 0
 Fills [] [] = Unit {0}
 Fills (chunk ∷ chunks) (events ∷ rest) =
@@ -155,7 +155,7 @@ Fills (chunk ∷ chunks) (events ∷ rest) =
 Fills [] (events ∷ rest) = ⊥
 Fills (chunk ∷ chunks) [] = ⊥
 
--- what stands in the place of each chunk: by bytes, what begins before the end of a chunk belongs to it, and what ends
+-- what is in the place of each chunk: by bytes, what begins before the end of a chunk belongs to it, and what ends
 -- there at last
 abbrev pub cut_at : List Chunk → List Event → List (List Event)
 cut_at [] events = []
@@ -164,7 +164,7 @@ cut_at (chunk ∷ chunks) events =
     ∷ cut_at chunks (drop (share (length chunks) events chunk.after.index) events)
 
 -- What the events of a text part are in every layer: brackets over the whole part, at points of the text, with no name
--- of a block, and with one `LineEnding` over each ending of a chunk and none elsewhere. What stands in the place of each
+-- of a block, and with one `LineEnding` over each ending of a chunk and none elsewhere. What is in the place of each
 -- chunk covers it with its innermost pairs, so that none reaches over two.
 pub record Framed (bytes : List ℕ) (part : Part) (events : List Event) : Type 0 where
   pub balanced : Balanced events
@@ -173,7 +173,7 @@ pub record Framed (bytes : List ℕ) (part : Part) (events : List Event) : Type 
   pub endings : line_endings events ≡ endings_of bytes part.chunks
   pub fills : Fills part.chunks (cut_at part.chunks events)
 
--- A text part that may be read: it has a chunk at least, and its chunks stand in the text, one behind the other, one a
+-- A text part that may be read: it has a chunk at least, and its chunks are in the text, one after the other, one a
 -- line, and none ends within a tab.
 pub record IsPart (bytes : List ℕ) (part : Part) : Type 0 where
   pub end : Point

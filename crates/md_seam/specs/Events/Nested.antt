@@ -35,7 +35,7 @@ abbrev pub is_exit : Kind → Bool
 is_exit Exit = true
 is_exit Enter = false
 
--- the names that are open behind an event, the innermost first
+-- the names that are open after an event, the innermost first
 abbrev pub open_behind : List Name → Kind → Name → List Name
 open_behind names Enter name = name ∷ names
 open_behind [] Exit name = []

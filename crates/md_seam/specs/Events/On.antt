@@ -1,4 +1,4 @@
--- Which blocks may stand in a tree under given options: those whose construct is on.
+-- Which blocks may be in a tree under given options: those whose construct is on.
 use Rattle.std.specs.Prelude.{ℕ, Bool, true, ◌&&◌, ◌||◌, ◌==◌, Option, Some, None}
 use Rattle.md_engine.specs.declared.configuration.ParseOptions.{ParseOptions}
 use Rattle.md_meaning.specs.declared.alert.AlertKind.{AlertKind}
@@ -14,7 +14,7 @@ abbrev pub is_kind_on : ParseOptions → Option AlertKind → Bool
 is_kind_on options None = true
 is_kind_on options (Some kind) = options.constructs.alerts
 
--- whether the construct of a block is on, and those of all blocks in it; a paragraph may always stand
+-- whether the construct of a block is on, and those of all blocks in it; a paragraph is always allowed
 abbrev mutual
   pub is_on : ParseOptions → Block → Bool
   is_on options (Frontmatter marker lines) = options.constructs.frontmatter

@@ -1,6 +1,6 @@
 -- What the pieces of a text are: the innermost pairs of its events, each over its bytes.
 --
--- A piece is never empty and never a block, so every byte of a text stands in a piece that says what it is.
+-- A piece is never empty and never a block, so every byte of a text is in a piece that says what it is.
 use Rattle.std.specs.Prelude.{ℕ, Bool, true, false, ◌&&◌, ◌||◌, ◌==◌, not, nat_le, if◌then◌else◌, List, [], ◌∷◌, codes}
 use Rattle.std.specs.Prelude.{length, slice_range, Option, Some, None}
 use Rattle.std.specs.List.{list_all}
@@ -98,7 +98,7 @@ ends_in_tab _ = false
 abbrev pub piece_text : List ℕ → Piece → List ℕ
 piece_text bytes piece = slice_range bytes piece.first.index piece.after.index
 
--- Whether a piece may stand where it does: it is not empty, it is over what its name says, and a chunk that is not read
+-- Whether a piece may be where it does: it is not empty, it is over what its name says, and a chunk that is not read
 -- yet is a line, with its ending or not.
 abbrev pub piece_stands : List ℕ → Piece → Bool
 piece_stands bytes piece =

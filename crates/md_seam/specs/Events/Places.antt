@@ -9,7 +9,7 @@ pub use Rattle.md_engine.specs.Place.{first_point}
 use Rattle.md_meaning.specs.Rest.{tab_columns}
 use Rattle.md_meaning.specs.Texts.{split_lines, first_byte}
 
--- the column behind a byte that begins in this column, both counted from 0 (CommonMark 2.2)
+-- the column after a byte that begins in this column, both counted from 0 (CommonMark 2.2)
 abbrev pub column_past : ℕ → ℕ → ℕ
 column_past b column = if b == 9 then column + tab_columns column else column + 1
 
@@ -37,7 +37,7 @@ abbrev pub splits_pair : List ℕ → ℕ → Bool
 splits_pair bytes index = nat_lt 0 index && is_pair bytes (index - 1)
 
 -- Whether a point is one of the text: its line is 1 plus the line endings before it, its column 1 plus the columns
--- before it on that line, and it does not stand inside an ending.
+-- before it on that line, and it is not inside an ending.
 abbrev pub is_placed : List ℕ → Point → Bool
 is_placed bytes p =
     nat_le p.index (length bytes) && within_tab bytes p
@@ -53,15 +53,15 @@ are_placed bytes events = list_all (λ (e : Event). is_placed bytes e.point) eve
 abbrev pub same_place : Point → Point → Bool
 same_place p q = (p.index == q.index) && (p.vs == q.vs)
 
--- whether a point does not come behind another
+-- whether a point does not come after another
 abbrev pub at_or_before : Point → Point → Bool
 at_or_before p q = nat_lt p.index q.index || ((p.index == q.index) && nat_le p.vs q.vs)
 
--- the point behind a byte of a line, also from within a tab
+-- the point after a byte of a line, also from within a tab
 abbrev pub past_byte : ℕ → Point → Point
 past_byte b p = record { line = p.line; column = column_past b (p.column - 1) + 1; index = p.index + 1; vs = 0 }
 
--- the point behind a piece of a line
+-- the point after a piece of a line
 abbrev pub past_text : List ℕ → Point → Point
 past_text [] p = p
 past_text (b ∷ bs) p = past_text bs (past_byte b p)

@@ -1,7 +1,7 @@
 -- The block tree that a list of events spells out.
 --
--- A fold over the events. It goes on from a half-read tree: the containers that are open, the blocks that are finished
--- in the innermost, the leaf block that is open, and the text that is being read.
+-- A fold over the events. It continues from a half-read tree: the containers that are open, the blocks that are
+-- finished in the innermost, the leaf block that is open, and the text that is being read.
 use Rattle.std.specs.Prelude.{ℕ, ◌+◌, ◌-◌, Bool, true, false, ◌||◌, ◌==◌, nat_lt, if◌then◌else◌, List, [], ◌∷◌, ◌++◌}
 use Rattle.std.specs.Prelude.{length, map, slice_range, Option, Some, None, option_map, drop}
 use Rattle.md_engine.specs.declared.event.Point.{Point}
@@ -32,7 +32,7 @@ without_last [] = []
 without_last (x ∷ []) = []
 without_last (x ∷ y ∷ ys) = x ∷ without_last (y ∷ ys)
 
--- What was told first stands: some items, or what is told now if there are none yet.
+-- What was said first is: some items, or what is said now if there are none yet.
 abbrev pub first_told : {A : Type 0} → List A → List A → List A
 first_told [] now = now
 first_told (x ∷ xs) now = x ∷ xs
@@ -114,8 +114,8 @@ pub data OpenLeaf : Type 0 where
   DefinitionLeaf : DefinitionSoFar → OpenLeaf
   TableLeaf : TableSoFar → OpenLeaf
 
--- A text that is being read: the virtual spaces before it, what stands before the last container prefix in it, and the
--- byte where the rest begins.
+-- A text that is being read: the virtual spaces before it, what is before the last container prefix in it, and the byte
+-- where the rest begins.
 pub record Text : Type 0 where
   pub spaces : ℕ
   pub front : List ℕ
@@ -167,7 +167,7 @@ pub data Role : Type 0 where
   IsPrefix : Role
   -- a line ending, which may open a line
   IsEnding : Role
-  -- a marker of a quote, which may tell its kind
+  -- a marker of a quote, which may show its kind
   IsQuoteMarker : Role
   -- what the tree does not show
   IsQuiet : Role
@@ -229,7 +229,7 @@ role _ = IsQuiet
 abbrev pub columns_left : Point → ℕ
 columns_left p = if p.vs == 0 then 0 else tab_columns (p.column - 1)
 
--- the first byte behind the point: a tab that is cut counts as virtual spaces
+-- the first byte after the point: a tab that is cut counts as virtual spaces
 abbrev pub byte_at : Point → ℕ
 byte_at p = if p.vs == 0 then p.index else p.index + 1
 
@@ -357,7 +357,7 @@ block_of (TableLeaf table) = Table table.delimiter table.rows
 abbrev pub with_text : List ℕ → HeadingSoFar → HeadingSoFar
 with_text now heading = record heading { text = first_told heading.text (trim_each (split_lines now)) }
 
--- What a text of a leaf block says of it. Pieces of a line are joined; of any other purpose the first text stands.
+-- What a text of a leaf block says of it. Pieces of a line are joined; of any other purpose the first text is.
 abbrev pub noted : Purpose → Line → OpenLeaf → OpenLeaf
 noted AsHeading line (HeadingAtxLeaf heading) = HeadingAtxLeaf (with_text line.text heading)
 noted AsHeading line (HeadingSetextLeaf heading) = HeadingSetextLeaf (with_text line.text heading)
@@ -396,7 +396,7 @@ block_around UnorderedShape items = ListOf (list_marker is_bullet items) items
 block_around (ItemShape marker digits) blocks = Item marker digits blocks
 block_around (FootnoteShape label) blocks = Footnote label blocks
 
--- What a text of an opening prefix says of its container. The first of each purpose stands.
+-- What a text of an opening prefix says of its container. The first of each purpose is.
 abbrev pub named : Purpose → List ℕ → Shape → Shape
 named AsDigits text (ItemShape marker digits) = ItemShape marker (first_told digits text)
 named AsItemMarker text (ItemShape marker digits) = ItemShape (if marker == 0 then first_byte text else marker) digits
@@ -412,7 +412,7 @@ abbrev pub is_before_blocks : Option Text → Option OpenLeaf → Blocks → Boo
 is_before_blocks None None End = true
 is_before_blocks text leaf blocks = false
 
--- a quote is of the first kind that a marker in front of its blocks gives it
+-- a quote is of the first kind that a marker before its blocks gives it
 abbrev pub with_kind : Option AlertKind → Shape → Shape
 with_kind (Some k) (QuoteShape None) = QuoteShape (Some k)
 with_kind _ shape = shape
@@ -454,7 +454,7 @@ left [] r = r
 left (around ∷ outer) r = record r { outer = outer; here = then_block around.before (block_around around.shape r.here) }
 
 -- A line ending in a text is a part of that text. Any other opens a line of the leaf block, if the text of the document
--- goes on behind it.
+-- continues after it.
 abbrev pub at_ending : List ℕ → Point → Option Text → Reading → Reading
 at_ending bytes p (Some text) r = r
 at_ending bytes p None r = if nat_lt p.index (length bytes) then on_leaf next_line r else r

@@ -23,7 +23,7 @@ use Rattle.md_seam.specs.Events.Grammar.{keeps_grammar, unread_text}
 use Rattle.md_seam.specs.Events.Inline.{Part, Piece, pieces, Covers, Fills, are_lines, is_linked, plain_chunks}
 use Rattle.md_seam.specs.Events.Inline.{together}
 
--- the point behind the last byte
+-- the point after the last byte
 abbrev pub end_point : List ℕ → Point
 end_point bytes = record first_point { index = length bytes }
 
@@ -44,8 +44,7 @@ part_kind n.DefinitionTitleString = Some k.String
 part_kind n.GfmFootnoteDefinitionLabelString = Some k.String
 part_kind _ = None
 
--- What may stand inside a text part beside the enters of its chunks: their exits, container prefixes, and spaces and
--- tabs.
+-- What may be inside a text part beside the enters of its chunks: their exits, container prefixes, and spaces and tabs.
 abbrev pub stands_in_part : Kind → Name → Bool
 stands_in_part Exit n.Data = true
 stands_in_part kind name = is_prefix name
@@ -98,7 +97,7 @@ abbrev pub is_white_piece : List ℕ → Piece → Bool
 is_white_piece bytes piece =
     not (is_space_or_tab piece.name) || is_blank (slice_range bytes piece.first.index piece.after.index)
 
--- whether the first chunk begins at a point; there is one, since a part that would be empty does not stand
+-- whether the first chunk begins at a point; there is one, since a part that would be empty is not
 abbrev pub begins_at : Point → List Chunk → Bool
 begins_at p [] = false
 begins_at p (chunk ∷ chunks) = same_place p chunk.first
@@ -119,14 +118,14 @@ part_stands bytes Enter (Some kind) p es =
 part_stands bytes Enter None p es = true
 part_stands bytes Exit kind p es = true
 
--- Whether each text part stands as one chunk a line, from where it begins, and each reaches over the line's ending
--- where the part goes on behind it; nothing else is left out of the chunks but spaces, tabs and container prefixes. The
+-- Whether each text part is as one chunk a line, from where it begins, and each reaches over the line's ending where
+-- the part continues after it; nothing else is left out of the chunks but spaces, tabs and container prefixes. The
 -- chunks are linked as what the part may hold.
 abbrev pub parts_stand : List ℕ → List Event → Bool
 parts_stand bytes [] = true
 parts_stand bytes (e ∷ es) = part_stands bytes e.kind (part_kind e.name) e.point es && parts_stand bytes es
 
--- how many parts are open behind an event
+-- how many parts are open after an event
 abbrev pub depth_behind : Kind → ℕ → ℕ
 depth_behind Enter depth = suc depth
 depth_behind Exit zero = zero
@@ -137,7 +136,7 @@ abbrev pub is_chunk : Event → List Event → Bool
 is_chunk e [] = false
 is_chunk e (f ∷ es) = not (is_exit e.kind) && is_data e.name && is_exit f.kind && is_data f.name
 
--- Whether chunks stand only in text parts, directly inside of them, and nothing else but container prefixes does. The
+-- Whether chunks are only in text parts, directly inside of them, and nothing else but container prefixes does. The
 -- depth is 0 outside of text parts, and 1 directly inside of one.
 abbrev pub chunks_stand : ℕ → List Event → Bool
 chunks_stand depth [] = true
@@ -154,11 +153,11 @@ pub record IsBlockList (bytes : List ℕ) (events : List Event) : Type 0 where
   pub placed : IsTrue (are_placed bytes events)
   pub lines : IsTrue (parts_stand bytes events)
   pub chunks : IsTrue (chunks_stand 0 events)
-  -- each part stands where the grammar has it, with what it must hold
+  -- each part is where the grammar has it, with what it must hold
   pub grammar : IsTrue (keeps_grammar unread_text events)
   -- each piece is over what its name says, and no block is a piece
   pub pieces_are : IsTrue (pieces_stand bytes (pieces events))
-  -- endings of blank lines are told from others
+  -- endings of blank lines are distinguished from others
   pub endings : IsTrue (endings_stand events)
 
 -- The chunks are read.

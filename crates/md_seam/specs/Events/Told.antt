@@ -1,4 +1,4 @@
--- What a text that is read tells: a block of its own, something of the container that it stands in, or something of the
+-- What a text that is read shows: a block of its own, something of the container that it is in, or something of the
 -- leaf block.
 use Rattle.std.specs.Prelude.{ℕ, Bool, true, false, List}
 use Rattle.md_meaning.specs.Texts.{split_lines, trim_each}

@@ -1,4 +1,4 @@
--- The lines of a table, joined: no other block stands in it, and none is open behind it.
+-- The lines of a table, joined: no other block is in it, and none is open after it.
 use Rattle.std.proofs.Common.{◌≡◌, ℕ, false, List, [], ◌∷◌, ◌++◌, refl, sym, subst, append_assoc}
 use Rattle.md_engine.specs.declared.event.Event.{Event}
 use Rattle.md_engine.specs.declared.event.Name.{Name}

@@ -1,4 +1,4 @@
--- A line of a table by its cells: it stands where the line definition says, and adds what its bytes say.
+-- A line of a table by its cells: it is where the line definition says, and adds what its bytes say.
 use Rattle.std.proofs.Common.{◌≡◌, ℕ, ◌<◌, ◌≤◌, ◌^◌, Bool, true, false, ◌&&◌, List, ◌++◌, length, refl, ap, ap₂}
 use Rattle.std.proofs.Common.{◌∙◌, arith}
 use Rattle.std.specs.Prelude.{nat_lt}
@@ -34,7 +34,7 @@ use Rattle.md_table_rooms.specs.Leaf.GfmTable.{table_leaf}
 use Rattle.md_frame.proofs.MarkRuns.Fits.{Tells, line-fits}
 use Rattle.md_frame.proofs.RestFacts.{rest-line_end, rest-no_ending, rest-same, small-indented}
 
--- Where it stands.
+-- Where it is.
 
 -- text that may be a head has cells
 pub head-some : (options : ParseOptions) (at : OpenText) → may_head options at ≡ true → 0 < at.columns
@@ -68,7 +68,7 @@ table-fits options _ said text behind r p stop is h k short = refl
 
 -- What it adds.
 
--- a delimiter row behind its indent
+-- a delimiter row after its indent
 delimiter-adds : (options : ParseOptions) (said : Line) (text behind : List ℕ) (r : Rest) (p : Point)
     (stop : List Cell) →
     RestAt text behind r p → NoEnding r.bytes → Stops stop → length (rest_cells said r p ++ stop) < 2 ^ 63 →

@@ -33,7 +33,7 @@ use Rattle.md_table_rooms.proofs.GfmTable.DelimiterRowCells.{IsValue, delimiter-
 use Rattle.md_table_rooms.proofs.GfmTable.DelimiterRowCells.{values-fit, AreDelimiters}
 use Rattle.md_frame.proofs.Stretch.{stretch-by}
 
--- what stands in it
+-- what is in it
 inner-facts : (bytes line rest : List ℕ) (p : Point) → RowAt bytes line rest p → AreDelimiters line →
     RowFacts bytes p (past_text line p) (delimiter_events line p) (delimiter_events line p)
 inner-facts bytes line rest p at are =
@@ -64,7 +64,7 @@ delimiter-leads text x line p q are =
     (row-word text n.GfmTableDelimiterCell value_part IsValue delimiter-name (delimiter-words text) line p
     (values-fit line are))
 
--- It tells the open table its line, and nothing in it is read later.
+-- It shows the open table its line, and nothing in it is read later.
 pub delimiter-inside : (bytes line rest : List ℕ) (p q : Point) (x : Expression) (rows : List (List (List ℕ))) →
     RowAt bytes line rest p → AreDelimiters line → q ≡ past_text line p →
     InsideFacts bytes p q x (behind n.GfmTableDelimiterRow x) (TableLeaf (record { delimiter = []; rows = rows }))
@@ -120,7 +120,7 @@ delimiter-inside bytes line rest p q x rows at are end =
         delimiter-read bytes s rows line rest p at.stands (row-whole line p at.cut at.some) opened
         ∙ ap (λ (t : Option OpenText). record s { leaf = Some to; text = t }) (sym none)
 
--- no ending stands in it, and no begin or end of a leaf
+-- no ending is in it, and no begin or end of a leaf
 pub delimiter-others : (bytes line rest : List ℕ) (p q : Point) → RowAt bytes line rest p → AreDelimiters line →
     AreOthers (around n.GfmTableDelimiterRow p q (delimiter_events line p))
 delimiter-others bytes line rest p q at are =

@@ -373,7 +373,7 @@ values-fit line h =
         let both = and_parts (is_delimiter (trim cell)) (list_all is_delimiter (map trim (held_in cells))) h in
         (both.0, each cells both.1)
 
--- they are where the line definition tells its columns
+-- they are where the line definition shows its columns
 trim-twice : (line : List ℕ) → trim (trim line) ≡ trim line
 trim-twice line =
     ap trim_end (start-same (trim line) (trimmed-begins line))

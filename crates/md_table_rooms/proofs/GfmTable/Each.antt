@@ -1,5 +1,5 @@
 -- What holds of each event of a line of a table: no part of it is rewritten by a resolver of the registry, none is a
--- text or an underline, and no content stands in it.
+-- text or an underline, and no content is in it.
 use Rattle.std.proofs.Common.{ℕ, Bool, cond, List, [], ◌∷◌, ◌++◌, refl, ap}
 use Rattle.std.specs.Prelude.{Some, None}
 use Rattle.md_engine.specs.declared.configuration.ParseOptions.{ParseOptions}
@@ -118,7 +118,7 @@ row-bytes P of run (b ∷ bs) p =
     either (Each P) (row.goes_on run b) _ _ (row-bytes P of (row.next run b) bs (past_byte b p))
     (row-turns P of run (row.begun b) p _ (row-bytes P of (row.begun b) bs (past_byte b p)))
 
--- A line, with what stands in it.
+-- A line, with what is in it.
 
 delimiter-line : (P : Event → Type 0) → OfTable P → (inside : List Event) (p q : Point) → Each P inside →
     Each P (delimiter.row_opens p ++ inside ++ delimiter.row_closes q)
@@ -198,7 +198,7 @@ of-unturned = record {
   };
 }
 
--- and no content stands in it: its words are texts, and it is linked to the line in front.
+-- and no content is in it: its words are texts, and it is linked to the line in front.
 pub of-no_content : (wants : Content → Bool) → WantsContent wants → OfTable (IsNoContent wants)
 of-no_content wants only = record {
   begins = λ q. (ap (λ (x : Bool). cond x (Some content.Flow) None) only.flow, refl);

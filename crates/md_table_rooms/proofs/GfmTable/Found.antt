@@ -1,4 +1,4 @@
--- Where the line definition has a table, how it goes on, and what is open behind a line of it.
+-- Where the line definition has a table, how it continues, and what is open after a line of it.
 use Rattle.std.proofs.Common.{◌≡◌, ℕ, suc, ◌<◌, Bool, true, false, cond, ◌&&◌, ◌||◌, nat_eq, List, [], ◌∷◌, ◌++◌}
 use Rattle.std.proofs.Common.{length, map, reverse, Option, Some, None, refl, ap, ap₂, sym, ◌∙◌, subst, arith}
 use Rattle.std.specs.Prelude.{nat_lt}
@@ -120,7 +120,7 @@ found-behind options bs lines k before text r last knows =
     go true true true true None = rw some refl
     go true true true true (Some m) = rw some (ap (λ (x : Bool). cond x here None) (same-either size m))
 
--- Where a line meets text, that comes to a table where the leaf starts: its last line is the head, and the lines before
+-- Where a line meets text, that becomes a table where the leaf starts: its last line is the head, and the lines before
 -- that are closed.
 pub table-found : (options : ParseOptions) (bs : Blocks) (before : List ParagraphLine) (k : ParagraphLine)
     (text : OpenText) (r : Rest) → KnowsHead text k →
@@ -149,7 +149,7 @@ table-enabled options text r e =
     go true a b c d e = refl
     go false a b c d e = cc
 
--- A table goes on, up to a blank line and to one that starts another leaf.
+-- A table continues, up to a blank line and to one that starts another leaf.
 pub table-goes : (options : ParseOptions) (delimiter : List ℕ) (rows : List (List (List ℕ))) (r : Rest) →
     table_goes_on options delimiter rows r ≡
     cond (is_blank r.bytes || is_some (starts options NoText r)) None
@@ -159,7 +159,7 @@ table-goes options delimiter rows r = refl
 
 -- What is known of a line of it.
 
--- a table is open behind it
+-- a table is open after it
 pub table-held : (options : ParseOptions) (leaf : Leaf) (r : Rest) →
     table_leaf.starts options (kind_of_leaf leaf) r ≡ true →
     kind_of_leaf (left_by (table_leaf.comes options leaf r)) ≡ held_leaf.Table
@@ -170,7 +170,7 @@ table-held options (OpenFence o lines) r e = cc
 table-held options (OpenHtml kind lines) r e = cc
 table-held options (OpenTable delimiter rows) r e = refl
 
--- it goes on what a line may go on
+-- it continues what a line may continue
 pub table-lines : (on : HeldLeaf) → may_be_table on ≡ true → may_go_on on ≡ true
 table-lines (held_leaf.Text text) e = refl
 table-lines held_leaf.Table e = refl

@@ -1,5 +1,5 @@
--- The line of text that is the head of a table (GFM 4.10), as its states leave it in front of the rows behind it: what
--- holds of each of its events, and that it begins a leaf of several lines.
+-- The line of text that is the head of a table (GFM 4.10), as its states leave it before the rows after it: what holds
+-- of each of its events, and that it begins a leaf of several lines.
 use Rattle.std.proofs.Common.{ℕ, Bool, List, [], ◌∷◌, ◌++◌, refl}
 use Rattle.md_engine.specs.declared.event.Content.{Content}
 use Rattle.md_engine.specs.declared.event.Event.{Event}
@@ -42,7 +42,7 @@ head-each P of begins ends line p =
 
 -- No part of it is rewritten.
 
--- Nor does content stand in it.
+-- Nor is content in it.
 pub head-no_content : (wants : Content → Bool) → WantsContent wants → (line : List ℕ) (p : Point) →
     NoContent wants (head_line line p)
 head-no_content wants only line p =

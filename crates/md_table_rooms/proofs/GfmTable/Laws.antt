@@ -9,7 +9,7 @@ use Rattle.md_tables.proofs.GfmTableLook.{table-looked}
 use Rattle.md_frame.proofs.LeafLaws.{LeafLaws}
 use Rattle.md_frame.proofs.OutsideFacts.{LineResolver}
 
--- All that the frame asks of it: it goes on the text or the table that it meets, and leaves a table open.
+-- All that the frame asks of it: it continues the text or the table that it meets, and leaves a table open.
 pub table-laws : (resolver : LineResolver) → LeafLaws resolver table_leaf
 table-laws resolver = record {
   looked = λ options on cells. table-looked options on cells;

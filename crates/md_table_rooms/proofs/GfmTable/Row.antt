@@ -131,7 +131,7 @@ row-inside bytes line rest p q row x delimiter rows at end =
         opened
         ∙ ap (λ (t : Option OpenText). record s { leaf = Some to; text = t }) (sym none)
 
--- no ending stands in it, and no begin or end of a leaf
+-- no ending is in it, and no begin or end of a leaf
 pub row-others : (bytes line rest : List ℕ) (p q : Point) → RowAt bytes line rest p → q ≡ past_text line p →
     AreOthers (around n.GfmTableRow p q (row_events cells.unread_text line p)) ×
     AreOthers (around n.GfmTableRow p q (row_events (read_text bytes) line p))

@@ -1,4 +1,4 @@
--- Where the line of a row stands in a text, and bytes of it one behind the other.
+-- Where the line of a row is in a text, and bytes of it one after the other.
 use Rattle.std.proofs.Common.{◌≡◌, ℕ, ◌+◌, ◌<◌, zero, suc, true, false, ◌||◌, List, [], ◌∷◌, ◌++◌}
 use Rattle.std.proofs.Common.{length, drop, ap, ◌∙◌, subst, append_assoc, arith}
 use Rattle.std.specs.Prelude.{◌==◌}
@@ -18,7 +18,7 @@ use Rattle.md_frame.proofs.LeafFacts.{LineAt}
 use Rattle.md_frame.proofs.LineTexts.{line-stands, no_ending-parts}
 use Rattle.md_frame.proofs.PieceFacts.{CutsFirst}
 
--- A line that is not blank stands at a point of a text, with this behind it; a tab that is cut is its first byte.
+-- A line that is not blank is at a point of a text, with this after it; a tab that is cut is its first byte.
 pub record RowAt (bytes line rest : List ℕ) (p : Point) : Type 0 where
   pub stands : drop p.index bytes ≡ line ++ rest
   pub none : NoEnding line
@@ -54,7 +54,7 @@ row-later [] p some = cc
 row-later (b ∷ bs) p some =
     let e : (past_text (b ∷ bs) p).index ≡ p.index + length (b ∷ bs) = past-index (b ∷ bs) p in omega (arith, e)
 
--- Bytes one behind the other.
+-- Bytes one after the other.
 
 pub at-first : (bytes xs ys rest : List ℕ) (p : Point) → At bytes (xs ++ ys) p rest → At bytes xs p (ys ++ rest)
 at-first bytes xs ys rest p is = record {
@@ -70,7 +70,7 @@ at-behind bytes xs ys rest p is = record {
   whole = past_text-whole xs p is.whole;
 }
 
--- what stands on the line behind the whitespace in front
+-- what is on the line after the whitespace in front
 pub row-start : (bytes line rest : List ℕ) (p : Point) → RowAt bytes line rest p →
     At bytes (trim_start line) (past_text (white_front line) p) rest
 row-start bytes line rest p is = record {

@@ -1,7 +1,7 @@
--- What is known of the parts of a row holds of its cells one behind the other, and of the whole row.
+-- What is known of the parts of a row holds of its cells one after the other, and of the whole row.
 --
--- This goes for rows of texts and for delimiter rows: cells are told by their name, by what they hold before texts are
--- read and once they are, and by what is asked of their bytes.
+-- This goes for rows of texts and for delimiter rows: cells are known from their name, by what they hold before texts
+-- are read and once they are, and by what is asked of their bytes.
 use Rattle.std.proofs.Common.{◌≡◌, ℕ, ◌+◌, ◌<◌, Bool, true, false, cond, nat_eq, List, [], ◌∷◌, ◌++◌, length, drop}
 use Rattle.std.proofs.Common.{refl, sym, ap, ◌∙◌, subst, subst₂, append_assoc, arith}
 use Rattle.std.specs.List.{list_all}
@@ -43,13 +43,13 @@ EachFits Fits (Divides cell cells) = Fits (trim cell) × EachFits Fits cells
 
 -- Places between characters.
 
--- in front of a byte of ASCII
+-- before a byte of ASCII
 pub low-front : (bytes : List ℕ) (b : ℕ) (rest : List ℕ) (p : Point) → drop p.index bytes ≡ b ∷ rest → is_low b ≡ true →
     IsPlace bytes p
 low-front bytes b rest p is low =
     between-before bytes p.index (subst (λ (c : ℕ). is_low c ≡ true) (sym (at-next p.index bytes b rest is)) low)
 
--- in front of whitespace if behind it, and behind it if in front
+-- before whitespace if after it, and after it if in front
 place-front : (bytes w rest : List ℕ) (p : Point) → drop p.index bytes ≡ w ++ rest → is_blank w ≡ true →
     IsPlace bytes (past_text w p) → IsPlace bytes p
 place-front bytes [] rest p is blank last = last
@@ -61,7 +61,7 @@ place-behind : (bytes w rest : List ℕ) (p : Point) → drop p.index bytes ≡ 
 place-behind bytes [] rest p is blank first = first
 place-behind bytes (b ∷ w) rest p is blank first = low-behind bytes b w rest p is (blank-low (b ∷ w) blank)
 
--- A pipe in front of a cell, if there is one.
+-- A pipe before a cell, if there is one.
 
 pub past-pipe : (piped : Bool) (xs : List ℕ) (p : Point) →
     past_text (pipe_bytes piped ++ xs) p ≡ past_text xs (past_pipe piped p)
@@ -127,7 +127,7 @@ inside-facts bytes name u d Fits is cell rest p at fits =
         ap (λ (xs : List ℕ). past_text xs p) (cell-whole cell) ∙ past_text-append front (trim cell ++ back) p
         ∙ past_text-append (trim cell) back q
 
--- A cell with the pipe in front of it.
+-- A cell with the pipe before it.
 piped-facts : (bytes : List ℕ) (name : Name) (u d : List ℕ → Point → List Event) (Fits : List ℕ → Type 0) →
     IsCellKind bytes name u d Fits → (piped : Bool) (cell rest : List ℕ) (p : Point) →
     At bytes (pipe_bytes piped ++ cell) p rest → Fits (trim cell) →
@@ -151,13 +151,13 @@ end-later piped cell p some =
 
 -- Cells.
 
--- each has a byte at least, with its pipes, and whitespace alone stands behind the last pipe
+-- each has a byte at least, with its pipes, and whitespace alone is after the last pipe
 abbrev AreCut : Bool → Cells → Type 0
 AreCut piped (Ends cell) = 0 < length (pipe_bytes piped ++ cell)
 AreCut piped (Shut cell white) = is_blank white ≡ true
 AreCut piped (Divides cell cells) = (0 < length (pipe_bytes piped ++ cell)) × AreCut true cells
 
--- so it is with those of bytes behind a pipe,
+-- so it is with those of bytes after a pipe,
 cut-onto : (piped : Bool) (b : ℕ) (cells : Cells) → AreCut true cells → AreCut piped (onto b cells)
 cut-onto true b (Ends cell) h = omega arith
 cut-onto false b (Ends cell) h = omega arith
@@ -201,7 +201,7 @@ line-cut (b ∷ bs) h = go (nat_eq b 124) refl
     go true k = cut-of false bs
     go false k = plain k
 
--- a pipe that divides stands between characters
+-- a pipe that divides is between characters
 piped-place : (bytes : List ℕ) (cells : Cells) (rest : List ℕ) (p : Point) → At bytes (cells_bytes true cells) p rest →
     IsPlace bytes p
 piped-place bytes (Ends cell) rest p at = low-front bytes 124 (cell ++ rest) p at.stands refl
@@ -317,7 +317,7 @@ cut-front (b ∷ bs) p h = go (is_white b) refl
     go true e = subst (CutsFirst p) (sym (front-one b bs e)) h
     go false e = subst (CutsFirst p) (sym (front-none b bs e)) tt
 
--- behind it something stands
+-- after it something is
 start-some : (line : List ℕ) → is_blank line ≡ false → is_blank (trim_start line) ≡ false
 start-some [] h = h
 start-some (b ∷ bs) h = go (is_white b) refl (start-some bs)

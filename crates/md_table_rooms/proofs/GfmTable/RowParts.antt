@@ -1,7 +1,7 @@
 -- What is known of the parts of a row of a table: whitespace, pipes, the texts of its cells, and the cells around them.
 --
 -- It is what is asked of the events of a leaf, but for their grammar, how they are read and where an outline goes,
--- which are told of whole cells.
+-- which are said of whole cells.
 use Rattle.std.proofs.Common.{◌≡◌, ℕ, ◌<◌, Bool, true, false, ◌||◌, not, List, [], ◌∷◌, ◌++◌, drop, refl, sym}
 use Rattle.std.proofs.Common.{ap, subst, arith}
 use Rattle.std.specs.Prelude.{IsTrue, None}
@@ -36,10 +36,10 @@ use Rattle.md_frame.proofs.PiecesLemmas.{Covered, tiled-append, tiled-around, ti
 use Rattle.md_frame.proofs.PlainFacts.{AreKnown, known-append, known-around, known-none, plain-quiet}
 use Rattle.md_frame.proofs.Stretch.{IsMiddle, Stretch, stretch-append, stretch-around, stretch-none, stretch-pair}
 
--- These events stand in a row from a point to a point, before texts are read, and those once they are.
+-- These events are in a row from a point to a point, before texts are read, and those once they are.
 pub record RowFacts (bytes : List ℕ) (p q : Point) (unread done : List Event) : Type 0 where
   pub stretch : Stretch IsPart bytes p q unread done
-  -- once they are read they cover what stands there
+  -- once they are read they cover what is there
   pub covers : Covered p q done
   -- none ends a line, or begins or ends a leaf
   pub unread_others : AreOthers unread
@@ -47,7 +47,7 @@ pub record RowFacts (bytes : List ℕ) (p q : Point) (unread done : List Event) 
   -- an outline knows their names
   pub known : AreKnown bytes done
 
--- One behind the other.
+-- One after the other.
 
 pub row-none : (bytes : List ℕ) (p : Point) → RowFacts bytes p p [] []
 row-none bytes p = record {
@@ -114,7 +114,7 @@ row-pipe bytes rest p is whole =
     (over-stands bytes n.GfmTableCellDivider p q (124 ∷ [])
     (over-front bytes p q (124 ∷ []) rest is (omega arith) refl) (begins-whole n.GfmTableCellDivider p whole) refl)
 
--- What stands around others, and is no text.
+-- What is around others, and is no text.
 
 -- what is asked of its name
 pub record IsRowGroup (name : Name) : Type 0 where

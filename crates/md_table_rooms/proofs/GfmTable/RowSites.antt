@@ -22,7 +22,7 @@ use Rattle.md_frame.proofs.LineWalk.{At}
 use Rattle.md_table_rooms.proofs.GfmTable.RowAt.{RowAt, at-behind, at-first, row-start}
 use Rattle.md_table_rooms.proofs.GfmTable.RowCells.{at-pipe, past-pipe}
 
--- A cell, with what the tree does not show behind what it holds.
+-- A cell, with what the tree does not show after what it holds.
 cell-passes : (bytes : List ℕ) (row : Row) (piped : Bool) (cell rest : List ℕ) (p end : Point) (more : List Event) →
     At bytes cell (past_pipe piped p) rest → Roles Quiet more →
     PassesIn bytes (InRow row) (InRow row)
@@ -46,7 +46,7 @@ cell-passes bytes row piped cell rest p end more at quiet = go (trim cell) at-te
     front-quiet : Roles Quiet (white_part (white_front cell) (past_pipe piped p))
     front-quiet = white-quiet (white_front cell) (past_pipe piped p)
 
-    -- what stands behind its text
+    -- what follows its text
     last : List ℕ → List Event
     last t = white_part (white_back (trim_start cell)) (past_text t q)
 
@@ -85,7 +85,7 @@ cell-passes bytes row piped cell rest p end more at quiet = go (trim cell) at-te
         (passes-unshown bytes (BehindCell row) (last (b ∷ bs)) (white-quiet back (past_text (b ∷ bs) q)))))
         (passes-unshown bytes (BehindCell row) more quiet)))
 
--- with nothing more behind that
+-- with nothing more after that
 plain-passes : (bytes : List ℕ) (row : Row) (piped : Bool) (cell rest : List ℕ) (p : Point) →
     At bytes (pipe_bytes piped ++ cell) p rest →
     let q = past_pipe piped p in
@@ -138,7 +138,7 @@ cells-pass bytes row piped (Divides cell cells) rest p at =
         subst (λ (xs : List ℕ). At bytes xs p rest)
         (sym (append_assoc (pipe_bytes piped) cell (cells_bytes true cells))) at
 
--- What stands in a row.
+-- What is in a row.
 pub row-passes : (bytes line rest : List ℕ) (p : Point) (row : Row) → RowAt bytes line rest p →
     PassesIn bytes (InRow row) (InRow row) (row_events (read_text bytes) line p)
 row-passes bytes line rest p row at =

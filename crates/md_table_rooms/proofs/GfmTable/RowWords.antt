@@ -1,4 +1,4 @@
--- A row of a table keeps the grammar: its cells one behind the other, with whitespace around them.
+-- A row of a table keeps the grammar: its cells one after the other, with whitespace around them.
 use Rattle.std.proofs.Common.{◌≡◌, ℕ, Bool, true, false, not, List, [], ◌∷◌, ◌++◌, refl, sym, ap, ◌∙◌, subst}
 use Rattle.std.proofs.Common.{append_assoc, append-nil}
 use Rattle.std.proofs.lemmas.Bool.{and_parts}
@@ -41,7 +41,7 @@ pipe-leads text x false p = λ outer. refl
 
 -- Cells.
 
--- what is left of a row in front of its cells, and behind one
+-- what is left of a row before its cells, and after one
 abbrev pub row_left : Name → Expression
 row_left name = Then white (Then (some (one name)) white)
 
@@ -54,7 +54,7 @@ pub record IsCellName (name : Name) : Type 0 where
   pub more : behind name (cells_left name) ≡ cells_left name
   pub ends : (spaced : Bool) → may_end (maybe spaced n.SpaceOrTab (cells_left name)) ≡ true
 
--- a cell whose bytes are so leads to what may end, with a pipe behind it or not
+-- a cell whose bytes are so leads to what may end, with a pipe after it or not
 pub record CellWord (text : Expression) (name : Name) (es : List Event) : Type 0 where
   pub left : Expression
   pub leads : Leads text (inside text name ∷ []) (left ∷ []) es
@@ -143,7 +143,7 @@ row-word text name part Fits is words line p fits =
 
 -- A cell with a text, or with none.
 
--- what is left of it behind each of its parts
+-- what is left of it after each of its parts
 abbrev cell_start : Expression
 cell_start = inside plain_text n.GfmTableCell
 
@@ -152,7 +152,7 @@ text_left piped front text back =
     maybe back n.SpaceOrTab
     (maybe text n.GfmTableCellText (maybe front n.SpaceOrTab (maybe piped n.GfmTableCellDivider cell_start)))
 
--- with no text there is no whitespace behind it
+-- with no text there is no whitespace after it
 text-ends : (piped front text back shut : Bool) → (text ≡ false → back ≡ false) →
     may_end (maybe shut n.GfmTableCellDivider (text_left piped front text back)) ≡ true
 text-ends piped front text back shut h = go text back h
@@ -194,7 +194,7 @@ text-ends piped front text back shut h = go text back h
         subst (λ (x : Bool). may_end (maybe shut n.GfmTableCellDivider (text_left piped front false x)) ≡ true)
         (sym (h refl)) (alone piped front shut)
 
--- what is trimmed to nothing has no whitespace behind that
+-- what is trimmed to nothing has no whitespace after that
 pub no-back : (cell : List ℕ) → has (trim cell) ≡ false → has (white_back (trim_start cell)) ≡ false
 no-back cell h =
     go (trim cell) (white_back (trim_start cell)) h (end-whole (trim_start cell)) (back-blank (trim_start cell))

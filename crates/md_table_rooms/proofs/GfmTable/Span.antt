@@ -1,4 +1,5 @@
--- A line of a table as a line of a leaf of several: it goes on the text or the table that it meets, and so begins none.
+-- A line of a table as a line of a leaf of several: it continues the text or the table that it meets, and so begins
+-- none.
 use Rattle.std.proofs.Common.{◌≡◌, ℕ, true, false, List, [], ◌∷◌, ◌++◌, refl, sym, ap, subst, inl, append_assoc}
 use Rattle.md_engine.specs.declared.configuration.ParseOptions.{ParseOptions}
 use Rattle.md_engine.specs.declared.event.Event.{Event}
@@ -23,7 +24,7 @@ use Rattle.md_frame.proofs.EachEvent.{Each, each-append}
 use Rattle.md_table_rooms.proofs.GfmTable.Each.{OfRow, delimiter-bytes, row-bytes}
 use Rattle.md_frame.proofs.SpanLaws.{IsNone, IsSpanned, SpanLaws}
 
--- It goes on what it meets wherever it starts.
+-- It continues what it meets wherever it starts.
 pub table-begins : (options : ParseOptions) (on : HeldLeaf) (r : Rest) → table_leaf.starts options on r ≡ true →
     table_leaf.further on ≡ false → ⊥
 table-begins options (held_leaf.Text text) r starts begins = cc

@@ -37,7 +37,7 @@ use Rattle.md_frame.proofs.LeafLines.Cuts.{ending-is}
 use Rattle.md_frame.proofs.LeafLines.Inside.{InsideFacts}
 use Rattle.md_frame.proofs.LeafLines.Leaf.{IsLeafName, inside-leaf}
 
--- Where its lines end: behind each line something stands on it.
+-- Where its lines end: after each line something is on it.
 
 -- a part with no ending in it fills its line
 row-fills : (p q : Point) (es : List Event) → AreOthers (around n.GfmTableRow p q es) →

@@ -31,7 +31,7 @@ abbrev pub delimiter_part : List ℕ → Row → List Event
 delimiter_part bytes row =
     around n.GfmTableDelimiterRow row.first row.end (delimiter_events (row_line bytes row) row.first)
 
--- between two lines: the ending of the one, and what stands in front of the other
+-- between two lines: the ending of the one, and what is before the other
 abbrev pub gap_events : Row → Row → List Event
 gap_events row next = ending_events n.LineEnding row ++ next.front
 
@@ -39,7 +39,7 @@ gap_events row next = ending_events n.LineEnding row ++ next.front
 abbrev pub head_events : (Point → Point → List Event) → List ℕ → Row → Row → List Event
 head_events said bytes row next = row_part said bytes row ++ (gap_events row next ++ delimiter_part bytes next)
 
--- rows behind a line
+-- rows after a line
 abbrev pub rows_behind : (Point → Point → List Event) → List ℕ → Row → List Row → List Event
 rows_behind said bytes row [] = []
 rows_behind said bytes row (next ∷ rows) =
@@ -53,7 +53,7 @@ body_behind said bytes row (next ∷ rows) =
     ++ around n.GfmTableBody next.first (last_row next rows).end
     (row_part said bytes next ++ rows_behind said bytes next rows)
 
--- what stands in the table
+-- what is in the table
 abbrev pub table_inside : (Point → Point → List Event) → List ℕ → Row → Row → List Row → List Event
 table_inside said bytes row next rows =
     around n.GfmTableHead row.first next.end (head_events said bytes row next) ++ body_behind said bytes next rows
@@ -64,21 +64,21 @@ table_events said bytes row next rows =
 
 -- Its lines.
 
--- a line on which something stands, where it stands
+-- a line on which something is, where it is
 pub record IsFilledLine (bytes : List ℕ) (row : Row) : Type 0 where
   pub rest : Rest
   pub at : LineAt bytes rest (rest_line rest) row.first row.end
   pub column : row.first.column ≡ rest.column + 1
   pub filled : is_blank rest.bytes ≡ false
 
--- between two lines stand an ending, and prefixes of the containers that go on
+-- between two lines are an ending, and prefixes of the containers that continue
 pub record IsGap (bytes : List ℕ) (row next : Row) : Type 0 where
   pub behind : Point
   pub after : row.after ≡ Some behind
   pub ending : IsEnding bytes row.end behind
   pub front : LinePrefix bytes [] behind next.first next.front
 
--- a row of the body, behind a line
+-- a row of the body, after a line
 pub record IsBodyRow (bytes : List ℕ) (row next : Row) : Type 0 where
   pub gap : IsGap bytes row next
   pub line : IsFilledLine bytes next

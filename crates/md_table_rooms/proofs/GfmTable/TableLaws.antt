@@ -1,5 +1,5 @@
--- The laws of a table as the frame asks for them: of a line of text that a line behind it takes as its head, and of the
--- rows that go on that.
+-- The laws of a table as the frame asks for them: of a line of text that a line after it takes as its head, and of the
+-- rows that continue that.
 use Rattle.std.proofs.Common.{◌≡◌, ◌≤◌, ℕ, Bool, true, false, cond, ◌&&◌, List, [], ◌∷◌, ◌++◌, length, refl, sym}
 use Rattle.std.proofs.Common.{ap, ap₂, ◌∙◌, subst, append_assoc, append-nil, arith, map}
 use Rattle.std.specs.Prelude.{nat_lt, Some}
@@ -37,7 +37,7 @@ use Rattle.md_frame.proofs.SpanLaws.{AreBehind, IsLineOf, come_behind}
 
 -- Its lines.
 
--- on each of them something stands
+-- on each of them something is
 abbrev pub AreFilled : (options : ParseOptions) (bytes : List ℕ) (row : Row) (rows : List Row) →
     AreBehind options bytes table_leaf row rows → Type 0
 AreFilled options bytes row [] are = Unit {0}
@@ -57,7 +57,7 @@ line-adds options bytes row on is met =
     is.inside
     ∙ ap₂ (λ (held : HeldLeaf) (line : List ℕ). table_line held line row.first) met (sym is.at.text)
 
--- Behind a line of a table all are rows.
+-- After a line of a table all are rows.
 rows-of : (options : ParseOptions) (bytes : List ℕ) (row : Row) (rows : List Row) →
     (are : AreBehind options bytes table_leaf row rows) → AreFilled options bytes row rows are →
     row.behind ≡ held_leaf.Table → AreBodyRows bytes row rows
@@ -82,7 +82,7 @@ unfolding row_cells
 line-cells bytes row is =
     ap (λ (line : List ℕ). map trim (pieces false (after_optional pipe line))) (trim-line bytes row is)
 
--- so the cells of a line are the same without the whitespace in front of it
+-- so the cells of a line are the same without the whitespace before it
 trimmed-twice : (bytes : List ℕ) → trim_start (trim_start bytes) ≡ trim_start bytes
 trimmed-twice [] = refl
 trimmed-twice (b ∷ bs) = go (is_white b) refl (trimmed-twice bs)
@@ -97,7 +97,7 @@ unfolding row_cells
 cells-trimmed bytes =
     ap (λ (line : List ℕ). map trim (pieces false (after_optional pipe (trim_end line)))) (trimmed-twice bytes)
 
--- A line on which something stands, where a line behind it takes it as the head of a table, and rows behind that, are a
+-- A line on which something is, where a line after it takes it as the head of a table, and rows after that, are a
 -- table.
 pub table-of : (options : ParseOptions) (bytes : List ℕ) (row next : Row) (rows : List Row) (text : OpenText) →
     IsFilledLine bytes row → (are : AreBehind options bytes table_leaf row (next ∷ rows)) →
@@ -163,7 +163,7 @@ same-block options bytes row next rows is are filled =
 
 -- It is the one to which the line definition comes with the rows.
 
--- a line on which something stands is in the text
+-- a line on which something is is in the text
 in-text : (options : ParseOptions) (bytes : List ℕ) (row next : Row) (rows : List Row) →
     (are : AreBehind options bytes table_leaf row (next ∷ rows)) → is_blank are.6.rest.bytes ≡ false →
     nat_lt are.0.index (length bytes) ≡ true

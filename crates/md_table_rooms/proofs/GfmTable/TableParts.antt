@@ -1,4 +1,4 @@
--- The parts of a table one behind the other: what is known of its head, and of its body.
+-- The parts of a table one after the other: what is known of its head, and of its body.
 use Rattle.std.proofs.Common.{◌≡◌, ℕ, Bool, true, false, cond, List, [], ◌∷◌, ◌++◌, drop, length, refl, sym, subst}
 use Rattle.std.proofs.Common.{append_assoc, append-nil, subst₂}
 use Rattle.std.specs.Prelude.{nat_lt}
@@ -61,7 +61,7 @@ inside-around bytes name p q x begin left from to start end unread done named qu
 
 -- A line.
 
--- it stands in the text
+-- it is in the text
 pub line-at : (bytes : List ℕ) (row : Row) → IsFilledLine bytes row →
     RowAt bytes (row_line bytes row) (drop row.end.index bytes) row.first
 line-at bytes row is =
@@ -93,7 +93,7 @@ row-known bytes row place x delimiter rows is =
 
 -- Between two lines.
 
--- behind an ending a table has no line more
+-- after an ending a table has no line more
 ended-table : (bytes : List ℕ) (q : Point) (table : TableSoFar) →
     behind_ending bytes q (TableLeaf table) ≡ TableLeaf table
 ended-table bytes q table = go (nat_lt q.index (length bytes))
@@ -133,7 +133,7 @@ gap-inside bytes row next x table spot is more gap takes apart = record {
     q : Point
     q = gap.behind
 
--- where a line ends, and others stand behind it
+-- where a line ends, and others are after it
 end-meets : (bytes : List ℕ) (row next : Row) (r : Point) → IsFilledLine bytes row → IsGap bytes row next →
     Meets bytes row.end r
 end-meets bytes row next r is gap = record {
@@ -153,7 +153,7 @@ first-meets bytes row next r more gap = record {
 
 -- Rows.
 
--- What is left of the grammar of a body: at its begin, behind a row, and where a further row begins.
+-- What is left of the grammar of a body: at its begin, after a row, and where a further row begins.
 abbrev body_begun : Expression
 body_begun = inside plain_text n.GfmTableBody
 
@@ -163,7 +163,7 @@ behind_body_row = behind n.GfmTableRow body_begun
 abbrev in_body : Expression
 in_body = behind n.LineEnding behind_body_row
 
--- a row, and those behind it
+-- a row, and those after it
 rows-inside : (bytes : List ℕ) (row : Row) (rows : List Row) (x : Expression) (delimiter : List ℕ)
     (before : List (List (List ℕ))) →
     behind n.GfmTableRow x ≡ behind_body_row → IsFilledLine bytes row → AreBodyRows bytes row rows →
@@ -214,7 +214,7 @@ rows-inside bytes row (next ∷ rows) x delimiter before left is are =
 
 -- The head.
 
--- What is left of its grammar: at its begin, behind the row, and where the delimiter row begins.
+-- What is left of its grammar: at its begin, after the row, and where the delimiter row begins.
 abbrev head_begun : Expression
 head_begun = inside plain_text n.GfmTableHead
 
@@ -243,7 +243,7 @@ head-inside bytes row next rows is =
 
 -- The table.
 
--- What is left of its grammar: at its begin, behind its head, and where its body begins.
+-- What is left of its grammar: at its begin, after its head, and where its body begins.
 abbrev pub table_begun : Expression
 table_begun = inside plain_text n.GfmTable
 
@@ -253,7 +253,7 @@ behind_head = behind n.GfmTableHead table_begun
 abbrev at_body : Expression
 at_body = behind n.LineEnding behind_head
 
--- and behind all of it
+-- and after all of it
 abbrev pub table_left : List Row → Expression
 table_left [] = behind_head
 table_left (row ∷ rows) = behind n.GfmTableBody at_body
@@ -301,7 +301,7 @@ body-meets : (bytes : List ℕ) (row : Row) (rows : List Row) → IsFilledLine b
 body-meets bytes row [] is are = record { between = λ last. last; clear = end-clear bytes row is }
 body-meets bytes row (next ∷ rows) is are = end-meets bytes row next (last_row next rows).end is are.0.gap
 
--- All that stands in a table, and what it is read as.
+-- All that is in a table, and what it is read as.
 pub table-inside : (bytes : List ℕ) (row next : Row) (rows : List Row) → IsTable bytes row next rows →
     InsideFacts bytes row.first (last_row next rows).end table_begun (table_left rows) (so_far [] [])
     (so_far (trim (row_line bytes next)) (row_cells (row_line bytes row) ∷ rows_cells bytes rows)) (InTable AtHead)

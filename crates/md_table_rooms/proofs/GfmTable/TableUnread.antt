@@ -94,7 +94,7 @@ of-line row q inside is at = record {
       ∙ ap (λ (x : Point). exit n.GfmTable x ∷ []) at;
 }
 
--- A line ends behind its text.
+-- A line ends after its text.
 pub line-end : (bytes : List ℕ) (row : Row) → IsFilledLine bytes row →
     past_text (row_line bytes row) row.first ≡ row.end
 line-end bytes row is = ap (λ (line : List ℕ). past_text line row.first) is.at.text ∙ sym is.at.end
@@ -206,7 +206,7 @@ table-free bytes row next rows is = record {
 
 -- With its head, its body and its cells.
 
--- a line with something on it is not blank, also with a tab that a prefix has cut in front of it
+-- a line with something on it is not blank, also with a tab that a prefix has cut before it
 pub line-dark : (bytes : List ℕ) (row : Row) → IsFilledLine bytes row → is_blank (row_line bytes row) ≡ false
 line-dark bytes row is = ap is_blank is.at.text ∙ go is.rest.spaces ∙ is.filled
   where
@@ -282,7 +282,7 @@ pub table-unread : (bytes : List ℕ) (row next : Row) (rows : List Row) → IsT
 table-unread bytes row next rows is =
     table-read bytes row next rows is ∙ table-given bytes row next rows is
 
--- It makes the same of them in front of any others.
+-- It makes the same of them before any others.
 pub table-apart : (bytes : List ℕ) (row next : Row) (rows : List Row) (es : List Event) → IsTable bytes row next rows →
     tabled (span_by inside_of (headed_row bytes row) (next ∷ rows) ++ es) ≡
     headed_unread bytes row next rows ++ tabled es

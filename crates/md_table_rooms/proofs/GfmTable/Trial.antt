@@ -19,7 +19,7 @@ use Rattle.md_table_rooms.specs.Leaf.GfmTable.{table_leaf}
 use Rattle.md_frame.proofs.FromEnding.{from_ending-again, from_ending-shrinks}
 use Rattle.md_frame.proofs.LeafLaws.{Shrinks, cond-shrinks, whole_line}
 
--- A line is taken, and a table is open behind it,
+-- A line is taken, and a table is open after it,
 pub table-took : (options : ParseOptions) (cells : List Cell) (h : Here) → IsRest h.scratch →
     table_leaf.takes options h.flags.leaf cells ≡ true →
     table_leaf.trial options cells h ≡
@@ -33,7 +33,7 @@ table-refused options cells h is e = whole.table-refused options cells h is e
 
 -- What is left of it is no longer than it was, and begins with its ending.
 
--- of a delimiter row behind its indent
+-- of a delimiter row after its indent
 in_row-shrinks : (n : ℕ) (cells : List Cell) (h : Here) → length cells ≤ n →
     Shrinks n (delimiter.in_row delimiter.Apart delimiter.Front cells h)
 unfolding delimiter.in_row

@@ -1,5 +1,5 @@
--- Tables (GFM 4.10), as a leaf on one line that goes on the one in front of it: a delimiter row goes on text, whose
--- last line it makes a head, and with that it comes to a table; a row of the body goes on a table.
+-- Tables (GFM 4.10), as a leaf on one line that continues the one before it: a delimiter row continues text, whose last
+-- line it makes a head, and with that it becomes a table; a row of the body continues a table.
 use Rattle.std.specs.Prelude.{ℕ, Bool, true, false, ◌&&◌, List, [], ◌∷◌, ◌++◌, reverse}
 use Rattle.md_engine.specs.declared.configuration.ParseOptions.{ParseOptions}
 use Rattle.md_engine.specs.declared.state.Name.TheVariants as s
@@ -17,7 +17,7 @@ use Rattle.md_tables.specs.GfmTableLine.{are_columns, table_adds, table_line, ta
 use Rattle.md_tables.specs.GfmTableRule.{table_at}
 use Rattle.md_frame.specs.LineLeaf.{LineLeaf}
 
--- the leaves that it goes on
+-- the leaves that it continues
 abbrev pub may_be_table : HeldLeaf → Bool
 may_be_table (held_leaf.Text text) = true
 may_be_table held_leaf.Table = true
@@ -35,14 +35,14 @@ abbrev pub first_cells : List ParagraphLine → List (List ℕ)
 first_cells [] = []
 first_cells (k ∷ lines) = row_cells k.text
 
--- what the open leaf comes to with it
+-- what the open leaf becomes with it
 abbrev pub table_comes : Leaf → Rest → LeafResult
 table_comes (OpenParagraph lines) r = Opened (OpenTable (trim r.bytes) (first_cells (reverse lines) ∷ []))
 table_comes (OpenTable delimiter rows) r = Opened (OpenTable delimiter (rows ++ row_cells r.bytes ∷ []))
 table_comes leaf r = Finished (Table [] [])
 
 -- By itself it is no table: what it is with the lines around it shows when they are joined, so its block and its events
--- behind that are not asked.
+-- after that are not asked.
 abbrev pub table_leaf : LineLeaf
 table_leaf = record {
   start = s.GfmTable its.Start;

@@ -33,7 +33,7 @@ subtokenize-requires-clause-placed g c =
     c.as_bytes-bytes.result.now = ap (λ (x : Setting). x.bytes) c.in_ok-tokenizer.ensures.setting in
     rw same at c.in_ok-tokenizer.tokenizer.sound.right
 
--- the state that the layer is told
+-- the state that the layer is said
 abbrev state_of : (g : Over) → After-reader-1 g → ParseState
 state_of g c = record {
   options = c.args.options;

@@ -25,7 +25,7 @@ further-takes w b e h =
     (ap ends_line e ∙ ap (λ (c : ℕ). nat_eq c 10) space)
     (ap sees_white e ∙ ap (λ (c : ℕ). is_white c) space)
 
--- and all of it behind its first text
+-- and all of it after its first text
 text-takes : TakesEach Line (n.CodeIndented its.Inside) (code_transition its.Inside)
 text-takes w b e h = ap (inside_code w) (ap ends_line e ∙ not-true (nat_eq b 10) h)
 

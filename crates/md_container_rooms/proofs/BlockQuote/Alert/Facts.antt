@@ -78,7 +78,7 @@ alert-some bytes kind p q es o none =
 
 -- They are read.
 
--- the marker gives the quote its kind, in front of its blocks
+-- the marker gives the quote its kind, before its blocks
 marker-told : (bytes : List ℕ) (kind : AlertKind) (p q : Point) (es : List Event) →
     (m : IsMarker bytes kind p q es) → (r : Reading) → r.text ≡ None → r.leaf ≡ None →
     read_by bytes Enter IsQuoteMarker m.opens (begins (InQuote None) r) ≡ begins (InQuote (Some kind)) r

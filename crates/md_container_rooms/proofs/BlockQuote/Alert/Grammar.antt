@@ -12,7 +12,7 @@ use Rattle.md_seam.specs.Events.Places.{same_place}
 use Rattle.md_seam.proofs.GrammarLemmas.{Leads, leads-append, leads-unless, maybe}
 use Rattle.md_container_rooms.proofs.BlockQuote.Alert.Events.{alert-is, inside_list, marker_list}
 
--- the prefix from `>` on may be where that is left behind it
+-- the prefix from `>` on may be where that is left after it
 leads-part : (text x : Expression) (marker past middle left right q : Point) →
     Leads text (x ∷ []) (behind n.BlockQuotePrefix x ∷ [])
     (around n.BlockQuotePrefix marker q (inside_list marker past middle (marker_list middle left right q)))

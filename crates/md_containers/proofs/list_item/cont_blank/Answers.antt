@@ -13,7 +13,7 @@ started-blank w zero e b =
     ap (λ (x : Bool). cond x (refused w) (indent_code its.ContBlank 1 w (sees_white w.current))) (sym b)
 started-blank w (suc more) e b = absurd (omega (arith, e))
 
--- one that was begun goes on
+-- one that was begun continues
 gone-on : (w : World) (max : ℕ) → 0 < max → inside_transition its.ContBlank w ≡ cont_blank_code w max
 gone-on w zero lt = absurd (omega (arith, lt))
 gone-on w (suc more) lt = refl

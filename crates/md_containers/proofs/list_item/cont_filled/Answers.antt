@@ -7,7 +7,7 @@ use Rattle.md_seam.specs.Transition.{Transition}
 use Rattle.md_containers.proofs.ItemMeaning.{item_rule}
 use Rattle.md_containers.proofs.list_item.cont_filled.Goals as goal
 
--- an indent that was begun goes on
+-- an indent that was begun continues
 gone-on : (w : World) (max : ℕ) → 0 < max → inside_transition its.ContFilled w ≡ cont_filled_code w max
 gone-on w zero lt = absurd (omega (arith, lt))
 gone-on w (suc more) lt = refl

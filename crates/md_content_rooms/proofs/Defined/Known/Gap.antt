@@ -19,7 +19,7 @@ use Rattle.md_frame.proofs.FrontStands.{fronts-between}
 
 -- Places between characters.
 
--- behind the ending of a line and prefixes,
+-- after the ending of a line and prefixes,
 break-between : (bytes : List ℕ) (e q r : Point) (front : List Event) → IsBreak bytes e q r front →
     is_between bytes r.index ≡ true
 break-between bytes e q r front is =
@@ -40,8 +40,7 @@ gap-back bytes p q (OverLine a e b r s front) is h = white-back bytes p e is.1 (
 
 -- What is left of the grammar.
 
--- Whitespace may stand there, or a line ending with prefixes; behind whitespace this is left, and that behind the
--- ending.
+-- Whitespace may be there, or a line ending with prefixes; after whitespace this is left, and that after the ending.
 pub record MayGap (x y w : Expression) : Type 0 where
   pub white : behind n.SpaceOrTab x ≡ y
   pub ended : behind n.LineEnding x ≡ w
@@ -54,7 +53,7 @@ gap_left x y w (OverLine p e q r s front) = w
 
 -- The gap.
 
--- behind the ending of a line a definition has no line more
+-- after the ending of a line a definition has no line more
 ended-leaf : (bytes : List ℕ) (q : Point) (d : DefinitionSoFar) →
     behind_ending bytes q (DefinitionLeaf d) ≡ DefinitionLeaf d
 ended-leaf bytes q d = go (nat_lt q.index (length bytes))
@@ -63,7 +62,7 @@ ended-leaf bytes q d = go (nat_lt q.index (length bytes))
     go true = refl
     go false = refl
 
--- whitespace, by what is left behind it
+-- whitespace, by what is left after it
 white-to : (bytes : List ℕ) (p q : Point) (x y : Expression) (leaf : OpenLeaf) → behind n.SpaceOrTab x ≡ y →
     IsWhite bytes p q →
     PartsFacts bytes p q x (cond (same_place p q) x y) leaf leaf (pair_unless_empty n.SpaceOrTab p q)
@@ -74,7 +73,7 @@ white-to bytes p q x y leaf left is =
     PartsFacts bytes p q x (cond (same_place p q) x z) leaf leaf (pair_unless_empty n.SpaceOrTab p q)
     (pair_unless_empty n.SpaceOrTab p q)) left (white-parts bytes p q x leaf is)
 
--- where prefixes may stand, so may whitespace
+-- where prefixes may be, so may whitespace
 white-same : (bytes : List ℕ) (p q : Point) (w : Expression) (leaf : OpenLeaf) → behind n.SpaceOrTab w ≡ w →
     IsWhite bytes p q →
     PartsFacts bytes p q w w leaf leaf (pair_unless_empty n.SpaceOrTab p q) (pair_unless_empty n.SpaceOrTab p q)
@@ -88,7 +87,7 @@ white-same bytes p q w leaf left is =
     go true = refl
     go false = refl
 
--- the ending of a line, wherever it may stand
+-- the ending of a line, wherever it may be
 ending-parts : (bytes : List ℕ) (e q r : Point) (front : List Event) (x w : Expression) (d : DefinitionSoFar) →
     behind n.LineEnding x ≡ w → IsBreak bytes e q r front →
     PartsFacts bytes e q x w (DefinitionLeaf d) (DefinitionLeaf d) (pair n.LineEnding e q) (pair n.LineEnding e q)

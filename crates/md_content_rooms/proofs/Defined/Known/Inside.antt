@@ -1,4 +1,4 @@
--- What is known of all that stands in a definition.
+-- What is known of all that is in a definition.
 use Rattle.std.proofs.Common.{◌≡◌, ℕ, List, [], ◌++◌, refl, subst}
 use Rattle.std.specs.Prelude.{Option, Some, None, option_map}
 use Rattle.md_engine.specs.declared.event.Event.{Event}
@@ -98,7 +98,7 @@ form-inside bytes x g t is known =
 
 -- It fills the line on which it ends.
 
--- a title does, or what stands in front of none
+-- a title does, or what is before none
 title-last : (f : Strand → List Event) (front target : List Event) (title : Option Titled) → Stays front →
     Filling target → Stays (front ++ target) → ((t : Titled) → title ≡ Some t → Filling (titled_by f t)) →
     Filling (front ++ target ++ title_by f title)

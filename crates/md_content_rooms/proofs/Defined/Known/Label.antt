@@ -12,7 +12,7 @@ use Rattle.md_frame.proofs.PartsFacts.{PartsFacts, around-reads, parts-around}
 label-mark : IsMarkName n.DefinitionLabelMarker
 label-mark = record { quiet = tt; others = λ p q. refl; ends = λ text. refl }
 
--- what stands in it, and what is left of that behind its first mark, and behind its text
+-- what is in it, and what is left of that after its first mark, and after its text
 abbrev pub label_begin : Expression
 label_begin = inside plain_text n.DefinitionLabel
 

@@ -1,4 +1,4 @@
--- A definition as it stands between its parts: what is left of its grammar there, and what was read of it.
+-- A definition as it is between its parts: what is left of its grammar there, and what was read of it.
 use Rattle.std.proofs.Common.{◌≡◌, ℕ, Bool, true, false, cond, List, refl}
 use Rattle.std.specs.Prelude.{Option, Some, None}
 use Rattle.md_engine.specs.declared.event.Name.{Name}
@@ -15,8 +15,8 @@ abbrev pub so_far : List (List ℕ) → List ℕ → Option (List (List ℕ)) �
 so_far label destination title =
     DefinitionLeaf (record { label = label; destination = destination; title = title })
 
--- Of the grammar: what stands in a definition, what is left of it behind its label, behind its colon, behind its
--- destination, and behind its title.
+-- Of the grammar: what is in a definition, what is left of it after its label, after its colon, after its destination,
+-- and after its title.
 abbrev pub form_left : Expression
 form_left = inside plain_text n.Definition
 
@@ -32,7 +32,7 @@ title_left = behind n.DefinitionDestination target_left
 abbrev pub last_left : Expression
 last_left = behind n.DefinitionTitle title_left
 
--- A gap may stand in front of the destination, and of the title.
+-- A gap may be before the destination, and of the title.
 abbrev pub behind_gap : Expression → Gap → Expression
 behind_gap x g = gap_left x (behind n.SpaceOrTab x) (behind n.LineEnding x) g
 
@@ -42,7 +42,7 @@ target-gap = record { white = refl; ended = refl; white_ended = refl; takes = (r
 pub title-gap : MayGap title_left (behind n.SpaceOrTab title_left) (behind n.LineEnding title_left)
 title-gap = record { white = refl; ended = refl; white_ended = refl; takes = (refl, refl) }
 
--- a name of which the same is left behind each of these, so that it is behind the gap
+-- a name of which the same is left after each of these, so that it is after the gap
 by-gap : (name : Name) (x y w z : Expression) (g : Gap) → behind name x ≡ z → behind name y ≡ z → behind name w ≡ z →
     behind name (gap_left x y w g) ≡ z
 by-gap name x y w z (OnLine p q) h i j = go (same_place p q)
@@ -62,7 +62,7 @@ title-left g =
     by-gap n.DefinitionTitle title_left (behind n.SpaceOrTab title_left) (behind n.LineEnding title_left) last_left g
     refl refl refl
 
--- Behind a title or none whitespace may stand, and the definition may end.
+-- After a title or none whitespace may be, and the definition may end.
 abbrev pub end_left : Option Titled → Expression
 end_left None = title_left
 end_left (Some t) = last_left

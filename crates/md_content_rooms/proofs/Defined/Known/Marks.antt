@@ -97,7 +97,7 @@ white-by P bytes p q (inr is) none some =
     (sym (apart-later p q (run-over bytes is.0 p q (some-long is.0 is.1) is.3).some))
     (some is.0 (some-long is.0 is.1) is.2 is.3)
 
--- what is left of the grammar behind it, by whether it is empty
+-- what is left of the grammar after it, by whether it is empty
 abbrev pub white_left : Bool → Expression → Expression
 white_left empty x = cond empty x (behind n.SpaceOrTab x)
 
@@ -116,7 +116,7 @@ white-parts bytes p q x leaf is =
     parts-pair bytes n.SpaceOrTab p q x leaf tt refl (λ text. refl) (run-order bytes text p q run)
     (white-stands bytes text p q some blank run))
 
--- between characters it stands so from its begin, and from its end
+-- between characters it is so from its begin, and from its end
 pub white-between : (bytes : List ℕ) (p q : Point) → IsWhite bytes p q → is_between bytes p.index ≡ true →
     is_between bytes q.index ≡ true
 white-between bytes p q (inl same) h = subst (λ (r : Point). is_between bytes r.index ≡ true) same h
@@ -128,7 +128,7 @@ pub white-back : (bytes : List ℕ) (p q : Point) → IsWhite bytes p q → is_b
 white-back bytes p q (inl same) h = subst (λ (r : Point). is_between bytes r.index ≡ true) (sym same) h
 white-back bytes p q (inr is) h = run-before bytes is.0 p q (some-long is.0 is.1) (blank-low is.0 is.2) is.3
 
--- in front of the begin of a definition
+-- before the begin of a definition
 pub white-lead : (bytes : List ℕ) (p q : Point) → IsWhite bytes p q →
     LeadFacts bytes p q (pair_unless_empty n.SpaceOrTab p q)
 white-lead bytes p q is =

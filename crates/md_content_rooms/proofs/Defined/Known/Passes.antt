@@ -1,4 +1,4 @@
--- The text of a label or of a title as an outline goes over it: no prefix stands in its first line.
+-- The text of a label or of a title as an outline goes over it: no prefix is in its first line.
 use Rattle.std.proofs.Common.{◌≡◌, ◌+◌, ℕ, true, cond, List, [], ◌++◌, get_or, refl, sym, ap}
 use Rattle.std.proofs.Common.{◌∙◌, append_assoc, arith, slice_range, subst}
 use Rattle.std.specs.Prelude.{◌==◌, slice_index}
@@ -34,7 +34,7 @@ ending-first LineFeed = (10, refl, refl)
 ending-first Return = (13, refl, refl)
 ending-first Both = (13, refl, refl)
 
--- so a text has one, up to behind the ending of its first line
+-- so a text has one, up to after the ending of its first line
 first-ended : (bytes text : List ℕ) (p e b : Point) → p.vs ≡ 0 → IsRun bytes text p e → IsEnding bytes e b →
     list_any is_ending (slice_range bytes (byte_at p) b.index) ≡ true
 first-ended bytes text p e b whole run is =
@@ -48,7 +48,7 @@ first-ended bytes text p e b whole run is =
     (omega (arith, some, is.size, is.in_text))
     (ap (λ (k : ℕ). is_ending (slice_index bytes k)) (sym place) ∙ ap is_ending at ∙ first.2)
 
--- prefixes, and what stands behind them
+-- prefixes, and what follows them
 further-nested : (bytes : List ℕ) (e b r q : Point) (front : List Event) (s : Strand) → IsBreak bytes e b r front →
     AreLines bytes r q s → Nested_in b q (front ++ strand_done bytes s)
 further-nested bytes e b r q front s break more =

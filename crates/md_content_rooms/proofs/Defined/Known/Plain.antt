@@ -1,4 +1,4 @@
--- A definition as an outline can show it: its parts stand in their order, and its names are known.
+-- A definition as an outline can show it: its parts are in their order, and its names are known.
 use Rattle.std.proofs.Common.{◌≡◌, ◌≢◌, ℕ, Bool, true, false, cond, List, [], ◌∷◌, ◌++◌, refl, sym, subst, subst₂}
 use Rattle.std.specs.Prelude.{None, Option, Some}
 use Rattle.md_engine.specs.declared.event.Event.{Event}
@@ -98,7 +98,7 @@ label-plain bytes x g t is known =
     text : List Event
     text = around n.DefinitionLabelString x.a x.b (strand_done bytes x.label)
 
--- what may come behind a destination, by whether it has a text
+-- what may come after a destination, by whether it has a text
 abbrev target_ends : Target → Left
 target_ends (Raw p q text) = TitleLeft
 target_ends (Literal p a b q []) = DestinationLeft
@@ -184,7 +184,7 @@ text-plain bytes left p a b q (Some s) may whole is known = record {
               strand-passes bytes TitlePart n.DefinitionTitleString a b s refl whole (strand-lines bytes a b s is);
         })
 
--- what may come behind it
+-- what may come after it
 abbrev title_ends : Left → Option Titled → Left
 title_ends left None = left
 title_ends left (Some t) = NoneLeft

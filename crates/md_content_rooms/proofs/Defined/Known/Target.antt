@@ -23,7 +23,7 @@ use Rattle.md_frame.proofs.PartsFacts.{IsPartName, PartsFacts, around-reads, par
 use Rattle.md_content_rooms.proofs.Defined.Strings.Lines.{run-end}
 use Rattle.md_frame.proofs.PieceFacts.{Starts}
 
--- what is known of its text, wherever that stands
+-- what is known of its text, wherever that is
 abbrev pub StringParts : List ℕ → List (List ℕ) → Type 0
 StringParts bytes label =
     (a b : Point) (text : List ℕ) (x : Expression) → a.vs ≡ 0 → text ≢ [] → IsRun bytes text a b →
@@ -63,12 +63,12 @@ target-name = record {
 literal-mark : IsMarkName n.DefinitionDestinationLiteralMarker
 literal-mark = record { quiet = tt; others = λ p q. refl; ends = λ text. refl }
 
--- what is left behind the first mark
+-- what is left after the first mark
 abbrev literal_text : Expression
 literal_text =
     behind n.DefinitionDestinationLiteralMarker (inside plain_text n.DefinitionDestinationLiteral)
 
--- The whole, around what stands between its marks or is its text.
+-- The whole, around what is between its marks or is its text.
 
 abbrev raw_events : Point → Point → List Event → List Event
 raw_events p q es = around n.DefinitionDestination p q (around n.DefinitionDestinationRaw p q es)

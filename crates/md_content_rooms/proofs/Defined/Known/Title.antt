@@ -1,4 +1,4 @@
--- What is known of the title of a definition, with the gap in front of it.
+-- What is known of the title of a definition, with the gap before it.
 use Rattle.std.proofs.Common.{◌≡◌, ℕ, Bool, true, false, cond, ◌||◌, List, [], ◌∷◌, ◌++◌, refl, sym, ap, ◌∙◌}
 use Rattle.std.proofs.Common.{subst, subst₂}
 use Rattle.std.specs.Prelude.{◌==◌, Option, Some, None, option_map}
@@ -80,7 +80,7 @@ title-reads bytes label lines target p q es h s text is_open =
 
 -- Its text.
 
--- what is left behind its first mark
+-- what is left after its first mark
 abbrev pub title_text : Expression
 title_text = behind n.DefinitionTitleMarker (inside plain_text n.DefinitionTitle)
 

@@ -1,7 +1,7 @@
 -- The texts of a definition, those of its label, its destination and its title: what is known of each.
 --
--- Each is a string: it begins and ends within a line, between marks, and has prefixes of containers in front of its
--- further lines.
+-- Each is a string: it begins and ends within a line, between marks, and has prefixes of containers before its further
+-- lines.
 use Rattle.std.proofs.Common.{◌≡◌, ℕ, true, false, List}
 use Rattle.std.specs.Prelude.{Some}
 use Rattle.md_engine.specs.declared.event.Event.{Event}
@@ -25,9 +25,9 @@ use Rattle.md_content_rooms.proofs.Defined.Form.{LastLine, NoLine, OneLine, Stra
 use Rattle.md_frame.proofs.PlainFacts.{AreKnown}
 use Rattle.md_frame.proofs.PartsFacts.{PartsFacts}
 
--- What they say of the definition: what was told first stands.
+-- What they say of the definition: what was said first is.
 
--- its label, by the lines as they stand
+-- its label, by the lines as they are
 abbrev pub label_told : List (List ℕ) → DefinitionSoFar → DefinitionSoFar
 label_told lines d = record d { label = first_told d.label (trim_further lines) }
 
@@ -59,14 +59,14 @@ pub record IsString (name : Name) (purpose : Purpose) : Type 0 where
   pub other : is_other (on_line name) ≡ true
   pub part : IsPart (role name)
 
--- A text of this name stands around these events from a point to a point, before it is read, and around those once it
--- is. It says this of the definition that is open.
+-- A text of this name is around these events from a point to a point, before it is read, and around those once it is.
+-- It says this of the definition that is open.
 pub record StringFacts (bytes : List ℕ) (name : Name) (purpose : Purpose) (p q : Point)
     (tells : DefinitionSoFar → DefinitionSoFar) (unread done : List Event) : Type 0 where
   pub facts : (x : Expression) (d : DefinitionSoFar) →
       PartsFacts bytes p q x (behind name x) (DefinitionLeaf d) (DefinitionLeaf (tells d)) (around name p q unread)
       (around name p q done)
-  -- in the text stand what the tree does not show, endings and prefixes
+  -- in the text are what the tree does not show, endings and prefixes
   pub texts : Roles Between done
   -- an outline knows it
   pub known : is_unlisted (TextRole purpose) ≡ true → AreKnown bytes (around name p q done)

@@ -20,8 +20,7 @@ use Rattle.md_content_rooms.proofs.Defined.Form.{IsBreak, IsRun, IsStrand, LastL
 use Rattle.md_frame.proofs.LineTexts.{one-next, without-none, without-one}
 use Rattle.md_frame.proofs.PieceFacts.{Starts, PiecesValid, chunk-stands, stood-append, stood-unless_empty}
 
--- These lines of a text, or what is left of it behind a line, stand from a point to a point. So it is told line by
--- line.
+-- These lines of a text, or what is left of it after a line, are from a point to a point. So it is said line by line.
 pub data AreLines (bytes : List ℕ) : Point → Point → Strand → Type 0 where
   NoneLeft : (q : Point) → q.vs ≡ 0 → AreLines bytes q q NoLine
   Last : (p q : Point) (text : List ℕ) → text ≢ [] → IsRun bytes text p q → AreLines bytes p q (LastLine p q text)

@@ -53,7 +53,7 @@ filled-some : (text : List ℕ) → is_blank text ≡ false → text ≢ []
 filled-some [] h = absurd (true≢false h)
 filled-some (b ∷ text) h = λ e. cc
 
--- behind the last line too
+-- after the last line too
 strand-clear : (bytes : List ℕ) (p q : Point) (s : Strand) → AreFilled s → AreLines bytes p q s → clear bytes p ≡ true
 strand-clear bytes q _ _ filled (NoneLeft _ whole) = low-clear bytes q (λ e. absurd (none e))
   where
@@ -63,7 +63,7 @@ strand-clear bytes p q _ filled (Last _ _ text some run) = run-clear bytes text 
 strand-clear bytes p q _ filled (More _ e b r _ text front s run break more) =
     run-clear bytes text p e (filled-some text filled.0) run
 
--- A piece that goes on with no line feed begins with none.
+-- A piece that continues with no line feed begins with none.
 begins-both : (span : OpenTextSpan) (xs ys : List ℕ) → begins_line span xs ≡ true → begins_with 10 ys ≡ false →
     begins_line span (xs ++ ys) ≡ true
 begins-both span xs ys h k = go span.is_parted xs h
@@ -84,7 +84,7 @@ first-fine bytes (b ∷ here) i j slice size filled none =
     ∙ line-at bytes (b ∷ here) i j 0 b slice size (omega arith) refl in
     ap (λ (c : ℕ). not (c == 10)) at ∙ feed-none b none.0
 
--- Behind the first line.
+-- After the first line.
 
 -- the text ends
 exit-parted : (bytes : List ℕ) (name : Name) (purpose : Purpose) (q : Point) (span : OpenTextSpan) (ys : List Event) →

@@ -60,7 +60,7 @@ strand-one bytes p q _ (More _ e b r _ text front s run break more) =
     ∙ one-next text break.ending.ending run.no_ending ends)
     (strand-one bytes r q s more)
 
--- they stand one behind the other
+-- they are one after the other
 in-order : (p b : Point) (cs : List Chunk) → IsTrue (at_or_before p b) → in_order b cs ≡ true →
     in_order p ((record { first = p; after = b }) ∷ cs) ≡ true
 in-order p b cs h k =

@@ -1,4 +1,4 @@
--- What the lines of a text of a definition are read as: these lines, but for whitespace in front of further ones.
+-- What the lines of a text of a definition are read as: these lines, but for whitespace before further ones.
 use Rattle.std.proofs.Common.{◌≡◌, ℕ, ◌+◌, ◌≤◌, Bool, true, false, cond, ◌||◌, List, [], ◌∷◌, ◌++◌, length, slice_range}
 use Rattle.std.proofs.Common.{refl, ap, sym, ◌∙◌, subst, append_assoc, arith}
 use Rattle.std.specs.Prelude.{◌==◌}
@@ -26,7 +26,7 @@ use Rattle.md_frame.proofs.PlainRoles.{chunk-roles}
 use Rattle.md_frame.proofs.ParagraphLines.{begins-white, collects-fronts, ends-before, lines-more, of-white}
 use Rattle.md_frame.proofs.ParagraphLines.{onto_line, trim-onto}
 
--- The bytes of a run, from behind a tab that is cut.
+-- The bytes of a run, from the end a tab that is cut.
 pub record RunBytes (bytes text : List ℕ) (p q : Point) : Type 0 where
   pub here : List ℕ
   pub slice : slice_range bytes (byte_at p) q.index ≡ here
@@ -107,7 +107,7 @@ pub record IsTold (bytes : List ℕ) (p q : Point) (s : Strand) : Type 0 where
   pub collects : Collects bytes (strand_done bytes s) (byte_at p) q.index all
   pub are : IsOfLines own all
   pub begins : AreFilled s → begins_with 10 all ≡ false
-  -- as lines behind others, and where they are the first
+  -- as lines after others, and where they are the first
   pub trimmed : trim_each own ≡ trim_each (strand_lines s)
   pub first : p.vs ≡ 0 → trim_further own ≡ trim_further (strand_lines s)
 
@@ -215,7 +215,7 @@ lines-told bytes p q _ filled (More _ e b r _ text front s run break more) =
     more-told bytes text p e b r q front s run break filled
     (lines-told bytes r q s (further-filled s filled) more)
 
--- what is told of a text from a point on is all of it
+-- what is said of a text from a point on is all of it
 told-all : (bytes : List ℕ) (p q : Point) (s : Strand) → (is : IsTold bytes p q s) →
     text_to bytes q.index (text_after bytes (begun p) (strand_done bytes s)) ≡ is.all
 told-all bytes p q s is =

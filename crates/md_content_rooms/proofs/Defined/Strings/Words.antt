@@ -22,9 +22,9 @@ use Rattle.md_seam.proofs.FeedLines.{IsEnding}
 use Rattle.md_content_rooms.proofs.Text.ChunkStays.{chunk-stays}
 use Rattle.md_content_rooms.proofs.Text.Unread.{ending-grows, unread_rest}
 
--- Before they are read, a chunk is a line, and prefixes may stand behind the first.
+-- Before they are read, a chunk is a line, and prefixes may be after the first.
 
--- behind the first chunk
+-- after the first chunk
 rest-word : (bytes : List ℕ) (p q : Point) (s : Strand) → AreLines bytes p q s →
     IsWord unread_text (unread_rest ∷ []) (strand_unread s)
 rest-word bytes q _ _ (NoneLeft _ whole) = record { left = unread_rest; leads = λ outer. refl; ends = refl }

@@ -16,7 +16,7 @@ is-text b h =
     let tab : nat_eq b 9 ≡ false = grind (arith, nat_tests) in
     rw (lf, cr, tab) refl
 
--- bytes of text and the span behind them are one span
+-- bytes of text and the span after them are one span
 span-behind : (bytes : List ℕ) (at n : ℕ) → at ≤ length bytes →
     ((k : ℕ) → k < at → has Text (slice_index bytes k) ≡ true) → IsSpan Text (drop at bytes) n →
     IsSpan Text bytes (at + n)
@@ -35,7 +35,7 @@ span-behind bytes at n le before span = record {
         let is : at + (k - at) ≡ k = omega arith in
         rw is at (rw (get_or-drop at bytes (k - at) 0) at (span.each (k - at) (omega (arith, lt, past))))
 
--- what is behind an index, as slicing gives it
+-- what is after an index, as slicing gives it
 rest : (bytes : List ℕ) (at : ℕ) → take (length bytes - at) (drop at bytes) ≡ drop at bytes
 rest bytes at = take_all (length bytes - at) (drop at bytes) (let size = length-drop at bytes in omega (arith, size))
 

@@ -1,4 +1,4 @@
-// The kinds of containers: the names of their events, and what else the engine tells by the kind.
+// The kinds of containers: the names of their events, and what else the engine shows by the kind.
 
 ghost use Rattle.std.specs.Prelude.{◌≡◌};
 ghost use Rattle.md_engine.specs.ContainerName.{first_kind, kind_goes_over, name_of};
@@ -21,8 +21,8 @@ pub(crate) fn first_kind() -> ContainerKind
     ContainerKind::BlockQuote
 }
 
-/// Whether a container of a kind goes on over an empty line, of which it takes nothing, by whether it started blank: a
-/// list item does that did not (CommonMark 5.2), and a footnote definition always.
+/// Whether a container of a kind continues over an empty line, of which it takes nothing, by whether it started blank:
+/// a list item does that did not (CommonMark 5.2), and a footnote definition always.
 #[inline(always)]
 pub(crate) fn kind_goes_over(kind: ContainerKind, starts_blank: bool) -> bool
     ensures { result ≡ kind_goes_over kind starts_blank }

@@ -23,7 +23,7 @@ line = n.Document document.ContainerExistingBefore
 abbrev next : StateName
 next = n.Document (opener_front openers)
 
--- Where the next container has ended, what stands here is seen already, and one goes on with those that may open.
+-- Where the next container has ended, what is here is seen already, and one continues with those that may open.
 goes : (old u new : World) (to : State) → RunsHere FlowStep line old (Next next) u → SeesAhead u →
     RunsHere FlowStep next u to new → SeesOn to u new → RunsHere FlowStep line old to new × SeesOn to old new
 goes old u new to runs ahead more sees =

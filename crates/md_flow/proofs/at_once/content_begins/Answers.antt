@@ -21,7 +21,7 @@ returns-then-ends_line-clause-runs c = λ fine.
     (world c.before_content.new.tokenizer) ((refl, refl), refl) (c.before_content.ensures.to fine)
     (c.before_content.ensures.world fine) fine c.requires.current (within-world c.args.tokenizer.now)).0
 
--- the point in front of the line lies in the text that is seen behind it
+-- the point before the line lies in the text that is seen after it
 placed-on : (t : Tokenizer) (u v : World) → SeesSome Line (world t) u → v.setting ≡ u.setting →
     IsPlaced v.setting.bytes t.point
 placed-on t u v some same =

@@ -21,7 +21,7 @@ may-read : (X : Type 0) → (false ≡ true) ⊎ X → X
 may-read X (inl never) = cc
 may-read X (inr lt) = lt
 
--- so one goes on with it
+-- so one continues with it
 goes : (u u' : World) (to : State) → to ≡ Next line → u' ≡ reading u → u.point.index < u.setting.limit →
     AnswersWith to line u u'
 goes u u' to is new lt = subst (λ (x : World). AnswersWith to line u x) (sym new) (ThatTook is lt)

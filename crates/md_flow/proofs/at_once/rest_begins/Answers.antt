@@ -34,7 +34,7 @@ returns-then-content_alone c =
     c.requires.current (inl refl) in
     record { runs = λ fine. (all fine).0; sees = λ fine. (all fine).1 }
 
--- what stands here is still seen
+-- what is here is still seen
 still-seen : (next : StateName) (w u : World) (s : State) → w.current ≡ looks w → Within w → s ≡ Retry next →
     (s ≢ Error → s ≡ (start_transition w).to) → (s ≢ Error → u ≡ (start_transition w).world) → u.current ≡ looks u
 still-seen next w u s seen within is to_is new_is =

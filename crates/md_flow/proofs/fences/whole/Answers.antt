@@ -11,7 +11,7 @@ use Rattle.md_flow.proofs.LineEnds.{ahead, on-ok}
 use Rattle.md_flow.proofs.WholeLines.{whole-ends, whole-waits}
 use Rattle.md_flow.proofs.fences.whole.Goals as goal
 
--- the point in front of the line lies in the text that is seen behind it
+-- the point before the line lies in the text that is seen after it
 placed-on : (t : Tokenizer) (u v : World) → SeesAll Line (world t) u → v.setting ≡ u.setting →
     IsPlaced v.setting.bytes t.point
 placed-on t u v all same =

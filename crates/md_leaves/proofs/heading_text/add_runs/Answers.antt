@@ -15,7 +15,7 @@ use Rattle.md_seam.specs.Events.Nested.{pair}
 use Rattle.md_seam.specs.Events.Places.{past_text}
 use Rattle.md_leaves.proofs.heading_text.add_runs.Goals as goal
 
--- what is left of the piece lies on the line, in its first run and behind that
+-- what is left of the piece lies on the line, in its first run and after that
 in-two : (bytes rest front back : List ℕ) (n : ℕ) (p : Point) → front ≡ take n rest → back ≡ drop n rest →
     IsOnLine bytes rest p → IsOnLine bytes (front ++ back) p
 in-two bytes rest front back n p is behind on =

@@ -62,7 +62,7 @@ taken-on t from line e is =
     subst (λ (l : List ℕ). IsOnLine t.bytes.now l from) (sym is)
     (text-on t.bytes.now t.scratch from t.point begun.placed t.sound.placed begun.at)
 
--- the text and what is behind it
+-- the text and what is after it
 in-two : (bytes line front back : List ℕ) (n : ℕ) (p : Point) → front ≡ take n line → back ≡ drop n line →
     IsOnLine bytes line p → IsOnLine bytes (front ++ back) p
 in-two bytes line front back n p is behind on =

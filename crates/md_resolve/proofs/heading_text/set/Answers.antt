@@ -51,7 +51,7 @@ is-found c =
     c.until_end-many.ensures.value c.until_end-many.ensures.within c.until_text-front.ensures.set
     c.until_text-front.ensures.within c.text_len-text.ensures.set c.text_len-text.ensures.within
 
--- what is left behind the text
+-- what is left after the text
 left-behind : (c : goal.After-hold_many-3) →
     left_of c.push_text.new.events
     ≡ drop c.text_len-text.result (drop c.until_text-front.result (left_of c.args.all.now))

@@ -6,7 +6,7 @@ use Rattle.std.proofs.lemmas.List.Sums.{prefix_len-le-length}
 use Rattle.md_engine.specs.declared.event.Event.{Event}
 use Rattle.md_seam.proofs.walks.passing.Goals as goal
 
--- where a whole round passes, it goes on behind that
+-- where a whole round passes, it continues after that
 round-passed : (test : Event → Bool) (n many : ℕ) (es : List Event) → many ≡ prefix_len test (take n es) → n ≤ many →
     prefix_len test es ≡ many + prefix_len test (drop many es)
 round-passed test n zero es is all = omega arith

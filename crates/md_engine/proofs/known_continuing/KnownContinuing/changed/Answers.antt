@@ -5,7 +5,7 @@ use Rattle.md_engine.specs.declared.known_continuing.KnownContinuing.{KnownConti
 use Rattle.md_engine.specs.KnownContinuing.{IsKnownContinuing, goes_over_empty}
 use Rattle.md_engine.proofs.known_continuing.KnownContinuing.changed.Goals as goal
 
--- what is known of the containers in front of one stays known where that one changes
+-- what is known of the containers before one stays known where that one changes
 over-set : (cs : List Container) (o : KnownContinuing) (i : ℕ) (c : Container) → IsKnownContinuing (take i cs) o →
     IsKnownContinuing (slice_set cs i c) o
 over-set cs o i c h =
