@@ -1,5 +1,7 @@
 // The constructs, one module each.
 
+pub mod document;
+pub mod flow;
 pub mod gfm_table;
 pub mod heading_atx;
 pub mod heading_setext;
@@ -8,7 +10,6 @@ pub mod list_item;
 pub use md_code::{code_indented, raw_flow};
 pub use md_containers::{block_quote, frontmatter, gfm_footnote_definition};
 pub use md_content::{content, paragraph};
-pub use md_flow::{document, flow};
 pub use md_html::html_flow;
 pub use md_leaves::{blank_line, partial_bom, partial_non_lazy_continuation, thematic_break};
 pub use md_link_definitions::definition;

@@ -22,6 +22,7 @@ ghost use Rattle.markdown_blocks.specs.Parsed.{IsParsed, IsRead, IsWithoutMdx};
 ghost use Rattle.md_meaning.specs.Wrapped.{IsSmall};
 
 use crate::plain::Plain;
+use md_at_once::table::FlowTable;
 use md_content::footnote_labels::footnote_labels;
 use md_engine::configuration::ParseOptions;
 use md_engine::event::{Content, Event, Name, Point};
@@ -34,7 +35,6 @@ use md_engine::subtokenize::Subresult;
 use md_engine::table::{flush, push};
 use md_engine::tokenizer::Tokenizer;
 use md_flow::document::DocumentTable;
-use md_flow::flow::FlowTable;
 use md_flow::resolve;
 use md_leaves::spans;
 use md_leaves::spans::Place;

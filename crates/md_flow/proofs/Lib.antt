@@ -1,11 +1,2 @@
-pub mod ContentLines
-pub mod FenceLines
-pub mod HtmlLines
-pub mod LineEnds
-pub mod NoClose
-pub mod NoIndent
-pub mod NoLabel
+pub mod OnOk
 pub mod SoundParts
-pub mod TakenBack
-pub mod WhiteEnds
-pub mod WholeLines

@@ -1,3 +1,1 @@
-pub mod AtOnce
 pub mod Nests
-pub mod WholeLines

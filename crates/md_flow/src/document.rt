@@ -101,14 +101,14 @@ pub fn before_frontmatter(tokenizer: &mut Tokenizer) -> State
 }
 
 /// The outermost container that was not asked yet whether it continues.
-pub(crate) fn next_container(tokenizer: &Tokenizer) -> Option<Container>
+pub fn next_container(tokenizer: &Tokenizer) -> Option<Container>
     ensures { result ≡ next_container (world tokenizer.now).flags }
 {
     tokenizer.containers.get(tokenizer.flags.continued).copied()
 }
 
 /// A container is asked whether it continues, or tried, where the tokenizer is.
-pub(crate) fn ask(tokenizer: &mut Tokenizer, container: Container)
+pub fn ask(tokenizer: &mut Tokenizer, container: Container)
     ensures { world tokenizer.new ≡ asking container (world tokenizer.old) }
 {
     tokenizer.flags.asked = container;
@@ -405,7 +405,7 @@ pub fn flow_inside(tokenizer: &mut Tokenizer) -> State
 
 /// Keeps the leaf that is open after the containers of a line, and what the line meets of it.
 #[inline(always)]
-pub(crate) fn begin_line(tokenizer: &mut Tokenizer)
+pub fn begin_line(tokenizer: &mut Tokenizer)
     ensures { world tokenizer.new ≡ record (world tokenizer.old) { flags = begun_line (world tokenizer.old).flags } }
 {
     let all = !(tokenizer.flags.continued < tokenizer.containers.len());

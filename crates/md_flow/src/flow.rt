@@ -14,8 +14,6 @@ ghost use Rattle.md_meaning.specs.Rest.{is_white};
 ghost use Rattle.md_registry.specs.Dispatch.{IsOutsideRow};
 ghost use Rattle.md_engine.specs.Full.{IsFull, OnError};
 ghost use Rattle.md_engine.specs.World.{world};
-ghost use Rattle.md_engine.specs.declared.resolve.name.Name.{Name as ResolveName};
-ghost use Rattle.md_registry.specs.States.{FlowStep, flow_table_scheme};
 ghost use Rattle.md_engine.specs.declared.state.Name.{Name as StateName};
 ghost use Rattle.md_engine.specs.declared.state.State.{State};
 ghost use Rattle.md_engine.specs.declared.state.flow.State.{State as FlowState};
@@ -28,24 +26,17 @@ ghost use Rattle.md_registry.specs.Flow.{before_transition, leaf_transition, tri
 ghost use Rattle.md_frame.specs.LeafName.{LeafName};
 ghost use Rattle.md_registry.specs.Registry.{tried_at};
 
-use crate::{at_once, constructs, resolve};
-use md_content::content;
 use md_engine::class::is_white;
-use md_engine::message::Message;
 use md_engine::or_error;
-use md_engine::resolve::Name as ResolveName;
 use md_engine::state::blank_line::State as BlankState;
 use md_engine::state::content::State as ContentState;
 use md_engine::state::document::State as DocumentState;
 use md_engine::state::flow::State as FlowState;
 use md_engine::state::{Name as StateName, State};
-use md_engine::stay::Stay;
-use md_engine::subtokenize::Subresult;
-use md_engine::table::Table;
 use md_engine::tokenizer::{HeldLeaf, Tokenizer};
 use md_leaves::blank_line;
 use md_registry::choices::{self, FirstLeaf};
-use md_seam::space_or_tab::{self, look_behind};
+use md_seam::space_or_tab::look_behind;
 
 /// At the start of the rest of a line: its first byte chooses what is tried (`choices::row`); a virtual space is a
 /// space.
@@ -371,42 +362,5 @@ pub fn call(tokenizer: &mut Tokenizer, state: FlowState) -> State
         FlowState::LeafAfter => leaf_after(tokenizer),
         FlowState::After => after(tokenizer),
         _ => try_leaf(tokenizer, state),
-    }
-}
-
-/// The states of flow.
-pub struct FlowTable;
-
-impl Table for FlowTable {
-    ghost use Rattle.md_registry.specs.Resolving.{resolved_as};
-
-    ghost step = { FlowStep };
-
-    ghost scheme = { flow_table_scheme };
-
-    ghost resolves = { resolved_as };
-
-    #[inline(always)]
-    fn call(tokenizer: &mut Tokenizer, name: StateName) -> State {
-        match name {
-            StateName::BlankLine(state) => blank_line::call(tokenizer, state),
-            StateName::Content(state) => content::call(tokenizer, state),
-            StateName::Document(state) => at_once::call_document(tokenizer, state),
-            StateName::Flow(state) => at_once::call_flow(tokenizer, state),
-            StateName::SpaceOrTab(state) => at_once::call_white(tokenizer, state),
-            _ => at_once::call_at_once(tokenizer, name),
-        }
-    }
-
-    fn takes_at_once(name: StateName) -> Option<Stay> {
-        match name {
-            StateName::Content(state) => content::takes_at_once(state),
-            StateName::SpaceOrTab(state) => space_or_tab::takes_at_once(state),
-            _ => constructs::takes_at_once(name),
-        }
-    }
-
-    fn resolve(tokenizer: &mut Tokenizer, name: ResolveName) -> Result<Option<Subresult>, Message> {
-        resolve::call(tokenizer, name)
     }
 }

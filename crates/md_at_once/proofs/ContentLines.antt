@@ -1,0 +1,175 @@
+-- Lines of content that are taken without an attempt. Where the end of a line can be read, this is what an attempt does
+-- that is begun and left; else an attempt is begun when the rest of the line has been seen.
+use Rattle.std.proofs.Common.{◌≡◌, ◌<◌, ◌≤◌, ◌∙◌, ◌++◌, Bool, true, false, List, [], ◌∷◌, ap, append_assoc, arith}
+use Rattle.std.proofs.Common.{Some, length, nat_eq, not, refl, subst, sym}
+use Rattle.md_content.specs.Chunks.{begun, chunk_inside_code, chunk_start_transition, content_link, rest_taken, unbegun}
+use Rattle.md_seam.proofs.LineTaken.{whole-behind}
+use Rattle.md_content.proofs.StaysLemmas.{chunk-takes, not-ending}
+use Rattle.md_engine.specs.declared.event.Event.{Event}
+use Rattle.md_engine.specs.declared.event.Kind.TheVariants.{Enter}
+use Rattle.md_engine.specs.declared.event.Name.TheVariants.{Content}
+use Rattle.md_engine.specs.declared.state.content.State.TheVariants as content
+use Rattle.md_engine.specs.declared.state.flow.State.TheVariants as flow
+use Rattle.md_engine.specs.declared.state.Name.TheVariants as n
+use Rattle.md_engine.specs.declared.state.State.{State}
+use Rattle.md_engine.specs.declared.state.State.TheVariants.{Next, Nok}
+use Rattle.md_engine.specs.declared.stay.Stay.TheVariants.{Line}
+use Rattle.md_engine.specs.declared.tokenizer.Frame.{Frame}
+use Rattle.md_engine.specs.declared.tokenizer.Scratch.{Scratch}
+use Rattle.md_engine.specs.Place.{seen_at}
+use Rattle.md_engine.specs.Run.{RunsFrom, RunsHere, reading}
+use Rattle.md_engine.specs.Staying.{Sees, SeesAll, SeesSome}
+use Rattle.md_engine.specs.Staying.SeesSome.{Nothing, OneMore}
+use Rattle.md_engine.specs.World.{World, looks}
+use Rattle.md_engine.proofs.Loops.{Came, CameHere, CameTo, came-first, came-runs}
+use Rattle.md_engine.proofs.Walks.{Within, then-holds, then-seen, then-stays, within-more, within-one}
+use Rattle.md_link_definitions.specs.OpenText.{text_behind}
+use Rattle.md_seam.specs.Events.Nested.{exit}
+use Rattle.md_seam.specs.Lent.{whole_from}
+use Rattle.md_seam.specs.Spaces.{ends_line}
+use Rattle.md_seam.specs.Transition.{tried}
+use Rattle.md_registry.specs.States.{FlowStep}
+use Rattle.md_at_once.specs.AtOnce.{line_added, line_frame, line_tried}
+use Rattle.md_at_once.proofs.LineEnds.{line-waits, takes-so}
+use Rattle.md_at_once.proofs.TakenBack.{stepped-as}
+use Rattle.md_at_once.proofs.WhiteEnds.{looks-inside}
+
+-- The rest of a line is seen whatever events and attempts there are, and whatever is kept beside,
+abbrev pub with : List Event → List Frame → Scratch → World → World
+with es fs s w = record w { events = es; frames = fs; scratch = s }
+
+pub some-with : (es : List Event) (fs : List Frame) (s : Scratch) (w u : World) → SeesSome Line w u →
+    SeesSome Line (with es fs s w) (with es fs s u)
+some-with es fs s w _ Nothing = Nothing
+some-with es fs s w _ (OneMore v some here) = OneMore (with es fs s v) (some-with es fs s w v some) here
+
+-- all of which it leaves as it is.
+pub record Keeps (w u : World) : Type 0 where
+  pub events : u.events ≡ w.events
+  pub frames : u.frames ≡ w.frames
+  pub scratch : u.scratch ≡ w.scratch
+  pub flags : u.flags ≡ w.flags
+
+pub some-keeps : (w u : World) → SeesSome Line w u → Keeps w u
+some-keeps w _ Nothing = record { events = refl; frames = refl; scratch = refl; flags = refl }
+some-keeps w _ (OneMore v some here) =
+    let before = some-keeps w v some in
+    record { events = before.events; frames = before.frames; scratch = before.scratch; flags = before.flags }
+
+-- Its end comes no earlier than its begin,
+pub some-order : (w u : World) → SeesSome Line w u → whole_from w.point ≤ whole_from u.point
+some-order w _ Nothing = omega arith
+some-order w _ (OneMore v some here) =
+    let before = some-order w v some in
+    let step = whole-behind v.setting v.point here.0 (not-ending here.0 here.2) here.1 in omega (arith, before, step)
+
+-- and there the line ends, where something is.
+pub line-over : (u : World) → u.point.index < u.setting.limit → ¬ Sees Line u → ends_line (looks u) ≡ true
+line-over u lt none = ap ends_line there ∙ go (nat_eq (seen_at u.setting.bytes u.point) 10) refl
+  where
+    there : looks u ≡ Some (seen_at u.setting.bytes u.point)
+    there = looks-inside u.setting u.point lt
+
+    go : (y : Bool) → nat_eq (seen_at u.setting.bytes u.point) 10 ≡ y → y ≡ true
+    go true e = refl
+    go false e = absurd (none (seen_at u.setting.bytes u.point, there, ap not e))
+
+-- A line of content has begun, and an attempt at it;
+abbrev first_event : World → Event
+first_event w = record { kind = Enter; name = Content; point = w.point; link = Some content_link }
+
+abbrev begins_in : World → World → World
+begins_in w =
+    with (w.events ++ first_event w ∷ []) (line_frame (length w.events) w.point ∷ w.frames) (begun w.point w.scratch)
+
+-- to which one comes before it.
+begins : (w : World) → w.current ≡ looks w → Within w →
+    CameHere FlowStep (n.Flow flow.BeforeContent) w (n.Content content.ChunkInside) (begins_in w w)
+begins w seen within is_end s v named from may =
+    let a : World = tried w (Next (n.Flow flow.After)) Nok in
+    let inner : Within a =
+    within-one (line_frame (length w.events) w.point) w.frames (length w.events) (omega arith) within in
+    then-stays FlowStep is_end s v (n.Content content.ChunkStart) (n.Content content.ChunkInside) a
+    (chunk_start_transition a).world
+    (then-stays FlowStep is_end s v (n.Flow flow.BeforeContent) (n.Content content.ChunkStart) w a
+    (came-first FlowStep (n.Flow flow.BeforeContent) w is_end s v named from may)
+    (record { to_is = refl; new_is = refl }) refl within refl seen)
+    (record { to_is = refl; new_is = refl }) refl inner refl seen
+
+begins-within : (w : World) → Within w → Within (begins_in w w)
+begins-within w within =
+    within-more (line_frame (length w.events) w.point ∷ w.frames) w.events (first_event w ∷ [])
+    (within-one (line_frame (length w.events) w.point) w.frames (length w.events) (omega arith) within)
+
+all-seen : (w u : World) → SeesAll Line w u → SeesAll Line (begins_in w w) (begins_in w u)
+all-seen w u all = record { some = some-with _ _ _ w u all.some; ends = all.ends }
+
+-- Where the text that may be read ends in the line, it waits for more.
+pub content-waits : (w u x : World) → w.current ≡ looks w → Within w → w.point.index < w.setting.limit →
+    SeesAll Line w u → u.setting.limit ≤ u.point.index → x ≡ line_tried w.point u →
+    RunsHere FlowStep (n.Flow flow.BeforeContent) w (Next (n.Content content.ChunkInside)) x
+content-waits w u x seen within lt all le new is_end =
+    subst (λ (y : World). RunsFrom FlowStep is_end (n.Flow flow.BeforeContent) w (Next (n.Content content.ChunkInside)) y)
+    (sym (new ∙ same))
+    (came-runs FlowStep is_end (n.Flow flow.BeforeContent) (n.Content content.ChunkInside) w (begins_in w w)
+    (Next (n.Content content.ChunkInside)) (begins_in w u) (begins w seen within is_end)
+    (line-waits (n.Content content.ChunkInside) (begins_in w w) (begins_in w u) chunk-takes seen (begins-within w within)
+    (all-seen w u all) lt le is_end))
+  where
+    keeps : Keeps w u
+    keeps = some-keeps w u all.some
+
+    laid : List Event → List Frame → Scratch → World
+    laid es fs s = with (es ++ first_event w ∷ []) (line_frame (length es) w.point ∷ fs) (begun w.point s) u
+
+    same : line_tried w.point u ≡ begins_in w u
+    same =
+        ap (λ (es : List Event). laid es u.frames u.scratch) keeps.events
+        ∙ ap (λ (fs : List Frame). laid w.events fs u.scratch) keeps.frames
+        ∙ ap (λ (s : Scratch). laid w.events w.frames s) keeps.scratch
+
+-- Where it can be read to its end the attempt is left there, and the line ends.
+pub content-ends : (w u x : World) (to : State) (new : World) → w.current ≡ looks w → Within w → SeesAll Line w u →
+    u.point.index < u.setting.limit → x ≡ line_added w.point (reading u) →
+    RunsHere FlowStep (n.Flow flow.After) x to new → RunsHere FlowStep (n.Flow flow.BeforeContent) w to new
+content-ends w u x to new seen within all lt behind runs is_end =
+    came-runs FlowStep is_end (n.Flow flow.BeforeContent) (n.Flow flow.After) w x to new came (runs is_end)
+  where
+    keeps : Keeps w u
+    keeps = some-keeps w u all.some
+
+    inside : World
+    inside = reading (begins_in w u)
+
+    taken : World
+    taken = (chunk_inside_code inside true).world
+
+    laid : List Event → List Frame → Scratch → World
+    laid es fs s = record (with es fs (unbegun s) (line_added w.point (reading u))) {
+      flags = record u.flags {
+        leaf = text_behind u.flags.leaf (rest_taken u.setting.bytes (begun w.point s) u.point);
+      };
+    }
+
+    both : List Event → List Event
+    both es = es ++ first_event w ∷ exit Content u.point ∷ []
+
+    left : reading (record taken { frames = w.frames }) ≡ x
+    left =
+        ap (λ (es : List Event). laid es w.frames w.scratch)
+        (append_assoc w.events (first_event w ∷ []) (exit Content u.point ∷ []))
+        ∙ sym
+        (behind ∙ ap (λ (es : List Event). laid (both es) u.frames u.scratch) keeps.events
+        ∙ ap (λ (fs : List Frame). laid (both w.events) fs u.scratch) keeps.frames
+        ∙ ap (λ (s : Scratch). laid (both w.events) w.frames s) keeps.scratch)
+
+    came : Came FlowStep is_end (n.Flow flow.BeforeContent) w (n.Flow flow.After) x
+    came s z named from may =
+        let at_end = then-seen FlowStep is_end s z (n.Content content.ChunkInside) Line (begins_in w w) (begins_in w u)
+        (takes-so (n.Content content.ChunkInside) chunk-takes) (begins w seen within is_end s z named from may) seen
+        (begins-within w within) (all-seen w u all).some lt in
+        let over = then-holds FlowStep is_end s z (n.Content content.ChunkInside) (n.Flow flow.After) inside taken
+        (line_frame (length w.events) w.point) w.frames at_end
+        (stepped-as (n.Content content.ChunkInside) inside (chunk_inside_code inside true)
+        (ap (chunk_inside_code inside) (line-over u lt all.ends))) refl (begins-within w within) refl refl refl within lt in
+        subst (λ (y : World). CameTo FlowStep is_end s z (n.Flow flow.After) y) left over

@@ -1,0 +1,10 @@
+pub mod ContentLines
+pub mod FenceLines
+pub mod HtmlLines
+pub mod LineEnds
+pub mod NoClose
+pub mod NoIndent
+pub mod NoLabel
+pub mod TakenBack
+pub mod WhiteEnds
+pub mod WholeLines

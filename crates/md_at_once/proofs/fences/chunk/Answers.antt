@@ -1,0 +1,51 @@
+use Rattle.std.proofs.Common.{◌≡◌, ◌≢◌, ◌<◌, ◌∙◌, inr, refl, subst, sym}
+use Rattle.md_engine.specs.Run.{RunsHere}
+use Rattle.md_engine.specs.World.{World, looks, world}
+use Rattle.md_engine.specs.declared.state.raw_flow.State.TheVariants as its
+use Rattle.md_engine.specs.declared.state.Name.TheVariants as n
+use Rattle.md_engine.specs.declared.state.State.TheVariants.{Error, Next}
+use Rattle.md_engine.proofs.Loops.{CameHere}
+use Rattle.md_engine.proofs.StayLemmas.{within-world}
+use Rattle.md_seam.specs.Spaces.{ends_line}
+use Rattle.md_registry.specs.States.{FlowStep}
+use Rattle.md_registry.proofs.LinesAtOnce.{ends-behind, leaves-once}
+use Rattle.md_at_once.proofs.FenceLines.{chunk-leaves, chunk-takes}
+use Rattle.md_at_once.proofs.LineEnds.{ahead, inside-line, line-taken, line-waits}
+use Rattle.md_at_once.proofs.fences.chunk.Goals as goal
+
+pub returns-then-ends_line : goal.returns-then-ends_line
+returns-then-ends_line c =
+    let w = world c.args.tokenizer.now in
+    let all = λ (fine : c.content_chunk.result ≢ Error).
+    leaves-once (n.RawFlow its.ContentChunk) w c.content_chunk.result (world c.content_chunk.new.tokenizer)
+    (chunk-leaves w (ends_line w.current)) (c.content_chunk.ensures.to fine) (c.content_chunk.ensures.world fine) fine
+    c.requires.current (within-world c.args.tokenizer.now) in
+    record { runs = λ fine. (all fine).0; sees = λ fine. (all fine).1 }
+
+pub returns-then-see_or_wait-clause-runs : goal.returns-then-see_or_wait-clause-runs
+returns-then-see_or_wait-clause-runs c = λ fine.
+    let name = n.RawFlow its.ContentChunk in
+    let w = world c.args.tokenizer.now in
+    subst (λ (x : World). RunsHere FlowStep name w (Next name) x) (sym (c.if-see_or_wait.ensures.same refl))
+    (line-waits name w (world c.see_line.new.self) chunk-takes c.requires.current (within-world c.args.tokenizer.now)
+    c.see_line.ensures (inside-line w c.requires.current (sym c.ends_line.ensures ∙ c.if-ends_line.false))
+    (c.if-see_or_wait.ensures.waits refl).1)
+
+pub returns : goal.returns
+returns c =
+    let name = n.RawFlow its.ContentChunk in
+    let w = world c.args.tokenizer.now in
+    let v = world c.see_or_wait.new.self in
+    let sees = c.if-see_or_wait.ensures.sees refl in
+    let lt = ahead (c.if-see_or_wait.ensures.goes_on refl) in
+    let came : CameHere FlowStep name w name v =
+    subst (λ (x : World). CameHere FlowStep name w name x) (sym sees)
+    (line-taken name w (world c.see_line.new.self) chunk-takes c.requires.current (within-world c.args.tokenizer.now)
+    c.see_line.ensures lt) in
+    let all = λ (fine : c.content_chunk-2.result ≢ Error).
+    ends-behind name name w v c.content_chunk-2.result
+    (world c.content_chunk-2.new.tokenizer) came (chunk-leaves v (ends_line v.current))
+    (c.content_chunk-2.ensures.to fine) (c.content_chunk-2.ensures.world fine) fine
+    (subst (λ (x : World). x.current ≡ looks x) (sym sees) refl) (within-world c.see_or_wait.new.self)
+    (inr (subst (λ (x : World). x.point.index < x.setting.limit) (sym sees) lt)) in
+    record { runs = λ fine. (all fine).0; sees = λ fine. (all fine).1 }
