@@ -23,9 +23,10 @@ ghost use Rattle.md_seam.specs.Spaces.{calmed};
 ghost use Rattle.md_seam.specs.Transition.{IsAt, NeedsNothing};
 
 use crate::line_ends::{end, line_end};
+use md_code::fence_parts::{block_name, chunk_name, held_indent, held_marker};
 use md_code::raw_flow;
 use md_engine::class::is_white;
-use md_engine::event::{Event, Kind, Name, Point};
+use md_engine::event::{Event, Kind, Point};
 use md_engine::message::Message;
 use md_engine::or_error;
 use md_engine::state::flow::State as FlowState;
@@ -161,29 +162,6 @@ fn line(tokenizer: &mut Tokenizer) -> State
     end(tokenizer, to)
 }
 
-/// The marker of a block that is open.
-#[inline(always)]
-fn held_marker(leaf: HeldLeaf) -> u8
-    ensures { result ≡ held_marker leaf }
-{
-    match leaf {
-        HeldLeaf::Fence { marker, .. } => marker,
-        _ => 0,
-    }
-}
-
-/// The name of a block of this marker.
-#[inline(always)]
-fn block_name(marker: u8) -> Name
-    ensures { result ≡ block_name marker }
-{
-    if marker == b'$' {
-        Name::MathFlow
-    } else {
-        Name::CodeFenced
-    }
-}
-
 /// Whether whitespace is here, and something else than the marker first after it.
 #[inline(always)]
 fn closes_none(tokenizer: &mut Tokenizer) -> bool
@@ -271,29 +249,6 @@ fn further(tokenizer: &mut Tokenizer) -> State
         untried(tokenizer)
     } else {
         tried(tokenizer)
-    }
-}
-
-/// The indent of a block that is open.
-#[inline(always)]
-fn held_indent(leaf: HeldLeaf) -> usize
-    ensures { result ≡ held_indent leaf }
-{
-    match leaf {
-        HeldLeaf::Fence { indent, .. } => indent,
-        _ => 0,
-    }
-}
-
-/// The name of a line of a block of this marker.
-#[inline(always)]
-fn chunk_name(marker: u8) -> Name
-    ensures { result ≡ chunk_name marker }
-{
-    if marker == b'$' {
-        Name::MathFlowChunk
-    } else {
-        Name::CodeFlowChunk
     }
 }
 

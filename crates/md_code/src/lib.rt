@@ -2,4 +2,5 @@
 #![tactic(auto)]
 
 pub mod code_indented;
+pub mod fence_parts;
 pub mod raw_flow;

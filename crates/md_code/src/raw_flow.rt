@@ -38,9 +38,7 @@ ghost use Rattle.md_seam.specs.Spaces.{sees_white};
 ghost use Rattle.md_seam.specs.Stays.{TakesEach};
 ghost use Rattle.md_seam.specs.Transition.{IsAt};
 
-mod parts;
-
-use crate::raw_flow::parts::{
+use crate::fence_parts::{
     block_name, chunk_name, cleared, fence_name, held_indent, held_marker, held_size, is_marker,
     is_refused, least_size, meta_name, sequence_name,
 };

@@ -1,4 +1,4 @@
-// The names of a block and of its parts, and what is kept of one.
+// Fenced code and math: the names of a block and of its parts, and what is held of an open one.
 
 ghost use Rattle.std.specs.Prelude.{◌≡◌};
 ghost use Rattle.md_meaning.specs.Leaves.{is_fence_marker, least_size};
@@ -35,7 +35,8 @@ pub(crate) fn is_refused(marker: u8, byte: u8) -> bool
 }
 
 /// The name of a block.
-pub(crate) fn block_name(marker: u8) -> Name
+#[inline(always)]
+pub fn block_name(marker: u8) -> Name
     ensures { result ≡ block_name marker }
 {
     if marker == b'$' {
@@ -45,7 +46,7 @@ pub(crate) fn block_name(marker: u8) -> Name
     }
 }
 
-/// That of its fences,
+/// That of its fences.
 pub(crate) fn fence_name(marker: u8) -> Name
     ensures { result ≡ fence_name marker }
 {
@@ -56,7 +57,7 @@ pub(crate) fn fence_name(marker: u8) -> Name
     }
 }
 
-/// of their sequences,
+/// That of the sequences of its fences.
 pub(crate) fn sequence_name(marker: u8) -> Name
     ensures { result ≡ sequence_name marker }
 {
@@ -67,7 +68,7 @@ pub(crate) fn sequence_name(marker: u8) -> Name
     }
 }
 
-/// of `meta`,
+/// That of `meta`.
 pub(crate) fn meta_name(marker: u8) -> Name
     ensures { result ≡ meta_name marker }
 {
@@ -78,8 +79,9 @@ pub(crate) fn meta_name(marker: u8) -> Name
     }
 }
 
-/// and of its lines.
-pub(crate) fn chunk_name(marker: u8) -> Name
+/// That of its lines.
+#[inline(always)]
+pub fn chunk_name(marker: u8) -> Name
     ensures { result ≡ chunk_name marker }
 {
     if marker == b'$' {
@@ -89,8 +91,9 @@ pub(crate) fn chunk_name(marker: u8) -> Name
     }
 }
 
-/// The marker of the open block,
-pub(crate) fn held_marker(leaf: HeldLeaf) -> u8
+/// The marker of the open block.
+#[inline(always)]
+pub fn held_marker(leaf: HeldLeaf) -> u8
     ensures { result ≡ held_marker leaf }
 {
     match leaf {
@@ -99,7 +102,7 @@ pub(crate) fn held_marker(leaf: HeldLeaf) -> u8
     }
 }
 
-/// how many of it its opening sequence has,
+/// How many markers the opening sequence of the open block has.
 pub(crate) fn held_size(leaf: HeldLeaf) -> usize
     ensures { result ≡ held_size leaf }
 {
@@ -109,8 +112,9 @@ pub(crate) fn held_size(leaf: HeldLeaf) -> usize
     }
 }
 
-/// and how many columns are before that.
-pub(crate) fn held_indent(leaf: HeldLeaf) -> usize
+/// How many columns are before the opening sequence of the open block.
+#[inline(always)]
+pub fn held_indent(leaf: HeldLeaf) -> usize
     ensures { result ≡ held_indent leaf }
 {
     match leaf {
