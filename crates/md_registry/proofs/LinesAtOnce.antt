@@ -29,7 +29,6 @@ use Rattle.md_engine.proofs.Keeps.{runs-setting}
 use Rattle.md_engine.proofs.Loops.{CameHere, CameTo, call-sees, came-calls, came-first, came-runs}
 use Rattle.md_engine.proofs.Loops.{came-stays, not_error, reading-same}
 use Rattle.md_engine.proofs.Walks.{Within, then-stays, then-run, within-one}
-use Rattle.md_content.specs.Chunks.{chunk_inside_code}
 use Rattle.md_leaves.specs.Blank as blank
 use Rattle.md_leaves.proofs.HeadingCalls.{remains-of, sees-from}
 use Rattle.md_seam.specs.Look.{behind_code, first_behind, looks_behind, may_with}
@@ -316,10 +315,6 @@ inside-leaves w = go (asked_first w.flags.leaf)
     go (Some l) =
         trial-leaves (leaf l).start (n.Flow flow.After) (n.Flow flow.Start)
         (record w { flags = blank_here (nothing_stands w.current w.point) w.flags }) w true refl refl refl
-
-pub chunk-leaves : (w : World) (x : Bool) → Leaves (chunk_inside_code w x) w
-chunk-leaves w true = (tt, refl)
-chunk-leaves w false = (tt, refl)
 
 -- at the end of a line no state kept_containers
 ends-anywhere : (u w : World) (o : Option ℕ) → u.setting ≡ w.setting → Leaves (flow_end_code u o) w

@@ -5,7 +5,6 @@ use Rattle.std.specs.Prelude.{Option, Some, None, Bool}
 use Rattle.std.specs.List.{prefix_len}
 use Rattle.md_engine.specs.declared.event.Content.{Content}
 use Rattle.md_engine.specs.declared.event.Event.{Event}
-use Rattle.md_seam.specs.declared.inline.Chunk.{Chunk}
 use Rattle.md_seam.specs.Substituted.{Asked, Begun, EachAsked, chunk_of, chunks_behind, chunks_from, stays, wanted}
 use Rattle.md_seam.proofs.SubstitutedLemmas.{two-left}
 
@@ -20,22 +19,6 @@ AskedBy wants asked chunks e f es o = elim o [
     | suc more ↦ EachAsked wants asked more es
   ]
 ]
-
--- A reader that may be asked for any part may be asked for each.
-pub asked-all : (wants : Content → Bool) (asked : Asked) →
-    ((content : Content) (chunks : List Chunk) → asked content chunks) → (n : ℕ) (events : List Event) →
-    EachAsked wants asked n events
-asked-all wants asked any n [] = tt
-asked-all wants asked any n (e ∷ []) = tt
-asked-all wants asked any n (e ∷ f ∷ es) =
-    go (wanted wants e) n (λ m. asked-all wants asked any m (f ∷ es)) (λ m. asked-all wants asked any m es)
-  where
-    go : (o : Option Content) (n : ℕ) → ((m : ℕ) → EachAsked wants asked m (f ∷ es)) →
-        ((m : ℕ) → EachAsked wants asked m es) → AskedBy wants asked n e f es o
-    go None n next behind = next n
-    go (Some held) zero next behind =
-        (any held (chunk_of e f ∷ chunks_behind wants es), behind (length (chunks_behind wants es)))
-    go (Some held) (suc more) next behind = behind more
 
 -- an event that stays
 pub asked-event : (wants : Content → Bool) (asked : Asked) (n : ℕ) (e : Event) (rest : List Event) →

@@ -59,10 +59,6 @@ record IsShare (bytes : List ℕ) (left : List Event) (chunk : Chunk) (chunks : 
   first : take (share (length chunks) left chunk.after.index) left ≡ plain_chunk bytes chunk
   rest : drop (share (length chunks) left chunk.after.index) left ≡ together (plain_chunks bytes chunks)
 
-head-of : List (List Event) → List Event
-head-of [] = []
-head-of (l ∷ ls) = l
-
 line-share : (bytes : List ℕ) (chunk : Chunk) (chunks : List Chunk) → AreLines bytes (chunk ∷ chunks) →
     IsShare bytes (together (plain_chunks bytes (chunk ∷ chunks))) chunk chunks
 line-share bytes chunk chunks are =
