@@ -3,7 +3,7 @@
 
 ghost use Rattle.events_body.specs.Events.{PrintsEvents};
 
-mod names;
+pub mod names;
 pub mod print;
 pub mod run;
 

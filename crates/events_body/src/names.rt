@@ -5,7 +5,7 @@ ghost use Rattle.events_body.specs.PrintedEvents.{name_text};
 use md_engine::event::Name;
 
 /// A name, as it is spelled in the library.
-pub(crate) fn text_of(name: Name) -> &'static str
+pub fn text_of(name: Name) -> &'static str
     ensures { result.now ≡ name_text name }
 {
     match name {

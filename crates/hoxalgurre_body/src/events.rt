@@ -1,6 +1,7 @@
 // Events as records.
 
 use crate::position::Place;
+use events_body::names::text_of;
 use markdown_blocks::event::{Event, Kind};
 use serde::Serialize;
 use std::alloc::{AllocError, Global};
@@ -10,8 +11,8 @@ use std::alloc::{AllocError, Global};
 pub(crate) struct Record {
     /// `enter` or `exit`.
     kind: &'static str,
-    /// The name, as the library spells it.
-    name: String,
+    /// The name, as `events` prints it.
+    name: &'static str,
     place: Place,
     /// How many columns of the tab at the place lie before it; 0 where no tab is cut.
     virtual_spaces: usize,
@@ -23,7 +24,7 @@ pub(crate) fn records(alloc: Global, events: &[Event]) -> Result<Vec<Record>, Al
     for event in events {
         records.push(Record {
             kind: kind_of(event.kind),
-            name: format!(in alloc; "{:?}", event.name)?,
+            name: text_of(event.name),
             place: Place::of(event.point),
             virtual_spaces: event.point.vs,
         })?;

@@ -5,7 +5,7 @@ ghost use Rattle.markdown_blocks.specs.Parsed.{IsSmall, IsWithoutMdx};
 use crate::events::{Record, records};
 use crate::headings::{Heading, headings, push_headings};
 use crate::labels::{Finding, findings, push_findings};
-use crate::outline::{Block, blocks, push_blocks};
+use crate::outline::{Block, blocks, positions, push_outline};
 use events_body::print::print;
 use html_blocks::render::render;
 use markdown_blocks::configuration::ParseOptions;
@@ -97,11 +97,7 @@ pub fn report_on(
         return report_labels(alloc, format, file, &events, &state);
     }
     let text = match task {
-        Task::Outline => {
-            let lines = outline(alloc, &events, &state)?;
-            let blocks = blocks(alloc, &events, &lines)?;
-            report_outline(alloc, format, file, blocks, &state)?
-        }
+        Task::Outline => report_outline(alloc, format, file, &events, &state)?,
         Task::Events => report_events(alloc, format, file, &events)?,
         Task::Html => report_html(alloc, format, file, &events, &state)?,
         _ => report_headings(alloc, format, file, &events, &state)?,
@@ -121,22 +117,24 @@ fn report_outline(
     alloc: Global,
     format: Format,
     file: &str,
-    blocks: Vec<Block>,
+    events: &[Event],
     state: &ParseState,
 ) -> Result<String, Message> {
+    let lines = outline(alloc, events, state)?;
+    let positions = positions(alloc, events)?;
     if format == Format::Json {
         return json(
             alloc,
             &OutlineReport {
                 file,
-                blocks,
+                blocks: blocks(alloc, &positions, &lines)?,
                 definitions: &state.definitions,
                 footnotes: &state.gfm_footnote_definitions,
             },
         );
     }
     let mut text = String::new(alloc);
-    push_blocks(&mut text, &blocks)?;
+    push_outline(&mut text, &positions, &lines)?;
     Ok(text)
 }
 
@@ -174,7 +172,8 @@ fn report_headings(
     events: &[Event],
     state: &ParseState,
 ) -> Result<String, Message> {
-    let headings = headings(alloc, events, state.bytes)?;
+    let lines = outline(alloc, events, state)?;
+    let headings = headings(alloc, events, &lines, state.bytes.len())?;
     if format == Format::Json {
         return json(alloc, &HeadingsReport { file, headings });
     }

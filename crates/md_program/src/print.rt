@@ -59,7 +59,7 @@ fn push_all(text: &mut String, outlined: &Outlined) -> Result<(), AllocError>
     )
 }
 
-/// Puts behind the text what is printed behind the lines: an empty line, and the two lists of labels.
+/// Puts after the text what is printed after the lines: an empty line, and the two lists of labels.
 #[tactic(auto, unfolding(crate::specs::Printed::printed_end))]
 pub fn push_end(
     text: &mut String,
@@ -74,7 +74,7 @@ pub fn push_end(
     push_labels(text, "footnotes ", footnotes)
 }
 
-/// Puts the lines of an outline behind the text.
+/// Puts the lines of an outline after the text.
 #[inline(never)]
 pub fn push_lines(text: &mut String, lines: &[OutlineLine]) -> Result<(), AllocError>
     ensures { OnOk result
@@ -86,8 +86,10 @@ pub fn push_lines(text: &mut String, lines: &[OutlineLine]) -> Result<(), AllocE
     Ok(())
 }
 
+/// Puts a line of an outline after the text.
 #[tactic(auto, unfolding(crate::specs::Printed::printed_line))]
-fn push_line(text: &mut String, line: &OutlineLine) -> Result<(), AllocError>
+#[inline(always)]
+pub fn push_line(text: &mut String, line: &OutlineLine) -> Result<(), AllocError>
     ensures { OnOk result (string_bytes text.new ≡ string_bytes text.old ++ printed_line (entry_of line.now)) }
 {
     push_front(text, line.depth, line.word)?;
@@ -98,10 +100,10 @@ fn push_line(text: &mut String, line: &OutlineLine) -> Result<(), AllocError>
     text.push('\n')
 }
 
-/// Puts two spaces a depth behind the text, and a word: at once for the lines of blocks that are not deep, which are
+/// Puts two spaces a depth after the text, and a word: at once for the lines of blocks that are not deep, which are
 /// the most.
 #[inline(always)]
-fn push_front(text: &mut String, depth: usize, word: Word) -> Result<(), AllocError>
+pub fn push_front(text: &mut String, depth: usize, word: Word) -> Result<(), AllocError>
     ensures { OnOk result
         (string_bytes text.new ≡ string_bytes text.old ++ (repeat depth (codes "  ") ++ head word)) }
 {
@@ -117,7 +119,7 @@ fn push_front(text: &mut String, depth: usize, word: Word) -> Result<(), AllocEr
     }
 }
 
-/// Puts two spaces a depth behind the text: at once for as few depths as most lines have.
+/// Puts two spaces a depth after the text: at once for as few depths as most lines have.
 #[inline(always)]
 fn push_few(text: &mut String, depth: usize) -> Result<(), AllocError>
     ensures { OnOk result (string_bytes text.new ≡ string_bytes text.old ++ repeat depth (codes "  ")) }
@@ -131,7 +133,7 @@ fn push_few(text: &mut String, depth: usize) -> Result<(), AllocError>
     }
 }
 
-/// Puts two spaces a depth behind the text, those of four depths at once.
+/// Puts two spaces a depth after the text, those of four depths at once.
 fn push_indent(text: &mut String, depth: usize) -> Result<(), AllocError>
     ensures { OnOk result (string_bytes text.new ≡ string_bytes text.old ++ repeat depth (codes "  ")) }
 {
@@ -142,7 +144,7 @@ fn push_indent(text: &mut String, depth: usize) -> Result<(), AllocError>
     push_few(text, depth % 4)
 }
 
-/// Puts `piece` behind the text, so many times.
+/// Puts `piece` after the text, so many times.
 #[inline(always)]
 pub fn push_repeated(text: &mut String, piece: &str, count: usize) -> Result<(), AllocError>
     ensures { OnOk result (string_bytes text.new ≡ string_bytes text.old ++ repeat count piece.now) }
@@ -153,7 +155,7 @@ pub fn push_repeated(text: &mut String, piece: &str, count: usize) -> Result<(),
     Ok(())
 }
 
-/// Puts the word of a heading behind the text: at once for the levels that most headings have.
+/// Puts the word of a heading after the text: at once for the levels that most headings have.
 #[inline(always)]
 fn push_heading(text: &mut String, level: u8) -> Result<(), AllocError>
     ensures { OnOk result
@@ -167,7 +169,8 @@ fn push_heading(text: &mut String, level: u8) -> Result<(), AllocError>
     }
 }
 
-fn push_head(text: &mut String, word: Word) -> Result<(), AllocError>
+/// Puts a word after the text, as `heading 1`: of a line that has a text, all that is before that, as `info | `.
+pub fn push_head(text: &mut String, word: Word) -> Result<(), AllocError>
     ensures { OnOk result (string_bytes text.new ≡ string_bytes text.old ++ head word) }
 {
     match word {
@@ -223,7 +226,7 @@ fn push_marked(text: &mut String, name: &str, marker: u8) -> Result<(), AllocErr
     text.push(char::from(marker))
 }
 
-/// Puts a number behind the text, which most often has one digit.
+/// Puts a number after the text, which most often has one digit.
 fn push_number(text: &mut String, number: usize) -> Result<(), AllocError>
     ensures { OnOk result (string_bytes text.new ≡ string_bytes text.old ++ Rattle.std.specs.Fmt.decimal number) }
 {
@@ -234,7 +237,7 @@ fn push_number(text: &mut String, number: usize) -> Result<(), AllocError>
     }
 }
 
-/// Puts `name` behind the text, and behind it a number.
+/// Puts `name` after the text, and then a number.
 pub fn push_counted(text: &mut String, name: &str, count: usize) -> Result<(), AllocError>
     ensures { OnOk result
         (string_bytes text.new ≡ string_bytes text.old ++ (name.now ++ Rattle.std.specs.Fmt.decimal count)) }
