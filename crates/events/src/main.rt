@@ -2,17 +2,21 @@
 #![tactic(auto)]
 
 use events_body::run::{NAME, run};
-use md_program::system::arguments;
+use md_program::system::{Uninterrupted, arguments};
 use std::process::ExitCode;
 
 fn main(rt: HostRuntime) -> ExitCode {
-    let mut errors = rt.stderr();
+    let mut errors = Uninterrupted {
+        stream: rt.stderr(),
+    };
     match arguments(&rt) {
         Ok(args) => ExitCode::from(run(
             rt.alloc(),
             &args,
-            &mut rt.stdin(),
-            &mut rt.stdout(),
+            &mut Uninterrupted { stream: rt.stdin() },
+            &mut Uninterrupted {
+                stream: rt.stdout(),
+            },
             &mut errors,
         )),
         Err(failure) => ExitCode::from(failure.report(NAME, &mut errors)),

@@ -16,7 +16,7 @@ use markdown_blocks::event::Event;
 use markdown_blocks::message::Message;
 use markdown_blocks::parser::parse;
 use std::alloc::{AllocError, Global};
-use std::io;
+use std::io::{self, Write};
 use std::process::ExitCode;
 
 /// The most bytes that a text may have.
@@ -58,7 +58,7 @@ fn main(rt: HostRuntime) -> ExitCode {
         return ExitCode::FAILURE;
     }
     match outline(rt.alloc(), text.as_str()) {
-        Ok(lines) if rt.print(&lines).is_ok() => ExitCode::SUCCESS,
+        Ok(lines) if rt.stdout().write_all(lines.as_bytes()).is_ok() => ExitCode::SUCCESS,
         _ => ExitCode::FAILURE,
     }
 }

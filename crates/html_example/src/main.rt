@@ -10,7 +10,7 @@ use markdown_blocks::configuration::ParseOptions;
 use markdown_blocks::message::Message;
 use markdown_blocks::parser::parse;
 use std::alloc::Global;
-use std::io;
+use std::io::{self, Write};
 use std::process::ExitCode;
 
 /// The most bytes that a text may have.
@@ -32,7 +32,7 @@ fn main(rt: HostRuntime) -> ExitCode {
         return ExitCode::FAILURE;
     }
     match html(rt.alloc(), text.as_str()) {
-        Ok(page) if rt.print(&page).is_ok() => ExitCode::SUCCESS,
+        Ok(page) if rt.stdout().write_all(page.as_bytes()).is_ok() => ExitCode::SUCCESS,
         _ => ExitCode::FAILURE,
     }
 }
