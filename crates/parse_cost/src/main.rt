@@ -7,12 +7,22 @@
 pub mod cost;
 pub mod run;
 
+use md_program::system::Uninterrupted;
 use std::process::ExitCode;
 
 /// The program's name, as its lines on the standard error say it.
 const NAME: &str = "parse_cost";
 
 fn main(rt: HostRuntime) -> ExitCode {
-    let mut errors = rt.stderr();
-    ExitCode::from(run::run(rt.alloc(), &mut rt.stdin(), &mut rt.stdout(), &mut errors))
+    let mut errors = Uninterrupted {
+        stream: rt.stderr(),
+    };
+    ExitCode::from(run::run(
+        rt.alloc(),
+        &mut Uninterrupted { stream: rt.stdin() },
+        &mut Uninterrupted {
+            stream: rt.stdout(),
+        },
+        &mut errors,
+    ))
 }

@@ -9,7 +9,7 @@ ghost use Rattle.md_program.specs.Printed.{PrintsOutline};
 use md_program::body::Body;
 use md_program::failure::Failure;
 use md_program::printing::OutlineOf;
-use md_program::system::arguments;
+use md_program::system::{Uninterrupted, arguments};
 use plain_body::Plain;
 use reference_tree::step::DEPTH;
 use std::alloc::Global;
@@ -42,13 +42,17 @@ pub fn run<R: Read, W: Write, E: Write>(
 }
 
 fn main(rt: HostRuntime) -> ExitCode {
-    let mut errors = rt.stderr();
+    let mut errors = Uninterrupted {
+        stream: rt.stderr(),
+    };
     let status = match arguments(&rt) {
         Ok(args) => run(
             rt.alloc(),
             args.as_slice(),
-            &mut rt.stdin(),
-            &mut rt.stdout(),
+            &mut Uninterrupted { stream: rt.stdin() },
+            &mut Uninterrupted {
+                stream: rt.stdout(),
+            },
             &mut errors,
         ),
         Err(failure) => failure.report(NAME, &mut errors),

@@ -17,7 +17,7 @@ use markdown_blocks::wrap::{item, quote};
 use md_program::body::{Body, MOST};
 use md_program::printing::Printing;
 use md_program::run::run;
-use md_program::system::arguments;
+use md_program::system::{Uninterrupted, arguments};
 use references::References;
 use std::alloc::{AllocError, Global};
 use std::process::ExitCode;
@@ -100,14 +100,18 @@ fn push_labels(lines: &mut String, events: &[Event], bytes: &[u8]) -> Result<(),
 }
 
 fn main(rt: HostRuntime) -> ExitCode {
-    let mut errors = rt.stderr();
+    let mut errors = Uninterrupted {
+        stream: rt.stderr(),
+    };
     match arguments(&rt) {
         Ok(args) => ExitCode::from(run::<Marked, _, _, _>(
             rt.alloc(),
             NAME,
             &args,
-            &mut rt.stdin(),
-            &mut rt.stdout(),
+            &mut Uninterrupted { stream: rt.stdin() },
+            &mut Uninterrupted {
+                stream: rt.stdout(),
+            },
             &mut errors,
         )),
         Err(failure) => ExitCode::from(failure.report(NAME, &mut errors)),
