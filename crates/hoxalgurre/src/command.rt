@@ -6,12 +6,20 @@ use std::alloc::{AllocError, Global};
 const ABOUT: &str = "Tells what the blocks of Markdown texts are.";
 
 const AFTER: &str =
-    "Texts are UTF-8. Lines and columns count from 1, bytes from 0; a tab reaches to the next multiple of
-4 columns, and every other byte is one column. The JSON is one array with an object for each file.
+    "Texts are UTF-8, and so are the names of files. Lines and columns count from 1, bytes from 0; a tab
+reaches to the next multiple of 4 columns, and every other byte is one column. The JSON is one array
+with an object for each file.
 
 Status: 0 where nothing is wrong, 1 where `labels` has found something, 2 where an argument or a
 text is not what the program takes, 3 where memory ran out, 4 where a file cannot be read or the
-output not be written.";
+output not be written. Of several files the highest counts. Where the reader of a pipe has enough,
+the program ends without a message, with the status of the files until then.";
+
+const AFTER_LABELS: &str =
+    "References are found by a scan that is wrong in these cases: what is from `<` and a letter, `/`, `!`
+or `?` to the next `>` counts as a tag; what looks like a task box or an alert counts as one at the
+start of a quote, an item or a heading in them; `[^a b]` counts as a footnote; `[a\\|b]` in a cell
+keeps its backslash; an inline link with a title above 1,999 bytes is none; `[a][ ]` is no reference.";
 
 const SETS: [&str; 4] = ["commonmark", "gfm", "all", "alerts"];
 
@@ -49,7 +57,8 @@ pub(crate) fn command<'a>(alloc: Global) -> Result<Command<'a>, AllocError> {
             alloc,
             "labels",
             "Prints duplicate definitions, references without one, and unused definitions",
-        )?)
+        )?
+        .after_help(AFTER_LABELS))
 }
 
 /// A subcommand, with the arguments that all of them have.

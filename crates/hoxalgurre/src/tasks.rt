@@ -8,6 +8,7 @@ use clap::ArgMatches;
 use hoxalgurre_body::report::{Format, Report, Task, report_on};
 use markdown_blocks::configuration::ParseOptions;
 use markdown_blocks::parser::MAX_LEN;
+use std::io::Write;
 use std::str;
 
 /// Why there is no report of a file.
@@ -41,13 +42,7 @@ fn task_of(name: &str) -> Task {
 }
 
 /// The report of a file.
-fn report_file(
-    rt: &HostRuntime,
-    task: Task,
-    format: Format,
-    file: &str,
-    set: Option<&str>,
-) -> Result<Report, Refusal> {
+fn report_file(rt: &HostRuntime, asked: Asked<'_>, file: &str) -> Result<Report, Refusal> {
     let bytes = match read(rt, file) {
         Ok(bytes) => bytes,
         Err(trouble) => return Err(refused(trouble)),
@@ -57,14 +52,10 @@ fn report_file(
     }
     let text = match str::from_utf8(bytes.as_slice()) {
         Ok(text) => text,
-        Err(error) => {
-            return Err(Refusal {
-                trouble: Trouble::NotUtf8,
-                place: Some(place_of(bytes.as_slice(), error.valid_up_to())),
-            });
-        }
+        Err(error) => return Err(no_text(bytes.as_slice(), error.valid_up_to())),
     };
-    match report_on(rt.alloc(), task, format, file, text, set_of(set)) {
+    let set = set_of(asked.constructs);
+    match report_on(rt.alloc(), asked.task, asked.format, file, text, set) {
         Ok(report) => Ok(report),
         Err(_) => Err(refused(Trouble::OutOfMemory)),
     }
@@ -77,7 +68,29 @@ fn refused(trouble: Trouble) -> Refusal {
     }
 }
 
-/// Prints the reports of all files, and says of those that have none why. Answers the status, the highest of all.
+/// Why bytes are no text: so many are UTF-8.
+fn no_text(bytes: &[u8], valid: usize) -> Refusal {
+    match bytes {
+        [0xff, 0xfe, ..] | [0xfe, 0xff, ..] => refused(Trouble::Utf16),
+        _ => Refusal {
+            trouble: Trouble::NotUtf8,
+            place: Some(place_of(bytes, valid)),
+        },
+    }
+}
+
+/// What is asked of all files.
+#[derive(Clone, Copy)]
+struct Asked<'a> {
+    task: Task,
+    format: Format,
+    constructs: Option<&'a str>,
+    /// Whether a line with the name is before each report.
+    has_heads: bool,
+}
+
+/// Prints the reports of all files, and says of those that have none why. Answers the status, the highest of all: where
+/// nobody reads on, that of the files until then.
 pub(crate) fn run_all(
     rt: &HostRuntime,
     name: &str,
@@ -86,45 +99,73 @@ pub(crate) fn run_all(
     let files = chosen.get_strs("FILE").unwrap_or(&[]);
     let files = if files.is_empty() { &["-"] } else { files };
     let is_json = chosen.get_str("format") == Some("json");
-    let format = if is_json { Format::Json } else { Format::Text };
     let task = task_of(name);
-    let has_heads = files.len() > 1 && !is_json && task != Task::Html && task != Task::Labels;
+    let asked = Asked {
+        task,
+        format: if is_json { Format::Json } else { Format::Text },
+        constructs: chosen.get_str("constructs"),
+        has_heads: files.len() > 1 && !is_json && task != Task::Html && task != Task::Labels,
+    };
     let mut status = 0;
+    match print_all(rt, asked, files, &mut status) {
+        Ok(()) | Err(Trouble::ClosedPipe) => Ok(status),
+        Err(trouble) => Err(trouble),
+    }
+}
+
+/// Prints the reports of all files, those in JSON as an array.
+fn print_all(
+    rt: &HostRuntime,
+    asked: Asked<'_>,
+    files: &[&str],
+    status: &mut u8,
+) -> Result<(), Trouble> {
+    let is_json = asked.format == Format::Json;
     let mut is_first = true;
     if is_json {
-        rt.print("[")?;
+        print(rt, "[")?;
     }
     for file in files {
-        match report_file(rt, task, format, file, chosen.get_str("constructs")) {
+        match report_file(rt, asked, file) {
             Ok(report) => {
-                if has_heads {
-                    println!(rt; "==> {file} <==")?;
+                *status = (*status).max(if report.findings > 0 { 1 } else { 0 });
+                if asked.has_heads {
+                    print_head(rt, file)?;
                 }
                 if is_json && !is_first {
-                    rt.print(",\n")?;
+                    print(rt, ",\n")?;
                 }
-                rt.print(&report.text)?;
+                print(rt, report.text.as_str())?;
                 is_first = false;
-                status = status.max(if report.findings > 0 { 1 } else { 0 });
             }
             Err(refusal) => {
-                tell(rt, file, &refusal)?;
-                status = status.max(refusal.trouble.status());
+                say(rt, file, &refusal);
+                *status = (*status).max(refusal.trouble.status());
             }
         }
     }
     if is_json {
-        rt.print("]\n")?;
-    }
-    Ok(status)
-}
-
-/// Says why there is no report of a file.
-fn tell(rt: &HostRuntime, file: &str, refusal: &Refusal) -> Result<(), Trouble> {
-    let reason = refusal.trouble.reason();
-    match refusal.place {
-        Some((line, column)) => eprintln!(rt; "hoxalgurre: {file}:{line}:{column}: {reason}")?,
-        None => eprintln!(rt; "hoxalgurre: {file}: {reason}")?,
+        print(rt, "]\n")?;
     }
     Ok(())
+}
+
+fn print_head(rt: &HostRuntime, file: &str) -> Result<(), Trouble> {
+    print(rt, "==> ")?;
+    print(rt, file)?;
+    print(rt, " <==\n")
+}
+
+fn print(rt: &HostRuntime, text: &str) -> Result<(), Trouble> {
+    rt.stdout().write_all(text.as_bytes())?;
+    Ok(())
+}
+
+/// Says why there is no report of a file. Where that cannot be written, nothing else changes.
+fn say(rt: &HostRuntime, file: &str, refusal: &Refusal) {
+    let reason = refusal.trouble.reason();
+    let _said = match refusal.place {
+        Some((line, column)) => eprintln!(rt; "hoxalgurre: {file}:{line}:{column}: {reason}"),
+        None => eprintln!(rt; "hoxalgurre: {file}: {reason}"),
+    };
 }

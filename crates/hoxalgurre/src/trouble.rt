@@ -6,20 +6,26 @@ use std::io::{Error, ErrorKind};
 /// Why there is no report, or none that is whole.
 #[derive(Clone, Copy, Debug, PartialEq, Eq)]
 pub(crate) enum Trouble {
-    /// The arguments cannot be read.
+    /// The name of a file, or another argument, is not UTF-8.
     BadArguments,
     /// The text is not UTF-8.
     NotUtf8,
+    /// The text begins with a byte order mark of UTF-16.
+    Utf16,
     /// The text has more than `MAX_LEN` bytes.
     TooLong,
     /// Want of memory.
     OutOfMemory,
     /// There is no such file.
     NotFound,
+    /// The file is a directory.
+    IsDirectory,
     /// A read failed.
     ReadFailed,
     /// A write failed.
     WriteFailed,
+    /// Nobody reads what is written.
+    ClosedPipe,
 }
 
 impl Trouble {
@@ -36,6 +42,7 @@ impl Trouble {
         match error.kind() {
             ErrorKind::OutOfMemory => Trouble::OutOfMemory,
             ErrorKind::NotFound => Trouble::NotFound,
+            ErrorKind::IsADirectory => Trouble::IsDirectory,
             _ => Trouble::ReadFailed,
         }
     }
@@ -43,22 +50,27 @@ impl Trouble {
     /// What the line on the standard error says.
     pub(crate) fn reason(self) -> &'static str {
         match self {
-            Trouble::BadArguments => "arguments that cannot be read",
+            Trouble::BadArguments => "a file name or another argument is not UTF-8",
             Trouble::NotUtf8 => "not UTF-8",
+            Trouble::Utf16 => "UTF-16, not UTF-8",
             Trouble::TooLong => "too long",
             Trouble::OutOfMemory => "out of memory",
             Trouble::NotFound => "no such file",
+            Trouble::IsDirectory => "is a directory",
             Trouble::ReadFailed => "read failed",
             Trouble::WriteFailed => "write failed",
+            Trouble::ClosedPipe => "closed pipe",
         }
     }
 
-    /// The status.
+    /// The status. That of a closed pipe says that nothing is wrong.
     pub(crate) fn status(self) -> u8 {
         match self {
-            Trouble::BadArguments | Trouble::NotUtf8 | Trouble::TooLong => 2,
+            Trouble::ClosedPipe => 0,
+            Trouble::BadArguments | Trouble::NotUtf8 | Trouble::Utf16 | Trouble::TooLong => 2,
             Trouble::OutOfMemory => 3,
-            Trouble::NotFound | Trouble::ReadFailed | Trouble::WriteFailed => 4,
+            Trouble::NotFound | Trouble::IsDirectory | Trouble::ReadFailed | Trouble::WriteFailed =>
+                4,
         }
     }
 }
@@ -69,11 +81,12 @@ impl From<AllocError> for Trouble {
     }
 }
 
-/// Of a write: reads are told by `of_read`.
+/// Of a write: `of_read` is for reads.
 impl From<Error> for Trouble {
     fn from(error: Error) -> Trouble {
         match error.kind() {
             ErrorKind::OutOfMemory => Trouble::OutOfMemory,
+            ErrorKind::BrokenPipe => Trouble::ClosedPipe,
             _ => Trouble::WriteFailed,
         }
     }
