@@ -1,7 +1,7 @@
 // The program `headings_example`: it reads a Markdown text from its standard input and prints an outline of its
 // headings.
 //
-// A line for each heading: its depth, the bytes of its section, and its text as it stands. A section reaches from its
+// A line for each heading: its depth, the bytes of its section, and its text as it is. A section reaches from its
 // heading to the next one that is not deeper, or to the end of the text. Headings in block quotes, items and footnote
 // definitions divide those and not the text, so they are left out.
 #![tactic(auto)]
@@ -14,6 +14,7 @@ use crate::headings::{Heading, headings};
 use markdown_blocks::configuration::ParseOptions;
 use markdown_blocks::event::Event;
 use markdown_blocks::message::Message;
+use markdown_blocks::outline::{OutlineLine, outline};
 use markdown_blocks::parser::parse;
 use std::alloc::{AllocError, Global};
 use std::io::{self, Write};
@@ -23,11 +24,12 @@ use std::process::ExitCode;
 const MOST: usize = usize::MAX / 8;
 
 /// The outline of the headings of a text, with every construct on. An `Err` says that memory ran out.
-fn outline(alloc: Global, text: &str) -> Result<String, Message>
+fn listed(alloc: Global, text: &str) -> Result<String, Message>
     requires { IsSmall text.now }
 {
     let (events, state) = parse(alloc, text, &ParseOptions::ALL)?;
-    match sections(alloc, &events, state.bytes) {
+    let lines = outline(alloc, &events, &state)?;
+    match sections(alloc, &events, &lines, state.bytes) {
         Ok(lines) => Ok(lines),
         Err(_) => Err(Message),
     }
@@ -35,8 +37,13 @@ fn outline(alloc: Global, text: &str) -> Result<String, Message>
 
 /// A line for each heading. Each look for the end of a section passes that section alone, and sections of one depth do
 /// not overlap, so all looks together pass each heading six times at most.
-fn sections(alloc: Global, events: &[Event], bytes: &[u8]) -> Result<String, AllocError> {
-    let found = headings(alloc, events, bytes)?;
+fn sections(
+    alloc: Global,
+    events: &[Event],
+    lines: &[OutlineLine],
+    bytes: &[u8],
+) -> Result<String, AllocError> {
+    let found = headings(alloc, events, lines)?;
     let mut lines = String::new(alloc);
     for (at, heading) in found.iter().enumerate() {
         let Heading { depth, start, .. } = *heading;
@@ -57,7 +64,7 @@ fn main(rt: HostRuntime) -> ExitCode {
     if text.len() > MOST {
         return ExitCode::FAILURE;
     }
-    match outline(rt.alloc(), text.as_str()) {
+    match listed(rt.alloc(), text.as_str()) {
         Ok(lines) if rt.stdout().write_all(lines.as_bytes()).is_ok() => ExitCode::SUCCESS,
         _ => ExitCode::FAILURE,
     }

@@ -3,7 +3,7 @@
 use std::alloc::AllocError;
 use std::str;
 
-/// Writes a part of the text, so that a browser shows it as it stands. A zero character is written as U+FFFD
+/// Writes a part of the text, so that a browser shows it as it is. A zero character is written as U+FFFD
 /// (CommonMark 2.3).
 pub(crate) fn push_escaped(html: &mut String, bytes: &[u8]) -> Result<(), AllocError> {
     for c in str::from_utf8(bytes).unwrap_or("").chars() {

@@ -1,41 +1,50 @@
 // The HTML of a list of events, in one walk from the first to the last.
 //
-// The list nests: a part has an enter and an exit, and what stands between them stands in the part. So tags are written
+// The list nests: a part has an enter and an exit, and what is between them is in the part. So tags are written
 // where parts begin and end, and only little has to be known of what is open. Texts are written at the exit of their
 // piece: a piece is entered right before, so its bytes lie between the last enter and this exit.
 
-use crate::ahead::{AlertKind, alert_kind, atx_depth, list_start, read_columns, setext_depth};
+use crate::ahead::{alert, has_word, list_start, read_columns, words};
 use crate::escape::{push_escaped, without_indent};
 use crate::loose::loose_lists;
-use crate::tags::{Shown, begins_line, shown_behind, shown_in, tags};
+use crate::tags::{Shown, begins_line, shown_after, shown_in, tags};
 use markdown_blocks::event::{Event, Kind, Name, Point};
 use markdown_blocks::message::Message;
+use markdown_blocks::outline::{OutlineLine, Word, outline};
 use markdown_blocks::parser::ParseState;
 use markdown_blocks::slice::{Position, Slice};
 use std::alloc::{AllocError, Global};
+use std::collections::BTreeSet;
 
 /// What is written, and what has to be known of the parts that are open.
 #[derive(Drop)]
 struct Page<'a> {
+    alloc: Global,
     /// The text.
     bytes: &'a [u8],
     html: String,
+    /// The words of the blocks and rows, in the order of the text.
+    words: Vec<Word>,
+    /// How many blocks and rows have begun.
+    begun: usize,
     /// Where the part begins that was entered last.
     start: Point,
     /// What becomes of the texts and line endings that come next.
     shown: Shown,
     /// The depth of the last heading.
-    depth: usize,
+    depth: u8,
     /// The columns of the last table, each as the attribute of its cells.
     columns: Vec<&'static str>,
     /// The column of the cell that is open or comes next.
     column: usize,
-    /// Whether the last row stands in the head of its table.
+    /// Whether the last row is in the head of its table.
     is_head: bool,
     /// The labels of the footnote definitions, in the order of the text.
     labels: &'a [String],
     /// How many footnote definitions have begun.
     footnotes: usize,
+    /// What is written as an `id`.
+    ids: BTreeSet<String>,
     /// Whether each list is loose, in the order of the text.
     loose: Vec<bool>,
     /// How many lists have begun.
@@ -51,12 +60,25 @@ struct Page<'a> {
 /// A paragraph directly in an item of a tight list has no `<p>` around it. Footnote definitions are shown where the
 /// text has them, definitions and frontmatter not at all.
 pub fn render(alloc: Global, events: &[Event], state: &ParseState) -> Result<String, Message> {
-    let Ok(loose) = loose_lists(alloc, events) else {
-        return Err(Message);
-    };
+    let lines = outline(alloc, events, state)?;
+    match write_page(alloc, events, &lines, state) {
+        Ok(html) => Ok(html),
+        Err(_) => Err(Message),
+    }
+}
+
+fn write_page(
+    alloc: Global,
+    events: &[Event],
+    lines: &[OutlineLine],
+    state: &ParseState,
+) -> Result<String, AllocError> {
     let mut page = Page {
+        alloc,
         bytes: state.bytes,
         html: String::new(alloc),
+        words: words(alloc, lines)?,
+        begun: 0,
         start: Point {
             line: 1,
             column: 1,
@@ -70,18 +92,16 @@ pub fn render(alloc: Global, events: &[Event], state: &ParseState) -> Result<Str
         is_head: false,
         labels: &state.gfm_footnote_definitions,
         footnotes: 0,
-        loose,
+        ids: BTreeSet::new(alloc),
+        loose: loose_lists(alloc, events)?,
         lists: 0,
         tight: Vec::new(alloc),
         alerts: Vec::new(alloc),
     };
     for (at, event) in events.iter().enumerate() {
-        let written = match event.kind {
-            Kind::Enter => page.enter(event, events.get(at..).unwrap_or(&[])),
-            Kind::Exit => page.exit(event),
-        };
-        if written.is_err() {
-            return Err(Message);
+        match event.kind {
+            Kind::Enter => page.enter(event, events.get(at..).unwrap_or(&[]))?,
+            Kind::Exit => page.exit(event)?,
         }
     }
     Ok(page.html)
@@ -96,29 +116,29 @@ impl<'a> Page<'a> {
             self.begin_line()?;
         }
         self.html.push_str(tags(event.name).0)?;
+        if has_word(event.name) {
+            self.begin_block()?;
+        }
         match event.name {
             Name::ListUnordered => self.open_list()?,
             Name::ListOrdered => {
                 self.open_list()?;
-                self.tell_list(list_start(self.bytes, ahead))?;
+                self.end_list_tag(list_start(self.bytes, ahead))?;
             }
-            Name::BlockQuote => self.begin_quote(alert_kind(self.bytes, ahead))?,
             Name::GfmFootnoteDefinition => {
                 self.tight.push(false)?;
-                self.tell_footnote()?;
+                self.end_footnote_tag()?;
             }
             Name::Paragraph if !self.is_tight() => {
                 self.begin_line()?;
                 self.html.push_str("<p>")?;
             }
-            Name::HeadingAtx => self.begin_heading(atx_depth(self.bytes, ahead))?,
-            Name::HeadingSetext => self.begin_heading(setext_depth(self.bytes, ahead))?,
-            Name::GfmTable => read_columns(&mut self.columns, self.bytes, ahead)?,
+            Name::GfmTable => read_columns(&mut self.columns, ahead)?,
             Name::GfmTableHead => self.is_head = true,
             Name::GfmTableBody => self.is_head = false,
             Name::GfmTableRow => self.column = 0,
             Name::GfmTableCell => self.begin_cell()?,
-            // Cells behind the last column are not shown (GFM 4.10).
+            // Cells after the last column are not shown (GFM 4.10).
             Name::GfmTableCellText if self.column >= self.columns.len() => {
                 self.shown = Shown::Nothing;
             }
@@ -135,9 +155,9 @@ impl<'a> Page<'a> {
                 self.push_line(event.point)?;
             }
             Name::LineEnding => self.end_line(event.point)?,
-            // Behind the first fence the tag of the block is still open.
+            // After the first fence the tag of the block is still open.
             Name::CodeFencedFence if self.shown == Shown::Nothing => self.html.push_str(">")?,
-            // The ending of the last line stands outside of the block.
+            // The ending of the last line is outside of the block.
             Name::CodeIndented | Name::CodeFenced | Name::MathFlow | Name::HtmlFlow
                 if self.shown == Shown::Line => {
                 self.html.push_str("\n")?;
@@ -152,7 +172,7 @@ impl<'a> Page<'a> {
             }
             _ => {}
         }
-        self.shown = shown_behind(event.name).unwrap_or(self.shown);
+        self.shown = shown_after(event.name).unwrap_or(self.shown);
         self.html.push_str(tags(event.name).1)
     }
 
@@ -164,17 +184,37 @@ impl<'a> Page<'a> {
         }
     }
 
-    /// Begins a quote: an alert as on GitHub, with a title.
-    fn begin_quote(&mut self, alert: Option<AlertKind>) -> Result<(), AllocError> {
-        self.tight.push(false)?;
-        self.alerts.push(alert.is_some())?;
-        match alert {
-            Some(AlertKind { class, title, .. }) => write!(
-                self.html,
-                "<div class=\"markdown-alert markdown-alert-{class}\">\n<p class=\"markdown-alert-title\">{title}</p>\n"
-            ),
-            None => self.html.push_str("<blockquote>\n"),
+    /// Begins a block or a row, as far as its word in the outline shows it.
+    fn begin_block(&mut self) -> Result<(), AllocError> {
+        let word = self.words.get(self.begun).copied();
+        self.begun = self.begun.saturating_add(1);
+        match word {
+            Some(Word::Quote) => {
+                self.begin_quote(false)?;
+                self.html.push_str("<blockquote>\n")
+            }
+            // As on GitHub, with a title.
+            Some(Word::Alert(kind)) => {
+                self.begin_quote(true)?;
+                let (class, title) = alert(kind);
+                write!(
+                    self.html,
+                    "<div class=\"markdown-alert markdown-alert-{class}\">\n\
+                     <p class=\"markdown-alert-title\">{title}</p>\n"
+                )
+            }
+            Some(Word::Heading(depth)) => {
+                self.depth = depth;
+                write!(self.html, "<h{depth}>")
+            }
+            _ => Ok(()),
         }
+    }
+
+    fn begin_quote(&mut self, is_alert: bool) -> Result<(), AllocError> {
+        self.tight.push(false)?;
+        self.alerts.push(is_alert)?;
+        Ok(())
     }
 
     fn end_quote(&mut self) -> Result<(), AllocError> {
@@ -200,7 +240,7 @@ impl<'a> Page<'a> {
         self.tight.last().copied().unwrap_or(false)
     }
 
-    /// What stands in the piece that ends here.
+    /// The piece that ends here.
     fn piece(&self, end: Point) -> Slice<'a> {
         let start = self.start;
         Slice::from_position(self.bytes, Position { start, end })
@@ -221,7 +261,7 @@ impl<'a> Page<'a> {
         push_escaped(&mut self.html, piece.bytes)
     }
 
-    /// Goes to the next line of what is shown. Behind the ending that the text ends with no line begins.
+    /// Goes to the next line of what is shown. After the ending that the text ends with no line begins.
     fn end_line(&mut self, end: Point) -> Result<(), AllocError> {
         if matches!(self.shown, Shown::Text | Shown::Line) {
             self.html.push_str("\n")?;
@@ -234,26 +274,26 @@ impl<'a> Page<'a> {
     }
 
     /// Ends the tag of an ordered list.
-    fn tell_list(&mut self, start: u32) -> Result<(), AllocError> {
+    fn end_list_tag(&mut self, start: u32) -> Result<(), AllocError> {
         if start != 1 {
             write!(self.html, " start=\"{start}\"")?;
         }
         self.html.push_str(">\n")
     }
 
-    /// Ends the tag of a footnote definition. The labels beside the events are in the order of the text.
-    fn tell_footnote(&mut self) -> Result<(), AllocError> {
-        self.html.push_str(" id=\"fn-")?;
+    /// Ends the tag of a footnote definition. The labels beside the events are in the order of the text. No `id` is
+    /// written twice: of two equal labels the first has it, which is the one that references name.
+    fn end_footnote_tag(&mut self) -> Result<(), AllocError> {
+        let mut id = String::new(self.alloc);
         if let Some(label) = self.labels.get(self.footnotes) {
-            push_escaped(&mut self.html, label.as_bytes())?;
+            push_escaped(&mut id, label.as_bytes())?;
             self.footnotes += 1;
         }
-        self.html.push_str("\">\n")
-    }
-
-    fn begin_heading(&mut self, depth: usize) -> Result<(), AllocError> {
-        self.depth = depth;
-        write!(self.html, "<h{depth}>")
+        if !self.ids.contains(&id) {
+            write!(self.html, " id=\"fn-{id}\"")?;
+            self.ids.insert(id)?;
+        }
+        self.html.push_str(">\n")
     }
 
     /// The name of the tag of a cell.

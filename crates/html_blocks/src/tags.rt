@@ -9,7 +9,7 @@ pub(crate) enum Shown {
     Nothing,
     /// Each line is written without its indent, and an ending between two lines.
     Text,
-    /// Each line is written as it stands, with an ending; none has begun yet.
+    /// Each line is written as it is, with an ending; none has begun yet.
     Lines,
     /// The same, where a line has begun whose ending is not written yet.
     Line,
@@ -29,10 +29,10 @@ pub(crate) fn shown_in(name: Name) -> Option<Shown> {
     }
 }
 
-/// What becomes of the text behind a part of this name, if that changes where it ends.
-pub(crate) fn shown_behind(name: Name) -> Option<Shown> {
+/// What becomes of the text after a part of this name, if that changes where it ends.
+pub(crate) fn shown_after(name: Name) -> Option<Shown> {
     match name {
-        // The ending behind the first fence begins the first line. The last fence is no line.
+        // The ending after the first fence begins the first line. The last fence is no line.
         Name::CodeFencedFence | Name::MathFlowFence => Some(Shown::Lines),
         Name::CodeFenced | Name::MathFlow => Some(Shown::Nothing),
         _ if shown_in(name).is_some() => Some(Shown::Nothing),
@@ -40,7 +40,7 @@ pub(crate) fn shown_behind(name: Name) -> Option<Shown> {
     }
 }
 
-/// What is written where a part of this name begins, and where it ends, as far as the name alone tells it.
+/// What is written where a part of this name begins, and where it ends, as far as that depends on the name alone.
 pub(crate) fn tags(name: Name) -> (&'static str, &'static str) {
     match name {
         Name::ListUnordered => ("<ul>\n", "</ul>\n"),
