@@ -12,8 +12,8 @@ PROGRAM = os.path.join(os.environ.get("PROGRAMS", "crates/hoxalgurre/out"), "hox
 
 def help_of(*words):
     """The paragraphs of a help text."""
-    told = subprocess.run([PROGRAM, *words, "--help"], capture_output=True, text=True, check=True, timeout=60).stdout
-    return [part.split("\n") for part in re.split(r"\n\n+", told.strip("\n"))]
+    said = subprocess.run([PROGRAM, *words, "--help"], capture_output=True, text=True, check=True, timeout=60).stdout
+    return [part.split("\n") for part in re.split(r"\n\n+", said.strip("\n"))]
 
 
 def escaped(text):
@@ -21,7 +21,7 @@ def escaped(text):
 
 
 def listed(part):
-    """The lines behind a head as a list: what is shown in bold, and what it means."""
+    """The lines after a head as a list: what is shown in bold, and what it means."""
     rows = (re.fullmatch(r"\s+(\S.*?)(?:\s{2,}(.*))?", line) for line in part[1:])
     return "".join(f".TP\n.B {escaped(row[1])}\n{escaped(row[2] or '')}\n" for row in rows)
 
@@ -42,11 +42,17 @@ def page():
             made += ".SH OPTIONS\n" + listed(part)
         elif not part[0].startswith("Usage:"):
             rest += ".PP\n" + escaped("\n".join(part)) + "\n"
-    own = [listed(part) for name in commands for part in help_of(name) if part[0] in ("Options:", "Arguments:")]
+    own, notes = [], ""
+    for name in commands:
+        for part in help_of(name)[1:]:
+            if part[0] in ("Options:", "Arguments:"):
+                own.append(listed(part))
+            elif not part[0].startswith("Usage:"):
+                notes += f".SS Of {name}\n" + escaped("\n".join(part)) + "\n"
     shared = list(dict.fromkeys(own))
     if len(shared) != 2:
         sys.exit("man: the commands do not have the same options")
-    made += ".SS Of each command\n" + "".join(shared) + ".SH NOTES\n" + rest
+    made += ".SS Of each command\n" + "".join(shared) + ".SH NOTES\n" + rest + notes
     return made
 
 

@@ -3,7 +3,7 @@
 use clap::{Arg, Command};
 use std::alloc::{AllocError, Global};
 
-const ABOUT: &str = "Tells what the blocks of Markdown texts are.";
+const ABOUT: &str = "Reports the blocks of Markdown texts.";
 
 const AFTER: &str =
     "Texts are UTF-8, and so are the names of files. Lines and columns count from 1, bytes from 0; a tab

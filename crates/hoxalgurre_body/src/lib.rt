@@ -2,7 +2,7 @@
 //
 // `report` (`report_on`) parses a text and makes one of five reports. The others make what it needs: `outline` the
 // blocks with their places, `events` the records of events, `headings` a table of contents, `labels` what is wrong with
-// labels, from the references that `references` finds by `inline`. `position` has the places that all of them tell.
+// labels, from the references that `references` finds by `inline`. `position` has the places of all reports.
 #![tactic(auto)]
 
 mod events;

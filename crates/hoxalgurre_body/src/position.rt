@@ -1,4 +1,4 @@
-// Places in a text, as reports tell them.
+// Places in a text, as reports have them.
 
 use markdown_blocks::event::Point;
 use serde::Serialize;
@@ -25,7 +25,7 @@ impl Place {
         }
     }
 
-    /// The place behind a byte of a line.
+    /// The place after a byte of a line.
     pub fn past(self, byte: u8) -> Place {
         let columns = if byte == b'\t' {
             4 - self.column.saturating_sub(1) % 4
@@ -45,7 +45,7 @@ impl Place {
 pub struct Position {
     /// Where it begins.
     pub start: Place,
-    /// The place behind it.
+    /// The place after it.
     pub end: Place,
 }
 

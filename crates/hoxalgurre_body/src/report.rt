@@ -16,7 +16,7 @@ use markdown_blocks::parser::{ParseState, parse};
 use serde::Serialize;
 use std::alloc::Global;
 
-/// What a report tells.
+/// What is reported.
 #[derive(Clone, Copy, Debug, PartialEq, Eq)]
 pub enum Task {
     /// The blocks, each with its place.
