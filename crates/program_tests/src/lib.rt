@@ -8,6 +8,8 @@ mod plain_outlines;
 #[cfg(test)]
 mod runs;
 #[cfg(test)]
+mod signals;
+#[cfg(test)]
 mod streams;
 #[cfg(test)]
 mod system;
