@@ -5,10 +5,11 @@
 # Each file of scripts/wrong-bodies has lines `file:`, `old:` (once in that file) and `new:`. All are applied to one copy
 # of the crates, where a body is wrong only for its number: `is_wrong()` in a `new:` line asks that of the constructs, or
 # of the walk over the cells of a table, which have a field for it in the copy, or in `md_program` of the program's name.
-# The copy of `bench` then tries the rows with the number of its argument, and 0 is for the bodies as they are. It also
-# prints a sum of the events of a text, by the plain layer and by `references`, and the status of a run with an argument
-# that is none. An edit of a crate of the plain program changes that body, each other the parser. One with the line
-# `# bench` is tried with each construct off too, by its events, and on long labels, and something must be wrong.
+# The copy of `bench` then tries the rows with the number of its argument, and 0 is for the bodies as they are; of the
+# parser also the rows of events, as the program `events` prints them and by `references`. It also prints the status of a
+# run with an argument that is none. An edit of a crate of the plain program changes that body, each other the parser. One
+# with the line `# bench` is tried with each construct off too, by its events, and on long labels, and something must be
+# wrong.
 set -euo pipefail
 cd "$(dirname "$0")/.."
 work=$(mktemp -d)
@@ -17,7 +18,7 @@ mkdir -p "$work/crates" "$work/cases"
 cp crates.txt HANDLES "$work/"
 tar -C crates --exclude=out -cf - . | tar -C "$work/crates" -xf -
 python3 - "$work" scripts/wrong-bodies/*.edit <<'PYTHON'
-import sys
+import os, shutil, sys
 
 work, *edits = sys.argv[1:]
 if len(edits) >= 256:
@@ -57,7 +58,7 @@ text += "\nimpl Constructs {\n    pub fn is_wrong(&self, number: u8) -> bool {\n
 open(f"{work}/{options}", "w").write(text)
 kept = "let wrong = options.constructs.wrong; let mut options = Blocks::built(options); options.constructs.wrong = wrong;"
 replaced("crates/events_body/src/lib.rt", "let options = Blocks::built(options);", kept, "events")
-replaced("crates.txt", "\nbench: ", "\nbench: events_body markdown_blocks references ", "bench")
+replaced("crates.txt", "\nbench: ", "\nbench: events_body ", "bench")
 
 # the walk over the cells of a table has no constructs, so it gets the number from the resolver
 pass_of, tables, cells = "md_resolve/src/pass.rt", "md_tables/src/tables.rt", "md_tables/src/cells.rt"
@@ -83,11 +84,13 @@ use events_body::Events;
 use events_body::print::print;
 use markdown_blocks::parser::parse_with;
 use references::References;
+use test_runner::event_rows::wanted;
 use test_runner::long::try_labels;
 use test_runner::report::Report;
-use test_runner::rows::try_rows;
+use test_runner::rows::{options_of, try_rows};
 use test_runner::without::try_without;
 use test_rows::case::CaseError;
+use test_rows::event_case::EventCase;
 use md_engine::configuration::{Constructs, ParseOptions};
 use md_engine::event::Event;
 use md_engine::message::Message;
@@ -98,13 +101,6 @@ use plain_body::Plain;
 use std::alloc::Global;
 use std::{env, io};
 
-// each kind of block, prefixes of one and of two columns, a cut tab, an item that started blank, the endings behind open
-// fences, an alert, a table with a cell of two words and a row that begins with a marker, and references in texts and in
-// a string
-const TEXT: &str = "\\u{feff}> a\\n\\tb\\n>\\n# c #\\n\\t\\n***\\n\\n1. d\\n\\n   >  > e\\n2. f\\n\\n-\\n\\tg\\n\\n\\th\\n\\n\
-  ~~~ i m\\n   j\\n  ~~~\\n> ```\\n>\\nk\\n- ```\\n\\nl\\n\\n> [!Tip] \\n>m\\n\\n\
-  |n o|\\n|-|\\n|p|\\n*p|\\n\\n[q]: r\\n\\n[Q] \\\\[q] [s]\\n~~~ [q]";
-
 /// Tries a body on rows, on their texts with each construct off, and on long labels.
 fn try_bench<B: Body>(alloc: Global, rows: &str, report: &mut Report) -> Result<(), CaseError> {
     try_rows::<B>(alloc, rows, report)?;
@@ -112,20 +108,25 @@ fn try_bench<B: Body>(alloc: Global, rows: &str, report: &mut Report) -> Result<
     try_labels::<B>(alloc, report)
 }
 
-/// A sum of what is printed of the events of a text, without and with its references.
-fn events<B: Body>(alloc: Global) -> Result<u64, Message> {
-    let options = B::built(ParseOptions::ALERTS);
-    let (marked, _state) = parse_with(alloc, &References, TEXT, &options)?;
-    let mut sum: u64 = 0;
-    for printed in [Events::output(alloc, TEXT, B::built(ParseOptions::ALERTS))?, print(alloc, &marked)?] {
-        for byte in printed.bytes() {
-            sum = sum.wrapping_mul(31).wrapping_add(byte as u64);
-        }
+/// Tries what is printed of the events of a body on the rows of events, with their layers.
+fn try_events<B: Body>(alloc: Global, report: &mut Report) -> Result<(), CaseError> {
+    for row in test_rows::events::rows().split("\\n\\n") {
+        let case = EventCase::read(alloc, row)?;
+        let options = B::built(options_of(&case.constructs));
+        let text = case.text.as_str();
+        let got = if case.marks_references {
+            let (marked, _state) = parse_with(alloc, &References, text, &options).or(Err(CaseError::Memory))?;
+            print(alloc, &marked)
+        } else {
+            Events::output(alloc, text, options)
+        };
+        let got = got.or(Err(CaseError::Memory))?;
+        report.add(case.section, text, wanted(alloc, &case)?.as_str(), got.as_str())?;
     }
-    Ok(sum)
+    Ok(())
 }
 """
-arms = sums = ""
+arms = lists = ""
 for number, body in bodies:
     main += f"""
 struct {body}{number};
@@ -149,7 +150,7 @@ impl Body for {body}{number} {{
     tries = "try_bench" if number in by_bench else "try_rows"
     arms += f'                "{case}" => {tries}::<{case}>(rt.alloc(), rows, &mut report).is_err(),\n'
     if body == "Blocks":
-        sums += f'            "{case}" => events::<{case}>(rt.alloc()),\n'
+        lists += f'                "{case}" => try_events::<{case}>(rt.alloc(), &mut report).is_err(),\n'
     open(f"{work}/cases/{case}", "w").close()
     open(f"{work}/cases/{case}.args", "w").write(case + "\n")
 main += f"""
@@ -170,28 +171,37 @@ fn main(rt: HostRuntime) -> io::Result<()> {{
                 break;
             }}
         }}
-        let sum = match arg.as_str() {{
-{sums}            _ => Ok(0),
-        }};
+        if report.wrong == 0 {{
+            ran_out |= match arg.as_str() {{
+{lists}                _ => false,
+            }};
+        }}
         let status = run::<OutlineOf<Blocks>, _, _, _>(
             rt.alloc(), arg.as_str(), &args, &mut rt.stdin(), &mut rt.stdout(), &mut rt.stderr());
-        println!(rt; "events {{}}, status {{status}}", sum.unwrap_or(1))?;
+        println!(rt; "status {{status}}")?;
     }}
     println!(rt; "{{}} tried, {{}} wrong{{}}", report.tried, report.wrong, if ran_out {{ ", memory ran out" }} else {{ "" }})
 }}
 """
+shutil.rmtree(f"{work}/crates/bench/src")
+os.mkdir(f"{work}/crates/bench/src")
 open(f"{work}/crates/bench/src/main.rt", "w").write(main)
 PYTHON
 (cd "$work/crates/bench" && rt try --steps 1 --seconds 300 --cases "$work/cases" >"$work/said" 2>"$work/ends" </dev/null) || true
 python3 - "$work" scripts/wrong-bodies/*.edit <<'PYTHON'
 import re, sys
+sys.path.insert(0, "scripts")
+sys.dont_write_bytecode = True
+import counts
 
 work, *edits = sys.argv[1:]
 ends = open(f"{work}/ends", errors="replace").read()
 parts = re.split(r"^== (Blocks|Plain)(\d+)\n", open(f"{work}/said", errors="replace").read(), flags=re.M)
 said = dict(zip(zip(parts[1::3], map(int, parts[2::3])), (it.strip() for it in parts[3::3])))
-for body in ("Blocks", "Plain"):
-    if not re.fullmatch(r"events \d+, status \d+\n[1-9]\d* tried, 0 wrong", said.get((body, 0), "")):
+numbers = counts.counts()
+rows = {"Plain": numbers["rows"], "Blocks": numbers["rows"] + numbers["event rows"]}
+for body, many in rows.items():
+    if said.get((body, 0)) != f"status 2\n{many} tried, 0 wrong":
         sys.exit(f"wrong bodies: {body} as it is: {said.get((body, 0), 'no result')}\n{ends[-3000:]}")
 failed = 0
 for number, edit in enumerate(edits, 1):
@@ -200,6 +210,7 @@ for number, edit in enumerate(edits, 1):
     if not re.search(is_wrong, found, re.M) or found == said.get((body, 0)):
         print(f"{edit}: no row changes ({found})")
         failed += 1
+failed += counts.wrong_count("wrong bodies", len(edits))
 print(f"wrong bodies: {len(edits) - failed} passed, {failed} failed")
 sys.exit(failed != 0)
 PYTHON

@@ -62,7 +62,7 @@ impl<'a> Case<'a> {
 }
 
 /// The constructs that a row's set names.
-fn constructs_of(set: &str) -> Option<Constructs> {
+pub(crate) fn constructs_of(set: &str) -> Option<Constructs> {
     match set {
         "commonmark" => Some(Constructs::COMMONMARK),
         "gfm" => Some(Constructs::GFM),
@@ -110,7 +110,7 @@ enum Escape {
 }
 
 /// The text that is written with the escapes of Rust's strings.
-fn unescaped(alloc: Global, written: &str) -> Result<String, AllocError> {
+pub(crate) fn unescaped(alloc: Global, written: &str) -> Result<String, AllocError> {
     let mut text = String::new(alloc);
     let mut escape = Escape::Outside;
     for c in written.chars() {

@@ -12,6 +12,11 @@
 // all constructs of the set are needed. The text and the outline are written with the escapes of Rust's strings.
 // OUTLINE is what the program prints, without the empty line before the labels; where it has no labels, the two lines
 // `definitions 0` and `footnotes 0` are left out.
+//
+// A row of events (`events`) has in the place of NEEDED nothing, or `references` where the text parts are read by that
+// layer, and then a line for each part: its name, behind two spaces for each part that it is in, and of a piece its
+// bytes between quotes. A piece that ends within a tab has behind them how many of its columns it takes; the rest of the
+// tab is the next piece's. Pieces lie side by side from the first byte to the last, so each event's point follows.
 #![tactic(auto)]
 
 pub mod alerts;
@@ -21,6 +26,8 @@ pub mod code;
 pub mod constructs;
 pub mod definition_parts;
 pub mod definitions;
+pub mod event_case;
+pub mod events;
 pub mod extensions;
 pub mod headings;
 pub mod html;

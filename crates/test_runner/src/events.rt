@@ -39,22 +39,30 @@ fn is_at_or_before(p: Point, q: Point) -> bool {
 
 /// A byte of the text, with the line and the column in which it begins, counted from 1.
 #[derive(Clone, Copy)]
-struct Place {
-    line: usize,
-    column: usize,
-    index: usize,
+pub(crate) struct Place {
+    pub(crate) line: usize,
+    pub(crate) column: usize,
+    pub(crate) index: usize,
     /// Whether the byte before it is a CR.
     behind_cr: bool,
 }
 
 impl Place {
+    /// The first byte of a text.
+    pub(crate) const FIRST: Place = Place {
+        line: 1,
+        column: 1,
+        index: 0,
+        behind_cr: false,
+    };
+
     /// The columns of a tab that begins here: up to the next multiple of 4.
     fn tab_columns(self) -> usize {
         4 - self.column.wrapping_sub(1) % 4
     }
 
     /// The place after this byte.
-    fn past(self, byte: u8) -> Place {
+    pub(crate) fn past(self, byte: u8) -> Place {
         let is_second = byte == b'\n' && self.behind_cr;
         let is_ending = byte == b'\n' || byte == b'\r';
         let columns = if byte == b'\t' { self.tab_columns() } else { 1 };
@@ -170,12 +178,7 @@ pub fn fault(
 ) -> Result<Option<&'static str>, AllocError> {
     let mut walk = Walk {
         open: Vec::new(alloc),
-        place: Place {
-            line: 1,
-            column: 1,
-            index: 0,
-            behind_cr: false,
-        },
+        place: Place::FIRST,
         last: FIRST,
         has_entered: false,
         covered: FIRST,

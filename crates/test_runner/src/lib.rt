@@ -4,6 +4,7 @@
 
 pub mod agree;
 pub mod deep;
+pub mod event_rows;
 pub mod events;
 pub mod laws;
 pub mod long;

@@ -5,8 +5,11 @@
 //     fragments MOST       all texts of at most so many fragments
 //     random SEED COUNT    so many random texts of fragments, each with a random set of constructs
 //     alerts SEED COUNT    so many random texts of the fragments that alerts are made of, with all constructs
+//     flags SEED COUNT     so many random texts of all fragments, each with any set of the constructs; the events of the
+//                          first body too nest and tile it
 
 use crate::agree::{try_letters, try_text};
+use crate::events::try_events;
 use crate::report::Report;
 use crate::rows::built_of;
 use crate::sets::{FEW, HALF, without_some};
@@ -106,6 +109,7 @@ pub enum Nasty {
     Fragments { most: usize },
     Random { seed: u64, count: u64 },
     Alerts { seed: u64, count: u64 },
+    Flags { seed: u64, count: u64 },
 }
 
 impl Nasty {
@@ -148,6 +152,11 @@ impl Nasty {
                 let count = count.as_str().parse().ok()?;
                 Some(Nasty::Alerts { seed, count })
             }
+            [word, seed, count] if word.as_str() == "flags" => {
+                let seed = seed.as_str().parse().ok()?;
+                let count = count.as_str().parse().ok()?;
+                Some(Nasty::Flags { seed, count })
+            }
             _ => None,
         }
     }
@@ -167,6 +176,7 @@ impl Nasty {
             }
             Nasty::Random { seed, count } => try_long::<A, B>(alloc, seed, count, report),
             Nasty::Alerts { seed, count } => try_alerts::<A, B>(alloc, seed, count, report),
+            Nasty::Flags { seed, count } => try_flags::<A, B>(alloc, seed, count, report),
         }
     }
 }
@@ -201,6 +211,28 @@ fn try_alerts<A: Body, B: Body>(
     for _ in 0..count {
         let text = random(alloc, &mut source, &ALERTS, MOST_FRAGMENTS)?;
         try_text::<A, B>(alloc, text.as_str(), &constructs, report)?;
+    }
+    Ok(())
+}
+
+/// Tries two bodies on so many random texts, in turn of all fragments and of those of alerts, each with any set of the
+/// constructs of the first, and whether its events nest and tile the text.
+fn try_flags<A: Body, B: Body>(
+    alloc: Global,
+    seed: u64,
+    count: u64,
+    report: &mut Report,
+) -> Result<(), CaseError> {
+    let mut source = Pcg32::new(seed, 0);
+    for number in 0..count {
+        let text = if number % 2 == 0 {
+            random(alloc, &mut source, &FRAGMENTS, MOST_FRAGMENTS)?
+        } else {
+            random(alloc, &mut source, &ALERTS, MOST_FRAGMENTS)?
+        };
+        let constructs = built_of::<A>(&without_some(&mut source, HALF));
+        try_text::<A, B>(alloc, text.as_str(), &constructs, report)?;
+        try_events::<A>(alloc, text.as_str(), &constructs, report)?;
     }
     Ok(())
 }

@@ -1,11 +1,12 @@
 // What a bench does, by its arguments.
 //
-//     rows                 the rows, long labels, deep nesting, and the texts of the rows otherwise: with each
-//                          construct switched off, and their begins by their events and by the laws of nesting
+//     rows                 the rows, those of events, long labels, deep nesting, and the texts of the rows otherwise: with
+//                          each construct switched off, and their begins by their events and by the laws of nesting
 //     short LENGTH         the laws on all texts of so many letters
 //     random SEED COUNT    the laws on so many random texts
 
 use crate::deep::try_depths;
+use crate::event_rows::try_event_rows;
 use crate::long::try_labels;
 use crate::report::Report;
 use crate::rows::{built_of, try_rows};
@@ -61,6 +62,7 @@ fn try_all<B: Body>(alloc: Global, report: &mut Report) -> Result<(), CaseError>
         try_without::<B>(alloc, rows, report)?;
         try_begins::<B>(alloc, rows, report)?;
     }
+    try_event_rows::<B>(alloc, test_rows::events::rows(), false, report)?;
     try_wraps(alloc, test_rows::wraps::rows(), report)?;
     let built = built_of::<B>(&Constructs::ALERTS);
     if built.definition && built.gfm_footnote_definition {

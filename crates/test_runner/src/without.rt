@@ -58,8 +58,8 @@ fn occurs<B: Body>(
     }
 }
 
-/// Tries the texts of rows with all constructs but one, for each of them: that one is not in the outline, a heading's
-/// not among the events either, and the events nest and tile.
+/// Tries the texts of rows with all constructs but one, for each of them, and with all but that one and alerts: that one
+/// is not in the outline, a heading's not among the events either, and the events nest and tile.
 pub fn try_without<B: Body>(
     alloc: Global,
     rows: &str,
@@ -67,21 +67,26 @@ pub fn try_without<B: Body>(
 ) -> Result<(), CaseError> {
     for row in rows.split("\n\n") {
         let case = Case::read(alloc, row)?;
+        let text = case.text.as_str();
         for name in NAMES {
-            try_off::<B>(alloc, case.text.as_str(), name, report)?;
+            try_off::<B>(alloc, text, &Constructs::ALERTS, name, report)?;
+            if name != "alerts" {
+                try_off::<B>(alloc, text, &Constructs::ALL, name, report)?;
+            }
         }
     }
     Ok(())
 }
 
-/// Tries a text with all constructs but that of this name.
+/// Tries a text with all constructs of a set but that of this name.
 fn try_off<B: Body>(
     alloc: Global,
     text: &str,
+    set: &Constructs,
     name: &str,
     report: &mut Report,
 ) -> Result<(), CaseError> {
-    let mut constructs = Constructs::ALERTS;
+    let mut constructs = *set;
     let _ = switch(&mut constructs, name, false);
     let mut is_there = occurs::<B>(alloc, text, &constructs, name)?;
     if let Some(events) = events_of::<B>(alloc, text, &constructs)? {

@@ -1,0 +1,75 @@
+// A row of events, read.
+
+use crate::case::{CaseError, constructs_of, unescaped, unquoted};
+use md_engine::configuration::Constructs;
+use std::alloc::Global;
+
+/// A text and the events that it must give.
+#[derive(Drop)]
+pub struct EventCase<'a> {
+    /// Where the standard or a page says it.
+    pub section: &'a str,
+    /// The constructs that are on.
+    pub constructs: Constructs,
+    /// Whether the layer `references` reads its text parts, and not the plain layer.
+    pub marks_references: bool,
+    pub text: String,
+    /// The parts, a line each, as they are written.
+    pub parts: &'a str,
+}
+
+impl<'a> EventCase<'a> {
+    /// Reads one row, without the empty line after it.
+    pub fn read(alloc: Global, row: &'a str) -> Result<EventCase<'a>, CaseError> {
+        let (head, rest) = row.split_once('\n').ok_or(CaseError::Form)?;
+        let (section, sets) = head.split_once(" | ").ok_or(CaseError::Form)?;
+        let (set, layer) = sets.split_once(" | ").unwrap_or((sets, "plain"));
+        let (text, parts) = rest.split_once('\n').ok_or(CaseError::Form)?;
+        Ok(EventCase {
+            section,
+            constructs: constructs_of(set).ok_or(CaseError::Form)?,
+            marks_references: layer == "references",
+            text: unquoted(alloc, text)?,
+            parts,
+        })
+    }
+}
+
+/// A part of a list: how many parts it is in, its name, and of a piece what it takes.
+#[derive(Drop)]
+pub struct Part<'a> {
+    pub depth: usize,
+    pub name: &'a str,
+    /// What is between quotes.
+    pub bytes: Option<String>,
+    /// How many columns of the tab behind these bytes it takes too.
+    pub columns: usize,
+}
+
+impl<'a> Part<'a> {
+    /// Reads a line of the parts of a row.
+    pub fn read(alloc: Global, line: &'a str) -> Result<Part<'a>, CaseError> {
+        let inner = line.trim_start_matches(' ');
+        let depth = line.len().saturating_sub(inner.len()) / 2;
+        let Some((name, taken)) = inner.split_once(' ') else {
+            return Ok(Part {
+                depth,
+                name: inner,
+                bytes: None,
+                columns: 0,
+            });
+        };
+        let (quoted, columns) = taken.rsplit_once('"').ok_or(CaseError::Form)?;
+        let written = quoted.strip_prefix('"').ok_or(CaseError::Form)?;
+        let columns = match columns.trim_start_matches(' ') {
+            "" => 0,
+            number => number.parse().ok().ok_or(CaseError::Form)?,
+        };
+        Ok(Part {
+            depth,
+            name,
+            bytes: Some(unescaped(alloc, written)?),
+            columns,
+        })
+    }
+}
