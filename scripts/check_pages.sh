@@ -11,11 +11,16 @@
 # - A text in quotes, its set, an arrow and blocks, each but the set between backticks, as in `"> a\nb"` (gfm) → `quote (paragraph)`:
 #   the outline of the text, each word with what is one deeper in parentheses. Lines of text are left out, unless one is
 #   shown in quotes. The set is `commonmark` where none is named.
-# - A line `<!-- code FILE -->` stands in front of a fenced block whose lines stand in that file, in this order.
+# - A line `<!-- code FILE -->` is in front of a fenced block whose lines are in that file, in this order.
+#
+# `scripts/counts.py` has how many examples there are, and compares the numbers that the pages give.
 set -euo pipefail
 cd "$(dirname "$0")/.."
 exec python3 - *.md docs/*.md examples/*.md <<'PYTHON'
 import os, re, subprocess, sys
+sys.path.insert(0, "scripts")
+sys.dont_write_bytecode = True
+import counts
 
 SETS = "commonmark|gfm|all|alerts"
 COMMAND = re.compile(r"(?:printf '([^']*)' \| )?\(cd crates/(\w+) && rt (?:try|run)(?: -- ([\w ]+?))?( < stdin)?\)")
@@ -155,6 +160,7 @@ def check(page):
 
 for page in sys.argv[1:]:
     check(page)
+failed += counts.wrong_count("page examples", passed + failed)
 print(f"pages: {passed} passed, {failed} failed")
-sys.exit(failed != 0 or passed == 0)
+sys.exit(failed != 0)
 PYTHON

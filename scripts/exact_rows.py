@@ -1,12 +1,15 @@
 #!/usr/bin/env python3
 """exact_rows.py: tries wrong definitions in the place of those of md_exact. Each must change the list of a small text."""
+import multiprocessing
 import os
 import re
 import shutil
 import sys
 import tempfile
 
+sys.dont_write_bytecode = True
 import antt
+import counts
 
 CRATES = os.path.join(os.path.dirname(os.path.dirname(os.path.abspath(__file__))), "crates")
 # the constructs of the two settings that the texts have
@@ -94,30 +97,36 @@ def refused(specs, all_rows):
     return None
 
 
-def main():
-    own = os.path.join(CRATES, "md_exact", "specs")
-    all_rows = list(rows(antt.Library(CRATES)))
-    failed = 0
-    if refused(own, all_rows):
-        print("exact_rows: the definition itself has another list of", refused(own, all_rows))
-        failed += 1
+def faults(wrong):
+    """What is wrong with a wrong definition, or with the definition itself where there is none: a list of lines."""
+    if wrong is None:
+        by = refused(OWN, ALL_ROWS)
+        return [f"exact_rows: the definition itself has another list of {by}"] if by else []
+    what, file, old, new = wrong
+    text = open(os.path.join(OWN, file + ".antt"), encoding="utf8").read()
+    if text.count(old) != 1:
+        return [f"exact_rows: {file} does not have once: {old}"]
     with tempfile.TemporaryDirectory() as folder:
-        for what, file, old, new in WRONG:
-            specs = os.path.join(folder, "specs")
-            shutil.rmtree(specs, ignore_errors=True)
-            shutil.copytree(own, specs)
-            path = os.path.join(specs, file + ".antt")
-            text = open(path, encoding="utf8").read()
-            if text.count(old) != 1:
-                print(f"exact_rows: {file} does not have once: {old}")
-                failed += 1
-                continue
-            open(path, "w", encoding="utf8").write(text.replace(old, new))
-            by = refused(specs, all_rows)
-            if by is None:
-                print("exact_rows: no small text refuses:", what)
-                failed += 1
-    print(f"exact_rows: {len(all_rows)} small texts, {len(WRONG)} wrong definitions, {failed} failed")
+        specs = os.path.join(folder, "specs")
+        shutil.copytree(OWN, specs)
+        open(os.path.join(specs, file + ".antt"), "w", encoding="utf8").write(text.replace(old, new))
+        return [] if refused(specs, ALL_ROWS) else [f"exact_rows: no small text refuses: {what}"]
+
+
+OWN = os.path.join(CRATES, "md_exact", "specs")
+ALL_ROWS = list(rows(antt.Library(CRATES)))
+
+
+def main():
+    # one process a processor, each with one definition at a time
+    with multiprocessing.get_context("fork").Pool(len(os.sched_getaffinity(0))) as pool:
+        found = [line for lines in pool.imap(faults, [None, *WRONG]) for line in lines]
+    for line in found:
+        print(line)
+    failed = len(found)
+    failed += counts.wrong_count("small texts of the exact list", len(ALL_ROWS))
+    failed += counts.wrong_count("wrong definitions of the exact list", len(WRONG))
+    print(f"exact_rows: {len(ALL_ROWS)} small texts, {len(WRONG)} wrong definitions, {failed} failed")
     sys.exit(failed > 0)
 
 

@@ -13,6 +13,7 @@ import tempfile
 from pathlib import Path
 
 sys.dont_write_bytecode = True
+import counts
 import speed
 
 ROOT = Path(__file__).resolve().parent.parent
@@ -82,6 +83,7 @@ def main() -> None:
         if not found[name][by_requests][1]:
             print(f"{by_requests} of {name}: more than {REQUESTS} requests for memory")
             failed += 1
+    failed += counts.wrong_count("texts of steps and requests", len(MOST))
     print(f"steps and requests: {2 * len(MOST) - failed} passed, {failed} failed")
     sys.exit(failed > 0)
 
