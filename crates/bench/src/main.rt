@@ -1,23 +1,25 @@
-// The bench. The first argument says what is tried: `blocks` the parser, `plain` the plain program, `levels` the parser
-// on deep nesting, `agree` both against each other on short texts, `nasty` the same where constructs meet; without one
-// it is all of these. Behind the first two is a task of `test_runner::task`, behind `levels` how many containers are in
-// one another, behind `agree` the most letters of a text, behind `nasty` a task of `test_runner::nasty`. It prints what
-// disagreed, and then how much was tried.
+// The bench. The first argument says what is tried: `blocks` the parser, `references` its rows of events with that
+// layer, `plain` the plain program, `levels` the parser on deep nesting, `agree` both against each other on short
+// texts, `nasty` the same where constructs meet; without one it is all of these but `agree`, which is the program
+// `bench_agree`. Behind `blocks` and `plain` is a task of `test_runner::task`, behind `levels` how many containers are
+// in one another, behind `agree` the most letters of a text, behind `nasty` a task of `test_runner::nasty`. It prints
+// what disagreed, and then how much was tried.
 #![tactic(auto)]
+
+mod referenced;
 
 use blocks_body::Blocks;
 use plain_body::Plain;
+use referenced::Referenced;
 use std::alloc::Global;
 use std::{env, io};
 use test_rows::case::CaseError;
-use test_runner::agree::try_agree;
+use test_runner::agree::{MOST, try_agree};
 use test_runner::deep::try_levels;
+use test_runner::event_rows::try_event_rows;
 use test_runner::nasty::Nasty;
 use test_runner::report::Report;
 use test_runner::task::Task;
-
-/// So many letters where no argument says it.
-const MOST: usize = 7;
 
 /// So many levels where no argument says it.
 const LEVELS: usize = 100_000;
@@ -26,6 +28,7 @@ const LEVELS: usize = 100_000;
 #[derive(Clone, Copy)]
 enum Bench {
     Blocks(Task),
+    References,
     Plain(Task),
     Levels(usize),
     Agree(usize),
@@ -36,9 +39,9 @@ impl Bench {
     /// What is tried without an argument.
     const ALL: [Bench; 8] = [
         Bench::Blocks(Task::Rows),
+        Bench::References,
         Bench::Plain(Task::Rows),
         Bench::Levels(LEVELS),
-        Bench::Agree(MOST),
         Bench::Nasty(Nasty::LETTERS),
         Bench::Nasty(Nasty::FRAGMENTS),
         Bench::Nasty(Nasty::RANDOM),
@@ -50,6 +53,7 @@ impl Bench {
         let (word, others) = args.split_first()?;
         match (word.as_str(), others) {
             ("blocks", others) => Some(Bench::Blocks(Task::asked_for(others)?)),
+            ("references", []) => Some(Bench::References),
             ("plain", others) => Some(Bench::Plain(Task::asked_for(others)?)),
             ("levels", []) => Some(Bench::Levels(LEVELS)),
             ("levels", [levels]) => Some(Bench::Levels(levels.as_str().parse().ok()?)),
@@ -64,6 +68,9 @@ impl Bench {
     fn perform(self, alloc: Global, report: &mut Report) -> Result<(), CaseError> {
         match self {
             Bench::Blocks(task) => task.perform::<Blocks>(alloc, report),
+            Bench::References => {
+                try_event_rows::<Referenced>(alloc, test_rows::events::rows(), true, report)
+            }
             Bench::Plain(task) => task.perform::<Plain>(alloc, report),
             Bench::Levels(levels) => try_levels::<Blocks>(alloc, levels, report),
             Bench::Agree(most) => try_agree::<Blocks, Plain>(alloc, most, report),
@@ -80,8 +87,8 @@ fn main(rt: HostRuntime) -> io::Result<()> {
     let asked = Bench::asked_for(args.as_slice());
     if asked.is_none() && !args.is_empty() {
         return println!(rt;
-            "blocks or plain, and rows, short LENGTH, or random SEED COUNT; levels COUNT; agree LENGTH; \
-             or nasty, and letters MOST, fragments MOST, random SEED COUNT, or alerts SEED COUNT"
+            "references; blocks or plain, and rows, short LENGTH, or random SEED COUNT; levels COUNT; agree LENGTH; \
+             or nasty, and letters MOST, fragments MOST, or random, alerts or flags with SEED COUNT"
         );
     }
     for bench in Bench::ALL {

@@ -42,7 +42,7 @@ pub struct Part<'a> {
     pub name: &'a str,
     /// What is between quotes.
     pub bytes: Option<String>,
-    /// How many columns of the tab behind these bytes it takes too.
+    /// How many columns of the tab after these bytes it takes too.
     pub columns: usize,
 }
 

@@ -11,7 +11,7 @@ Paragraph
   LineEnding "\r\n"
   Data "d"
 
-a quote ends in front of the ending of its last line | commonmark
+a quote ends before the ending of its last line | commonmark
 "> a\n>\n***"
 BlockQuote
   BlockQuotePrefix
@@ -26,7 +26,7 @@ BlankLineEnding "\n"
 ThematicBreak
   ThematicBreakSequence "***"
 
-a quote ends in front of the ending of a line of text | commonmark
+a quote ends before the ending of a line of text | commonmark
 "> a\n\nb"
 BlockQuote
   BlockQuotePrefix
@@ -39,7 +39,7 @@ BlankLineEnding "\n"
 Paragraph
   Data "b"
 
-whitespace behind the marker of an alert is in its prefix | alerts
+whitespace after the marker of an alert is in its prefix | alerts
 "> [!Tip] \n>\tm"
 BlockQuote
   BlockQuotePrefix
@@ -100,7 +100,7 @@ ListUnordered
     Paragraph
       Data "\th"
 
-the text of a heading ends in front of the whitespace of its closing sequence | commonmark
+the text of a heading ends before the whitespace of its closing sequence | commonmark
 "#\tc  # "
 HeadingAtx
   HeadingAtxSequence "#"
@@ -111,7 +111,7 @@ HeadingAtx
   HeadingAtxSequence "#"
   SpaceOrTab " "
 
-the body of a table begins behind its delimiter row | gfm
+the body of a table begins after its delimiter row | gfm
 "a|b\n-|-\nc d|"
 GfmTable
   GfmTableHead
@@ -140,7 +140,7 @@ GfmTable
           Data "c d"
         GfmTableCellDivider "|"
 
-a bracket behind a backslash opens no reference | commonmark | references
+a bracket after a backslash opens no reference | commonmark | references
 "\\[q] [q]\n\n[q]: r"
 Paragraph
   Data "\\[q] "

@@ -8,6 +8,9 @@ use md_program::body::Body;
 use std::alloc::Global;
 use test_rows::case::CaseError;
 
+/// The most letters of a text where no argument says it.
+pub const MOST: usize = 7;
+
 /// Letters that begin quotes, headings and breaks, or lines.
 const LEAVES: [&str; 6] = ["a", ">", "#", "*", " ", "\n"];
 

@@ -10,7 +10,7 @@ use test_rows::case::CaseError;
 use test_rows::constructs::both;
 use test_rows::event_case::{EventCase, Part};
 
-/// A list that is written, the parts that are open, and the point behind all that was taken.
+/// A list that is written, the parts that are open, and the point after all that was taken.
 #[derive(Drop)]
 struct List<'a> {
     written: String,
@@ -21,7 +21,7 @@ struct List<'a> {
 }
 
 impl<'a> List<'a> {
-    /// The point behind what was taken.
+    /// The point after what was taken.
     fn point(&self) -> Point {
         Point {
             line: self.place.line,

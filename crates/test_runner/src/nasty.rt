@@ -5,8 +5,8 @@
 //     fragments MOST       all texts of at most so many fragments
 //     random SEED COUNT    so many random texts of fragments, each with a random set of constructs
 //     alerts SEED COUNT    so many random texts of the fragments that alerts are made of, with all constructs
-//     flags SEED COUNT     so many random texts of all fragments, each with any set of the constructs; the events of the
-//                          first body too nest and tile it
+//     flags SEED COUNT     so many random texts of all fragments, each with any set of the constructs; the events of
+//                          the first body nest and tile it too
 
 use crate::agree::{try_letters, try_text};
 use crate::events::try_events;

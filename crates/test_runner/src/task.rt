@@ -1,7 +1,7 @@
 // What a bench does, by its arguments.
 //
-//     rows                 the rows, those of events, long labels, deep nesting, and the texts of the rows otherwise: with
-//                          each construct switched off, and their begins by their events and by the laws of nesting
+//     rows                 the rows, those of events, long labels, deep nesting, and the texts of the rows otherwise:
+//                          with each construct switched off, and their begins by their events and by the laws of nesting
 //     short LENGTH         the laws on all texts of so many letters
 //     random SEED COUNT    the laws on so many random texts
 

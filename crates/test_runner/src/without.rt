@@ -58,8 +58,8 @@ fn occurs<B: Body>(
     }
 }
 
-/// Tries the texts of rows with all constructs but one, for each of them, and with all but that one and alerts: that one
-/// is not in the outline, a heading's not among the events either, and the events nest and tile.
+/// Tries the texts of rows with all constructs but one, for each of them, and with all but that one and alerts: that
+/// one is not in the outline, a heading's not among the events either, and the events nest and tile.
 pub fn try_without<B: Body>(
     alloc: Global,
     rows: &str,
