@@ -5,7 +5,8 @@
 #
 # The heap of the library calls `malloc` through `liblibc_c.a` of the kit, which is linked behind it.
 #
-# It takes what `rt ci` has built, or a library LIBRARY and the programs of the folder PROGRAMS, where these are set.
+# It takes what `rt ci` has built, or a library LIBRARY and the programs of the folder PROGRAMS, where these are set. Where
+# a library is missing below `hoxalgurre_c`, `rt ci` makes it in a copy of these crates, of what it has kept.
 set -euo pipefail
 cd "$(dirname "$0")/.."
 scripts/c_header.py --check
@@ -15,32 +16,52 @@ heap=$kit/c/liblibc_c.a
 work=$(mktemp -d)
 trap 'rm -rf "$work"' EXIT
 
-# `rt ci` proves the static library and keeps none. It is built over the libraries that it has left, as `rt lib` builds it.
-# A run that takes proofs from an earlier one leaves not all of them: then `rt lib` builds them too, if it is not too long.
+# `rt ci` proves the static library and keeps none. It is built over the libraries that `rt ci` has left, as `rt lib` builds
+# it. A library of which `rt check` keeps work is not one of these.
 library=${LIBRARY:-$work/libhoxalgurre_c.a}
 if [ ! -f "$library" ]; then
-    libraries=(-L "dependency=$kit/rlibs")
-    missing=0
-    for folder in crates/*/out/rlib; do
-        libraries+=(-L "dependency=$folder")
-        ls "$folder"/*.rlib >"$work/built" 2>&1 || missing=1
+    below=$(python3 - crates.txt <<'PYTHON'
+import sys
+lines = [line.split("#")[0].partition(":") for line in open(sys.argv[1], encoding="utf-8") if ":" in line]
+below = {name.split()[0]: crates.split() for name, _, crates in lines}
+needed, left = set(), ["hoxalgurre_c"]
+while left:
+    name = left.pop()
+    if name in below and name not in needed:
+        needed.add(name)
+        left += below[name]
+print(" ".join(sorted(needed)))
+PYTHON
+    )
+    crates=crates
+    for crate in $below; do
+        if [ "$crate" != hoxalgurre_c ] && [ ! -f "crates/$crate/out/rlib/$crate.rlib/format" ]; then
+            crates=$work/crates
+        fi
     done
-    if [ "$missing" -eq 0 ]; then
-        "$kit/bin/rattle" build --crate-name hoxalgurre_c crates/hoxalgurre_c/src/lib.rt --crate-type staticlib \
-            --extern "std=$kit/rlibs/std.rlib" --extern markdown_blocks=crates/markdown_blocks/out/rlib/markdown_blocks.rlib \
-            "${libraries[@]}" --antt-project "$kit/rattle/logic/antt-project.json" --logic-built "$kit/logic_built" \
-            --toolchain "$kit/toolchain" -o "$library" >"$work/built" 2>&1 || {
-            cat "$work/built"
+    if [ "$crates" != crates ]; then
+        mkdir "$crates"
+        cp HANDLES "$work/"
+        for crate in $below; do
+            tar -C crates --exclude=out --exclude=must-fail -cf - "$crate" | tar -C "$crates" -xf -
+            grep -E "^$crate( |:)" crates.txt >>"$work/crates.txt"
+        done
+        (cd "$work" && rt ci) >"$work/built" 2>&1 || {
+            tail -n 30 "$work/built"
             exit 1
         }
-    else
-        (cd crates/hoxalgurre_c && timeout 420 rt lib) >"$work/built" 2>&1 || true
-        library=crates/hoxalgurre_c/out/libhoxalgurre_c.a
-        if [ ! -f "$library" ]; then
-            echo "c and python: not compared, since this run took its proofs from an earlier one, and left no libraries"
-            exit 0
-        fi
     fi
+    libraries=(-L "dependency=$kit/rlibs")
+    for crate in $below; do
+        libraries+=(-L "dependency=$crates/$crate/out/rlib")
+    done
+    "$kit/bin/rattle" build --crate-name hoxalgurre_c "$crates/hoxalgurre_c/src/lib.rt" --crate-type staticlib \
+        --extern "std=$kit/rlibs/std.rlib" --extern "markdown_blocks=$crates/markdown_blocks/out/rlib/markdown_blocks.rlib" \
+        "${libraries[@]}" --antt-project "$kit/rattle/logic/antt-project.json" --logic-built "$kit/logic_built" \
+        --toolchain "$kit/toolchain" -o "$library" >"$work/built" 2>&1 || {
+        cat "$work/built"
+        exit 1
+    }
 fi
 gcc -std=c11 -O2 -Wall -Wextra -Werror -Iinclude examples/c/events.c "$library" "$heap" -o "$work/events"
 gcc -shared -o "$work/libhoxalgurre.so" -Wl,--whole-archive "$library" -Wl,--no-whole-archive "$heap"
