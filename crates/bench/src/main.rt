@@ -1,8 +1,8 @@
 // The bench. The first argument says what is tried: `blocks` the parser, `references` its rows of events with that
 // layer, `plain` the plain program, `levels` the parser on deep nesting, `agree` both against each other on short
 // texts, `nasty` the same where constructs meet; without one it is all of these but `agree`, which is the program
-// `bench_agree`. Behind `blocks` and `plain` is a task of `test_runner::task`, behind `levels` how many containers are
-// in one another, behind `agree` the most letters of a text, behind `nasty` a task of `test_runner::nasty`. It prints
+// `bench_agree`. After `blocks` and `plain` is a task of `test_runner::task`, after `levels` how many containers are
+// in one another, after `agree` the most letters of a text, after `nasty` a task of `test_runner::nasty`. It prints
 // what disagreed, and then how much was tried.
 #![tactic(auto)]
 
