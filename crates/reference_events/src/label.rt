@@ -10,6 +10,7 @@ use md_engine::message::Message;
 use md_engine::parse_state::ParseState;
 use md_grammars::definition::{Enclosed, up_to_mark};
 use md_grammars::label::normal_form;
+use md_grammars::memory;
 use std::alloc::Global;
 
 /// How many bytes a label has at most, endings of lines left out.
@@ -63,10 +64,11 @@ fn unended(byte: u8) -> u8
 fn on_one_line(alloc: Global, text: &[u8]) -> Result<Vec<u8>, Message>
     ensures { IfOk result (λ line. line.items ≡ spec.on_one_line text.now) }
 {
-    match text.iter().map(|byte| unended(*byte)).collect(alloc) {
-        Ok(line) => Ok(line),
-        Err(_) => Err(Message),
+    let mut line = Vec::new(alloc);
+    for byte in text {
+        memory::push(&mut line, unended(*byte))?;
     }
+    Ok(line)
 }
 
 /// Whether a normal form is among those of the labels of all definitions.
