@@ -1,5 +1,5 @@
-// In front of the C library's malloc and realloc: refuses the request for memory whose number, counted from 1, REFUSE says, or each if
-// that is `all`.
+// In front of the C library's malloc and realloc: refuses the request for memory whose number, counted from 1, REFUSE says; with a `+`
+// after the number each from that one on.
 //
 // Where BEFORE and AFTER are set, only the requests between one for BEFORE bytes and one for AFTER bytes count. To the file whose number
 // REFUSED_TO says it writes a byte for each request: `r` for one that is refused, `.` for another that counts, `o` for one outside.
@@ -30,6 +30,14 @@ static int counts(unsigned long size) {
     return is_between;
 }
 
+/// Whether a `+` ends this.
+static int is_open(const char *refused) {
+    while (refused[0] && refused[1]) {
+        refused += 1;
+    }
+    return refused[0] == '+';
+}
+
 static int is_refused(unsigned long size) {
     const char *refused = getenv("REFUSE");
     const char *to = getenv("REFUSED_TO");
@@ -41,7 +49,8 @@ static int is_refused(unsigned long size) {
         return 0;
     }
     number += 1;
-    if (refused[0] != 'a' && number != atoi(refused)) {
+    int first = atoi(refused);
+    if (number < first || (number > first && !is_open(refused))) {
         write(atoi(to), ".", 1);
         return 0;
     }

@@ -1,18 +1,21 @@
 #!/usr/bin/env bash
-# Refuses requests for memory of built programs (`rt ci` or `rt run` builds them: `out`), one in each run, over each request in turn
-# until a run meets no refusal (`scripts/refuse.c`).
+# Refuses requests for memory of built programs (`rt ci` or `rt run` builds them: `out`; where PROGRAMS is set, they are in that
+# folder). Each request is refused twice: alone, and with all that follow it. The number of the first that is refused rises until a
+# run meets no refusal (`scripts/refuse.c`).
 #
 # - Of `memory_calls`, those of one call of the library: `parse`, `parse_with`, `outline`, `outline_part`, `wrap::quote`, `wrap::item`,
-#   `wrap::footnote`, and the `run` of `blocks`, all on one text. What the program asks for before and after the call is counted apart. A refused run ends with status 3
-#   and prints nothing, and the last run prints what is given here. The states that take no memory answer while each request is refused.
-# - Of `blocks`, `events` and `references_example`, those of the whole program: on the texts of their stored runs, and the first two with
-#   the argument `alerts` on each begin of a text with a byte order mark, frontmatter, headings of both kinds, quotes, a break, nested
-#   lists, an alert with a fence, HTML, definitions, in a quote and in front of an underline, a table and a footnote definition. The third parses its
-#   text with an inline layer, wraps it in a quote and in an item, and parses both; a reference in it goes over two lines of a quote, and
-#   is defined behind. A refused run ends with status 3, says so on its standard error and prints nothing.
-# - Of `hoxalgurre`, those of each of its reports.
+#   `wrap::footnote`, and the `run` of `blocks`, all on one text. What the program asks for before and after the call is counted apart.
+#   A refused run ends with status 3 and prints nothing, and the last run prints what is given here. The states that take no memory
+#   answer while each request is refused.
+# - Of `blocks`, `events`, `plain_blocks` and `references_example`, those of the whole program: on the texts of their stored runs, and
+#   the first two with the argument `alerts` on each begin of a text with a byte order mark, frontmatter, headings of both kinds,
+#   quotes, a break, nested lists, an alert with a fence, HTML, definitions, in a quote and in front of an underline, a table and a
+#   footnote definition; the third on that text. The fourth parses its text with an inline layer, wraps it in a quote and in an item,
+#   and parses both; a reference in it goes over two lines of a quote, and is defined after it. A refused run ends with status 3, says
+#   so on its standard error and prints nothing.
+# - Of `hoxalgurre`, those of each of its reports in both formats. What a refused run prints at most is how a JSON report begins.
 #
-# How many refused runs end as if nothing had been refused is given for each program; so is how many refused runs there are at least.
+# No refused run ends as if nothing had been refused. How many refused runs there are at least is given for each program.
 set -euo pipefail
 cd "$(dirname "$0")/.."
 work=$(mktemp -d)
@@ -21,18 +24,21 @@ kit=$(dirname "$(rt doc)")
 "$kit/toolchain/bin/clang" --target=x86_64-unknown-linux-gnu --sysroot="$kit/toolchain" -O2 -shared -fPIC -nostdlib -fuse-ld=lld \
     -o "$work/refuse.so" scripts/refuse.c
 python3 - "$work/refuse.so" <<'PYTHON'
-import os, subprocess, sys
+import concurrent.futures, os, subprocess, sys
 
 library = sys.argv[1]
 
-# The refused runs of each program that there are at least, and how many of these go on: 12 where the example layer collects the bytes
-# of a label, which asks for less memory where its first request is refused (four labels in each of three texts).
-PROGRAMS = {"blocks": (2000, 0), "events": (2000, 0), "references_example": (150, 12)}
+# The folder of the programs, if it is one for all.
+FOLDER = os.environ.get("PROGRAMS")
+
+# The refused runs of each program that there are at least.
+PROGRAMS = {"blocks": 4000, "events": 4000, "plain_blocks": 100, "references_example": 300}
+LEAST_REPORTS = 600
 
 # The sizes of the requests of `memory_calls` before and after its call.
 MARKS = {"BEFORE": "42421", "AFTER": "42423"}
 
-TEXT = b"> [a\n> b]: c\n\n- x | y\n  --|--\n  1 | 2\n\n# h\n\ni\n=\n\n[^f]: g"
+TEXT = b"> [a\n> b]: c\n\n- x | y\n  --|--\n  1 | 2\n\n# h\n\ni\n=\n\n[^f]: g\n\n[A\nB] j"
 TEXT_OUTLINE = b"""quote
   definition
     label | a
@@ -56,6 +62,9 @@ footnote
   label | f
   paragraph
     | g
+paragraph
+  | [A
+  | B] j
 
 definitions 1
 = a b
@@ -63,16 +72,16 @@ footnotes 1
 = f
 """
 
-# What each call prints, what it says where it is refused, and how many refused runs go on.
+# What each call prints, and what it says where it is refused.
 CALLS = {
-    "parse": (TEXT_OUTLINE, b"", 0),
-    "parse_with": (TEXT_OUTLINE, b"", 0),
-    "outline": (TEXT_OUTLINE, b"", 0),
-    "outline_part": (TEXT_OUTLINE, b"", 0),
-    "quote": (b"\n".join(b"> " + line for line in TEXT.split(b"\n")), b"", 0),
-    "item": (b"+ " + TEXT.replace(b"\n", b"\n  "), b"", 0),
-    "footnote": (b"[^x]: " + TEXT.replace(b"\n", b"\n    "), b"", 0),
-    "run": (TEXT_OUTLINE, b"blocks: out of memory\n", 0),
+    "parse": (TEXT_OUTLINE, b""),
+    "parse_with": (TEXT_OUTLINE, b""),
+    "outline": (TEXT_OUTLINE, b""),
+    "outline_part": (TEXT_OUTLINE, b""),
+    "quote": (b"\n".join(b"> " + line for line in TEXT.split(b"\n")), b""),
+    "item": (b"+ " + TEXT.replace(b"\n", b"\n  "), b""),
+    "footnote": (b"[^x]: " + TEXT.replace(b"\n", b"\n    "), b""),
+    "run": (TEXT_OUTLINE, b"blocks: out of memory\n"),
 }
 
 # What the states answer that take no memory, and that an event finds no place.
@@ -151,6 +160,10 @@ footnotes 1
 """
 
 
+def program(name):
+    return f"{FOLDER}/{name}" if FOLDER else f"crates/{name}/out/{name}"
+
+
 def run(command, text, refused, marks={}):
     """The status of a run, what it printed and what it complained of; how many requests it was refused, and how many did not count."""
     told, tell = os.pipe()
@@ -162,77 +175,78 @@ def run(command, text, refused, marks={}):
     return (ran.returncode, ran.stdout, ran.stderr), said.count(b"r"), said.count(b"o")
 
 
-def each_refused(command, text, given, complaint, marks={}):
-    """Refuses each request in turn, and answers how many refused runs there are, how many of them go on, and how many requests
-    do not count."""
-    (status, printed, said), _, outside = run(command, text, 0, marks)
-    right = (status, printed, said)
-    if right != (0, given, b"") or not printed:
-        sys.exit(f"{command}, text {text}, nothing refused: status, output and complaint {right}")
-    runs = going = 0
-    while True:
-        ended, count, _ = run(command, text, runs + 1, marks)
-        if count == 0:
-            break
-        if ended not in (right, (3, b"", complaint)):
-            sys.exit(f"{command}, text {text}, request {runs + 1} refused: status, output and complaint {ended}")
-        runs, going = runs + 1, going + (ended == right)
-    if ended != right:
-        sys.exit(f"{command}, text {text}, nothing left to refuse: status, output and complaint {ended}")
-    return runs, going, outside
-
-
-def refuse_program(name):
-    """Refuses the requests of a program, on all its texts."""
-    folder, runs, going = f"crates/{name}", 0, 0
-    stored = open(f"{folder}/stdin", "rb").read()
-    given = {stored: open(f"{folder}/stdout", "rb").read()}
-    if name == "blocks":
-        given[WHOLE] = OUTLINE
-    begins = [] if name == "references_example" else [WHOLE[:length] for length in range(3, len(WHOLE) + 1)]
-    for text in [stored, *begins]:
-        command = [f"{folder}/out/{name}", *([] if text == stored else ["alerts"])]
-        printed = given[text] if text in given else run(command, text, 0)[0][1]
-        more, gone, _ = each_refused(command, text, printed, f"{name}: out of memory\n".encode())
-        runs, going = runs + more, going + gone
-    return runs, going
-
-
-def refuse_reports():
-    """The same of `hoxalgurre`: each report, in one of its formats, of a text that it also has labels to complain of."""
-    runs = going = 0
-    text = WHOLE + b"\n[1] [^2] `[3]`\n"
-    for task, form in (("outline", "json"), ("events", "json"), ("html", "text"), ("headings", "json"), ("labels", "text")):
-        command = ["crates/hoxalgurre/out/hoxalgurre", task, "-c", "alerts", "-f", form]
-        right = run(command, text, 0)[0]
-        if right[0] != (task == "labels") or right[2] or not right[1]:
-            sys.exit(f"hoxalgurre {task}, nothing refused: status, output and complaint {right}")
+def each_refused(command, text, right, begins, complaints, marks={}):
+    """Refuses each request in turn, alone and with all that follow. Answers how many refused runs there are, and what is wrong."""
+    runs = 0
+    for following in ("", "+"):
         number = 1
         while True:
-            ended, count, _ = run(command, text, number)
+            ended, count, _ = run(command, text, f"{number}{following}", marks)
             if count == 0:
                 break
-            told = (b"hoxalgurre: out of memory\n", b"hoxalgurre: -: out of memory\n")
-            if ended != right and (ended[0] != 3 or ended[1] not in (b"", b"[", b"[]\n") or ended[2] not in told):
-                sys.exit(f"hoxalgurre {task}, request {number} refused: status, output and complaint {ended}")
-            number, runs, going = number + 1, runs + 1, going + (ended == right)
-    return runs, going
+            if ended[0] != 3 or ended[1] not in begins or ended[2] not in complaints:
+                return runs, f"{command}, text {text}, request {number}{following} refused: status, output and complaint {ended}"
+            number, runs = number + 1, runs + 1
+        if ended != right:
+            return runs, f"{command}, text {text}, nothing left to refuse: status, output and complaint {ended}"
+    return runs, ""
 
 
-def check(name, runs, going, least, allowed):
-    print(f"refused memory: {name}, {runs} requests refused, {going} of these runs went on")
-    if runs < least or going != allowed:
-        sys.exit(f"not at least {least}, of which {allowed} go on")
+def refuse_call(word):
+    """Refuses the requests of one call."""
+    given, complaint = CALLS[word]
+    return each_refused([program("memory_calls"), word], TEXT, (0, given, b""), [b""], [complaint], MARKS)
 
 
-calls = "crates/memory_calls/out/memory_calls"
-for word, (given, complaint, allowed) in CALLS.items():
-    runs, going, outside = each_refused([calls, word], TEXT, given, complaint, MARKS)
-    check(f"{word} ({outside} requests before and after it)", runs, going, 1, allowed)
-ended, count, _ = run([calls, "states"], b"", "all", MARKS)
+def refuse_text(name, text, given):
+    """Refuses the requests of a program on a text, of which it prints what is given, if that is given."""
+    folder = f"crates/{name}"
+    stored = text == open(f"{folder}/stdin", "rb").read()
+    command = [program(name), *([] if stored else ["alerts"])]
+    right = run(command, text, 0)[0]
+    if right[0] != 0 or right[2] or not right[1] or given not in (None, right[1]):
+        return 0, f"{command}, text {text}, nothing refused: status, output and complaint {right}"
+    return each_refused(command, text, right, [b""], [f"{name}: out of memory\n".encode()])
+
+
+def refuse_report(report, form):
+    """Refuses the requests of `hoxalgurre` on a text that it also has labels to complain of."""
+    text = WHOLE + b"\n[1] [^2] `[3]`\n"
+    command = [program("hoxalgurre"), report, "-c", "alerts", "-f", form]
+    right = run(command, text, 0)[0]
+    if right[0] != (report == "labels") or right[2] or not right[1]:
+        return 0, f"{command}, nothing refused: status, output and complaint {right}"
+    begins = [b"", b"[", b"[]\n"] if form == "json" else [b""]
+    return each_refused(command, text, right, begins, [b"hoxalgurre: out of memory\n", b"hoxalgurre: -: out of memory\n"])
+
+
+def texts_of(name):
+    """The texts that a program is tried on, each with what it prints, if that is given."""
+    stored = [(open(f"crates/{name}/stdin", "rb").read(), open(f"crates/{name}/stdout", "rb").read())]
+    begins = [(WHOLE[:length], None) for length in range(3, len(WHOLE))]
+    whole = (WHOLE, None if name == "events" else OUTLINE)
+    return stored + {"blocks": [*begins, whole], "events": [*begins, whole], "plain_blocks": [whole]}.get(name, [])
+
+
+# Each task: what it belongs to, and the call that does it.
+tasks = [(word, lambda word=word: refuse_call(word)) for word in CALLS]
+tasks += [(name, lambda name=name, it=it: refuse_text(name, *it)) for name in PROGRAMS for it in texts_of(name)]
+for report in ("outline", "events", "html", "headings", "labels"):
+    for form in ("text", "json"):
+        tasks.append(("hoxalgurre", lambda report=report, form=form: refuse_report(report, form)))
+with concurrent.futures.ThreadPoolExecutor(os.cpu_count()) as pool:
+    done = [(name, pool.submit(task)) for name, task in tasks]
+runs = dict.fromkeys((name for name, _ in tasks), 0)
+for name, task in done:
+    count, wrong = task.result()
+    runs[name] += count
+    if wrong:
+        sys.exit(wrong)
+for name, least in {**dict.fromkeys(CALLS, 1), **PROGRAMS, "hoxalgurre": LEAST_REPORTS}.items():
+    print(f"refused memory: {name}, {runs[name]} runs refused, none of which went on")
+    if runs[name] < least:
+        sys.exit(f"not at least {least}")
+ended, count, _ = run([program("memory_calls"), "states"], b"", "1+", MARKS)
 if ended != (0, STATES, b"") or count == 0:
     sys.exit(f"states, each request refused: status, output and complaint {ended}, {count} refused")
-for name, (least, allowed) in PROGRAMS.items():
-    check(name, *refuse_program(name), least, allowed)
-check("hoxalgurre", *refuse_reports(), 150, 5)
 PYTHON
