@@ -1,5 +1,4 @@
-// Prints the outline of the text on standard input, as the plain program of the line definition reads it. It has a
-// limit that the parser has not: more than 2,000 containers in one another count as want of memory.
+// Prints the outline of the text on standard input, as the plain program of the line definition reads it.
 #![tactic(auto)]
 
 ghost use Rattle.std.specs.Prelude.{codes, map, string_bytes};
@@ -7,22 +6,15 @@ ghost use Rattle.md_program.specs.Ends.{Runs};
 ghost use Rattle.md_program.specs.Printed.{PrintsOutline};
 
 use md_program::body::Body;
-use md_program::failure::Failure;
 use md_program::printing::OutlineOf;
 use md_program::system::{Uninterrupted, arguments};
 use plain_body::Plain;
-use reference_tree::step::DEPTH;
 use std::alloc::Global;
 use std::io::{Read, Write};
 use std::process::ExitCode;
 
 /// The program's name, as its lines on the standard error say it.
 const NAME: &str = "plain_blocks";
-
-/// What is said of want of memory on a further line, since it may be this limit.
-const LIMIT: &str = "plain_blocks: it has memory for 2000 containers in one another\n";
-
-const _: () = prove!(DEPTH == 2000);
 
 /// Runs the program: `md_program::run::run` with the line definition.
 pub fn run<R: Read, W: Write, E: Write>(
@@ -45,7 +37,7 @@ fn main(rt: HostRuntime) -> ExitCode {
     let mut errors = Uninterrupted {
         stream: rt.stderr(),
     };
-    let status = match arguments(&rt) {
+    ExitCode::from(match arguments(&rt) {
         Ok(args) => run(
             rt.alloc(),
             args.as_slice(),
@@ -56,9 +48,5 @@ fn main(rt: HostRuntime) -> ExitCode {
             &mut errors,
         ),
         Err(failure) => failure.report(NAME, &mut errors),
-    };
-    if status == Failure::OutOfMemory.status() {
-        let _ = errors.write_all(LIMIT.as_bytes());
-    }
-    ExitCode::from(status)
+    })
 }

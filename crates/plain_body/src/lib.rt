@@ -4,21 +4,21 @@
 ghost use Rattle.std.specs.Prelude.{IfOk};
 ghost use Rattle.md_program.specs.Listing.{listing_of};
 ghost use Rattle.plain_body.specs.Outlines.{Lists, Outlines};
-ghost use Rattle.md_grammars.specs.WholeTrees.{tree_meaning};
+ghost use Rattle.reference_tree.specs.Held.{blocks_meaning};
 
 use md_engine::configuration::ParseOptions;
 use md_engine::event::Event;
 use md_engine::message::Message;
-use md_grammars::label::labels_of;
-use md_grammars::tree::Tree;
 use md_program::body::{Body, Outlined};
+use reference_tree::blocks::Blocks;
+use reference_tree::labels::labels_of;
 use reference_tree::meaning::tree;
 use reference_tree::outline_lines::outline;
 use std::alloc::Global;
 
 /// The outline of a tree, and its labels.
-fn listed<'a>(alloc: Global, tree: &Tree<'a>) -> Result<Outlined<'a>, Message>
-    ensures { IfOk result (λ outlined. Lists (tree_meaning tree.now) (listing_of outlined)) }
+fn listed<'a>(alloc: Global, tree: &Blocks<'a>) -> Result<Outlined<'a>, Message>
+    ensures { IfOk result (λ outlined. Lists (blocks_meaning tree.now) (listing_of outlined)) }
 {
     let labels = labels_of(alloc, tree)?;
     Ok(Outlined {

@@ -6,3 +6,5 @@ pub mod StepLemmas
 pub mod BodyLemmas
 pub mod OutlineLemmas
 pub mod LineLemmas
+pub mod PlacedLemmas
+pub mod LevelLemmas

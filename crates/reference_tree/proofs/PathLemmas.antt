@@ -9,12 +9,12 @@ use Rattle.md_meaning.specs.State as s
 use Rattle.md_meaning.specs.Containers.{Taken, opens}
 use Rattle.md_meaning.specs.Step.{spot_of, fresh_line, opened}
 use Rattle.reference_tree.specs.declared.state.Frame.{Frame}
-use Rattle.md_grammars.specs.Trees.{meanings}
+use Rattle.reference_tree.specs.Held.{blocks_meaning}
 use Rattle.reference_tree.specs.States.{container_meaning, within}
 
 -- one container, and in it this path
 abbrev pub inside : Frame → s.Path → s.Path
-inside f p = s.Within (meanings f.before.items) (container_meaning f.container) p
+inside f p = s.Within (blocks_meaning f.before) (container_meaning f.container) p
 
 -- a container that is added is the innermost
 pub within_push : (fs : List Frame) (f : Frame) (p : s.Path) → within (fs ++ f ∷ []) p ≡ within fs (inside f p)
@@ -26,7 +26,7 @@ pub closed-within : (options : ParseOptions) (fs : List Frame) (p q : s.Path) �
     s.closed options p ≡ s.closed options q → s.closed options (within fs p) ≡ s.closed options (within fs q)
 closed-within options [] p q e = e
 closed-within options (f ∷ fs) p q e =
-    ap (λ bs. s.then_block (meanings f.before.items) (s.container_block (container_meaning f.container) bs))
+    ap (λ bs. s.then_block (blocks_meaning f.before) (s.container_block (container_meaning f.container) bs))
     (closed-within options fs p q e)
 
 -- the innermost container is closed into a block of the one around it
@@ -35,13 +35,13 @@ pub closed-pop : (options : ParseOptions) (n : ℕ) (fs : List Frame) (f : Frame
     ≡ s.closed options
     (within (drop n fs)
     (s.At
-    (spot_of (s.then_block (meanings f.before.items) (s.container_block (container_meaning f.container) inner)))))
+    (spot_of (s.then_block (blocks_meaning f.before) (s.container_block (container_meaning f.container) inner)))))
 closed-pop options n fs f inner below =
     ap (λ gs. s.closed options (within gs (s.At (spot_of inner)))) (drop-append-le n fs (f ∷ []) below)
     ∙ ap (s.closed options) (within_push (drop n fs) f (s.At (spot_of inner)))
     ∙ closed-within options (drop n fs) (inside f (s.At (spot_of inner)))
     (s.At
-    (spot_of (s.then_block (meanings f.before.items) (s.container_block (container_meaning f.container) inner))))
+    (spot_of (s.then_block (blocks_meaning f.before) (s.container_block (container_meaning f.container) inner))))
     refl
 
 pub opened-some : (options : ParseOptions) (n : ℕ) (x : r.Rest) (t : Taken) → opens options false x ≡ Some t →
@@ -94,7 +94,7 @@ popped-take n old new o x e h below =
 pub popped-closed : (options : ParseOptions) (n : ℕ) (old new : List Frame) (o : Option Frame) (f : Frame)
     (inner here : Blocks) →
     o ≡ Some f → old ≡ new ++ option_to_list o → n < length old →
-    here ≡ s.then_block (meanings f.before.items) (s.container_block (container_meaning f.container) inner) →
+    here ≡ s.then_block (blocks_meaning f.before) (s.container_block (container_meaning f.container) inner) →
     s.closed options (within (drop n new) (s.At (spot_of here))) ≡
     s.closed options (within (drop n old) (s.At (spot_of inner)))
 popped-closed options n old new o f inner here e h below made =
@@ -116,7 +116,7 @@ entered-path options frames outer all f x first last n added opens_all fresh =
 
 -- one container more, in the innermost
 pub opened-next : (options : ParseOptions) (frames more : List Frame) (f : Frame) (n i : ℕ) (x y : r.Rest) → i < n →
-    more ≡ frames ++ f ∷ [] → meanings f.before.items ≡ End →
+    more ≡ frames ++ f ∷ [] → blocks_meaning f.before ≡ End →
     opens options false x ≡ Some (record { container = container_meaning f.container; rest = y }) →
     within more (opened options (n - (i + 1)) y) ≡ within frames (opened options (n - i) x)
 opened-next options frames more f n i x y below added empty took =

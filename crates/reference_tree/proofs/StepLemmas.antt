@@ -12,7 +12,7 @@ use Rattle.md_meaning.specs.Containers.{Taken, opens, continues}
 use Rattle.md_meaning.specs.Leaves.{LazyText, starts}
 use Rattle.md_meaning.specs.Step.{all_continued, fresh_line, entered, with_lazy, lazy_by, stopped_by, stopped, step}
 use Rattle.md_meaning.specs.Step.{steps}
-use Rattle.md_grammars.specs.Trees.{meanings}
+use Rattle.reference_tree.specs.Held.{blocks_meaning}
 use Rattle.md_grammars.specs.declared.rest.Rest.{Rest}
 use Rattle.md_grammars.specs.Rests.{rest_meaning, rest_meanings}
 use Rattle.reference_tree.specs.declared.state.Container.{Container}
@@ -64,20 +64,20 @@ pub stopped-opened : (options : ParseOptions) (fs : List Frame) (p : s.Path) (x 
 unfolding stopped
 stopped-opened options [] p x t some e = absurd (omega (arith, some))
 stopped-opened options (f ∷ fs) p x t some e =
-    ap (stopped_by options (meanings f.before.items) (container_meaning f.container) (within fs p) x) e
+    ap (stopped_by options (blocks_meaning f.before) (container_meaning f.container) (within fs p) x) e
 
 -- no container opens there: the line is lazy, or the others are closed
 stopped-none : (options : ParseOptions) (f : Frame) (fs : List Frame) (y : s.Innermost) (x : r.Rest) →
     opens options false x ≡ None →
     stopped_in options (f ∷ fs) (s.At y) x ≡
-    lazy_by options (meanings f.before.items) (container_meaning f.container) (within fs (s.At y)) x
+    lazy_by options (blocks_meaning f.before) (container_meaning f.container) (within fs (s.At y)) x
     (with_lazy options y.leaf x)
 unfolding stopped
 stopped-none options f fs y x e =
-    ap (stopped_by options (meanings f.before.items) (container_meaning f.container) (within fs (s.At y)) x) e
+    ap (stopped_by options (blocks_meaning f.before) (container_meaning f.container) (within fs (s.At y)) x) e
     ∙ ap
     (λ (z : s.Innermost).
-    lazy_by options (meanings f.before.items) (container_meaning f.container) (within fs (s.At y)) x
+    lazy_by options (blocks_meaning f.before) (container_meaning f.container) (within fs (s.At y)) x
     (with_lazy options z.leaf x))
     (spot-within fs (s.At y))
 
@@ -89,7 +89,7 @@ unfolding stopped
 stopped-lazy options [] y x some e takes = absurd (omega (arith, some))
 stopped-lazy options (f ∷ fs) y x some e takes =
     stopped-none options f fs y x e
-    ∙ ap (lazy_by options (meanings f.before.items) (container_meaning f.container) (within fs (s.At y)) x)
+    ∙ ap (lazy_by options (blocks_meaning f.before) (container_meaning f.container) (within fs (s.At y)) x)
     (with_lazy-more options y.leaf x takes)
     ∙ ap
     (λ (z : s.Innermost).
@@ -105,7 +105,7 @@ unfolding stopped
 stopped-fresh options [] y x some e takes = absurd (omega (arith, some))
 stopped-fresh options (f ∷ fs) y x some e takes =
     stopped-none options f fs y x e
-    ∙ ap (lazy_by options (meanings f.before.items) (container_meaning f.container) (within fs (s.At y)) x)
+    ∙ ap (lazy_by options (blocks_meaning f.before) (container_meaning f.container) (within fs (s.At y)) x)
     (none-of (with_lazy options y.leaf x) takes)
 
 some-left : (n : ℕ) (fs : List Frame) → n < length fs → 0 < length (drop n fs)
@@ -162,10 +162,10 @@ continued-next options fs f g c p x y i below reads_f reads_g took =
     ap (λ gs. within (take i fs) (step options (within gs p) x)) (here-at fs f i below reads_f)
     ∙ ap
     (λ o.
-    within (take i fs) (by_continued options (meanings f.before.items) (container_meaning f.container) inner x o)) took
+    within (take i fs) (by_continued options (blocks_meaning f.before) (container_meaning f.container) inner x o)) took
     ∙ ap
     (λ (k : Frame).
-    within (take i fs) (s.Within (meanings k.before.items) (container_meaning c) (step options inner y))) same
+    within (take i fs) (s.Within (blocks_meaning k.before) (container_meaning c) (step options inner y))) same
     ∙ sym (ap (λ gs. within gs (step options (within (drop (i + 1) (set fs i h)) p) y)) (take_more_set fs i h below)
     ∙ within-append (take i fs) (h ∷ []) (step options (within (drop (i + 1) (set fs i h)) p) y)
     ∙ ap (λ gs. within (take i fs) (inside h (step options (within gs p) y)))
@@ -178,7 +178,7 @@ pub continued-not : (options : ParseOptions) (fs : List Frame) (f : Frame) (p : 
 continued-not options fs f p x i below reads ends =
     let inner : s.Path = within (drop (i + 1) fs) p in
     ap (λ gs. step options (within gs p) x) (here-at fs f i below reads)
-    ∙ ap (by_continued options (meanings f.before.items) (container_meaning f.container) inner x) ends
+    ∙ ap (by_continued options (blocks_meaning f.before) (container_meaning f.container) inner x) ends
     ∙ sym (ap (λ gs. stopped_in options gs p x) (here-at fs f i below reads))
 
 -- all containers have continued

@@ -1,6 +1,9 @@
+pub mod Held
 pub mod States
 pub mod Markers
 pub mod Paragraphs
 pub mod Groups
 pub mod Stops
 pub mod Outlined
+pub mod Placed
+pub mod Labels

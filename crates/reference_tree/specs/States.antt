@@ -21,7 +21,8 @@ use Rattle.reference_tree.specs.declared.state.ParagraphContext.{ParagraphContex
 use Rattle.reference_tree.specs.declared.state.ParagraphContext.TheVariants as against
 use Rattle.reference_tree.specs.declared.state.Taken.{Taken}
 use Rattle.md_grammars.specs.Rests.{rest_meaning}
-use Rattle.md_grammars.specs.Trees.{meaning, meanings, line_meanings}
+use Rattle.md_grammars.specs.Trees.{meaning, line_meanings}
+use Rattle.reference_tree.specs.Held.{blocks_meaning}
 
 abbrev pub container_meaning : Container → s.Container
 container_meaning (container.Quote kind) = s.InQuote kind
@@ -53,12 +54,12 @@ leaf_meaning (leaf.Table delimiter rows) =
     s.OpenTable delimiter.now (map (λ row. map (λ cell. cell.now) row.items) rows.items)
 
 abbrev pub spot_meaning : Innermost → s.Innermost
-spot_meaning x = record { here = meanings x.here.items; leaf = leaf_meaning x.leaf }
+spot_meaning x = record { here = blocks_meaning x.here; leaf = leaf_meaning x.leaf }
 
 -- these containers, and in them this path
 abbrev pub within : List Frame → s.Path → s.Path
 within [] p = p
-within (f ∷ fs) p = s.Within (meanings f.before.items) (container_meaning f.container) (within fs p)
+within (f ∷ fs) p = s.Within (blocks_meaning f.before) (container_meaning f.container) (within fs p)
 
 abbrev pub path_meaning : Path → s.Path
 path_meaning p = within p.frames.items (s.At (spot_meaning p.spot))

@@ -5,7 +5,7 @@ use Rattle.md_meaning.specs.Tree.{Blocks}
 use Rattle.md_meaning.specs.Rest.{Rest}
 use Rattle.md_meaning.specs.State.{Leaf, OpenParagraph, Innermost, Path, kept}
 use Rattle.md_meaning.specs.Step.{stopped}
-use Rattle.md_grammars.specs.Trees.{meanings}
+use Rattle.reference_tree.specs.Held.{blocks_meaning}
 use Rattle.reference_tree.specs.declared.state.Frame.{Frame}
 use Rattle.reference_tree.specs.States.{container_meaning, within}
 
@@ -26,4 +26,4 @@ more_text s r = record { here = s.here; leaf = with_more s.leaf r }
 abbrev pub stopped_in : ParseOptions → List Frame → Path → Rest → Path
 stopped_in options [] p r = p
 stopped_in options (f ∷ fs) p r =
-    stopped options (meanings f.before.items) (container_meaning f.container) (within fs p) r
+    stopped options (blocks_meaning f.before) (container_meaning f.container) (within fs p) r

@@ -4,15 +4,16 @@ ghost use Rattle.std.specs.Prelude.{◌≡◌, ◌≤◌, length, take, drop, If
 ghost use Rattle.std.specs.List.{suffix_len};
 ghost use Rattle.md_meaning.specs.Rest.{is_blank};
 ghost use Rattle.md_meaning.specs.State as state;
-ghost use Rattle.md_grammars.specs.Trees.{meaning, meanings, line_meanings};
+ghost use Rattle.md_grammars.specs.Trees.{meaning, line_meanings};
+ghost use Rattle.reference_tree.specs.Held.{blocks_meaning};
 ghost use Rattle.reference_tree.specs.States.{container_meaning, spot_meaning, path_meaning, within};
 
+use crate::blocks::{Blocks, Whole, push_block, push_whole};
 use crate::leaves::fence_block;
 use crate::paragraph::with_paragraph;
 use crate::state::{Container, Frame, Innermost, Leaf, Path};
 use md_engine::configuration::ParseOptions;
 use md_engine::message::Message;
-use md_grammars::blocks::push_block;
 use md_grammars::bytes::is_blank;
 use md_grammars::tree::{Block, Line};
 use std::alloc::Global;
@@ -44,8 +45,8 @@ pub fn shut<'a>(
     alloc: Global,
     options: &ParseOptions,
     spot: Innermost<'a>,
-) -> Result<Vec<Block<'a>>, Message>
-    ensures { IfOk result (λ bs. meanings bs.items ≡ state.shut options.now (spot_meaning spot.entry)) }
+) -> Result<Blocks<'a>, Message>
+    ensures { IfOk result (λ bs. blocks_meaning bs ≡ state.shut options.now (spot_meaning spot.entry)) }
 {
     let Innermost { mut here, leaf } = spot;
     let block = match leaf {
@@ -60,14 +61,18 @@ pub fn shut<'a>(
     Ok(here)
 }
 
-fn container_block<'a>(container: Container<'a>, blocks: Vec<Block<'a>>) -> Block<'a>
-    ensures { meaning result ≡ state.container_block (container_meaning container.entry) (meanings blocks.entry.items) }
+/// The block that a container is with these blocks in it.
+pub fn container_block<'a>(container: Container<'a>, blocks: Blocks<'a>) -> Whole<'a>
+    ensures { meaning result.block ≡
+        state.container_block (container_meaning container.entry) (blocks_meaning blocks.entry) }
 {
-    match container {
-        Container::Quote(kind) => Block::Quote(kind, blocks),
-        Container::Item { digits, marker, .. } => Block::Item(marker, digits, blocks),
-        Container::Footnote(label) => Block::Footnote(label, blocks),
-    }
+    let list = blocks.into_list();
+    let block = match container {
+        Container::Quote(kind) => Block::Quote(kind, list),
+        Container::Item { digits, marker, .. } => Block::Item(marker, digits, list),
+        Container::Footnote(label) => Block::Footnote(label, list),
+    };
+    Whole { block }
 }
 
 /// Closes the leaf and all containers but so many of the outermost: the containers that are left, and the blocks of the
@@ -77,11 +82,11 @@ pub fn close_to<'a>(
     options: &ParseOptions,
     path: Path<'a>,
     count: usize,
-) -> Result<(Vec<Frame<'a>>, Vec<Block<'a>>), Message>
+) -> Result<(Vec<Frame<'a>>, Blocks<'a>), Message>
     ensures outer { IfOk result (λ r. r.0.items ≡ take count path.entry.frames.items) }
     ensures blocks { IfOk result
         (λ r.
-        meanings r.1.items ≡
+        blocks_meaning r.1 ≡
         state.closed options.now (within (drop count path.entry.frames.items) (state.At
         (spot_meaning path.entry.spot)))) }
 {
@@ -93,7 +98,7 @@ pub fn close_to<'a>(
         };
         let inner = here;
         here = before;
-        push_block(&mut here, container_block(container, inner))?;
+        push_whole(&mut here, container_block(container, inner))?;
     }
     Ok((frames, here))
 }
@@ -103,8 +108,8 @@ pub fn closed<'a>(
     alloc: Global,
     options: &ParseOptions,
     path: Path<'a>,
-) -> Result<Vec<Block<'a>>, Message>
-    ensures { IfOk result (λ bs. meanings bs.items ≡ state.closed options.now (path_meaning path.entry)) }
+) -> Result<Blocks<'a>, Message>
+    ensures { IfOk result (λ bs. blocks_meaning bs ≡ state.closed options.now (path_meaning path.entry)) }
 {
     let (_, here) = close_to(alloc, options, path, 0)?;
     Ok(here)

@@ -9,9 +9,10 @@ ghost use Rattle.md_meaning.specs.State as state;
 ghost use Rattle.md_meaning.specs.Step as definition;
 ghost use Rattle.md_meaning.specs.Tree.{End, More};
 ghost use Rattle.md_grammars.specs.Rests.{rest_meanings};
-ghost use Rattle.md_grammars.specs.Trees.{meaning, meanings};
-ghost use Rattle.md_grammars.specs.WholeTrees.{tree_meaning};
+ghost use Rattle.md_grammars.specs.Trees.{meaning};
+ghost use Rattle.reference_tree.specs.Held.{blocks_meaning};
 
+use crate::blocks::Blocks;
 use crate::close::closed;
 use crate::grouped::grouped;
 use crate::state::{Innermost, Leaf, Path};
@@ -21,7 +22,6 @@ use md_engine::message::Message;
 use md_grammars::lines::rests_of;
 use md_grammars::preamble::{Front, front_of, has_mark};
 use md_grammars::rest::Rest;
-use md_grammars::tree::{Block, Tree};
 use std::alloc::Global;
 
 /// The lines behind a byte order mark, whose bytes are columns of the first.
@@ -42,17 +42,17 @@ fn blocks_of<'a>(
     alloc: Global,
     options: &ParseOptions,
     rests: &[Rest<'a>],
-) -> Result<Vec<Block<'a>>, Message>
+) -> Result<Blocks<'a>, Message>
     ensures { IfOk result
         (λ bs.
-        meanings bs.items ≡
+        blocks_meaning bs ≡
         state.closed options.now
         (definition.steps options.now (state.At (definition.spot_of End)) (rest_meanings rests.now))) }
 {
     let mut path = Path {
         frames: Vec::new(alloc),
         spot: Innermost {
-            here: Vec::new(alloc),
+            here: Blocks::new(alloc),
             leaf: Leaf::None,
         },
     };
@@ -67,10 +67,10 @@ fn body<'a>(
     alloc: Global,
     options: &ParseOptions,
     rests: &[Rest<'a>],
-) -> Result<Vec<Block<'a>>, Message>
+) -> Result<Blocks<'a>, Message>
     ensures { IfOk result
         (λ bs.
-        meanings bs.items ≡
+        blocks_meaning bs ≡
         lists.grouped
         (state.closed options.now
         (definition.steps options.now (state.At (definition.spot_of End)) (rest_meanings rests.now)))) }
@@ -83,51 +83,31 @@ fn tree_behind<'a>(
     alloc: Global,
     options: &ParseOptions,
     front: Front<'a, '_>,
-) -> Result<Tree<'a>, Message>
+) -> Result<Blocks<'a>, Message>
     ensures { IfOk result
         (λ t.
-        tree_meaning t ≡
+        blocks_meaning t ≡
         More (meaning front.entry.block)
         (lists.grouped
         (state.closed options.now
         (definition.steps options.now (state.At (definition.spot_of End)) (rest_meanings front.entry.after.now))))) }
 {
     let Front { block, after } = front;
-    let blocks = body(alloc, options, after)?;
-    Ok(Tree {
-        frontmatter: Some(block),
-        blocks,
-    })
-}
-
-/// A tree without frontmatter.
-fn tree_without<'a>(
-    alloc: Global,
-    options: &ParseOptions,
-    rests: &[Rest<'a>],
-) -> Result<Tree<'a>, Message>
-    ensures { IfOk result
-        (λ t.
-        tree_meaning t ≡
-        lists.grouped
-        (state.closed options.now
-        (definition.steps options.now (state.At (definition.spot_of End)) (rest_meanings rests.now)))) }
-{
-    let blocks = body(alloc, options, rests)?;
-    Ok(Tree {
-        frontmatter: None,
-        blocks,
-    })
+    let mut blocks = body(alloc, options, after)?;
+    match blocks.list.insert(0, block) {
+        Ok(()) => Ok(blocks),
+        Err(_) => Err(Message),
+    }
 }
 
 /// The block tree of a text of fewer than 2^61 bytes.
-pub fn tree<'a>(alloc: Global, text: &'a str, options: &ParseOptions) -> Result<Tree<'a>, Message>
+pub fn tree<'a>(alloc: Global, text: &'a str, options: &ParseOptions) -> Result<Blocks<'a>, Message>
     requires { length text.now < 2 ^ 61 }
-    ensures { IfOk result (λ t. tree_meaning t ≡ spec.tree options.now text.now) }
+    ensures { IfOk result (λ t. blocks_meaning t ≡ spec.tree options.now text.now) }
 {
     let rests = rests_behind_mark(alloc, text.as_bytes())?;
     match front_of(alloc, options, &rests)? {
         Some(front) => tree_behind(alloc, options, front),
-        None => tree_without(alloc, options, &rests),
+        None => body(alloc, options, &rests),
     }
 }

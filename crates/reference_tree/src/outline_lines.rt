@@ -4,14 +4,17 @@ ghost use Rattle.std.specs.Prelude.{◌≡◌, ◌+◌, [], ◌∷◌, ◌++◌,
 ghost use Rattle.std.specs.Option.{option_copied, option_map};
 ghost use Rattle.md_meaning.specs.Outline as spec;
 ghost use Rattle.md_meaning.specs.declared.outline.Word.TheVariants as words;
-ghost use Rattle.md_grammars.specs.Trees.{meaning, meanings, line_meanings, slices};
-ghost use Rattle.md_grammars.specs.WholeTrees.{tree_meaning};
-ghost use Rattle.reference_tree.specs.Outlined.{entry_as};
+ghost use Rattle.md_grammars.specs.Trees.{meaning, line_meanings, slices};
+ghost use Rattle.reference_tree.specs.Held.{blocks_meaning};
+ghost use Rattle.reference_tree.specs.Outlined.{entry_as, own_entries, own_lines};
+ghost use Rattle.reference_tree.specs.Placed.{places};
 ghost use Rattle.md_meaning.specs.Outline.{entries_of};
 
+use crate::blocks::Blocks;
+use crate::order::{Place, deeper, in_order};
 use md_engine::message::Message;
 use md_grammars::memory;
-use md_grammars::tree::{Block, Line, Tree};
+use md_grammars::tree::{Block, Line};
 use md_meaning::alert::AlertKind;
 use md_meaning::outline::{OutlineLine, Word};
 use std::alloc::Global;
@@ -39,16 +42,6 @@ fn push_line<'a>(
             },
         ),
         Err(_) => Err(Message),
-    }
-}
-
-/// One deeper. A depth that is no `usize` is one that no memory holds.
-fn deeper(depth: usize) -> Result<usize, Message>
-    ensures { IfOk result (λ n. n ≡ depth + 1) }
-{
-    match depth.checked_add(1) {
-        Some(inner) => Ok(inner),
-        None => Err(Message),
     }
 }
 
@@ -278,24 +271,23 @@ fn quote_word(kind: Option<AlertKind>) -> Word
     }
 }
 
-/// Adds the lines of a block at this depth.
-#[cycle(outlining)]
+/// Adds the lines of a block at this depth, without those of the blocks in it.
 fn push_block<'a>(
     outline: &mut Vec<OutlineLine<'a>>,
     depth: usize,
     block: &Block<'a>,
 ) -> Result<(), Message>
     ensures { OnOk result
-        (entries_of outline.new.items ≡ entries_of outline.old.items ++ spec.block_entries depth (meaning block.now)) }
+        (entries_of outline.new.items ≡ entries_of outline.old.items ++ own_entries depth (meaning block.now)) }
 {
     match block {
         Block::Frontmatter(marker, lines) => {
             push_lined(outline, depth, Word::Frontmatter(*marker), lines)
         }
-        Block::Quote(kind, blocks) => push_holder(outline, depth, quote_word(*kind), blocks),
-        Block::ListOf(marker, items) => push_holder(outline, depth, Word::List(*marker), items),
-        Block::Item(_, _, blocks) => push_holder(outline, depth, Word::Item, blocks),
-        Block::Footnote(label, blocks) => push_footnote(outline, depth, label, blocks),
+        Block::Quote(kind, _) => push_word(outline, depth, quote_word(*kind)),
+        Block::ListOf(marker, _) => push_word(outline, depth, Word::List(*marker)),
+        Block::Item(_, _, _) => push_word(outline, depth, Word::Item),
+        Block::Footnote(label, _) => push_footnote(outline, depth, label),
         Block::Heading(level, lines) => push_lined(outline, depth, Word::Heading(*level), lines),
         Block::Break => push_word(outline, depth, Word::Break),
         Block::Code(lines) => push_spaced(outline, depth, Word::Code, lines),
@@ -319,66 +311,43 @@ fn push_block<'a>(
     }
 }
 
-/// Adds a footnote definition: its label, and its blocks.
-#[cycle(outlining)]
+/// Adds a footnote definition: its word and its label.
 fn push_footnote<'a>(
     outline: &mut Vec<OutlineLine<'a>>,
     depth: usize,
     label: &'a [u8],
-    blocks: &[Block<'a>],
 ) -> Result<(), Message>
     ensures { OnOk result
         (entries_of outline.new.items ≡
         entries_of outline.old.items ++ spec.entry depth words.Footnote
-        ∷ spec.entry_with (depth + 1) words.Label label.now ∷ spec.outline (depth + 1) (meanings blocks.now)) }
+        ∷ spec.entry_with (depth + 1) words.Label label.now ∷ []) }
 {
     let inner = deeper(depth)?;
     push_word(outline, depth, Word::Footnote)?;
-    push_line(outline, inner, Word::Label, 0, label)?;
-    push_blocks(outline, inner, blocks)
+    push_line(outline, inner, Word::Label, 0, label)
 }
 
-/// Adds a block that holds blocks.
-#[cycle(outlining)]
-fn push_holder<'a>(
+/// Adds the lines of these blocks, each at its depth.
+fn push_places<'a>(
     outline: &mut Vec<OutlineLine<'a>>,
-    depth: usize,
-    word: Word,
-    blocks: &[Block<'a>],
+    found: &[Place<'_, 'a>],
 ) -> Result<(), Message>
     ensures { OnOk result
-        (entries_of outline.new.items ≡
-        entries_of outline.old.items ++ spec.entry depth word ∷ spec.outline (depth + 1) (meanings blocks.now)) }
+        (entries_of outline.new.items ≡ entries_of outline.old.items ++ own_lines (places found.now)) }
 {
-    let inner = deeper(depth)?;
-    push_word(outline, depth, word)?;
-    push_blocks(outline, inner, blocks)
-}
-
-/// Adds the lines of blocks at this depth.
-#[cycle(outlining)]
-fn push_blocks<'a>(
-    outline: &mut Vec<OutlineLine<'a>>,
-    depth: usize,
-    blocks: &[Block<'a>],
-) -> Result<(), Message>
-    ensures { OnOk result
-        (entries_of outline.new.items ≡ entries_of outline.old.items ++ spec.outline depth (meanings blocks.now)) }
-{
-    for block in blocks {
-        push_block(outline, depth, block)?;
+    for place in found {
+        push_block(outline, place.depth, place.block)?;
     }
     Ok(())
 }
 
 /// The lines of the outline of a tree.
-pub fn outline<'a>(alloc: Global, tree: &Tree<'a>) -> Result<Vec<OutlineLine<'a>>, Message>
-    ensures { IfOk result (λ lines. entries_of lines.items ≡ spec.outline 0 (tree_meaning tree.now)) }
+#[tactic(auto, using(crate::proofs::PlacedLemmas::outline_placed))]
+pub fn outline<'a>(alloc: Global, tree: &Blocks<'a>) -> Result<Vec<OutlineLine<'a>>, Message>
+    ensures { IfOk result (λ lines. entries_of lines.items ≡ spec.outline 0 (blocks_meaning tree.now)) }
 {
+    let found = in_order(alloc, &tree.list)?;
     let mut outline = Vec::new(alloc);
-    if let Some(block) = &tree.frontmatter {
-        push_block(&mut outline, 0, block)?;
-    }
-    push_blocks(&mut outline, 0, &tree.blocks)?;
+    push_places(&mut outline, &found)?;
     Ok(outline)
 }

@@ -5,17 +5,18 @@ ghost use Rattle.md_meaning.specs.State as state;
 ghost use Rattle.md_meaning.specs.Leaves as leaves;
 ghost use Rattle.md_grammars.specs.Definitions.{cut_meaning, defined_meaning};
 ghost use Rattle.md_grammars.specs.Rests.{rest_meaning};
-ghost use Rattle.md_grammars.specs.Trees.{meaning, meanings, slices};
+ghost use Rattle.md_grammars.specs.Trees.{meaning, slices};
+ghost use Rattle.reference_tree.specs.Held.{blocks_meaning};
 ghost use Rattle.reference_tree.specs.States.{kept_meaning, kept_meanings, spot_meaning};
 ghost use Rattle.reference_tree.specs.Paragraphs.{block_of, definitions_of, head_of, table_spot};
 ghost use Rattle.md_meaning.specs.Table as table;
 ghost use Rattle.std.specs.List.{list_all};
 ghost use Rattle.std.specs.Option.{option_map};
 
+use crate::blocks::{Blocks, push_block, push_paragraph};
 use crate::state::{Innermost, Leaf, ParagraphLine};
 use md_engine::configuration::ParseOptions;
 use md_engine::message::Message;
-use md_grammars::blocks::{push_block, push_paragraph};
 use md_grammars::bytes::trim;
 use md_grammars::columns::is_small;
 use md_grammars::definition::{Cut, Defined, cut_definitions};
@@ -63,12 +64,12 @@ fn definition_block<'a>(defined: Defined<'a>) -> Block<'a>
 }
 
 fn push_definitions<'a>(
-    blocks: &mut Vec<Block<'a>>,
+    blocks: &mut Blocks<'a>,
     definitions: Vec<Defined<'a>>,
 ) -> Result<(), Message>
     ensures { OnOk result
-        (meanings blocks.new.items ≡
-        state.then_definitions (meanings blocks.old.items) (definitions_of definitions.entry.items)) }
+        (blocks_meaning blocks.new ≡
+        state.then_definitions (blocks_meaning blocks.old) (definitions_of definitions.entry.items)) }
 {
     for defined in definitions {
         push_block(blocks, definition_block(defined))?;
@@ -81,12 +82,12 @@ fn push_definitions<'a>(
 fn shut_paragraph<'a>(
     alloc: Global,
     options: &ParseOptions,
-    blocks: &mut Vec<Block<'a>>,
+    blocks: &mut Blocks<'a>,
     lines: &[ParagraphLine<'a>],
 ) -> Result<(), Message>
     ensures { OnOk result
-        (meanings blocks.new.items ≡
-        state.shut_paragraph options.now (meanings blocks.old.items) (state.texts (kept_meanings lines.now))) }
+        (blocks_meaning blocks.new ≡
+        state.shut_paragraph options.now (blocks_meaning blocks.old) (state.texts (kept_meanings lines.now))) }
 {
     let cut = cut(alloc, options, lines)?;
     push_definitions(blocks, cut.definitions)?;
@@ -97,13 +98,13 @@ fn shut_paragraph<'a>(
 pub fn with_paragraph<'a>(
     alloc: Global,
     options: &ParseOptions,
-    here: Vec<Block<'a>>,
+    here: Blocks<'a>,
     lines: Vec<ParagraphLine<'a>>,
-) -> Result<Vec<Block<'a>>, Message>
+) -> Result<Blocks<'a>, Message>
     ensures { IfOk result
         (λ bs.
-        meanings bs.items ≡
-        state.shut_paragraph options.now (meanings here.entry.items) (state.texts (kept_meanings lines.entry.items))) }
+        blocks_meaning bs ≡
+        state.shut_paragraph options.now (blocks_meaning here.entry) (state.texts (kept_meanings lines.entry.items))) }
 {
     let mut here = here;
     shut_paragraph(alloc, options, &mut here, &lines)?;
@@ -122,14 +123,14 @@ pub fn kept<'a>(rest: &Rest<'a>) -> ParagraphLine<'a>
 
 /// An open paragraph with one line more.
 pub fn with_line<'a>(
-    here: Vec<Block<'a>>,
+    here: Blocks<'a>,
     lines: Vec<ParagraphLine<'a>>,
     rest: &Rest<'a>,
 ) -> Result<Innermost<'a>, Message>
     ensures { IfOk result
         (λ s.
         spot_meaning s ≡
-        leaves.with_line (meanings here.entry.items) (kept_meanings lines.entry.items) (rest_meaning rest.now)) }
+        leaves.with_line (blocks_meaning here.entry) (kept_meanings lines.entry.items) (rest_meaning rest.now)) }
 {
     let mut lines = lines;
     memory::push(&mut lines, kept(rest))?;
@@ -176,7 +177,7 @@ pub fn underline_depth(options: &ParseOptions, rest: &Rest) -> Option<u8>
 /// A paragraph with an underline, and what its definitions leave of it: that becomes a heading; an underline with
 /// nothing to underline is an ordinary line.
 fn underlined_by<'a>(
-    here: Vec<Block<'a>>,
+    here: Blocks<'a>,
     lines: Vec<ParagraphLine<'a>>,
     rest: &Rest<'a>,
     depth: u8,
@@ -185,8 +186,8 @@ fn underlined_by<'a>(
     ensures { IfOk result
         (λ s.
         spot_meaning s ≡
-        leaves.underlined_by (meanings here.entry.items) (kept_meanings lines.entry.items) (rest_meaning rest.now) depth
-        (state.then_definitions (meanings here.entry.items) (definitions_of cut.entry.definitions.items))
+        leaves.underlined_by (blocks_meaning here.entry) (kept_meanings lines.entry.items) (rest_meaning rest.now) depth
+        (state.then_definitions (blocks_meaning here.entry) (definitions_of cut.entry.definitions.items))
         (slices cut.entry.remaining.items)) }
 {
     let Cut {
@@ -212,7 +213,7 @@ fn underlined_by<'a>(
 pub fn underlined<'a>(
     alloc: Global,
     options: &ParseOptions,
-    here: Vec<Block<'a>>,
+    here: Blocks<'a>,
     lines: Vec<ParagraphLine<'a>>,
     rest: &Rest<'a>,
     depth: u8,
@@ -220,7 +221,7 @@ pub fn underlined<'a>(
     ensures { IfOk result
         (λ s.
         spot_meaning s ≡
-        leaves.underlined options.now (meanings here.entry.items) (kept_meanings lines.entry.items)
+        leaves.underlined options.now (blocks_meaning here.entry) (kept_meanings lines.entry.items)
         (rest_meaning rest.now) depth) }
 {
     let cut = cut(alloc, options, &lines)?;
@@ -264,7 +265,7 @@ pub fn head_cells<'a>(
 pub fn with_table<'a>(
     alloc: Global,
     options: &ParseOptions,
-    here: Vec<Block<'a>>,
+    here: Blocks<'a>,
     earlier: &[ParagraphLine<'a>],
     cells: Vec<&'a [u8]>,
     rest: &Rest<'a>,
@@ -272,7 +273,7 @@ pub fn with_table<'a>(
     ensures { IfOk result
         (λ s.
         spot_meaning s ≡
-        table_spot options.now (meanings here.entry.items) (kept_meanings earlier.now) (slices cells.entry.items)
+        table_spot options.now (blocks_meaning here.entry) (kept_meanings earlier.now) (slices cells.entry.items)
         (rest_meaning rest.now)) }
 {
     let mut here = here;

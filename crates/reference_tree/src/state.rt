@@ -1,5 +1,6 @@
 // What is open between two lines: containers, and at most one leaf in the innermost (CommonMark, appendix).
 
+use crate::blocks::Blocks;
 use md_grammars::html::HtmlKind;
 use md_grammars::rest::Rest;
 use md_grammars::tree::{Block, Line};
@@ -58,14 +59,14 @@ pub enum Leaf<'a> {
 /// The finished blocks of a container, and the leaf behind them.
 #[derive(Drop)]
 pub struct Innermost<'a> {
-    pub here: Vec<Block<'a>>,
+    pub here: Blocks<'a>,
     pub leaf: Leaf<'a>,
 }
 
 /// An open container behind the finished blocks of its parent.
 #[derive(Drop)]
 pub struct Frame<'a> {
-    pub before: Vec<Block<'a>>,
+    pub before: Blocks<'a>,
     pub container: Container<'a>,
 }
 

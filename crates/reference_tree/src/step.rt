@@ -1,16 +1,17 @@
 // The step of one line: what is open after it (CommonMark, appendix).
 
-ghost use Rattle.std.specs.Prelude.{◌≡◌, ◌<◌, ◌++◌, ◌∷◌, [], length, take, drop, is_some, IfOk, OnOk};
+ghost use Rattle.std.specs.Prelude.{◌≡◌, ◌<◌, length, take, drop, is_some, IfOk};
 ghost use Rattle.md_meaning.specs.Tree.{End};
 ghost use Rattle.md_meaning.specs.State as state;
 ghost use Rattle.md_meaning.specs.Leaves.{Text, goes_on, starts, table_at};
 ghost use Rattle.md_meaning.specs.Step as definition;
 ghost use Rattle.md_grammars.specs.Rests.{rest_meaning};
-ghost use Rattle.md_grammars.specs.Trees.{meanings};
+ghost use Rattle.reference_tree.specs.Held.{blocks_meaning};
 ghost use Rattle.reference_tree.specs.States.{kept_meanings, leaf_meaning, spot_meaning, came_meaning, taken_meaning};
 ghost use Rattle.reference_tree.specs.States.{path_meaning, within};
 ghost use Rattle.reference_tree.specs.Stops.{more_text, spot_at, stopped_in};
 
+use crate::blocks::{Blocks, push_block};
 use crate::close::{close_to, shut};
 use crate::containers::{continues, opens};
 use crate::leaves::{Transition, goes_on, is_found, starts};
@@ -22,17 +23,15 @@ use crate::state::{
 };
 use md_engine::configuration::ParseOptions;
 use md_engine::message::Message;
-use md_grammars::blocks::push_block;
 use md_grammars::bytes::is_blank;
 use md_grammars::memory;
 use md_grammars::rest::Rest;
-use md_grammars::tree::Block;
 use std::alloc::Global;
 
 /// What a leaf came to, behind these blocks.
-fn came<'a>(here: Vec<Block<'a>>, came: LeafResult<'a>) -> Result<Innermost<'a>, Message>
+fn came<'a>(here: Blocks<'a>, came: LeafResult<'a>) -> Result<Innermost<'a>, Message>
     ensures { IfOk result (λ s. spot_meaning s ≡
-        definition.came (meanings here.entry.items) (came_meaning came.entry)) }
+        definition.came (blocks_meaning here.entry) (came_meaning came.entry)) }
 {
     match came {
         LeafResult::Opened(leaf) => Ok(Innermost { here, leaf }),
@@ -52,11 +51,11 @@ fn came<'a>(here: Vec<Block<'a>>, came: LeafResult<'a>) -> Result<Innermost<'a>,
 fn fresh_line<'a>(
     alloc: Global,
     options: &ParseOptions,
-    here: Vec<Block<'a>>,
+    here: Blocks<'a>,
     rest: &Rest<'a>,
 ) -> Result<Innermost<'a>, Message>
     ensures { IfOk result
-        (λ s. spot_meaning s ≡ definition.fresh_line options.now (meanings here.entry.items) (rest_meaning rest.now)) }
+        (λ s. spot_meaning s ≡ definition.fresh_line options.now (blocks_meaning here.entry) (rest_meaning rest.now)) }
 {
     if is_blank(rest.bytes) {
         return Ok(Innermost {
@@ -74,15 +73,15 @@ fn fresh_line<'a>(
 fn table_or_text<'a>(
     alloc: Global,
     options: &ParseOptions,
-    here: Vec<Block<'a>>,
+    here: Blocks<'a>,
     lines: Vec<ParagraphLine<'a>>,
     rest: &Rest<'a>,
 ) -> Result<Innermost<'a>, Message>
     ensures { IfOk result
         (λ s.
         spot_meaning s ≡
-        definition.row_or_text (meanings here.entry.items) (kept_meanings lines.entry.items) (rest_meaning rest.now)
-        (table_at options.now (meanings here.entry.items) (kept_meanings lines.entry.items) (rest_meaning rest.now))) }
+        definition.row_or_text (blocks_meaning here.entry) (kept_meanings lines.entry.items) (rest_meaning rest.now)
+        (table_at options.now (blocks_meaning here.entry) (kept_meanings lines.entry.items) (rest_meaning rest.now))) }
 {
     let Some((head, earlier)) = lines.split_last() else {
         return with_line(here, lines, rest);
@@ -97,14 +96,14 @@ fn table_or_text<'a>(
 fn text_or_leaf<'a>(
     alloc: Global,
     options: &ParseOptions,
-    here: Vec<Block<'a>>,
+    here: Blocks<'a>,
     lines: Vec<ParagraphLine<'a>>,
     rest: &Rest<'a>,
 ) -> Result<Innermost<'a>, Message>
     ensures { IfOk result
         (λ s.
         spot_meaning s ≡
-        definition.text_by options.now (meanings here.entry.items) (kept_meanings lines.entry.items)
+        definition.text_by options.now (blocks_meaning here.entry) (kept_meanings lines.entry.items)
         (rest_meaning rest.now) (starts options.now Text (rest_meaning rest.now))) }
 {
     match starts(alloc, options, ParagraphContext::Text, rest)? {
@@ -122,14 +121,14 @@ fn text_or_leaf<'a>(
 fn text_line<'a>(
     alloc: Global,
     options: &ParseOptions,
-    here: Vec<Block<'a>>,
+    here: Blocks<'a>,
     lines: Vec<ParagraphLine<'a>>,
     rest: &Rest<'a>,
 ) -> Result<Innermost<'a>, Message>
     ensures { IfOk result
         (λ s.
         spot_meaning s ≡
-        definition.text_line options.now (meanings here.entry.items) (kept_meanings lines.entry.items)
+        definition.text_line options.now (blocks_meaning here.entry) (kept_meanings lines.entry.items)
         (rest_meaning rest.now)) }
 {
     if is_blank(rest.bytes) {
@@ -149,7 +148,7 @@ fn text_line<'a>(
 fn held_line<'a>(
     alloc: Global,
     options: &ParseOptions,
-    here: Vec<Block<'a>>,
+    here: Blocks<'a>,
     leaf: Leaf<'a>,
     rest: &Rest<'a>,
 ) -> Result<Innermost<'a>, Message>
@@ -157,7 +156,7 @@ fn held_line<'a>(
         (λ s.
         spot_meaning s ≡
         definition.on_or_fresh options.now
-        (spot_at (meanings here.entry.items) (leaf_meaning leaf.entry))
+        (spot_at (blocks_meaning here.entry) (leaf_meaning leaf.entry))
         (rest_meaning rest.now) (goes_on options.now (leaf_meaning leaf.entry) (rest_meaning rest.now))) }
 {
     match goes_on(alloc, options, leaf, rest)? {
@@ -187,19 +186,6 @@ fn leaf_line<'a>(
     }
 }
 
-/// So many containers may be open at once: blocks in blocks are walked by recursion.
-pub const DEPTH: usize = 2000;
-
-/// Opens one more container. Beyond the depth that is walked, that is want of memory.
-fn push_frame<'a>(frames: &mut Vec<Frame<'a>>, frame: Frame<'a>) -> Result<(), Message>
-    ensures { OnOk result (frames.new.items ≡ frames.old.items ++ frame.entry ∷ []) }
-{
-    if frames.len() >= DEPTH {
-        return Err(Message);
-    }
-    memory::push(frames, frame)
-}
-
 /// Containers open as often as they do, each in the one before: all that are open then, and the rest in the innermost.
 fn open_all<'a>(
     alloc: Global,
@@ -219,10 +205,10 @@ fn open_all<'a>(
         let Some(next) = opens(options, false, &left) else {
             return Ok((frames, left));
         };
-        push_frame(
+        memory::push(
             &mut frames,
             Frame {
-                before: Vec::new(alloc),
+                before: Blocks::new(alloc),
                 container: next.container,
             },
         )?;
@@ -236,17 +222,17 @@ fn enter<'a>(
     alloc: Global,
     options: &ParseOptions,
     frames: Vec<Frame<'a>>,
-    here: Vec<Block<'a>>,
+    here: Blocks<'a>,
     taken: Taken<'a>,
 ) -> Result<Path<'a>, Message>
     ensures { IfOk result
         (λ p.
         path_meaning p ≡
         within frames.entry.items
-        (definition.entered options.now (meanings here.entry.items) (taken_meaning taken.entry))) }
+        (definition.entered options.now (blocks_meaning here.entry) (taken_meaning taken.entry))) }
 {
     let mut frames = frames;
-    push_frame(
+    memory::push(
         &mut frames,
         Frame {
             before: here,
@@ -254,7 +240,7 @@ fn enter<'a>(
         },
     )?;
     let (frames, rest) = open_all(alloc, options, frames, taken.rest)?;
-    let spot = fresh_line(alloc, options, Vec::new(alloc), &rest)?;
+    let spot = fresh_line(alloc, options, Blocks::new(alloc), &rest)?;
     Ok(Path { frames, spot })
 }
 

@@ -15,12 +15,12 @@ returns-in_default c =
 
 pub loop-count-preserved : goal.loop-count-preserved
 loop-count-preserved c =
-    opened-next c.args.options.now c.loop-count.frames.items c.push_frame.new.frames.items
+    opened-next c.args.options.now c.loop-count.frames.items c.push.new.items.items
     (record { before = c.new.result; container = c.in-Some.next.container })
     (length c.args.rest.bytes.now) c.loop-count.count
     (rest_meaning c.loop-count.left) (rest_meaning c.in-Some.next.rest) c.loop-count-test.true
-    c.in_ok-push_frame.ensures
-    (ap (λ xs. meanings xs) c.new.ensures.items) (sym c.opens.ensures ∙ ap taken_option c.in-Some.is)
+    c.in_ok-push.ensures
+    (ap (λ xs. meanings xs) c.new.ensures) (sym c.opens.ensures ∙ ap taken_option c.in-Some.is)
     ∙ c.loop-count.invariant
 
 pub returns : goal.returns
