@@ -1,9 +1,9 @@
 // The bench. The first argument says what is tried: `blocks` the parser, `references` its rows of events with that
-// layer, `plain` the plain program, `levels` the parser on deep nesting, `agree` both against each other on short
-// texts, `nasty` the same where constructs meet; without one it is all of these but `agree`, which is the program
-// `bench_agree`. After `blocks` and `plain` is a task of `test_runner::task`, after `levels` how many containers are
-// in one another, after `agree` the most letters of a text, after `nasty` a task of `test_runner::nasty`. It prints
-// what disagreed, and then how much was tried.
+// layer, `plain` the plain program, `levels` both on deep nesting, `agree` both against each other on short texts,
+// `nasty` the same where constructs meet; without one it is all of these but `agree`, which is the program
+// `bench_agree`. After `blocks` and `plain` is a task of `test_runner::task`, after `levels` how many containers are in
+// one another, after `agree` the most letters of a text, after `nasty` a task of `test_runner::nasty`. It prints what
+// disagreed, and then how much was tried.
 #![tactic(auto)]
 
 mod referenced;
@@ -72,7 +72,10 @@ impl Bench {
                 try_event_rows::<Referenced>(alloc, test_rows::events::rows(), true, report)
             }
             Bench::Plain(task) => task.perform::<Plain>(alloc, report),
-            Bench::Levels(levels) => try_levels::<Blocks>(alloc, levels, report),
+            Bench::Levels(levels) => {
+                try_levels::<Blocks>(alloc, levels, report)?;
+                try_levels::<Plain>(alloc, levels, report)
+            }
             Bench::Agree(most) => try_agree::<Blocks, Plain>(alloc, most, report),
             Bench::Nasty(nasty) => nasty.perform::<Blocks, Plain>(alloc, report),
         }
