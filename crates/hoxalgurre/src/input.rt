@@ -1,6 +1,7 @@
 // The text of a file or of the standard input.
 
 use crate::trouble::Trouble;
+use hoxalgurre_body::position::Place;
 use std::fs;
 use std::io::{self, Read};
 
@@ -25,19 +26,22 @@ fn read_stdin(rt: &HostRuntime) -> io::Result<Vec<u8>> {
 
 /// The line and the column of a byte, both from 1: a line ends with a line feed, a carriage return, or both.
 pub(crate) fn place_of(bytes: &[u8], at: usize) -> (usize, usize) {
-    let mut line: usize = 1;
-    let mut column: usize = 1;
+    let mut place = Place {
+        line: 1,
+        column: 1,
+        offset: 0,
+    };
     let mut is_return = false;
     for byte in bytes.iter().take(at) {
         if *byte == b'\n' || *byte == b'\r' {
             if !(is_return && *byte == b'\n') {
-                line = line.saturating_add(1);
+                place.line = place.line.saturating_add(1);
             }
-            column = 1;
+            place.column = 1;
         } else {
-            column = column.saturating_add(1);
+            place = place.past(*byte);
         }
         is_return = *byte == b'\r';
     }
-    (line, column)
+    (place.line, place.column)
 }
