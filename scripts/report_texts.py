@@ -1,0 +1,138 @@
+"""The texts that `hoxalgurre` is tried on: those of the rows of crates/test_rows, of examples/texts, of the cases of
+examples/cases, and some that are made here. Also what `blocks` and `events` print of them."""
+import glob
+import os
+import re
+import subprocess
+from collections import namedtuple
+from concurrent.futures import ThreadPoolExecutor
+
+from report_model import Model
+
+SETS = ("commonmark", "gfm", "all", "alerts")
+NAMED = {"n": "\n", "r": "\r", "t": "\t", "0": "\0"}
+ESCAPE = re.compile(r"\\(?:u\{([0-9a-f]+)\}|(.))", re.S)
+# How many rows and cases there are at least.
+LEAST_ROWS, LEAST_PAGES, LEAST_LABELS = 958, 175, 112
+
+Row = namedtuple("Row", "constructs text output")
+Sample = namedtuple("Sample", "line constructs text wanted")
+
+# Control characters, quotes, backslashes, characters of one to four bytes, endings, tabs, marks, and deep nesting.
+MADE = [
+    "", "\n", "\r", "\r\n", " ", "\t", "a", "a\n", "a\r\nb\r\nc", "a\rb\rc\n\rd\r\r\n", "\ufeff", "\ufeffa", "\ufeff# a\n",
+    "\ufeff\n---\n", "a\0b\n\0\n# \0\n```\0 \0\n\0\n```\n|\0|\n|-|\n|\0|\n", "# a\x01\x02\x03\x07\x08\x0b\x0c\x0e\x1f\x7f\n",
+    "".join(chr(code) for code in range(1, 32)), '# "a" \\ \\" / \' <b> & &amp; `c`\n', "> \"\\\n```\"\\ \"\n\\\"\n",
+    "# \u2028\u2029\x85\xa0\u3000\n\n\u3000a\u3000\n=\n\n\xa0b\n-\n", "# \xe9 \u20ac \U0001f600 \U0010ffff\n",
+    "\U0001f600\n\n[\U0001f600]: \U0001f600 '\U0001f600'\n[^\u1e9e]: \xdf\n", "|\u20ac|\U0001f600|\n|-|:-:|\n|\xe9|\n",
+    "> " * 100 + "a\n", "- " * 100 + "a\n", "".join(" " * at + "- a\n" for at in range(0, 60, 2)), "# a\n" * 200,
+    "".join("#" * depth + f" {depth}\n" for depth in (3, 1, 2, 6, 5, 4, 6, 1, 1, 2, 3, 2, 6, 6, 1)), "a\n" * 300 + "=\n",
+    ">\t\ta\n>\n>\t b\n", "-\t\ta\n\n\t\tb\n", "> ```\n>\ta\n>\t\tb\n", "[a]: b\n[A]: c\n[ a ]: d\n[^a]: b\n[^A]: c\n[^a]: d\n",
+    "1234567890. a\n\n123456789. b\n", "0. a\n", "007) a\n", "1. a\n1) b\n- c\n+ d\n* e\n", "a\n===\nb\n---\n    c\n  d\n-\n",
+    "|a|b|\n|-|-|\n" * 3, "a|b\n:-|-:\n1\n1|2|3\n\\||`|`\n", "# a #\n## b ## \n### c \\#\n#\n## ##\n", "$$a\nb\n$$\n$$\n\nc",
+    "+++\na = 1\n+++\nb\n", "---\na\n\n---\n# b\n", "---\na\n", "~~~a b c\nd\n~~~\n~~~\n\n", "```\n```\n```\n\n\n", "<!-- a\n\n",
+    "<div>\n<b>\"&\n\n  <?a\nb?>\nc\n", "> [!NOTE]\n> a\n\n> [!tip]\n\n> [!Important]\n>\n> b\n> - [!warning]\n",
+    "> [!CAUTION]\nb\n\n> > [!warning]\n> > a\n", "- [ ] a\n- [x] b\n", "x" * 5000 + "\n",
+]
+
+
+def literal(written):
+    """The text that is written with the escapes of Rust's strings."""
+    return ESCAPE.sub(lambda found: chr(int(found[1], 16)) if found[1] else NAMED.get(found[2], found[2]), written)
+
+
+def rows():
+    """The rows of crates/test_rows: the comment of its lib.rt says how one is written."""
+    found = []
+    for path in sorted(glob.glob("crates/test_rows/src/*.rt")):
+        for part in re.findall(r'r(#+)"(.*?)"\1', open(path, encoding="utf-8", newline="").read(), re.S):
+            for written in part[1].strip("\n").split("\n\n"):
+                head, _, rest = written.partition("\n")
+                if " | " in head:
+                    text, _, outline = rest.partition("\n")
+                    found.append(Row(head.split(" | ")[1], literal(text[1:-1]), output(outline)))
+    if len(found) < LEAST_ROWS:
+        raise SystemExit(f"reports: {len(found)} rows, and not {LEAST_ROWS} at least")
+    return found
+
+
+def output(outline):
+    """The output that the outline of a row stands for."""
+    lines, _, labels = (literal(outline) + "\n").lstrip("\n").partition("definitions ")
+    return lines + "\ndefinitions " + (labels or "0\nfootnotes 0\n")
+
+
+def samples(path, least):
+    """The cases of a file: the text of each, and what it has to give. A `→` is a tab."""
+    found, part = [], None
+    for number, line in enumerate(open(path, encoding="utf-8"), 1):
+        head = re.fullmatch(r"%%%% (commonmark|gfm|all|alerts)\n", line)
+        if head:
+            part = []
+            found.append((number, head[1], part, []))
+        elif line == "%%%%\n":
+            part = found[-1][3]
+        elif part is not None and not line.startswith("%%%% #"):
+            part.append(line.replace("→", "\t"))
+    if len(found) < least:
+        raise SystemExit(f"reports: {len(found)} cases in {path}, and not {least} at least")
+    return [Sample(number, constructs, "".join(text), "".join(wanted[:-1] if wanted[-1:] == ["\n"] else wanted))
+            for number, constructs, text, wanted in found]
+
+
+def pages():
+    """Texts with the page that each has to give."""
+    return samples("examples/cases/html.txt", LEAST_PAGES)
+
+
+def label_cases():
+    """Texts with what `labels` has to find."""
+    return [case._replace(wanted=case.wanted.split("\n")[:-1]) for case in samples("examples/cases/labels.txt", LEAST_LABELS)]
+
+
+def texts():
+    """All texts, as bytes, in groups without repeats: first the short ones, then rows, then files."""
+    files = [open(path, "rb").read() for path in sorted(glob.glob("examples/texts/*.md"))]
+    short = [text.encode() for text in MADE + [sample.text for sample in pages() + label_cases()]]
+    groups, seen = [], set()
+    for group in (short, [row.text.encode() for row in rows()], files):
+        groups.append([text for text in dict.fromkeys(group) if text not in seen])
+        seen.update(group)
+    return groups
+
+
+def least_set(text, constructs):
+    """A set with the same constructs as far as the text can have them, so that fewer runs are needed."""
+    if constructs == "alerts" and b"[!" not in text:
+        constructs = "all"
+    if constructs == "all" and not re.match(rb"(\xef\xbb\xbf)?(---|\+\+\+)", text) and b"$$" not in text:
+        constructs = "gfm"
+    if constructs == "gfm" and not re.search(rb"[|:]|\[\^", text):
+        constructs = "commonmark"
+    return constructs
+
+
+def printed(name, constructs, text):
+    ran = subprocess.run([program(name), constructs], input=text, capture_output=True, timeout=60)
+    if ran.returncode:
+        raise SystemExit(f"reports: {name} {constructs} ends with status {ran.returncode} on {text[:80]!r}")
+    return ran.stdout
+
+
+def program(name):
+    """Where a program is: in the folder PROGRAMS, or where `rt ci` has built it."""
+    return os.path.abspath(os.path.join(os.environ.get("PROGRAMS", f"crates/{name}/out"), name))
+
+
+def models(wanted):
+    """The models of texts under sets, by both."""
+    needed = sorted({(text, least_set(text, constructs)) for text, constructs in wanted})
+    made = {}
+
+    def make(pair):
+        text, constructs = pair
+        made[pair] = Model(text, printed("blocks", constructs, text), printed("events", constructs, text))
+
+    with ThreadPoolExecutor(4) as pool:
+        list(pool.map(make, needed))
+    return {(text, constructs): made[text, least_set(text, constructs)] for text, constructs in wanted}
