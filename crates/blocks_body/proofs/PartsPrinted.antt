@@ -22,7 +22,7 @@ unfolding spelled
 all-printed text whole bytes [] left is = sym (append-nil text) ∙ is
 all-printed text whole bytes (e ∷ rest) left is = absurd (grind (arith, left))
 
--- the labels of the text were printed behind its lines
+-- the labels of the text were printed after its lines
 pub outline-printed : (text : List ℕ) (asked options : ParseOptions) (events given : List Event) (state : ParseState)
     (front lines all : List ℕ) (definitions footnotes : List (String Global)) →
     options ≡ built_from asked → IsParsed text options events state → given ≡ events →

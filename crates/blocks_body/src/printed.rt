@@ -38,7 +38,7 @@ impl Printing for PartByPart {
     }
 }
 
-// Puts the outline of the events behind the output.
+// Puts the outline of the events after the output.
 fn push_outline(
     alloc: Global,
     events: &[Event],

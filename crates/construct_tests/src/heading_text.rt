@@ -47,7 +47,7 @@ fn read(letter: u8, index: usize) -> Event {
     }
 }
 
-// The events of a list, as a letter and the byte it stands at, which is a digit.
+// The events of a list, as a letter and the byte it is at, which is a digit.
 fn all(alloc: Global, list: &str) -> Result<Vec<Event>, AllocError> {
     let mut events = Vec::new(alloc);
     let mut letter = None;

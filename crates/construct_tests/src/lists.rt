@@ -48,7 +48,7 @@ fn event(letter: u8, index: usize) -> Event {
     }
 }
 
-// The events of a list, as a letter and the byte it stands at, which is a digit.
+// The events of a list, as a letter and the byte it is at, which is a digit.
 fn all(alloc: Global, list: &str) -> Result<Vec<Event>, AllocError> {
     let mut events = Vec::new(alloc);
     let mut letter = None;
@@ -97,7 +97,7 @@ fn puts_lists(rt: HostRuntime) {
         ("", "", ""),
         // One item
         ("-", "I0M0m1i1", "U0I0M0m1i1u1"),
-        // Two of one list, and the ending behind them (CommonMark 5.3)
+        // Two of one list, and the ending after them (CommonMark 5.3)
         (
             "-\n-\n",
             "I0M0m1i1L1l2I2M2m3i3L3l4",
@@ -181,7 +181,7 @@ fn shows_lists(rt: HostRuntime) {
         ("-a\n+b", "I0M0m1P1p2i2L2l3I3M3m4P4p5i5", "-ip|a|+ip|b|"),
         // Digits and `)`
         ("1)a", "I0M1m2P2p3i3", ")ip|a|"),
-        // An item in an item, and one behind it
+        // An item in an item, and one after it
         (
             "*-a\n*b",
             "I0M0m1I1M1m2P2p3i3i3L3l4I4M4m5P5p6i6",

@@ -1,4 +1,4 @@
--- The printed form of events: a line for each, behind two spaces for each part that is open around it.
+-- The printed form of events: a line for each, after two spaces for each part that is open around it.
 use Rattle.std.specs.Prelude.{ℕ, ◌+◌, ◌-◌, List, [], ◌∷◌, ◌++◌, codes}
 use Rattle.std.specs.List.{repeat}
 use Rattle.std.specs.Fmt.{decimal}
@@ -95,7 +95,7 @@ abbrev pub sign : Kind → List ℕ
 sign Enter = codes "+ "
 sign Exit = codes "- "
 
--- line, column, byte, and the columns of a tab, each behind a space
+-- line, column, byte, and the columns of a tab, each after a space
 unfoldable pub printed_point : Point → List ℕ
 printed_point p =
     (codes " " ++ decimal p.line) ++ (codes " " ++ decimal p.column) ++ (codes " " ++ decimal p.index) ++ codes " "
@@ -106,17 +106,17 @@ unfoldable pub printed_event : ℕ → Event → List ℕ
 printed_event depth event =
     repeat depth (codes "  ") ++ sign event.kind ++ name_text event.name ++ printed_point event.point ++ line_end
 
--- how many parts stand around an event, where so many are open in front of it: an exit stands as deep as its enter
+-- how many parts are around an event, where so many are open before it: an exit is as deep as its enter
 abbrev pub depth_at : ℕ → Kind → ℕ
 depth_at around Enter = around
 depth_at around Exit = around - 1
 
--- how many parts are open behind an event
+-- how many parts are open after an event
 abbrev pub open_behind : ℕ → Kind → ℕ
 open_behind around Enter = around + 1
 open_behind around Exit = around - 1
 
--- the lines of events, where so many parts are open in front of the first
+-- the lines of events, where so many parts are open before the first
 abbrev pub printed_within : ℕ → List Event → List ℕ
 printed_within around [] = []
 printed_within around (e ∷ es) =

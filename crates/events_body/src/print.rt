@@ -9,7 +9,7 @@ use md_program::print::{push_counted, push_repeated};
 use std::alloc::{AllocError, Global};
 
 /// A line for each event: two spaces for each part that is open around it, `+` for an enter or `-` for an exit, its
-/// name, and its point as line, column, byte and columns of a cut tab. An exit stands as deep as its enter.
+/// name, and its point as line, column, byte and columns of a cut tab. An exit is as deep as its enter.
 ///
 /// It refuses only for want of memory.
 pub fn print(alloc: Global, events: &[Event]) -> Result<String, Message>

@@ -27,11 +27,11 @@ const MOST_TITLE: usize = 1999;
 #[derive(Clone, Copy)]
 struct Opener {
     at: usize,
-    /// Whether brackets have been closed behind it: then it begins no label.
+    /// Whether brackets have been closed after it: then it begins no label.
     has_inner: bool,
 }
 
-/// What is known of the text part behind some of its bytes.
+/// What is known of the text part after some of its bytes.
 #[derive(Drop)]
 struct Scan<'a> {
     text: &'a [u8],
@@ -126,7 +126,7 @@ impl<'a> Scan<'a> {
         Ok(())
     }
 
-    /// The byte behind the code span that begins here, or behind the backticks where none does (CommonMark 6.1).
+    /// The byte after the code span that begins here, or after the backticks where none does (CommonMark 6.1).
     fn code_end(&self, at: usize) -> usize {
         let len = rest(self.text, at)
             .iter()
@@ -180,7 +180,7 @@ impl<'a> Scan<'a> {
     }
 }
 
-/// The byte behind the first run of this many backticks, or the end.
+/// The byte after the first run of this many backticks, or the end.
 fn run_end(text: &[u8], len: usize) -> usize {
     let mut run: usize = 0;
     for (at, byte) in text.iter().enumerate() {
@@ -195,7 +195,7 @@ fn run_end(text: &[u8], len: usize) -> usize {
     text.len()
 }
 
-/// The byte behind the tag or autolink that begins here, or behind its `<` where none does (CommonMark 6.5, 6.6).
+/// The byte after the tag or autolink that begins here, or after its `<` where none does (CommonMark 6.5, 6.6).
 fn tag_end(text: &[u8], at: usize) -> usize {
     let behind = at.saturating_add(1);
     let inside = rest(text, behind);

@@ -27,7 +27,7 @@ pub(crate) struct Block<'a> {
 pub(crate) struct Text<'a> {
     /// What it is: `line`, or the word before its `|`, as `info`.
     kind: String,
-    /// The columns of a cut tab in front of it.
+    /// The columns of a cut tab before it.
     virtual_spaces: usize,
     text: &'a str,
 }

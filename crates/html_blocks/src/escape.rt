@@ -19,7 +19,7 @@ pub(crate) fn push_escaped(html: &mut String, bytes: &[u8]) -> Result<(), AllocE
     Ok(())
 }
 
-/// The text without the spaces and tabs in front of it.
+/// The text without the spaces and tabs before it.
 pub(crate) fn without_indent(bytes: &[u8]) -> &[u8] {
     let indent = bytes
         .iter()

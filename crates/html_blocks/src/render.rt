@@ -246,13 +246,13 @@ impl<'a> Page<'a> {
         Slice::from_position(self.bytes, Position { start, end })
     }
 
-    /// Writes a line of a text. What a container has left of a tab in front of it is indent too.
+    /// Writes a line of a text. What a container has left of a tab before it is indent too.
     fn push_text(&mut self, end: Point) -> Result<(), AllocError> {
         let piece = self.piece(end);
         push_escaped(&mut self.html, without_indent(piece.bytes))
     }
 
-    /// Writes a line of code, math or HTML. What a container has left of a tab in front of it are spaces.
+    /// Writes a line of code, math or HTML. What a container has left of a tab before it are spaces.
     fn push_line(&mut self, end: Point) -> Result<(), AllocError> {
         let piece = self.piece(end);
         for _ in 0..piece.before {

@@ -26,10 +26,10 @@ fn letter(name: Name) -> u8 {
     }
 }
 
-// Where an event stands in a short text: a letter for each byte.
+// Where an event is in a short text: a letter for each byte.
 const PLACES: &[u8] = b"abcdefghijklmnopqrstuvwxyz";
 
-// An event, with a digit behind it where a tab is cut: so many of its columns were taken.
+// An event, with a digit after it where a tab is cut: so many of its columns were taken.
 fn add_event(all: &mut String, event: &Event) -> Result<(), AllocError> {
     let name = letter(event.name);
     all.push(char::from(match event.kind {
@@ -123,9 +123,9 @@ fn reads_alerts(rt: HostRuntime) {
             "Qa Oa Ka kb Wb wc Kc ki oi Ui uj Oj Kj kk Wk wl ol Pl Al am pm qm",
             "tipp|a|",
         ),
-        // Whitespace behind the marker belongs to the prefix
+        // Whitespace after the marker belongs to the prefix
         (">[!note] \t", "Qa Oa Ka kb Kb ki Wi wk ok qk", "note"),
-        // And so does what is in front: an indent, and what the column behind `>` left of a tab
+        // And so does what is in front: an indent, and what the column after `>` left of a tab
         (
             " >  [!TIP]\n",
             "Qa Wa wb Ob Kb kc Wc wd Wd we Ke kk ok qk Uk ul",
@@ -138,7 +138,7 @@ fn reads_alerts(rt: HostRuntime) {
             "Qa Oa Ka kb ob Qb Ob Kb kc Kc ki oi qi qi",
             "qtip",
         ),
-        // Text behind the marker, and a further line
+        // Text after the marker, and a further line
         (
             "> [!TIP] a",
             "Qa Oa Ka kb Wb wc oc Pc Ac ak pk qk",

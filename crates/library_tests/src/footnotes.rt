@@ -41,10 +41,10 @@ fn are_listed(alloc: Global, text: &str, is_on: bool, forms: &[&str]) -> Result<
 #[test]
 fn footnote_labels_in_source_order(rt: HostRuntime) -> Result<(), Fail> {
     let alloc = rt.alloc();
-    // In normal form, repeats kept, behind a definition
+    // In normal form, repeats kept, after a definition
     let text = "[^A]: x\n[^\u{df}]:\n\n[b]: c\n\n> - [^a]: z";
     assert!(rt; are_listed(alloc, text, true, &["a", "ss", "a"])?);
-    // The label of the outer one stands in front, behind what is in front of it
+    // The label of the outer one is in front, after what is before it
     assert!(rt;
         are_listed(
             alloc,

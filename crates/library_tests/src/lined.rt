@@ -41,7 +41,7 @@ fn name(letter: u8) -> Name {
     }
 }
 
-// What a letter behind a comma begins or ends: frontmatter, lists and footnote definitions.
+// What a letter after a comma begins or ends: frontmatter, lists and footnote definitions.
 fn other_name(letter: u8) -> Name {
     match letter.to_ascii_uppercase() {
         b'T' => Name::Frontmatter,
@@ -60,7 +60,7 @@ fn other_name(letter: u8) -> Name {
     }
 }
 
-// What a letter behind a dot begins or ends, in a table.
+// What a letter after a dot begins or ends, in a table.
 fn table_name(letter: u8) -> Name {
     match letter.to_ascii_uppercase() {
         b'T' => Name::GfmTable,
@@ -79,7 +79,7 @@ fn table_name(letter: u8) -> Name {
     }
 }
 
-// The point in front of a byte, of which a tab was cut at `vs` columns.
+// The point before a byte, of which a tab was cut at `vs` columns.
 fn point(text: &[u8], index: usize, vs: usize) -> Point {
     let mut point = Point {
         line: 1,
@@ -105,8 +105,8 @@ fn point(text: &[u8], index: usize, vs: usize) -> Point {
     point
 }
 
-// The events of a list: each a letter and the byte it stands at, as a letter from `a` on. A digit behind that says how
-// many columns of a tab there were taken. A letter with a dot in front is one of a table, and with a comma one of
+// The events of a list: each a letter and the byte it is at, as a letter from `a` on. A digit after that says how many
+// columns of a tab there were taken. A letter with a dot in front is one of a table, and with a comma one of
 // frontmatter, a list or a footnote definition.
 fn all(alloc: Global, text: &[u8], list: &str) -> Result<Vec<Event>, AllocError> {
     let mut events = Vec::new(alloc);
@@ -136,9 +136,9 @@ fn all(alloc: Global, text: &[u8], list: &str) -> Result<Vec<Event>, AllocError>
     Ok(events)
 }
 
-// The outline of such events: a leaf block as a word, a table with a plus for each column, what a fence says behind `i`
-// and `m`, the parts of a definition or the label of a footnote definition behind `l`, `u` and `t`, the cells of a row
-// behind `c`, a delimiter row behind `-`, and each line of text between bars, behind a dot for each virtual space.
+// The outline of such events: a leaf block as a word, a table with a plus for each column, what a fence says after `i`
+// and `m`, the parts of a definition or the label of a footnote definition after `l`, `u` and `t`, the cells of a row
+// after `c`, a delimiter row after `-`, and each line of text between bars, after a dot for each virtual space.
 fn shown(alloc: Global, text: &str, list: &str) -> Result<String, Message> {
     let Ok(events) = all(alloc, text.as_bytes(), list) else {
         return Err(Message);
@@ -227,19 +227,19 @@ fn check(rt: &impl Abort, alloc: Global, text: &str, list: &str, want: &str) {
 fn shows_setext_headings(rt: HostRuntime) {
     for (text, list, want) in [
         ("a\n=", "Ua Ta tb Lb lc Vc vd ud", "h1|a|"),
-        // Several lines, and what stands behind it
+        // Several lines, and what follows it
         (
             "a\n  b\n---\nc",
             "Ua Ta Lb lc tf Lf lg Vg vj uj Lj lk Pk pl",
             "h2|a||b|p|c|",
         ),
-        // The prefixes of a quote between its lines, and in front of its underline
+        // The prefixes of a quote between its lines, and before its underline
         (
             "> a\n> b\n> =",
             "Qa Oa oc Uc Tc Ld le Oe og th Lh li Oi ok Vk vl ul ql",
             "qh1|a||b|",
         ),
-        // Of two quotes: prefixes behind one another
+        // Of two quotes: prefixes after one another
         (
             ">>a\n>>b\n>>-",
             "Qa Oa ob Qb Ob oc Uc Tc Ld le Oe of Of og th Lh li Oi oj Oj ok Vk vl ul ql ql",
@@ -266,7 +266,7 @@ fn shows_definitions(rt: HostRuntime) {
         ),
         // An empty destination, and an empty title
         ("[a]: <> ''", "Da Ab ac Ni nk dk", "dl|a|u||t||"),
-        // Several lines: the first as it stands
+        // Several lines: the first as it is
         ("[ a\n b]: c", "Da Ab Ld le ag Ej ek dk", "dl| a|l|b|u|c|"),
         (
             "[a\n  b]:\nc\n'd\n e\n'",
@@ -420,13 +420,13 @@ fn shows_frontmatter(rt: HostRuntime) {
             ",Ta ,Ga ,Sa ,sd ,gd Ld le ,Ge ,Se ,sh ,gh ,th",
             "front-",
         ),
-        // Spaces behind its fences, a line, and empty ones
+        // Spaces after its fences, a line, and empty ones
         (
             "+++ \na: b\n\n\n+++\t\nc",
             ",Ta ,Ga ,Sa ,sd Wd we ,ge Le lf ,Xf ,xj Lj lk Lk ll Ll lm ,Gm ,Sm ,sp Wp wq ,gq ,tq Lq lr Pr ps",
             "front+|a: b|||||p|c|",
         ),
-        // Its lines are shown as they stand
+        // Its lines are shown as they are
         (
             "---\n\ta \n---",
             ",Ta ,Ga ,Sa ,sd ,gd Ld le ,Xe ,xh Lh li ,Gi ,Si ,sl ,gl ,tl",

@@ -83,7 +83,7 @@ fn is_read(alloc: Global, text: &str, want: &str) -> Result<bool, Message> {
 fn references_are_marked(rt: HostRuntime) -> Result<(), Fail> {
     let alloc = rt.alloc();
     let rows = [
-        // A definition may come later, and stand in a container
+        // A definition may come later, and be in a container
         ("[a]\n\n[a]: /b", "{[<a>]};"),
         (
             "x [a] y [b]\n\n> [b]: /c\n\n[a]: /d",
@@ -109,7 +109,7 @@ fn references_are_marked(rt: HostRuntime) -> Result<(), Fail> {
         ("\\\\[a]\n\n[a]: /c", "\\\\{[<a>]};"),
         ("[a\\]\n\n[a]: /c", "[a\\];"),
         ("[a\\\\]\n\n[a\\\\]: /c", "{[<a\\\\>]};"),
-        // A bracket inside ends the look for a label in front of it
+        // A bracket inside ends the look for a label before it
         ("[[a]]\n\n[a]: /c", "[{[<a>]}];"),
         ("[a [a]\n\n[a]: /c", "[a {[<a>]};"),
         // Headings and cells

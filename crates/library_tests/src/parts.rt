@@ -1,4 +1,4 @@
-// Outlines by parts: the lines of the parts of a text, one part behind the other, are those of its outline.
+// Outlines by parts: the lines of the parts of a text, one part after the other, are those of its outline.
 ghost use Rattle.markdown_blocks.specs.Parsed.{IsSmall};
 
 use markdown_blocks::configuration::ParseOptions;
@@ -54,7 +54,7 @@ fn check(rt: &impl Abort, alloc: Global, text: &str, want: &[usize]) {
     );
 }
 
-// So many times the same text, behind another.
+// So many times the same text, after another.
 fn repeated(alloc: Global, first: &str, part: &str, count: usize) -> Result<String, Message> {
     let mut all = String::from_str(alloc, first)?;
     for _ in 0..count {

@@ -36,7 +36,7 @@ fn letter(name: Name) -> u8 {
     }
 }
 
-// Where an event stands in a short text: a letter for each byte.
+// Where an event is in a short text: a letter for each byte.
 const PLACES: &[u8] = b"abcdefghijklmnopqrstuvwxyz";
 
 fn add_event(all: &mut String, event: &Event) -> Result<(), AllocError> {
@@ -49,7 +49,7 @@ fn add_event(all: &mut String, event: &Event) -> Result<(), AllocError> {
     all.push(' ')
 }
 
-// A table has a plus for each column, and cells and delimiter rows stand between bars.
+// A table has a plus for each column, and cells and delimiter rows are between bars.
 fn add_line(all: &mut String, word: Word, text: &str) -> Result<(), AllocError> {
     match word {
         Word::Quote => all.push_str("q"),
@@ -129,7 +129,7 @@ fn reads_tables(rt: HostRuntime) {
              Bi Ri Ci Di dj Xj Aj am xm Dm dn cn rn bn tn",
             "t++r|a||b||-|-|r|c d|",
         ),
-        // Text in front of the head, a pipe behind a backslash, and a paragraph behind the table
+        // Text before the head, a pipe after a backslash, and a paragraph after the table
         (
             "a\nb\n|-\n\\|\n\nc",
             "Pa Aa ab pb Nb nc Tc Hc Rc Cc Xc Ac ad xd cd rd Nd ne \

@@ -184,9 +184,9 @@ fn writes_containers(rt: HostRuntime) {
 }
 
 // Texts, each with its outline, and that of its quote, its item and its footnote definition. All laws of nesting speak
-// of the first two alone: a tab has fewer columns behind a prefix, or none; whitespace in front of the first line makes
-// the item wider than the prefix of the others; an item that starts blank ends with a second blank line; and a byte
-// order mark is one at the front alone.
+// of the first two alone: a tab has fewer columns after a prefix, or none; whitespace before the first line makes the
+// item wider than the prefix of the others; an item that starts blank ends with a second blank line; and a byte order
+// mark is one at the front alone.
 const MEANT: [&str; 6] = [
     "a\n\nb = p.|a|p.|b| = q.p..|a|.p..|b| = +.i..p...|a|..p...|b| = f.|x|.p..|a|.p..|b|",
     "[^a]: b = f.|a|.p..|b| = q.f..|a|..p...|b| = +.i..f...|a|...p....|b| = f.|x|.f..|a|..p...|b|",
@@ -219,7 +219,7 @@ fn a_container_has_the_text_in_it(rt: HostRuntime) {
 }
 
 // A text whose first line is the marker of an alert: its quote has the kind, and not that line. Without alerts, and
-// behind more than a small indent, it has the line.
+// after more than a small indent, it has the line.
 #[test]
 fn a_quote_that_begins_with_a_marker_is_an_alert(rt: HostRuntime) {
     for (row, has_alerts) in [

@@ -6,7 +6,7 @@ use Rattle.md_program.specs.declared.failure.Failure.TheVariants.{WriteFailed}
 use Rattle.md_program.specs.declared.set.Set.{Set}
 use Rattle.md_program.specs.Ends.{AppendsBeginning, Prints, Ran}
 
--- a run that comes to its output ends as the writing does
+-- a run that becomes its output ends as the writing does
 pub Ran-written : {A : Type 0} (shows : Set → List ℕ → Type 0) (asked : Option Set)
     (input left old new : Option (List ℕ)) (bytes : List ℕ) (r : Result A Failure)
     → Prints shows asked bytes

@@ -8,7 +8,7 @@ use Rattle.md_program.specs.declared.failure.Failure.{Failure}
 use Rattle.md_program.specs.declared.failure.Failure.TheVariants.{WriteFailed}
 use Rattle.md_program.specs.Ends.{AppendsBeginning}
 
--- however a write of bytes ends, a beginning of them stands there
+-- however a write of bytes ends, a beginning of them is there
 pub begins-written : {A : Type 0} (old new : Option (List ℕ)) (bs : List ℕ) (r : Result A Failure)
     → MatchResult r (λ _. Appends old new bs) (λ failure. (failure ≡ WriteFailed) × AppendsBeginning old new bs)
     → AppendsBeginning old new bs
@@ -21,7 +21,7 @@ pub begins-first : (old new : Option (List ℕ)) (bs front cs : List ℕ) → bs
 begins-first old new bs front cs same (begin, back, split, appended) =
     (begin, back ++ cs, ap (λ l. l ++ cs) (sym same ∙ split) ∙ append_assoc begin back cs, appended)
 
--- behind the whole first part, a beginning of the second
+-- after the whole first part, a beginning of the second
 pub begins-second : (old mid new : Option (List ℕ)) (bs front cs rest : List ℕ) → bs ≡ front → cs ≡ rest →
     Appends old mid bs → AppendsBeginning mid new cs
     → AppendsBeginning old new (front ++ rest)

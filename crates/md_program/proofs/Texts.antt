@@ -11,7 +11,7 @@ repeat_last : (n : ℕ) (piece : List ℕ) → repeat n piece ++ piece ≡ repea
 repeat_last zero piece = sym (append-nil piece)
 repeat_last (suc n) piece = append_assoc piece (repeat n piece) piece ∙ ap (λ rest. piece ++ rest) (repeat_last n piece)
 
--- the same behind another text
+-- the same after another text
 pub repeat_more : (front : List ℕ) (n : ℕ) (piece : List ℕ) →
     (front ++ repeat n piece) ++ piece ≡ front ++ repeat (n + 1) piece
 repeat_more front n piece =
@@ -33,7 +33,7 @@ pub on_ok-map : {A E P Q : Type 0} (r : Result A E) → (P → Q) → OnOk r P �
 on_ok-map (Ok a) f h = f h
 on_ok-map (Err e) f h = h
 
--- what stands behind the text once a piece was put there
+-- what follows the text once a piece was put there
 pub pushed : {A E : Type 0} (r : Result A E) (new old piece text : List ℕ) → new ≡ cond (is_ok r) (old ++ piece) old →
     piece ≡ text → OnOk r (new ≡ old ++ text)
 pushed (Ok a) new old piece text is same = is ∙ ap (λ l. old ++ l) same

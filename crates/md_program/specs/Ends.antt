@@ -19,7 +19,7 @@ failed_status OutOfMemory = 3
 failed_status ReadFailed = 4
 failed_status WriteFailed = 4
 
--- what is said of a failure, behind the program's name
+-- what is said of a failure, after the program's name
 abbrev pub reason : Failure → List ℕ
 reason UnknownArgument = codes ": unknown argument\n"
 reason NotUtf8 = codes ": not UTF-8\n"

@@ -30,7 +30,7 @@ alert_head Important = codes "alert important"
 alert_head Warning = codes "alert warning"
 alert_head Caution = codes "alert caution"
 
--- what stands for a word, up to its text
+-- what represents a word, up to its text
 abbrev pub head : Word → List ℕ
 head (Frontmatter marker) = codes "frontmatter " ++ encode_utf8 marker
 head (Heading depth) = codes "heading " ++ decimal depth
@@ -70,16 +70,16 @@ printed_label label = codes "= " ++ label ++ line_end
 unfoldable pub printed_labels : List ℕ → List (List ℕ) → List ℕ
 printed_labels name labels = name ++ decimal (length labels) ++ line_end ++ flat_map printed_label labels
 
--- behind the lines: an empty line, and the labels of definitions and footnotes
+-- after the lines: an empty line, and the labels of definitions and footnotes
 unfoldable pub printed_end : List (List ℕ) → List (List ℕ) → List ℕ
 printed_end definitions footnotes =
     line_end ++ printed_labels (codes "definitions ") definitions ++ printed_labels (codes "footnotes ") footnotes
 
--- the lines, and what is behind them
+-- the lines, and what is after them
 unfoldable pub printed : Listing → List ℕ
 printed listing = flat_map printed_line listing.lines ++ printed_end listing.definitions listing.footnotes
 
--- what is printed of a text: the printed form of a listing that may be answered to it, under what stands for the
+-- what is printed of a text: the printed form of a listing that may be answered to it, under what represents the
 -- options
 pub record PrintsOutline (outlines : List ℕ → ParseOptions → Listing → Type 0) (built : ParseOptions → ParseOptions)
     (text : List ℕ) (options : ParseOptions) (bytes : List ℕ) : Type 0 where

@@ -28,7 +28,7 @@ set_asked_for [] = Some CommonMark
 set_asked_for (name ∷ []) = set_named name
 set_asked_for (name ∷ second ∷ more) = None
 
--- the options that a set stands for
+-- the options that a set represents
 abbrev pub options_of : Set → ParseOptions
 options_of CommonMark = record { constructs = COMMONMARK }
 options_of Gfm = record { constructs = record COMMONMARK { gfm_footnote_definition = true; gfm_table = true } }

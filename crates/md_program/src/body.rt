@@ -33,10 +33,10 @@ pub trait Body {
     // What it may answer to a text and options.
     ghost outlines: { List ℕ → ParseOptions → Listing → Type 0 };
 
-    // What stands for options.
+    // What represents options.
     ghost built: { ParseOptions → ParseOptions };
 
-    /// The options that stand for `options`: a body that lacks a construct turns it off.
+    /// The options that represent `options`: a body that lacks a construct turns it off.
     fn built(options: ParseOptions) -> ParseOptions
         requires { IsWithoutMdx options }
         ensures value { result ≡ built options }

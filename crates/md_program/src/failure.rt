@@ -37,7 +37,7 @@ impl Failure {
         }
     }
 
-    /// What the line on the standard error says behind the program's name, with its line feed.
+    /// What the line on the standard error says after the program's name, with its line feed.
     pub fn reason(self) -> &'static str
         ensures { result.now ≡ reason self }
     {

@@ -13,9 +13,9 @@ use std::io::{Read, Write};
 /// Reads `input` whole and writes to `output` what is printed of it; answers the status that the program ends with.
 ///
 /// `name` is the program's name, and `args` leaves it out. Where the status is not 0, one line on `errors` says why.
-/// The whole output is made before its first byte is written, so only after a failed write a beginning of it may stand
-/// in `output`. Any `Err` of a read is a failed read. Any `Err` of a write or a flush is a failed write, and so is a
-/// write that takes nothing. A failed write to `errors` changes nothing.
+/// The whole output is made before its first byte is written, so only after a failed write a beginning of it may be in
+/// `output`. Any `Err` of a read is a failed read. Any `Err` of a write or a flush is a failed write, and so is a write
+/// that takes nothing. A failed write to `errors` changes nothing.
 pub fn run<P: Printing, R: Read, W: Write, E: Write>(
     alloc: Global,
     name: &str,

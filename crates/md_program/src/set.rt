@@ -40,7 +40,7 @@ fn named(name: &str) -> Option<Set>
     }
 }
 
-/// The options that a set stands for.
+/// The options that a set represents.
 pub fn options(set: Set) -> ParseOptions
     ensures value { result ≡ options_of set }
     ensures without_mdx { IsWithoutMdx result }

@@ -13,7 +13,7 @@ use std::{env, io};
 /// The arguments after the program's name.
 ///
 /// Where they cannot be read, it answers want of memory for want of memory, and else that an argument is unknown.
-/// `collect` would ask for less where a request is refused, so each is pushed: no refused request goes on.
+/// `collect` would ask for less where a request is refused, so each is pushed: no refused request continues.
 pub fn arguments<S: Env + AllocGlobal>(system: &S) -> Result<Vec<String>, Failure>
     ensures { IfErr result (λ failure. (failure ≡ UnknownArgument) ⊎ (failure ≡ OutOfMemory)) }
 {

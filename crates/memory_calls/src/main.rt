@@ -32,8 +32,8 @@ use std::alloc::{AllocError, Global};
 use std::io::{Read, Write};
 use std::process::ExitCode;
 
-/// A text with a definition in a quote, a table in an item, headings of both kinds, a footnote definition, and a reference
-/// over two lines.
+/// A text with a definition in a quote, a table in an item, headings of both kinds, a footnote definition, and a
+/// reference over two lines.
 const TEXT: &str =
     "> [a\n> b]: c\n\n- x | y\n  --|--\n  1 | 2\n\n# h\n\ni\n=\n\n[^f]: g\n\n[A\nB] j";
 

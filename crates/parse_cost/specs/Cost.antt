@@ -9,7 +9,7 @@ use Rattle.md_engine.specs.declared.parse_state.ParseState.{ParseState}
 use Rattle.md_program.specs.Printed.{line_end}
 use Rattle.parse_cost.specs.declared.cost.Numbers.{Numbers}
 
--- a number behind its name, on a line of its own
+-- a number after its name, on a line of its own
 unfoldable pub printed_number : List ℕ → ℕ → List ℕ
 printed_number name number = (name ++ decimal number) ++ line_end
 

@@ -11,7 +11,7 @@ enum Program {
     Events,
 }
 
-/// What a program is run on: its arguments, each behind a space; its input, `step` bytes a call, which fails after
+/// What a program is run on: its arguments, each after a space; its input, `step` bytes a call, which fails after
 /// `reads` calls; and how its outputs take what it writes, `takes` bytes a call, of which the first fails after
 /// `writes` calls.
 #[derive(Clone, Copy)]
@@ -224,7 +224,7 @@ fn a_failed_read_leaves_no_output(rt: HostRuntime) {
     check_events(&rt, alloc, given, Ended(4, b"", b"events: read failed\n"));
 }
 
-// Blank lines that fill the buffer of a read, with a character behind them, of which the buffer may have half.
+// Blank lines that fill the buffer of a read, with a character after them, of which the buffer may have half.
 #[test]
 fn a_failed_read_at_the_size_of_a_buffer_leaves_no_output(rt: HostRuntime) {
     let alloc = rt.alloc();

@@ -23,7 +23,7 @@ use Rattle.reference_events.specs.declared.roles.Place.TheVariants.{Outside, Tak
 use Rattle.reference_events.specs.declared.roles.Role.{Role}
 use Rattle.reference_events.specs.declared.roles.Role.TheVariants.{Text, Opens, Last, Closes}
 
--- Which parts are open at a byte, and behind it, by its role. Brackets end no line.
+-- Which parts are open at a byte, and after it, by its role. Brackets end no line.
 pub data Fit : List Name → ℕ → Role → List Name → Type 0 where
   stays : {names : List Name} {b : ℕ} → Fit names b Text names
   opens : {b : ℕ} → is_ending b ≡ false → Fit [] b Opens (n.LabelText ∷ n.Link ∷ [])
@@ -76,13 +76,13 @@ turns-line {names} {end} from at (more {next} {b} {bs} {role} {roles} fit runs) 
     (line_events bs roles (text_from role from behind) behind)
     (turns-byte from at behind fit) (turns-line (text_from role from behind) behind runs)
 
--- Behind a line stand endings.
+-- After a line are endings.
 
 abbrev pub AreEndings : List ℕ → Type 0
 AreEndings [] = Unit {0}
 AreEndings (b ∷ bs) = (is_ending b ≡ true) × AreEndings bs
 
--- behind a label, nothing but its bracket ends what is open
+-- after a label, nothing but its bracket ends what is open
 rests : {bs : List ℕ} {roles : List Role} {end : List Name} → Runs (n.Link ∷ []) bs roles end → AreEndings bs →
     end ≡ n.Link ∷ []
 rests none h = refl
@@ -119,7 +119,7 @@ names_of Taken = []
 names_of (Inside zero) = n.Link ∷ []
 names_of (Inside (suc left)) = n.LabelText ∷ n.Link ∷ []
 
--- behind so many bytes stands a closing bracket
+-- after so many bytes is a closing bracket
 abbrev pub Closing : ℕ → List ℕ → Type 0
 Closing left [] = ⊥
 Closing zero (b ∷ bs) = b ≡ right_bracket
@@ -130,7 +130,7 @@ Ahead Outside text = Unit {0}
 Ahead Taken text = Unit {0}
 Ahead (Inside left) text = Closing left text
 
--- what is enclosed stands in front of a mark
+-- what is enclosed is before a mark
 enclosed-closed : (opener closer : ℕ) (escaped : Bool) (bs text rest : List ℕ) →
     enclosed opener closer escaped bs ≡ Closed text rest → bs ≡ text ++ closer ∷ rest
 unfolding enclosed
@@ -174,7 +174,7 @@ closing-at : (label behind : List ℕ) → Closing (length label) (label ++ righ
 closing-at [] behind = refl
 closing-at (b ∷ label) behind = closing-at label behind
 
--- a label that is defined has bytes, and a bracket behind it
+-- a label that is defined has bytes, and a bracket after it
 label-closes : (document : Document) (bs : List ℕ) (len : ℕ) → label_len document bs ≡ Some len →
     (left : ℕ) × (len ≡ suc left) × Closing len bs
 label-closes document bs len h =

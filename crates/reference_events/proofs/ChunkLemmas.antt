@@ -68,7 +68,7 @@ text-length : (bytes : List ℕ) (chunk : Chunk) → Whole bytes chunk →
 text-length bytes chunk w =
     range-length bytes chunk.first.index chunk.after.index (placed-facts bytes chunk.after w.after).index
 
--- where the text goes on behind its line, the line ends before the chunk does
+-- where the text continues after its line, the line ends before the chunk does
 line-before : (bytes : List ℕ) (chunk : Chunk) → Whole bytes chunk →
     length (without_ending (chunk_text bytes chunk)) < length (chunk_text bytes chunk) →
     (line_end bytes chunk).index < chunk.after.index

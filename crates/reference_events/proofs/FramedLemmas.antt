@@ -120,7 +120,7 @@ chunks-fill bytes (chunk ∷ chunks) roles ws =
       chunks-fill bytes chunks (roles_behind bytes chunk roles) ws.1,
     )
 
--- What stands in the place of each chunk.
+-- What is in the place of each chunk.
 
 index-before : (p q : Point) → IsTrue (at_or_before p q) → p.index ≤ q.index
 index-before p q h = grind (arith, nat_tests)

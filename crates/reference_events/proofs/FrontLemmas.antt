@@ -16,8 +16,8 @@ use Rattle.reference_events.specs.References.{closed, ending_events, line_events
 use Rattle.reference_events.specs.declared.roles.Role.{Role}
 use Rattle.reference_events.specs.declared.roles.Role.TheVariants.{Text, Opens, Last, Closes}
 
--- What holds of events that begin with an enter from some byte on, holds where events of a line stand in front of
--- others of which it holds.
+-- What holds of events that begin with an enter from some byte on, holds where events of a line are before others of
+-- which it holds.
 module _ (P : List Event → Type 0) (index : ℕ)
     (entered : (name : Name) (p : Point) (es : List Event) → index ≤ p.index → P (enter name p ∷ es)) where
   front-pair : (name : Name) (p q : Point) (es : List Event) → index ≤ p.index → P es →
@@ -143,7 +143,7 @@ covers-line (b ∷ line) (Closes ∷ roles) from at r es h opening rest =
     (covers-pair n.Data from at r (closed at behind ++ (more ++ es))
     (same-refl at, subst (λ (ps : List Piece). Covers behind ps r) (sym (pieces-exit n.Link behind (more ++ es))) next))
 
--- with what stands behind it
+-- with what follows it
 pub covers-chunk : (line : List ℕ) (roles : List Role) (first after : Point) (ends : Bool) →
     (ends ≡ true → same_place (past_text line first) after ≡ false) →
     Covers first (pieces (line_events line roles first first ++ ending_events (past_text line first) after ends)) after

@@ -96,7 +96,7 @@ module _ (test : Event → Bool) (P : Point → Type 0)
       (all-byte role from at behind f along.0 next)
       (all-line line roles (text_from role from behind) behind (all-from role from behind f next) along.1)
 
--- No `LineEnding` stands in a line.
+-- No `LineEnding` is in a line.
 
 pub endings-append : (xs ys : List Event) → line_endings (xs ++ ys) ≡ line_endings xs ++ line_endings ys
 endings-append [] ys = refl

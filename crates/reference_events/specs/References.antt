@@ -55,13 +55,13 @@ defined_len document (Closed label behind) = if is_defined document label then S
 defined_len document Open = None
 defined_len document Broken = None
 
--- How many bytes the label has whose `[` stands in front of a text, up to the first `]` that no backslash takes; none
--- if a `[` stands in it that none takes, or no definition has it.
+-- How many bytes the label has whose `[` is before a text, up to the first `]` that no backslash takes; none if a `[`
+-- is in it that none takes, or no definition has it.
 abbrev pub label_len : Document → List ℕ → Option ℕ
 label_len document text = defined_len document (enclosed left_bracket right_bracket false text)
 
 -- Roles: what a byte of a text part is to its references. A text is read from left to right: outside of references, a
--- backslash takes the byte behind it.
+-- backslash takes the byte after it.
 
 -- a bracket that no backslash takes opens a reference to a definition, or is text
 abbrev pub bracket_role : Option ℕ → Role × Place
@@ -74,7 +74,7 @@ outside_role document byte behind =
     else if byte == left_bracket then bracket_role (label_len document behind)
     else (Text, Outside)
 
--- the role of a byte at a place, and the place of the byte behind it
+-- the role of a byte at a place, and the place of the byte after it
 abbrev pub role_at : Document → Place → ℕ → List ℕ → Role × Place
 role_at document Outside byte behind = outside_role document byte behind
 role_at document Taken byte behind = (Text, Outside)
@@ -98,14 +98,14 @@ opened at behind =
 abbrev pub closed : Point → Point → List Event
 closed at behind = enter n.LabelMarker at ∷ exit n.LabelMarker behind ∷ exit n.Link behind ∷ []
 
--- What a byte between two points brings, where the text in front of it began at `from`. Text waits for what ends it.
+-- What a byte between two points brings, where the text before it began at `from`. Text waits for what ends it.
 abbrev pub byte_events : Role → Point → Point → Point → List Event
 byte_events Text from at behind = []
 byte_events Opens from at behind = pair_unless_empty n.Data from at ++ opened at behind
 byte_events Last from at behind = pair_unless_empty n.Data from behind ++ exit n.LabelText behind ∷ []
 byte_events Closes from at behind = pair_unless_empty n.Data from at ++ closed at behind
 
--- where the text that waits begins, behind such a byte
+-- where the text that waits begins, after such a byte
 abbrev pub text_from : Role → Point → Point → Point
 text_from Text from behind = from
 text_from Opens from behind = behind
@@ -128,7 +128,7 @@ is_last _ = false
 abbrev pub ends_label : List Role → Bool
 ends_label roles = list_any is_last roles
 
--- what stands behind a line: its ending, if it has one, and there the end of a label that goes on up to it
+-- what follows a line: its ending, if it has one, and there the end of a label that continues up to it
 abbrev pub ending_events : Point → Point → Bool → List Event
 ending_events end after ends =
     pair_unless_empty n.LineEnding end after ++ (if ends then exit n.LabelText after ∷ [] else [])

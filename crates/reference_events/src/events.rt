@@ -14,7 +14,7 @@ use md_engine::message::Message;
 use md_grammars::memory::push;
 use md_seam::inline::Chunk;
 
-/// The point behind a byte of a line.
+/// The point after a byte of a line.
 fn past_byte(byte: u8, point: Point) -> Point
     requires { HasRoom point 1 }
     ensures value { result ≡ past_byte byte point }
@@ -75,8 +75,8 @@ fn push_unless_empty(
     push_pair(events, name, first, after)
 }
 
-/// Adds what a byte brings that stands between two points, where the text in front of it began at `from`; and says
-/// where the text begins that is still to be added behind it.
+/// Adds what a byte brings that is between two points, where the text before it began at `from`; and says where the
+/// text begins that is still to be added after it.
 ///
 /// An `Err` says that memory ran out.
 fn push_byte(
@@ -136,7 +136,7 @@ fn push_line(
     Ok(at)
 }
 
-/// How many bytes stand before the first ending of a line.
+/// How many bytes are before the first ending of a line.
 fn line_len(text: &[u8]) -> usize
     ensures { result ≡ length (without_ending text.now) }
 {

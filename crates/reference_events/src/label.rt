@@ -97,7 +97,7 @@ fn is_defined(alloc: Global, state: &ParseState, text: &[u8]) -> Result<bool, Me
     Ok(is_listed(&state.definitions, &form))
 }
 
-/// How many bytes the label has whose `[` stands in front of this text; none if it is no reference.
+/// How many bytes the label has whose `[` is before this text; none if it is no reference.
 ///
 /// An `Err` says that memory ran out.
 pub fn label_len(alloc: Global, state: &ParseState, text: &[u8]) -> Result<Option<usize>, Message>

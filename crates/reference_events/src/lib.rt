@@ -1,6 +1,6 @@
 // The shortcut references of a text part (CommonMark 6.3), and the events that mark them.
 //
-// A reference is a label between brackets that a definition of the document has, wherever that definition stands:
+// A reference is a label between brackets that a definition of the document has, wherever that definition is:
 //
 //     reference ::= '[' label ']'
 //     label     ::= 1*( '\' byte | byte but '[', ']' and '\' )

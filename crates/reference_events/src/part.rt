@@ -23,7 +23,7 @@ fn chunk_text<'a>(bytes: &'a [u8], chunk: &Chunk) -> &'a [u8]
     &bytes[chunk.first.index..chunk.after.index]
 }
 
-/// The text of a part: that of its chunks, one behind the other.
+/// The text of a part: that of its chunks, one after the other.
 ///
 /// An `Err` says that memory ran out.
 fn part_text(alloc: Global, bytes: &[u8], chunks: &[Chunk]) -> Result<Vec<u8>, Message>

@@ -1,4 +1,4 @@
-// What each byte of a text part is to the references of the part, told from left to right.
+// What each byte of a text part is to the references of the part, distinguished from left to right.
 
 ghost use Rattle.std.specs.Prelude.{◌≡◌, IfOk};
 ghost use Rattle.md_seam.specs.TextPart.{document_of};
@@ -23,18 +23,18 @@ pub enum Role {
     Closes,
 }
 
-/// Where a byte stands.
+/// Where a byte is.
 #[derive(Clone, Copy, Debug, PartialEq, Eq)]
 pub enum Place {
     /// Outside of references.
     Outside,
-    /// Behind a backslash outside of references, which takes it.
+    /// After a backslash outside of references, which takes it.
     Taken,
-    /// In a reference, with so many bytes to come in front of its `]`.
+    /// In a reference, with so many bytes to come before its `]`.
     Inside(usize),
 }
 
-/// The role of a byte, and where the byte behind it stands.
+/// The role of a byte, and where the byte after it is.
 ///
 /// An `Err` says that memory ran out.
 fn role_at(

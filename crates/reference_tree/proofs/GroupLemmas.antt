@@ -75,7 +75,7 @@ apart-list m n is bs other i =
     cond v (t.More (t.ListOf n (t.More i is)) bs) (t.More (t.ListOf m (t.More i t.End)) (t.More (t.ListOf n is) bs)))
     other
 
--- an item with another marker stands in a list with that marker
+-- an item with another marker is in a list with that marker
 apart-item : (m n : ℕ) (j : t.Block) (bs : t.Blocks) → (m == n) ≡ false → Apart m (with_item n j bs)
 apart-item m n j t.End other = apart-list m n (t.More j t.End) t.End other
 apart-item m n j (t.More (t.ListOf k is) bs) other = by (n == k) refl
@@ -209,7 +209,7 @@ pub flushed-none : (m : ℕ) (done : t.Blocks) (items : List Block) → (length 
 flushed-none m done [] none = sym (then_blocks-end done)
 flushed-none m done (i ∷ items) none = absurd (grind (arith, nat_tests, none))
 
--- one block behind those that are done
+-- one block after those that are done
 pub then_blocks-push : (bs : t.Blocks) (old new : List Block) (b : Block) → new ≡ old ++ b ∷ [] →
     then_blocks (meanings new) bs ≡ then_blocks (meanings old) (t.More (meaning b) bs)
 then_blocks-push bs old new b e =
@@ -225,7 +225,7 @@ with_items-push m done bs old new b e =
     ∙ ap (λ cs. then_blocks done (with_items m cs bs)) (meanings-append old (b ∷ []))
     ∙ ap (then_blocks done) (with_items-append m (meanings old) (t.More (meaning b) t.End) bs)
 
--- an item with another marker, behind what was flushed
+-- an item with another marker, after what was flushed
 pub flushed-item : (m n : ℕ) (done is flushed bs : t.Blocks) (j : t.Block) →
     flushed ≡ then_blocks done (with_items m is t.End) → (m == n) ≡ false →
     then_blocks flushed (with_item n j bs) ≡ then_blocks done (with_items m is (with_item n j bs))

@@ -8,7 +8,7 @@ use Rattle.md_meaning.specs.State.{InQuote, Opening}
 use Rattle.md_meaning.specs.Containers.{Taken, quote_taken}
 use Rattle.md_meaning.specs.Leaves.{behind_word, first_word, nonempty, opening}
 
--- a quote's prefix is here, and this is the rest behind it
+-- a quote's prefix is here, and this is the rest after it
 pub quote_taken-some : (options : ParseOptions) (kind : Option AlertKind) (x marker inner : r.Rest) →
     r.has_small_indent options x ≡ true → marker ≡ r.behind_indent x → begins_with 62 marker.bytes ≡ true →
     inner ≡ r.lose 1 (r.behind 1 marker) →
@@ -22,7 +22,7 @@ quote_taken-some options kind x marker inner small is here e =
     (ap (λ v. cond (v && begins_with 62 first.bytes) taken None) small
     ∙ ap (λ v. cond v taken None) (ap (λ (m : r.Rest). begins_with 62 m.bytes) (sym is) ∙ here))
 
--- an opening fence of math, with these bytes behind it
+-- an opening fence of math, with these bytes after it
 pub opening-math : (marker size columns : ℕ) (text : List ℕ) (meta : Option (List ℕ)) → marker ≡ 36 →
     meta ≡ nonempty text →
     record { marker = marker; size = size; indent = columns; info = None; meta = meta } ≡

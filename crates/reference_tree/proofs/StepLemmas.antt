@@ -38,7 +38,7 @@ at_spot-within : (fs : List Frame) (x y : s.Innermost) → s.at_spot (within fs 
 at_spot-within [] x y = refl
 at_spot-within (f ∷ fs) x y = ap (inside f) (at_spot-within fs x y)
 
--- a leaf that takes a lazy line has it behind its own lines
+-- a leaf that takes a lazy line has it after its own lines
 with_lazy-more : (options : ParseOptions) (l : s.Leaf) (x : r.Rest) → true ≡ is_some (with_lazy options l x) →
     with_lazy options l x ≡ Some (with_more l x)
 with_lazy-more options (s.OpenParagraph lines) x e = by (r.is_blank x.bytes || is_some (starts options LazyText x)) e
@@ -111,7 +111,7 @@ stopped-fresh options (f ∷ fs) y x some e takes =
 some-left : (n : ℕ) (fs : List Frame) → n < length fs → 0 < length (drop n fs)
 some-left n fs below = let left : length (drop n fs) ≡ length fs - n = length-drop n fs in omega (arith, left, below)
 
--- the containers behind so many others are closed, and the line opens one there
+-- the containers after so many others are closed, and the line opens one there
 pub stops-opened : (options : ParseOptions) (n : ℕ) (fs : List Frame) (y : s.Innermost) (x : r.Rest) (t : Taken) →
     n < length fs → opens options false x ≡ Some t →
     within (take n fs) (entered options (s.closed options (within (drop n fs) (s.At y))) t) ≡
@@ -127,7 +127,7 @@ stops-lazy options n fs y x below e takes =
     within-split n fs (s.At (more_text y x))
     ∙ sym (ap (within (take n fs)) (stopped-lazy options (drop n fs) y x (some-left n fs below) e takes))
 
--- the containers behind so many others are closed, and the line is read there
+-- the containers after so many others are closed, and the line is read there
 pub stops-fresh : (options : ParseOptions) (n : ℕ) (fs : List Frame) (y : s.Innermost) (x : r.Rest) →
     n < length fs → opens options false x ≡ None → false ≡ is_some (with_lazy options y.leaf x) →
     within (take n fs) (s.At (fresh_line options (s.closed options (within (drop n fs) (s.At y))) x)) ≡

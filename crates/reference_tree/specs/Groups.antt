@@ -1,4 +1,4 @@
--- What blocks stand for while they are grouped into lists.
+-- What blocks represent while they are grouped into lists.
 use Rattle.std.specs.Prelude.{◌≡◌, ℕ, List, [], ◌∷◌, reverse}
 use Rattle.md_meaning.specs.Tree.{Block, Blocks, End, More}
 use Rattle.md_meaning.specs.Grouped as g
@@ -30,12 +30,12 @@ abbrev pub then_groups : Groups → Blocks → Blocks
 then_groups groups bs =
     then_blocks (blocks_meaning groups.done) (with_items groups.marker (blocks_meaning groups.items) bs)
 
--- with this item in front of what follows
+-- with this item before what follows
 abbrev pub AddsItem : Groups → ℕ → Block → Groups → Type 0
 AddsItem before marker item after =
     (bs : Blocks) → then_groups after bs ≡ then_groups before (g.with_item marker item bs)
 
--- with this block in front of what follows
+-- with this block before what follows
 abbrev pub Adds : Groups → Block → Groups → Type 0
 Adds before block after = (bs : Blocks) → then_groups after bs ≡ then_groups before (g.with_front block bs)
 

@@ -26,7 +26,7 @@ head_of options k r =
     if options.constructs.gfm_table && has_small_indent options r
     then head_by options k (delimiter_columns (trim r.bytes)) else None
 
--- the table behind what is left of a paragraph
+-- the table after what is left of a paragraph
 abbrev pub table_spot : ParseOptions → Blocks → List ParagraphLine → List (List ℕ) → Rest → Innermost
 table_spot options bs earlier cells r = record {
   here = shut_paragraph options bs (texts earlier);

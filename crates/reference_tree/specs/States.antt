@@ -82,7 +82,7 @@ taken_meaning t = record { container = container_meaning t.container; rest = res
 abbrev pub taken_option : Option Taken → Option c.Taken
 taken_option o = option_map taken_meaning o
 
--- what a leaf that goes on has come to
+-- what a leaf that continues has become
 abbrev pub went_option : Transition → Option l.LeafResult
 went_option (went.On c) = Some (came_meaning c)
 went_option (went.Ends x) = None

@@ -76,7 +76,7 @@ fn blocks_in<'a>(block: Block<'a>) -> Option<Vec<Block<'a>>> {
     }
 }
 
-/// The last of these blocks, in place of which stand the blocks around them: these come first, so that they are let go
+/// The last of these blocks, in place of which are the blocks around them: these come first, so that they are let go
 /// last. If there are none, it is the last of those around them.
 ///
 /// Where one block was taken there is room for one, so this asks for no memory.

@@ -18,7 +18,7 @@ use md_grammars::bytes::is_blank;
 use md_grammars::tree::{Block, Line};
 use std::alloc::Global;
 
-/// How many blank lines stand at the end.
+/// How many blank lines are at the end.
 fn blank_len(lines: &[Line]) -> usize
     ensures value { result ≡ suffix_len (λ l. is_blank l.text.now) lines.now }
     ensures bound { result ≤ length lines.now }

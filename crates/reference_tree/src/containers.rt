@@ -69,7 +69,7 @@ fn item_continues<'a>(
     })
 }
 
-/// A footnote definition goes on with blank lines and with lines indented by 4 columns (own choice, as on GitHub).
+/// A footnote definition continues with blank lines and with lines indented by 4 columns (own choice, as on GitHub).
 #[tactic(auto, unfolding(md_meaning::specs::Containers::footnote_continues))]
 fn footnote_continues<'a>(label: &'a [u8], rest: &Rest<'a>) -> Option<Taken<'a>>
     ensures { taken_option result ≡ containers.footnote_continues label.now (rest_meaning rest.now) }
@@ -130,7 +130,7 @@ fn opens_quote<'a>(options: &ParseOptions, rest: &Rest<'a>) -> Option<Taken<'a>>
     Some(with_kind(options, taken))
 }
 
-/// A list marker: the digits of an ordered one, and the byte behind them.
+/// A list marker: the digits of an ordered one, and the byte after them.
 #[derive(Clone, Copy)]
 struct Marker<'a> {
     digits: &'a [u8],
@@ -144,7 +144,7 @@ fn is_digit(byte: u8) -> bool
     b'0' <= byte && byte <= b'9'
 }
 
-/// How many digits stand at the front.
+/// How many digits are at the front.
 fn digits_len(bytes: &[u8]) -> usize
     ensures value { result ≡ prefix_len containers.is_digit bytes.now }
     ensures bound { result ≤ length bytes.now }
@@ -152,7 +152,7 @@ fn digits_len(bytes: &[u8]) -> usize
     bytes.iter().take_while(|byte| is_digit(**byte)).count()
 }
 
-/// The `.` or `)` behind digits.
+/// The `.` or `)` after digits.
 fn marker_behind<'a>(digits: &'a [u8], bytes: &[u8]) -> Option<Marker<'a>>
     ensures value { marker_option result ≡ containers.marker_behind digits.now bytes.now }
     ensures same { IfSome result (λ m. m.digits.now ≡ digits.now) }
@@ -251,7 +251,7 @@ fn is_label_mark(byte: u8) -> bool
     byte == b'[' || byte == b'\\' || byte == b']'
 }
 
-/// How many bytes stand before the first `]` that no backslash takes, if all of them may stand in a label.
+/// How many bytes are before the first `]` that no backslash takes, if all of them may be in a label.
 fn label_len(bytes: &[u8]) -> Option<usize>
     ensures value { label_split result bytes.now ≡ containers.footnote_label false bytes.now }
     ensures bound { IfSome result (λ n. n + 1 ≤ length bytes.now) }
@@ -271,14 +271,14 @@ fn label_len(bytes: &[u8]) -> Option<usize>
     None
 }
 
-/// Whether this is a label, with a colon behind its bracket.
+/// Whether this is a label, with a colon after its bracket.
 fn is_label(label: &[u8], after: &[u8]) -> bool
     ensures { result ≡ nat_le 1 (length label.now) && nat_le (length label.now) 999 && lines.begins_with 58 after.now }
 {
     1 <= label.len() && label.len() <= 999 && begins_with(b':', after)
 }
 
-/// A small indent, `[^`, a label of 1 to 999 bytes, `]:`, and all whitespace behind it (own choice, as on GitHub).
+/// A small indent, `[^`, a label of 1 to 999 bytes, `]:`, and all whitespace after it (own choice, as on GitHub).
 #[tactic(auto, unfolding(md_meaning::specs::Containers::opens_footnote))]
 fn opens_footnote<'a>(options: &ParseOptions, rest: &Rest<'a>) -> Option<Taken<'a>>
     ensures { taken_option result ≡ containers.opens_footnote options.now (rest_meaning rest.now) }

@@ -18,7 +18,7 @@ use md_grammars::memory;
 use md_grammars::tree::Block;
 use std::alloc::Global;
 
-/// Blocks that are done, and behind them items with one marker that may still become more.
+/// Blocks that are done, and after them items with one marker that may still become more.
 #[derive(Drop)]
 struct Groups<'a> {
     done: Blocks<'a>,

@@ -1,4 +1,4 @@
-// Leaf blocks: where they start, and how they go on.
+// Leaf blocks: where they start, and how they continue.
 
 ghost use Rattle.std.specs.Prelude.{◌≡◌, ◌≤◌, ◌==◌, ◌||◌, ◌&&◌, not, length, map, reverse, count_by, nat_le, is_some};
 ghost use Rattle.std.specs.Prelude.{if◌then◌else◌, IsFalse, IfOk};
@@ -168,7 +168,7 @@ fn word_len(text: &[u8]) -> usize
     text.iter().take_while(|byte| !is_white(**byte)).count()
 }
 
-/// An opening fence with this text behind it: the first word is `info`, and the others are `meta`; math has no `info`.
+/// An opening fence with this text after it: the first word is `info`, and the others are `meta`; math has no `info`.
 fn opening<'a>(marker: u8, size: usize, indent: usize, text: &'a [u8]) -> Opening<'a>
     ensures { opening_meaning result ≡ leaves.opening marker size indent text.now }
 {
@@ -342,7 +342,7 @@ pub fn starts<'a>(
     marked_starts(alloc, options, against, rest)
 }
 
-/// What an open leaf that is no paragraph comes to with this line: it has come to something, or ends before the line.
+/// What an open leaf that is no paragraph becomes with this line: it has become something, or ends before the line.
 #[derive(Drop)]
 pub enum Transition<'a> {
     On(LeafResult<'a>),
@@ -411,7 +411,7 @@ fn table_goes_on<'a>(
     Ok(Transition::On(LeafResult::Opened(Leaf::Table(delimiter, rows))))
 }
 
-/// How an open leaf goes on.
+/// How an open leaf continues.
 pub fn goes_on<'a>(
     alloc: Global,
     options: &ParseOptions,

@@ -24,7 +24,7 @@ use md_grammars::preamble::{Front, front_of, has_mark};
 use md_grammars::rest::Rest;
 use std::alloc::Global;
 
-/// The lines behind a byte order mark, whose bytes are columns of the first.
+/// The lines after a byte order mark, whose bytes are columns of the first.
 fn rests_behind_mark<'a>(alloc: Global, text: &'a [u8]) -> Result<Vec<Rest<'a>>, Message>
     requires { length text.now < 2 ^ 61 }
     ensures { IfOk result
@@ -78,7 +78,7 @@ fn body<'a>(
     grouped(alloc, blocks_of(alloc, options, rests)?)
 }
 
-/// A tree with frontmatter, and the lines behind it.
+/// A tree with frontmatter, and the lines after it.
 fn tree_behind<'a>(
     alloc: Global,
     options: &ParseOptions,

@@ -94,7 +94,7 @@ fn shut_paragraph<'a>(
     push_paragraph(blocks, cut.remaining)
 }
 
-/// These blocks, and behind them the closed paragraph.
+/// These blocks, and after them the closed paragraph.
 pub fn with_paragraph<'a>(
     alloc: Global,
     options: &ParseOptions,
@@ -261,7 +261,7 @@ pub fn head_cells<'a>(
     }
 }
 
-/// A table behind these blocks, with these cells in its head; the lines before the head are closed as a paragraph.
+/// A table after these blocks, with these cells in its head; the lines before the head are closed as a paragraph.
 pub fn with_table<'a>(
     alloc: Global,
     options: &ParseOptions,

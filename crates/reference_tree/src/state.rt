@@ -24,7 +24,7 @@ pub enum Container<'a> {
     Footnote(&'a [u8]),
 }
 
-/// A line of an open paragraph: the columns of its indent, and the text behind it.
+/// A line of an open paragraph: the columns of its indent, and the text after it.
 #[derive(Clone, Copy)]
 pub struct ParagraphLine<'a> {
     pub indent: usize,
@@ -56,14 +56,14 @@ pub enum Leaf<'a> {
     Table(&'a [u8], Vec<Vec<&'a [u8]>>),
 }
 
-/// The finished blocks of a container, and the leaf behind them.
+/// The finished blocks of a container, and the leaf after them.
 #[derive(Drop)]
 pub struct Innermost<'a> {
     pub here: Blocks<'a>,
     pub leaf: Leaf<'a>,
 }
 
-/// An open container behind the finished blocks of its parent.
+/// An open container after the finished blocks of its parent.
 #[derive(Drop)]
 pub struct Frame<'a> {
     pub before: Blocks<'a>,
@@ -77,14 +77,14 @@ pub struct Path<'a> {
     pub spot: Innermost<'a>,
 }
 
-/// What a leaf has come to with a line: it is open, or finished.
+/// What a leaf has become with a line: it is open, or finished.
 #[derive(Drop)]
 pub enum LeafResult<'a> {
     Opened(Leaf<'a>),
     Finished(Block<'a>),
 }
 
-/// What a line that may start a leaf stands against.
+/// What a line that may start a leaf is against.
 #[derive(Clone, Copy, Debug, PartialEq, Eq)]
 pub enum ParagraphContext {
     /// No open paragraph.

@@ -28,7 +28,7 @@ use md_grammars::memory;
 use md_grammars::rest::Rest;
 use std::alloc::Global;
 
-/// What a leaf came to, behind these blocks.
+/// What a leaf became, after these blocks.
 fn came<'a>(here: Blocks<'a>, came: LeafResult<'a>) -> Result<Innermost<'a>, Message>
     ensures { IfOk result (λ s. spot_meaning s ≡
         definition.came (blocks_meaning here.entry) (came_meaning came.entry)) }
@@ -217,7 +217,7 @@ fn open_all<'a>(
     Ok((frames, left))
 }
 
-/// Opens a container behind these blocks, then as many more as open, each in the one before, and then a leaf.
+/// Opens a container after these blocks, then as many more as open, each in the one before, and then a leaf.
 fn enter<'a>(
     alloc: Global,
     options: &ParseOptions,
@@ -297,7 +297,7 @@ fn takes_lazy<'a>(
     }
 }
 
-/// Closes all containers but so many of the outermost, and opens one behind them.
+/// Closes all containers but so many of the outermost, and opens one after them.
 fn enter_behind<'a>(
     alloc: Global,
     options: &ParseOptions,
@@ -318,7 +318,7 @@ fn enter_behind<'a>(
     enter(alloc, options, frames, here, taken)
 }
 
-/// Closes all containers but so many of the outermost, and reads the line behind them.
+/// Closes all containers but so many of the outermost, and reads the line after them.
 fn fresh_behind<'a>(
     alloc: Global,
     options: &ParseOptions,
@@ -341,7 +341,7 @@ fn fresh_behind<'a>(
     Ok(Path { frames, spot })
 }
 
-/// A lazy line goes on the open paragraph.
+/// A lazy line continues the open paragraph.
 fn with_lazy<'a>(spot: Innermost<'a>, rest: &Rest<'a>) -> Result<Innermost<'a>, Message>
     ensures { IfOk result (λ s. spot_meaning s ≡ more_text (spot_meaning spot.entry) (rest_meaning rest.now)) }
 {
@@ -352,7 +352,7 @@ fn with_lazy<'a>(spot: Innermost<'a>, rest: &Rest<'a>) -> Result<Innermost<'a>, 
     }
 }
 
-/// All containers stay open, and a lazy line goes on the paragraph.
+/// All containers stay open, and a lazy line continues the paragraph.
 fn stay_open<'a>(path: Path<'a>, rest: &Rest<'a>) -> Result<Path<'a>, Message>
     ensures { IfOk result
         (λ p.
@@ -364,7 +364,7 @@ fn stay_open<'a>(path: Path<'a>, rest: &Rest<'a>) -> Result<Path<'a>, Message>
     Ok(Path { frames, spot })
 }
 
-/// The container behind so many others does not continue.
+/// The container after so many others does not continue.
 fn stopped<'a>(
     alloc: Global,
     options: &ParseOptions,

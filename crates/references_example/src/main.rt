@@ -1,7 +1,7 @@
 // The program `references_example`: it reads a Markdown text from its standard input and prints the references that the
 // layer `References` marks in it; then those of the same text in a block quote, and in a list item.
 //
-// A line for each reference has the text of its label, in which a space stands for each line ending. A container
+// A line for each reference has the text of its label, in which a space represents each line ending. A container
 // changes no reference, so the three lists are the same, but for a text with tabs or one that is for the front of a
 // document.
 #![tactic(auto)]

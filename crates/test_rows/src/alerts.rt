@@ -1,6 +1,6 @@
 // Rows on alerts: quotes that have the marker of a kind alone on their first line (own choice, as on GitHub).
 //
-// An alert is a quote that opens on a line whose rest, behind `>` and one column, is a small indent, the marker of a
+// An alert is a quote that opens on a line whose rest, after `>` and one column, is a small indent, the marker of a
 // kind in any ASCII case, and spaces and tabs up to the end. That rest belongs to the prefix of the quote, so it is
 // empty for all that may open on it. A further line of a quote is never asked for a marker.
 

@@ -72,7 +72,7 @@ pub(crate) fn constructs_of(set: &str) -> Option<Constructs> {
     }
 }
 
-/// The output that a row's outline stands for: an empty line goes before the labels, and where they are left out there
+/// The output that a row's outline represents: an empty line goes before the labels, and where they are left out there
 /// are none.
 fn output_of(alloc: Global, outline: &str) -> Result<String, AllocError> {
     let mut output = String::new(alloc);
@@ -98,12 +98,12 @@ pub fn unquoted(alloc: Global, written: &str) -> Result<String, CaseError> {
     Ok(unescaped(alloc, inner)?)
 }
 
-/// Where the reading of an escape stands.
+/// Where the reading of an escape is.
 #[derive(Clone, Copy)]
 enum Escape {
     /// In no escape.
     Outside,
-    /// Behind the backslash.
+    /// After the backslash.
     Begun,
     /// Inside `\u{..}`, with the number read so far.
     Number(u32),
@@ -142,7 +142,7 @@ pub(crate) fn unescaped(alloc: Global, written: &str) -> Result<String, AllocErr
     Ok(text)
 }
 
-/// What a letter behind a backslash stands for.
+/// What a letter after a backslash represents.
 fn named_character(letter: char) -> char {
     match letter {
         'n' => '\n',

@@ -42,7 +42,7 @@ pub fn switch(constructs: &mut Constructs, name: &str, on: bool) -> bool {
     true
 }
 
-/// The constructs whose names stand in a text, parted by spaces.
+/// The constructs whose names are in a text, parted by spaces.
 pub fn named(names: &str) -> Option<Constructs> {
     let mut constructs = Constructs::NONE;
     for name in names.split(' ') {

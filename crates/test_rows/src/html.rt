@@ -1,6 +1,6 @@
-// Rows on HTML blocks (CommonMark 4.6) of kinds 1 to 5, which end behind a text of their own.
+// Rows on HTML blocks (CommonMark 4.6) of kinds 1 to 5, which end after a text of their own.
 
-/// Rows on HTML blocks (CommonMark 4.6) of kinds 1 to 5, which end behind a text of their own.
+/// Rows on HTML blocks (CommonMark 4.6) of kinds 1 to 5, which end after a text of their own.
 pub fn rows() -> &'static str {
     r##"CommonMark 4.6, kind 1 | commonmark | html_flow
 "<script>\na\n\nb\n</script>\nc"

@@ -1,6 +1,6 @@
 // Rows that a body of the parser is tried on: texts with the outlines that they must give.
 //
-// The rows of a module are one text, so that a check takes them as data. Rows stand apart by an empty line. A row is:
+// The rows of a module are one text, so that a check takes them as data. Rows are apart by an empty line. A row is:
 //
 //     SECTION | SET | NEEDED
 //     "TEXT"
@@ -14,9 +14,9 @@
 // `definitions 0` and `footnotes 0` are left out.
 //
 // A row of events (`events`) has in the place of NEEDED nothing, or `references` where the text parts are read by that
-// layer, and then a line for each part: its name, after two spaces for each part that it is in, and of a piece its bytes
-// between quotes. A piece that ends within a tab has after them how many of its columns it takes; the rest of the tab is
-// the next piece's. Pieces lie side by side from the first byte to the last, so each event's point follows.
+// layer, and then a line for each part: its name, after two spaces for each part that it is in, and of a piece its
+// bytes between quotes. A piece that ends within a tab has after them how many of its columns it takes; the rest of the
+// tab is the next piece's. Pieces lie side by side from the first byte to the last, so each event's point follows.
 #![tactic(auto)]
 
 pub mod alerts;

@@ -1,6 +1,6 @@
-// Rows on underlines (CommonMark 4.3): in containers, on lazy lines, behind other leaves, and where constructs are off.
+// Rows on underlines (CommonMark 4.3): in containers, on lazy lines, after other leaves, and where constructs are off.
 
-/// Rows on underlines in containers, on lazy lines, behind other leaves, and where constructs are off.
+/// Rows on underlines in containers, on lazy lines, after other leaves, and where constructs are off.
 pub fn rows() -> &'static str {
     r##"CommonMark 4.3: an underline holds one kind of marker and nothing else | commonmark | nothing
 "a\n---x"

@@ -17,10 +17,10 @@ const LEAVES: [&str; 6] = ["a", ">", "#", "*", " ", "\n"];
 /// Letters that begin items, quotes and breaks, or lines.
 const ITEMS: [&str; 7] = ["a", "-", "1", ".", ">", " ", "\n"];
 
-/// Letters that indent code and items, and cut tabs, those that begin what code stands in, and lines.
+/// Letters that indent code and items, and cut tabs, those that begin what code is in, and lines.
 const CODE: [&str; 7] = ["a", "    ", "  ", "\t", ">", "-", "\n"];
 
-/// Letters that begin and end fences, those that begin what they stand in, and lines.
+/// Letters that begin and end fences, those that begin what they are in, and lines.
 const FENCES: [&str; 7] = ["a", "```", "~~~", ">", "-", " ", "\n"];
 
 /// Letters of which fences of several sizes are made, in quotes too, with whitespace that a fence may cut.
@@ -29,7 +29,7 @@ const SIZES: [&str; 6] = ["```", "`", "a", ">", "\t", "\n"];
 /// Letters that begin and end math, alone and in quotes.
 const MATH: [&str; 6] = ["a", "$$", "$", ">", " ", "\n"];
 
-/// Letters of which underlines, items and breaks are made, text that they may stand behind, quotes, and lines.
+/// Letters of which underlines, items and breaks are made, text that they may be after, quotes, and lines.
 const UNDERLINES: [&str; 6] = ["a", "=", "-", ">", " ", "\n"];
 
 /// Letters of which definitions and underlines are made, quotes, and lines.
@@ -38,7 +38,7 @@ const DEFINITIONS: [&str; 7] = ["[", "]", ":", "a", "=", "\n", ">"];
 /// Letters of which rows and delimiter rows are made, quotes, and lines.
 const TABLES: [&str; 7] = ["a", "|", "-", ":", ">", " ", "\n"];
 
-/// Letters that stand behind a label: marks of destinations and titles, whitespace, and lines.
+/// Letters that are after a label: marks of destinations and titles, whitespace, and lines.
 const PARTS: [&str; 9] = ["[a]:", "\"", "\\", "(", ")", "<", ">", " ", "\n"];
 
 /// Letters of which tags and comments are made, and lines.

@@ -78,7 +78,7 @@ impl Place {
         }
     }
 
-    /// The place of a byte that is not before this one, or none behind the end of the text.
+    /// The place of a byte that is not before this one, or none after the end of the text.
     fn moved_to(self, bytes: &[u8], index: usize) -> Option<Place> {
         let mut place = self;
         for byte in bytes.get(self.index..index)? {

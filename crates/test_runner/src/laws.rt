@@ -1,6 +1,6 @@
 // Tries the laws of nesting: a text that is quoted, or indented as an item or as a footnote definition, has the same
-// outline one container deeper, and the same labels, behind that of the footnote. Its events nest and tile, too. Where
-// alerts are on and the first line of a text is the marker of one, its quote is an alert of the lines behind.
+// outline one container deeper, and the same labels, after that of the footnote. Its events nest and tile, too. Where
+// alerts are on and the first line of a text is the marker of one, its quote is an alert of the lines after.
 
 use crate::events::try_events;
 use crate::report::Report;
@@ -40,7 +40,7 @@ fn first_line(text: &str) -> &str {
     text.get(..count).unwrap_or("")
 }
 
-/// The lines of a text behind the first one.
+/// The lines of a text after the first one.
 fn behind_first_line(text: &str) -> &str {
     let rest = text.get(first_line(text).len()..).unwrap_or("");
     match rest.strip_prefix("\r\n") {
@@ -49,7 +49,7 @@ fn behind_first_line(text: &str) -> &str {
     }
 }
 
-/// What is printed of an alert, if the first line of a plain text is its marker, behind a small indent.
+/// What is printed of an alert, if the first line of a plain text is its marker, after a small indent.
 fn alert_of(text: &str, constructs: &Constructs) -> Option<&'static str> {
     let line = first_line(text);
     let indent = line.bytes().take_while(|byte| *byte == b' ').count();
@@ -82,7 +82,7 @@ fn below(alloc: Global, output: &str, heads: &str, indent: &str) -> Result<Strin
     Ok(deeper)
 }
 
-/// What is printed, with the label `x` in front of those of the other footnote definitions.
+/// What is printed, with the label `x` before those of the other footnote definitions.
 fn with_footnote(alloc: Global, output: &str) -> Result<String, AllocError> {
     let mut all = String::new(alloc);
     for line in output.lines() {

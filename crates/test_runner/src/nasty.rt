@@ -32,11 +32,11 @@ const LETTERS: [&str; 12] = [
     "+++",
     // A cell.
     "|",
-    // A quote, also between the lines of what stands in one.
+    // A quote, also between the lines of what is in one.
     ">",
     // A footnote definition.
     "[^a]:",
-    // A label: the word behind it is its destination, and an ending may stand between both.
+    // A label: the word after it is its destination, and an ending may be between both.
     "[a]:",
     // A fence, which takes all of the others as text, and which ends with its container.
     "```",
@@ -55,7 +55,7 @@ const FRAGMENTS: [&str; 46] = [
     "<a |",
 ];
 
-/// Fragments of alerts: markers, whole and in parts, and what they stand in, behind and in front of.
+/// Fragments of alerts: markers, whole and in parts, and what they are in, after and before.
 const ALERTS: [&str; 40] = [
     "> [!NOTE]\n",
     "> [!tip]\n> ",

@@ -2,7 +2,7 @@
 
 use std::alloc::{AllocError, Global};
 
-/// The list of a report grows no longer behind so many bytes.
+/// The list of a report grows no longer after so many bytes.
 const LONGEST: usize = 500_000;
 
 /// A count of what was tried, and a readable list of what disagreed.

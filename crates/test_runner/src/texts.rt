@@ -13,7 +13,7 @@ pub fn repeated(alloc: Global, part: &str, times: usize) -> Result<String, Alloc
     Ok(text)
 }
 
-/// The text of so many letters of an alphabet that a number stands for: its digits choose the letters, the last one
+/// The text of so many letters of an alphabet that a number represents: its digits choose the letters, the last one
 /// first.
 pub fn numbered(
     alloc: Global,

@@ -12,7 +12,7 @@ use test_rows::case::{Case, CaseError};
 use test_rows::constructs::{NAMES, switch};
 
 /// Whether nothing makes a word without the construct of this name. Headings of depth 1 and 2 are of two constructs,
-/// which their events tell apart.
+/// which their events show apart.
 fn is_of(word: Word, name: &str) -> bool {
     match word {
         Word::Frontmatter(_) => name == "frontmatter",

@@ -6,7 +6,7 @@ use Rattle.md_program.specs.Printed.{printed_line}
 use Rattle.md_seam.specs.Events.Spelled.{spelled}
 use Rattle.blocks_body.proofs.printed.push_outline.Given as goal
 
--- the outline of the events that are left is printed behind what is there
+-- the outline of the events that are left is printed after what is there
 abbrev pub invariant-loop-rest : goal.invariant-loop-rest
 invariant-loop-rest l = record {
   outlined : IsOutlined l.rest l.state.bytes.now;

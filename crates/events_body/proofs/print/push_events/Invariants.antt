@@ -2,7 +2,7 @@ use Rattle.std.proofs.Common.{◌≡◌, ◌≤◌, ◌++◌, drop, string_bytes
 use Rattle.events_body.specs.PrintedEvents.{printed_events, printed_within}
 use Rattle.events_body.proofs.print.push_events.Given as goal
 
--- what is left is printed behind the lines so far, and no more parts are depth than events were read
+-- what is left is printed after the lines so far, and no more parts are depth than events were read
 abbrev pub invariant-loop-event : goal.invariant-loop-event
 invariant-loop-event l = record {
   lines : string_bytes l.text ++ printed_within l.depth (drop l.event-index l.events) ≡
