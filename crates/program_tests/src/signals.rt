@@ -28,13 +28,12 @@ impl<S> Interrupted<S> {
 
     /// Whether a signal interrupts this call.
     fn is_interrupted(&mut self) -> bool {
-        let is_interrupted = self.left > 0;
-        self.left = if is_interrupted {
-            self.left - 1
-        } else {
-            SIGNALS
-        };
-        is_interrupted
+        if self.left == 0 {
+            self.left = SIGNALS;
+            return false;
+        }
+        self.left -= 1;
+        true
     }
 }
 
