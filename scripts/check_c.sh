@@ -6,7 +6,7 @@
 # The heap of the library calls `malloc` through `liblibc_c.a` of the kit, which is linked behind it.
 #
 # It takes what `rt ci` has built, or a library LIBRARY and the programs of the folder PROGRAMS, where these are set. Where
-# a library is missing below `hoxalgurre_c`, `rt ci` makes it in a copy of these crates, of what it has kept.
+# the library for C cannot be built over that, `rt ci` makes those below it in a copy of the crates, of what it has kept.
 set -euo pipefail
 cd "$(dirname "$0")/.."
 scripts/c_header.py --check
@@ -17,7 +17,7 @@ work=$(mktemp -d)
 trap 'rm -rf "$work"' EXIT
 
 # `rt ci` proves the static library and keeps none. It is built over the libraries that `rt ci` has left, as `rt lib` builds
-# it. A library of which `rt check` keeps work is not one of these.
+# it. Where one is missing, or is left by `rt check`, the copy has them.
 library=${LIBRARY:-$work/libhoxalgurre_c.a}
 if [ ! -f "$library" ]; then
     below=$(python3 - crates.txt <<'PYTHON'
@@ -33,34 +33,29 @@ while left:
 print(" ".join(sorted(needed)))
 PYTHON
     )
-    crates=crates
-    for crate in $below; do
-        if [ "$crate" != hoxalgurre_c ] && [ ! -f "crates/$crate/out/rlib/$crate.rlib/format" ]; then
-            crates=$work/crates
-        fi
-    done
-    if [ "$crates" != crates ]; then
-        mkdir "$crates"
+    # Builds the library over the libraries below a folder of crates.
+    build() {
+        local crate libraries=(-L "dependency=$kit/rlibs")
+        for crate in $below; do
+            libraries+=(-L "dependency=$1/$crate/out/rlib")
+            [ "$crate" = hoxalgurre_c ] || [ -f "$1/$crate/out/rlib/$crate.rlib/format" ] || return 1
+        done
+        "$kit/bin/rattle" build --crate-name hoxalgurre_c "$1/hoxalgurre_c/src/lib.rt" --crate-type staticlib \
+            --extern "std=$kit/rlibs/std.rlib" --extern "markdown_blocks=$1/markdown_blocks/out/rlib/markdown_blocks.rlib" \
+            "${libraries[@]}" --antt-project "$kit/rattle/logic/antt-project.json" --logic-built "$kit/logic_built" \
+            --toolchain "$kit/toolchain" -o "$library" >"$work/built" 2>&1
+    }
+    build crates || {
+        mkdir "$work/crates"
         cp HANDLES "$work/"
         for crate in $below; do
-            tar -C crates --exclude=out --exclude=must-fail -cf - "$crate" | tar -C "$crates" -xf -
+            tar -C crates --exclude=out --exclude=must-fail -cf - "$crate" | tar -C "$work/crates" -xf -
             grep -E "^$crate( |:)" crates.txt >>"$work/crates.txt"
         done
-        (cd "$work" && rt ci) >"$work/built" 2>&1 || {
+        (cd "$work" && rt ci) >"$work/built" 2>&1 && build "$work/crates" || {
             tail -n 30 "$work/built"
             exit 1
         }
-    fi
-    libraries=(-L "dependency=$kit/rlibs")
-    for crate in $below; do
-        libraries+=(-L "dependency=$crates/$crate/out/rlib")
-    done
-    "$kit/bin/rattle" build --crate-name hoxalgurre_c "$crates/hoxalgurre_c/src/lib.rt" --crate-type staticlib \
-        --extern "std=$kit/rlibs/std.rlib" --extern "markdown_blocks=$crates/markdown_blocks/out/rlib/markdown_blocks.rlib" \
-        "${libraries[@]}" --antt-project "$kit/rattle/logic/antt-project.json" --logic-built "$kit/logic_built" \
-        --toolchain "$kit/toolchain" -o "$library" >"$work/built" 2>&1 || {
-        cat "$work/built"
-        exit 1
     }
 fi
 gcc -std=c11 -O2 -Wall -Wextra -Werror -Iinclude examples/c/events.c "$library" "$heap" -o "$work/events"
