@@ -9,7 +9,7 @@ use std::alloc::Global;
 use test_rows::case::CaseError;
 
 /// The most letters of a text where no argument says it.
-pub const MOST: usize = 7;
+pub const MOST: usize = 6;
 
 /// Letters that begin quotes, headings and breaks, or lines.
 const LEAVES: [&str; 6] = ["a", ">", "#", "*", " ", "\n"];
