@@ -1,5 +1,5 @@
 -- Containers that are open while blocks are grouped.
-use Rattle.std.proofs.Common.{◌≡◌, List, [], ◌∷◌, ◌++◌, reverse, Option, Some, None, option_to_list, length, append-nil, refl, sym, ◌∙◌, ap}
+use Rattle.std.proofs.Common.{◌≡◌, List, [], ◌∷◌, ◌++◌, reverse, Option, Some, option_to_list, length, refl, sym, ◌∙◌, ap}
 use Rattle.std.proofs.lemmas.List.{reverse-append}
 use Rattle.md_meaning.specs.Tree as t
 use Rattle.md_meaning.specs.State.{Container, InQuote, InItem, InFootnote, container_block}
@@ -66,17 +66,14 @@ pub around_pop : (old new : List Level) (o : Option Level) (l : Level) (bs : t.B
 around_pop old new o l bs e h =
     sym (ap (λ ls. around_all ls bs) (h ∙ ap (λ p. new ++ option_to_list p) e) ∙ around_push new l bs)
 
+-- no container is open
+pub around-none : (levels : List Level) (bs : t.Blocks) → length levels ≡ 0 → around_all levels bs ≡ bs
+around-none [] bs none = refl
+around-none (l ∷ levels) bs none = absurd (cc)
+
 -- no block is left
-pub nothing-after : (levels : List Level) (groups : Groups) (after : List Block) (o : Option Block)
-    (new : List Block) (bs : t.Blocks) → o ≡ None → length new ≡ 0 → after ≡ new ++ option_to_list o →
-    bs ≡ then_groups groups t.End →
+pub nothing-after : (levels : List Level) (groups : Groups) (after : List Block) (bs : t.Blocks) →
+    length after ≡ 0 → bs ≡ then_groups groups t.End →
     around_all levels bs ≡ around_all levels (then_groups groups (grouped (meanings (reverse after))))
-nothing-after levels groups after o new bs e none h flushed =
-    ap (around_all levels)
-    (flushed
-    ∙ ap (λ xs. then_groups groups (grouped (meanings (reverse xs))))
-    (sym (h ∙ ap (λ p. new ++ option_to_list p) e ∙ append-nil new ∙ empty new none)))
-  where
-    empty : (xs : List Block) → length xs ≡ 0 → xs ≡ []
-    empty [] z = refl
-    empty (x ∷ xs) z = absurd (cc)
+nothing-after levels groups [] bs none flushed = ap (around_all levels) flushed
+nothing-after levels groups (b ∷ after) bs none flushed = absurd (cc)

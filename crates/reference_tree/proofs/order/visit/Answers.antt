@@ -14,4 +14,4 @@ returns c =
     (record { depth = c.args.level.depth; blocks = c.in-Some.after })
     (record { depth = c.in_ok-inner.inner; blocks = c.inside.result })
     c.in_ok-push.ensures c.in_ok-push-2.ensures c.in_ok-push-3.ensures
-    (ap (λ xs. meanings xs) c.in-Some.ensures.cases) refl refl c.in_ok-inner.ensures c.inside.ensures
+    (ap (λ xs. meanings xs) c.in-Some.ensures.cases.0) refl refl c.in_ok-inner.ensures c.inside.ensures
