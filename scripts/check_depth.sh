@@ -2,7 +2,8 @@
 # Containers in one another take no stack, whatever their number: built programs (`rt ci` or `rt run` builds them: `out`; where PROGRAMS
 # is set, they are in that folder) run with 256 KB of stack.
 #
-# - `bench levels` tries the parser and the plain program on 100,000 markers of containers, of three kinds.
+# - `bench levels` tries the parser on 100,000 markers of containers, of three kinds, the third of four containers, and the plain program
+#   on a quarter of each.
 # - `plain_blocks` prints the outline of 2,000 containers in one another, on one line and on two, the second of which closes them. The
 #   outlines are written here.
 # - The same with requests for memory refused, every 61st in turn, alone and with all that follow (`scripts/refuse.c`): the program then
