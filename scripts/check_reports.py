@@ -13,6 +13,7 @@ import tempfile
 
 os.chdir(os.path.join(os.path.dirname(os.path.abspath(__file__)), ".."))
 sys.path.insert(0, "scripts")
+sys.dont_write_bytecode = True
 from command_cases import Case, command_cases
 from report_model import TASKS, html_text, part, report
 from report_texts import SETS, models, pages, program, rows, texts

@@ -67,7 +67,7 @@ def sections():
         head, _, rest = section.partition("\n")
         plain = re.sub(r"\\(f[A-Z]|&)", "", rest).replace("\\-", "-").replace("\\e", "\\")
         rows = re.findall(r"^\.TP\n\.B (.*)\n(.*)\n", plain, re.M)
-        found[head] = rows, re.sub(r"^\.(PP\n|B |I )", "", plain, flags=re.M)
+        found[head] = rows, plain.replace(".PP\n", "\n")
     return found
 
 
@@ -80,10 +80,10 @@ def help_cases():
     """The help, in the words of the manual page."""
     page = sections()
     about = page["NAME"][1].split(" - ")[1].strip()
+    notes = paragraphs(page["NOTES"][1])
     commands, options, shared = page["COMMANDS"][0], page["OPTIONS"][0], page["Of each command"][0]
-    notes = "\n\n".join(part.strip("\n") for part in page["NOTES"][1].split("\n.PP\n"))
     whole = (f"{about[0].upper()}{about[1:]}.\n\nUsage: hoxalgurre <COMMAND>\n\nCommands:\n{columns(commands)}\n"
-             f"Options:\n{columns(options)}\n{paragraphs(notes)}")
+             f"Options:\n{columns(options)}\n{notes}")
     for words in (["--help"], ["-h"], ["help"]):
         yield Case(words, whole.encode(), is_plain=True)
     yield Case([], stderr=whole.encode(), status=2, is_plain=True)
@@ -124,7 +124,62 @@ def argument_cases(folder):
 
 
 SHORT = {"a.md": b"# a\n\n|b|\n|-|\n", "b.md": b"> [!tip]\n> c\n\n$$\nd\n$$\n\n[^e]: f\n", "-x.md": b"- g\n\n  h\n",
-         'q"\\\u2028\n\U0001f600\x01.md': b"i\n=\n", "empty.md": b""}
+         'q"\\\u2028\n\U0001f600\x01.md': b"i\n=\n", "empty.md": b"", "plus.md": b"+++\na\n+++\n# b #\n$$ c\n"}
+
+# After the text of crates/html_example, which has each block: what it does not have.
+MORE = """
+> [!caution]
+
+- ~~~
+
+- [a]: b 'c
+  d'
+
+0. e
+
+>\t\tf
+
+- ```
+\t\tg
+
+[^a]: h
+[^A]: i
+
+|a|b|
+|:-:|-|
+|c|
+|d|e|f|
+
+|g|
+|-|
+
+\u3000j\u3000
+  k
+===
+
+### l ##
+> # v
+-
+  m
+  ***
+
+  > n
+  >
+  - o
+  |p|
+  |-|
+
+  q
+$$ r
+s
+$$
+
+\tt
+"&<>\0
+
+~~~ u
+
+"""
 
 
 class Files:
@@ -132,6 +187,7 @@ class Files:
 
     def __init__(self, folder):
         self.folder = folder
+        SHORT["all.md"] = open("crates/html_example/stdin", "rb").read() + MORE.encode()
         for name, text in SHORT.items():
             with open(os.path.join(folder, name), "wb") as file:
                 file.write(text)
@@ -146,12 +202,12 @@ def file_cases(files):
     """Sets, formats, files and the standard input."""
     folder, result = files.folder, files.result
     for task in REPORTS[:4]:
-        for name in ("a.md", "b.md", "empty.md"):
+        for name in ("all.md", "plus.md", "a.md", "b.md", "empty.md"):
             for words, form, constructs in [
                 ([task, name], "text", "gfm"), ([task, "-f", "json", name], "json", "gfm"),
                 ([task, name, "--format=json"], "json", "gfm"), ([task, "--constructs", "gfm", name], "text", "gfm"),
                 ([task, "-c", "commonmark", name], "text", "commonmark"), ([task, "-call", "-fjson", name], "json", "all"),
-                ([task, name, "--constructs=alerts"], "text", "alerts"),
+                ([task, name, "--constructs=alerts"], "text", "alerts"), ([task, name, "-calerts", "-fjson"], "json", "alerts"),
             ]:
                 yield Case(words, result(task, form, constructs, [name]), folder=folder)
         odd = list(SHORT)[3]

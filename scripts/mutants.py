@@ -18,6 +18,7 @@ from concurrent.futures import ThreadPoolExecutor
 
 os.chdir(os.path.join(os.path.dirname(os.path.abspath(__file__)), ".."))
 sys.path.insert(0, "scripts")
+sys.dont_write_bytecode = True
 
 CRATES = ("hoxalgurre", "hoxalgurre_body", "html_blocks", "md_program", "hoxalgurre_c")
 # The report that most likely changes, by the file of a wrong body.
@@ -85,7 +86,7 @@ fn by_c(rt: &HostRuntime, set: &str, room: usize) -> std::io::Result<()> {
 }
 
 fn main(rt: HostRuntime) -> ExitCode {
-    let Ok(args) = md_program::system::arguments(&rt) else { return ExitCode::from(9) };
+    let Ok(args) = md_program::system::arguments(&rt) else { return own_main(rt) };
     let mut errors = rt.stderr();
     match args.as_slice() {
         [first, rest @ ..] if first.as_str() == "%blocks" => ExitCode::from(blocks_body::run::run(
