@@ -273,8 +273,8 @@ def finding(source, line):
 
 
 def finding_cases(folder):
-    """The cases of labels, each alone and all together."""
-    together = {}
+    """The cases of labels, all together and each alone."""
+    together, alone = {}, []
     for at, case in enumerate(label_cases()):
         name, source = f"l{at}.md", case.text.encode()
         with open(os.path.join(folder, name), "wb") as file:
@@ -282,14 +282,13 @@ def finding_cases(folder):
         text = "".join(f"{name}:{line}\n" for line in case.wanted)
         value = as_json(name, {"findings": [finding(source, line) for line in case.wanted]})
         together.setdefault(case.constructs, []).append((name, text, value))
-        status = 1 if case.wanted else 0
-        yield Case(["labels", "-c", case.constructs, name], text.encode(), b"", status, folder)
-    for constructs, result in together.items():
-        names, texts, values = zip(*result)
-        status = 1 if any(texts) else 0
+        alone.append(Case(["labels", "-c", case.constructs, name], text.encode(), b"", 1 if text else 0, folder))
+    for constructs, parts in together.items():
+        names, texts, values = zip(*parts)
+        array, status = "[" + ",\n".join(values) + "]\n", 1 if any(texts) else 0
         yield Case(["labels", "-c", constructs, *names], "".join(texts).encode(), b"", status, folder)
-        array = "[" + ",\n".join(values) + "]\n"
         yield Case(["labels", "-c", constructs, "-f", "json", *names], array.encode(), b"", status, folder)
+    yield from alone
     one = b"-:1:1: undefined reference [a]\n"
     yield Case(["labels", "empty.md", "missing.md"], b"", b"hoxalgurre: missing.md: no such file\n", 4, folder)
     yield Case(["labels", "-", "broken.md"], one, b"hoxalgurre: broken.md:2:2: not UTF-8\n", 2, folder, b"[a]")
