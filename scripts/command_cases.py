@@ -126,7 +126,7 @@ def argument_cases(folder):
 SHORT = {"a.md": b"# a\n\n|b|\n|-|\n", "b.md": b"> [!tip]\n> c\n\n$$\nd\n$$\n\n[^e]: f\n", "-x.md": b"- g\n\n  h\n",
          'q"\\\u2028\n\U0001f600\x01.md': b"i\n=\n", "empty.md": b"", "plus.md": b"+++\na\n+++\n# b #\n$$ c\n"}
 
-# After the text of crates/html_example, which has each block: what it does not have.
+# After examples/cases/each_block.md: what that does not have.
 MORE = """
 > [!caution]
 
@@ -187,7 +187,7 @@ class Files:
 
     def __init__(self, folder):
         self.folder = folder
-        SHORT["all.md"] = open("crates/html_example/stdin", "rb").read() + MORE.encode()
+        SHORT["all.md"] = open("examples/cases/each_block.md", "rb").read() + MORE.encode()
         for name, text in SHORT.items():
             with open(os.path.join(folder, name), "wb") as file:
                 file.write(text)
