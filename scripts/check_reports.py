@@ -19,9 +19,9 @@ from report_model import TASKS, html_text, part, report
 from report_texts import SETS, models, pages, program, rows, texts
 
 
-def report_cases(folder):
+def report_cases(folder, groups):
     """A case for each report of each group of texts, in each format, under each set. The texts are written to a folder."""
-    for at, group in enumerate(texts()):
+    for at, group in enumerate(groups):
         made = models([(text, constructs) for text in group for constructs in SETS])
         check_rows(made)
         check_pages(made)
@@ -74,10 +74,10 @@ def failure(case, words, environment=None):
     return None if case.holds(result) else ascii(case.words[:6]) + f" {case.how or ''}: {difference(case, result)}"
 
 
-def all_cases(folder):
-    """All cases, those of short texts first."""
+def all_cases(folder, is_short=False):
+    """All cases, those of short texts first, or these alone."""
     yield from command_cases(folder)
-    yield from report_cases(folder)
+    yield from report_cases(folder, texts()[:1] if is_short else texts())
 
 
 def main():

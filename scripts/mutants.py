@@ -4,7 +4,7 @@
 All are applied to one copy of the crates, where a body is wrong only for its number, which the program reads from the
 environment (`MUTANT`, by a function in C that the copy alone has). One program is built, without proof: `hoxalgurre`, and
 by its first argument also `blocks`, `events` and a caller of `hoxalgurre_events`. With each number the cases of
-check_reports.py run against what the bodies as they are print, then what the examples in C compare (`c_case`),
+check_reports.py, of its short texts alone, run against what the bodies as they are print, then what the examples in C compare (`c_case`),
 scripts/man.py and scripts/check_texts.sh, up to the first that fails. Number 0 is for the bodies as they are: all has to
 pass. With words, only wrong bodies with all of them in their file or comment are tried, with --third N (0 to 2) every
 third one from the Nth. Less than 97 of 100 refused is a failure, and so is a wrong body that does not apply."""
@@ -202,7 +202,7 @@ class Tests:
         from report_texts import models
         self.programs = programs
         model_of = lambda text, constructs: models([(text, constructs)])[text, constructs]
-        self.cases = [*all_cases(folder), *c_cases(Case, model_of)]
+        self.cases = [*all_cases(folder, True), *c_cases(Case, model_of)]
 
     def refused_by(self, number, report=None):
         """What refuses a wrong body, or None: the cases of its report first."""
