@@ -2,12 +2,12 @@
 """mutants.py [--third N] [WORD..]: tries the wrong bodies of scripts/mutants.txt, each of which a test has to refuse.
 
 All are applied to one copy of the crates, where a body is wrong only for its number, which the program reads from the
-environment (`MUTANT`, by a function in C that the copy alone has). One program is built, without proof: `hoxalgurre`, and
-by its first argument also `blocks`, `events` and a caller of `hoxalgurre_events`. With each number the cases of
-check_reports.py, of its short texts alone, run against what the bodies as they are print, then what the examples in C compare (`c_case`),
-scripts/man.py and scripts/check_texts.sh, up to the first that fails. Number 0 is for the bodies as they are: all has to
-pass. With words, only wrong bodies with all of them in their file or comment are tried, with --third N (0 to 2) every
-third one from the Nth. Less than 97 of 100 refused is a failure, and so is a wrong body that does not apply."""
+environment (`MUTANT`, by a function in C that the copy alone has). One program is built, without proof: `hoxalgurre`,
+and by its first argument also `blocks`, `events` and a caller of `hoxalgurre_events`. With each number run the cases of
+check_reports.py on short texts, calls of `hoxalgurre_events` as scripts/check_c.sh has them, scripts/man.py and
+scripts/check_texts.sh, up to the first that fails. Number 0 is for the bodies as they are: all has to pass. With words,
+only wrong bodies with all of them in their file or comment are tried, with --third N (0 to 2) every third one from the
+Nth. Less than 97 of 100 refused is a failure, and so is a wrong body that does not apply."""
 import os
 import re
 import subprocess
