@@ -23,7 +23,7 @@ FOLDER = os.environ.get("PROGRAMS")
 STACK = 256 * 1024
 LEVELS = 2000
 
-# A marker, and the words of the outline that it stands for.
+# A marker, and the words of the outline that it opens.
 MARKERS = {"> ": ["quote"], "- ": ["list -", "item"], "> 1. ": ["quote", "list .", "item"]}
 
 REFUSED = (3, b"", b"plain_blocks: out of memory\n")
