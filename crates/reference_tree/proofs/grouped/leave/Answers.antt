@@ -6,5 +6,5 @@ use Rattle.reference_tree.proofs.grouped.leave.Goals as goal
 
 pub returns : goal.returns
 returns c =
-    left-level c.args.levels.items c.args.level c.in_ok-groups.groups (meaning c.closed_block.result.block)
-    (blocks_meaning c.args.inner) c.closed_block.ensures c.in_ok-groups.ensures
+    left-level c.args.levels.items c.args.level c.in_ok-groups.groups (meaning c.container_block.result.block)
+    (blocks_meaning c.args.inner) c.container_block.ensures c.in_ok-groups.ensures

@@ -13,18 +13,18 @@ returns-in-Some c =
     (sym (forward-last g.after.list.items c.pop.new.self.items c.pop.result c.in-Some.block c.in-Some.is
     c.pop.ensures.items))
 
-pub returns-in-Some-2 : goal.returns-in-Some-2
-returns-in-Some-2 c =
+pub returns-in-Some-pop : goal.returns-in-Some-pop
+returns-in-Some-pop c =
     let g = c.args.grouping in
     let none : length g.after.list.items ≡ 0 = search rules in
-    c.in_ok-grouping-2.ensures
-    ∙ around_pop g.levels.items c.pop-2.new.self.items c.pop-2.result c.in-Some-2.level
-    (blocks_meaning c.in_ok-inner.inner) c.in-Some-2.is c.pop-2.ensures.items
+    c.in_ok-grouping-in-Some-pop.ensures
+    ∙ around_pop g.levels.items c.pop-2.new.self.items c.pop-2.result c.in-Some-pop.level
+    (blocks_meaning c.in_ok-inner.inner) c.in-Some-pop.is c.pop-2.ensures.items
     ∙ nothing-after g.levels.items g.groups g.after.list.items (blocks_meaning c.in_ok-inner.inner) none
     c.in_ok-inner.ensures
 
-pub returns-in-None : goal.returns-in-None
-returns-in-None c =
+pub returns : goal.returns
+returns c =
     let g = c.args.grouping in
     let none : length g.after.list.items ≡ 0 = search rules in
     let outermost : length g.levels.items ≡ 0 = search rules in

@@ -12,10 +12,11 @@ returns-in-Container c =
     subst (λ (x : t.Blocks). IfOk c.enter.result (λ g. left_to_group g ≡ x))
     (ap (with_next c.args.grouping) (sym opens)) c.enter.ensures
 
-pub returns-in-Other : goal.returns-in-Other
-returns-in-Other c =
+pub returns-in_ok-groups-in-Other : goal.returns-in_ok-groups-in-Other
+returns-in_ok-groups-in-Other c =
     let opens = subst (OpensTo (meaning c.args.whole.block)) c.in-Other.is c.open.ensures in
     let g = c.args.grouping in
-    other-level g.levels.items g.groups c.in_ok-groups.groups _ (forward g.after) (meaning c.in-Other.whole.block)
-    refl (ap grouped_block (sym opens.0) ∙ opens.1 ∙ opens.0) c.in_ok-groups.ensures
+    other-level g.levels.items g.groups c.in_ok-groups-in-Other.groups
+    (t.More (meaning c.in-Other.whole.block) (forward g.after)) (forward g.after) (meaning c.in-Other.whole.block)
+    refl (ap grouped_block (sym opens.0) ∙ opens.1 ∙ opens.0) c.in_ok-groups-in-Other.ensures
     ∙ ap (with_next g) (sym opens.0)

@@ -5,7 +5,7 @@ use Rattle.md_meaning.specs.Preamble.{without_mark, first_column, rests_at}
 use Rattle.md_meaning.specs.Tree.{Blocks}
 use Rattle.md_grammars.specs.Fronts.{IsEnd}
 use Rattle.md_grammars.specs.Rests.{rest_meanings}
-use Rattle.md_grammars.specs.WholeTrees.{tree_meaning}
+use Rattle.reference_tree.specs.Held.{blocks_meaning}
 use Rattle.reference_tree.proofs.BodyLemmas.{body, Reads, tree-some, tree-none}
 use Rattle.reference_tree.proofs.meaning.tree.Goals as goal
 
@@ -17,7 +17,7 @@ returns-in-Some c =
           ∙ ap (λ bytes. rests_at (first_column bytes) (lines_of (without_mark bytes))) c.as_bytes.ensures.value;
       front = c.in_ok-front.ensures.front;
     } in
-    subst (λ (x : Blocks). IfOk c.tree_behind.result (λ t. tree_meaning t ≡ x))
+    subst (λ (x : Blocks). IfOk c.tree_behind.result (λ t. blocks_meaning t ≡ x))
     (tree-some c.args.options.now c.args.text.now c.deref.result.now c.in_ok-front.field-0 c.in-Some.front
     reads c.in-Some.is
     (subst (λ o. IfSome o (λ f. IsEnd (drop 1 c.deref.result.now) f.after.now)) c.in-Some.is
@@ -31,8 +31,8 @@ returns c =
           ∙ ap (λ bytes. rests_at (first_column bytes) (lines_of (without_mark bytes))) c.as_bytes.ensures.value;
       front = c.in_ok-front.ensures.front;
     } in
-    subst (λ (x : Blocks). IfOk c.tree_without.result (λ t. tree_meaning t ≡ x))
+    subst (λ (x : Blocks). IfOk c.body.result (λ t. blocks_meaning t ≡ x))
     (ap (λ xs. grouped (body c.args.options.now (rest_meanings xs)))
     (c.deref-in-None.ensures.value ∙ sym c.deref.ensures.value)
     ∙ tree-none c.args.options.now c.args.text.now c.deref.result.now c.in_ok-front.field-0 reads c.in-None.is)
-    c.tree_without.ensures
+    c.body.ensures
