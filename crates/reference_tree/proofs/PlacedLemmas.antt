@@ -1,8 +1,8 @@
 -- The blocks of a tree in order: its outline and its labels are those of each.
 use Rattle.std.proofs.Common.{◌≡◌, ℕ, ◌+◌, List, [], ◌∷◌, ◌++◌, length, refl, sym, ◌∙◌, ap, append_assoc, append-nil}
 use Rattle.std.proofs.lemmas.List.{map-append}
-use Rattle.md_meaning.specs.Label.{Labels, both, no_labels, normal_form, block_labels, labels}
-use Rattle.md_meaning.specs.Outline.{Entry, entry, entry_with, quote_word, block_entries, outline}
+use Rattle.md_meaning.specs.Label.{Labels, both, block_labels, labels}
+use Rattle.md_meaning.specs.Outline.{entry, entry_with, quote_word, block_entries, outline}
 use Rattle.md_meaning.specs.declared.outline.Word.TheVariants as word
 use Rattle.md_meaning.specs.Tree as t
 use Rattle.reference_tree.specs.Labels.{own_labels, labels_at}

@@ -1,4 +1,3 @@
-use Rattle.std.proofs.Common.{[], ◌∷◌, ◌++◌, Some, refl}
 use Rattle.md_grammars.specs.Trees.{meaning}
 use Rattle.reference_tree.specs.Held.{blocks_meaning}
 use Rattle.reference_tree.proofs.LevelLemmas.{left-level}
