@@ -2,7 +2,7 @@
 
 ghost use Rattle.std.specs.Prelude.{◌≡◌, [], ◌∷◌, ◌++◌, OnOk};
 ghost use Rattle.md_meaning.specs.State.{then_block, then_paragraph};
-ghost use Rattle.md_grammars.specs.Trees.{meaning, meanings, slices};
+ghost use Rattle.md_grammars.specs.Trees.{meaning, slices};
 ghost use Rattle.reference_tree.specs.Held.{blocks_meaning};
 
 use md_engine::message::Message;

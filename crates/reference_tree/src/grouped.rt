@@ -1,6 +1,6 @@
 // Lists: neighbouring items with the same marker byte (CommonMark 5.3).
 
-ghost use Rattle.std.specs.Prelude.{◌≡◌, ◌==◌, ◌++◌, [], reverse, IfOk, OnOk};
+ghost use Rattle.std.specs.Prelude.{◌≡◌, ◌==◌, ◌++◌, reverse, IfOk, OnOk};
 ghost use Rattle.md_meaning.specs.Tree as tree;
 ghost use Rattle.md_meaning.specs.Grouped as grouped;
 ghost use Rattle.md_meaning.specs.State.{container_block};

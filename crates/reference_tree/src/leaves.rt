@@ -1,8 +1,8 @@
 // Leaf blocks: where they start, and how they continue.
 
-ghost use Rattle.std.specs.Prelude.{◌≡◌, ◌≤◌, ◌==◌, ◌||◌, ◌&&◌, not, length, map, reverse, count_by, nat_le, is_some};
+ghost use Rattle.std.specs.Prelude.{◌≡◌, ◌≤◌, ◌==◌, ◌||◌, ◌&&◌, not, length, map, count_by, nat_le, is_some};
 ghost use Rattle.std.specs.Prelude.{if◌then◌else◌, IsFalse, IfOk};
-ghost use Rattle.std.specs.List.{list_all, prefix_len, suffix_len};
+ghost use Rattle.std.specs.List.{list_all, prefix_len};
 ghost use Rattle.std.specs.Option.{option_copied, option_or};
 ghost use Rattle.md_meaning.specs.Leaves as leaves;
 ghost use Rattle.md_meaning.specs.Rest.{is_blank, is_white, is_parted};
@@ -15,7 +15,7 @@ ghost use Rattle.reference_tree.specs.States.{leaf_meaning, went_option, HandsBa
 use crate::state::{Leaf, LeafResult, Opening, ParagraphContext};
 use md_engine::configuration::ParseOptions;
 use md_engine::message::Message;
-use md_grammars::bytes::{is_blank, is_parted, is_white, run_len, trim, trim_end, trim_start};
+use md_grammars::bytes::{is_blank, is_parted, is_white, run_len, trim_start};
 use md_grammars::heading::heading_text;
 use md_grammars::html::{HtmlKind, html_ends, html_kind};
 use md_grammars::memory;

@@ -16,7 +16,7 @@ use crate::close::{close_to, shut};
 use crate::containers::{continues, opens};
 use crate::leaves::{Transition, goes_on, is_found, starts};
 use crate::paragraph::{
-    head_cells, kept, underline_depth, underlined, with_line, with_paragraph, with_table,
+    head_cells, underline_depth, underlined, with_line, with_paragraph, with_table,
 };
 use crate::state::{
     Frame, Innermost, Leaf, LeafResult, ParagraphContext, ParagraphLine, Path, Taken,
