@@ -2,8 +2,9 @@
 
 use md_engine::configuration::ParseOptions;
 use md_grammars::definition::{Cut, Defined, cut_definitions};
-use md_grammars::label::{labels_of, normal_form};
+use md_grammars::label::normal_form;
 use md_grammars::table::{delimiter_columns, is_head, row_cells};
+use reference_tree::labels::labels_of;
 use reference_tree::meaning::tree;
 use std::test::Fail;
 
