@@ -10,7 +10,7 @@ CRATES = os.path.join(os.path.dirname(os.path.dirname(os.path.abspath(__file__))
 STATEMENT = ("Rattle.markdown_blocks.specs.Parsed", "IsParsed")
 # what the lines of the standard mean, and what a list of events means
 MEANING = ("md_meaning",)
-READING = ("md_seam", "md_outline")
+READING = ("md_events", "md_outline")
 MOST, MOST_ELSE = 3200, 700
 # where worlds, behaviours, feeds and cells, states and tokenizers are from; kinds of HTML are the line definition's too
 RUN = re.compile(r"Rattle\.md_engine\.specs\.(World|Meaning|Sees|Scheme|TextFeed|declared\.state|"

@@ -2,7 +2,7 @@
 # Containers in one another take no stack, whatever their number: built programs (`rt ci` or `rt run` builds them: `out`; where PROGRAMS
 # is set, they are in that folder) run with 256 KB of stack.
 #
-# - `bench levels` tries the parser on 100,000 markers of containers, of three kinds, the third of four containers, and the plain program
+# - `test_bench levels` tries the parser on 100,000 markers of containers, of three kinds, the third of four containers, and the plain program
 #   on a quarter of each.
 # - `plain_blocks` prints the outline of 2,000 containers in one another, on one line and on two, the second of which closes them. The
 #   outlines are written here.
@@ -73,7 +73,7 @@ def check_outline(text, wanted):
     return runs
 
 
-ended = run([program("bench"), "levels"])
+ended = run([program("test_bench"), "levels"])
 if ended != (0, b"9 tried, 0 wrong\n", b""):
     sys.exit(f"bench levels with {STACK} bytes of stack: {ended}")
 runs = 0

@@ -67,7 +67,7 @@ for crate in markdown_blocks md_leaves md_gone; do
     [ -s "$user/crates/$crate/src/lib.rt" ] || fail "$crate is not there"
     [ "$(grep -c "^$crate:" "$user/crates.txt")" -eq 1 ] || fail "$crate is not once in crates.txt"
 done
-[ ! -e "$user/crates/bench" ] || fail "bench is there"
+[ ! -e "$user/crates/test_bench" ] || fail "bench is there"
 [ "$(find "$user/crates" -name must-fail | wc -l)" -eq 0 ] || fail "must-fail is there"
 passed=$((passed + 1))
 

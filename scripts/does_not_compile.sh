@@ -2,8 +2,8 @@
 # Tries that a program which drops the text and then uses a line of its outline does not compile: these lines are lent
 # from the text. No must-fail edit can say so, since what the borrow checker refuses does not reach the prover.
 #
-# Two copies of `crates/usage` keep the text in a `String` of their own. One drops it behind the last use of a line, and
-# prints what `crates/usage` does. The other drops it in front of that, which the borrow checker must refuse.
+# Two copies of `crates/examples_api` keep the text in a `String` of their own. One drops it behind the last use of a line, and
+# prints what `crates/examples_api` does. The other drops it in front of that, which the borrow checker must refuse.
 set -euo pipefail
 cd "$(dirname "$0")/.."
 work=$(mktemp -d)
@@ -14,7 +14,7 @@ tar -C crates --exclude=out -cf - . | tar -C "$work/crates" -xf -
 
 # Writes the copy that drops the text `early` or `late`.
 write() {
-    python3 - crates/usage/src/main.rt "$work/crates/usage/src/main.rt" "$1" <<'PYTHON'
+    python3 - crates/examples_api/src/usage.rt "$work/crates/examples_api/src/usage.rt" "$1" <<'PYTHON'
 import sys
 
 source, target, when = sys.argv[1:]
@@ -38,12 +38,12 @@ PYTHON
 
 # Runs the copy without proof; what it prints goes to `said`, and what is said of it to `errors`.
 try() {
-    (cd "$work/crates/usage" && timeout 300 rt try --steps 1 >"$work/said" 2>"$work/errors" </dev/null) || true
+    (cd "$work/crates/examples_api" && timeout 300 rt try --steps 1 >"$work/said" 2>"$work/errors" </dev/null) || true
 }
 
 write late
 try
-if ! cmp -s "$work/said" crates/usage/stdout; then
+if ! cmp -s "$work/said" crates/examples_api/stdout; then
     echo "does not compile: the text is dropped behind the last use of a line, and the program prints something else:"
     head -n 20 "$work/said" "$work/errors"
     exit 1

@@ -20,7 +20,7 @@ os.chdir(os.path.join(os.path.dirname(os.path.abspath(__file__)), ".."))
 sys.path.insert(0, "scripts")
 sys.dont_write_bytecode = True
 
-CRATES = ("hoxalgurre", "hoxalgurre_body", "html_blocks", "md_program", "hoxalgurre_c")
+CRATES = ("hoxalgurre", "reports", "html_blocks", "md_program", "hoxalgurre_c")
 # The report that most likely changes, by the file of a wrong body.
 REPORTS = {"events": "events", "outline": "outline", "position": "outline", "headings": "headings", "labels": "labels",
            "references": "labels", "inline": "labels", "tags": "html", "escape": "html", "ahead": "html", "render": "html",
@@ -89,9 +89,9 @@ fn main(rt: HostRuntime) -> ExitCode {
     let Ok(args) = md_program::system::arguments(&rt) else { return own_main(rt) };
     let mut errors = rt.stderr();
     match args.as_slice() {
-        [first, rest @ ..] if first.as_str() == "%blocks" => ExitCode::from(blocks_body::run::run(
+        [first, rest @ ..] if first.as_str() == "%blocks" => ExitCode::from(printing::run_blocks::run(
             rt.alloc(), rest, &mut rt.stdin(), &mut rt.stdout(), &mut errors)),
-        [first, rest @ ..] if first.as_str() == "%events" => ExitCode::from(events_body::run::run(
+        [first, rest @ ..] if first.as_str() == "%events" => ExitCode::from(printing::run_events::run(
             rt.alloc(), rest, &mut rt.stdin(), &mut rt.stdout(), &mut errors)),
         [first, set, room] if first.as_str() == "%c" => {
             let _done = by_c(&rt, set.as_str(), room.as_str().parse().unwrap_or(0));
@@ -140,7 +140,7 @@ def copied(work, found):
     crates = crates.replace("hoxalgurre_c staticlib:", "hoxalgurre_c:") + "\nmutant:\n"
     for crate in CRATES:
         crates = re.sub(rf"^{crate}:", f"{crate}: mutant", crates, flags=re.M)
-    crates = crates.replace("\nhoxalgurre: ", "\nhoxalgurre: blocks_body events_body hoxalgurre_c md_program ")
+    crates = crates.replace("\nhoxalgurre: ", "\nhoxalgurre: printing printing hoxalgurre_c md_program ")
     for name, text in (("crates.txt", crates), ("crates/mutant/src/lib.rt", LIBRARY),
                        ("crates/mutant/c/mutant.c", IN_C.replace("KEPT", f"{work}/kept"))):
         with open(f"{work}/{name}", "w", encoding="utf-8") as file:

@@ -63,13 +63,13 @@ def texts(name, *ends):
 
 
 def is_short(name):
-    is_library = os.path.exists(f"crates/{name}/src/lib.rt") and not name.endswith("_tests")
+    is_library = os.path.exists(f"crates/{name}/src/lib.rt") and name != "test_library"
     return is_library and sum(text.count("\n") for text in texts(name, ".rt", ".antt")) <= SHORT
 
 
 proved = [name for name in below if name in changed or name in above and is_short(name)]
 rest = [name for name in below if name in above and name not in proved]
-programs = [name for name in rest if os.path.exists(f"crates/{name}/stdout") and name != "bench"]
+programs = [name for name in rest if os.path.exists(f"crates/{name}/stdout") and name != "test_bench"]
 tests = [name for name in rest if any(re.search(r"#\[test\]", text) for text in texts(name, ".rt"))]
 left = [name for name in rest if name not in programs and name not in tests]
 for what, names in (("proved", proved), ("programs", programs), ("tests", tests), ("left", left)):
@@ -112,7 +112,7 @@ try_rows() {
     done
     : >"$work/cases/references"
     echo references >"$work/cases/references.args"
-    (cd crates/bench && rt try --steps 1 --seconds 600 --cases "$work/cases") || true
+    (cd crates/test_bench && rt try --steps 1 --seconds 600 --cases "$work/cases") || true
 }
 
 step scripts/counts.py
@@ -163,14 +163,14 @@ done <"$work/changed"
 where_changed '^scripts/(exact_rows|antt)\.py|^crates/md_exact/' scripts/exact_rows.py
 where_changed '^scripts/believed\.py|^crates/.*/specs/' scripts/believed.py
 where_changed '^scripts/check_states\.py' scripts/check_states.py
-where_changed '^scripts/does_not_compile\.sh|^crates/usage/' scripts/does_not_compile.sh
+where_changed '^scripts/does_not_compile\.sh|^crates/examples_api/' scripts/does_not_compile.sh
 where_changed '^scripts/wrong_bodies\.sh|^scripts/wrong-bodies/' scripts/wrong_bodies.sh
 where_changed '^scripts/(check_)?vendor\.sh' scripts/check_vendor.sh --copies
 where_changed '^scripts/c_header\.py|^include/' scripts/c_header.py --check
-where_built '^scripts/check_pages\.sh|\.md$' "blocks events hoxalgurre references_example" scripts/check_pages.sh
+where_built '^scripts/check_pages\.sh|\.md$' "blocks events hoxalgurre examples_references" scripts/check_pages.sh
 where_built '^scripts/check_texts\.sh|^examples/texts/' "hoxalgurre" scripts/check_texts.sh
 where_built '^scripts/(check_c\.sh|c_header\.py)|^(examples/(c|python)|include)/' "events" scripts/check_c.sh
-where_built '^scripts/refuse(_memory\.sh|\.c)' "blocks events memory_calls references_example hoxalgurre" scripts/refuse_memory.sh
+where_built '^scripts/refuse(_memory\.sh|\.c)' "blocks events test_memory examples_references hoxalgurre" scripts/refuse_memory.sh
 where_built '^scripts/man\.py|^docs/hoxalgurre\.1' "hoxalgurre" scripts/man.py --check
 where_built '^scripts/pictures\.py|^docs/.*\.svg' "events" scripts/pictures.py --check
 # (further scripts: here)

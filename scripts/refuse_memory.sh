@@ -3,11 +3,11 @@
 # folder). Each request is refused twice: alone, and with all that follow it. The number of the first that is refused rises until a
 # run meets no refusal (`scripts/refuse.c`).
 #
-# - Of `memory_calls`, those of one call of the library: `parse`, `parse_with`, `outline`, `outline_part`, `wrap::quote`, `wrap::item`,
+# - Of `test_memory`, those of one call of the library: `parse`, `parse_with`, `outline`, `outline_part`, `wrap::quote`, `wrap::item`,
 #   `wrap::footnote`, and the `run` of `blocks`, all on one text. What the program asks for before and after the call is counted apart.
 #   A refused run ends with status 3 and prints nothing, and the last run prints what is given here. The states that take no memory
 #   answer while each request is refused.
-# - Of `blocks`, `events`, `plain_blocks` and `references_example`, those of the whole program: on the texts of their stored runs, and
+# - Of `blocks`, `events`, `plain_blocks` and `examples_references`, those of the whole program: on the texts of their stored runs, and
 #   the first two with the argument `alerts` on each begin of a text with a byte order mark, frontmatter, headings of both kinds,
 #   quotes, a break, nested lists, an alert with a fence, HTML, definitions, in a quote and in front of an underline, a table and a
 #   footnote definition; the third on that text. The fourth parses its text with an inline layer, wraps it in a quote and in an item,
@@ -32,10 +32,10 @@ library = sys.argv[1]
 FOLDER = os.environ.get("PROGRAMS")
 
 # The refused runs of each program that there are at least.
-PROGRAMS = {"blocks": 4000, "events": 4000, "plain_blocks": 100, "references_example": 300}
+PROGRAMS = {"blocks": 4000, "events": 4000, "plain_blocks": 100, "examples_references": 300}
 LEAST_REPORTS = 600
 
-# The sizes of the requests of `memory_calls` before and after its call.
+# The sizes of the requests of `test_memory` before and after its call.
 MARKS = {"BEFORE": "42421", "AFTER": "42423"}
 
 TEXT = b"> [a\n> b]: c\n\n- x | y\n  --|--\n  1 | 2\n\n# h\n\ni\n=\n\n[^f]: g\n\n[A\nB] j"
@@ -195,7 +195,7 @@ def each_refused(command, text, right, begins, complaints, marks={}):
 def refuse_call(word):
     """Refuses the requests of one call."""
     given, complaint = CALLS[word]
-    return each_refused([program("memory_calls"), word], TEXT, (0, given, b""), [b""], [complaint], MARKS)
+    return each_refused([program("test_memory"), word], TEXT, (0, given, b""), [b""], [complaint], MARKS)
 
 
 def refuse_text(name, text, given):
@@ -246,7 +246,7 @@ for name, least in {**dict.fromkeys(CALLS, 1), **PROGRAMS, "hoxalgurre": LEAST_R
     print(f"refused memory: {name}, {runs[name]} runs refused, none of which went on")
     if runs[name] < least:
         sys.exit(f"not at least {least}")
-ended, count, _ = run([program("memory_calls"), "states"], b"", "1+", MARKS)
+ended, count, _ = run([program("test_memory"), "states"], b"", "1+", MARKS)
 if ended != (0, STATES, b"") or count == 0:
     sys.exit(f"states, each request refused: status, output and complaint {ended}, {count} refused")
 PYTHON

@@ -122,7 +122,7 @@ def fault(text, printed):
 def try_bench(seconds):
     cases = {f"bench{at:06}": (TASKS[at % len(TASKS)].format(SEED + at).split(), b"") for at in range(60 * MINUTES)}
     tried = 0
-    for name, status, printed in run("bench", cases, seconds):
+    for name, status, printed in run("test_bench", cases, seconds):
         last = re.search(rb"(\d+) tried, 0 wrong\n*\Z", printed)
         tried += int(last[1]) if last else 0
         if status or not last:

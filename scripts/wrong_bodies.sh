@@ -5,7 +5,7 @@
 # Each file of scripts/wrong-bodies has lines `file:`, `old:` (once in that file) and `new:`. All are applied to one copy
 # of the crates, where a body is wrong only for its number: `is_wrong()` in a `new:` line asks that of the constructs, or
 # of the walk over the cells of a table, which have a field for it in the copy, or in `md_program` of the program's name.
-# The copy of `bench` then tries the rows with the number of its argument, and 0 is for the bodies as they are; of the
+# The copy of `test_bench` then tries the rows with the number of its argument, and 0 is for the bodies as they are; of the
 # parser also the rows of events, as the program `events` prints them and by `references`. It also prints the status of a
 # run with an argument that is none. An edit of a crate of the plain program changes that body, each other the parser. One
 # with the line `# bench` is tried with each construct off too, by its events, and on long labels, and something must be
@@ -47,7 +47,7 @@ for number, edit in enumerate(edits, 1):
         replaced(name, old, new.replace("is_wrong()", asked), edit)
     if not tells:
         sys.exit(f"{edit}: no `new:` asks is_wrong()")
-    bodies.append((number, "Plain" if name.split("/")[1] in ("md_grammars", "reference_tree", "plain_body") else "Blocks"))
+    bodies.append((number, "Plain" if name.split("/")[1] in ("reference_grammars", "reference_tree") else "Blocks"))
 
 # which body is wrong
 options = "crates/md_engine/src/configuration.rt"
@@ -57,8 +57,7 @@ text = text.replace("        mdx_jsx_text: false,\n", "        mdx_jsx_text: fal
 text += "\nimpl Constructs {\n    pub fn is_wrong(&self, number: u8) -> bool {\n        self.wrong == number\n    }\n}\n"
 open(f"{work}/{options}", "w").write(text)
 kept = "let wrong = options.constructs.wrong; let mut options = Blocks::built(options); options.constructs.wrong = wrong;"
-replaced("crates/events_body/src/lib.rt", "let options = Blocks::built(options);", kept, "events")
-replaced("crates.txt", "\nbench: ", "\nbench: events_body ", "bench")
+replaced("crates/printing/src/events.rt", "let options = Blocks::built(options);", kept, "events")
 
 # the walk over the cells of a table has no constructs, so it gets the number from the resolver
 pass_of, tables, cells = "md_resolve/src/pass.rt", "md_tables/src/tables.rt", "md_tables/src/cells.rt"
@@ -79,11 +78,11 @@ for name, old, new in [
 # a body a number
 main = """#![tactic(auto)]
 ghost use Rattle.std.specs.Prelude.{Unit};
-use blocks_body::Blocks;
-use events_body::Events;
-use events_body::print::print;
+use printing::blocks::Blocks;
+use printing::events::Events;
+use printing::print::print;
 use markdown_blocks::parser::parse_with;
-use references::References;
+use examples_layer::References;
 use test_runner::event_rows::wanted;
 use test_runner::long::try_labels;
 use test_runner::report::Report;
@@ -97,7 +96,7 @@ use md_engine::message::Message;
 use md_program::body::{Body, Outlined};
 use md_program::printing::{OutlineOf, Printing};
 use md_program::run::run;
-use plain_body::Plain;
+use reference_tree::plain::Plain;
 use std::alloc::Global;
 use std::{env, io};
 
@@ -183,11 +182,11 @@ fn main(rt: HostRuntime) -> io::Result<()> {{
     println!(rt; "{{}} tried, {{}} wrong{{}}", report.tried, report.wrong, if ran_out {{ ", memory ran out" }} else {{ "" }})
 }}
 """
-shutil.rmtree(f"{work}/crates/bench/src")
-os.mkdir(f"{work}/crates/bench/src")
-open(f"{work}/crates/bench/src/main.rt", "w").write(main)
+shutil.rmtree(f"{work}/crates/test_bench/src")
+os.mkdir(f"{work}/crates/test_bench/src")
+open(f"{work}/crates/test_bench/src/main.rt", "w").write(main)
 PYTHON
-(cd "$work/crates/bench" && rt try --steps 1 --seconds 300 --cases "$work/cases" >"$work/said" 2>"$work/ends" </dev/null) || true
+(cd "$work/crates/test_bench" && rt try --steps 1 --seconds 300 --cases "$work/cases" >"$work/said" 2>"$work/ends" </dev/null) || true
 python3 - "$work" scripts/wrong-bodies/*.edit <<'PYTHON'
 import re, sys
 sys.path.insert(0, "scripts")

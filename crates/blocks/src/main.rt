@@ -1,8 +1,8 @@
 // The program `blocks`: it reads a Markdown text from its standard input and prints the outline of the text.
 #![tactic(auto)]
 
-use blocks_body::run::{NAME, run};
 use md_program::system::{Uninterrupted, arguments};
+use printing::run_blocks::{NAME, run};
 use std::process::ExitCode;
 
 fn main(rt: HostRuntime) -> ExitCode {

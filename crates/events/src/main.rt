@@ -1,8 +1,8 @@
 // The program `events`: it reads a Markdown text from its standard input and prints the events of its blocks.
 #![tactic(auto)]
 
-use events_body::run::{NAME, run};
 use md_program::system::{Uninterrupted, arguments};
+use printing::run_events::{NAME, run};
 use std::process::ExitCode;
 
 fn main(rt: HostRuntime) -> ExitCode {

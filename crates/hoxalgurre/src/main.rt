@@ -1,7 +1,7 @@
 // The program `hoxalgurre`: reports of what is in Markdown texts, of files or of the standard input.
 //
 // `command` says which arguments there are, `input` reads a text, `tasks` prints the reports of all files, and the
-// crate `hoxalgurre_body` makes them. `trouble` has what may go wrong, and the statuses. A message that cannot be
+// crate `reports` makes them. `trouble` has what may go wrong, and the statuses. A message that cannot be
 // written changes nothing.
 #![tactic(auto)]
 

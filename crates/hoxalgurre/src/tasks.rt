@@ -5,9 +5,9 @@ ghost use Rattle.markdown_blocks.specs.Parsed.{IsWithoutMdx};
 use crate::input::{place_of, read};
 use crate::trouble::Trouble;
 use clap::ArgMatches;
-use hoxalgurre_body::report::{Format, Report, Task, report_on};
 use markdown_blocks::configuration::ParseOptions;
 use markdown_blocks::parser::MAX_LEN;
+use reports::report::{Format, Report, Task, report_on};
 use std::io::Write;
 use std::str;
 

@@ -8,22 +8,22 @@ use Rattle.md_engine.specs.Place.{first_point}
 use Rattle.md_engine.specs.World.{World}
 use Rattle.md_registry.specs.Resolving.{lines_joined}
 use Rattle.md_content.specs.ContentReads.{content_readings, wants_content}
-use Rattle.md_seam.specs.Substituted.{Substituted}
-use Rattle.md_front_rooms.specs.Front.{body_point, front_events}
-use Rattle.md_rows.specs.TextRows.{text_rows}
-use Rattle.md_row_steps.specs.WithoutMdx.{IsWithoutMdx}
-use Rattle.md_rows.specs.Rows.{groups, rows_events}
-use Rattle.md_rows.specs.Unread.{unread_groups}
-use Rattle.md_frame.proofs.ContentFacts.{content-alone}
-use Rattle.md_rows.proofs.ContentCut.{content-reads}
-use Rattle.md_rows.proofs.GroupLemmas.{content-read}
-use Rattle.md_rows.proofs.HeadJoined.{heads-joined}
-use Rattle.md_rows.proofs.Begun.{begun}
-use Rattle.md_front_rooms.proofs.Frontmatter.Whole.{FrontPart}
-use Rattle.md_row_steps.proofs.TextAre.{lines_of, rows_of, text-are}
-use Rattle.md_rows.proofs.AloneGroups.{leaves-alone}
+use Rattle.md_events.specs.Substituted.{Substituted}
+use Rattle.proof_leaf_laws.specs.Front.{body_point, front_events}
+use Rattle.proof_rows.specs.TextRows.{text_rows}
+use Rattle.proof_rows.specs.WithoutMdx.{IsWithoutMdx}
+use Rattle.proof_rows.specs.Rows.{groups, rows_events}
+use Rattle.proof_rows.specs.Unread.{unread_groups}
+use Rattle.proof_frame.proofs.ContentFacts.{content-alone}
+use Rattle.proof_rows.proofs.ContentCut.{content-reads}
+use Rattle.proof_rows.proofs.GroupLemmas.{content-read}
+use Rattle.proof_rows.proofs.HeadJoined.{heads-joined}
+use Rattle.proof_rows.proofs.Begun.{begun}
+use Rattle.proof_leaf_laws.proofs.Frontmatter.Whole.{FrontPart}
+use Rattle.proof_rows.proofs.TextAre.{lines_of, rows_of, text-are}
+use Rattle.proof_rows.proofs.AloneGroups.{leaves-alone}
 use Rattle.md_content.specs.Joined.{joined}
-use Rattle.md_table_rooms.specs.Headed.{heads_read}
+use Rattle.proof_table_laws.specs.Headed.{heads_read}
 use Rattle.md_order.specs.Alone.{HoldNoBlock, Nothing}
 use Rattle.markdown_blocks.proofs.FlowReads.{FlowFlushed, text-quiet}
 

@@ -32,20 +32,20 @@ use Rattle.md_containers.specs.Frontmatter.{cleared}
 use Rattle.md_meaning.specs.Lines.{full_lines_of}
 use Rattle.md_leaves.specs.Bom.{mark}
 use Rattle.md_leaves.specs.BomRule.{are_next, bom_at}
-use Rattle.md_seam.specs.Ahead.{point_after}
-use Rattle.md_seam.specs.Events.Nested.{pair}
+use Rattle.md_events.specs.Ahead.{point_after}
+use Rattle.md_events.specs.Events.Nested.{pair}
 use Rattle.md_meaning.specs.Preamble.{has_mark}
-use Rattle.md_seam.specs.Spaces.{IsRest}
+use Rattle.md_events.specs.Spaces.{IsRest}
 use Rattle.md_registry.specs.Document.{DocumentStep, ReadsFront, document_table_scheme}
-use Rattle.md_front_rooms.specs.Front.{FrontRead, body_point, events_of, front_events, front_read, mark_end, point_or}
-use Rattle.md_front_rooms.specs.Front.{text_front}
-use Rattle.md_front_rooms.specs.DocumentRule.{behind_front, document_at, document_behaves}
-use Rattle.md_rows.specs.TextRows.{text_cells, text_setting}
-use Rattle.md_frame.specs.Rule.{tried}
-use Rattle.md_front_rooms.proofs.FrontAgrees.{Begins, IsWhole, comes, front-agrees}
+use Rattle.proof_leaf_laws.specs.Front.{FrontRead, body_point, events_of, front_events, front_read, mark_end, point_or}
+use Rattle.proof_leaf_laws.specs.Front.{text_front}
+use Rattle.proof_leaf_laws.specs.DocumentRule.{behind_front, document_at, document_behaves}
+use Rattle.proof_rows.specs.TextRows.{text_cells, text_setting}
+use Rattle.proof_frame.specs.Rule.{tried}
+use Rattle.proof_leaf_laws.proofs.FrontAgrees.{Begins, IsWhole, comes, front-agrees}
 use Rattle.md_registry.proofs.DocumentMeans.{document_table_means, document_stands}
-use Rattle.md_seam.proofs.FeedLines.{feed-next, feed-none, line-feed, past-next}
-use Rattle.md_seam.proofs.PlacesLemmas.{at-next}
+use Rattle.md_events.proofs.FeedLines.{feed-next, feed-none, line-feed, past-next}
+use Rattle.md_events.proofs.PlacesLemmas.{at-next}
 use Rattle.md_meaning.proofs.PreambleLemmas.{mark-bytes, mark-length}
 
 -- The mark among the cells.

@@ -20,12 +20,12 @@ use Rattle.md_engine.specs.Sees.{Sees, ahead}
 use Rattle.md_engine.proofs.StepOf.{outermost-frames, sees, steps-as}
 use Rattle.md_content.proofs.ContentMeaning.{chunk_means}
 use Rattle.md_leaves.proofs.BlankMeaning.{blank_means}
-use Rattle.md_seam.specs.Transition.{Transition}
-use Rattle.md_seam.proofs.SpacesTermination.{does-stands}
-use Rattle.md_seam.proofs.WhiteMeaning.{white_means}
+use Rattle.md_events.specs.Transition.{Transition}
+use Rattle.md_events.proofs.SpacesTermination.{does-stands}
+use Rattle.md_events.proofs.WhiteMeaning.{white_means}
 use Rattle.md_registry.specs.Document.{document_own_transition}
 use Rattle.md_registry.specs.Flow.{flow_end_code}
-use Rattle.md_frame.specs.Rule.{Rule}
+use Rattle.proof_frame.specs.Rule.{Rule}
 use Rattle.md_registry.specs.LineFlags as flags
 use Rattle.md_registry.specs.States.{FlowStep, flow_behaves, flow_behaves_by, flow_table_scheme, flow_transition}
 use Rattle.md_registry.proofs.FlowLemmas.{flow_by_line}

@@ -28,30 +28,30 @@ use Rattle.md_leaves.specs.HeadingText.{headings_resolved}
 use Rattle.md_leaves.specs.Turned.{turned}
 use Rattle.md_tables.specs.Tabled.{tabled}
 use Rattle.md_registry.specs.Resolving.{lines_joined, resolved_as}
-use Rattle.md_seam.specs.Substituted.{Substituted}
+use Rattle.md_events.specs.Substituted.{Substituted}
 use Rattle.markdown_blocks.specs.ContentRead.{AreSideBySide, ReadIf, holds_content, side_by_side}
 use Rattle.markdown_blocks.proofs.HoldsContent.{held-parts, quiet-side}
 use Rattle.markdown_blocks.specs.Fed.{FlowRan}
 use Rattle.markdown_blocks.specs.FlowReads.{FlowReads, has_text}
-use Rattle.md_rows.specs.TextRows.{text_cells, text_rows, text_setting}
+use Rattle.proof_rows.specs.TextRows.{text_cells, text_rows, text_setting}
 use Rattle.md_registry.specs.FlowRule.{flow_at}
-use Rattle.md_table_rooms.specs.Headed.{heads_read}
-use Rattle.md_frame.specs.Row.{BlankRow, LeafRow, Row, RowKind, TextRow}
-use Rattle.md_rows.specs.Rows.{is_text, leaf_events, row_events, row_events_by, rows_events, tail_events}
+use Rattle.proof_table_laws.specs.Headed.{heads_read}
+use Rattle.proof_frame.specs.Row.{BlankRow, LeafRow, Row, RowKind, TextRow}
+use Rattle.proof_rows.specs.Rows.{is_text, leaf_events, row_events, row_events_by, rows_events, tail_events}
 use Rattle.md_registry.specs.States.{FlowStep, flow_behaves, flow_table_scheme}
-use Rattle.md_rows.proofs.EachRow.{EachRow}
+use Rattle.proof_rows.proofs.EachRow.{EachRow}
 use Rattle.md_registry.proofs.FlowLemmas.{flow_by_line}
-use Rattle.md_rows.proofs.FlowRows.{flow_at-rows}
+use Rattle.proof_rows.proofs.FlowRows.{flow_at-rows}
 use Rattle.markdown_blocks.proofs.FlowRuns.{flow_flush, flow_outcome, flow_push}
-use Rattle.md_frame.proofs.ContentFacts.{NoContent, content-alone, no_content-label, nothing as nothing_wanted}
-use Rattle.md_frame.proofs.ContentFacts.{nothing-wanted}
+use Rattle.proof_frame.proofs.ContentFacts.{NoContent, content-alone, no_content-label, nothing as nothing_wanted}
+use Rattle.proof_frame.proofs.ContentFacts.{nothing-wanted}
 use Rattle.markdown_blocks.proofs.FlowSteps.{IsFramed, content-same, rows-no_content, rows_at-framed}
-use Rattle.md_table_rooms.proofs.HeadsRead.{heads-none}
-use Rattle.md_rows.proofs.JoinedLemmas.{EachNoContent, HasNoContent, events-no_content, front-no_content}
-use Rattle.md_rows.proofs.JoinedLemmas.{rows_at-no_content, tail-no_content}
+use Rattle.proof_table_laws.proofs.HeadsRead.{heads-none}
+use Rattle.proof_rows.proofs.JoinedLemmas.{EachNoContent, HasNoContent, events-no_content, front-no_content}
+use Rattle.proof_rows.proofs.JoinedLemmas.{rows_at-no_content, tail-no_content}
 use Rattle.markdown_blocks.proofs.StandsLemmas.{flow-ran}
 use Rattle.markdown_blocks.proofs.LinesFed.{text-follows_it}
-use Rattle.md_seam.specs.Spaces.{any_size}
+use Rattle.md_events.specs.Spaces.{any_size}
 
 -- Lines among whose events no line of text is found.
 

@@ -12,7 +12,7 @@ use Rattle.md_engine.proofs.Standing.{runs-mean}
 use Rattle.md_engine.proofs.TextFeed.{flush-means, text-follows}
 use Rattle.md_registry.specs.FlowRule.{flow_at}
 use Rattle.md_registry.specs.States.{FlowStep, flow_behaves, flow_table_scheme}
-use Rattle.md_rows.proofs.FlowEnds.{Finishes, flow_finishes}
+use Rattle.proof_rows.proofs.FlowEnds.{Finishes, flow_finishes}
 use Rattle.markdown_blocks.proofs.FlowMeans.{flow_table_means, flow_stands}
 
 -- a push keeps what a tokenizer becomes, with the text up to where it will be read in all, and is

@@ -2,8 +2,8 @@
 -- not matter whether it ran.
 use Rattle.md_engine.specs.declared.tokenizer.held_leaf.HeldLeaf.{HeldLeaf}
 use Rattle.std.proofs.Common.{◌≡◌, ◌≢◌, ℕ, zero, suc, Bool, true, false, cond, List, [], ◌∷◌, length}
-use Rattle.md_rows.specs.Rows.{is_inside, new_behind, behind_held, Front, Held, held_at, in_front, is_text}
-use Rattle.md_rows.specs.Rows.{opened_prefixes, no_front, row_events, rows_at, rows_by, rows_events, continued_prefixes}
+use Rattle.proof_rows.specs.Rows.{is_inside, new_behind, behind_held, Front, Held, held_at, in_front, is_text}
+use Rattle.proof_rows.specs.Rows.{opened_prefixes, no_front, row_events, rows_at, rows_by, rows_events, continued_prefixes}
 use Rattle.std.proofs.Common.{refl, ap, sym, ◌∙◌, subst, append-nil}
 use Rattle.std.specs.Prelude.{Option, Some, None}
 use Rattle.std.proofs.lemmas.Bool.{or_parts}
@@ -14,20 +14,20 @@ use Rattle.md_engine.specs.declared.event.Point.{Point}
 use Rattle.md_engine.specs.Meaning.{Cell}
 use Rattle.md_content.specs.ContentReads.{wants_content}
 use Rattle.md_content.specs.Joined.{joined}
-use Rattle.md_seam.specs.Ahead.{from_ending}
+use Rattle.md_events.specs.Ahead.{from_ending}
 use Rattle.md_meaning.specs.State.{Container}
-use Rattle.md_seam.specs.Substituted.{Readings, Substituted}
-use Rattle.md_frame.specs.Change.{interrupts, open_behind, others_of}
+use Rattle.md_events.specs.Substituted.{Readings, Substituted}
+use Rattle.proof_frame.specs.Change.{interrupts, open_behind, others_of}
 use Rattle.markdown_blocks.specs.FlowReads.{has_text}
-use Rattle.md_frame.specs.Row.{BlankRow, Row, RowKind, TextRow, LeafRow}
-use Rattle.md_frame.proofs.EachEvent.{each-append}
-use Rattle.md_rows.proofs.EachRow.{EachRow}
+use Rattle.proof_frame.specs.Row.{BlankRow, Row, RowKind, TextRow, LeafRow}
+use Rattle.proof_frame.proofs.EachEvent.{each-append}
+use Rattle.proof_rows.proofs.EachRow.{EachRow}
 use Rattle.md_registry.specs.Registry.{goes_at, opens_at}
-use Rattle.md_rows.proofs.JoinedLemmas.{EachNoContent, events-no_content, front-no_content, joined-passes}
-use Rattle.md_frame.proofs.SubstitutedLemmas.{keeps}
-use Rattle.md_frame.proofs.ContentFacts.{NoContent, WantsContent, content-alone, no_content-append, no_content-unwanted, nothing, nothing-wanted}
-use Rattle.md_frame.proofs.PrefixNames.{AreFront, IsFrontEvent}
-use Rattle.md_frame.specs.Passed.{Passed}
+use Rattle.proof_rows.proofs.JoinedLemmas.{EachNoContent, events-no_content, front-no_content, joined-passes}
+use Rattle.proof_frame.proofs.SubstitutedLemmas.{keeps}
+use Rattle.proof_frame.proofs.ContentFacts.{NoContent, WantsContent, content-alone, no_content-append, no_content-unwanted, nothing, nothing-wanted}
+use Rattle.proof_frame.proofs.PrefixNames.{AreFront, IsFrontEvent}
+use Rattle.proof_frame.specs.Passed.{Passed}
 use Rattle.md_registry.proofs.RegistryContainers.{goes-front, opens-front}
 
 -- What is before a line that flow reads.

@@ -3,30 +3,30 @@ use Rattle.md_engine.specs.declared.tokenizer.held_leaf.HeldLeaf.{HeldLeaf}
 use Rattle.std.proofs.Common.{◌≡◌, ℕ, Bool, true, false, cond, ◌&&◌, List, [], ◌∷◌, length, refl, ap, ap₂, sym}
 use Rattle.std.proofs.Common.{◌∙◌, subst, inl, inr}
 use Rattle.std.specs.Prelude.{None, Option, Some}
-use Rattle.md_frame.specs.HeldLeaf.{may_go_on, takes_lazy}
-use Rattle.md_rows.specs.Rows.{is_further, is_last, onto_span, Headed, LeafLines, Turned, onto_leaf, takes_head}
-use Rattle.md_rows.specs.Rows.{line_behind, Group, Lines, Single, groups_events, is_lazy, is_text, line_kind}
-use Rattle.md_rows.specs.Rows.{onto_groups}
-use Rattle.md_row_steps.proofs.StepBehind.{GoesOn, goes-on}
+use Rattle.proof_frame.specs.HeldLeaf.{may_go_on, takes_lazy}
+use Rattle.proof_rows.specs.Rows.{is_further, is_last, onto_span, Headed, LeafLines, Turned, onto_leaf, takes_head}
+use Rattle.proof_rows.specs.Rows.{line_behind, Group, Lines, Single, groups_events, is_lazy, is_text, line_kind}
+use Rattle.proof_rows.specs.Rows.{onto_groups}
+use Rattle.proof_rows.proofs.StepBehind.{GoesOn, goes-on}
 use Rattle.md_registry.specs.Registry.{leaf}
-use Rattle.md_rows.proofs.TextGroups.{lines-first, text-onto, text_group}
+use Rattle.proof_rows.proofs.TextGroups.{lines-first, text-onto, text_group}
 use Rattle.std.proofs.lemmas.Bool.{and_parts}
 use Rattle.md_engine.specs.declared.configuration.ParseOptions.{ParseOptions}
 use Rattle.md_engine.specs.declared.event.Point.{Point}
-use Rattle.md_seam.specs.Events.Spelled.{Reading, read}
+use Rattle.md_events.specs.Events.Spelled.{Reading, read}
 use Rattle.md_meaning.specs.State.{Container, Path}
-use Rattle.md_frame.specs.Change.{Change, is_none}
-use Rattle.md_frame.specs.Closed.{close_containers}
-use Rattle.md_rows.specs.Fronted.{Contained, rest_from}
-use Rattle.md_row_steps.specs.WithoutMdx.{IsWithoutMdx}
-use Rattle.md_frame.specs.Row.{BlankRow, LeafRow, Row, RowKind, TextRow}
-use Rattle.md_rows.specs.Stands.{IsPlain, containers_of, still_of, reading}
-use Rattle.md_rows.proofs.ContainedLemmas.{lazy-opens}
-use Rattle.md_frame.proofs.FrontFacts.{LinePrefix}
-use Rattle.md_row_steps.proofs.LineSteps.{contained-lazy, contained_at, goes_lazy}
+use Rattle.proof_frame.specs.Change.{Change, is_none}
+use Rattle.proof_frame.specs.Closed.{close_containers}
+use Rattle.proof_rows.specs.Fronted.{Contained, rest_from}
+use Rattle.proof_rows.specs.WithoutMdx.{IsWithoutMdx}
+use Rattle.proof_frame.specs.Row.{BlankRow, LeafRow, Row, RowKind, TextRow}
+use Rattle.proof_rows.specs.Stands.{IsPlain, containers_of, still_of, reading}
+use Rattle.proof_rows.proofs.ContainedLemmas.{lazy-opens}
+use Rattle.proof_frame.proofs.FrontFacts.{LinePrefix}
+use Rattle.proof_rows.proofs.LineSteps.{contained-lazy, contained_at, goes_lazy}
 use Rattle.md_registry.proofs.Registry.{laws}
-use Rattle.md_rows.proofs.RowFacts as f
-use Rattle.md_frame.proofs.PrefixFacts.{begins}
+use Rattle.proof_rows.proofs.RowFacts as f
+use Rattle.proof_frame.proofs.PrefixFacts.{begins}
 use Rattle.markdown_blocks.proofs.SpelledGroups.{Follows, Means, StartsText}
 use Rattle.markdown_blocks.proofs.SpelledLines.{line-is}
 

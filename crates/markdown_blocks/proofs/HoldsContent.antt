@@ -10,8 +10,8 @@ use Rattle.std.proofs.lemmas.List.Folds.{list_any-append}
 use Rattle.md_engine.specs.declared.event.Content.{Content}
 use Rattle.md_engine.specs.declared.event.Event.{Event}
 use Rattle.md_content.specs.Joined.{is_content}
-use Rattle.md_frame.proofs.ContentFacts.{NoContent}
-use Rattle.md_frame.proofs.EventNames.{told-content}
+use Rattle.proof_frame.proofs.ContentFacts.{NoContent}
+use Rattle.proof_frame.proofs.EventNames.{told-content}
 use Rattle.md_leaves.specs.declared.spans.Place.TheVariants.{Outside}
 use Rattle.md_leaves.specs.Spanned.{passes_on}
 use Rattle.markdown_blocks.specs.Alone.{passes_alone}

@@ -8,12 +8,12 @@ use Rattle.md_engine.specs.declared.configuration.ParseOptions.{ParseOptions}
 use Rattle.md_meaning.specs.Rest.{Rest}
 use Rattle.md_meaning.specs.State.{Container, Path}
 use Rattle.md_meaning.specs.Step.{step, steps}
-use Rattle.md_frame.specs.Change.{open_behind}
-use Rattle.md_rows.specs.Fronted.{Contained}
-use Rattle.md_row_steps.specs.WithoutMdx.{IsWithoutMdx}
-use Rattle.md_rows.specs.Stands.{IsPlain, containers_of}
-use Rattle.md_row_steps.proofs.LineSteps.{contained_at, goes_further, renewed}
-use Rattle.md_row_steps.proofs.StepBehind.{GoesOn, containers-all, containers-step, goes-on}
+use Rattle.proof_frame.specs.Change.{open_behind}
+use Rattle.proof_rows.specs.Fronted.{Contained}
+use Rattle.proof_rows.specs.WithoutMdx.{IsWithoutMdx}
+use Rattle.proof_rows.specs.Stands.{IsPlain, containers_of}
+use Rattle.proof_rows.proofs.LineSteps.{contained_at, goes_further, renewed}
+use Rattle.proof_rows.proofs.StepBehind.{GoesOn, containers-all, containers-step, goes-on}
 
 -- what a line does, of which it is said whether it is over the end of the text
 abbrev pub step_over : ParseOptions → Bool → Path → Rest → Path

@@ -28,27 +28,27 @@ use Rattle.md_engine.proofs.Falls.{leaves_stands}
 use Rattle.md_engine.proofs.Keeps.{leaves-keep, plain-same, runs-setting, steps-keep}
 use Rattle.md_engine.proofs.StepOf.{sees, steps-as}
 use Rattle.md_engine.proofs.TextFeed.{text-follows}
-use Rattle.md_seam.specs.Spaces.{any_size}
-use Rattle.md_seam.specs.Ahead.{from_ending, line_end}
-use Rattle.md_seam.specs.Events.Nested.{pair}
+use Rattle.md_events.specs.Spaces.{any_size}
+use Rattle.md_events.specs.Ahead.{from_ending, line_end}
+use Rattle.md_events.specs.Events.Nested.{pair}
 use Rattle.md_meaning.specs.State.{Container}
-use Rattle.md_seam.proofs.FeedLines.{Stops}
-use Rattle.md_frame.specs.Change.{ends_of, open_behind}
+use Rattle.md_events.proofs.FeedLines.{Stops}
+use Rattle.proof_frame.specs.Change.{ends_of, open_behind}
 use Rattle.md_registry.specs.FlowRule.{feeds, ended, line_then}
 use Rattle.markdown_blocks.specs.Fed.{fed, flow_begins, line_begins, not_left, place_behind}
-use Rattle.md_frame.specs.Rule.{Rule}
-use Rattle.md_frame.specs.EndingName.{ending_name}
-use Rattle.md_frame.specs.Row.{Row, behind_row}
-use Rattle.md_rows.specs.Rows.{behind_held, Held, after_ending, closes_before, held_at}
-use Rattle.md_rows.specs.Rows.{onto_rows, row_events, row_of, rows_at, rows_events}
-use Rattle.md_rows.specs.Stands.{AreOpen}
+use Rattle.proof_frame.specs.Rule.{Rule}
+use Rattle.proof_frame.specs.EndingName.{ending_name}
+use Rattle.proof_frame.specs.Row.{Row, behind_row}
+use Rattle.proof_rows.specs.Rows.{behind_held, Held, after_ending, closes_before, held_at}
+use Rattle.proof_rows.specs.Rows.{onto_rows, row_events, row_of, rows_at, rows_events}
+use Rattle.proof_rows.specs.Stands.{AreOpen}
 use Rattle.md_registry.specs.States.{FlowStep, flow_behaves_by, flow_table_scheme, flow_transition}
-use Rattle.md_rows.specs.TextRows.{text_cells, text_rows, text_setting}
+use Rattle.proof_rows.specs.TextRows.{text_cells, text_rows, text_setting}
 use Rattle.markdown_blocks.proofs.FlowMeans.{Takes, ending-taken, flow-steps-by, flow_stands}
-use Rattle.md_rows.proofs.FlowLine.{Begins, Done, line-done}
-use Rattle.md_rows.proofs.FlowRows.{held-shorter, leaving, next-begins, next_here}
-use Rattle.md_rows.proofs.FlowRows.{no-closes, row-adds, rows_below, text-begins}
-use Rattle.md_frame.proofs.FromEnding.{from_ending-shrinks, from_ending-stops}
+use Rattle.proof_rows.proofs.FlowLine.{Begins, Done, line-done}
+use Rattle.proof_rows.proofs.FlowRows.{held-shorter, leaving, next-begins, next_here}
+use Rattle.proof_rows.proofs.FlowRows.{no-closes, row-adds, rows_below, text-begins}
+use Rattle.proof_frame.proofs.FromEnding.{from_ending-shrinks, from_ending-stops}
 
 -- After some lines.
 

@@ -9,35 +9,35 @@ use Rattle.md_containers.specs.ItemsHeld.{ItemsHeld}
 use Rattle.md_containers.specs.Listed.{listed}
 use Rattle.md_containers.proofs.ListedGrammar.{listed-grammar}
 use Rattle.md_containers.proofs.ListedKept.{listed-endings, listed-pieces}
-use Rattle.md_seam.specs.Events.Endings.{endings_stand}
-use Rattle.md_seam.specs.Events.Grammar.{keeps_grammar, plain_text}
-use Rattle.md_seam.specs.Events.Inline.{Piece, pieces}
-use Rattle.md_seam.specs.Events.Nested.{Nested}
-use Rattle.md_seam.specs.Events.Pieces.{pieces_stand}
-use Rattle.md_seam.specs.Events.Tiles.{IsBlockList, plain_read}
-use Rattle.md_seam.specs.Substituted.{Substituted}
-use Rattle.md_seam.specs.TextPart.{text_readings, wants_text}
-use Rattle.md_seam.proofs.PlainTiles.{plain-only}
+use Rattle.md_events.specs.Events.Endings.{endings_stand}
+use Rattle.md_events.specs.Events.Grammar.{keeps_grammar, plain_text}
+use Rattle.md_events.specs.Events.Inline.{Piece, pieces}
+use Rattle.md_events.specs.Events.Nested.{Nested}
+use Rattle.md_events.specs.Events.Pieces.{pieces_stand}
+use Rattle.md_events.specs.Events.Tiles.{IsBlockList, plain_read}
+use Rattle.md_events.specs.Substituted.{Substituted}
+use Rattle.md_events.specs.TextPart.{text_readings, wants_text}
+use Rattle.md_events.proofs.PlainTiles.{plain-only}
 use Rattle.md_exact.specs.Blocks.{exact}
-use Rattle.md_front_rooms.specs.Front.{body_point, front_events}
-use Rattle.md_frame.specs.ReadsPlain.{reads_plain}
+use Rattle.proof_leaf_laws.specs.Front.{body_point, front_events}
+use Rattle.proof_frame.specs.ReadsPlain.{reads_plain}
 use Rattle.markdown_blocks.specs.Parsed.{IsParsed, IsRead}
-use Rattle.md_row_steps.specs.WithoutMdx.{IsWithoutMdx}
+use Rattle.proof_rows.specs.WithoutMdx.{IsWithoutMdx}
 use Rattle.md_meaning.specs.Wrapped.{IsSmall}
-use Rattle.md_frame.specs.Row.{Row}
-use Rattle.md_rows.specs.Rows.{groups, groups_events}
-use Rattle.md_rows.proofs.Begun.{begun, front-nested}
-use Rattle.md_rows.proofs.EndingRows.{events-endings}
-use Rattle.md_rows.proofs.GrammarRows.{events-grammar}
-use Rattle.md_rows.proofs.HeldRows.{events-held}
-use Rattle.md_rows.proofs.NestedRows.{Nests, rows-nest}
-use Rattle.md_rows.proofs.PieceRows.{events-pieces}
-use Rattle.md_rows.proofs.RowFacts.{AreRows}
-use Rattle.md_row_steps.proofs.TextAre.{lines_of, rows_of, text-are}
+use Rattle.proof_frame.specs.Row.{Row}
+use Rattle.proof_rows.specs.Rows.{groups, groups_events}
+use Rattle.proof_rows.proofs.Begun.{begun, front-nested}
+use Rattle.proof_rows.proofs.EndingRows.{events-endings}
+use Rattle.proof_rows.proofs.GrammarRows.{events-grammar}
+use Rattle.proof_rows.proofs.HeldRows.{events-held}
+use Rattle.proof_rows.proofs.NestedRows.{Nests, rows-nest}
+use Rattle.proof_rows.proofs.PieceRows.{events-pieces}
+use Rattle.proof_rows.proofs.RowFacts.{AreRows}
+use Rattle.proof_rows.proofs.TextAre.{lines_of, rows_of, text-are}
 use Rattle.markdown_blocks.proofs.ContentAre.{part-of}
 use Rattle.markdown_blocks.proofs.FlowReads.{text-quiet}
 use Rattle.markdown_blocks.proofs.TextBlocks.{read-is, read_of}
-use Rattle.md_rows.proofs.TileReads.{end-read}
+use Rattle.proof_rows.proofs.TileReads.{end-read}
 
 -- What is known of the list of events that the plain layer reads.
 pub record ReadsPlain (options : ParseOptions) (bytes : List ℕ) : Type 0 where

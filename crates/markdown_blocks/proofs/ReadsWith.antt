@@ -17,28 +17,28 @@ use Rattle.md_meaning.specs.Meaning.{tree}
 use Rattle.md_meaning.specs.Tree.{Blocks}
 use Rattle.md_outline.proofs.LayerOutlined.{outlined-layer}
 use Rattle.md_outline.specs.Outlined.{IsOutlined}
-use Rattle.md_seam.specs.Events.Inline.{KeepsFrame, Part}
-use Rattle.md_seam.specs.Events.On.{are_on}
-use Rattle.md_seam.specs.Events.Spelled.{spelled}
-use Rattle.md_seam.specs.Events.Tiles.{Tiles, plain_read}
-use Rattle.md_seam.specs.Parts.{ArePlaced}
-use Rattle.md_seam.specs.Substituted.{EachAsked, Substituted, stays}
-use Rattle.md_seam.specs.TextPart.{AreBlocks, Document, IsTextPart, document_of, text_kind, text_readings, wants_text}
-use Rattle.md_seam.specs.declared.inline.Chunk.{Chunk}
-use Rattle.md_seam.proofs.AskedBlocks.{asked-behind, asked-blocks, substituted-behind}
-use Rattle.md_seam.proofs.HeldLemmas.{blocks-held}
-use Rattle.md_seam.proofs.LayerTiles.{substituted-tiles, tiles-cover}
-use Rattle.md_seam.proofs.NestsLemmas.{tiles-nested, tiles-placed}
-use Rattle.md_seam.proofs.OnLemmas.{tree-on}
-use Rattle.md_seam.proofs.PartsLemmas.{tiles-spelled}
-use Rattle.md_seam.proofs.ReachedLemmas.{events-placed}
+use Rattle.md_events.specs.Events.Inline.{KeepsFrame, Part}
+use Rattle.md_events.specs.Events.On.{are_on}
+use Rattle.md_events.specs.Events.Spelled.{spelled}
+use Rattle.md_events.specs.Events.Tiles.{Tiles, plain_read}
+use Rattle.md_events.specs.Parts.{ArePlaced}
+use Rattle.md_events.specs.Substituted.{EachAsked, Substituted, stays}
+use Rattle.md_events.specs.TextPart.{AreBlocks, Document, IsTextPart, document_of, text_kind, text_readings, wants_text}
+use Rattle.md_events.specs.declared.inline.Chunk.{Chunk}
+use Rattle.md_events.proofs.AskedBlocks.{asked-behind, asked-blocks, substituted-behind}
+use Rattle.md_events.proofs.HeldLemmas.{blocks-held}
+use Rattle.md_events.proofs.LayerTiles.{substituted-tiles, tiles-cover}
+use Rattle.md_events.proofs.NestsLemmas.{tiles-nested, tiles-placed}
+use Rattle.md_events.proofs.OnLemmas.{tree-on}
+use Rattle.md_events.proofs.PartsLemmas.{tiles-spelled}
+use Rattle.md_events.proofs.ReachedLemmas.{events-placed}
 use Rattle.md_exact.specs.Blocks.{exact}
 use Rattle.markdown_blocks.specs.FlowReads.{FlowReads}
-use Rattle.md_container_rooms.specs.Footnotes.{footnotes_listed}
-use Rattle.md_front_rooms.specs.Front.{body_point, front_events}
+use Rattle.proof_container_laws.specs.Footnotes.{footnotes_listed}
+use Rattle.proof_leaf_laws.specs.Front.{body_point, front_events}
 use Rattle.markdown_blocks.specs.Parsed.{IsRead}
-use Rattle.md_row_steps.specs.WithoutMdx.{IsWithoutMdx}
-use Rattle.md_front_rooms.proofs.FrontUnlinked.{front-stays}
+use Rattle.proof_rows.specs.WithoutMdx.{IsWithoutMdx}
+use Rattle.proof_leaf_laws.proofs.FrontUnlinked.{front-stays}
 use Rattle.markdown_blocks.proofs.TextBlocks.{HasBlocks, blocks-read, has-blocks, parsed-footnotes, parsed-labels}
 use Rattle.markdown_blocks.proofs.TextItemised.{text-itemised}
 use Rattle.md_wrap.specs.Footnoted.{NestsInFootnote, footnoted}

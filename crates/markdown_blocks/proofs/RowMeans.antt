@@ -9,52 +9,52 @@ use Rattle.md_meaning.specs.Leaves.{Finished, Opened, LeafResult}
 use Rattle.markdown_blocks.proofs.SpelledGroups.{IsTurnLeft, Follows, IsTurned, Means, Reads, ReadsSpan, StartsSpan}
 use Rattle.markdown_blocks.proofs.SpelledGroups.{text_path, text_tail, first_come, reading-came, StartsText}
 use Rattle.markdown_blocks.proofs.SpelledGroups.{starts-alike}
-use Rattle.md_frame.specs.HeldLeaf.{kind_of_leaf, takes_lazy}
-use Rattle.md_frame.specs.Leaf.Paragraph.{open_lines}
-use Rattle.md_content_rooms.specs.Defined.{then_front}
+use Rattle.proof_frame.specs.HeldLeaf.{kind_of_leaf, takes_lazy}
+use Rattle.proof_frame.specs.Leaf.Paragraph.{open_lines}
+use Rattle.proof_content_laws.specs.Defined.{then_front}
 use Rattle.md_registry.specs.Registry.{further_of, leaf, turn_leaf}
-use Rattle.md_rows.specs.Rows.{front_done, group_done, is_further, onto_span, onto_leaf, takes_head, Group, Single}
-use Rattle.md_rows.specs.Rows.{groups, groups_events, is_lazy, is_text, leaf_done, line_kind, onto_groups}
-use Rattle.md_rows.proofs.GroupLines.{AreLines, kept-of, line-of}
-use Rattle.md_row_steps.proofs.LineSteps.{come_by, renewed-spot, with_came, contained_at, goes_further, goes_lazy}
-use Rattle.md_row_steps.proofs.LineSteps.{longer, path_by, renewed, spot_by, step-contained}
+use Rattle.proof_rows.specs.Rows.{front_done, group_done, is_further, onto_span, onto_leaf, takes_head, Group, Single}
+use Rattle.proof_rows.specs.Rows.{groups, groups_events, is_lazy, is_text, leaf_done, line_kind, onto_groups}
+use Rattle.proof_rows.proofs.GroupLines.{AreLines, kept-of, line-of}
+use Rattle.proof_rows.proofs.LineSteps.{come_by, renewed-spot, with_came, contained_at, goes_further, goes_lazy}
+use Rattle.proof_rows.proofs.LineSteps.{longer, path_by, renewed, spot_by, step-contained}
 use Rattle.md_registry.proofs.OpenSpan.{TurnsText}
 use Rattle.md_registry.proofs.LeafStarts.{text-turns}
-use Rattle.md_rows.proofs.RowLeaf.{EndsOnLine, block_of, row-facts}
-use Rattle.md_frame.proofs.SpanLaws.{IsLineOf}
-use Rattle.md_row_steps.proofs.StepBehind.{GoesOn, further-unlazy, goes-on, lazy-text}
+use Rattle.proof_rows.proofs.RowLeaf.{EndsOnLine, block_of, row-facts}
+use Rattle.proof_frame.proofs.SpanLaws.{IsLineOf}
+use Rattle.proof_rows.proofs.StepBehind.{GoesOn, further-unlazy, goes-on, lazy-text}
 use Rattle.markdown_blocks.proofs.SpelledHeads.{IsOfText, met-dark, none-of_text}
-use Rattle.md_frame.specs.LeafName.{LeafName}
-use Rattle.md_rows.proofs.TextGroups.{text_group}
+use Rattle.proof_frame.specs.LeafName.{LeafName}
+use Rattle.proof_rows.proofs.TextGroups.{text_group}
 use Rattle.md_engine.specs.declared.configuration.ParseOptions.{ParseOptions}
 use Rattle.md_engine.specs.declared.event.Event.{Event}
 use Rattle.md_engine.specs.declared.event.Point.{Point}
 use Rattle.md_engine.specs.declared.tokenizer.held_leaf.OpenText.{OpenText}
 use Rattle.md_meaning.specs.Rest.{Rest}
-use Rattle.md_seam.specs.Events.Spelled.{Reading, read}
+use Rattle.md_events.specs.Events.Spelled.{Reading, read}
 use Rattle.md_meaning.specs.State.{At, Container, ParagraphLine, Leaf, NoLeaf, OpenParagraph, Path, Innermost, cut}
 use Rattle.md_meaning.specs.State.{kept, spot, texts}
 use Rattle.md_meaning.specs.Step.{came, step}
 use Rattle.md_meaning.specs.Tree.{Block}
-use Rattle.md_seam.proofs.SpelledLemmas.{read-from}
-use Rattle.md_frame.specs.TextLines.{text_leaf}
-use Rattle.md_frame.specs.Change.{Change}
-use Rattle.md_frame.specs.Closed.{close_containers}
-use Rattle.md_rows.specs.Fronted.{Contained, rest_from}
-use Rattle.md_frame.specs.RestLine.{rest_line}
-use Rattle.md_row_steps.specs.WithoutMdx.{IsWithoutMdx}
-use Rattle.md_frame.specs.Row.{BlankRow, LeafRow, Row, RowKind, TextRow, ending_of, last_row, is_blank_row}
-use Rattle.md_rows.specs.Stands.{IsPlain, containers_of, still_of, reading}
-use Rattle.md_rows.proofs.ContainedLemmas.{contained-shapes}
-use Rattle.md_frame.proofs.FrontFacts.{LinePrefix}
+use Rattle.md_events.proofs.SpelledLemmas.{read-from}
+use Rattle.proof_frame.specs.TextLines.{text_leaf}
+use Rattle.proof_frame.specs.Change.{Change}
+use Rattle.proof_frame.specs.Closed.{close_containers}
+use Rattle.proof_rows.specs.Fronted.{Contained, rest_from}
+use Rattle.proof_frame.specs.RestLine.{rest_line}
+use Rattle.proof_rows.specs.WithoutMdx.{IsWithoutMdx}
+use Rattle.proof_frame.specs.Row.{BlankRow, LeafRow, Row, RowKind, TextRow, ending_of, last_row, is_blank_row}
+use Rattle.proof_rows.specs.Stands.{IsPlain, containers_of, still_of, reading}
+use Rattle.proof_rows.proofs.ContainedLemmas.{contained-shapes}
+use Rattle.proof_frame.proofs.FrontFacts.{LinePrefix}
 use Rattle.markdown_blocks.proofs.LastLine.{step_over}
-use Rattle.md_rows.proofs.RowFacts as f
-use Rattle.md_frame.proofs.LeafFacts.{shown}
-use Rattle.md_rows.proofs.Text.Reads.{text-read}
-use Rattle.md_frame.proofs.PrefixFacts.{begins}
-use Rattle.md_rows.proofs.Turned.CutReads.{then_turned, turned-read}
-use Rattle.md_rows.proofs.Turned.Under.{under-text}
-use Rattle.md_frame.proofs.Enters.{enters}
+use Rattle.proof_rows.proofs.RowFacts as f
+use Rattle.proof_frame.proofs.LeafFacts.{shown}
+use Rattle.proof_rows.proofs.Text.Reads.{text-read}
+use Rattle.proof_frame.proofs.PrefixFacts.{begins}
+use Rattle.proof_rows.proofs.Turned.CutReads.{then_turned, turned-read}
+use Rattle.proof_rows.proofs.Turned.Under.{under-text}
+use Rattle.proof_frame.proofs.Enters.{enters}
 use Rattle.markdown_blocks.proofs.SpelledPaths.{AreShapes, close_containers-between, behind-behind, longer-with}
 use Rattle.markdown_blocks.proofs.SpelledPaths.{new-path, open-none, open_path, reading-longer, reading-with, spot-with}
 use Rattle.markdown_blocks.proofs.SpelledPaths.{with_spot}

@@ -7,32 +7,32 @@ use Rattle.std.proofs.Common.{sym, ◌∙◌, inl, inr, ◌⊎◌}
 use Rattle.std.specs.Prelude.{nat_lt, None, Option, Some}
 use Rattle.md_meaning.specs.Leaves.{Opened, LeafResult}
 use Rattle.markdown_blocks.proofs.SpelledHeads.{AreDark, StartsHead, head_come, head_path, span_tail}
-use Rattle.md_frame.specs.HeldLeaf.{kind_of_leaf, may_go_on}
-use Rattle.md_frame.specs.EndingName.{ending_name}
-use Rattle.md_frame.specs.Row.{is_blank_row, LeafRow, Row, TextRow, last_row}
-use Rattle.md_rows.specs.Rows.{is_further, onto_span, LeafLines, Group, Lines, groups_events, is_text, onto_groups}
-use Rattle.md_rows.specs.Rows.{tail_events}
-use Rattle.md_rows.proofs.GroupLines.{AreLines, IsUnder, kept-of}
-use Rattle.md_row_steps.proofs.LineSteps.{with_came, longer, renewed, renewed-spot}
-use Rattle.md_frame.proofs.SpanLaws.{AreBehind, come_behind}
-use Rattle.md_row_steps.proofs.StepBehind.{containers-longer}
-use Rattle.md_frame.specs.LeafName.{LeafName}
+use Rattle.proof_frame.specs.HeldLeaf.{kind_of_leaf, may_go_on}
+use Rattle.proof_frame.specs.EndingName.{ending_name}
+use Rattle.proof_frame.specs.Row.{is_blank_row, LeafRow, Row, TextRow, last_row}
+use Rattle.proof_rows.specs.Rows.{is_further, onto_span, LeafLines, Group, Lines, groups_events, is_text, onto_groups}
+use Rattle.proof_rows.specs.Rows.{tail_events}
+use Rattle.proof_rows.proofs.GroupLines.{AreLines, IsUnder, kept-of}
+use Rattle.proof_rows.proofs.LineSteps.{with_came, longer, renewed, renewed-spot}
+use Rattle.proof_frame.proofs.SpanLaws.{AreBehind, come_behind}
+use Rattle.proof_rows.proofs.StepBehind.{containers-longer}
+use Rattle.proof_frame.specs.LeafName.{LeafName}
 use Rattle.md_registry.specs.Registry.{leaf}
 use Rattle.md_engine.specs.declared.configuration.ParseOptions.{ParseOptions}
 use Rattle.md_engine.specs.declared.event.Event.{Event}
 use Rattle.md_engine.specs.declared.event.Name.TheVariants as n
 use Rattle.md_engine.specs.declared.event.Point.{Point}
 use Rattle.md_meaning.specs.Rest.{Rest}
-use Rattle.md_seam.specs.Events.Spelled.{OpenContainer, Reading, read}
+use Rattle.md_events.specs.Events.Spelled.{OpenContainer, Reading, read}
 use Rattle.md_meaning.specs.State.{At, Container, ParagraphLine, Leaf, Path, Innermost, Within, kept, spot}
-use Rattle.md_frame.specs.ContainerNames.{shape_of}
-use Rattle.md_frame.specs.Change.{is_none}
-use Rattle.md_frame.specs.Closed.{close_containers}
-use Rattle.md_frame.specs.Around.{around_of}
-use Rattle.md_rows.specs.Stands.{still_of, reading, reading_on}
-use Rattle.md_frame.proofs.FrontFacts.{LinePrefix}
-use Rattle.md_rows.proofs.TextGroups.{text-onto, text_group}
-use Rattle.md_rows.proofs.RowFacts as f
+use Rattle.proof_frame.specs.ContainerNames.{shape_of}
+use Rattle.proof_frame.specs.Change.{is_none}
+use Rattle.proof_frame.specs.Closed.{close_containers}
+use Rattle.proof_frame.specs.Around.{around_of}
+use Rattle.proof_rows.specs.Stands.{still_of, reading, reading_on}
+use Rattle.proof_frame.proofs.FrontFacts.{LinePrefix}
+use Rattle.proof_rows.proofs.TextGroups.{text-onto, text_group}
+use Rattle.proof_rows.proofs.RowFacts as f
 use Rattle.markdown_blocks.proofs.SpelledPaths.{AreShapes, around-same, reading-renewed}
 use Rattle.md_link_definitions.specs.Progress.{progress_of, step as further}
 

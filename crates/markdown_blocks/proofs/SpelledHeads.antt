@@ -15,28 +15,28 @@ use Rattle.md_meaning.specs.State.{spot, texts, then_definitions, then_leaf, the
 use Rattle.md_meaning.specs.Step.{came}
 use Rattle.md_meaning.specs.Table.{row_cells}
 use Rattle.md_meaning.specs.Tree.{Blocks}
-use Rattle.md_seam.specs.Events.Spelled.{OpenContainer, Reading, read}
-use Rattle.md_table_rooms.specs.Leaf.GfmTable.{first_cells, may_be_table, table_leaf}
-use Rattle.md_frame.specs.Leaf.Paragraph.{held_of}
-use Rattle.md_frame.specs.EndingName.{ending_name}
-use Rattle.md_frame.specs.LeafName.{GfmTable, LeafName}
-use Rattle.md_frame.specs.TextLines.{text_leaf}
+use Rattle.md_events.specs.Events.Spelled.{OpenContainer, Reading, read}
+use Rattle.proof_table_laws.specs.Leaf.GfmTable.{first_cells, may_be_table, table_leaf}
+use Rattle.proof_frame.specs.Leaf.Paragraph.{held_of}
+use Rattle.proof_frame.specs.EndingName.{ending_name}
+use Rattle.proof_frame.specs.LeafName.{GfmTable, LeafName}
+use Rattle.proof_frame.specs.TextLines.{text_leaf}
 use Rattle.md_registry.specs.Registry.{leaf}
-use Rattle.md_frame.specs.Row.{LeafRow, Row, TextRow, is_blank_row, last_row}
-use Rattle.md_table_rooms.specs.Headed.{headed_done}
-use Rattle.md_rows.specs.Rows.{Group, Headed, groups_events, tail_events}
-use Rattle.md_frame.specs.Around.{around_of}
-use Rattle.md_rows.specs.Stands.{reading, reading_on}
-use Rattle.md_table_rooms.proofs.GfmTable.TableForm.{IsFilledLine}
-use Rattle.md_table_rooms.proofs.GfmTable.TableLaws.{AreFilled, cells-trimmed, table-facts, table-shuts}
-use Rattle.md_rows.proofs.HeadedTable.{line-filled}
-use Rattle.md_row_steps.proofs.LineSteps.{longer, with_came}
+use Rattle.proof_frame.specs.Row.{LeafRow, Row, TextRow, is_blank_row, last_row}
+use Rattle.proof_table_laws.specs.Headed.{headed_done}
+use Rattle.proof_rows.specs.Rows.{Group, Headed, groups_events, tail_events}
+use Rattle.proof_frame.specs.Around.{around_of}
+use Rattle.proof_rows.specs.Stands.{reading, reading_on}
+use Rattle.proof_table_laws.proofs.GfmTable.TableForm.{IsFilledLine}
+use Rattle.proof_table_laws.proofs.GfmTable.TableLaws.{AreFilled, cells-trimmed, table-facts, table-shuts}
+use Rattle.proof_rows.proofs.HeadedTable.{line-filled}
+use Rattle.proof_rows.proofs.LineSteps.{longer, with_came}
 use Rattle.md_registry.proofs.Registry.{text-laws}
-use Rattle.md_rows.proofs.RowFacts as f
-use Rattle.md_rows.proofs.RowLeaf.{leaf-at}
-use Rattle.md_frame.proofs.SpanLaws.{AreBehind, come_behind}
-use Rattle.md_rows.proofs.SpelledParagraphs.{text-filled}
-use Rattle.md_rows.proofs.TextFound.{front-is}
+use Rattle.proof_rows.proofs.RowFacts as f
+use Rattle.proof_rows.proofs.RowLeaf.{leaf-at}
+use Rattle.proof_frame.proofs.SpanLaws.{AreBehind, come_behind}
+use Rattle.proof_rows.proofs.SpelledParagraphs.{text-filled}
+use Rattle.proof_rows.proofs.TextFound.{front-is}
 use Rattle.md_registry.proofs.UnderNames.{heads-table}
 
 -- Lines on which something is.

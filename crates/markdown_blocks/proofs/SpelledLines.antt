@@ -3,11 +3,11 @@
 use Rattle.md_engine.specs.declared.tokenizer.held_leaf.HeldLeaf.{HeldLeaf}
 use Rattle.std.proofs.Common.{◌≡◌, ◌≢◌, ℕ, Bool, true, false, List, [], ◌∷◌, ◌++◌, length, refl, ap, ap₂, sym, ◌∙◌, inl}
 use Rattle.std.proofs.Common.{inr}
-use Rattle.md_frame.specs.EndingName.{ending_name}
-use Rattle.md_rows.specs.Rows.{front_done, line_behind, Group, groups_events, is_text, line_kind, tail_events}
-use Rattle.md_rows.proofs.LineBehind.{shut-behind}
-use Rattle.md_rows.proofs.RowLeaf.{EndsOnLine, block_of}
-use Rattle.md_frame.specs.LeafName.{LeafName}
+use Rattle.proof_frame.specs.EndingName.{ending_name}
+use Rattle.proof_rows.specs.Rows.{front_done, line_behind, Group, groups_events, is_text, line_kind, tail_events}
+use Rattle.proof_rows.proofs.LineBehind.{shut-behind}
+use Rattle.proof_rows.proofs.RowLeaf.{EndsOnLine, block_of}
+use Rattle.proof_frame.specs.LeafName.{LeafName}
 use Rattle.md_registry.specs.Registry.{leaf}
 use Rattle.md_meaning.specs.Leaves.{LeafResult}
 use Rattle.md_meaning.specs.Step.{came, step}
@@ -16,32 +16,32 @@ use Rattle.md_engine.specs.declared.configuration.ParseOptions.{ParseOptions}
 use Rattle.md_engine.specs.declared.event.Event.{Event}
 use Rattle.md_engine.specs.declared.event.Name.{Name}
 use Rattle.md_engine.specs.declared.event.Point.{Point}
-use Rattle.md_seam.specs.Events.Nested.{enter, exit}
+use Rattle.md_events.specs.Events.Nested.{enter, exit}
 use Rattle.md_meaning.specs.Rest.{Rest}
-use Rattle.md_seam.specs.Events.Spelled.{Reading, read, role}
+use Rattle.md_events.specs.Events.Spelled.{Reading, read, role}
 use Rattle.md_meaning.specs.State.{Container, NoLeaf, Path, shut}
-use Rattle.md_seam.proofs.SpelledLemmas.{Between, QuietOrEnding, QuietOrPrefix, read-between, read-from, read-prefixes}
-use Rattle.md_frame.specs.ContainerNames.{container_name}
-use Rattle.md_frame.specs.Change.{Change, ends_of}
-use Rattle.md_frame.specs.Closed.{close_containers}
-use Rattle.md_rows.specs.Fronted.{Contained, contained, rest_from}
-use Rattle.md_row_steps.specs.WithoutMdx.{IsWithoutMdx}
-use Rattle.md_frame.specs.Row.{BlankRow, LeafRow, Row, RowKind, TextRow, ending_events}
-use Rattle.md_rows.specs.Stands.{IsPlain, containers_of, still_of, reading}
-use Rattle.md_frame.proofs.FrontFacts.{Behind, Begins, LinePrefix, Goes}
-use Rattle.md_row_steps.proofs.LineSteps.{spot_by}
-use Rattle.md_row_steps.proofs.StepBehind.{still-step}
+use Rattle.md_events.proofs.SpelledLemmas.{Between, QuietOrEnding, QuietOrPrefix, read-between, read-from, read-prefixes}
+use Rattle.proof_frame.specs.ContainerNames.{container_name}
+use Rattle.proof_frame.specs.Change.{Change, ends_of}
+use Rattle.proof_frame.specs.Closed.{close_containers}
+use Rattle.proof_rows.specs.Fronted.{Contained, contained, rest_from}
+use Rattle.proof_rows.specs.WithoutMdx.{IsWithoutMdx}
+use Rattle.proof_frame.specs.Row.{BlankRow, LeafRow, Row, RowKind, TextRow, ending_events}
+use Rattle.proof_rows.specs.Stands.{IsPlain, containers_of, still_of, reading}
+use Rattle.proof_frame.proofs.FrontFacts.{Behind, Begins, LinePrefix, Goes}
+use Rattle.proof_rows.proofs.LineSteps.{spot_by}
+use Rattle.proof_rows.proofs.StepBehind.{still-step}
 use Rattle.md_registry.proofs.Registry.{laws}
-use Rattle.md_rows.proofs.RowFacts as f
-use Rattle.md_frame.proofs.LeafFacts.{shown}
-use Rattle.md_frame.proofs.LeafStands.{ending-roles}
-use Rattle.md_frame.proofs.PrefixFacts.{begins}
-use Rattle.md_frame.proofs.PrefixNames.{prefixes-roles}
-use Rattle.md_frame.proofs.Unmarked.{inline-between, inline-unmarked}
-use Rattle.md_frame.proofs.ContainerNames.{container-facts}
+use Rattle.proof_rows.proofs.RowFacts as f
+use Rattle.proof_frame.proofs.LeafFacts.{shown}
+use Rattle.proof_frame.proofs.LeafStands.{ending-roles}
+use Rattle.proof_frame.proofs.PrefixFacts.{begins}
+use Rattle.proof_frame.proofs.PrefixNames.{prefixes-roles}
+use Rattle.proof_frame.proofs.Unmarked.{inline-between, inline-unmarked}
+use Rattle.proof_frame.proofs.ContainerNames.{container-facts}
 use Rattle.markdown_blocks.proofs.SpelledPaths.{AreShapes, close_containers-between, close_containers-one, open_path}
 use Rattle.markdown_blocks.proofs.SpelledPaths.{reading-open}
-use Rattle.md_frame.proofs.Enters.{enters}
+use Rattle.proof_frame.proofs.Enters.{enters}
 use Rattle.md_link_definitions.specs.Progress.{step as further}
 use Rattle.markdown_blocks.proofs.SpelledGroups.{Follows, Reads}
 

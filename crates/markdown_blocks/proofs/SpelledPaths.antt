@@ -4,24 +4,24 @@ use Rattle.std.proofs.Common.{◌≡◌, ℕ, zero, suc, List, [], ◌∷◌, �
 use Rattle.std.specs.Prelude.{None}
 use Rattle.md_engine.specs.declared.configuration.ParseOptions.{ParseOptions}
 use Rattle.md_meaning.specs.Rest.{Rest}
-use Rattle.md_seam.specs.Events.Spelled.{OpenContainer, Reading, Shape, left}
+use Rattle.md_events.specs.Events.Spelled.{OpenContainer, Reading, Shape, left}
 use Rattle.md_meaning.specs.State.{At, Container, ParagraphLine, Leaf, NoLeaf, Path, Innermost, Within, closed, shut, spot, texts}
 use Rattle.md_meaning.specs.State.{then_block, then_leaf}
 use Rattle.md_meaning.specs.Step.{spot_of}
 use Rattle.md_meaning.specs.Tree.{Block, Blocks, End}
-use Rattle.md_frame.specs.TextLines.{text_leaf}
-use Rattle.md_frame.specs.ContainerNames.{shape_of}
-use Rattle.md_frame.specs.Closed.{close_containers}
-use Rattle.md_rows.specs.Fronted.{Contained}
-use Rattle.md_frame.specs.Row.{RowKind}
-use Rattle.md_rows.specs.Rows.{line_kind}
-use Rattle.md_frame.specs.Around.{around_of}
-use Rattle.md_rows.specs.Stands.{containers_of, final_on, outer_on, reading, reading_on}
-use Rattle.md_row_steps.proofs.LineSteps.{behind_path, kept_to, longer, new_line, new_path, renewed, spot_by}
-use Rattle.md_frame.specs.Leaf.Paragraph.{held_of}
+use Rattle.proof_frame.specs.TextLines.{text_leaf}
+use Rattle.proof_frame.specs.ContainerNames.{shape_of}
+use Rattle.proof_frame.specs.Closed.{close_containers}
+use Rattle.proof_rows.specs.Fronted.{Contained}
+use Rattle.proof_frame.specs.Row.{RowKind}
+use Rattle.proof_rows.specs.Rows.{line_kind}
+use Rattle.proof_frame.specs.Around.{around_of}
+use Rattle.proof_rows.specs.Stands.{containers_of, final_on, outer_on, reading, reading_on}
+use Rattle.proof_rows.proofs.LineSteps.{behind_path, kept_to, longer, new_line, new_path, renewed, spot_by}
+use Rattle.proof_frame.specs.Leaf.Paragraph.{held_of}
 use Rattle.md_registry.proofs.Registry.{text-laws}
-use Rattle.md_frame.proofs.ContainerNames.{container-facts}
-use Rattle.md_frame.proofs.Enters.{enters}
+use Rattle.proof_frame.proofs.ContainerNames.{container-facts}
+use Rattle.proof_frame.proofs.Enters.{enters}
 
 -- The ends and begins of containers.
 

@@ -7,30 +7,30 @@ use Rattle.std.proofs.Common.{take, refl, ap, ap₂, sym, ◌∙◌, subst, take
 use Rattle.std.specs.Prelude.{nat_lt}
 use Rattle.std.proofs.lemmas.Bool.Decides.{nat_tests}
 use Rattle.md_meaning.proofs.TextsLemmas.{Both, Ending, LineFeed, Return, ending_bytes}
-use Rattle.md_rows.specs.Rows.{is_further, groups, groups_events, is_lazy}
-use Rattle.md_rows.proofs.LineBehind.{line-begins}
-use Rattle.md_row_steps.proofs.StepBehind.{containers-step, plain-step}
+use Rattle.proof_rows.specs.Rows.{is_further, groups, groups_events, is_lazy}
+use Rattle.proof_rows.proofs.LineBehind.{line-begins}
+use Rattle.proof_rows.proofs.StepBehind.{containers-step, plain-step}
 use Rattle.md_engine.specs.declared.configuration.ParseOptions.{ParseOptions}
 use Rattle.md_engine.specs.declared.event.Point.{Point}
 use Rattle.md_meaning.specs.Preamble.{rest_at}
 use Rattle.md_meaning.specs.Rest.{Rest}
-use Rattle.md_seam.specs.Events.Spelled.{Reading, read, spelled, unread}
+use Rattle.md_events.specs.Events.Spelled.{Reading, read, spelled, unread}
 use Rattle.md_meaning.specs.State.{At, Container, Path, closed}
 use Rattle.md_meaning.specs.Step.{spot_of, step}
 use Rattle.md_meaning.specs.Tree.{End}
-use Rattle.md_frame.specs.ContainerNames.{shape_of}
-use Rattle.md_frame.specs.Change.{Change}
-use Rattle.md_frame.specs.Closed.{close_containers}
+use Rattle.proof_frame.specs.ContainerNames.{shape_of}
+use Rattle.proof_frame.specs.Change.{Change}
+use Rattle.proof_frame.specs.Closed.{close_containers}
 use Rattle.markdown_blocks.specs.Fed.{last_leaves, rests_from}
-use Rattle.md_rows.specs.Fronted.{Contained, rest_from}
-use Rattle.md_frame.specs.RestLine.{rest_line}
-use Rattle.md_row_steps.specs.WithoutMdx.{IsWithoutMdx}
-use Rattle.md_frame.specs.Row.{Row}
-use Rattle.md_rows.specs.Stands.{IsPlain, containers_of, final, still_of, reading}
-use Rattle.md_rows.proofs.ContainedLemmas.{contained-shapes}
-use Rattle.md_row_steps.proofs.LineSteps.{contained_at}
+use Rattle.proof_rows.specs.Fronted.{Contained, rest_from}
+use Rattle.proof_frame.specs.RestLine.{rest_line}
+use Rattle.proof_rows.specs.WithoutMdx.{IsWithoutMdx}
+use Rattle.proof_frame.specs.Row.{Row}
+use Rattle.proof_rows.specs.Stands.{IsPlain, containers_of, final, still_of, reading}
+use Rattle.proof_rows.proofs.ContainedLemmas.{contained-shapes}
+use Rattle.proof_rows.proofs.LineSteps.{contained_at}
 use Rattle.markdown_blocks.proofs.LastLine.{Told, containers-over, no_bytes, steps_over, told}
-use Rattle.md_rows.proofs.RowFacts as f
+use Rattle.proof_rows.proofs.RowFacts as f
 use Rattle.markdown_blocks.proofs.SpelledPaths.{close_containers-all}
 use Rattle.markdown_blocks.proofs.SpelledGroups.{Means}
 use Rattle.markdown_blocks.proofs.SpelledLines.{still-line}

@@ -4,31 +4,31 @@ use Rattle.std.proofs.Common.{◌∙◌, subst, inl, inr}
 use Rattle.std.specs.Prelude.{nat_lt, None}
 use Rattle.md_meaning.specs.Leaves.{Finished, Opened, LeafResult}
 use Rattle.markdown_blocks.proofs.SpelledHeads.{heads-dark, span_tail}
-use Rattle.md_rows.proofs.TextFound.{front_before}
-use Rattle.md_frame.specs.HeldLeaf.{kind_of_leaf, left_by, may_go_on, takes_lazy}
+use Rattle.proof_rows.proofs.TextFound.{front_before}
+use Rattle.proof_frame.specs.HeldLeaf.{kind_of_leaf, left_by, may_go_on, takes_lazy}
 use Rattle.md_registry.specs.Registry.{further_of, leaf}
-use Rattle.md_frame.specs.Row.{is_blank_row, span_done, Row, ending_of}
-use Rattle.md_rows.specs.Rows.{front_done, onto_span, LeafLines, Group, groups_events, is_text}
-use Rattle.md_row_steps.proofs.LineSteps.{front-unlazy, with_came}
+use Rattle.proof_frame.specs.Row.{is_blank_row, span_done, Row, ending_of}
+use Rattle.proof_rows.specs.Rows.{front_done, onto_span, LeafLines, Group, groups_events, is_text}
+use Rattle.proof_rows.proofs.LineSteps.{front-unlazy, with_came}
 use Rattle.md_registry.proofs.SpanLeaves.{further-is, span-laws}
-use Rattle.md_rows.proofs.RowLeaf.{row-as}
-use Rattle.md_frame.proofs.SpanLaws.{IsLineOf, SpanLaws, come_behind}
-use Rattle.md_row_steps.proofs.StepBehind.{came-spot}
-use Rattle.md_frame.specs.LeafName.{LeafName}
+use Rattle.proof_rows.proofs.RowLeaf.{row-as}
+use Rattle.proof_frame.proofs.SpanLaws.{IsLineOf, SpanLaws, come_behind}
+use Rattle.proof_rows.proofs.StepBehind.{came-spot}
+use Rattle.proof_frame.specs.LeafName.{LeafName}
 use Rattle.md_meaning.specs.Step.{came}
 use Rattle.md_engine.specs.declared.configuration.ParseOptions.{ParseOptions}
 use Rattle.md_engine.specs.declared.event.Event.{Event}
 use Rattle.md_engine.specs.declared.event.Point.{Point}
-use Rattle.md_seam.specs.Events.Spelled.{Reading, read}
+use Rattle.md_events.specs.Events.Spelled.{Reading, read}
 use Rattle.md_meaning.specs.State.{At, Leaf, NoLeaf, Path, Within, spot}
 use Rattle.md_meaning.specs.Tree.{Block, Blocks}
-use Rattle.md_seam.proofs.SpelledLemmas.{read-from}
-use Rattle.md_frame.specs.Closed.{close_containers}
-use Rattle.md_rows.specs.Stands.{still_of, reading}
-use Rattle.md_frame.proofs.FrontFacts.{LinePrefix}
+use Rattle.md_events.proofs.SpelledLemmas.{read-from}
+use Rattle.proof_frame.specs.Closed.{close_containers}
+use Rattle.proof_rows.specs.Stands.{still_of, reading}
+use Rattle.proof_frame.proofs.FrontFacts.{LinePrefix}
 use Rattle.md_registry.proofs.Registry.{laws}
-use Rattle.md_frame.proofs.PrefixFacts.{begins}
-use Rattle.md_frame.proofs.Enters.{enters}
+use Rattle.proof_frame.proofs.PrefixFacts.{begins}
+use Rattle.proof_frame.proofs.Enters.{enters}
 use Rattle.markdown_blocks.proofs.SpelledPaths.{reading-with, with_spot}
 use Rattle.markdown_blocks.proofs.SpelledLines.{ending-role, read-fronts, read-tail}
 use Rattle.markdown_blocks.proofs.SpelledGroups.{Follows, JoinsSpan, ReadsSpan, StartsSpan, first_come}

@@ -10,21 +10,21 @@ use Rattle.std.specs.Prelude.{nat_lt, None, Some}
 use Rattle.md_meaning.specs.Leaves.{Opened, LeafResult}
 use Rattle.markdown_blocks.proofs.SpelledHeads.{IsOfText, StartsHead, dark-filled, head-read, head_path, heads-dark}
 use Rattle.markdown_blocks.proofs.SpelledHeads.{longer-spot, met-dark, span_tail, text-of_text}
-use Rattle.md_rows.proofs.TextProgress.{setext-may, turn-left}
+use Rattle.proof_rows.proofs.TextProgress.{setext-may, turn-left}
 use Rattle.md_registry.proofs.UnderNames.{further-text, heads-table, under-shuts}
-use Rattle.md_frame.specs.HeldLeaf.{may_go_on}
-use Rattle.md_rows.specs.Rows.{front_done, Headed, is_further, is_last, takes_head, LeafLines, Turned, line_behind}
-use Rattle.md_rows.specs.Rows.{Group, Lines, groups_events, onto_groups, tail_events}
-use Rattle.md_frame.specs.Row.{Row, TextRow, last_row}
-use Rattle.md_table_rooms.specs.Headed.{headed_done}
-use Rattle.md_table_rooms.specs.Leaf.GfmTable.{table_leaf}
-use Rattle.md_frame.specs.Leaf.Paragraph.{held_of}
-use Rattle.md_rows.proofs.GroupLines.{kept-of}
-use Rattle.md_row_steps.proofs.LineSteps.{with_came, longer}
+use Rattle.proof_frame.specs.HeldLeaf.{may_go_on}
+use Rattle.proof_rows.specs.Rows.{front_done, Headed, is_further, is_last, takes_head, LeafLines, Turned, line_behind}
+use Rattle.proof_rows.specs.Rows.{Group, Lines, groups_events, onto_groups, tail_events}
+use Rattle.proof_frame.specs.Row.{Row, TextRow, last_row}
+use Rattle.proof_table_laws.specs.Headed.{headed_done}
+use Rattle.proof_table_laws.specs.Leaf.GfmTable.{table_leaf}
+use Rattle.proof_frame.specs.Leaf.Paragraph.{held_of}
+use Rattle.proof_rows.proofs.GroupLines.{kept-of}
+use Rattle.proof_rows.proofs.LineSteps.{with_came, longer}
 use Rattle.md_registry.proofs.LeafStarts.{text-turns}
-use Rattle.md_rows.proofs.RowLeaf.{row-as}
-use Rattle.md_frame.proofs.SpanLaws.{AreBehind, IsLineOf, come_behind}
-use Rattle.md_frame.specs.LeafName.{GfmTable, LeafName}
+use Rattle.proof_rows.proofs.RowLeaf.{row-as}
+use Rattle.proof_frame.proofs.SpanLaws.{AreBehind, IsLineOf, come_behind}
+use Rattle.proof_frame.specs.LeafName.{GfmTable, LeafName}
 use Rattle.md_registry.specs.Registry.{leaf}
 use Rattle.md_meaning.specs.Rest.{trim_start, Rest, is_blank}
 use Rattle.md_engine.specs.declared.configuration.ParseOptions.{ParseOptions}
@@ -32,19 +32,19 @@ use Rattle.md_engine.specs.declared.event.Event.{Event}
 use Rattle.md_engine.specs.declared.event.Name.TheVariants as n
 use Rattle.md_engine.specs.declared.event.Point.{Point}
 use Rattle.md_engine.specs.declared.tokenizer.held_leaf.OpenText.{OpenText}
-use Rattle.md_seam.specs.Events.Spelled.{Reading, read}
+use Rattle.md_events.specs.Events.Spelled.{Reading, read}
 use Rattle.md_meaning.specs.State.{Container, Path, kept, spot}
-use Rattle.md_seam.proofs.SpelledLemmas.{read-from}
-use Rattle.md_frame.specs.Closed.{close_containers}
-use Rattle.md_rows.specs.Stands.{still_of, reading}
-use Rattle.md_frame.proofs.FrontFacts.{LinePrefix}
-use Rattle.md_frame.proofs.FrontNames.{fronts-done}
-use Rattle.md_frame.proofs.FrontPlaces.{fronts-grow}
-use Rattle.md_frame.proofs.LineTexts.{some-text, text-behind}
-use Rattle.md_rows.proofs.Underlines.{further-quiet}
+use Rattle.md_events.proofs.SpelledLemmas.{read-from}
+use Rattle.proof_frame.specs.Closed.{close_containers}
+use Rattle.proof_rows.specs.Stands.{still_of, reading}
+use Rattle.proof_frame.proofs.FrontFacts.{LinePrefix}
+use Rattle.proof_frame.proofs.FrontNames.{fronts-done}
+use Rattle.proof_frame.proofs.FrontPlaces.{fronts-grow}
+use Rattle.proof_frame.proofs.LineTexts.{some-text, text-behind}
+use Rattle.proof_rows.proofs.Underlines.{further-quiet}
 use Rattle.md_registry.proofs.Registry.{laws}
-use Rattle.md_rows.proofs.RowFacts as f
-use Rattle.md_frame.proofs.Enters.{enters}
+use Rattle.proof_rows.proofs.RowFacts as f
+use Rattle.proof_frame.proofs.Enters.{enters}
 use Rattle.markdown_blocks.proofs.SpelledPaths.{longer-longer}
 use Rattle.md_link_definitions.specs.OpenText.{open_text}
 use Rattle.md_link_definitions.specs.Progress.{progress_of, step as further}

@@ -14,26 +14,26 @@ use Rattle.md_engine.specs.World.{Flags, World}
 use Rattle.std.proofs.lemmas.List.{length-map}
 use Rattle.md_meaning.specs.Preamble.{rest_at}
 use Rattle.md_meaning.specs.Rest.{Rest}
-use Rattle.md_seam.specs.Events.Spelled.{Reading, read, unread}
+use Rattle.md_events.specs.Events.Spelled.{Reading, read, unread}
 use Rattle.md_meaning.specs.State.{At, Container, Path}
 use Rattle.md_meaning.specs.Step.{spot_of, step, steps}
 use Rattle.md_meaning.specs.Texts.{split_lines}
 use Rattle.md_meaning.specs.Tree.{End}
-use Rattle.md_frame.specs.Change.{open_behind}
-use Rattle.md_frame.specs.Closed.{close_containers}
+use Rattle.proof_frame.specs.Change.{open_behind}
+use Rattle.proof_frame.specs.Closed.{close_containers}
 use Rattle.markdown_blocks.specs.Fed.{FlowRan, StandsBehind, fed, flow_begins, last_leaves, line_begins, rests_from}
-use Rattle.md_rows.specs.Fronted.{rest_from}
-use Rattle.md_row_steps.specs.WithoutMdx.{IsWithoutMdx}
-use Rattle.md_frame.specs.Row.{Row}
-use Rattle.md_rows.specs.Rows.{groups, groups_events}
-use Rattle.md_rows.specs.Stands.{AreOpen, IsPlain, StandsFor, containers_of, still_of, reading}
+use Rattle.proof_rows.specs.Fronted.{rest_from}
+use Rattle.proof_rows.specs.WithoutMdx.{IsWithoutMdx}
+use Rattle.proof_frame.specs.Row.{Row}
+use Rattle.proof_rows.specs.Rows.{groups, groups_events}
+use Rattle.proof_rows.specs.Stands.{AreOpen, IsPlain, StandsFor, containers_of, still_of, reading}
 use Rattle.md_registry.specs.States.{FlowStep}
-use Rattle.md_rows.specs.TextRows.{text_rows, text_setting}
+use Rattle.proof_rows.specs.TextRows.{text_rows, text_setting}
 use Rattle.markdown_blocks.proofs.LinesFed.{LineFed, line-fed, lines-fed, open_after, leaf_after}
-use Rattle.md_row_steps.proofs.StepBehind.{containers-step, plain-step}
+use Rattle.proof_rows.proofs.StepBehind.{containers-step, plain-step}
 use Rattle.markdown_blocks.proofs.LastLine.{told-some}
-use Rattle.md_rows.proofs.RowFacts as f
-use Rattle.md_row_steps.proofs.RowLemmas.{fresh-rows}
+use Rattle.proof_rows.proofs.RowFacts as f
+use Rattle.proof_rows.proofs.RowLemmas.{fresh-rows}
 use Rattle.markdown_blocks.proofs.SpelledLines.{still-line}
 use Rattle.markdown_blocks.proofs.SpelledRows.{lines-read, rests-behind, rows-below}
 

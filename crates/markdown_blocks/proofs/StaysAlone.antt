@@ -19,8 +19,8 @@ use Rattle.md_order.specs.Left.{is_same}
 use Rattle.md_order.proofs.Names.{tableless}
 use Rattle.md_resolve.proofs.Same.{in_order-same}
 use Rattle.md_resolve.proofs.Unset.{same-by}
-use Rattle.md_seam.specs.Events.Nested.{is_enter}
-use Rattle.md_seam.specs.Events.Spelled.{role}
+use Rattle.md_events.specs.Events.Nested.{is_enter}
+use Rattle.md_events.specs.Events.Spelled.{role}
 use Rattle.md_tables.specs.Heads.{is_table}
 use Rattle.md_registry.specs.Resolving.{lines_joined, joins_lines}
 use Rattle.md_content.specs.Joined.{is_content}

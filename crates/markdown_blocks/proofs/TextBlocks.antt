@@ -24,63 +24,63 @@ use Rattle.md_content.specs.Labels.{labels_in}
 use Rattle.md_meaning.specs.Grouped.{grouped}
 use Rattle.md_meaning.specs.Label.{labels}
 use Rattle.md_leaves.specs.Turned.{turned}
-use Rattle.md_seam.specs.Events.Inline.{Covers, pieces, together}
+use Rattle.md_events.specs.Events.Inline.{Covers, pieces, together}
 use Rattle.md_meaning.specs.Meaning.{tree, with_frontmatter}
-use Rattle.md_seam.specs.Events.Nested.{Nested}
-use Rattle.md_seam.specs.Events.Places.{are_placed}
-use Rattle.md_seam.specs.Events.Spelled.{spelled}
-use Rattle.md_seam.specs.Events.Tiles.{IsBlockList, end_point, parts, plain_lists, plain_read}
+use Rattle.md_events.specs.Events.Nested.{Nested}
+use Rattle.md_events.specs.Events.Places.{are_placed}
+use Rattle.md_events.specs.Events.Spelled.{spelled}
+use Rattle.md_events.specs.Events.Tiles.{IsBlockList, end_point, parts, plain_lists, plain_read}
 use Rattle.md_outline.specs.HeadingDepths.{are_shallow}
 use Rattle.md_outline.specs.Outlined.{IsOutlined}
-use Rattle.md_seam.proofs.FilledLemmas.{spelled-filled}
-use Rattle.md_seam.proofs.OnLemmas.{tree-on}
+use Rattle.md_events.proofs.FilledLemmas.{spelled-filled}
+use Rattle.md_events.proofs.OnLemmas.{tree-on}
 use Rattle.md_exact.specs.Blocks.{exact}
-use Rattle.md_exact_blocks.proofs.ExactIs.{exact-is}
-use Rattle.md_rows.specs.BlockList.{block_list, tabled_groups}
-use Rattle.md_front_rooms.specs.Front.{body_point, front_events}
+use Rattle.proof_exact.proofs.ExactIs.{exact-is}
+use Rattle.proof_rows.specs.BlockList.{block_list, tabled_groups}
+use Rattle.proof_leaf_laws.specs.Front.{body_point, front_events}
 use Rattle.markdown_blocks.specs.FlowReads.{FlowReads}
-use Rattle.md_container_rooms.specs.Footnotes.{footnotes_listed}
-use Rattle.md_row_steps.specs.WithoutMdx.{IsWithoutMdx}
-use Rattle.md_frame.specs.Row.{Row}
-use Rattle.md_rows.specs.Rows.{groups, groups_events}
-use Rattle.md_rows.specs.Unread.{unread_groups}
-use Rattle.md_rows.proofs.BetweenRows.{rows-between}
-use Rattle.md_rows.proofs.EndingRows.{blocks-endings}
-use Rattle.md_rows.proofs.GrammarRows.{blocks-grammar}
-use Rattle.md_rows.proofs.HeldRows.{blocks-held, events-held}
-use Rattle.md_rows.proofs.StandRows.{events-stand, rows-stand}
-use Rattle.md_rows.proofs.GroupsAre.{groups-are}
+use Rattle.proof_container_laws.specs.Footnotes.{footnotes_listed}
+use Rattle.proof_rows.specs.WithoutMdx.{IsWithoutMdx}
+use Rattle.proof_frame.specs.Row.{Row}
+use Rattle.proof_rows.specs.Rows.{groups, groups_events}
+use Rattle.proof_rows.specs.Unread.{unread_groups}
+use Rattle.proof_rows.proofs.BetweenRows.{rows-between}
+use Rattle.proof_rows.proofs.EndingRows.{blocks-endings}
+use Rattle.proof_rows.proofs.GrammarRows.{blocks-grammar}
+use Rattle.proof_rows.proofs.HeldRows.{blocks-held, events-held}
+use Rattle.proof_rows.proofs.StandRows.{events-stand, rows-stand}
+use Rattle.proof_rows.proofs.GroupsAre.{groups-are}
 use Rattle.markdown_blocks.proofs.Labels.Rows.{rows-labels}
-use Rattle.md_content_rooms.proofs.Labels.Footnotes.{stand-labels}
-use Rattle.md_content_rooms.proofs.Labels.Kept.{listed-labels, read-labels}
-use Rattle.md_content_rooms.proofs.Labels.Off.{off-in}
-use Rattle.md_content_rooms.proofs.Labels.Trees.{defined_in, grouped-defined, grouped-noted, noted_in}
-use Rattle.md_rows.proofs.PartedRows.{rows-parted}
-use Rattle.md_list_order.proofs.ListsFirst.{lists-first}
+use Rattle.proof_content_laws.proofs.Labels.Footnotes.{stand-labels}
+use Rattle.proof_content_laws.proofs.Labels.Kept.{listed-labels, read-labels}
+use Rattle.proof_content_laws.proofs.Labels.Off.{off-in}
+use Rattle.proof_content_laws.proofs.Labels.Trees.{defined_in, grouped-defined, grouped-noted, noted_in}
+use Rattle.proof_rows.proofs.PartedRows.{rows-parted}
+use Rattle.md_order.proofs.ListsFirst.{lists-first}
 use Rattle.md_leaves.specs.HeadingText.{headings_resolved}
 use Rattle.md_tables.specs.Tabled.{tabled}
 use Rattle.markdown_blocks.proofs.SpelledRows.{rows-outer}
-use Rattle.md_rows.proofs.JoinedLemmas.{EachNoContent}
-use Rattle.md_container_rooms.proofs.ListedOutlined.{listed-outlined}
-use Rattle.md_rows.proofs.Begun.{begun, front-nested, front-spelled, front-unlisted, fronts-defined}
-use Rattle.md_rows.proofs.Begun.{fronts-grouped, fronts-noted, fronts-shallow}
-use Rattle.md_frame.proofs.FillFacts.{fill-same}
-use Rattle.md_frame.proofs.PartsStand.{stands-outside}
-use Rattle.md_rows.proofs.NestedRows.{Nests, rows-nest}
-use Rattle.md_rows.proofs.PieceRows.{blocks-pieces}
-use Rattle.md_rows.proofs.PlainEvents.{groups-unlisted}
-use Rattle.md_rows.proofs.RowFacts.{AreRows}
-use Rattle.md_rows.proofs.AloneGroups.{leaves-alone}
-use Rattle.md_rows.proofs.TabledGroups.{chain}
-use Rattle.md_row_steps.proofs.TextAre.{lines_of, rows_of, text-are}
+use Rattle.proof_rows.proofs.JoinedLemmas.{EachNoContent}
+use Rattle.proof_container_laws.proofs.ListedOutlined.{listed-outlined}
+use Rattle.proof_rows.proofs.Begun.{begun, front-nested, front-spelled, front-unlisted, fronts-defined}
+use Rattle.proof_rows.proofs.Begun.{fronts-grouped, fronts-noted, fronts-shallow}
+use Rattle.proof_frame.proofs.FillFacts.{fill-same}
+use Rattle.proof_frame.proofs.PartsStand.{stands-outside}
+use Rattle.proof_rows.proofs.NestedRows.{Nests, rows-nest}
+use Rattle.proof_rows.proofs.PieceRows.{blocks-pieces}
+use Rattle.proof_rows.proofs.PlainEvents.{groups-unlisted}
+use Rattle.proof_rows.proofs.RowFacts.{AreRows}
+use Rattle.proof_rows.proofs.AloneGroups.{leaves-alone}
+use Rattle.proof_rows.proofs.TabledGroups.{chain}
+use Rattle.proof_rows.proofs.TextAre.{lines_of, rows_of, text-are}
 use Rattle.markdown_blocks.proofs.ContentAre.{content-are, part-of}
 use Rattle.markdown_blocks.proofs.FlowReads.{text-quiet}
-use Rattle.md_rows.proofs.TileCovers.{blocks-cover}
-use Rattle.md_rows.proofs.TileParts.{blocks-chunks, blocks-nested, blocks-stand}
-use Rattle.md_rows.proofs.TileReads.{blocks-empty, end-unread, text-filled}
-use Rattle.md_container_rooms.proofs.ListedFront.{listed-front}
+use Rattle.proof_rows.proofs.TileCovers.{blocks-cover}
+use Rattle.proof_rows.proofs.TileParts.{blocks-chunks, blocks-nested, blocks-stand}
+use Rattle.proof_rows.proofs.TileReads.{blocks-empty, end-unread, text-filled}
+use Rattle.proof_container_laws.proofs.ListedFront.{listed-front}
 use Rattle.markdown_blocks.proofs.TreeRows.{body-rows, body-shallow, body_of, tree-body}
-use Rattle.md_frame.proofs.LeafStands.{roles-unlisted}
+use Rattle.proof_frame.proofs.LeafStands.{roles-unlisted}
 
 -- Then the lines of each leaf of several were joined, lists were put around items, and headings and tables were set.
 resolved-are : (options : ParseOptions) (bytes : List ℕ) → IsWithoutMdx options → length bytes < 2 ^ 61 →

@@ -4,7 +4,7 @@ use Rattle.std.proofs.Common.{◌≡◌, ℕ, List, sym, subst}
 use Rattle.md_engine.specs.declared.configuration.ParseOptions.{ParseOptions}
 use Rattle.md_engine.specs.declared.event.Event.{Event}
 use Rattle.md_meaning.specs.Meaning.{tree}
-use Rattle.md_seam.specs.Events.Spelled.{spelled}
+use Rattle.md_events.specs.Events.Spelled.{spelled}
 use Rattle.md_meaning.specs.Wrapped.{NestsInItem, itemised}
 use Rattle.md_meaning.proofs.ListLaw.{list-nests}
 

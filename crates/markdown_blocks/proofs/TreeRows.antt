@@ -7,10 +7,10 @@ use Rattle.md_meaning.specs.Leaves.{LeafResult}
 use Rattle.md_meaning.specs.State.{OpenParagraph, spot, At, Container, ParagraphLine, Leaf, Path, Innermost, Within}
 use Rattle.md_meaning.specs.State.{closed, container_block, kept, shut, texts, then_block, then_leaf}
 use Rattle.md_registry.proofs.Registry.{insider-none, text-laws}
-use Rattle.md_rows.specs.Rows.{is_further, is_inside, takes_head, groups, groups_events, is_lazy, line_kind}
-use Rattle.md_rows.specs.Fronted.{prefixes_behind, Contained, Prefixed, contained, no_prefix, one_more, prefixes_new}
-use Rattle.md_rows.specs.Fronted.{prefixes_on, contained_behind, contained_of}
-use Rattle.md_frame.specs.Change.{against, change_by, interrupts, others_of, Change}
+use Rattle.proof_rows.specs.Rows.{is_further, is_inside, takes_head, groups, groups_events, is_lazy, line_kind}
+use Rattle.proof_rows.specs.Fronted.{prefixes_behind, Contained, Prefixed, contained, no_prefix, one_more, prefixes_new}
+use Rattle.proof_rows.specs.Fronted.{prefixes_on, contained_behind, contained_of}
+use Rattle.proof_frame.specs.Change.{against, change_by, interrupts, others_of, Change}
 use Rattle.std.proofs.Common.{◌++◌, map, length, drop, take, refl, ap, sym, ◌∙◌, subst, inl, inr, ◌⊎◌}
 use Rattle.std.specs.Prelude.{Option, Some, None}
 use Rattle.std.specs.List.{onto_first}
@@ -24,36 +24,36 @@ use Rattle.md_meaning.specs.Lines.{begins_with, ends_line, full_lines_of, is_end
 use Rattle.md_meaning.specs.Meaning.{tree, with_frontmatter}
 use Rattle.md_meaning.specs.Preamble.{Preamble, rest_at, rests_at}
 use Rattle.md_meaning.specs.Rest.{Rest}
-use Rattle.md_seam.specs.Events.Spelled.{spelled, without_last}
+use Rattle.md_events.specs.Events.Spelled.{spelled, without_last}
 use Rattle.md_meaning.specs.Step.{spot_of, step, steps}
 use Rattle.md_meaning.specs.Texts.{split_lines}
 use Rattle.md_meaning.specs.Tree.{Blocks, End}
 use Rattle.md_meaning.proofs.LinesLemmas.{without_ending-onto}
 use Rattle.markdown_blocks.specs.Fed.{rests_from}
-use Rattle.md_row_steps.specs.WithoutMdx.{IsWithoutMdx}
-use Rattle.md_frame.specs.TextLines.{text_leaf}
-use Rattle.md_frame.specs.Row.{BlankRow, LeafRow, Row, RowKind, TextRow}
+use Rattle.proof_rows.specs.WithoutMdx.{IsWithoutMdx}
+use Rattle.proof_frame.specs.TextLines.{text_leaf}
+use Rattle.proof_frame.specs.Row.{BlankRow, LeafRow, Row, RowKind, TextRow}
 use Rattle.md_registry.specs.OpenSpan.{IsBuiltLeaf, IsOpenSpan}
-use Rattle.md_rows.specs.Stands.{IsPlain, containers_of, still_of}
-use Rattle.md_rows.proofs.ContainedLemmas.{contained-kinds, contained-still, lines-open}
-use Rattle.md_rows.proofs.KindLemmas.{kind-plain}
-use Rattle.md_row_steps.proofs.LineSteps.{behind_path, come_by, contained_at, further_path, goes_further, goes_lazy}
-use Rattle.md_row_steps.proofs.LineSteps.{kept_to, longer, new_line, path_by, renewed, spot_by, step-contained}
-use Rattle.md_row_steps.proofs.LineSteps.{with_came}
-use Rattle.md_rows.proofs.FurtherSpan.{FurtherSpan, further-span, other_kind}
+use Rattle.proof_rows.specs.Stands.{IsPlain, containers_of, still_of}
+use Rattle.proof_rows.proofs.ContainedLemmas.{contained-kinds, contained-still, lines-open}
+use Rattle.proof_rows.proofs.KindLemmas.{kind-plain}
+use Rattle.proof_rows.proofs.LineSteps.{behind_path, come_by, contained_at, further_path, goes_further, goes_lazy}
+use Rattle.proof_rows.proofs.LineSteps.{kept_to, longer, new_line, path_by, renewed, spot_by, step-contained}
+use Rattle.proof_rows.proofs.LineSteps.{with_came}
+use Rattle.proof_rows.proofs.FurtherSpan.{FurtherSpan, further-span, other_kind}
 use Rattle.md_registry.proofs.OpenSpan.{ComesShallow}
 use Rattle.markdown_blocks.proofs.LastLine.{no_bytes, no_rests, step_over, steps_over, told}
-use Rattle.md_row_steps.proofs.StepBehind.{GoesOn, begun-leaf, further-unlazy, goes-on, plain-step, span-open}
-use Rattle.md_frame.specs.HeldLeaf.{has_lines, takes_lazy}
-use Rattle.md_rows.proofs.RowFacts as f
+use Rattle.proof_rows.proofs.StepBehind.{GoesOn, begun-leaf, further-unlazy, goes-on, plain-step, span-open}
+use Rattle.proof_frame.specs.HeldLeaf.{has_lines, takes_lazy}
+use Rattle.proof_rows.proofs.RowFacts as f
 use Rattle.markdown_blocks.proofs.SpelledRows.{spelled-rows}
-use Rattle.md_rows.proofs.TextFound.{front_before}
-use Rattle.md_frame.proofs.ShallowBlocks.{shallow-then}
-use Rattle.md_content_rooms.proofs.Paragraph.Laws.{shallow-front}
-use Rattle.md_frame.proofs.RegistryRead.{AreRead, IsRead, IsReadTaken, kinds-read, read-front}
+use Rattle.proof_rows.proofs.TextFound.{front_before}
+use Rattle.proof_frame.proofs.ShallowBlocks.{shallow-then}
+use Rattle.proof_content_laws.proofs.Paragraph.Laws.{shallow-front}
+use Rattle.proof_frame.proofs.RegistryRead.{AreRead, IsRead, IsReadTaken, kinds-read, read-front}
 use Rattle.md_registry.proofs.RegistryContainers.{opens-read, over-empty, read-shallow}
 use Rattle.md_outline.specs.HeadingDepths.{are_shallow}
-use Rattle.md_rows.proofs.Begun.{IsBegun}
+use Rattle.proof_rows.proofs.Begun.{IsBegun}
 use Rattle.md_engine.specs.declared.event.Event.{Event}
 
 -- Containers that flow reads alone are open: those that stay on a line,

@@ -12,20 +12,20 @@ use Rattle.md_engine.specs.Run.Runs.{Stays, ThenCalls, ThenLeaves}
 use Rattle.md_engine.specs.World.{World, fresh, looks, reads_to}
 use Rattle.md_meaning.specs.Preamble.{rest_at}
 use Rattle.md_meaning.specs.Rest.{Rest}
-use Rattle.md_seam.specs.Events.Spelled.{Reading, read, unread}
+use Rattle.md_events.specs.Events.Spelled.{Reading, read, unread}
 use Rattle.md_meaning.specs.State.{At, Container, Path}
 use Rattle.md_meaning.specs.Step.{spot_of, steps}
 use Rattle.md_meaning.specs.Texts.{split_lines}
 use Rattle.md_meaning.specs.Tree.{End}
-use Rattle.md_rows.specs.Fronted.{rest_from}
-use Rattle.md_row_steps.specs.WithoutMdx.{IsWithoutMdx}
-use Rattle.md_frame.specs.Row.{Row, behind_row}
-use Rattle.md_rows.specs.Rows.{groups, groups_events, rows_events}
-use Rattle.md_rows.specs.Stands.{StandsFor}
+use Rattle.proof_rows.specs.Fronted.{rest_from}
+use Rattle.proof_rows.specs.WithoutMdx.{IsWithoutMdx}
+use Rattle.proof_frame.specs.Row.{Row, behind_row}
+use Rattle.proof_rows.specs.Rows.{groups, groups_events, rows_events}
+use Rattle.proof_rows.specs.Stands.{StandsFor}
 use Rattle.md_registry.specs.FlowRule.{feeds}
 use Rattle.md_registry.specs.States.{FlowStep}
-use Rattle.md_rows.specs.TextRows.{text_rows}
-use Rattle.md_frame.specs.Closed.{close_containers}
+use Rattle.proof_rows.specs.TextRows.{text_rows}
+use Rattle.proof_frame.specs.Closed.{close_containers}
 
 -- how many lines a run has fed
 abbrev pub fed : (T : Step) (is_end : Bool) (s : State) (w : World) (t : State) (v : World) → Runs T is_end s w t v → ℕ

@@ -15,12 +15,12 @@ use Rattle.md_content.specs.Resolves.{found_in_content}
 use Rattle.md_leaves.specs.HeadingText.{headings_resolved}
 use Rattle.md_leaves.specs.Turned.{turned}
 use Rattle.md_tables.specs.Tabled.{tabled}
-use Rattle.md_seam.specs.Substituted.{Substituted}
+use Rattle.md_events.specs.Substituted.{Substituted}
 use Rattle.markdown_blocks.specs.Fed.{FlowRan}
-use Rattle.md_table_rooms.specs.Headed.{heads_read}
-use Rattle.md_frame.specs.Row.{Row}
-use Rattle.md_rows.specs.Rows.{is_text, rows_events}
-use Rattle.md_rows.specs.TextRows.{text_rows, text_setting}
+use Rattle.proof_table_laws.specs.Headed.{heads_read}
+use Rattle.proof_frame.specs.Row.{Row}
+use Rattle.proof_rows.specs.Rows.{is_text, rows_events}
+use Rattle.proof_rows.specs.TextRows.{text_rows, text_setting}
 use Rattle.md_registry.specs.Resolving.{lines_joined}
 
 -- whether a line is content

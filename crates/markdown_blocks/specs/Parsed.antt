@@ -4,27 +4,27 @@ use Rattle.std.specs.String.{string_bytes}
 use Rattle.md_engine.specs.declared.configuration.ParseOptions.{ParseOptions}
 use Rattle.md_engine.specs.declared.event.Event.{Event}
 use Rattle.md_engine.specs.declared.parse_state.ParseState.{ParseState}
-use Rattle.md_seam.specs.Events.Endings.{endings_stand}
-use Rattle.md_seam.specs.Events.Grammar.{keeps_grammar, plain_text}
-use Rattle.md_seam.specs.Events.Held.{Holds}
-use Rattle.md_seam.specs.Events.Inline.{Covers, Part, pieces}
+use Rattle.md_events.specs.Events.Endings.{endings_stand}
+use Rattle.md_events.specs.Events.Grammar.{keeps_grammar, plain_text}
+use Rattle.md_events.specs.Events.Held.{Holds}
+use Rattle.md_events.specs.Events.Inline.{Covers, Part, pieces}
 use Rattle.md_meaning.specs.Meaning.{tree}
-use Rattle.md_seam.specs.Events.Nested.{Nested}
-use Rattle.md_seam.specs.Events.On.{are_on}
-use Rattle.md_seam.specs.Events.Pieces.{pieces_stand}
-use Rattle.md_seam.specs.Events.Places.{are_placed, first_point}
-use Rattle.md_seam.specs.Events.Spelled.{spelled}
-use Rattle.md_seam.specs.Events.Tiles.{Tiles, end_point, plain_read}
-use Rattle.md_seam.specs.Substituted.{Substituted}
-use Rattle.md_seam.specs.TextPart.{Document, document_of, text_kind, wants_text}
+use Rattle.md_events.specs.Events.Nested.{Nested}
+use Rattle.md_events.specs.Events.On.{are_on}
+use Rattle.md_events.specs.Events.Pieces.{pieces_stand}
+use Rattle.md_events.specs.Events.Places.{are_placed, first_point}
+use Rattle.md_events.specs.Events.Spelled.{spelled}
+use Rattle.md_events.specs.Events.Tiles.{Tiles, end_point, plain_read}
+use Rattle.md_events.specs.Substituted.{Substituted}
+use Rattle.md_events.specs.TextPart.{Document, document_of, text_kind, wants_text}
 use Rattle.md_meaning.specs.Label.{labels}
 use Rattle.md_meaning.specs.Wrapped.{NestsInItem, NestsInQuote, itemised, quoted}
 use Rattle.md_outline.specs.Outlined.{IsOutlined}
 use Rattle.md_wrap.specs.Footnoted.{NestsInFootnote, footnoted}
 pub use Rattle.md_meaning.specs.Wrapped.{IsItemable, IsQuotable, IsSmall}
-pub use Rattle.md_row_steps.specs.WithoutMdx.{IsWithoutMdx}
+pub use Rattle.proof_rows.specs.WithoutMdx.{IsWithoutMdx}
 use Rattle.md_exact.specs.Blocks.{exact}
-use Rattle.md_frame.specs.ReadsPlain.{reads_plain}
+use Rattle.proof_frame.specs.ReadsPlain.{reads_plain}
 
 -- What is known of a text that was read with an inline layer, whatever it is: its events nest, are at its points, spell
 -- its tree and tile it, and the labels are those of that tree.

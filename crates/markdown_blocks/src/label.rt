@@ -1,3 +1,3 @@
 // Labels of definitions and of footnote definitions (CommonMark 6.3, "matches").
 
-pub use md_grammars::label::normal_form;
+pub use md_scan::label::normal_form;

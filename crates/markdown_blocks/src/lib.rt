@@ -9,7 +9,7 @@ pub mod plain;
 pub mod seam;
 
 pub use md_engine::{configuration, event, message, state, subtokenize, table, tokenizer};
+pub use md_events::{inline, names, slice};
 pub use md_flow::resolve;
 pub use md_outline::outline;
-pub use md_seam::{inline, names, slice};
 pub use md_wrap::wrap;

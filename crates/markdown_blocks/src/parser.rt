@@ -6,9 +6,9 @@ ghost use Rattle.md_engine.specs.Found.{found_in, nothing};
 ghost use Rattle.md_engine.specs.Place.{IsPlaced};
 ghost use Rattle.md_engine.specs.World.{fresh, world};
 ghost use Rattle.md_content.specs.Joined.{is_content};
-ghost use Rattle.md_seam.specs.TextPart.{IsTextPart, document_of, text_kind, wants_text};
+ghost use Rattle.md_events.specs.TextPart.{IsTextPart, document_of, text_kind, wants_text};
 ghost use Rattle.md_registry.specs.Document.{ReadsFront};
-ghost use Rattle.md_front_rooms.specs.Front.{body_point};
+ghost use Rattle.proof_leaf_laws.specs.Front.{body_point};
 ghost use Rattle.md_registry.specs.Resolving.{lines_joined};
 ghost use Rattle.md_leaves.specs.Spanned.{passes_on};
 ghost use Rattle.md_leaves.specs.Turned.{HoldNoUnderline};
@@ -17,7 +17,7 @@ ghost use Rattle.markdown_blocks.specs.ContentRead.{AreSideBySide, ReadIf, holds
 ghost use Rattle.markdown_blocks.specs.FlowReads.{FlowReads};
 ghost use Rattle.md_order.specs.Alone.{MayPass};
 ghost use Rattle.md_order.specs.InOrder.{every, in_order};
-ghost use Rattle.md_container_rooms.specs.Footnotes.{footnotes_listed};
+ghost use Rattle.proof_container_laws.specs.Footnotes.{footnotes_listed};
 ghost use Rattle.markdown_blocks.specs.Parsed.{IsParsed, IsRead, IsWithoutMdx};
 ghost use Rattle.md_meaning.specs.Wrapped.{IsSmall};
 
@@ -34,15 +34,15 @@ use md_engine::state::{Name as StateName, State};
 use md_engine::subtokenize::Subresult;
 use md_engine::table::{flush, push};
 use md_engine::tokenizer::Tokenizer;
+use md_events::inline::{Chunk, Inline, PartKind};
+use md_events::subtokenize::{Reader, subtokenize};
+use md_events::walks::{Test, passing};
 use md_flow::document::DocumentTable;
 use md_flow::resolve;
 use md_leaves::spans;
 use md_leaves::spans::Place;
 use md_registry::choices;
 use md_resolve::pass::pass_all;
-use md_seam::inline::{Chunk, Inline, PartKind};
-use md_seam::subtokenize::{Reader, subtokenize};
-use md_seam::walks::{Test, passing};
 use std::alloc::Global;
 
 /// The most bytes that a text may have: an eighth of what an index can be, so that nothing that is counted of a text

@@ -1,14 +1,14 @@
 // The plainest inline layer.
 
 ghost use Rattle.std.specs.Prelude.{◌≡◌};
-ghost use Rattle.md_seam.specs.Events.Inline.{plain_events};
-ghost use Rattle.md_seam.proofs.InlineLemmas.{plain-keeps};
+ghost use Rattle.md_events.specs.Events.Inline.{plain_events};
+ghost use Rattle.md_events.proofs.InlineLemmas.{plain-keeps};
 
 use md_engine::event::Event;
 use md_engine::message::Message;
 use md_engine::parse_state::ParseState;
-use md_seam::inline::{Chunk, Inline, PartKind};
-use md_seam::plain;
+use md_events::inline::{Chunk, Inline, PartKind};
+use md_events::plain;
 use std::alloc::Global;
 
 /// Reads a text part as lines: `Data` over each line, if it is not empty, and `LineEnding` over its ending.

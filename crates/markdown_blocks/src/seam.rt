@@ -1,5 +1,5 @@
 // Where an inline layer meets the parser: what it implements, what it is given, and the layer that reads nothing.
 
 pub use crate::plain::Plain;
-pub use md_seam::inline::{Chunk, Inline, PartKind};
-pub use md_seam::{names, slice};
+pub use md_events::inline::{Chunk, Inline, PartKind};
+pub use md_events::{names, slice};

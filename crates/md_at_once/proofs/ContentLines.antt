@@ -3,7 +3,7 @@
 use Rattle.std.proofs.Common.{◌≡◌, ◌<◌, ◌≤◌, ◌∙◌, ◌++◌, Bool, true, false, List, [], ◌∷◌, ap, append_assoc, arith}
 use Rattle.std.proofs.Common.{Some, length, nat_eq, not, refl, subst, sym}
 use Rattle.md_content.specs.Chunks.{begun, chunk_inside_code, chunk_start_transition, content_link, rest_taken, unbegun}
-use Rattle.md_seam.proofs.LineTaken.{whole-behind}
+use Rattle.md_events.proofs.LineTaken.{whole-behind}
 use Rattle.md_content.proofs.StaysLemmas.{chunk-takes, not-ending}
 use Rattle.md_engine.specs.declared.event.Event.{Event}
 use Rattle.md_engine.specs.declared.event.Kind.TheVariants.{Enter}
@@ -24,10 +24,10 @@ use Rattle.md_engine.specs.World.{World, looks}
 use Rattle.md_engine.proofs.Loops.{Came, CameHere, CameTo, came-first, came-runs}
 use Rattle.md_engine.proofs.Walks.{Within, then-holds, then-seen, then-stays, within-more, within-one}
 use Rattle.md_link_definitions.specs.OpenText.{text_behind}
-use Rattle.md_seam.specs.Events.Nested.{exit}
-use Rattle.md_seam.specs.Lent.{whole_from}
-use Rattle.md_seam.specs.Spaces.{ends_line}
-use Rattle.md_seam.specs.Transition.{tried}
+use Rattle.md_events.specs.Events.Nested.{exit}
+use Rattle.md_events.specs.Lent.{whole_from}
+use Rattle.md_events.specs.Spaces.{ends_line}
+use Rattle.md_events.specs.Transition.{tried}
 use Rattle.md_registry.specs.States.{FlowStep}
 use Rattle.md_at_once.specs.AtOnce.{line_added, line_frame, line_tried}
 use Rattle.md_at_once.proofs.LineEnds.{line-waits, takes-so}

@@ -15,8 +15,8 @@ use Rattle.md_engine.specs.World.{World, looks}
 use Rattle.md_engine.proofs.Loops.{not_error}
 use Rattle.md_engine.proofs.Walks.{Within}
 use Rattle.md_registry.proofs.LinesAtOnce.{Goes, Leaves, leaves-once}
-use Rattle.md_seam.specs.Spaces.{ends_line, sees_white}
-use Rattle.md_seam.specs.Stays.{TakesEach}
+use Rattle.md_events.specs.Spaces.{ends_line, sees_white}
+use Rattle.md_events.specs.Stays.{TakesEach}
 
 -- before a line, by whether it may be a closing fence,
 break-leaves : (w : World) (x : Bool) → Leaves (at_non_lazy_break_code w x) w

@@ -11,8 +11,8 @@ use Rattle.md_engine.specs.declared.state.State.TheVariants.{Error}
 use Rattle.md_engine.proofs.Walks.{Within}
 use Rattle.md_html.specs.Html.{blank_move, close_code, ends_in_front, further_code, html_transition, moved}
 use Rattle.md_registry.proofs.LinesAtOnce.{Goes, Leaves, leaves-once}
-use Rattle.md_seam.specs.Spaces.{ends_line, sees_white}
-use Rattle.md_seam.specs.Stays.{TakesEach}
+use Rattle.md_events.specs.Spaces.{ends_line, sees_white}
+use Rattle.md_events.specs.Stays.{TakesEach}
 
 pub close-leaves : (w : World) (x : Bool) → Leaves (close_code w x) w
 close-leaves w true = ((refl, refl), refl)

@@ -20,10 +20,10 @@ use Rattle.md_engine.proofs.Keeps.{runs-append}
 use Rattle.md_engine.proofs.Loops.{CameHere, came-first, runs-then}
 use Rattle.md_engine.proofs.StayLemmas.{seen-inside}
 use Rattle.md_engine.proofs.Walks.{TakesSo, Within, then-seen, then-waits}
-use Rattle.md_seam.specs.Spaces.{ends_line}
-use Rattle.md_seam.specs.Stays.{TakesEach}
-use Rattle.md_seam.specs.Transition.{Transition, entered, exited, taken}
-use Rattle.md_frame.specs.EndingName.{ending_name}
+use Rattle.md_events.specs.Spaces.{ends_line}
+use Rattle.md_events.specs.Stays.{TakesEach}
+use Rattle.md_events.specs.Transition.{Transition, entered, exited, taken}
+use Rattle.proof_frame.specs.EndingName.{ending_name}
 use Rattle.md_registry.specs.Flow.{flow_end_code, flow_end_transition, leaf_end}
 use Rattle.md_registry.specs.LineFlags.{kept_containers, next_line}
 use Rattle.md_registry.specs.States.{FlowStep, flow_transition}

@@ -21,13 +21,13 @@ use Rattle.md_engine.proofs.Walks.{Within, then-holds, then-stays, within-more, 
 use Rattle.md_code.specs.Fence.{at_non_lazy_break_code, before_close_code, cleared, close_start_code, held_marker}
 use Rattle.md_code.specs.Fence.{line_entered}
 use Rattle.md_meaning.specs.Rest.{is_white}
-use Rattle.md_seam.specs.Events.Nested.{enter, exit}
-use Rattle.md_seam.specs.Look.{behind_code, first_behind, looks_behind}
-use Rattle.md_seam.specs.Spaces.{after_code, is_current, sees_white, small_indent}
-use Rattle.md_seam.specs.Spaces.{start_code}
-use Rattle.md_seam.specs.Transition.{exited}
-use Rattle.md_seam.proofs.AheadLemmas.{small-some}
-use Rattle.md_seam.proofs.LookLemmas.{left_at}
+use Rattle.md_events.specs.Events.Nested.{enter, exit}
+use Rattle.md_events.specs.Look.{behind_code, first_behind, looks_behind}
+use Rattle.md_events.specs.Spaces.{after_code, is_current, sees_white, small_indent}
+use Rattle.md_events.specs.Spaces.{start_code}
+use Rattle.md_events.specs.Transition.{exited}
+use Rattle.md_events.proofs.AheadLemmas.{small-some}
+use Rattle.md_events.proofs.LookLemmas.{left_at}
 use Rattle.md_registry.specs.States.{FlowStep}
 use Rattle.md_at_once.specs.AtOnce.{IsNoClose, unclosed}
 use Rattle.md_at_once.proofs.TakenBack.{stepped-as, taken-back}

@@ -23,9 +23,9 @@ use Rattle.md_engine.specs.World.{Flags, World, looks}
 use Rattle.md_engine.proofs.Loops.{CameTo}
 use Rattle.md_engine.proofs.Walks.{Within, then-run, then-stays, within-one}
 use Rattle.md_containers.specs.Item.{blank_code, cont_filled_code, cont_start_code, goes_to, indent_code, least_width}
-use Rattle.md_seam.specs.Look.{looks_behind, may_with}
-use Rattle.md_seam.specs.Spaces.{ends_line, sees_white}
-use Rattle.md_seam.specs.Transition.{Transition, tried}
+use Rattle.md_events.specs.Look.{looks_behind, may_with}
+use Rattle.md_events.specs.Spaces.{ends_line, sees_white}
+use Rattle.md_events.specs.Transition.{Transition, tried}
 use Rattle.md_registry.specs.AtOnce.{GoesAtOnce, asking_by, asking_next, prefix_taken}
 use Rattle.md_registry.specs.Flow.{existing_before_code, existing_before_transition, trial_code}
 use Rattle.md_registry.specs.LineFlags.{asking, next_container, went_on}

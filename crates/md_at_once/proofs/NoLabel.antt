@@ -29,11 +29,11 @@ use Rattle.md_containers.specs.Footnote.{label_at_marker_code, label_before_code
 use Rattle.md_meaning.specs.Ascii.{caret, left_bracket}
 use Rattle.md_meaning.specs.Rest.{is_white}
 use Rattle.md_leaves.specs.LeafStart.{start_code}
-use Rattle.md_seam.specs.Events.Nested.{enter, exit}
-use Rattle.md_seam.specs.Look.{may_with}
-use Rattle.md_seam.specs.Spaces.{is_current, sees_white}
-use Rattle.md_seam.specs.Transition.{entered, tried}
-use Rattle.md_seam.proofs.LookLemmas.{dark-at, white-at}
+use Rattle.md_events.specs.Events.Nested.{enter, exit}
+use Rattle.md_events.specs.Look.{may_with}
+use Rattle.md_events.specs.Spaces.{is_current, sees_white}
+use Rattle.md_events.specs.Transition.{entered, tried}
+use Rattle.md_events.proofs.LookLemmas.{dark-at, white-at}
 use Rattle.md_registry.specs.AtOnce.{all_asked, openers_passed}
 use Rattle.md_registry.specs.Document.{document_own_transition}
 use Rattle.md_registry.specs.Flow.{leaf_front, new_before_transition, trial_code}

@@ -18,8 +18,8 @@ use Rattle.md_engine.specs.World.{Setting, World, looks, looks_at}
 use Rattle.md_engine.proofs.Loops.{CameTo}
 use Rattle.md_engine.proofs.Walks.{Within, then-run}
 use Rattle.md_meaning.specs.Rest.{is_white}
-use Rattle.md_seam.proofs.LookLemmas.{dark-at, white-at}
-use Rattle.md_seam.specs.Transition.{Transition}
+use Rattle.md_events.proofs.LookLemmas.{dark-at, white-at}
+use Rattle.md_events.specs.Transition.{Transition}
 use Rattle.md_registry.specs.States.{FlowStep, flow_transition}
 
 -- A step, by what the transition is.

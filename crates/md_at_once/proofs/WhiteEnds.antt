@@ -18,11 +18,11 @@ use Rattle.md_engine.proofs.Loops.{CameTo}
 use Rattle.md_engine.proofs.Points.{cells-fall}
 use Rattle.md_engine.proofs.Walks.{Within, then-stays, then-takes}
 use Rattle.md_meaning.specs.Rest.{is_white}
-use Rattle.md_seam.specs.Look.{first_behind}
-use Rattle.md_seam.specs.Spaces.{asking, inside_code, sees_white}
-use Rattle.md_seam.specs.Transition.{exited, taken}
-use Rattle.md_seam.proofs.LookLemmas.{dark-at, left_at, none-left, white-at}
-use Rattle.md_seam.proofs.PlainSteps.{range-next}
+use Rattle.md_events.specs.Look.{first_behind}
+use Rattle.md_events.specs.Spaces.{asking, inside_code, sees_white}
+use Rattle.md_events.specs.Transition.{exited, taken}
+use Rattle.md_events.proofs.LookLemmas.{dark-at, left_at, none-left, white-at}
+use Rattle.md_events.proofs.PlainSteps.{range-next}
 use Rattle.md_registry.specs.States.{FlowStep}
 use Rattle.md_at_once.proofs.TakenBack.{stepped-as}
 

@@ -20,12 +20,12 @@ use Rattle.md_engine.specs.Staying.{SeesAll}
 use Rattle.md_engine.specs.World.{Flags, World, looks}
 use Rattle.md_engine.proofs.Loops.{Came, CameHere, CameTo, came-first, came-runs}
 use Rattle.md_engine.proofs.Walks.{Within, then-holds, then-seen, then-stays, within-more, within-one}
-use Rattle.md_frame.specs.LeafName.{FenceFurther}
+use Rattle.proof_frame.specs.LeafName.{FenceFurther}
 use Rattle.md_meaning.specs.Rest.{is_white}
-use Rattle.md_seam.specs.Events.Nested.{exit}
-use Rattle.md_seam.specs.Look.{looks_behind}
-use Rattle.md_seam.specs.Spaces.{calmed, ends_line, sees_white}
-use Rattle.md_seam.specs.Transition.{tried}
+use Rattle.md_events.specs.Events.Nested.{exit}
+use Rattle.md_events.specs.Look.{looks_behind}
+use Rattle.md_events.specs.Spaces.{calmed, ends_line, sees_white}
+use Rattle.md_events.specs.Transition.{tried}
 use Rattle.md_registry.specs.Flow.{inside_code, inside_transition}
 use Rattle.md_registry.specs.LineFlags.{blank_here, nothing_stands}
 use Rattle.md_registry.specs.Registry.{asked_first}

@@ -21,9 +21,9 @@ use Rattle.md_link_definitions.specs.OpenText.{text_behind}
 use Rattle.md_code.specs.Fence.{cleared, held_marker, line_entered}
 use Rattle.md_meaning.specs.Ascii.{caret, left_bracket}
 use Rattle.md_meaning.specs.Rest.{is_white}
-use Rattle.md_seam.specs.Events.Nested.{exit}
-use Rattle.md_seam.specs.Look.{looks_behind}
-use Rattle.md_seam.specs.Spaces.{calmed, sees_white}
+use Rattle.md_events.specs.Events.Nested.{exit}
+use Rattle.md_events.specs.Look.{looks_behind}
+use Rattle.md_events.specs.Spaces.{calmed, sees_white}
 use Rattle.md_registry.specs.AtOnce.{opens_none}
 use Rattle.md_registry.specs.LineFlags.{next_container}
 use Rattle.md_registry.specs.Registry.{goes_on_with}

@@ -12,8 +12,8 @@ use Rattle.md_engine.specs.World.{World}
 use Rattle.md_code.specs.Fence.{block_name, chunk_name, cleared, held_indent, held_marker, is_open}
 use Rattle.md_leaves.specs.Further.{further_link}
 use Rattle.md_registry.specs.LineFlags.{blank_here}
-use Rattle.md_seam.specs.Events.Nested.{enter, exit}
-use Rattle.md_seam.specs.Spaces.{calmed, ends_line, is_current, sees_white}
+use Rattle.md_events.specs.Events.Nested.{enter, exit}
+use Rattle.md_events.specs.Spaces.{calmed, ends_line, is_current, sees_white}
 use Rattle.md_at_once.specs.AtOnce.{IsNoClose}
 
 -- A line of an open block closes nothing by what is first on it, and no whitespace before it is taken away.

@@ -8,7 +8,7 @@
 
 ghost use Rattle.std.specs.Prelude.{OnOk, Some, false, length, true, ◌≡◌, ◌≢◌, ◌<◌, ◌≤◌, ◌^◌};
 ghost use Rattle.md_content.specs.Chunks.{begun};
-ghost use Rattle.md_seam.specs.WholeLine.{line_taken};
+ghost use Rattle.md_events.specs.WholeLine.{line_taken};
 ghost use Rattle.md_engine.specs.Going.{SeesOn};
 ghost use Rattle.md_engine.specs.Place.{IsPlaced};
 ghost use Rattle.md_engine.specs.Run.{RunsHere};
@@ -26,8 +26,8 @@ ghost use Rattle.md_containers.specs.PlainBullet.{IsPlainBullet};
 ghost use Rattle.md_registry.specs.Registry.{opener_front, openers};
 ghost use Rattle.md_registry.specs.Flow.{leaf_end};
 ghost use Rattle.md_registry.specs.States.{FlowStep, flow_table_scheme, is_flow_own};
-ghost use Rattle.md_seam.specs.Lent.{whole_from};
-ghost use Rattle.md_seam.specs.Transition.{IsAt, NeedsNothing};
+ghost use Rattle.md_events.specs.Lent.{whole_from};
+ghost use Rattle.md_events.specs.Transition.{IsAt, NeedsNothing};
 ghost use Rattle.md_engine.specs.declared.state.flow.State.{State as FlowState};
 ghost use Rattle.md_engine.specs.declared.state.heading_atx.State.{State as HeadingState};
 ghost use Rattle.md_engine.specs.declared.state.list_item.State.{State as ItemState};
@@ -48,13 +48,13 @@ use md_engine::state::list_item::State as ItemState;
 use md_engine::state::space_or_tab::State as WhiteState;
 use md_engine::state::{Name as StateName, State};
 use md_engine::tokenizer::{Container, Frame, Tokenizer};
+use md_events::parts::add_part;
+use md_events::slice::whole_from;
+use md_events::space_or_tab;
 use md_flow::{constructs, document, flow};
 use md_leaves::{blank_line, heading_atx};
 use md_link_definitions::open_text::text_behind;
 use md_registry::choices;
-use md_seam::parts::add_part;
-use md_seam::slice::whole_from;
-use md_seam::space_or_tab;
 use md_tables::row::{Row, place_of};
 use md_tables::{gfm_table, row_words};
 

@@ -19,8 +19,8 @@ ghost use Rattle.md_engine.specs.declared.state.raw_flow.State.{State as RawStat
 ghost use Rattle.md_at_once.specs.AtOnce.{IsNoClose, unclosed};
 ghost use Rattle.md_at_once.specs.WholeLines.{IsWhole, chunk_event, line_event, settled, whole_added, whole_tried};
 ghost use Rattle.md_registry.specs.States.{FlowStep};
-ghost use Rattle.md_seam.specs.Spaces.{calmed};
-ghost use Rattle.md_seam.specs.Transition.{IsAt, NeedsNothing};
+ghost use Rattle.md_events.specs.Spaces.{calmed};
+ghost use Rattle.md_events.specs.Transition.{IsAt, NeedsNothing};
 
 use crate::line_ends::{end, line_end};
 use md_code::fence_parts::{block_name, chunk_name, held_indent, held_marker};
@@ -33,10 +33,10 @@ use md_engine::state::flow::State as FlowState;
 use md_engine::state::raw_flow::State as RawState;
 use md_engine::state::{Name as StateName, State};
 use md_engine::tokenizer::{Frame, HeldLeaf, Tokenizer, Whitespace};
+use md_events::space_or_tab::{is_space_or_tab, look_behind};
 use md_flow::document;
 use md_leaves::blank_line;
 use md_leaves::further::FURTHER;
-use md_seam::space_or_tab::{is_space_or_tab, look_behind};
 
 /// Whether what is left of a line is next.
 #[inline(always)]

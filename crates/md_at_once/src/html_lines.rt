@@ -14,7 +14,7 @@ ghost use Rattle.md_engine.specs.declared.state.State.{State};
 ghost use Rattle.md_engine.specs.declared.state.html_flow.State.{State as HtmlState};
 ghost use Rattle.md_html.specs.Html.{HtmlNeeds};
 ghost use Rattle.md_registry.specs.States.{FlowStep, flow_table_scheme};
-ghost use Rattle.md_seam.specs.Transition.{IsAt};
+ghost use Rattle.md_events.specs.Transition.{IsAt};
 ghost use Rattle.md_tables.specs.GfmTable.{AnswersWith};
 
 use crate::line_ends::end;

@@ -12,7 +12,7 @@ ghost use Rattle.md_engine.specs.declared.state.State.{State};
 ghost use Rattle.md_at_once.specs.AtOnce.{GoesOn, IsTried};
 ghost use Rattle.md_registry.specs.Flow.{leaf_end};
 ghost use Rattle.md_registry.specs.States.{FlowStep};
-ghost use Rattle.md_seam.specs.Transition.{IsAt, NeedsNothing};
+ghost use Rattle.md_events.specs.Transition.{IsAt, NeedsNothing};
 ghost use Rattle.md_engine.specs.declared.state.flow.State.{State as FlowState};
 
 use md_engine::state::flow::State as FlowState;

@@ -14,9 +14,9 @@ use md_engine::stay::Stay;
 use md_engine::subtokenize::Subresult;
 use md_engine::table::Table;
 use md_engine::tokenizer::Tokenizer;
+use md_events::space_or_tab;
 use md_flow::{constructs, resolve};
 use md_leaves::blank_line;
-use md_seam::space_or_tab;
 
 /// The states of flow.
 pub struct FlowTable;

@@ -11,13 +11,13 @@ use Rattle.md_meaning.specs.Rest.{Rest, indent, is_blank, line_of, lose, tab_col
 use Rattle.md_meaning.specs.Tree.{Line}
 use Rattle.md_code.specs.CodeLine.{chunk_line}
 use Rattle.md_code.specs.CodeRule.{is_indented}
-use Rattle.md_seam.specs.Ahead.{white_size}
-use Rattle.md_seam.specs.Events.Places.{past_text}
-use Rattle.md_seam.specs.Events.Spelled.{byte_at, columns_left}
-use Rattle.md_seam.proofs.FeedLines.{Stops, past-next, slice-front, tab_end}
-use Rattle.md_seam.proofs.InlineLemmas.{past-index}
-use Rattle.md_seam.proofs.LostColumns.{lose-walk}
-use Rattle.md_seam.proofs.RestCells.{RestAt, past_cut, past_rest, rest_cells, without_first}
+use Rattle.md_events.specs.Ahead.{white_size}
+use Rattle.md_events.specs.Events.Places.{past_text}
+use Rattle.md_events.specs.Events.Spelled.{byte_at, columns_left}
+use Rattle.md_events.proofs.FeedLines.{Stops, past-next, slice-front, tab_end}
+use Rattle.md_events.proofs.InlineLemmas.{past-index}
+use Rattle.md_events.proofs.LostColumns.{lose-walk}
+use Rattle.md_events.proofs.RestCells.{RestAt, past_cut, past_rest, rest_cells, without_first}
 
 -- A chunk.
 

@@ -30,14 +30,14 @@ use Rattle.md_code.specs.CodeRule.{further_after, further_begin, further_inside,
 use Rattle.md_code.specs.CodeRule.{is_indented, line_at, or_blank, then_here}
 use Rattle.md_leaves.specs.Further.{further_link}
 use Rattle.md_leaves.proofs.LeafSteps.{Ended, end-seen, ends-seen, sees-one, white_frame}
-use Rattle.md_seam.specs.Ahead.{HasWhite, after_white, begins_white, inside_white, line_bytes, white_at}
-use Rattle.md_seam.specs.Ahead.{white_end, white_rest, white_size}
-use Rattle.md_seam.specs.Events.Nested.{enter, enter_link, exit}
+use Rattle.md_events.specs.Ahead.{HasWhite, after_white, begins_white, inside_white, line_bytes, white_at}
+use Rattle.md_events.specs.Ahead.{white_end, white_rest, white_size}
+use Rattle.md_events.specs.Events.Nested.{enter, enter_link, exit}
 use Rattle.md_meaning.specs.Bytes.{is_end}
 use Rattle.md_meaning.specs.Rest.{is_white}
-use Rattle.md_seam.specs.Spaces.{IsRest, asking, calmed, ends_line, sees_white}
-use Rattle.md_seam.proofs.AheadLemmas.{none-size, white-no_ending}
-use Rattle.md_seam.proofs.WhiteMeaning.{begins-seen, white-tried}
+use Rattle.md_events.specs.Spaces.{IsRest, asking, calmed, ends_line, sees_white}
+use Rattle.md_events.proofs.AheadLemmas.{none-size, white-no_ending}
+use Rattle.md_events.proofs.WhiteMeaning.{begins-seen, white-tried}
 
 -- So many columns of whitespace.
 

@@ -16,10 +16,10 @@ use Rattle.md_code.specs.Code.{CodeInvariant, at_break_code, begun_code, chunk_b
 use Rattle.md_code.specs.Code.{code_rank, code_ready, code_scheme, code_transition, further_after_code}
 use Rattle.md_code.specs.Code.{further_begin_code, further_inside_code, inside_blank_code, inside_code}
 use Rattle.md_leaves.specs.Further.{further_link}
-use Rattle.md_seam.specs.Events.Nested.{enter, enter_link}
-use Rattle.md_seam.specs.Spaces.{IsRest, calmed, ends_line, rest_ready, sees_white}
-use Rattle.md_seam.specs.Transition.{entered, exited, taken}
-use Rattle.md_seam.proofs.SpacesTermination.{Does, WhiteFits, goes-on, rest-calm, rest-none, seen-in, white_try}
+use Rattle.md_events.specs.Events.Nested.{enter, enter_link}
+use Rattle.md_events.specs.Spaces.{IsRest, calmed, ends_line, rest_ready, sees_white}
+use Rattle.md_events.specs.Transition.{entered, exited, taken}
+use Rattle.md_events.proofs.SpacesTermination.{Does, WhiteFits, goes-on, rest-calm, rest-none, seen-in, white_try}
 
 pub record CodeFits (T : Scheme) : Type 1 where
   pub white : WhiteFits T

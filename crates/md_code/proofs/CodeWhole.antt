@@ -16,12 +16,12 @@ use Rattle.md_code.specs.CodeRule.{code_begins, code_further, code_goes, further
 use Rattle.md_code.specs.CodeRule.{in_blank, in_text, is_indented, line_adds, line_at, line_by, or_blank, then_here}
 use Rattle.md_leaves.specs.Further.{further_link}
 use Rattle.md_leaves.proofs.LeafSteps.{ended}
-use Rattle.md_seam.specs.Ahead.{begins_white, line_bytes, line_end, white_end, white_rest}
-use Rattle.md_seam.specs.Events.Nested.{enter, enter_link, exit, pair}
+use Rattle.md_events.specs.Ahead.{begins_white, line_bytes, line_end, white_end, white_rest}
+use Rattle.md_events.specs.Events.Nested.{enter, enter_link, exit, pair}
 use Rattle.md_meaning.specs.Bytes.{is_end}
 use Rattle.md_meaning.specs.Rest.{is_blank, is_white}
-use Rattle.md_seam.specs.Spaces.{calmed}
-use Rattle.md_seam.proofs.AheadLemmas.{none-rest, white-ending, white-line_end, white-no_ending}
+use Rattle.md_events.specs.Spaces.{calmed}
+use Rattle.md_events.proofs.AheadLemmas.{none-rest, white-ending, white-line_end, white-no_ending}
 
 -- Whitespace, and the end of a line.
 

@@ -14,12 +14,12 @@ use Rattle.md_code.specs.Fence.{may_begin}
 use Rattle.md_code.specs.FenceLine.{is_closing}
 use Rattle.md_code.specs.FenceRule.{is_end, is_line, run_end, run_rest, run_size}
 use Rattle.md_code.proofs.FenceMeaning.{first_is, run-none}
-use Rattle.md_seam.specs.Ahead.{from_ending, line_bytes, line_cells, line_end, point_after, white_end, white_rest}
-use Rattle.md_seam.specs.Events.Places.{past_byte, past_text}
-use Rattle.md_seam.specs.Look.{first_seen}
-use Rattle.md_seam.specs.Spaces.{any_size, is_current}
-use Rattle.md_seam.proofs.FeedLines.{Stops, byte-one, cell, columns_more, spread, tab_cells}
-use Rattle.md_seam.proofs.RestLines.{blank-spread, count-none, count-one}
+use Rattle.md_events.specs.Ahead.{from_ending, line_bytes, line_cells, line_end, point_after, white_end, white_rest}
+use Rattle.md_events.specs.Events.Places.{past_byte, past_text}
+use Rattle.md_events.specs.Look.{first_seen}
+use Rattle.md_events.specs.Spaces.{any_size, is_current}
+use Rattle.md_events.proofs.FeedLines.{Stops, byte-one, cell, columns_more, spread, tab_cells}
+use Rattle.md_events.proofs.RestLines.{blank-spread, count-none, count-one}
 
 -- The end of a line.
 

@@ -25,16 +25,16 @@ use Rattle.md_code.specs.FenceRule.{is_end, is_line, run_end, run_rest, run_size
 use Rattle.md_leaves.specs.Further.{further_link}
 use Rattle.md_code.proofs.FenceCells.{closing-spread, first-spread, line-all, line-done, line-run, line-white}
 use Rattle.md_code.proofs.FenceCells.{marker-dark, marker-goes}
-use Rattle.md_seam.specs.Ahead.{begins_white, from_ending, line_end, white_end, white_rest}
-use Rattle.md_seam.specs.Events.Nested.{enter_link, exit, pair}
-use Rattle.md_seam.specs.Look.{first_seen}
+use Rattle.md_events.specs.Ahead.{begins_white, from_ending, line_end, white_end, white_rest}
+use Rattle.md_events.specs.Events.Nested.{enter_link, exit, pair}
+use Rattle.md_events.specs.Look.{first_seen}
 use Rattle.md_engine.specs.Place.{is_ending}
-use Rattle.md_seam.specs.Spaces.{any_size, ends_line, is_current, small_indent}
-use Rattle.md_seam.proofs.FeedLines.{Stops, spread, tab_cells, tab_end}
-use Rattle.md_seam.proofs.LostColumns.{lose-walk}
-use Rattle.md_seam.proofs.RestCells.{RestAt, cells_by, indent-length, indent-over, indent-taken, lose-no_ending}
-use Rattle.md_seam.proofs.RestCells.{past_rest, rest_cells, white-length}
-use Rattle.md_seam.proofs.RestLines.{bare-spread, indent-trims, large-room, rest-from, rest-past, small-room}
+use Rattle.md_events.specs.Spaces.{any_size, ends_line, is_current, small_indent}
+use Rattle.md_events.proofs.FeedLines.{Stops, spread, tab_cells, tab_end}
+use Rattle.md_events.proofs.LostColumns.{lose-walk}
+use Rattle.md_events.proofs.RestCells.{RestAt, cells_by, indent-length, indent-over, indent-taken, lose-no_ending}
+use Rattle.md_events.proofs.RestCells.{past_rest, rest_cells, white-length}
+use Rattle.md_events.proofs.RestLines.{bare-spread, indent-trims, large-room, rest-from, rest-past, small-room}
 
 -- Where the line ends, by its cells.
 

@@ -40,14 +40,14 @@ use Rattle.md_code.specs.FenceRule.{part_begun, part_ended, refuses, run_end, ru
 use Rattle.md_leaves.specs.Further.{further_link}
 use Rattle.md_code.proofs.FenceTermination.{rest-clear}
 use Rattle.md_leaves.proofs.LeafSteps.{sees-one, white_frame}
-use Rattle.md_seam.specs.Ahead.{begins_white}
-use Rattle.md_seam.specs.Events.Nested.{enter, enter_link, exit}
-use Rattle.md_seam.specs.Look.{first_seen}
-use Rattle.md_seam.specs.Spaces.{IsRest, any_size, ends_line, is_current, sees_white, small_indent, white_then}
-use Rattle.md_seam.specs.Transition.{Transition}
-use Rattle.md_seam.proofs.AheadLemmas.{small-some}
-use Rattle.md_seam.proofs.LookLemmas.{first-seen}
-use Rattle.md_seam.proofs.WhiteMeaning.{begins-seen, white-tried}
+use Rattle.md_events.specs.Ahead.{begins_white}
+use Rattle.md_events.specs.Events.Nested.{enter, enter_link, exit}
+use Rattle.md_events.specs.Look.{first_seen}
+use Rattle.md_events.specs.Spaces.{IsRest, any_size, ends_line, is_current, sees_white, small_indent, white_then}
+use Rattle.md_events.specs.Transition.{Transition}
+use Rattle.md_events.proofs.AheadLemmas.{small-some}
+use Rattle.md_events.proofs.LookLemmas.{first-seen}
+use Rattle.md_events.proofs.WhiteMeaning.{begins-seen, white-tried}
 
 -- What comes first.
 

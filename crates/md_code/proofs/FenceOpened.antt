@@ -25,13 +25,13 @@ use Rattle.md_code.proofs.FenceCells.{run-length}
 use Rattle.md_code.proofs.FenceTermination.{rest-clear}
 use Rattle.md_code.proofs.FenceMeaning.{line-first, run-has-none}
 use Rattle.md_code.proofs.FenceWhole.{behind_spaces, white-joined}
-use Rattle.md_seam.specs.Ahead.{begins_white, from_ending, line_end, white_rest}
-use Rattle.md_seam.specs.Events.Nested.{exit}
-use Rattle.md_seam.specs.Look.{first_seen}
-use Rattle.md_seam.specs.Spaces.{IsRest, any_size, calmed, small_indent}
-use Rattle.md_seam.proofs.AheadLemmas.{small-some, white-all}
-use Rattle.md_seam.proofs.RestCells.{white-length}
-use Rattle.md_seam.proofs.SpacesTermination.{rest-calm, rest-size}
+use Rattle.md_events.specs.Ahead.{begins_white, from_ending, line_end, white_rest}
+use Rattle.md_events.specs.Events.Nested.{exit}
+use Rattle.md_events.specs.Look.{first_seen}
+use Rattle.md_events.specs.Spaces.{IsRest, any_size, calmed, small_indent}
+use Rattle.md_events.proofs.AheadLemmas.{small-some, white-all}
+use Rattle.md_events.proofs.RestCells.{white-length}
+use Rattle.md_events.proofs.SpacesTermination.{rest-calm, rest-size}
 
 -- What a line has that may not be there.
 

@@ -25,14 +25,14 @@ use Rattle.md_code.proofs.FenceCells.{first-spread, marker-dark, marker-ten, not
 use Rattle.md_code.proofs.FenceFurther.{small-behind}
 use Rattle.md_code.proofs.FenceOpened.{marker-may}
 use Rattle.md_code.proofs.FenceMeaning.{run-has-none}
-use Rattle.md_seam.specs.Ahead.{begins_white, white_end, white_rest}
-use Rattle.md_seam.specs.Events.Places.{past_byte, past_text}
-use Rattle.md_seam.specs.Look.{first_seen}
-use Rattle.md_seam.specs.Spaces.{small_indent}
-use Rattle.md_seam.proofs.FeedLines.{Stops, cell, columns_more, next_column, spread, tab_cells}
-use Rattle.md_seam.proofs.LostColumns.{lose-walk}
-use Rattle.md_seam.proofs.RestCells.{RestAt, indent-over, rest_cells}
-use Rattle.md_seam.proofs.RestLines.{large-room}
+use Rattle.md_events.specs.Ahead.{begins_white, white_end, white_rest}
+use Rattle.md_events.specs.Events.Places.{past_byte, past_text}
+use Rattle.md_events.specs.Look.{first_seen}
+use Rattle.md_events.specs.Spaces.{small_indent}
+use Rattle.md_events.proofs.FeedLines.{Stops, cell, columns_more, next_column, spread, tab_cells}
+use Rattle.md_events.proofs.LostColumns.{lose-walk}
+use Rattle.md_events.proofs.RestCells.{RestAt, indent-over, rest_cells}
+use Rattle.md_events.proofs.RestLines.{large-room}
 
 -- A block that opens, by the cells of a line and by the definition: with the same marker, as many of it, and an indent
 -- of as many columns. It is marked so that further lines agree.

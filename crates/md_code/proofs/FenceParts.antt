@@ -21,12 +21,12 @@ use Rattle.md_code.specs.FenceParts.{bytes_at, part_of, parts_of}
 use Rattle.md_code.specs.FenceRule.{is_end, is_line, is_word, run_end, run_rest}
 use Rattle.md_code.proofs.FenceCells.{RunOf, line-all, run-length, run-walk}
 use Rattle.md_code.proofs.FenceFurther.{is_nothing, nothing-end}
-use Rattle.md_seam.specs.Ahead.{white_end, white_rest}
-use Rattle.md_seam.specs.Events.Places.{past_byte, past_text}
-use Rattle.md_seam.specs.Spaces.{any_size}
-use Rattle.md_seam.proofs.FeedLines.{Stops, past-next, past_text-column, past_text-whole, spread, stops-white}
-use Rattle.md_seam.proofs.RestCells.{Bare, Cut, HasIndent, RestAt, bare, indent-length, indent-taken, white-length}
-use Rattle.md_seam.proofs.RestLines.{bare-spread, count-none, count-one, indent-trims, rest-past}
+use Rattle.md_events.specs.Ahead.{white_end, white_rest}
+use Rattle.md_events.specs.Events.Places.{past_byte, past_text}
+use Rattle.md_events.specs.Spaces.{any_size}
+use Rattle.md_events.proofs.FeedLines.{Stops, past-next, past_text-column, past_text-whole, spread, stops-white}
+use Rattle.md_events.proofs.RestCells.{Bare, Cut, HasIndent, RestAt, bare, indent-length, indent-taken, white-length}
+use Rattle.md_events.proofs.RestLines.{bare-spread, count-none, count-one, indent-trims, rest-past}
 
 -- Where bytes are.
 

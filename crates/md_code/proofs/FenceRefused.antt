@@ -18,12 +18,12 @@ use Rattle.md_code.proofs.FenceTermination.{rest-clear}
 use Rattle.md_code.proofs.FenceOpened.{has-run, has-white, in_block, marker-may, refused-dark, word-line}
 use Rattle.md_code.proofs.FenceMeaning.{line-first, run-has-none}
 use Rattle.md_code.proofs.FenceWhole.{behind_spaces, white-joined}
-use Rattle.md_seam.specs.Ahead.{begins_white, white_end, white_rest}
-use Rattle.md_seam.specs.Events.Nested.{exit}
-use Rattle.md_seam.specs.Look.{first_seen}
-use Rattle.md_seam.specs.Spaces.{IsRest, any_size, calmed, small_indent}
-use Rattle.md_seam.proofs.AheadLemmas.{small-some}
-use Rattle.md_seam.proofs.SpacesTermination.{rest-calm, rest-size}
+use Rattle.md_events.specs.Ahead.{begins_white, white_end, white_rest}
+use Rattle.md_events.specs.Events.Nested.{exit}
+use Rattle.md_events.specs.Look.{first_seen}
+use Rattle.md_events.specs.Spaces.{IsRest, any_size, calmed, small_indent}
+use Rattle.md_events.proofs.AheadLemmas.{small-some}
+use Rattle.md_events.proofs.SpacesTermination.{rest-calm, rest-size}
 
 -- After the sequence something is that may not.
 

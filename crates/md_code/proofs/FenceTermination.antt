@@ -25,9 +25,9 @@ use Rattle.md_code.specs.Fence.{fence_level, fence_tries, held_indent, held_mark
 use Rattle.md_code.specs.Fence.{info_code, line_entered, marked, meta_before_code, meta_code, meta_name, opened}
 use Rattle.md_code.specs.Fence.{part_entered, part_exited, sequence_close_code}
 use Rattle.md_code.specs.Fence.{sequence_name, sequence_open_code, start_code}
-use Rattle.md_seam.specs.Spaces.{IsRest, any_size, calmed, ends_line, is_current, rest_ready, sees_white, small_indent}
-use Rattle.md_seam.specs.Transition.{exited}
-use Rattle.md_seam.proofs.SpacesTermination.{Does, WhiteFits, rest-calm, rest-none, rest-size, seen-in, white_try}
+use Rattle.md_events.specs.Spaces.{IsRest, any_size, calmed, ends_line, is_current, rest_ready, sees_white, small_indent}
+use Rattle.md_events.specs.Transition.{exited}
+use Rattle.md_events.proofs.SpacesTermination.{Does, WhiteFits, rest-calm, rest-none, rest-size, seen-in, white_try}
 
 pub record FenceFits (T : Scheme) : Type 1 where
   pub white : WhiteFits T

@@ -20,13 +20,13 @@ use Rattle.md_code.specs.FenceRule.{line_begun, refuses, run_end, run_rest, run_
 use Rattle.md_leaves.specs.Further.{further_link}
 use Rattle.md_code.proofs.FenceTermination.{rest-clear}
 use Rattle.md_code.proofs.FenceMeaning.{line-first, run-none}
-use Rattle.md_seam.specs.Ahead.{begins_white, white_end, white_rest}
-use Rattle.md_seam.specs.Events.Nested.{enter, enter_link, exit, pair}
-use Rattle.md_seam.specs.Look.{first_seen}
-use Rattle.md_seam.specs.Spaces.{IsRest, any_size, calmed, small_indent}
-use Rattle.md_seam.proofs.AheadLemmas.{none-end, none-rest, small-some}
-use Rattle.md_seam.proofs.LostColumns.{zero-end, zero-rest}
-use Rattle.md_seam.proofs.SpacesTermination.{rest-calm, rest-size}
+use Rattle.md_events.specs.Ahead.{begins_white, white_end, white_rest}
+use Rattle.md_events.specs.Events.Nested.{enter, enter_link, exit, pair}
+use Rattle.md_events.specs.Look.{first_seen}
+use Rattle.md_events.specs.Spaces.{IsRest, any_size, calmed, small_indent}
+use Rattle.md_events.proofs.AheadLemmas.{none-end, none-rest, small-some}
+use Rattle.md_events.proofs.LostColumns.{zero-end, zero-rest}
+use Rattle.md_events.proofs.SpacesTermination.{rest-calm, rest-size}
 
 -- Whitespace that comes first, if any does.
 

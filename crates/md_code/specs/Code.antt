@@ -13,9 +13,9 @@ use Rattle.md_engine.specs.declared.tokenizer.held_leaf.HeldLeaf.TheVariants as 
 use Rattle.md_engine.specs.Scheme.{After, Ends, Rank, Scheme, Position, ranked}
 use Rattle.md_engine.specs.World.{World}
 use Rattle.md_leaves.specs.Further.{further_link}
-use Rattle.md_seam.specs.Events.Nested.{enter, enter_link}
-use Rattle.md_seam.specs.Spaces.{IsRest, ends_line, sees_white, white_then}
-use Rattle.md_seam.specs.Transition.{Transition, entered, exited, taken, tried}
+use Rattle.md_events.specs.Events.Nested.{enter, enter_link}
+use Rattle.md_events.specs.Spaces.{IsRest, ends_line, sees_white, white_then}
+use Rattle.md_events.specs.Transition.{Transition, entered, exited, taken, tried}
 
 -- whether code may begin where this leaf is open: text is not interrupted, and any other leaf has ended before
 abbrev pub may_open : HeldLeaf → Bool

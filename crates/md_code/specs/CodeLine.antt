@@ -2,7 +2,7 @@
 use Rattle.std.specs.Prelude.{ℕ, List}
 use Rattle.md_engine.specs.declared.event.Point.{Point}
 use Rattle.md_meaning.specs.Tree.{Line}
-use Rattle.md_seam.specs.Events.Spelled.{begun, text_to}
+use Rattle.md_events.specs.Events.Spelled.{begun, text_to}
 
 -- a chunk from a point to a point is read as this line: a tab that it begins in is so many spaces
 abbrev pub chunk_line : List ℕ → Point → Point → Line

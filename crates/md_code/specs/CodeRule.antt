@@ -17,10 +17,10 @@ use Rattle.md_engine.specs.Sees.{IsStep}
 use Rattle.md_engine.specs.World.{World}
 use Rattle.md_code.specs.Code.{CodeInvariant, chunk_begun, may_open}
 use Rattle.md_leaves.specs.Further.{further_link}
-use Rattle.md_seam.specs.Ahead.{HasWhite, begins_white, from_ending, line_bytes, line_end, white_end, white_rest}
-use Rattle.md_seam.specs.Ahead.{white_size}
-use Rattle.md_seam.specs.Events.Nested.{enter, enter_link, exit, pair}
-use Rattle.md_seam.specs.Spaces.{calmed}
+use Rattle.md_events.specs.Ahead.{HasWhite, begins_white, from_ending, line_bytes, line_end, white_end, white_rest}
+use Rattle.md_events.specs.Ahead.{white_size}
+use Rattle.md_events.specs.Events.Nested.{enter, enter_link, exit, pair}
+use Rattle.md_events.specs.Spaces.{calmed}
 use Rattle.md_meaning.specs.Bytes.{is_end}
 use Rattle.md_meaning.specs.Rest.{is_blank}
 

@@ -18,8 +18,8 @@ use Rattle.md_engine.specs.Scheme.{After, Ends, Rank, Scheme, Position, cells_be
 use Rattle.md_engine.specs.World.{World}
 use Rattle.md_meaning.specs.Leaves.{is_fence_marker, least_size}
 use Rattle.md_leaves.specs.Further.{further_link}
-use Rattle.md_seam.specs.Spaces.{any_size, ends_line, IsRest, is_current, sees_white, small_indent, white_then}
-use Rattle.md_seam.specs.Transition.{Transition, entered, entered_link, exited, taken, tried}
+use Rattle.md_events.specs.Spaces.{any_size, ends_line, IsRest, is_current, sees_white, small_indent, white_then}
+use Rattle.md_events.specs.Transition.{Transition, entered, entered_link, exited, taken, tried}
 
 -- what may be first after the indent of an opening fence
 abbrev pub may_begin : ℕ → Bool

@@ -14,10 +14,10 @@ use Rattle.md_code.specs.Fence.{block_name, chunk_name, fence_name, held_indent,
 use Rattle.md_code.specs.Fence.{is_refused, meta_name, sequence_name, string_link}
 use Rattle.md_code.specs.FenceRule.{is_end, is_line, is_word, run_end, run_has, run_rest, run_size}
 use Rattle.md_leaves.specs.Further.{further_link}
-use Rattle.md_seam.specs.Ahead.{begins_white, from_ending, line_end, white_end, white_rest}
-use Rattle.md_seam.specs.Events.Nested.{enter, enter_link, exit, pair}
-use Rattle.md_seam.specs.Look.{first_seen}
-use Rattle.md_seam.specs.Spaces.{any_size, is_current, small_indent}
+use Rattle.md_events.specs.Ahead.{begins_white, from_ending, line_end, white_end, white_rest}
+use Rattle.md_events.specs.Events.Nested.{enter, enter_link, exit, pair}
+use Rattle.md_events.specs.Look.{first_seen}
+use Rattle.md_events.specs.Spaces.{any_size, is_current, small_indent}
 
 -- the whitespace that comes first, up to so many columns
 abbrev pub spaces : ℕ → List Cell → Point → List Event

@@ -8,7 +8,7 @@ use Rattle.md_meaning.specs.Leaves.{behind_word, first_word, nonempty}
 use Rattle.md_meaning.specs.Rest.{Rest}
 use Rattle.md_code.specs.Fence.{meta_name}
 use Rattle.md_code.specs.FenceLine.{later_part}
-use Rattle.md_seam.specs.Events.Places.{past_text}
+use Rattle.md_events.specs.Events.Places.{past_text}
 
 -- these bytes, from a point on that cuts no tab
 abbrev pub bytes_at : List ℕ → Point → Rest

@@ -20,10 +20,10 @@ use Rattle.md_meaning.specs.Rest.{is_white}
 use Rattle.md_code.specs.Fence.{FenceInvariant, block_name, chunk_name, cleared, fence_name, held_indent, held_marker}
 use Rattle.md_code.specs.Fence.{held_size, is_on, is_refused, meta_name, sequence_name, string_link}
 use Rattle.md_leaves.specs.Further.{further_link}
-use Rattle.md_seam.specs.Ahead.{HasWhite, begins_white, white_end, white_rest}
-use Rattle.md_seam.specs.Events.Nested.{enter, enter_link, exit, pair}
-use Rattle.md_seam.specs.Look.{first_seen}
-use Rattle.md_seam.specs.Spaces.{any_size, calmed, ends_line, small_indent}
+use Rattle.md_events.specs.Ahead.{HasWhite, begins_white, white_end, white_rest}
+use Rattle.md_events.specs.Events.Nested.{enter, enter_link, exit, pair}
+use Rattle.md_events.specs.Look.{first_seen}
+use Rattle.md_events.specs.Spaces.{any_size, calmed, ends_line, small_indent}
 
 -- The cells that come first and pass a test: how many there are, where they end, and what follows them.
 

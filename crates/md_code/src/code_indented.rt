@@ -21,8 +21,8 @@ ghost use Rattle.md_code.specs.Code.{further_after_transition};
 ghost use Rattle.md_code.specs.Code.{further_begin_transition, further_inside_transition, further_line_transition};
 ghost use Rattle.md_code.specs.Code.{further_start_transition, inside_blank_transition, inside_transition};
 ghost use Rattle.md_code.specs.Code.{may_open, start_transition};
-ghost use Rattle.md_seam.specs.Stays.{TakesEach};
-ghost use Rattle.md_seam.specs.Transition.{IsAt, NeedsNothing};
+ghost use Rattle.md_events.specs.Stays.{TakesEach};
+ghost use Rattle.md_events.specs.Transition.{IsAt, NeedsNothing};
 
 use md_engine::event::Name;
 use md_engine::message::Message;
@@ -31,8 +31,8 @@ use md_engine::state::code_indented::State as CodeState;
 use md_engine::state::{Name as StateName, State};
 use md_engine::stay::Stay;
 use md_engine::tokenizer::{HeldLeaf, Tokenizer};
+use md_events::space_or_tab::{is_space_or_tab, space_or_tab_min_max};
 use md_leaves::further::FURTHER;
-use md_seam::space_or_tab::{is_space_or_tab, space_or_tab_min_max};
 
 /// Code is indented by so many columns.
 const INDENT: usize = 4;

@@ -33,10 +33,10 @@ ghost use Rattle.md_code.specs.Fence.{fence_transition};
 ghost use Rattle.md_code.specs.Fence.{info_before_transition, info_transition, is_open, may_begin};
 ghost use Rattle.md_code.specs.Fence.{meta_before_transition, meta_transition, sequence_close_after_transition};
 ghost use Rattle.md_code.specs.Fence.{sequence_close_transition, sequence_open_transition, start_transition};
-ghost use Rattle.md_seam.specs.Look.{may_with};
-ghost use Rattle.md_seam.specs.Spaces.{sees_white};
-ghost use Rattle.md_seam.specs.Stays.{TakesEach};
-ghost use Rattle.md_seam.specs.Transition.{IsAt};
+ghost use Rattle.md_events.specs.Look.{may_with};
+ghost use Rattle.md_events.specs.Spaces.{sees_white};
+ghost use Rattle.md_events.specs.Stays.{TakesEach};
+ghost use Rattle.md_events.specs.Transition.{IsAt};
 
 use crate::fence_parts::{
     block_name, chunk_name, cleared, fence_name, held_indent, held_marker, held_size, is_marker,
@@ -48,8 +48,8 @@ use md_engine::state::raw_flow::State as RawState;
 use md_engine::state::{Name as StateName, State};
 use md_engine::stay::Stay;
 use md_engine::tokenizer::{HeldLeaf, Scratch, Tokenizer};
+use md_events::space_or_tab::{is_space_or_tab, small_indent, space_or_tab_min_max};
 use md_leaves::further::FURTHER;
-use md_seam::space_or_tab::{is_space_or_tab, small_indent, space_or_tab_min_max};
 
 /// What follows an opening sequence is read later.
 const STRING_LINK: Link = Link {

@@ -18,10 +18,10 @@ use Rattle.md_meaning.specs.declared.alert.AlertKind.{AlertKind}
 use Rattle.md_meaning.specs.declared.alert.AlertKind.TheVariants as its
 use Rattle.md_meaning.specs.Rest.{is_blank, is_white, tab_columns}
 use Rattle.md_meaning.proofs.TextsLemmas.{NoEnding}
-use Rattle.md_seam.specs.Ahead.{begins_white, point_after}
-use Rattle.md_seam.specs.Events.Places.{past_byte, past_text}
-use Rattle.md_seam.proofs.FeedLines.{Stops, byte-one, cell, columns_more, spread, tab_cells}
-use Rattle.md_seam.proofs.RestLines.{blank-spread}
+use Rattle.md_events.specs.Ahead.{begins_white, point_after}
+use Rattle.md_events.specs.Events.Places.{past_byte, past_text}
+use Rattle.md_events.proofs.FeedLines.{Stops, byte-one, cell, columns_more, spread, tab_cells}
+use Rattle.md_events.proofs.RestLines.{blank-spread}
 
 -- The first kind that passes a test.
 

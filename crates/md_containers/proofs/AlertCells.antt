@@ -21,9 +21,9 @@ use Rattle.md_meaning.specs.Bytes.{is_end}
 use Rattle.md_meaning.specs.declared.alert.AlertKind.{AlertKind}
 use Rattle.md_meaning.specs.declared.alert.AlertKind.TheVariants as its
 use Rattle.md_meaning.specs.Rest.{is_blank}
-use Rattle.md_seam.specs.Ahead.{from_ending, line_bytes, line_end, point_after}
-use Rattle.md_seam.specs.Events.Nested.{enter, exit}
-use Rattle.md_seam.specs.Spaces.{IsRest}
+use Rattle.md_events.specs.Ahead.{from_ending, line_bytes, line_end, point_after}
+use Rattle.md_events.specs.Events.Nested.{enter, exit}
+use Rattle.md_events.specs.Spaces.{IsRest}
 
 -- Bytes and letters.
 

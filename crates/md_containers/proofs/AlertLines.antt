@@ -24,19 +24,19 @@ use Rattle.md_meaning.specs.Alert.{alert_at, first_kind, has_marker, is_marked, 
 use Rattle.md_meaning.specs.Rest.{Rest, behind, behind_indent, cut_tab, has_small_indent, indent, is_blank, is_white}
 use Rattle.md_meaning.specs.Rest.{trim_start}
 use Rattle.md_meaning.proofs.TextsLemmas.{NoEnding}
-use Rattle.md_seam.specs.Ahead.{begins_white, from_ending, line_end, point_after, white_end, white_rest}
-use Rattle.md_seam.specs.Events.Inline.{pair_unless_empty}
-use Rattle.md_seam.specs.Events.Nested.{enter, exit, pair}
-use Rattle.md_seam.specs.Events.Spelled.{kind_at}
-use Rattle.md_seam.specs.Events.Places.{at_or_before, past_byte, past_text}
-use Rattle.md_seam.specs.Spaces.{small_indent}
-use Rattle.md_seam.proofs.FeedLines.{Stops, drop-past, past_text-whole, slice-front, spread}
-use Rattle.md_seam.proofs.InlineLemmas.{past-index, past_text-append}
-use Rattle.md_seam.proofs.LostColumns.{White}
-use Rattle.md_seam.proofs.RestCells.{Bare, Cut, HasIndent, RestAt, bare, behind-no_ending, cells_by, indent-length}
-use Rattle.md_seam.proofs.RestCells.{indent-over, indent-taken, lose-no_ending, past_cut, past_rest, rest_cells}
-use Rattle.md_seam.proofs.RestLines.{bare-spread, indent-trims, large-room, rest-from, rest-past, small-room}
-use Rattle.md_seam.proofs.RestLines.{trim-white}
+use Rattle.md_events.specs.Ahead.{begins_white, from_ending, line_end, point_after, white_end, white_rest}
+use Rattle.md_events.specs.Events.Inline.{pair_unless_empty}
+use Rattle.md_events.specs.Events.Nested.{enter, exit, pair}
+use Rattle.md_events.specs.Events.Spelled.{kind_at}
+use Rattle.md_events.specs.Events.Places.{at_or_before, past_byte, past_text}
+use Rattle.md_events.specs.Spaces.{small_indent}
+use Rattle.md_events.proofs.FeedLines.{Stops, drop-past, past_text-whole, slice-front, spread}
+use Rattle.md_events.proofs.InlineLemmas.{past-index, past_text-append}
+use Rattle.md_events.proofs.LostColumns.{White}
+use Rattle.md_events.proofs.RestCells.{Bare, Cut, HasIndent, RestAt, bare, behind-no_ending, cells_by, indent-length}
+use Rattle.md_events.proofs.RestCells.{indent-over, indent-taken, lose-no_ending, past_cut, past_rest, rest_cells}
+use Rattle.md_events.proofs.RestLines.{bare-spread, indent-trims, large-room, rest-from, rest-past, small-room}
+use Rattle.md_events.proofs.RestLines.{trim-white}
 
 -- The marker of an alert of this kind, from a point after a prefix to the end of the line: whitespace, the marker, and
 -- whitespace.

@@ -11,14 +11,14 @@ use Rattle.md_containers.proofs.QuoteLines.{HasWhite, white-walk, white_end-same
 use Rattle.md_meaning.specs.Containers.{Taken}
 use Rattle.md_meaning.specs.Rest.{Rest, behind_indent, has_small_indent, indent}
 use Rattle.md_meaning.proofs.TextsLemmas.{NoEnding}
-use Rattle.md_seam.specs.Ahead.{begins_white, white_end, white_rest}
-use Rattle.md_seam.specs.Events.Places.{past_text}
-use Rattle.md_seam.specs.Spaces.{small_indent}
-use Rattle.md_seam.proofs.FeedLines.{Stops, spread}
-use Rattle.md_seam.proofs.LostColumns.{lose-walk}
-use Rattle.md_seam.proofs.RestCells.{Bare, RestAt, bare, cells_by, indent-length, indent-over, indent-taken}
-use Rattle.md_seam.proofs.RestCells.{lose-no_ending, past_cut, past_rest, rest_cells, white-length}
-use Rattle.md_seam.proofs.RestLines.{large-room, small-room}
+use Rattle.md_events.specs.Ahead.{begins_white, white_end, white_rest}
+use Rattle.md_events.specs.Events.Places.{past_text}
+use Rattle.md_events.specs.Spaces.{small_indent}
+use Rattle.md_events.proofs.FeedLines.{Stops, spread}
+use Rattle.md_events.proofs.LostColumns.{lose-walk}
+use Rattle.md_events.proofs.RestCells.{Bare, RestAt, bare, cells_by, indent-length, indent-over, indent-taken}
+use Rattle.md_events.proofs.RestCells.{lose-no_ending, past_cut, past_rest, rest_cells, white-length}
+use Rattle.md_events.proofs.RestLines.{large-room, small-room}
 
 abbrev rest : ℕ → List ℕ → Rest
 rest column bytes = record { column = column; spaces = 0; bytes = bytes }

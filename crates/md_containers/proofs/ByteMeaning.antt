@@ -9,7 +9,7 @@ use Rattle.md_engine.specs.Meaning.{Behaviour, Cell, Feed, Here, Outcome, Refuse
 use Rattle.md_engine.specs.World.{World, after}
 use Rattle.md_engine.specs.Sees.{Sees, ahead, cell_here}
 use Rattle.md_engine.proofs.StepOf.{moves, passes}
-use Rattle.md_seam.specs.Spaces.{is_current}
+use Rattle.md_events.specs.Spaces.{is_current}
 
 -- What is left where this byte must be: what is left after it, with these events.
 pub record AsksFor (b : ℕ) (adds : Point → Point → List Event)

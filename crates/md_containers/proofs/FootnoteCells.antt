@@ -24,11 +24,11 @@ use Rattle.md_containers.proofs.ItemFurther.{further-is}
 use Rattle.md_meaning.specs.Ascii.{caret, colon, left_bracket}
 use Rattle.md_meaning.specs.Rest.{is_blank}
 use Rattle.md_leaves.specs.LeafStart.{start_at}
-use Rattle.md_seam.specs.Ahead.{begins_white, line_bytes, white_end, white_rest, white_size}
-use Rattle.md_seam.specs.Events.Nested.{enter, exit, pair}
-use Rattle.md_seam.specs.Look.{first_seen}
-use Rattle.md_seam.specs.Spaces.{IsRest, any_size, ends_line, small_indent}
-use Rattle.md_seam.proofs.AheadLemmas.{none-end, none-rest}
+use Rattle.md_events.specs.Ahead.{begins_white, line_bytes, white_end, white_rest, white_size}
+use Rattle.md_events.specs.Events.Nested.{enter, exit, pair}
+use Rattle.md_events.specs.Look.{first_seen}
+use Rattle.md_events.specs.Spaces.{IsRest, any_size, ends_line, small_indent}
+use Rattle.md_events.proofs.AheadLemmas.{none-end, none-rest}
 
 -- after these events, where a footnote definition is tried that began here
 abbrev at : Here → List Event → Point → Here

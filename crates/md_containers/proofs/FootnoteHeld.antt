@@ -22,13 +22,13 @@ use Rattle.md_meaning.specs.Containers.{Taken, footnote_continues}
 use Rattle.md_meaning.specs.Preamble.{rest_at}
 use Rattle.md_meaning.specs.Rest.{is_blank, is_white}
 use Rattle.md_meaning.specs.State.{InFootnote}
-use Rattle.md_seam.specs.Ahead.{line_bytes, white_end, white_rest, white_size}
-use Rattle.md_seam.specs.Events.Nested.{enter}
-use Rattle.md_seam.specs.Look.{first_seen, seen_behind}
-use Rattle.md_seam.specs.Spaces.{IsRest, ends_line, small_indent}
-use Rattle.md_seam.proofs.AheadLemmas.{none-rest}
-use Rattle.md_seam.proofs.LostColumns.{lose-bare}
-use Rattle.md_seam.proofs.RestCells.{white-length}
+use Rattle.md_events.specs.Ahead.{line_bytes, white_end, white_rest, white_size}
+use Rattle.md_events.specs.Events.Nested.{enter}
+use Rattle.md_events.specs.Look.{first_seen, seen_behind}
+use Rattle.md_events.specs.Spaces.{IsRest, ends_line, small_indent}
+use Rattle.md_events.proofs.AheadLemmas.{none-rest}
+use Rattle.md_events.proofs.LostColumns.{lose-bare}
+use Rattle.md_events.proofs.RestCells.{white-length}
 
 -- What opens or continues is a footnote definition.
 

@@ -13,9 +13,9 @@ use Rattle.md_containers.proofs.ItemDigits.{byte-behind, spread-one, starts, sta
 use Rattle.md_meaning.specs.Containers.{Labelled, footnote_label, is_label_mark, with_label_byte}
 use Rattle.md_meaning.specs.Rest.{Rest, is_white}
 use Rattle.md_meaning.proofs.TextsLemmas.{NoEnding}
-use Rattle.md_seam.specs.Events.Places.{past_byte, past_text}
-use Rattle.md_seam.proofs.FeedLines.{Stops, cell, spread}
-use Rattle.md_seam.proofs.RestCells.{RestAt}
+use Rattle.md_events.specs.Events.Places.{past_byte, past_text}
+use Rattle.md_events.proofs.FeedLines.{Stops, cell, spread}
+use Rattle.md_events.proofs.RestCells.{RestAt}
 
 abbrev pub rest : ℕ → List ℕ → Rest
 rest column bytes = record { column = column; spaces = 0; bytes = bytes }

@@ -13,8 +13,8 @@ use Rattle.md_meaning.specs.Containers.{Taken, footnote_continues, item_continue
 use Rattle.md_meaning.specs.Rest.{Rest, indent, is_blank, lose}
 use Rattle.md_meaning.specs.State.{Container, InFootnote, InItem}
 use Rattle.md_meaning.proofs.TextsLemmas.{NoEnding}
-use Rattle.md_seam.proofs.FeedLines.{Stops}
-use Rattle.md_seam.proofs.RestCells.{RestAt, past_rest, rest_cells}
+use Rattle.md_events.proofs.FeedLines.{Stops}
+use Rattle.md_events.proofs.RestCells.{RestAt, past_rest, rest_cells}
 
 -- it continues as an item of its width does that did not start blank
 pub footnote-further_agrees : (label : List ℕ) (line : Line) (text past : List ℕ) (r : Rest) (stop : List Cell)

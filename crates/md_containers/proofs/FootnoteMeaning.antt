@@ -30,10 +30,10 @@ use Rattle.md_containers.specs.ItemRule.{behind_columns}
 use Rattle.md_meaning.specs.Ascii.{caret, colon, left_bracket}
 use Rattle.md_meaning.specs.Containers.{is_label_mark}
 use Rattle.md_leaves.proofs.LeafStart.{HasStart, start-steps}
-use Rattle.md_seam.specs.Ahead.{begins_white, white_rest}
-use Rattle.md_seam.specs.Events.Nested.{enter, enter_link, exit, pair}
-use Rattle.md_seam.specs.Spaces.{any_size, is_current, sees_white}
-use Rattle.md_seam.proofs.WhiteMeaning.{begins-seen, white-tried}
+use Rattle.md_events.specs.Ahead.{begins_white, white_rest}
+use Rattle.md_events.specs.Events.Nested.{enter, enter_link, exit, pair}
+use Rattle.md_events.specs.Spaces.{any_size, is_current, sees_white}
+use Rattle.md_events.proofs.WhiteMeaning.{begins-seen, white-tried}
 use Rattle.md_containers.proofs.ByteMeaning.{AsksFor, asked-some, asked-none}
 
 -- Events that are added one after another.

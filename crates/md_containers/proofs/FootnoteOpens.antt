@@ -31,15 +31,15 @@ use Rattle.md_meaning.specs.Lines.{begins_with}
 use Rattle.md_meaning.specs.Rest.{Rest, behind, behind_indent, has_small_indent, indent}
 use Rattle.md_meaning.specs.State.{InFootnote}
 use Rattle.md_meaning.proofs.TextsLemmas.{NoEnding}
-use Rattle.md_seam.specs.Ahead.{begins_white, white_end, white_rest}
-use Rattle.md_seam.specs.Events.Inline.{pair_unless_empty}
-use Rattle.md_seam.specs.Events.Nested.{enter, exit, pair}
-use Rattle.md_seam.specs.Events.Places.{past_byte, past_text}
-use Rattle.md_seam.specs.Spaces.{any_size, small_indent}
-use Rattle.md_seam.proofs.FeedLines.{Stops, spread}
-use Rattle.md_seam.proofs.LostColumns.{White}
-use Rattle.md_seam.proofs.RestCells.{HasIndent, RestAt, indent-length}
-use Rattle.md_seam.proofs.RestCells.{indent-taken, lose-no_ending, past_rest, rest_cells, white-length}
+use Rattle.md_events.specs.Ahead.{begins_white, white_end, white_rest}
+use Rattle.md_events.specs.Events.Inline.{pair_unless_empty}
+use Rattle.md_events.specs.Events.Nested.{enter, exit, pair}
+use Rattle.md_events.specs.Events.Places.{past_byte, past_text}
+use Rattle.md_events.specs.Spaces.{any_size, small_indent}
+use Rattle.md_events.proofs.FeedLines.{Stops, spread}
+use Rattle.md_events.proofs.LostColumns.{White}
+use Rattle.md_events.proofs.RestCells.{HasIndent, RestAt, indent-length}
+use Rattle.md_events.proofs.RestCells.{indent-taken, lose-no_ending, past_rest, rest_cells, white-length}
 
 -- The points of a prefix that begins at a point: after `[^`, after the label, and after `]:`.
 

@@ -19,11 +19,11 @@ use Rattle.md_containers.proofs.Shorter.{Shortens, cond-shortens}
 use Rattle.md_meaning.specs.Ascii.{backslash, caret, colon, left_bracket, right_bracket}
 use Rattle.md_meaning.specs.Containers.{is_label_mark}
 use Rattle.md_leaves.specs.LeafStart.{start_at}
-use Rattle.md_seam.specs.Ahead.{begins_white, white_end, white_rest}
-use Rattle.md_seam.specs.Events.Nested.{enter}
-use Rattle.md_seam.specs.Look.{first_seen}
-use Rattle.md_seam.specs.Spaces.{any_size, ends_line, small_indent}
-use Rattle.md_seam.proofs.RestCells.{white-length}
+use Rattle.md_events.specs.Ahead.{begins_white, white_end, white_rest}
+use Rattle.md_events.specs.Events.Nested.{enter}
+use Rattle.md_events.specs.Look.{first_seen}
+use Rattle.md_events.specs.Spaces.{any_size, ends_line, small_indent}
+use Rattle.md_events.proofs.RestCells.{white-length}
 
 -- What opens one.
 

@@ -19,10 +19,10 @@ use Rattle.md_containers.specs.Item.{without_size}
 use Rattle.md_containers.proofs.LaterStart.{good-later_start}
 use Rattle.md_meaning.specs.Ascii.{caret, colon, left_bracket}
 use Rattle.md_leaves.specs.LeafStart as leaf
-use Rattle.md_seam.specs.Spaces.{IsRest, any_size, is_current, later_ready, rest_ready}
-use Rattle.md_seam.specs.Transition.{exited}
-use Rattle.md_seam.proofs.SpacesTermination.{Does, WhiteFits, rest-calm, rest-none, rest-size}
-use Rattle.md_seam.proofs.SpacesTermination.{seen-in, seen-some, white_try}
+use Rattle.md_events.specs.Spaces.{IsRest, any_size, is_current, later_ready, rest_ready}
+use Rattle.md_events.specs.Transition.{exited}
+use Rattle.md_events.proofs.SpacesTermination.{Does, WhiteFits, rest-calm, rest-none, rest-size}
+use Rattle.md_events.proofs.SpacesTermination.{seen-in, seen-some, white_try}
 
 pub record FootnoteFits (T : Scheme) : Type 1 where
   pub white : WhiteFits T

@@ -21,12 +21,12 @@ use Rattle.md_engine.proofs.StepOf.{begins, moves, passes, steps-as}
 use Rattle.md_leaves.specs.Heading.{without_size}
 use Rattle.md_leaves.proofs.LeafSteps.{sees-one, white_frame}
 use Rattle.md_code.specs.FenceRule.{behind_white_of, is_end, run_end, run_rest, run_size, with_event}
-use Rattle.md_seam.specs.Ahead.{HasWhite, begins_white}
-use Rattle.md_seam.specs.Events.Nested.{enter, exit, pair}
-use Rattle.md_seam.specs.Look.{first_seen}
-use Rattle.md_seam.specs.Spaces.{any_size, ends_line, is_current, sees_white}
-use Rattle.md_seam.proofs.LookLemmas.{first-seen}
-use Rattle.md_seam.proofs.WhiteMeaning.{begins-seen, white-tried}
+use Rattle.md_events.specs.Ahead.{HasWhite, begins_white}
+use Rattle.md_events.specs.Events.Nested.{enter, exit, pair}
+use Rattle.md_events.specs.Look.{first_seen}
+use Rattle.md_events.specs.Spaces.{any_size, ends_line, is_current, sees_white}
+use Rattle.md_events.proofs.LookLemmas.{first-seen}
+use Rattle.md_events.proofs.WhiteMeaning.{begins-seen, white-tried}
 use Rattle.md_containers.specs.Frontmatter.{after_code, begun, behind_part, cleared, close_after_code, close_start_code}
 use Rattle.md_containers.specs.Frontmatter.{content_end_code, content_inside_code, content_start_code, front_transition}
 use Rattle.md_containers.specs.Frontmatter.{is_marker, open_after_code, sequence_code, start_at, start_by, start_code}

@@ -16,8 +16,8 @@ use Rattle.md_engine.proofs.Falls.{later, later_at}
 use Rattle.md_engine.proofs.Local.{accepts, begins_try, consumes, refuses, turns}
 use Rattle.md_engine.proofs.Points.{stays, takes}
 use Rattle.md_leaves.specs.Heading.{without_size}
-use Rattle.md_seam.specs.Spaces.{IsRest, any_size, calmed, ends_line, is_current, rest_ready}
-use Rattle.md_seam.proofs.SpacesTermination.{Does, WhiteFits, accepts-behind, seen-in, white_try}
+use Rattle.md_events.specs.Spaces.{IsRest, any_size, calmed, ends_line, is_current, rest_ready}
+use Rattle.md_events.proofs.SpacesTermination.{Does, WhiteFits, accepts-behind, seen-in, white_try}
 use Rattle.md_containers.specs.Frontmatter.{IsMarked, after_code, begun, behind_part, cleared, close_after_code}
 use Rattle.md_containers.specs.Frontmatter.{close_start_code, content_end_code, content_inside_code}
 use Rattle.md_containers.specs.Frontmatter.{content_start_code, front_level, front_rank, front_ready}

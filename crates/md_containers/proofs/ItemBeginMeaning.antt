@@ -37,11 +37,11 @@ use Rattle.md_leaves.specs.HeadingSetext.{is_marker, turns_nothing}
 use Rattle.md_leaves.specs.HeadingSetextRule.{is_run, is_underline}
 use Rattle.md_leaves.specs.LeafStart.{entered_here}
 use Rattle.md_leaves.proofs.LeafStart.{at-none}
-use Rattle.md_seam.specs.Ahead.{line_bytes}
-use Rattle.md_seam.specs.Events.Nested.{enter}
-use Rattle.md_seam.specs.Look.{sees_other}
-use Rattle.md_seam.specs.Spaces.{IsRest}
-use Rattle.md_seam.proofs.SpreadLemmas.{are_spread, other-first}
+use Rattle.md_events.specs.Ahead.{line_bytes}
+use Rattle.md_events.specs.Events.Nested.{enter}
+use Rattle.md_events.specs.Look.{sees_other}
+use Rattle.md_events.specs.Spaces.{IsRest}
+use Rattle.md_events.proofs.SpreadLemmas.{are_spread, other-first}
 
 -- an attempt that is begun here
 abbrev pub frame_here : State → State → Bool → World → Frame

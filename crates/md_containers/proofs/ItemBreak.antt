@@ -11,10 +11,10 @@ use Rattle.md_meaning.specs.Containers.{is_bullet}
 use Rattle.md_meaning.specs.Leaves.{is_rule, is_rule_marker}
 use Rattle.md_meaning.specs.Rest.{is_white}
 use Rattle.md_meaning.proofs.TextsLemmas.{NoEnding}
-use Rattle.md_seam.specs.Ahead.{line_bytes}
-use Rattle.md_seam.specs.Events.Places.{past_byte}
-use Rattle.md_seam.proofs.FeedLines.{Stops, all-spread, byte-one, bytes_of, count-spread, spread}
-use Rattle.md_seam.proofs.RestLines.{spread-line}
+use Rattle.md_events.specs.Ahead.{line_bytes}
+use Rattle.md_events.specs.Events.Places.{past_byte}
+use Rattle.md_events.proofs.FeedLines.{Stops, all-spread, byte-one, bytes_of, count-spread, spread}
+use Rattle.md_events.proofs.RestLines.{spread-line}
 
 either-white : (x y : Bool) → (x || true) ≡ (y || true)
 either-white true true = refl

@@ -20,11 +20,11 @@ use Rattle.md_meaning.specs.Containers.{is_bullet, is_digit}
 use Rattle.md_meaning.specs.Leaves.{is_rule}
 use Rattle.md_meaning.specs.Rest.{is_blank}
 use Rattle.md_leaves.specs.LeafStart.{start_at}
-use Rattle.md_seam.specs.Ahead.{begins_white, line_bytes, white_end, white_rest}
-use Rattle.md_seam.specs.Events.Nested.{enter, exit, pair}
-use Rattle.md_seam.specs.Spaces.{IsRest, small_indent}
-use Rattle.md_seam.proofs.AheadLemmas.{none-end, none-rest}
-use Rattle.md_seam.proofs.LostColumns.{zero-end, zero-rest}
+use Rattle.md_events.specs.Ahead.{begins_white, line_bytes, white_end, white_rest}
+use Rattle.md_events.specs.Events.Nested.{enter, exit, pair}
+use Rattle.md_events.specs.Spaces.{IsRest, small_indent}
+use Rattle.md_events.proofs.AheadLemmas.{none-end, none-rest}
+use Rattle.md_events.proofs.LostColumns.{zero-end, zero-rest}
 
 -- after these events, where an item is tried that began here
 abbrev at : Here → List Event → Point → Scratch → Here

@@ -13,9 +13,9 @@ use Rattle.md_containers.specs.ItemPrefix.{digits_of}
 use Rattle.md_containers.specs.ItemRule.{digits_end, digits_rest, digits_size}
 use Rattle.md_meaning.specs.Containers.{is_digit}
 use Rattle.md_meaning.specs.Rest.{Rest, is_white}
-use Rattle.md_seam.specs.Events.Places.{past_byte, past_text}
-use Rattle.md_seam.proofs.FeedLines.{Stops, byte-one, cell, columns_more, past-next, spread, tab_cells}
-use Rattle.md_seam.proofs.RestCells.{RestAt}
+use Rattle.md_events.specs.Events.Places.{past_byte, past_text}
+use Rattle.md_events.proofs.FeedLines.{Stops, byte-one, cell, columns_more, past-next, spread, tab_cells}
+use Rattle.md_events.proofs.RestCells.{RestAt}
 
 abbrev rest : ℕ → List ℕ → Rest
 rest column bytes = record { column = column; spaces = 0; bytes = bytes }

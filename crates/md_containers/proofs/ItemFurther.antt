@@ -15,12 +15,12 @@ use Rattle.md_containers.specs.Item.{item_gone_on, least_width}
 use Rattle.md_containers.specs.ItemPrefix.{item_by, item_further, item_indented, item_same}
 use Rattle.md_containers.specs.ItemRule.{indent_at, inside_indent, item_on}
 use Rattle.md_containers.proofs.ItemCells.{at_rest}
-use Rattle.md_seam.proofs.AheadLemmas.{none-size}
+use Rattle.md_events.proofs.AheadLemmas.{none-size}
 use Rattle.md_meaning.specs.Rest.{is_blank, is_white}
-use Rattle.md_seam.specs.Ahead.{begins_white, line_bytes, white_end, white_rest, white_size}
-use Rattle.md_seam.specs.Events.Nested.{enter, exit, pair}
-use Rattle.md_seam.specs.Look.{first_seen}
-use Rattle.md_seam.specs.Spaces.{IsRest, asking, ends_line}
+use Rattle.md_events.specs.Ahead.{begins_white, line_bytes, white_end, white_rest, white_size}
+use Rattle.md_events.specs.Events.Nested.{enter, exit, pair}
+use Rattle.md_events.specs.Look.{first_seen}
+use Rattle.md_events.specs.Spaces.{IsRest, asking, ends_line}
 
 -- after so many columns of an indent
 abbrev indented : ℕ → List Cell → Here → Outcome

@@ -21,13 +21,13 @@ use Rattle.md_containers.specs.ItemRule.{HasItem, blank_behaves, filled_behaves,
 use Rattle.md_containers.specs.ItemRule.{inside_indent, item_on}
 use Rattle.md_containers.proofs.ItemTermination.{least-some}
 use Rattle.md_meaning.specs.Rest.{is_blank, is_white}
-use Rattle.md_seam.specs.Ahead.{begins_white, line_bytes, white_size}
-use Rattle.md_seam.specs.Events.Nested.{enter, exit}
-use Rattle.md_seam.specs.Look.{first_seen, looks_behind}
-use Rattle.md_seam.specs.Spaces.{IsRest, asking, calmed, ends_line, sees_white}
-use Rattle.md_seam.proofs.AheadLemmas.{none-end, none-rest, none-size}
-use Rattle.md_seam.proofs.LookLemmas.{first-seen}
-use Rattle.md_seam.proofs.WhiteMeaning.{begins-seen}
+use Rattle.md_events.specs.Ahead.{begins_white, line_bytes, white_size}
+use Rattle.md_events.specs.Events.Nested.{enter, exit}
+use Rattle.md_events.specs.Look.{first_seen, looks_behind}
+use Rattle.md_events.specs.Spaces.{IsRest, asking, calmed, ends_line, sees_white}
+use Rattle.md_events.proofs.AheadLemmas.{none-end, none-rest, none-size}
+use Rattle.md_events.proofs.LookLemmas.{first-seen}
+use Rattle.md_events.proofs.WhiteMeaning.{begins-seen}
 use Rattle.md_containers.proofs.ItemPaddingMeaning.{choice_means}
 
 -- at rest no indent was begun

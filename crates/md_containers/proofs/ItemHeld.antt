@@ -17,16 +17,16 @@ use Rattle.md_containers.specs.ItemPrefix.{item_valued, padding}
 use Rattle.md_containers.specs.ItemRule.{behind_indent, digits_end, digits_rest, digits_size, item_at}
 use Rattle.md_containers.specs.QuoteRule.{indent_events}
 use Rattle.md_containers.proofs.StartLooked.{start-looked}
-use Rattle.md_seam.proofs.LostColumns.{lose-bare}
+use Rattle.md_events.proofs.LostColumns.{lose-bare}
 use Rattle.md_meaning.specs.Containers.{Taken, is_bullet, is_digit, item_continues}
 use Rattle.md_meaning.specs.Leaves.{is_rule}
 use Rattle.md_meaning.specs.Preamble.{rest_at}
 use Rattle.md_meaning.specs.Rest.{is_blank, is_white}
 use Rattle.md_meaning.specs.State.{InItem}
-use Rattle.md_seam.specs.Ahead.{line_bytes, white_end, white_rest, white_size}
-use Rattle.md_seam.specs.Events.Nested.{enter, pair}
-use Rattle.md_seam.specs.Look.{first_seen, seen_behind}
-use Rattle.md_seam.specs.Spaces.{IsRest, ends_line, small_indent}
+use Rattle.md_events.specs.Ahead.{line_bytes, white_end, white_rest, white_size}
+use Rattle.md_events.specs.Events.Nested.{enter, pair}
+use Rattle.md_events.specs.Look.{first_seen, seen_behind}
+use Rattle.md_events.specs.Spaces.{IsRest, ends_line, small_indent}
 
 -- What is held.
 

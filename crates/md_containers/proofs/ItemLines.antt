@@ -11,23 +11,23 @@ use Rattle.md_containers.specs.ItemPrefix.{ItemPassed, Padded, item_further, ite
 use Rattle.md_containers.specs.ItemPrefix.{padding_room}
 use Rattle.md_containers.proofs.ItemFurther.{blank-white, size-white}
 use Rattle.md_containers.proofs.QuoteLines.{white-walk, white_end-same}
-use Rattle.md_seam.proofs.LostColumns.{HasLost, White, lose-walk, white-none, zero-end}
-use Rattle.md_seam.proofs.RestLines.{blank-cells}
+use Rattle.md_events.proofs.LostColumns.{HasLost, White, lose-walk, white-none, zero-end}
+use Rattle.md_events.proofs.RestLines.{blank-cells}
 use Rattle.md_meaning.specs.Containers.{Taken, item_continues, item_padding}
 use Rattle.md_meaning.specs.Rest.{Rest, behind_indent, indent, is_blank, is_parted, is_white, lose}
 use Rattle.md_meaning.specs.State.{InItem}
 use Rattle.md_meaning.proofs.TextsLemmas.{NoEnding}
-use Rattle.md_seam.specs.Ahead.{begins_white, line_bytes, white_end, white_rest, white_size}
-use Rattle.md_seam.specs.Events.Inline.{pair_unless_empty}
-use Rattle.md_seam.specs.Events.Nested.{pair}
-use Rattle.md_seam.specs.Events.Places.{past_byte, same_place}
-use Rattle.md_seam.specs.Look.{first_seen}
-use Rattle.md_seam.specs.Spaces.{ends_line}
-use Rattle.md_seam.proofs.AheadLemmas.{none-end, none-rest}
-use Rattle.md_seam.proofs.FeedLines.{Stops, cell, columns_more, spread, tab_cells}
-use Rattle.md_seam.proofs.InlineLemmas.{same-refl}
-use Rattle.md_seam.proofs.RestCells.{RestAt, bare-cells, indent-over, indent-taken, lose-no_ending}
-use Rattle.md_seam.proofs.RestCells.{past_rest, rest_cells, white-length}
+use Rattle.md_events.specs.Ahead.{begins_white, line_bytes, white_end, white_rest, white_size}
+use Rattle.md_events.specs.Events.Inline.{pair_unless_empty}
+use Rattle.md_events.specs.Events.Nested.{pair}
+use Rattle.md_events.specs.Events.Places.{past_byte, same_place}
+use Rattle.md_events.specs.Look.{first_seen}
+use Rattle.md_events.specs.Spaces.{ends_line}
+use Rattle.md_events.proofs.AheadLemmas.{none-end, none-rest}
+use Rattle.md_events.proofs.FeedLines.{Stops, cell, columns_more, spread, tab_cells}
+use Rattle.md_events.proofs.InlineLemmas.{same-refl}
+use Rattle.md_events.proofs.RestCells.{RestAt, bare-cells, indent-over, indent-taken, lose-no_ending}
+use Rattle.md_events.proofs.RestCells.{past_rest, rest_cells, white-length}
 
 -- an item opens or continues by the cells of a line where it does by its bytes
 abbrev pub ItemAgrees : (ItemPassed → Taken → Type 0) → Option ItemPassed → Option Taken → Type 0

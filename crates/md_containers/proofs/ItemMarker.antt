@@ -13,18 +13,18 @@ use Rattle.md_containers.specs.Item.{at_least_one, width_here}
 use Rattle.md_containers.specs.ItemPrefix.{ItemPassed, Padded, item_marked, item_padded, padding}
 use Rattle.md_containers.proofs.ItemDigits.{byte-behind, spread-one}
 use Rattle.md_containers.proofs.ItemLines.{HasPadding, ItemAgrees, LeavesRest, PaddingIs, padding-is}
-use Rattle.md_seam.proofs.LostColumns.{White}
+use Rattle.md_events.proofs.LostColumns.{White}
 use Rattle.md_meaning.specs.Containers.{Marker, Taken, item_padding, item_with, may_interrupt}
 use Rattle.md_meaning.specs.Leaves.{is_rule}
 use Rattle.md_meaning.specs.Rest.{Rest, behind, is_blank, is_parted, is_white, lose}
 use Rattle.md_meaning.specs.State.{InItem}
 use Rattle.md_meaning.proofs.TextsLemmas.{NoEnding}
-use Rattle.md_seam.specs.Ahead.{white_end}
-use Rattle.md_seam.specs.Events.Inline.{pair_unless_empty}
-use Rattle.md_seam.specs.Events.Nested.{exit, pair}
-use Rattle.md_seam.specs.Events.Places.{past_byte, past_text}
-use Rattle.md_seam.proofs.FeedLines.{Stops, cell, spread}
-use Rattle.md_seam.proofs.RestCells.{RestAt, lose-no_ending, rest_cells}
+use Rattle.md_events.specs.Ahead.{white_end}
+use Rattle.md_events.specs.Events.Inline.{pair_unless_empty}
+use Rattle.md_events.specs.Events.Nested.{exit, pair}
+use Rattle.md_events.specs.Events.Places.{past_byte, past_text}
+use Rattle.md_events.proofs.FeedLines.{Stops, cell, spread}
+use Rattle.md_events.proofs.RestCells.{RestAt, lose-no_ending, rest_cells}
 
 abbrev rest : ℕ → List ℕ → Rest
 rest column bytes = record { column = column; spaces = 0; bytes = bytes }

@@ -24,7 +24,7 @@ use Rattle.md_containers.specs.ItemRule.{HasItem, ItemMeans, at_marker, at_value
 use Rattle.md_containers.specs.ItemRule.{behind_value, digits_end, digits_rest, digits_size, in_value}
 use Rattle.md_meaning.specs.Containers.{is_digit}
 use Rattle.md_leaves.proofs.LeafStart.{HasStart, start-steps}
-use Rattle.md_seam.specs.Events.Nested.{enter, exit}
+use Rattle.md_events.specs.Events.Nested.{enter, exit}
 use Rattle.md_containers.proofs.ItemBeginMeaning.{before_means, unordered_means}
 use Rattle.md_containers.proofs.ItemPaddingMeaning.{after_means, filled_means, marker_after_means, prefix_other_means}
 use Rattle.md_containers.proofs.ItemPaddingMeaning.{whitespace_after_means, whitespace_means}

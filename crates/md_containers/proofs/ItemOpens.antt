@@ -25,7 +25,7 @@ use Rattle.md_containers.proofs.ItemLines.{ItemAgrees, LeavesRest}
 use Rattle.md_containers.proofs.ItemMarker.{HasItemMarker, PaddedFrom, marked-agrees}
 use Rattle.md_containers.proofs.ItemShorter.{digits-length}
 use Rattle.md_containers.proofs.ItemBeginMeaning.{bullet-dark}
-use Rattle.md_seam.proofs.LostColumns.{White}
+use Rattle.md_events.proofs.LostColumns.{White}
 use Rattle.md_meaning.specs.Containers.{Marker, Taken, is_bullet, is_digit, item_by, item_with, list_marker}
 use Rattle.md_meaning.specs.Containers.{marker_behind, may_interrupt, opens_item}
 use Rattle.md_meaning.specs.Leaves.{is_rule, is_rule_marker}
@@ -33,13 +33,13 @@ use Rattle.md_meaning.specs.Lines.{begins_with}
 use Rattle.md_meaning.specs.Rest.{Rest, behind, behind_indent, has_small_indent, indent, is_blank, is_parted, is_white}
 use Rattle.md_meaning.specs.State.{InItem}
 use Rattle.md_meaning.proofs.TextsLemmas.{NoEnding, no_ending-drop}
-use Rattle.md_seam.specs.Ahead.{begins_white, line_bytes, white_end, white_rest}
-use Rattle.md_seam.specs.Events.Inline.{pair_unless_empty}
-use Rattle.md_seam.specs.Events.Nested.{enter, exit, pair}
-use Rattle.md_seam.specs.Events.Places.{past_byte, past_text}
-use Rattle.md_seam.specs.Spaces.{small_indent}
-use Rattle.md_seam.proofs.FeedLines.{Stops, cell, past-next, spread}
-use Rattle.md_seam.proofs.RestCells.{Bare, RestAt, past_rest, rest_cells}
+use Rattle.md_events.specs.Ahead.{begins_white, line_bytes, white_end, white_rest}
+use Rattle.md_events.specs.Events.Inline.{pair_unless_empty}
+use Rattle.md_events.specs.Events.Nested.{enter, exit, pair}
+use Rattle.md_events.specs.Events.Places.{past_byte, past_text}
+use Rattle.md_events.specs.Spaces.{small_indent}
+use Rattle.md_events.proofs.FeedLines.{Stops, cell, past-next, spread}
+use Rattle.md_events.proofs.RestCells.{Bare, RestAt, past_rest, rest_cells}
 
 abbrev rest : ℕ → List ℕ → Rest
 rest column bytes = record { column = column; spaces = 0; bytes = bytes }

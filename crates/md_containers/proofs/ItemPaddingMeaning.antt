@@ -24,13 +24,13 @@ use Rattle.md_containers.specs.ItemRule.{HasItem, behind_columns, behind_marker,
 use Rattle.md_containers.specs.ItemRule.{filled_at, one_column, padding_at}
 use Rattle.md_meaning.specs.Rest.{is_blank, is_white}
 use Rattle.md_leaves.specs.BlankRule.{blank_at, blank_events}
-use Rattle.md_seam.specs.Ahead.{after_white, begins_white, from_ending, line_bytes, line_end, white_at, white_rest}
-use Rattle.md_seam.specs.Events.Nested.{enter, exit}
-use Rattle.md_seam.specs.Look.{looks_behind, seen_behind}
-use Rattle.md_seam.specs.Spaces.{IsRest, asking, calmed, sees_white}
-use Rattle.md_seam.proofs.AheadLemmas.{white-no_ending}
-use Rattle.md_seam.proofs.LookLemmas.{seen-first}
-use Rattle.md_seam.proofs.WhiteMeaning.{begins-seen, behind_white, white-tried}
+use Rattle.md_events.specs.Ahead.{after_white, begins_white, from_ending, line_bytes, line_end, white_at, white_rest}
+use Rattle.md_events.specs.Events.Nested.{enter, exit}
+use Rattle.md_events.specs.Look.{looks_behind, seen_behind}
+use Rattle.md_events.specs.Spaces.{IsRest, asking, calmed, sees_white}
+use Rattle.md_events.proofs.AheadLemmas.{white-no_ending}
+use Rattle.md_events.proofs.LookLemmas.{seen-first}
+use Rattle.md_events.proofs.WhiteMeaning.{begins-seen, behind_white, white-tried}
 use Rattle.md_containers.proofs.ItemBeginMeaning.{frame_here, went-back}
 
 -- the first byte after whitespace says whether the rest of a line is blank

@@ -23,11 +23,11 @@ use Rattle.md_meaning.specs.Containers.{is_bullet, is_digit}
 use Rattle.md_meaning.specs.Leaves.{is_rule}
 use Rattle.md_meaning.specs.Rest.{is_blank, is_white}
 use Rattle.md_leaves.specs.LeafStart.{start_at}
-use Rattle.md_seam.specs.Ahead.{begins_white, line_bytes, white_end, white_rest, white_size}
-use Rattle.md_seam.specs.Events.Nested.{enter, pair}
-use Rattle.md_seam.specs.Look.{first_seen}
-use Rattle.md_seam.specs.Spaces.{ends_line, small_indent}
-use Rattle.md_seam.proofs.RestCells.{white-length}
+use Rattle.md_events.specs.Ahead.{begins_white, line_bytes, white_end, white_rest, white_size}
+use Rattle.md_events.specs.Events.Nested.{enter, pair}
+use Rattle.md_events.specs.Look.{first_seen}
+use Rattle.md_events.specs.Spaces.{ends_line, small_indent}
+use Rattle.md_events.proofs.RestCells.{white-length}
 
 -- digits leave no more than there was
 pub digits-length : (room : ℕ) (cells : List Cell) → length (digits_rest room cells) ≤ length cells

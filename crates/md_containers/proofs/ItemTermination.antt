@@ -32,10 +32,10 @@ use Rattle.md_leaves.specs.Break.{break_scheme}
 use Rattle.md_leaves.specs.LeafStart as leaf
 use Rattle.md_leaves.proofs.BlankTermination.{BlankFits}
 use Rattle.md_leaves.proofs.BreakTermination.{BreakFits}
-use Rattle.md_seam.specs.Look.{looks_behind}
-use Rattle.md_seam.specs.Spaces.{IsRest, asking, calmed, ends_line, later_ready, rest_ready, sees_white}
-use Rattle.md_seam.specs.Transition.{entered, exited}
-use Rattle.md_seam.proofs.SpacesTermination.{Does, WhiteFits, rest-calm, seen-in, white_try}
+use Rattle.md_events.specs.Look.{looks_behind}
+use Rattle.md_events.specs.Spaces.{IsRest, asking, calmed, ends_line, later_ready, rest_ready, sees_white}
+use Rattle.md_events.specs.Transition.{entered, exited}
+use Rattle.md_events.proofs.SpacesTermination.{Does, WhiteFits, rest-calm, seen-in, white_try}
 
 pub record ItemFits (T : Scheme) : Type 1 where
   pub white : WhiteFits T

@@ -8,9 +8,9 @@ use Rattle.md_engine.specs.World.{World}
 use Rattle.md_engine.proofs.Falls.{passing_at}
 use Rattle.md_engine.proofs.Local.{refuses_later, turns}
 use Rattle.md_leaves.specs.LeafStart.{start_code}
-use Rattle.md_seam.specs.Spaces.{IsRest, later_ready, small_indent}
-use Rattle.md_seam.specs.Transition.{entered}
-use Rattle.md_seam.proofs.SpacesTermination.{Does, WhiteFits, rest-calm, rest-none, white_try_later}
+use Rattle.md_events.specs.Spaces.{IsRest, later_ready, small_indent}
+use Rattle.md_events.specs.Transition.{entered}
+use Rattle.md_events.proofs.SpacesTermination.{Does, WhiteFits, rest-calm, rest-none, white_try_later}
 
 -- a table has both states: the next one asks no more than the first, and ranks below it
 pub record FitsLaterStart (T own : Scheme) (start next : StateName) : Type 1 where

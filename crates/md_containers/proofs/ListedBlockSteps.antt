@@ -9,11 +9,11 @@ use Rattle.md_meaning.specs.Containers.{is_bullet}
 use Rattle.md_meaning.specs.Grouped.{grouped, grouped_block}
 use Rattle.md_meaning.specs.State.{then_block}
 use Rattle.md_meaning.specs.Tree.{Block, Blocks, End, Item, ListOf, More}
-use Rattle.md_seam.specs.Events.Blocks.{is_block}
-use Rattle.md_seam.specs.Events.Spelled.{OpenContainer, AsDigits, FootnoteShape, ContainerRole, IsEnding, IsPrefix}
-use Rattle.md_seam.specs.Events.Spelled.{IsQuiet, IsQuoteMarker, ItemShape, OpenLeaf, LeafRole, OrderedShape, Purpose}
-use Rattle.md_seam.specs.Events.Spelled.{Reading, Role, Shape, TextRole, Text, UnorderedShape, begun, block_around}
-use Rattle.md_seam.specs.Events.Spelled.{fresh, is_ordered, left, read_by}
+use Rattle.md_events.specs.Events.Blocks.{is_block}
+use Rattle.md_events.specs.Events.Spelled.{OpenContainer, AsDigits, FootnoteShape, ContainerRole, IsEnding, IsPrefix}
+use Rattle.md_events.specs.Events.Spelled.{IsQuiet, IsQuoteMarker, ItemShape, OpenLeaf, LeafRole, OrderedShape, Purpose}
+use Rattle.md_events.specs.Events.Spelled.{Reading, Role, Shape, TextRole, Text, UnorderedShape, begun, block_around}
+use Rattle.md_events.specs.Events.Spelled.{fresh, is_ordered, left, read_by}
 use Rattle.md_containers.specs.ItemsStand.{AmongBlocks, InFront, InLabel, InLeaf, InText, Inner, IsBetween, IsOfItself}
 use Rattle.md_containers.specs.ItemsStand.{MayBegin, MayEnd, is_list_marker, site_after}
 use Rattle.md_containers.specs.Listed.{goes_on, marker_by, next_by}

@@ -11,13 +11,13 @@ use Rattle.md_containers.proofs.ListedGrammar.{listed-grammar}
 use Rattle.md_containers.proofs.ListedKept.{listed-endings, listed-pieces, listed-placed}
 use Rattle.md_containers.proofs.ListedNests.{listed-nested}
 use Rattle.md_containers.proofs.ListedParts.{listed-stands}
-use Rattle.md_seam.specs.Events.Endings.{endings_stand}
-use Rattle.md_seam.specs.Events.Grammar.{unread_text}
-use Rattle.md_seam.specs.Events.Inline.{Covers, Piece, pieces}
-use Rattle.md_seam.specs.Events.Nested.{Nested}
-use Rattle.md_seam.specs.Events.Pieces.{pieces_stand}
-use Rattle.md_seam.specs.Events.Places.{are_placed, first_point}
-use Rattle.md_seam.specs.Events.Tiles.{IsBlockList, chunks_stand, end_point, parts_stand}
+use Rattle.md_events.specs.Events.Endings.{endings_stand}
+use Rattle.md_events.specs.Events.Grammar.{unread_text}
+use Rattle.md_events.specs.Events.Inline.{Covers, Piece, pieces}
+use Rattle.md_events.specs.Events.Nested.{Nested}
+use Rattle.md_events.specs.Events.Pieces.{pieces_stand}
+use Rattle.md_events.specs.Events.Places.{are_placed, first_point}
+use Rattle.md_events.specs.Events.Tiles.{IsBlockList, chunks_stand, end_point, parts_stand}
 
 -- What a block list is before lists are put around its items: items are where lists may, directly in blocks.
 pub record IsUnlisted (bytes : List ℕ) (events : List Event) : Type 0 where

@@ -8,9 +8,9 @@ use Rattle.md_engine.specs.declared.event.Name.TheVariants as n
 use Rattle.md_engine.specs.declared.event.Point.{Point}
 use Rattle.md_containers.specs.Listed.{Place, list_begin, list_end, listed, listed_from, outside}
 use Rattle.md_containers.proofs.ListedKept.{Unmoved, unmoved, with-begin, with-end}
-use Rattle.md_seam.specs.Events.Inline.{is_linked}
-use Rattle.md_seam.specs.Events.Nested.{is_exit}
-use Rattle.md_seam.specs.Events.Tiles.{chunks_stand, depth_behind, is_chunk, is_part, stands_in_part}
+use Rattle.md_events.specs.Events.Inline.{is_linked}
+use Rattle.md_events.specs.Events.Nested.{is_exit}
+use Rattle.md_events.specs.Events.Tiles.{chunks_stand, depth_behind, is_chunk, is_part, stands_in_part}
 
 and-false : (a : Bool) → (a && false) ≡ false
 and-false true = refl

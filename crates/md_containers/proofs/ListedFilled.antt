@@ -14,17 +14,17 @@ use Rattle.md_containers.specs.Listed.{listed, listed_from, marker_ahead, marker
 use Rattle.md_containers.specs.Listed.{place_after, place_by, turn}
 use Rattle.md_containers.proofs.ListedLemmas.{passes-given}
 use Rattle.md_containers.proofs.ListedParts.{listed-parts}
-use Rattle.md_seam.specs.declared.inline.Chunk.{Chunk}
-use Rattle.md_seam.specs.Events.Inline.{Part, is_linked, line_end, pair_unless_empty, plain_chunks, together}
-use Rattle.md_seam.specs.Events.Nested.{is_exit, pair}
-use Rattle.md_seam.specs.Events.Places.{same_place}
-use Rattle.md_seam.specs.Events.Spelled.{IsEnding, IsQuiet, Role, role, LeafRole}
-use Rattle.md_seam.specs.Events.Tiles.{chunks_stand, depth_behind, filled, filled_from, first_list, further_lists}
-use Rattle.md_seam.specs.Events.Tiles.{is_chunk, is_data, is_part, parts, plain_lists, plain_read, stands_in_part}
-use Rattle.md_seam.proofs.FilledLemmas.{EachInline, first-inline, further-inline}
-use Rattle.md_seam.proofs.SpelledLemmas.{QuietOrEnding, Roles, roles-append}
+use Rattle.md_events.specs.declared.inline.Chunk.{Chunk}
+use Rattle.md_events.specs.Events.Inline.{Part, is_linked, line_end, pair_unless_empty, plain_chunks, together}
+use Rattle.md_events.specs.Events.Nested.{is_exit, pair}
+use Rattle.md_events.specs.Events.Places.{same_place}
+use Rattle.md_events.specs.Events.Spelled.{IsEnding, IsQuiet, Role, role, LeafRole}
+use Rattle.md_events.specs.Events.Tiles.{chunks_stand, depth_behind, filled, filled_from, first_list, further_lists}
+use Rattle.md_events.specs.Events.Tiles.{is_chunk, is_data, is_part, parts, plain_lists, plain_read, stands_in_part}
+use Rattle.md_events.proofs.FilledLemmas.{EachInline, first-inline, further-inline}
+use Rattle.md_events.proofs.SpelledLemmas.{QuietOrEnding, Roles, roles-append}
 use Rattle.md_containers.proofs.ListedKept.{with-begin, with-end}
-use Rattle.md_seam.proofs.PartsLemmas.{inline-append}
+use Rattle.md_events.proofs.PartsLemmas.{inline-append}
 
 -- What an inline layer gives.
 

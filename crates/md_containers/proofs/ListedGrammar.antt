@@ -24,11 +24,11 @@ use Rattle.md_containers.proofs.ListedNests.{event, pass-next}
 use Rattle.md_containers.proofs.ListedKept.{by-list}
 use Rattle.md_containers.proofs.TamedLemmas.{AtBoth, AtFrontmatter, AtLine, AtMark, BehindBlock, IsTame, ListsWell}
 use Rattle.md_containers.proofs.TamedLemmas.{is_plain, tame-behind, tame-inside, tame-item, tame-lists}
-use Rattle.md_seam.specs.Events.Blocks.{is_block}
-use Rattle.md_seam.specs.Events.Grammar.{Expression, Many, Never, Then, behind, behind_block, blocks, inside, is_whole}
-use Rattle.md_seam.specs.Events.Grammar.{keeps_grammar, left_of, line_break, may_end, one, prefixes, some, texts}
-use Rattle.md_seam.specs.Events.Nested.{Matches, Nested, enter, exit}
-use Rattle.md_seam.specs.Events.Spelled.{role}
+use Rattle.md_events.specs.Events.Blocks.{is_block}
+use Rattle.md_events.specs.Events.Grammar.{Expression, Many, Never, Then, behind, behind_block, blocks, inside, is_whole}
+use Rattle.md_events.specs.Events.Grammar.{keeps_grammar, left_of, line_break, may_end, one, prefixes, some, texts}
+use Rattle.md_events.specs.Events.Nested.{Matches, Nested, enter, exit}
+use Rattle.md_events.specs.Events.Spelled.{role}
 
 -- What may come in a list: after an item, and after an ending that follows it.
 abbrev more_items : Expression

@@ -12,12 +12,12 @@ use Rattle.md_engine.specs.declared.event.Point.{Point}
 use Rattle.md_containers.specs.Listed.{Place, goes_on, is_item, list_begin, list_end, list_name, listed, listed_from}
 use Rattle.md_containers.specs.Listed.{marker_ahead, next_item, outside, place_behind}
 use Rattle.md_containers.proofs.ListedLemmas.{passes-given}
-use Rattle.md_seam.specs.Events.Endings.{EndingPlace, endings_stand, endings_stand_from, ends_rightly, line_start}
-use Rattle.md_seam.specs.Events.Endings.{on_line, IsOther, spot_behind}
-use Rattle.md_seam.specs.Events.Inline.{Piece, piece_of, pieces, pieces_from}
-use Rattle.md_seam.specs.Events.Nested.{enter, exit}
-use Rattle.md_seam.specs.Events.Places.{are_placed, first_point, is_placed}
-use Rattle.md_seam.specs.Events.Spelled.{is_ordered, role}
+use Rattle.md_events.specs.Events.Endings.{EndingPlace, endings_stand, endings_stand_from, ends_rightly, line_start}
+use Rattle.md_events.specs.Events.Endings.{on_line, IsOther, spot_behind}
+use Rattle.md_events.specs.Events.Inline.{Piece, piece_of, pieces, pieces_from}
+use Rattle.md_events.specs.Events.Nested.{enter, exit}
+use Rattle.md_events.specs.Events.Places.{are_placed, first_point, is_placed}
+use Rattle.md_events.specs.Events.Spelled.{is_ordered, role}
 
 pub item-name : (name : Name) → is_item (role name) ≡ true → name ≡ n.ListItem
 item-name n.ListItem h = refl

@@ -13,9 +13,9 @@ use Rattle.md_engine.specs.Place.{IsPlaced}
 use Rattle.md_containers.specs.Listed.{Begins, Ends, Place, Stays, Turn, given, given_by, goes_on, is_item, list_begin}
 use Rattle.md_containers.specs.Listed.{list_end, list_name, listed, listed_from, marker_ahead, next_item}
 use Rattle.md_containers.specs.Listed.{outside, passes, place_after, place_by, turn}
-use Rattle.md_seam.specs.Events.Nested.{enter, exit}
-use Rattle.md_seam.specs.Events.Spelled.{Role, role}
-use Rattle.md_seam.specs.Parts.{ArePlaced}
+use Rattle.md_events.specs.Events.Nested.{enter, exit}
+use Rattle.md_events.specs.Events.Spelled.{Role, role}
+use Rattle.md_events.specs.Parts.{ArePlaced}
 
 -- Events that pass.
 

@@ -7,9 +7,9 @@ use Rattle.md_engine.specs.declared.event.Point.{Point}
 use Rattle.md_meaning.specs.declared.alert.AlertKind.{AlertKind}
 use Rattle.md_meaning.specs.Grouped.{grouped, grouped_block, with_front}
 use Rattle.md_meaning.specs.Tree.{Block, Blocks, End, Item, ListOf, More}
-use Rattle.md_seam.specs.Events.Spelled.{IsQuoteMarker, ItemShape, OpenContainer, OpenLeaf, OrderedShape, QuoteShape}
-use Rattle.md_seam.specs.Events.Spelled.{Reading, Shape, Text, UnorderedShape, is_before_blocks, is_ordered, kind_at}
-use Rattle.md_seam.specs.Events.Spelled.{on_shape, read_by, with_kind}
+use Rattle.md_events.specs.Events.Spelled.{IsQuoteMarker, ItemShape, OpenContainer, OpenLeaf, OrderedShape, QuoteShape}
+use Rattle.md_events.specs.Events.Spelled.{Reading, Shape, Text, UnorderedShape, is_before_blocks, is_ordered, kind_at}
+use Rattle.md_events.specs.Events.Spelled.{on_shape, read_by, with_kind}
 use Rattle.md_containers.specs.ItemsStand.{AmongBlocks, Inner}
 use Rattle.md_containers.proofs.GroupedLemmas.{NoLists}
 use Rattle.md_containers.proofs.ListedOpen.{Agree, AgreeAt, HasBlocks, IsItemOf, IsNoItem, Known, Knows, OpenList}

@@ -17,11 +17,11 @@ use Rattle.md_containers.specs.Listed.{marker_ahead, next_by, next_item, outside
 use Rattle.md_containers.proofs.ListedKept.{by-turn}
 use Rattle.md_containers.proofs.ListedLemmas.{passes-given}
 use Rattle.md_containers.proofs.ListedBlockSteps.{goes_on-some}
-use Rattle.md_seam.specs.Events.Blocks.{is_block}
-use Rattle.md_seam.specs.Events.Nested.{Forward, Matches, Nested, exit, open_after}
-use Rattle.md_seam.specs.Events.Places.{at_or_before, first_point}
-use Rattle.md_seam.specs.Events.Spelled.{role}
-use Rattle.md_seam.proofs.NestedLemmas.{at_or_before-refl}
+use Rattle.md_events.specs.Events.Blocks.{is_block}
+use Rattle.md_events.specs.Events.Nested.{Forward, Matches, Nested, exit, open_after}
+use Rattle.md_events.specs.Events.Places.{at_or_before, first_point}
+use Rattle.md_events.specs.Events.Spelled.{role}
+use Rattle.md_events.proofs.NestedLemmas.{at_or_before-refl}
 
 -- A part that is open: an item with the marker of its list, or another.
 data Entry : Type 0 where

@@ -14,13 +14,13 @@ use Rattle.md_engine.specs.declared.event.Point.{Point}
 use Rattle.md_meaning.specs.Grouped.{grouped}
 use Rattle.md_meaning.specs.State.{then_block}
 use Rattle.md_meaning.specs.Tree.{Blocks, End, Item, Line, ListOf, More}
-use Rattle.md_seam.specs.Events.Spelled.{OpenContainer, ContainerRole, IsEnding, IsQuoteMarker, ItemShape, OpenLeaf}
-use Rattle.md_seam.specs.Events.Spelled.{LeafRole, OrderedShape, Purpose, Reading, Role, Shape, TextRole, Text}
-use Rattle.md_seam.specs.Events.Spelled.{UnorderedShape, at_ending, begun, is_ordered, left, next_line, on_leaf, read}
-use Rattle.md_seam.specs.Events.Spelled.{read_by, role, text_to, told, told_at}
-use Rattle.md_seam.specs.Events.Told.{OfItself, OfLeaf, Told, told_of}
-use Rattle.md_seam.specs.Events.Nested.{exit}
-use Rattle.md_seam.proofs.ToldLemmas.{told-noted}
+use Rattle.md_events.specs.Events.Spelled.{OpenContainer, ContainerRole, IsEnding, IsQuoteMarker, ItemShape, OpenLeaf}
+use Rattle.md_events.specs.Events.Spelled.{LeafRole, OrderedShape, Purpose, Reading, Role, Shape, TextRole, Text}
+use Rattle.md_events.specs.Events.Spelled.{UnorderedShape, at_ending, begun, is_ordered, left, next_line, on_leaf, read}
+use Rattle.md_events.specs.Events.Spelled.{read_by, role, text_to, told, told_at}
+use Rattle.md_events.specs.Events.Told.{OfItself, OfLeaf, Told, told_of}
+use Rattle.md_events.specs.Events.Nested.{exit}
+use Rattle.md_events.proofs.ToldLemmas.{told-noted}
 use Rattle.md_containers.specs.ItemsStand.{AmongBlocks, InFront, InLabel, InLeaf, InMarker, InText, Inner, IsForItself}
 use Rattle.md_containers.specs.ItemsStand.{IsForLeaf, IsMarkerAt, IsOfItself, IsOfLeaf, Site, is_list_marker}
 use Rattle.md_containers.specs.Listed.{Begins, Ends, Place, Stays, Turn, given_by, goes_on}

@@ -11,13 +11,13 @@ use Rattle.md_meaning.specs.Grouped.{grouped, grouped_block}
 use Rattle.md_meaning.specs.State.{then_block}
 use Rattle.md_meaning.specs.Texts.{first_byte}
 use Rattle.md_meaning.specs.Tree.{Block, Blocks, End, Line}
-use Rattle.md_seam.specs.Events.Spelled.{OpenContainer, AsDigits, AsFootnoteLabel, AsItemMarker, BreakLeaf}
-use Rattle.md_seam.specs.Events.Spelled.{ContainerRole, IsEnding, IsPrefix, IsQuiet, IsQuoteMarker, ItemShape, OpenLeaf}
-use Rattle.md_seam.specs.Events.Spelled.{LeafRole, Purpose, Reading, Role, Shape, TextRole, Text, at_ending, begun}
-use Rattle.md_seam.specs.Events.Spelled.{block_of, finished, named, next_line, on_leaf, on_shape, read_by, text_to}
-use Rattle.md_seam.specs.Events.Spelled.{told_at, after_prefix, before_prefix, noted}
-use Rattle.md_seam.specs.Events.Told.{block_told}
-use Rattle.md_seam.proofs.ToldLemmas.{told-block, told-noted}
+use Rattle.md_events.specs.Events.Spelled.{OpenContainer, AsDigits, AsFootnoteLabel, AsItemMarker, BreakLeaf}
+use Rattle.md_events.specs.Events.Spelled.{ContainerRole, IsEnding, IsPrefix, IsQuiet, IsQuoteMarker, ItemShape, OpenLeaf}
+use Rattle.md_events.specs.Events.Spelled.{LeafRole, Purpose, Reading, Role, Shape, TextRole, Text, at_ending, begun}
+use Rattle.md_events.specs.Events.Spelled.{block_of, finished, named, next_line, on_leaf, on_shape, read_by, text_to}
+use Rattle.md_events.specs.Events.Spelled.{told_at, after_prefix, before_prefix, noted}
+use Rattle.md_events.specs.Events.Told.{block_told}
+use Rattle.md_events.proofs.ToldLemmas.{told-block, told-noted}
 use Rattle.md_containers.specs.ItemsStand.{AmongBlocks, InFront, InLabel, InLeaf, InMarker, InText, Inner, IsBetween}
 use Rattle.md_containers.specs.ItemsStand.{IsMarkerAt, IsOfLeaf, IsPart, MayBegin, MayEnd, is_list_marker, site_after}
 use Rattle.md_containers.specs.Listed.{Stays, Turn, marker_by, next_by, place_by, turn}

@@ -11,12 +11,12 @@ use Rattle.md_engine.specs.declared.event.Point.{Point}
 use Rattle.md_containers.specs.Listed.{Place, list_begin, list_end, listed, listed_from, outside}
 use Rattle.md_containers.proofs.ListedKept.{begin-pieces, end-pieces, first-pieces, more-pieces, Unmoved, unmoved}
 use Rattle.md_containers.proofs.ListedKept.{with-begin, with-end}
-use Rattle.md_seam.specs.declared.inline.PartKind.{PartKind}
-use Rattle.md_seam.specs.Events.Inline.{Part, Piece, pieces, pieces_from}
-use Rattle.md_seam.specs.Events.Nested.{exit, is_exit}
-use Rattle.md_seam.specs.Events.Places.{first_point}
-use Rattle.md_seam.specs.Events.Tiles.{chunks, inside_part, is_part, links_kind, part_at, part_end, part_kind, part_of}
-use Rattle.md_seam.specs.Events.Tiles.{part_stands, parts, parts_stand}
+use Rattle.md_events.specs.declared.inline.PartKind.{PartKind}
+use Rattle.md_events.specs.Events.Inline.{Part, Piece, pieces, pieces_from}
+use Rattle.md_events.specs.Events.Nested.{exit, is_exit}
+use Rattle.md_events.specs.Events.Places.{first_point}
+use Rattle.md_events.specs.Events.Tiles.{chunks, inside_part, is_part, links_kind, part_at, part_end, part_kind, part_of}
+use Rattle.md_events.specs.Events.Tiles.{part_stands, parts, parts_stand}
 
 -- What is in a text part that is open.
 

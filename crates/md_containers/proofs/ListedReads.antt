@@ -6,8 +6,8 @@ use Rattle.md_engine.specs.declared.event.Kind.{Kind}
 use Rattle.md_engine.specs.declared.event.Kind.TheVariants.{Enter, Exit}
 use Rattle.md_engine.specs.declared.event.Point.{Point}
 use Rattle.md_meaning.specs.Grouped.{grouped}
-use Rattle.md_seam.specs.Events.Spelled.{Reading, Role, read, read_by, role, spelled, unread}
-use Rattle.md_seam.proofs.SpelledLemmas.{read-append}
+use Rattle.md_events.specs.Events.Spelled.{Reading, Role, read, read_by, role, spelled, unread}
+use Rattle.md_events.proofs.SpelledLemmas.{read-append}
 use Rattle.md_containers.specs.ItemsStand.{AmongBlocks, InFront, InLabel, InLeaf, InMarker, InText, Inner, ItemsStand}
 use Rattle.md_containers.specs.ItemsStand.{MayStand, Site, root, site_after}
 use Rattle.md_containers.specs.Listed.{Place, given, listed, listed_from, marker_ahead, marker_by, next_by, next_item}

@@ -8,8 +8,8 @@ use Rattle.md_containers.specs.ItemsHeld.{ItemsHeld}
 use Rattle.md_containers.specs.ItemsStand.{ItemsStand, root}
 use Rattle.md_containers.specs.Listed.{listed}
 use Rattle.md_containers.specs.Unlisted.{keeps_unlisted}
-use Rattle.md_seam.specs.Events.Grammar.{plain_text}
-use Rattle.md_seam.specs.Events.Nested.{around, pair}
+use Rattle.md_events.specs.Events.Grammar.{plain_text}
+use Rattle.md_events.specs.Events.Nested.{around, pair}
 
 -- Points are known from their bytes alone.
 abbrev at : ℕ → Point

@@ -23,9 +23,9 @@ use Rattle.md_meaning.specs.Containers.{Taken, quote_taken, taken_as, with_kind}
 use Rattle.md_meaning.specs.Rest.{Rest, behind, behind_indent, indent, lose, tab_columns, without_column}
 use Rattle.md_meaning.specs.State.{InQuote}
 use Rattle.md_meaning.proofs.TextsLemmas.{NoEnding}
-use Rattle.md_seam.specs.Events.Nested.{exit}
-use Rattle.md_seam.proofs.FeedLines.{Stops}
-use Rattle.md_seam.proofs.RestCells.{RestAt, behind-no_ending, lose-no_ending, past_rest, rest_cells}
+use Rattle.md_events.specs.Events.Nested.{exit}
+use Rattle.md_events.proofs.FeedLines.{Stops}
+use Rattle.md_events.proofs.RestCells.{RestAt, behind-no_ending, lose-no_ending, past_rest, rest_cells}
 
 -- The prefix of the line on which a quote of this kind opens, from a point to a point.
 pub record IsOpening (bytes : List ℕ) (kind : Option AlertKind) (p q : Point) (es : List Event) : Type 0 where

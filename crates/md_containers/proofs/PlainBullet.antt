@@ -30,12 +30,12 @@ use Rattle.md_containers.proofs.Ahead.{StandsAhead, stands-ahead, text-after}
 use Rattle.md_containers.proofs.ItemBeginMeaning.{bullet-dark}
 use Rattle.md_containers.proofs.PlainItem.{HasItem}
 use Rattle.md_leaves.specs.LeafStart as leaf
-use Rattle.md_seam.specs.Events.Nested.{enter, exit}
-use Rattle.md_seam.specs.Look.{behind_code, first_behind, first_other, is_other, looks_behind, sees_other}
-use Rattle.md_seam.specs.Spaces.{after_code, inside_code, sees_white, start_code, white_then}
-use Rattle.md_seam.specs.Transition.{Transition, entered, exited, taken, tried}
-use Rattle.md_seam.proofs.OneSpace.{HasWhite}
-use Rattle.md_seam.proofs.PlainSteps.{range-next}
+use Rattle.md_events.specs.Events.Nested.{enter, exit}
+use Rattle.md_events.specs.Look.{behind_code, first_behind, first_other, is_other, looks_behind, sees_other}
+use Rattle.md_events.specs.Spaces.{after_code, inside_code, sees_white, start_code, white_then}
+use Rattle.md_events.specs.Transition.{Transition, entered, exited, taken, tried}
+use Rattle.md_events.proofs.OneSpace.{HasWhite}
+use Rattle.md_events.proofs.PlainSteps.{range-next}
 
 -- a bullet is text
 bullet-text : (b : ℕ) → is_bullet b ≡ true → has class.Text b ≡ true

@@ -27,10 +27,10 @@ use Rattle.md_containers.specs.Item.{at_least_one, item_transition, least_width}
 use Rattle.md_containers.specs.Ahead.{ahead}
 use Rattle.md_containers.proofs.Ahead.{IsText, ahead-more, placed-text, text-after}
 use Rattle.md_containers.specs.PlainItem.{IsPlainIndent, SpacesHere, indented, moved}
-use Rattle.md_seam.specs.Events.Nested.{enter}
-use Rattle.md_seam.specs.Look.{looks_behind}
-use Rattle.md_seam.specs.Spaces.{asking, ends_line, sees_white}
-use Rattle.md_seam.specs.Transition.{entered, taken, tried}
+use Rattle.md_events.specs.Events.Nested.{enter}
+use Rattle.md_events.specs.Look.{looks_behind}
+use Rattle.md_events.specs.Spaces.{asking, ends_line, sees_white}
+use Rattle.md_events.specs.Transition.{entered, taken, tried}
 
 -- a table has the states of an item
 abbrev pub HasItem : Step → Type 0

@@ -19,12 +19,12 @@ use Rattle.md_containers.proofs.AlertCells.{marked_by, marked-is}
 use Rattle.md_meaning.specs.Alert.{first_kind, kinds, marker_of}
 use Rattle.md_meaning.specs.declared.alert.AlertKind.{AlertKind}
 use Rattle.md_meaning.specs.Rest.{is_white}
-use Rattle.md_seam.specs.Ahead.{begins_white, from_ending, white_end, white_rest}
-use Rattle.md_seam.specs.Events.Nested.{enter, exit, pair}
-use Rattle.md_seam.specs.Spaces.{IsRest, small_indent}
-use Rattle.md_seam.proofs.AheadLemmas.{none-end, none-rest}
-use Rattle.md_seam.proofs.RestCells.{white-length}
-use Rattle.md_seam.proofs.SpacesTermination.{rest-calm}
+use Rattle.md_events.specs.Ahead.{begins_white, from_ending, white_end, white_rest}
+use Rattle.md_events.specs.Events.Nested.{enter, exit, pair}
+use Rattle.md_events.specs.Spaces.{IsRest, small_indent}
+use Rattle.md_events.proofs.AheadLemmas.{none-end, none-rest}
+use Rattle.md_events.proofs.RestCells.{white-length}
+use Rattle.md_events.proofs.SpacesTermination.{rest-calm}
 
 -- What is left is shorter.
 

@@ -14,23 +14,23 @@ use Rattle.md_engine.specs.Meaning.{Cell}
 use Rattle.md_containers.specs.QuoteRule.{behind_end, behind_events, behind_rest, has_marker, marker_end, marker_events}
 use Rattle.md_containers.specs.QuoteRule.{marker_rest, prefix_end, prefix_events, prefix_rest, takes_prefix}
 use Rattle.md_meaning.specs.declared.alert.AlertKind.{AlertKind}
-use Rattle.md_seam.specs.Ahead.{begins_white, white_end, white_rest}
+use Rattle.md_events.specs.Ahead.{begins_white, white_end, white_rest}
 use Rattle.md_meaning.specs.Containers.{Taken, quote_taken}
-use Rattle.md_seam.specs.Events.Inline.{pair_unless_empty}
+use Rattle.md_events.specs.Events.Inline.{pair_unless_empty}
 use Rattle.md_meaning.specs.Lines.{begins_with}
-use Rattle.md_seam.specs.Events.Nested.{enter, exit, pair}
-use Rattle.md_seam.specs.Events.Places.{at_or_before, past_byte, past_text}
+use Rattle.md_events.specs.Events.Nested.{enter, exit, pair}
+use Rattle.md_events.specs.Events.Places.{at_or_before, past_byte, past_text}
 use Rattle.md_meaning.specs.Rest.{Rest, behind, behind_indent, has_small_indent, indent, is_blank, is_white, lose}
-use Rattle.md_seam.specs.Spaces.{small_indent}
+use Rattle.md_events.specs.Spaces.{small_indent}
 use Rattle.md_meaning.specs.State.{InQuote}
-use Rattle.md_seam.proofs.AheadLemmas.{none-end}
-use Rattle.md_seam.proofs.FeedLines.{Stops, byte-one, cell, past-next, spread}
-use Rattle.md_seam.proofs.InlineLemmas.{same-refl}
-use Rattle.md_seam.proofs.LostColumns.{Step, White, column-step, step-append, white-none}
-use Rattle.md_seam.proofs.RestCells.{Bare, RestAt, bare, bare-cells, bare-same, behind-no_ending, cells_by, column-end}
-use Rattle.md_seam.proofs.RestCells.{column-first, indent-length, indent-over, indent-taken, lose-no_ending, past_cut}
-use Rattle.md_seam.proofs.RestCells.{past_rest, rest_cells, white-length, without_first}
-use Rattle.md_seam.proofs.RestLines.{large-room, small-room}
+use Rattle.md_events.proofs.AheadLemmas.{none-end}
+use Rattle.md_events.proofs.FeedLines.{Stops, byte-one, cell, past-next, spread}
+use Rattle.md_events.proofs.InlineLemmas.{same-refl}
+use Rattle.md_events.proofs.LostColumns.{Step, White, column-step, step-append, white-none}
+use Rattle.md_events.proofs.RestCells.{Bare, RestAt, bare, bare-cells, bare-same, behind-no_ending, cells_by, column-end}
+use Rattle.md_events.proofs.RestCells.{column-first, indent-length, indent-over, indent-taken, lose-no_ending, past_cut}
+use Rattle.md_events.proofs.RestCells.{past_rest, rest_cells, white-length, without_first}
+use Rattle.md_events.proofs.RestLines.{large-room, small-room}
 use Rattle.md_meaning.proofs.TextsLemmas.{NoEnding}
 
 -- The prefix of a quote, from a point to a point: whitespace, `>`, and at most one column of whitespace.

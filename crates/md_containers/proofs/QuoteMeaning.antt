@@ -29,11 +29,11 @@ use Rattle.md_containers.specs.QuoteRule.{no_name, opening_at, prefix_at, prefix
 use Rattle.md_containers.proofs.ItemBeginMeaning.{frame_here, went-back}
 use Rattle.md_leaves.specs.BlankRule.{blank_at}
 use Rattle.md_meaning.specs.Bytes.{is_end}
-use Rattle.md_seam.specs.Ahead.{HasWhite, begins_white, white_rest}
-use Rattle.md_seam.specs.Events.Nested.{enter, exit}
-use Rattle.md_seam.specs.Spaces.{is_current, sees_white, small_indent}
-use Rattle.md_seam.proofs.AheadLemmas.{small-some}
-use Rattle.md_seam.proofs.WhiteMeaning.{begins-seen, behind_white, white-tried}
+use Rattle.md_events.specs.Ahead.{HasWhite, begins_white, white_rest}
+use Rattle.md_events.specs.Events.Nested.{enter, exit}
+use Rattle.md_events.specs.Spaces.{is_current, sees_white, small_indent}
+use Rattle.md_events.proofs.AheadLemmas.{small-some}
+use Rattle.md_events.proofs.WhiteMeaning.{begins-seen, behind_white, white-tried}
 use Rattle.md_containers.proofs.ByteMeaning.{AsksFor, asked-some, asked-none}
 
 -- what is left of the rule at some state

@@ -22,9 +22,9 @@ use Rattle.md_containers.specs.Ahead.{ahead}
 use Rattle.md_containers.specs.QuotePrefix.{IsPlainPrefix, prefixed}
 use Rattle.md_containers.proofs.Ahead.{StandsAhead, seen-byte, stands-ahead, text-after}
 use Rattle.md_containers.specs.Quote.{cont_after_code, cont_before_code, cont_start_code, quote_transition}
-use Rattle.md_seam.specs.Events.Nested.{enter, exit}
-use Rattle.md_seam.specs.Spaces.{is_current, sees_white}
-use Rattle.md_seam.specs.Transition.{tried}
+use Rattle.md_events.specs.Events.Nested.{enter, exit}
+use Rattle.md_events.specs.Spaces.{is_current, sees_white}
+use Rattle.md_events.specs.Transition.{tried}
 
 -- a table has the states of a quote
 abbrev pub HasQuote : Step → Type 0

@@ -11,9 +11,9 @@ use Rattle.md_containers.proofs.Shorter.{Shortens, cond-shortens}
 use Rattle.md_leaves.specs.BlankRule.{blank_at}
 use Rattle.md_meaning.specs.Bytes.{is_end}
 use Rattle.md_meaning.specs.Rest.{is_blank, is_white}
-use Rattle.md_seam.specs.Ahead.{begins_white, from_ending, line_bytes}
-use Rattle.md_seam.specs.Spaces.{small_indent}
-use Rattle.md_seam.proofs.RestCells.{white-length}
+use Rattle.md_events.specs.Ahead.{begins_white, from_ending, line_bytes}
+use Rattle.md_events.specs.Spaces.{small_indent}
+use Rattle.md_events.proofs.RestCells.{white-length}
 
 -- what is left at some state is refused, or leaves fewer cells than these, where no more than these are there; or where
 -- fewer are there

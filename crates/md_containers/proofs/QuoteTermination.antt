@@ -20,10 +20,10 @@ use Rattle.md_containers.specs.Quote.{quote_ready, quote_scheme, quote_transitio
 use Rattle.md_leaves.specs.Blank.{blank_scheme}
 use Rattle.md_leaves.proofs.BlankTermination.{BlankFits}
 use Rattle.md_meaning.specs.Bytes.{is_end}
-use Rattle.md_seam.specs.Spaces.{IsRest, is_current, later_ready, rest_ready, sees_white, small_indent}
-use Rattle.md_seam.specs.Transition.{entered, exited}
-use Rattle.md_seam.proofs.SpacesTermination.{Does, WhiteFits, accepts-behind, rest-calm, rest-none, seen-in, seen-some}
-use Rattle.md_seam.proofs.SpacesTermination.{white_try, white_try_later}
+use Rattle.md_events.specs.Spaces.{IsRest, is_current, later_ready, rest_ready, sees_white, small_indent}
+use Rattle.md_events.specs.Transition.{entered, exited}
+use Rattle.md_events.proofs.SpacesTermination.{Does, WhiteFits, accepts-behind, rest-calm, rest-none, seen-in, seen-some}
+use Rattle.md_events.proofs.SpacesTermination.{white_try, white_try_later}
 
 pub record QuoteFits (T : Scheme) : Type 1 where
   pub white : WhiteFits T

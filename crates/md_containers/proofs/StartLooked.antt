@@ -8,13 +8,13 @@ use Rattle.md_engine.specs.Meaning.{Cell, Here, Outcome, Refuses}
 use Rattle.md_meaning.specs.Rest.{is_white}
 use Rattle.md_leaves.specs.LeafStart.{entered_here, start_at}
 use Rattle.md_leaves.proofs.LeafStart.{at-none, at-off, at-white}
-use Rattle.md_seam.specs.Ahead.{begins_white, white_rest}
-use Rattle.md_seam.specs.Look.{first_seen, seen_behind}
-use Rattle.md_seam.specs.Spaces.{IsRest, small_indent}
-use Rattle.md_seam.proofs.AheadLemmas.{none-rest}
-use Rattle.md_seam.proofs.LookLemmas.{rest-begins}
-use Rattle.md_seam.proofs.SpacesTermination.{rest-calm}
-use Rattle.md_seam.proofs.WhiteMeaning.{behind_white}
+use Rattle.md_events.specs.Ahead.{begins_white, white_rest}
+use Rattle.md_events.specs.Look.{first_seen, seen_behind}
+use Rattle.md_events.specs.Spaces.{IsRest, small_indent}
+use Rattle.md_events.proofs.AheadLemmas.{none-rest}
+use Rattle.md_events.proofs.LookLemmas.{rest-begins}
+use Rattle.md_events.proofs.SpacesTermination.{rest-calm}
+use Rattle.md_events.proofs.WhiteMeaning.{behind_white}
 
 -- what is left after the indent refuses where such a byte, or whitespace, is first
 pub start-looked : (name : Name) (on : Bool) (behind : List Cell → Here → Outcome) (may : ℕ → Bool)

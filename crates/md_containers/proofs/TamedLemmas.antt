@@ -7,9 +7,9 @@ use Rattle.std.proofs.lemmas.Bool.{and_from, and_parts}
 use Rattle.md_engine.specs.declared.event.Name.{Name}
 use Rattle.md_engine.specs.declared.event.Name.TheVariants as n
 use Rattle.md_containers.specs.Unlisted.{in_place}
-use Rattle.md_seam.specs.Events.Grammar.{Expression, Many, Never, Nothing, One, Or, Then, and_then, behind}
-use Rattle.md_seam.specs.Events.Grammar.{behind_block, blocks, inside, may_end, one, or_else, white}
-use Rattle.md_seam.specs.Events.Names.{same_name}
+use Rattle.md_events.specs.Events.Grammar.{Expression, Many, Never, Nothing, One, Or, Then, and_then, behind}
+use Rattle.md_events.specs.Events.Grammar.{behind_block, blocks, inside, may_end, one, or_else, white}
+use Rattle.md_events.specs.Events.Names.{same_name}
 
 -- Containers.
 

@@ -7,10 +7,10 @@ use Rattle.md_engine.specs.declared.event.Name.{Name}
 use Rattle.md_containers.specs.ItemsHeld.{ItemsHeld}
 use Rattle.md_containers.specs.ItemsStand.{AmongBlocks, ItemsStand, Site, site_after}
 use Rattle.md_containers.specs.Unlisted.{in_place, unlisted_behind, unlisted_left}
-use Rattle.md_seam.specs.Events.Grammar.{Expression, behind, inside, left_behind, left_of}
-use Rattle.md_seam.specs.Events.Nested.{open_after, open_behind}
-use Rattle.md_seam.specs.Events.Spelled.{role}
-use Rattle.md_seam.proofs.GrammarLemmas.{Leads}
+use Rattle.md_events.specs.Events.Grammar.{Expression, behind, inside, left_behind, left_of}
+use Rattle.md_events.specs.Events.Nested.{open_after, open_behind}
+use Rattle.md_events.specs.Events.Spelled.{role}
+use Rattle.md_events.proofs.GrammarLemmas.{Leads}
 
 -- what is open after some events
 abbrev pub site_behind : Site → List Event → Site

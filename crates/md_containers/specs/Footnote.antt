@@ -20,8 +20,8 @@ use Rattle.md_meaning.specs.Ascii.{backslash, caret, colon, left_bracket, right_
 use Rattle.md_meaning.specs.Containers.{is_label_mark}
 use Rattle.md_meaning.specs.Rest.{is_white}
 use Rattle.md_leaves.specs.LeafStart as leaf
-use Rattle.md_seam.specs.Spaces.{IsRest, any_size, is_current, later_ready, rest_ready, sees_white, white_then}
-use Rattle.md_seam.specs.Transition.{Transition, entered, entered_link, exited, taken}
+use Rattle.md_events.specs.Spaces.{IsRest, any_size, is_current, later_ready, rest_ready, sees_white, white_then}
+use Rattle.md_events.specs.Transition.{Transition, entered, entered_link, exited, taken}
 
 -- what may be first after the indent where a footnote definition opens: `[`
 abbrev pub may_begin : ℕ → Bool

@@ -15,9 +15,9 @@ use Rattle.md_containers.specs.ItemPrefix.{ItemPassed, item_further}
 use Rattle.md_containers.specs.QuoteRule.{indent_events}
 use Rattle.md_meaning.specs.Ascii.{caret, colon, left_bracket}
 use Rattle.md_meaning.specs.State.{Container, InFootnote}
-use Rattle.md_seam.specs.Ahead.{begins_white, white_end, white_rest}
-use Rattle.md_seam.specs.Events.Nested.{enter, exit, pair}
-use Rattle.md_seam.specs.Spaces.{any_size, small_indent}
+use Rattle.md_events.specs.Ahead.{begins_white, white_end, white_rest}
+use Rattle.md_events.specs.Events.Nested.{enter, exit, pair}
+use Rattle.md_events.specs.Spaces.{any_size, small_indent}
 
 -- all whitespace after `:`
 abbrev pub white_events : List Cell → Point → List Event

@@ -23,9 +23,9 @@ use Rattle.md_containers.specs.ItemRule.{behind_columns}
 use Rattle.md_meaning.specs.Ascii.{backslash, caret, colon, left_bracket, right_bracket}
 use Rattle.md_meaning.specs.Containers.{is_label_mark}
 use Rattle.md_leaves.specs.LeafStart.{start_at}
-use Rattle.md_seam.specs.Ahead.{HasWhite, begins_white, white_rest}
-use Rattle.md_seam.specs.Events.Nested.{enter, enter_link, exit, pair}
-use Rattle.md_seam.specs.Spaces.{any_size}
+use Rattle.md_events.specs.Ahead.{HasWhite, begins_white, white_rest}
+use Rattle.md_events.specs.Events.Nested.{enter, enter_link, exit, pair}
+use Rattle.md_events.specs.Spaces.{any_size}
 
 -- The label.
 

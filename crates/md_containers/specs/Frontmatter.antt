@@ -12,8 +12,8 @@ use Rattle.md_engine.specs.Scheme.{After, Ends, Rank, Scheme, Position, ranked, 
 use Rattle.md_engine.specs.World.{World}
 use Rattle.md_meaning.specs.Ascii.{hyphen, plus}
 use Rattle.md_leaves.specs.Heading.{without_size}
-use Rattle.md_seam.specs.Spaces.{IsRest, any_size, ends_line, is_current, rest_ready, sees_white, white_then}
-use Rattle.md_seam.specs.Transition.{Transition, entered, exited, taken, tried}
+use Rattle.md_events.specs.Spaces.{IsRest, any_size, ends_line, is_current, rest_ready, sees_white, white_then}
+use Rattle.md_events.specs.Transition.{Transition, entered, exited, taken, tried}
 
 -- what marks a fence
 abbrev pub is_marker : ℕ → Bool

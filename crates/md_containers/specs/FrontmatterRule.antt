@@ -12,10 +12,10 @@ use Rattle.md_engine.specs.Sees.{IsStep}
 use Rattle.md_engine.specs.World.{Flags, World}
 use Rattle.md_leaves.specs.Heading.{without_size}
 use Rattle.md_code.specs.FenceRule.{behind_white_of, is_end, run_end, run_rest, run_size, with_event}
-use Rattle.md_seam.specs.Ahead.{HasWhite}
-use Rattle.md_seam.specs.Events.Nested.{enter, exit, pair}
-use Rattle.md_seam.specs.Look.{first_seen}
-use Rattle.md_seam.specs.Spaces.{any_size, is_current}
+use Rattle.md_events.specs.Ahead.{HasWhite}
+use Rattle.md_events.specs.Events.Nested.{enter, exit, pair}
+use Rattle.md_events.specs.Look.{first_seen}
+use Rattle.md_events.specs.Spaces.{any_size, is_current}
 use Rattle.md_containers.specs.Frontmatter.{cleared, is_marker}
 
 abbrev pub refuses : Here → Outcome

@@ -20,9 +20,9 @@ use Rattle.md_containers.specs.Interrupts.{interrupts}
 use Rattle.md_meaning.specs.Ascii.{dot, plus, right_parenthesis}
 use Rattle.md_meaning.specs.Containers.{is_bullet, is_digit}
 use Rattle.md_leaves.specs.LeafStart as leaf
-use Rattle.md_seam.specs.Look.{looks_behind, sees_other}
-use Rattle.md_seam.specs.Spaces.{IsRest, asking, calmed, ends_line, later_ready, rest_ready, sees_white, white_then}
-use Rattle.md_seam.specs.Transition.{Transition, entered, exited, taken, tried}
+use Rattle.md_events.specs.Look.{looks_behind, sees_other}
+use Rattle.md_events.specs.Spaces.{IsRest, asking, calmed, ends_line, later_ready, rest_ready, sees_white, white_then}
+use Rattle.md_events.specs.Transition.{Transition, entered, exited, taken, tried}
 
 -- what follows the digits of an ordered item
 abbrev pub ends_value : ℕ → Bool

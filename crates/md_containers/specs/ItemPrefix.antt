@@ -15,10 +15,10 @@ use Rattle.md_meaning.specs.Containers.{is_bullet, is_digit}
 use Rattle.md_meaning.specs.Leaves.{is_rule}
 use Rattle.md_meaning.specs.Rest.{is_blank}
 use Rattle.md_meaning.specs.State.{Container, InItem}
-use Rattle.md_seam.specs.Ahead.{begins_white, line_bytes, white_end, white_rest, white_size}
-use Rattle.md_seam.specs.Events.Nested.{enter, exit, pair}
-use Rattle.md_seam.specs.Look.{first_seen}
-use Rattle.md_seam.specs.Spaces.{ends_line, small_indent}
+use Rattle.md_events.specs.Ahead.{begins_white, line_bytes, white_end, white_rest, white_size}
+use Rattle.md_events.specs.Events.Nested.{enter, exit, pair}
+use Rattle.md_events.specs.Look.{first_seen}
+use Rattle.md_events.specs.Spaces.{ends_line, small_indent}
 
 -- an item, or a footnote definition, that opens or continues: as the line definition has it, the events before its
 -- content, and what is left of the line after them, and where

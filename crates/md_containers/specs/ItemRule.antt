@@ -22,10 +22,10 @@ use Rattle.md_meaning.specs.Rest.{is_blank, is_white}
 use Rattle.md_leaves.specs.BlankRule.{HasBlank}
 use Rattle.md_leaves.specs.BreakRule.{HasBreak}
 use Rattle.md_leaves.specs.LeafStart.{start_at}
-use Rattle.md_seam.specs.Ahead.{HasWhite, begins_white, line_bytes, white_end, white_rest, white_size}
-use Rattle.md_seam.specs.Events.Nested.{enter, exit, pair}
-use Rattle.md_seam.specs.Look.{first_seen}
-use Rattle.md_seam.specs.Spaces.{asking, calmed, ends_line}
+use Rattle.md_events.specs.Ahead.{HasWhite, begins_white, line_bytes, white_end, white_rest, white_size}
+use Rattle.md_events.specs.Events.Nested.{enter, exit, pair}
+use Rattle.md_events.specs.Look.{first_seen}
+use Rattle.md_events.specs.Spaces.{asking, calmed, ends_line}
 
 -- The digits that come first, at most so many: how many there are, where they end, and what follows them.
 

@@ -3,9 +3,9 @@ use Rattle.std.specs.Prelude.{◌≡◌, true, List, [], ◌∷◌}
 use Rattle.md_engine.specs.declared.event.Event.{Event}
 use Rattle.md_engine.specs.declared.event.Name.{Name}
 use Rattle.md_containers.specs.Listed.{Begins, Ends, Stays, Turn, turn}
-use Rattle.md_seam.specs.Events.Blocks.{is_block}
-use Rattle.md_seam.specs.Events.Nested.{open_behind}
-use Rattle.md_seam.specs.Events.Spelled.{role}
+use Rattle.md_events.specs.Events.Blocks.{is_block}
+use Rattle.md_events.specs.Events.Nested.{open_behind}
+use Rattle.md_events.specs.Events.Spelled.{role}
 
 -- whether what is innermost is a block, if anything is open
 abbrev pub HoldsItems : List Name → Type 0

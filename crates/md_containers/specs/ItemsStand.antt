@@ -8,10 +8,10 @@ use Rattle.md_engine.specs.declared.event.Kind.{Kind}
 use Rattle.md_engine.specs.declared.event.Kind.TheVariants.{Enter, Exit}
 use Rattle.md_engine.specs.declared.event.Point.{Point}
 use Rattle.md_meaning.specs.Containers.{is_bullet}
-use Rattle.md_seam.specs.Events.Spelled.{AsDigits, AsFootnoteLabel, AsItemMarker, FootnoteShape, ContainerRole}
-use Rattle.md_seam.specs.Events.Spelled.{IsEnding, IsPrefix, IsQuiet, IsQuoteMarker, ItemShape, LeafRole, OrderedShape}
-use Rattle.md_seam.specs.Events.Spelled.{Purpose, Role, Shape, TextRole, UnorderedShape, is_ordered, role}
-use Rattle.md_seam.specs.Events.Told.{OfItself, OfLeaf, Told, told_of}
+use Rattle.md_events.specs.Events.Spelled.{AsDigits, AsFootnoteLabel, AsItemMarker, FootnoteShape, ContainerRole}
+use Rattle.md_events.specs.Events.Spelled.{IsEnding, IsPrefix, IsQuiet, IsQuoteMarker, ItemShape, LeafRole, OrderedShape}
+use Rattle.md_events.specs.Events.Spelled.{Purpose, Role, Shape, TextRole, UnorderedShape, is_ordered, role}
+use Rattle.md_events.specs.Events.Told.{OfItself, OfLeaf, Told, told_of}
 
 -- `*`, `+`, `-`, `.` and `)` are markers of items (CommonMark 5.2)
 abbrev pub is_list_marker : ℕ → Bool

@@ -12,9 +12,9 @@ use Rattle.md_engine.specs.declared.event.Kind.TheVariants.{Enter, Exit}
 use Rattle.md_engine.specs.declared.event.Name.{Name}
 use Rattle.md_engine.specs.declared.event.Name.TheVariants as n
 use Rattle.md_engine.specs.declared.event.Point.{Point}
-use Rattle.md_seam.specs.Events.Blocks.{is_block}
-use Rattle.md_seam.specs.Events.Nested.{enter, exit, is_enter}
-use Rattle.md_seam.specs.Events.Spelled.{AsItemMarker, ContainerRole, ItemShape, Role, TextRole, is_ordered, role}
+use Rattle.md_events.specs.Events.Blocks.{is_block}
+use Rattle.md_events.specs.Events.Nested.{enter, exit, is_enter}
+use Rattle.md_events.specs.Events.Spelled.{AsItemMarker, ContainerRole, ItemShape, Role, TextRole, is_ordered, role}
 
 -- Roles.
 

@@ -7,8 +7,8 @@ use Rattle.md_engine.specs.World.{World}
 use Rattle.md_meaning.specs.Containers.{is_bullet}
 use Rattle.md_meaning.specs.Rest.{is_white}
 use Rattle.md_containers.specs.Item.{item_held, unseen}
-use Rattle.md_seam.specs.Spaces.{calmed}
-use Rattle.md_seam.specs.Transition.{entered, exited, taken}
+use Rattle.md_events.specs.Spaces.{calmed}
+use Rattle.md_events.specs.Transition.{entered, exited, taken}
 
 -- the byte that is so much further
 abbrev pub byte_at : World → ℕ → ℕ

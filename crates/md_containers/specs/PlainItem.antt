@@ -5,9 +5,9 @@ use Rattle.md_engine.specs.Run.{reading}
 use Rattle.md_engine.specs.Staying.{along}
 use Rattle.md_engine.specs.World.{World}
 use Rattle.md_containers.specs.Item.{item_gone_on}
-use Rattle.md_seam.specs.Look.{looks_behind}
-use Rattle.md_seam.specs.Spaces.{calmed}
-use Rattle.md_seam.specs.Transition.{entered, exited}
+use Rattle.md_events.specs.Look.{looks_behind}
+use Rattle.md_events.specs.Spaces.{calmed}
+use Rattle.md_events.specs.Transition.{entered, exited}
 
 -- spaces are from an index on up to another,
 abbrev pub AreSpaces : List ℕ → ℕ → ℕ → Type 0

@@ -13,8 +13,8 @@ use Rattle.md_engine.specs.declared.tokenizer.Scratch.{Scratch}
 use Rattle.md_engine.specs.Scheme.{After, Ends, Rank, Scheme, Position, ranked}
 use Rattle.md_engine.specs.World.{World}
 use Rattle.md_meaning.specs.Bytes.{is_end}
-use Rattle.md_seam.specs.Spaces.{IsRest, is_current, later_ready, rest_ready, sees_white, small_indent, white_then}
-use Rattle.md_seam.specs.Transition.{Transition, entered, exited, taken, tried}
+use Rattle.md_events.specs.Spaces.{IsRest, is_current, later_ready, rest_ready, sees_white, small_indent, white_then}
+use Rattle.md_events.specs.Transition.{Transition, entered, exited, taken, tried}
 
 -- what may be first after the indent of a quote's prefix: `>`
 abbrev pub may_begin : ℕ → Bool

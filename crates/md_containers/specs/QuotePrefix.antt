@@ -3,7 +3,7 @@ use Rattle.std.specs.Prelude.{◌≡◌, ◌<◌, Some}
 use Rattle.md_engine.specs.declared.event.Name.TheVariants.{BlockQuoteMarker, BlockQuotePrefix, SpaceOrTab}
 use Rattle.md_engine.specs.Run.{reading}
 use Rattle.md_engine.specs.World.{World, after, looks, looks_at}
-use Rattle.md_seam.specs.Transition.{entered, exited, taken}
+use Rattle.md_events.specs.Transition.{entered, exited, taken}
 
 -- `>` and a space are here, and after them something that may be read
 pub record IsPlainPrefix (w : World) : Type 0 where

@@ -19,11 +19,11 @@ use Rattle.md_leaves.specs.BlankRule.{HasBlank, blank_at, blank_events}
 use Rattle.md_meaning.specs.Alert.{first_kind, kinds, marker_of}
 use Rattle.md_meaning.specs.declared.alert.AlertKind.{AlertKind}
 use Rattle.md_meaning.specs.Bytes.{is_end}
-use Rattle.md_seam.specs.Ahead.{HasWhite, begins_white, from_ending, line_bytes, line_end, point_after, white_end}
-use Rattle.md_seam.specs.Ahead.{white_rest}
-use Rattle.md_seam.specs.Events.Nested.{enter, exit, pair}
+use Rattle.md_events.specs.Ahead.{HasWhite, begins_white, from_ending, line_bytes, line_end, point_after, white_end}
+use Rattle.md_events.specs.Ahead.{white_rest}
+use Rattle.md_events.specs.Events.Nested.{enter, exit, pair}
 use Rattle.md_meaning.specs.Rest.{is_blank, is_white}
-use Rattle.md_seam.specs.Spaces.{calmed, small_indent}
+use Rattle.md_events.specs.Spaces.{calmed, small_indent}
 
 -- the end of the prefix
 abbrev pub prefix_ended : List Cell → Here → Outcome

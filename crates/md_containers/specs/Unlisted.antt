@@ -6,7 +6,7 @@ use Rattle.md_engine.specs.declared.event.Kind.{Kind}
 use Rattle.md_engine.specs.declared.event.Kind.TheVariants.{Enter, Exit}
 use Rattle.md_engine.specs.declared.event.Name.{Name}
 use Rattle.md_engine.specs.declared.event.Name.TheVariants as n
-use Rattle.md_seam.specs.Events.Grammar.{Expression, behind, inside, is_whole, may_end, texts}
+use Rattle.md_events.specs.Events.Grammar.{Expression, behind, inside, is_whole, may_end, texts}
 
 -- the name in whose place a name is: no item is in a container by the grammar of events
 abbrev pub in_place : Name → Name

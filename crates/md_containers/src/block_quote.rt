@@ -26,9 +26,9 @@ ghost use Rattle.md_containers.specs.Quote.{cont_after_transition, cont_before_t
 ghost use Rattle.md_containers.specs.Quote.{forgotten, indent_code, marker_code, may_begin, name_of};
 ghost use Rattle.md_containers.specs.Quote.{open_after_transition, open_before_transition, open_start_transition};
 ghost use Rattle.md_containers.specs.Quote.{prefix_end_transition, quote_transition, start_transition};
-ghost use Rattle.md_seam.specs.Look.{may_with};
-ghost use Rattle.md_seam.specs.Spaces.{is_current, sees_white};
-ghost use Rattle.md_seam.specs.Transition.{IsAt, NeedsNothing};
+ghost use Rattle.md_events.specs.Look.{may_with};
+ghost use Rattle.md_events.specs.Spaces.{is_current, sees_white};
+ghost use Rattle.md_events.specs.Transition.{IsAt, NeedsNothing};
 
 use crate::room::{ahead, enter, exit, has_room};
 use md_engine::event::Name;
@@ -38,7 +38,7 @@ use md_engine::state::blank_line::State as BlankState;
 use md_engine::state::block_quote::State as QuoteState;
 use md_engine::state::{Name as StateName, State};
 use md_engine::tokenizer::Tokenizer;
-use md_seam::space_or_tab::{is_space_or_tab, small_indent, space_or_tab_min_max};
+use md_events::space_or_tab::{is_space_or_tab, small_indent, space_or_tab_min_max};
 
 /// Whether the prefix of a quote may begin here, by what is first after whitespace: `>`, if that is known.
 pub fn may_begin(first: Option<u8>) -> bool

@@ -25,8 +25,8 @@ ghost use Rattle.md_engine.specs.declared.state.Name.{Name as StateName};
 ghost use Rattle.md_engine.specs.declared.state.State.{State};
 ghost use Rattle.md_engine.specs.declared.state.frontmatter.State.{State as FrontState};
 ghost use Rattle.md_leaves.specs.Heading.{without_size};
-ghost use Rattle.md_seam.specs.Stays.{TakesEach};
-ghost use Rattle.md_seam.specs.Transition.{IsAt, NeedsNothing};
+ghost use Rattle.md_events.specs.Stays.{TakesEach};
+ghost use Rattle.md_events.specs.Transition.{IsAt, NeedsNothing};
 
 use md_engine::event::Name;
 use md_engine::message::Message;
@@ -35,8 +35,8 @@ use md_engine::state::frontmatter::State as FrontState;
 use md_engine::state::{Name as StateName, State};
 use md_engine::stay::Stay;
 use md_engine::tokenizer::{Scratch, Tokenizer};
+use md_events::space_or_tab::{is_space_or_tab, space_or_tab_min_max};
 use md_leaves::blank_line::ends_line;
-use md_seam::space_or_tab::{is_space_or_tab, space_or_tab_min_max};
 
 /// How many markers a fence has.
 const SIZE: usize = 3;

@@ -27,8 +27,8 @@ ghost use Rattle.md_containers.specs.Footnote.{marker_after_transition};
 ghost use Rattle.md_containers.specs.Footnote.{may_begin, refused, start_transition, taken_as};
 ghost use Rattle.md_containers.specs.Footnote.{whitespace_after_transition};
 ghost use Rattle.md_meaning.specs.Containers.{is_label_mark};
-ghost use Rattle.md_seam.specs.Look.{may_with};
-ghost use Rattle.md_seam.specs.Transition.{IsAt, NeedsNothing};
+ghost use Rattle.md_events.specs.Look.{may_with};
+ghost use Rattle.md_events.specs.Transition.{IsAt, NeedsNothing};
 
 pub use crate::list_item::{cont_blank, cont_filled, cont_start};
 use md_engine::event::{Content, Link, Name};
@@ -36,7 +36,7 @@ use md_engine::or_error;
 use md_engine::state::gfm_footnote_definition::State as FootnoteState;
 use md_engine::state::{Name as StateName, State};
 use md_engine::tokenizer::Tokenizer;
-use md_seam::space_or_tab::{is_space_or_tab, small_indent, space_or_tab, space_or_tab_min_max};
+use md_events::space_or_tab::{is_space_or_tab, small_indent, space_or_tab, space_or_tab_min_max};
 
 /// A label has at most so many bytes.
 const MOST: usize = 999;

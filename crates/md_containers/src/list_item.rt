@@ -28,10 +28,10 @@ ghost use Rattle.md_containers.specs.Item.{may_begin, may_break, prefix_other_tr
 ghost use Rattle.md_containers.specs.Item.{value_transition, whitespace_after_transition};
 ghost use Rattle.md_containers.specs.Item.{whitespace_transition, width_here};
 ghost use Rattle.md_meaning.specs.Containers.{is_bullet, is_digit};
-ghost use Rattle.md_seam.specs.Look.{looks_behind, may_with};
-ghost use Rattle.md_seam.specs.Spaces.{sees_white};
-ghost use Rattle.md_seam.specs.Stays.{TakesEach};
-ghost use Rattle.md_seam.specs.Transition.{IsAt, NeedsNothing};
+ghost use Rattle.md_events.specs.Look.{looks_behind, may_with};
+ghost use Rattle.md_events.specs.Spaces.{sees_white};
+ghost use Rattle.md_events.specs.Stays.{TakesEach};
+ghost use Rattle.md_events.specs.Transition.{IsAt, NeedsNothing};
 
 use crate::interrupts::interrupts;
 use md_engine::event::Name;
@@ -42,10 +42,10 @@ use md_engine::state::thematic_break::State as BreakState;
 use md_engine::state::{Name as StateName, State};
 use md_engine::stay::Stay;
 use md_engine::tokenizer::{Tokenizer, Whitespace};
-use md_leaves::blank_line::ends_line;
-use md_seam::space_or_tab::{
+use md_events::space_or_tab::{
     is_space_or_tab, look_behind, sees_other, small_indent, space_or_tab_min_max,
 };
+use md_leaves::blank_line::ends_line;
 
 /// A value has at most so many digits.
 const DIGITS: usize = 9;

@@ -15,7 +15,7 @@ use md_engine::class::is_white;
 use md_engine::event::Name;
 use md_engine::message::Message;
 use md_engine::tokenizer::{Container, Tokenizer, Whitespace};
-use md_seam::space_or_tab::look_behind;
+use md_events::space_or_tab::look_behind;
 
 /// Whether a bullet and one space are here, and after them another byte than this bullet, which may be read now.
 pub fn is_plain_bullet(tokenizer: &Tokenizer) -> bool

@@ -4,7 +4,7 @@
 ghost use Rattle.std.specs.Prelude.{◌≡◌, ◌+◌, ◌^◌, ◌<◌, ◌≤◌, true};
 ghost use Rattle.std.specs.Vec.{vec_capacity, vec_len};
 ghost use Rattle.md_containers.specs.Ahead.{ahead};
-ghost use Rattle.md_seam.specs.Events.Nested.{enter, exit};
+ghost use Rattle.md_events.specs.Events.Nested.{enter, exit};
 
 use md_engine::event::{Event, Kind, Name, Point};
 use md_engine::tokenizer::Tokenizer;

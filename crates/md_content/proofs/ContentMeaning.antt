@@ -17,15 +17,15 @@ use Rattle.md_engine.proofs.StepOf.{moves, passes, steps-as}
 use Rattle.md_content.specs.ChunkRule.{ChunkMeans, HasChunk, chunk_at, inside_chunk, longer}
 use Rattle.md_content.specs.Chunks.{ChunkInvariant, chunk_inside_code, chunk_ready, chunk_start_transition, chunk_transition}
 use Rattle.md_content.specs.Chunks.{content_link, rest_taken, unbegun}
-use Rattle.md_seam.proofs.LineTaken.{bytes-none, taken-more}
+use Rattle.md_events.proofs.LineTaken.{bytes-none, taken-more}
 use Rattle.md_meaning.specs.Rest.{Rest}
 use Rattle.md_link_definitions.specs.OpenText.{begun_rest, text_behind}
 use Rattle.md_link_definitions.specs.WholeCells.{rest_here, whole_line}
-use Rattle.md_seam.specs.Ahead.{from_ending, line_end}
-use Rattle.md_seam.specs.Events.Nested.{enter_link, exit}
-use Rattle.md_seam.specs.Lent.{whole_from}
-use Rattle.md_seam.specs.Spaces.{IsRest, ends_line}
-use Rattle.md_seam.specs.WholeLine.{line_taken}
+use Rattle.md_events.specs.Ahead.{from_ending, line_end}
+use Rattle.md_events.specs.Events.Nested.{enter_link, exit}
+use Rattle.md_events.specs.Lent.{whole_from}
+use Rattle.md_events.specs.Spaces.{IsRest, ends_line}
+use Rattle.md_events.specs.WholeLine.{line_taken}
 
 -- at rest no line has begun
 rest-unbegun : (s : Scratch) → IsRest s → unbegun s ≡ s

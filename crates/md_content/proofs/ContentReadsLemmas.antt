@@ -18,9 +18,9 @@ use Rattle.md_content.specs.ContentRule.{content_over}
 use Rattle.md_content.specs.States.{ContentStep, content_behaves, content_scheme, content_start}
 use Rattle.md_content.proofs.ContentRuns.{content_outcome, content_push}
 use Rattle.md_content.proofs.ContentWhole.{over, part-comes-to}
-use Rattle.md_seam.specs.declared.inline.Chunk.{Chunk}
-use Rattle.md_seam.specs.Parts.{AreChunks}
-use Rattle.md_seam.specs.Spaces.{IsRest}
+use Rattle.md_events.specs.declared.inline.Chunk.{Chunk}
+use Rattle.md_events.specs.Parts.{AreChunks}
+use Rattle.md_events.specs.Spaces.{IsRest}
 
 -- Where a part is read.
 

@@ -14,10 +14,10 @@ use Rattle.md_content.proofs.DefinitionTakes.{DefinitionTakes, definition-takes}
 use Rattle.md_link_definitions.specs.DefinitionRule.{DefinitionParts, definition_end, definition_events, definition_parts}
 use Rattle.md_link_definitions.specs.DefinitionRule.{definition_rest, parts_labelled}
 use Rattle.md_link_definitions.specs.LabelRule.{label_parts}
-use Rattle.md_seam.specs.Events.Nested.{pair}
-use Rattle.md_seam.specs.Look.{first_seen}
-use Rattle.md_seam.specs.Spaces.{any_size}
-use Rattle.md_seam.proofs.AheadLemmas.{none-rest}
+use Rattle.md_events.specs.Events.Nested.{pair}
+use Rattle.md_events.specs.Look.{first_seen}
+use Rattle.md_events.specs.Spaces.{any_size}
+use Rattle.md_events.proofs.AheadLemmas.{none-rest}
 
 -- a definition takes some cells, where definitions are on
 pub in-takes : (options : ParseOptions) (cells : List Cell) (p : Point) (d : DefinitionParts) →

@@ -8,7 +8,7 @@ use Rattle.md_engine.specs.World.{World}
 use Rattle.md_content.specs.ContentRule.{content_over}
 use Rattle.md_content.specs.DefinitionsRule.{content_at}
 use Rattle.md_content.specs.States.{content_behaves, content_start}
-use Rattle.md_seam.specs.Ahead.{point_after}
+use Rattle.md_events.specs.Ahead.{point_after}
 
 -- what follows it
 abbrev pub over : ParseOptions → List Cell → World → Here

@@ -21,10 +21,10 @@ use Rattle.md_content.specs.WholeDefinitions.{definition_part}
 use Rattle.md_content.specs.WholeDefinitions.{IsDefinition, IsWritten, past}
 use Rattle.md_content.proofs.WholeLines.{Followed, end-behind, first-vs, firsts, followed, has-byte, setting_over}
 use Rattle.md_content.proofs.WholeLines.{within, world-point, world-setting}
-use Rattle.md_seam.specs.declared.inline.Chunk.{Chunk}
-use Rattle.md_seam.specs.Events.Nested.{pair}
-use Rattle.md_seam.specs.Parts.{AreChunks, ArePlaced, IsChunk}
-use Rattle.md_seam.proofs.PlacesLemmas.{at-next}
+use Rattle.md_events.specs.declared.inline.Chunk.{Chunk}
+use Rattle.md_events.specs.Events.Nested.{pair}
+use Rattle.md_events.specs.Parts.{AreChunks, ArePlaced, IsChunk}
+use Rattle.md_events.proofs.PlacesLemmas.{at-next}
 use Rattle.std.proofs.lemmas.List.Elements.{All-append, All-drop, All-head, All-nil}
 use Rattle.md_content.proofs.DefinitionSteps.{all-placed, definition-placed, end-placed, has-text, reads}
 use Rattle.md_content.proofs.DefinitionSteps.{step-last, step-on}

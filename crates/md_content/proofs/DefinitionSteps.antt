@@ -34,14 +34,14 @@ use Rattle.md_link_definitions.specs.DefinitionRule.{definition_rest, lone, titl
 use Rattle.md_link_definitions.specs.GapRule.{ending_rest}
 use Rattle.md_link_definitions.specs.TitleRule.{title_parts}
 use Rattle.md_link_definitions.specs.PlainDestination.{is_plain_byte}
-use Rattle.md_seam.specs.declared.inline.Chunk.{Chunk}
-use Rattle.md_seam.specs.Events.Nested.{enter, enter_link, exit, pair}
-use Rattle.md_seam.specs.Parts.{ArePlaced, IsChunk}
-use Rattle.md_seam.specs.Spaces.{any_size}
-use Rattle.md_seam.proofs.AheadLemmas.{none-rest}
-use Rattle.md_seam.proofs.FeedLines.{Stops, behind_last, cell, feed-next, feed-none, past-next}
-use Rattle.md_seam.proofs.PlacesLemmas.{at-next}
-use Rattle.md_seam.proofs.PointOrder.{placed-same}
+use Rattle.md_events.specs.declared.inline.Chunk.{Chunk}
+use Rattle.md_events.specs.Events.Nested.{enter, enter_link, exit, pair}
+use Rattle.md_events.specs.Parts.{ArePlaced, IsChunk}
+use Rattle.md_events.specs.Spaces.{any_size}
+use Rattle.md_events.proofs.AheadLemmas.{none-rest}
+use Rattle.md_events.proofs.FeedLines.{Stops, behind_last, cell, feed-next, feed-none, past-next}
+use Rattle.md_events.proofs.PlacesLemmas.{at-next}
+use Rattle.md_events.proofs.PointOrder.{placed-same}
 use Rattle.std.proofs.lemmas.List.Elements.{All-cons, All-nil}
 
 -- all bytes of such a line are one column wide

@@ -20,10 +20,10 @@ use Rattle.md_link_definitions.specs.LabelRule.{LabelParts, label_from, label_pa
 use Rattle.md_link_definitions.specs.Title.{is_mark}
 use Rattle.md_link_definitions.specs.TitleRule.{TitleParts, parts_closed, parts_from, title_parts}
 use Rattle.md_link_definitions.proofs.LineCells.{mark-split}
-use Rattle.md_seam.specs.Ahead.{line_bytes, point_after, white_end, white_rest}
-use Rattle.md_seam.specs.Look.{first_seen}
-use Rattle.md_seam.specs.Spaces.{any_size, ends_line}
-use Rattle.md_seam.proofs.FeedLines.{point_after-append}
+use Rattle.md_events.specs.Ahead.{line_bytes, point_after, white_end, white_rest}
+use Rattle.md_events.specs.Look.{first_seen}
+use Rattle.md_events.specs.Spaces.{any_size, ends_line}
+use Rattle.md_events.proofs.FeedLines.{point_after-append}
 
 -- the cells before what is left were taken, from one point to another
 pub record Takes (cells : List Cell) (p : Point) (rest : List Cell) (q : Point) : Type 0 where

@@ -30,10 +30,10 @@ use Rattle.md_content.proofs.DefinitionTakes.{takes-end}
 use Rattle.md_link_definitions.specs.DefinitionRule.{DefinitionParts, definition_end, definition_events}
 use Rattle.md_link_definitions.specs.DefinitionRule.{definition_rest}
 use Rattle.md_link_definitions.proofs.DefinitionWhole.{definition-whole, taken_definition}
-use Rattle.md_seam.specs.Ahead.{point_after}
-use Rattle.md_seam.specs.Events.Nested.{pair}
-use Rattle.md_seam.specs.Spaces.{IsRest}
-use Rattle.md_seam.proofs.LookLemmas.{first-seen}
+use Rattle.md_events.specs.Ahead.{point_after}
+use Rattle.md_events.specs.Events.Nested.{pair}
+use Rattle.md_events.specs.Spaces.{IsRest}
+use Rattle.md_events.proofs.LookLemmas.{first-seen}
 
 -- a paragraph takes all
 pub paragraph-whole : (cells : List Cell) (h : Here) →

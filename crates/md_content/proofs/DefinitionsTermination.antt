@@ -18,8 +18,8 @@ use Rattle.md_content.specs.Definitions.{definitions_scheme, definitions_transit
 use Rattle.md_content.proofs.ParagraphTermination.{ParagraphFits}
 use Rattle.md_link_definitions.specs.Definition.{definition_scheme}
 use Rattle.md_link_definitions.proofs.DefinitionTermination.{DefinitionFits}
-use Rattle.md_seam.specs.Spaces.{IsRest, rest_ready}
-use Rattle.md_seam.proofs.SpacesTermination.{Does, seen-some}
+use Rattle.md_events.specs.Spaces.{IsRest, rest_ready}
+use Rattle.md_events.proofs.SpacesTermination.{Does, seen-some}
 
 -- a table that has its states, definitions and the paragraph
 pub record DefinitionsFits (T : Scheme) : Type 1 where

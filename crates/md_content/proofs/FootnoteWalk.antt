@@ -7,8 +7,8 @@ use Rattle.md_engine.specs.declared.event.Kind.{Kind}
 use Rattle.md_engine.specs.declared.event.Kind.TheVariants.{Enter, Exit}
 use Rattle.md_meaning.specs.Label.{normal_form}
 use Rattle.md_content.specs.FootnoteLabels.{footnote_labels_from, is_footnote_label}
-use Rattle.md_seam.specs.Events.Nested.{is_enter, is_exit}
-use Rattle.md_seam.specs.Events.Spelled.{byte_at}
+use Rattle.md_events.specs.Events.Nested.{is_enter, is_exit}
+use Rattle.md_events.specs.Events.Spelled.{byte_at}
 
 -- an event that is no label's is passed
 label-passed : (bytes : List ℕ) (from : ℕ) (e : Event) (es : List Event) → is_footnote_label e.name ≡ false →

@@ -9,12 +9,12 @@ use Rattle.md_engine.specs.declared.event.Event.{Event}
 use Rattle.md_engine.specs.Place.{IsPlaced}
 use Rattle.md_content.specs.Joined.{content_behind, goes_on, is_content, is_of_prefix, joined}
 use Rattle.md_content.specs.Joined.{joined_with}
-use Rattle.md_seam.specs.Events.Nested.{is_enter, is_exit}
-use Rattle.md_seam.specs.Events.Prefix.{is_prefix}
+use Rattle.md_events.specs.Events.Nested.{is_enter, is_exit}
+use Rattle.md_events.specs.Events.Prefix.{is_prefix}
 use Rattle.std.specs.List.{position_or_len, prefix_len}
 use Rattle.std.proofs.lemmas.List.Sums.{passes_at_first}
-use Rattle.md_seam.specs.Events.Inline.{is_line_ending}
-use Rattle.md_seam.specs.Parts.{ArePlaced}
+use Rattle.md_events.specs.Events.Inline.{is_line_ending}
+use Rattle.md_events.specs.Parts.{ArePlaced}
 
 -- the first of some events, and those that are joined with it
 pub joined-head : (l : List Event) (j : ℕ) (d d' : Event) → 0 < length l → j ≡ joined_with l →

@@ -23,11 +23,11 @@ use Rattle.md_link_definitions.specs.LabelRule.{LabelParts, is_label_text, label
 use Rattle.md_meaning.specs.Ascii.{backslash, colon, left_bracket, right_bracket}
 use Rattle.md_meaning.specs.Definition.{destination_at as found_destination}
 use Rattle.md_meaning.specs.Rest.{is_white}
-use Rattle.md_seam.specs.Ahead.{line_bytes, white_rest}
-use Rattle.md_seam.specs.Spaces.{any_size}
-use Rattle.md_seam.proofs.AheadLemmas.{none-rest}
-use Rattle.md_seam.proofs.FeedLines.{cell, feed-next}
-use Rattle.md_seam.proofs.PlainSteps.{range-next, range-none}
+use Rattle.md_events.specs.Ahead.{line_bytes, white_rest}
+use Rattle.md_events.specs.Spaces.{any_size}
+use Rattle.md_events.proofs.AheadLemmas.{none-rest}
+use Rattle.md_events.proofs.FeedLines.{cell, feed-next}
+use Rattle.md_events.proofs.PlainSteps.{range-next, range-none}
 
 -- By cells.
 

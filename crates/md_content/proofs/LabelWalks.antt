@@ -11,7 +11,7 @@ use Rattle.md_engine.specs.declared.event.Event.{Event}
 use Rattle.md_content.specs.LabelTexts.{on_one_line}
 use Rattle.md_content.specs.Labels.{begins_label, is_label, label_text, labels_in}
 use Rattle.md_content.proofs.LabelTexts.{normal-on_one_line}
-use Rattle.md_seam.specs.Events.Nested.{is_enter}
+use Rattle.md_events.specs.Events.Nested.{is_enter}
 
 -- Bytes on one line.
 

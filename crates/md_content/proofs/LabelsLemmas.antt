@@ -4,7 +4,7 @@ use Rattle.std.proofs.lemmas.Bool.{and_parts}
 use Rattle.std.specs.List.{list_all}
 use Rattle.md_engine.specs.declared.event.Event.{Event}
 use Rattle.md_content.specs.Labels.{is_label, labels_in}
-use Rattle.md_seam.specs.Events.Nested.{is_enter}
+use Rattle.md_events.specs.Events.Nested.{is_enter}
 
 -- no label is among these
 abbrev pub has_no_label : List Event → Bool

@@ -16,10 +16,10 @@ use Rattle.md_engine.proofs.Points.{cells-fall}
 use Rattle.md_engine.proofs.Sound.{placed-next}
 use Rattle.md_content.specs.Paragraph.{text_link}
 use Rattle.md_content.specs.ParagraphRule.{line_events}
-use Rattle.md_seam.specs.Ahead.{point_after}
-use Rattle.md_seam.specs.Events.Nested.{enter_link, exit}
-use Rattle.md_seam.proofs.FeedLines.{feed-next, feed-none}
-use Rattle.md_seam.proofs.PointOrder.{Before, next-within, placed-same, reached-column, walk-before}
+use Rattle.md_events.specs.Ahead.{point_after}
+use Rattle.md_events.specs.Events.Nested.{enter_link, exit}
+use Rattle.md_events.proofs.FeedLines.{feed-next, feed-none}
+use Rattle.md_events.proofs.PointOrder.{Before, next-within, placed-same, reached-column, walk-before}
 
 -- The order of points, and their lines.
 

@@ -19,12 +19,12 @@ use Rattle.md_content.specs.ContentReads.{content_events, content_readings, want
 use Rattle.md_content.specs.Joined.{ends_content, goes_on, is_content, joined, joined_with}
 use Rattle.md_content.specs.Lines.{begins_chunk, is_passed, lines_from}
 use Rattle.md_content.proofs.JoinedLemmas.{joined-head, joined-placed}
-use Rattle.md_seam.specs.declared.inline.Chunk.{Chunk}
-use Rattle.md_seam.specs.Events.Nested.{is_exit}
-use Rattle.md_seam.specs.Events.Prefix.{is_prefix}
-use Rattle.md_seam.specs.Parts.{AreChunks, ArePlaced}
-use Rattle.md_seam.specs.Substituted.{Begun, chunk_of, chunks_behind, chunks_from, share, stays, wanted, wanted_at}
-use Rattle.md_seam.proofs.SubstitutedLemmas.{Leads, chunks-placed, leads-chunk, leads-event}
+use Rattle.md_events.specs.declared.inline.Chunk.{Chunk}
+use Rattle.md_events.specs.Events.Nested.{is_exit}
+use Rattle.md_events.specs.Events.Prefix.{is_prefix}
+use Rattle.md_events.specs.Parts.{AreChunks, ArePlaced}
+use Rattle.md_events.specs.Substituted.{Begun, chunk_of, chunks_behind, chunks_from, share, stays, wanted, wanted_at}
+use Rattle.md_events.proofs.SubstitutedLemmas.{Leads, chunks-placed, leads-chunk, leads-event}
 
 -- An event with which no line ends is joined with none.
 

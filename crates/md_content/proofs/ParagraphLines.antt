@@ -28,14 +28,14 @@ use Rattle.md_content.specs.WholeLines.{after_of, are_lines, is_followed, is_wit
 use Rattle.md_content.proofs.LinesLemmas.{joined-stays, leads-line, lines-placed, lines-split, past-prefix}
 use Rattle.md_content.proofs.LinesLemmas.{prefix-stays}
 use Rattle.md_content.proofs.WholeLines.{first-vs, followed, has-byte, whole-lines, within}
-use Rattle.md_seam.specs.declared.inline.Chunk.{Chunk}
-use Rattle.md_seam.specs.Events.Inline.{is_line_ending}
-use Rattle.md_seam.specs.Events.Nested.{enter, enter_link, exit, is_enter, is_exit}
-use Rattle.md_seam.specs.Parts.{ArePlaced, IsChunk}
-use Rattle.md_seam.specs.Events.Prefix.{is_prefix}
-use Rattle.md_seam.specs.Substituted.{Begun, Readings, Substituted, belongs, chunk_of, is_plain_prefix, share, wanted}
-use Rattle.md_seam.specs.Substituted.{wanted_at}
-use Rattle.md_seam.proofs.SubstitutedLemmas.{Leads, SubstitutedBy, leads-event}
+use Rattle.md_events.specs.declared.inline.Chunk.{Chunk}
+use Rattle.md_events.specs.Events.Inline.{is_line_ending}
+use Rattle.md_events.specs.Events.Nested.{enter, enter_link, exit, is_enter, is_exit}
+use Rattle.md_events.specs.Parts.{ArePlaced, IsChunk}
+use Rattle.md_events.specs.Events.Prefix.{is_prefix}
+use Rattle.md_events.specs.Substituted.{Begun, Readings, Substituted, belongs, chunk_of, is_plain_prefix, share, wanted}
+use Rattle.md_events.specs.Substituted.{wanted_at}
+use Rattle.md_events.proofs.SubstitutedLemmas.{Leads, SubstitutedBy, leads-event}
 use Rattle.md_engine.specs.declared.event.Content.{Content}
 
 -- What belongs to a line.

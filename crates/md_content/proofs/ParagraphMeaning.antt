@@ -14,7 +14,7 @@ use Rattle.md_engine.proofs.StepOf.{moves, passes, steps-as}
 use Rattle.md_content.specs.Paragraph.{inside_code, line_start_transition, paragraph_transition, start_transition}
 use Rattle.md_content.specs.Paragraph.{text_link}
 use Rattle.md_content.specs.ParagraphRule.{HasParagraph, ParagraphMeans, inside_paragraph, paragraph_at, paragraph_line}
-use Rattle.md_seam.specs.Events.Nested.{enter, enter_link, exit}
+use Rattle.md_events.specs.Events.Nested.{enter, enter_link, exit}
 
 paragraph_start_means : (B : Behaviour) (feed : Feed) (w : World) → HasParagraph B →
     Steps B feed (Next (n.Paragraph paragraph.Start)) w (start_transition w).to (start_transition w).world

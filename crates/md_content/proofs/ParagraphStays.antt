@@ -6,8 +6,8 @@ use Rattle.md_engine.specs.declared.state.State.TheVariants.{Next}
 use Rattle.md_engine.specs.declared.stay.Stay.TheVariants.{Line}
 use Rattle.md_content.specs.Paragraph.{inside_code, paragraph_transition}
 use Rattle.md_content.proofs.StaysLemmas.{not-ending}
-use Rattle.md_seam.specs.Stays.{TakesEach}
-use Rattle.md_seam.specs.Transition.{taken}
+use Rattle.md_events.specs.Stays.{TakesEach}
+use Rattle.md_events.specs.Transition.{taken}
 
 pub paragraph-takes : TakesEach Line (n.Paragraph paragraph.Inside) (paragraph_transition paragraph.Inside)
 paragraph-takes w b e h =

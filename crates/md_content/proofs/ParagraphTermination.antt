@@ -11,9 +11,9 @@ use Rattle.md_engine.proofs.Local.{accepts, consumes, turns}
 use Rattle.md_engine.proofs.Points.{takes}
 use Rattle.md_content.specs.Paragraph.{inside_code, line_start_transition, paragraph_scheme, paragraph_transition}
 use Rattle.md_content.specs.Paragraph.{start_transition, text_link}
-use Rattle.md_seam.specs.Spaces.{rest_ready}
-use Rattle.md_seam.specs.Transition.{entered, entered_link, exited, taken}
-use Rattle.md_seam.proofs.SpacesTermination.{Does, seen-some}
+use Rattle.md_events.specs.Spaces.{rest_ready}
+use Rattle.md_events.specs.Transition.{entered, entered_link, exited, taken}
+use Rattle.md_events.proofs.SpacesTermination.{Does, seen-some}
 
 pub record ParagraphFits (T : Scheme) : Type 1 where
   pub each : (state : ParagraphState) → Fits T paragraph_scheme (n.Paragraph state)

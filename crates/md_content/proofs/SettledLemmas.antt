@@ -9,9 +9,9 @@ use Rattle.md_engine.specs.declared.event.Event.{Event}
 use Rattle.md_engine.specs.declared.event.Name.TheVariants as n
 use Rattle.md_engine.specs.Place.{IsPlaced, first_point}
 use Rattle.md_content.specs.ContentReads.{is_piece_end, settled}
-use Rattle.md_seam.specs.declared.inline.Chunk.{Chunk}
-use Rattle.md_seam.specs.Events.Nested.{exit}
-use Rattle.md_seam.specs.Parts.{AreChunks, ArePlaced}
+use Rattle.md_events.specs.declared.inline.Chunk.{Chunk}
+use Rattle.md_events.specs.Events.Nested.{exit}
+use Rattle.md_events.specs.Parts.{AreChunks, ArePlaced}
 
 -- the events before a place are settled, with so many of the chunks
 pub record Settling (chunks : List Chunk) (all : List Event) (i k : ℕ) (events : List Event) : Type 0 where

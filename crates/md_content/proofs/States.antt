@@ -35,9 +35,9 @@ use Rattle.md_link_definitions.proofs.LabelTermination.{LabelFits, label_termina
 use Rattle.md_link_definitions.proofs.LabelMeaning.{label_means}
 use Rattle.md_link_definitions.proofs.TitleTermination.{TitleFits, title_terminates}
 use Rattle.md_link_definitions.proofs.TitleMeaning.{title_means}
-use Rattle.md_seam.specs.Ahead.{HasWhite}
-use Rattle.md_seam.proofs.SpacesTermination.{Does, WhiteFits, does-fall, does-stands, white_terminates}
-use Rattle.md_seam.proofs.WhiteMeaning.{white_means}
+use Rattle.md_events.specs.Ahead.{HasWhite}
+use Rattle.md_events.proofs.SpacesTermination.{Does, WhiteFits, does-fall, does-stands, white_terminates}
+use Rattle.md_events.proofs.WhiteMeaning.{white_means}
 
 -- The table has each construct.
 

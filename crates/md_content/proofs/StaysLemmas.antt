@@ -9,9 +9,9 @@ use Rattle.md_engine.specs.Staying.{StaysOn}
 use Rattle.md_content.specs.Chunks.{chunk_inside_code, chunk_transition}
 use Rattle.md_content.specs.States.{ContentStep, content_scheme, content_transition}
 use Rattle.md_content.proofs.States.{content_terminates}
-use Rattle.md_seam.specs.Spaces.{ends_line}
-use Rattle.md_seam.specs.Stays.{TakesEach}
-use Rattle.md_seam.proofs.StaysLemmas.{stays-on}
+use Rattle.md_events.specs.Spaces.{ends_line}
+use Rattle.md_events.specs.Stays.{TakesEach}
+use Rattle.md_events.proofs.StaysLemmas.{stays-on}
 
 -- what does not end a line
 pub not-ending : (b : ℕ) → not (nat_eq b 10) ≡ true → nat_eq b 10 ≡ false

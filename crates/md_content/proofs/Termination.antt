@@ -12,11 +12,11 @@ use Rattle.md_engine.proofs.Local.{accepts, consumes, turns}
 use Rattle.md_engine.proofs.Points.{stays, takes}
 use Rattle.md_content.specs.Chunks.{begun, chunk_inside_code, chunk_ready, chunk_scheme, chunk_start_transition}
 use Rattle.md_content.specs.Chunks.{chunk_transition, content_link, in_chunk, unbegun}
-use Rattle.md_seam.proofs.LineTaken.{whole-behind}
-use Rattle.md_seam.specs.Lent.{whole_from}
-use Rattle.md_seam.specs.Spaces.{IsRest, ends_line, rest_ready}
-use Rattle.md_seam.specs.Transition.{entered_link, exited}
-use Rattle.md_seam.proofs.SpacesTermination.{Does, goes-on}
+use Rattle.md_events.proofs.LineTaken.{whole-behind}
+use Rattle.md_events.specs.Lent.{whole_from}
+use Rattle.md_events.specs.Spaces.{IsRest, ends_line, rest_ready}
+use Rattle.md_events.specs.Transition.{entered_link, exited}
+use Rattle.md_events.proofs.SpacesTermination.{Does, goes-on}
 
 pub record ChunkFits (T : Scheme) : Type 1 where
   pub each : (state : ContentState) → Fits T chunk_scheme (n.Content state)

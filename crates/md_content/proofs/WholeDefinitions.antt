@@ -35,13 +35,13 @@ use Rattle.md_link_definitions.specs.LabelRule.{has_text, label_events, label_pa
 use Rattle.md_link_definitions.specs.TitleRule.{TitleParts}
 use Rattle.md_link_definitions.specs.PlainDestination.{is_plain_byte, is_plain_destination}
 use Rattle.md_link_definitions.proofs.PlainDestination.{plain-found}
-use Rattle.md_seam.specs.Ahead.{begins_white, line_bytes, point_after, white_end, white_rest}
-use Rattle.md_seam.specs.Events.Nested.{around, enter, enter_link, exit, pair}
-use Rattle.md_seam.specs.Look.{first_seen}
-use Rattle.md_seam.specs.Spaces.{any_size, ends_line}
-use Rattle.md_seam.proofs.AheadLemmas.{none-end, none-rest}
-use Rattle.md_seam.proofs.FeedLines.{Stops, behind_last, cell, feed-next, past-next, stops-white}
-use Rattle.md_seam.proofs.PlacesLemmas.{at-next}
+use Rattle.md_events.specs.Ahead.{begins_white, line_bytes, point_after, white_end, white_rest}
+use Rattle.md_events.specs.Events.Nested.{around, enter, enter_link, exit, pair}
+use Rattle.md_events.specs.Look.{first_seen}
+use Rattle.md_events.specs.Spaces.{any_size, ends_line}
+use Rattle.md_events.proofs.AheadLemmas.{none-end, none-rest}
+use Rattle.md_events.proofs.FeedLines.{Stops, behind_last, cell, feed-next, past-next, stops-white}
+use Rattle.md_events.proofs.PlacesLemmas.{at-next}
 
 -- Cells of bytes that are one column wide.
 

@@ -28,11 +28,11 @@ use Rattle.md_content.proofs.LabelLook.{look-none}
 use Rattle.md_content.proofs.LineReads.{Reads, ended-line, last-line, line-order}
 use Rattle.md_content.proofs.SettledLemmas.{settled-end, settled-other}
 use Rattle.md_link_definitions.specs.DefinitionRule.{DefinitionParts}
-use Rattle.md_seam.specs.Ahead.{point_after}
-use Rattle.md_seam.specs.declared.inline.Chunk.{Chunk}
-use Rattle.md_seam.specs.Events.Nested.{enter, enter_link, exit}
-use Rattle.md_seam.specs.Parts.{AreChunks, ArePlaced, IsChunk}
-use Rattle.md_seam.proofs.PointOrder.{Before}
+use Rattle.md_events.specs.Ahead.{point_after}
+use Rattle.md_events.specs.declared.inline.Chunk.{Chunk}
+use Rattle.md_events.specs.Events.Nested.{enter, enter_link, exit}
+use Rattle.md_events.specs.Parts.{AreChunks, ArePlaced, IsChunk}
+use Rattle.md_events.proofs.PointOrder.{Before}
 
 -- Chunks that are lines.
 

@@ -13,8 +13,8 @@ use Rattle.md_content.specs.Chunks.{ChunkInvariant, content_link, rest_taken, un
 use Rattle.md_meaning.specs.Rest.{Rest}
 use Rattle.md_link_definitions.specs.OpenText.{text_behind}
 use Rattle.md_link_definitions.specs.WholeCells.{rest_here, whole_line}
-use Rattle.md_seam.specs.Ahead.{from_ending, line_end}
-use Rattle.md_seam.specs.Events.Nested.{enter_link, exit}
+use Rattle.md_events.specs.Ahead.{from_ending, line_end}
+use Rattle.md_events.specs.Events.Nested.{enter_link, exit}
 
 -- a rest with these bytes after it
 abbrev pub longer : Rest → List ℕ → Rest

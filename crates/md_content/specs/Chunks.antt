@@ -15,10 +15,10 @@ use Rattle.md_engine.specs.declared.tokenizer.Scratch.{Scratch}
 use Rattle.md_engine.specs.Scheme.{After, Ends, Rank, Scheme, Position, ranked}
 use Rattle.md_engine.specs.World.{World, registered_before}
 use Rattle.md_link_definitions.specs.OpenText.{begun_rest, text_behind}
-use Rattle.md_seam.specs.Lent.{whole_from}
-use Rattle.md_seam.specs.Spaces.{IsRest, ends_line, rest_ready}
-use Rattle.md_seam.specs.Transition.{Transition, entered_link, exited, taken}
-use Rattle.md_seam.specs.WholeLine.{line_taken}
+use Rattle.md_events.specs.Lent.{whole_from}
+use Rattle.md_events.specs.Spaces.{IsRest, ends_line, rest_ready}
+use Rattle.md_events.specs.Transition.{Transition, entered_link, exited, taken}
+use Rattle.md_events.specs.WholeLine.{line_taken}
 
 abbrev pub content_link : Link
 content_link = record { previous = false; next = false; content = content.Content }

@@ -9,11 +9,11 @@ use Rattle.md_engine.specs.Place.{first_point}
 use Rattle.md_engine.specs.TextFeed.{text_feed}
 use Rattle.md_engine.specs.World.{World, fresh, reads_to, skipping}
 use Rattle.md_content.specs.ContentRule.{content_over}
-use Rattle.md_seam.specs.declared.inline.Chunk.{Chunk}
-use Rattle.md_seam.specs.Events.Inline.{is_line_ending}
-use Rattle.md_seam.specs.Events.Nested.{is_exit}
-use Rattle.md_seam.specs.Substituted.{Readings}
-use Rattle.md_seam.specs.Events.Tiles.{is_data}
+use Rattle.md_events.specs.declared.inline.Chunk.{Chunk}
+use Rattle.md_events.specs.Events.Inline.{is_line_ending}
+use Rattle.md_events.specs.Events.Nested.{is_exit}
+use Rattle.md_events.specs.Substituted.{Readings}
+use Rattle.md_events.specs.Events.Tiles.{is_data}
 
 -- where the first chunk begins
 abbrev pub first_of : List Chunk → Point

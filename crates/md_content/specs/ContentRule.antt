@@ -8,7 +8,7 @@ use Rattle.md_engine.specs.Meaning.{Cell}
 use Rattle.md_content.specs.ParagraphRule.{paragraph_over}
 use Rattle.md_link_definitions.specs.DefinitionRule.{DefinitionParts, definition_end, definition_events, definition_parts}
 use Rattle.md_link_definitions.specs.DefinitionRule.{definition_rest}
-use Rattle.md_seam.specs.Events.Nested.{pair}
+use Rattle.md_events.specs.Events.Nested.{pair}
 
 -- the definition that these cells begin with, if definitions are on
 abbrev pub definition_in : ParseOptions → List Cell → Option DefinitionParts

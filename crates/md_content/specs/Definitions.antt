@@ -12,8 +12,8 @@ use Rattle.md_engine.specs.declared.state.State.TheVariants.{Ok, Nok, Next, Retr
 use Rattle.md_engine.specs.Scheme.{After, Rank, Scheme, Position, ranked}
 use Rattle.md_engine.specs.World.{World}
 use Rattle.md_content.specs.Paragraph.{paragraph_rank}
-use Rattle.md_seam.specs.Spaces.{is_current, rest_ready, sees_white}
-use Rattle.md_seam.specs.Transition.{Transition, entered, exited, taken, tried}
+use Rattle.md_events.specs.Spaces.{is_current, rest_ready, sees_white}
+use Rattle.md_events.specs.Transition.{Transition, entered, exited, taken, tried}
 
 -- whether a definition may begin with what is here: with whitespace before it, or with its `[`
 abbrev pub may_define : Option ℕ → Bool

@@ -11,9 +11,9 @@ use Rattle.md_engine.specs.World.{World}
 use Rattle.md_content.specs.ContentRule.{behind_definition, content_over}
 use Rattle.md_content.specs.ParagraphRule.{HasParagraph}
 use Rattle.md_link_definitions.specs.DefinitionRule.{HasDefinition}
-use Rattle.md_seam.specs.Ahead.{point_after}
-use Rattle.md_seam.specs.Look.{first_seen}
-use Rattle.md_seam.specs.Spaces.{IsRest, ends_line}
+use Rattle.md_events.specs.Ahead.{point_after}
+use Rattle.md_events.specs.Look.{first_seen}
+use Rattle.md_events.specs.Spaces.{IsRest, ends_line}
 
 -- the content of all that is left
 unfoldable pub content_at : ParseOptions → List Cell → Here → Outcome

@@ -5,8 +5,8 @@ use Rattle.md_engine.specs.declared.event.Name.{Name}
 use Rattle.md_engine.specs.declared.event.Name.TheVariants as n
 use Rattle.md_meaning.specs.Label.{normal_form}
 use Rattle.md_meaning.specs.Texts.{split_lines}
-use Rattle.md_seam.specs.Events.Nested.{is_enter, is_exit}
-use Rattle.md_seam.specs.Events.Tiles.{is_data}
+use Rattle.md_events.specs.Events.Nested.{is_enter, is_exit}
+use Rattle.md_events.specs.Events.Tiles.{is_data}
 
 abbrev pub is_label : Name → Bool
 is_label n.DefinitionLabelString = true

@@ -4,8 +4,8 @@ use Rattle.std.specs.Option.{is_some}
 use Rattle.md_engine.specs.declared.event.Event.{Event}
 use Rattle.md_content.specs.ContentReads.{wants_content}
 use Rattle.md_content.specs.Joined.{ends_content, joined}
-use Rattle.md_seam.specs.declared.inline.Chunk.{Chunk}
-use Rattle.md_seam.specs.Substituted.{chunks_behind, stays, wanted}
+use Rattle.md_events.specs.declared.inline.Chunk.{Chunk}
+use Rattle.md_events.specs.Substituted.{chunks_behind, stays, wanted}
 
 -- whether a chunk of content begins with the first of some events
 abbrev pub begins_chunk : List Event → Bool

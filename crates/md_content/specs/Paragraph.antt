@@ -10,8 +10,8 @@ use Rattle.md_engine.specs.declared.state.paragraph.State.TheVariants as its
 use Rattle.md_engine.specs.declared.state.State.TheVariants.{Ok, Next, Retry}
 use Rattle.md_engine.specs.Scheme.{Rank, Scheme, Position, ranked}
 use Rattle.md_engine.specs.World.{World}
-use Rattle.md_seam.specs.Spaces.{rest_ready}
-use Rattle.md_seam.specs.Transition.{Transition, entered, entered_link, exited, taken}
+use Rattle.md_events.specs.Spaces.{rest_ready}
+use Rattle.md_events.specs.Transition.{Transition, entered, entered_link, exited, taken}
 
 abbrev pub text_link : Link
 text_link = record { previous = false; next = false; content = content.Text }

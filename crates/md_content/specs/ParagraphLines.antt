@@ -7,8 +7,8 @@ use Rattle.md_content.specs.ContentReads.{content_events, content_readings, want
 use Rattle.md_content.specs.Joined.{joined, joined_with}
 use Rattle.md_content.specs.Lines.{begins_chunk, lines_from}
 use Rattle.md_content.specs.WholeLines.{are_lines, paragraph_of}
-use Rattle.md_seam.specs.Parts.{ArePlaced}
-use Rattle.md_seam.specs.Substituted.{Substituted, is_plain_prefix}
+use Rattle.md_events.specs.Parts.{ArePlaced}
+use Rattle.md_events.specs.Substituted.{Substituted, is_plain_prefix}
 
 -- whether an event has no link
 abbrev pub is_unlinked : Event → Bool

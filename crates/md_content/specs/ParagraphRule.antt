@@ -11,8 +11,8 @@ use Rattle.md_engine.specs.Meaning.{Accepts, Behaviour, Cell, Here, Outcome}
 use Rattle.md_engine.specs.Sees.{IsStep}
 use Rattle.md_engine.specs.World.{World}
 use Rattle.md_content.specs.Paragraph.{text_link}
-use Rattle.md_seam.specs.Ahead.{point_after}
-use Rattle.md_seam.specs.Events.Nested.{enter, enter_link, exit}
+use Rattle.md_events.specs.Ahead.{point_after}
+use Rattle.md_events.specs.Events.Nested.{enter, enter_link, exit}
 
 -- each line is one part with its ending, of which the first has begun
 abbrev pub line_events : List Cell → Point → List Event

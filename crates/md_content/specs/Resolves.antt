@@ -7,7 +7,7 @@ use Rattle.md_engine.specs.World.{World}
 use Rattle.md_content.specs.ContentReads.{content_readings, wants_content}
 use Rattle.md_content.specs.Joined.{joined}
 use Rattle.md_content.specs.Labels.{begins_label, labels_in}
-use Rattle.md_seam.specs.Substituted.{Substituted}
+use Rattle.md_events.specs.Substituted.{Substituted}
 
 -- whether no part is left unread
 abbrev pub is_all_read : List Event → Bool

@@ -23,9 +23,9 @@ use Rattle.md_link_definitions.specs.Label.{label_scheme, label_transition}
 use Rattle.md_link_definitions.specs.LabelRule.{label_behaves}
 use Rattle.md_link_definitions.specs.Title.{title_scheme, title_transition}
 use Rattle.md_link_definitions.specs.TitleRule.{title_behaves}
-use Rattle.md_seam.specs.Ahead.{white_behaves}
-use Rattle.md_seam.specs.Spaces.{white_scheme, white_transition}
-use Rattle.md_seam.specs.Transition.{Transition}
+use Rattle.md_events.specs.Ahead.{white_behaves}
+use Rattle.md_events.specs.Spaces.{white_scheme, white_transition}
+use Rattle.md_events.specs.Transition.{Transition}
 
 abbrev pub content_owner : StateName → Scheme
 content_owner (n.Content state) = definitions_scheme

@@ -11,7 +11,7 @@ use Rattle.md_engine.specs.declared.event.Name.TheVariants.{DefinitionMarker, Sp
 use Rattle.md_engine.specs.declared.event.Point.{Point}
 use Rattle.md_link_definitions.specs.Chunks.{string_link}
 use Rattle.md_link_definitions.specs.PlainDestination.{is_plain_destination}
-use Rattle.md_seam.specs.Events.Nested.{around, enter_link, exit, pair}
+use Rattle.md_events.specs.Events.Nested.{around, enter_link, exit, pair}
 
 -- a byte of a label that means nothing: no control of ASCII, no bracket and no backslash
 abbrev pub is_label_byte : ℕ → Bool

@@ -6,8 +6,8 @@ use Rattle.md_engine.specs.declared.event.Point.{Point}
 use Rattle.md_engine.specs.Place.{first_point}
 use Rattle.md_content.specs.ContentReads.{first_of}
 use Rattle.md_content.specs.Paragraph.{text_link}
-use Rattle.md_seam.specs.declared.inline.Chunk.{Chunk}
-use Rattle.md_seam.specs.Events.Nested.{around, enter_link, exit}
+use Rattle.md_events.specs.declared.inline.Chunk.{Chunk}
+use Rattle.md_events.specs.Events.Nested.{around, enter_link, exit}
 
 -- A chunk that ends after the ending of its line, and one that begins on the next line.
 abbrev pub is_followed : Chunk → Chunk → Bool

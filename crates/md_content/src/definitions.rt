@@ -14,7 +14,7 @@ ghost use Rattle.md_engine.specs.declared.state.State.{State};
 ghost use Rattle.md_engine.specs.declared.state.content.State.{State as ContentState};
 ghost use Rattle.md_content.specs.Definitions.{definition_after_transition, definition_before_transition};
 ghost use Rattle.md_content.specs.Definitions.{definitions_transition, may_define};
-ghost use Rattle.md_seam.specs.Transition.{IsAt, NeedsNothing};
+ghost use Rattle.md_events.specs.Transition.{IsAt, NeedsNothing};
 
 use md_engine::event::Name;
 use md_engine::or_error;
@@ -23,7 +23,7 @@ use md_engine::state::definition::State as DefinitionState;
 use md_engine::state::paragraph::State as ParagraphState;
 use md_engine::state::{Name as StateName, State};
 use md_engine::tokenizer::Tokenizer;
-use md_seam::space_or_tab::is_space_or_tab;
+use md_events::space_or_tab::is_space_or_tab;
 
 /// Whether a definition may begin with what is here.
 fn may_define(current: Option<u8>) -> bool

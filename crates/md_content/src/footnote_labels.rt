@@ -3,14 +3,14 @@
 ghost use Rattle.std.specs.Prelude.{◌≡◌, ◌&&◌, drop, map, not, string_bytes, IfOk};
 ghost use Rattle.std.specs.List.{prefix_len};
 ghost use Rattle.md_content.specs.FootnoteLabels.{footnote_labels_in, is_footnote_label};
-ghost use Rattle.md_seam.specs.Events.Nested.{is_enter, is_exit};
-ghost use Rattle.md_seam.specs.Events.Spelled.{byte_at};
+ghost use Rattle.md_events.specs.Events.Nested.{is_enter, is_exit};
+ghost use Rattle.md_events.specs.Events.Spelled.{byte_at};
 
 use crate::labels::push_label;
 use md_engine::event::{Event, Kind, Name, Point};
 use md_engine::message::Message;
-use md_seam::slice::between;
-use md_seam::walks::{Test, passing};
+use md_events::slice::between;
+use md_events::walks::{Test, passing};
 use std::alloc::Global;
 
 /// Whether a label begins here.

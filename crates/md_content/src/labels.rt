@@ -8,15 +8,15 @@ ghost use Rattle.std.specs.List.{position_or_len};
 ghost use Rattle.md_meaning.specs.Label.{normal_form};
 ghost use Rattle.md_content.specs.LabelTexts.{on_one_line, unended};
 ghost use Rattle.md_content.specs.Labels.{begins_label, is_label, label_text, labels_in};
-ghost use Rattle.md_seam.specs.Events.Nested.{is_enter, is_exit};
-ghost use Rattle.md_seam.specs.Events.Tiles.{is_data};
+ghost use Rattle.md_events.specs.Events.Nested.{is_enter, is_exit};
+ghost use Rattle.md_events.specs.Events.Tiles.{is_data};
 
 use md_engine::event::{Event, Kind, Name};
 use md_engine::message::Message;
-use md_grammars::label::normal_form;
-use md_grammars::memory::push;
-use md_seam::slice::between;
-use md_seam::walks::{Test, passing};
+use md_events::slice::between;
+use md_events::walks::{Test, passing};
+use md_scan::label::normal_form;
+use md_scan::memory::push;
 use std::alloc::Global;
 
 /// Whether a label begins here.

@@ -24,19 +24,19 @@ ghost use Rattle.md_content.specs.WholeLines.{lines_of};
 ghost use Rattle.md_engine.specs.declared.event.Event.{Event};
 ghost use Rattle.md_engine.specs.declared.event.Name.{Name};
 ghost use Rattle.md_meaning.specs.Ascii.{left_bracket};
-ghost use Rattle.md_seam.specs.Events.Inline.{is_line_ending};
-ghost use Rattle.md_seam.specs.Events.Nested.{is_enter};
-ghost use Rattle.md_seam.specs.Parts.{ArePlaced};
-ghost use Rattle.md_seam.specs.Rewritten.{given_of, held_of, left_of, written_of};
-ghost use Rattle.md_seam.specs.Substituted.{Begun, Substituted, chunk_of, is_plain_prefix};
+ghost use Rattle.md_events.specs.Events.Inline.{is_line_ending};
+ghost use Rattle.md_events.specs.Events.Nested.{is_enter};
+ghost use Rattle.md_events.specs.Parts.{ArePlaced};
+ghost use Rattle.md_events.specs.Rewritten.{given_of, held_of, left_of, written_of};
+ghost use Rattle.md_events.specs.Substituted.{Begun, Substituted, chunk_of, is_plain_prefix};
 
 use crate::content::{ContentReader, is_followed, is_within_line, may_define_at};
 use md_engine::event::{Content, Event, Kind, Link, Name, Point};
 use md_engine::message::Message;
-use md_seam::inline::Chunk;
-use md_seam::rewriting::Rewriting;
-use md_seam::subtokenize::{Found, is_prefix, push_chunk};
-use md_seam::walks::{Test, passing};
+use md_events::inline::Chunk;
+use md_events::rewriting::Rewriting;
+use md_events::subtokenize::{Found, is_prefix, push_chunk};
+use md_events::walks::{Test, passing};
 use std::alloc::Global;
 
 /// Whether a line of content begins with an event.

@@ -14,8 +14,8 @@ ghost use Rattle.md_engine.specs.declared.state.State.{State};
 ghost use Rattle.md_engine.specs.declared.state.paragraph.State.{State as ParagraphState};
 ghost use Rattle.md_content.specs.Paragraph.{inside_transition, line_start_transition, paragraph_transition};
 ghost use Rattle.md_content.specs.Paragraph.{start_transition};
-ghost use Rattle.md_seam.specs.Stays.{TakesEach};
-ghost use Rattle.md_seam.specs.Transition.{IsAt, NeedsNothing};
+ghost use Rattle.md_events.specs.Stays.{TakesEach};
+ghost use Rattle.md_events.specs.Transition.{IsAt, NeedsNothing};
 
 use md_engine::event::{Content, Link, Name};
 use md_engine::or_error;

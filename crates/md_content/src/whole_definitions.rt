@@ -15,15 +15,15 @@ ghost use Rattle.md_content.specs.WholeDefinitions as whole;
 ghost use Rattle.md_meaning.specs.Ascii.{colon, left_bracket, right_bracket, space};
 ghost use Rattle.md_content.specs.ContentReads.{content_events};
 ghost use Rattle.md_engine.specs.declared.configuration.ParseOptions.{ParseOptions};
-ghost use Rattle.md_seam.specs.Events.Nested.{pair};
-ghost use Rattle.md_seam.specs.Parts.{AreChunks, ArePlaced};
+ghost use Rattle.md_events.specs.Events.Nested.{pair};
+ghost use Rattle.md_events.specs.Parts.{AreChunks, ArePlaced};
 
 use crate::content::are_lines;
 use md_engine::event::{Content, Event, Kind, Link, Name, Point};
 use md_engine::message::Message;
-use md_grammars::bytes::is_blank;
+use md_events::inline::Chunk;
 use md_link_definitions::plain_destination::is_plain_destination;
-use md_seam::inline::Chunk;
+use md_scan::bytes::is_blank;
 
 /// How many bytes a label may have.
 const LABEL_LEN: usize = 999;

@@ -18,15 +18,15 @@ use Rattle.md_meaning.specs.Containers.{opens_footnote}
 use Rattle.md_meaning.specs.Leaves.{break_at, heading_at, code_at, code_goes_on, fence_at, fence_goes_on, html_at}
 use Rattle.md_meaning.specs.Leaves.{html_goes_on, starts, table_goes_on, underline_depth, underlined, table_at}
 use Rattle.md_meaning.specs.Step.{fresh_line, text_line, all_continued, stopped}
-use Rattle.md_seam.specs.Events.Nested.{around, pair}
+use Rattle.md_events.specs.Events.Nested.{around, pair}
 use Rattle.md_exact.specs.Blocks.{exact}
-use Rattle.md_seam.proofs.EventRowParts.{at, chunk}
-use Rattle.md_seam.proofs.ContainerRows.{lazy_text, lazy_events, prefix_text, prefix_events, ordered_text}
-use Rattle.md_seam.proofs.ContainerRows.{ordered_events, items_text, nested_text, nested_events, left_fence_text}
-use Rattle.md_seam.proofs.ContainerRows.{left_fence_events, shared_tab_text, shared_tab_events, tabs_text, tabs_events}
-use Rattle.md_seam.proofs.ContainerRows.{definition_text, definition_events, footnote_text, footnote_events}
-use Rattle.md_seam.proofs.ContainerRows.{cut_chunk_text, cut_chunk_events, behind_definition_text}
-use Rattle.md_seam.proofs.ContainerRows.{behind_definition_events, lazy_head_text, lazy_head_events}
+use Rattle.md_events.proofs.EventRowParts.{at, chunk}
+use Rattle.md_events.proofs.ContainerRows.{lazy_text, lazy_events, prefix_text, prefix_events, ordered_text}
+use Rattle.md_events.proofs.ContainerRows.{ordered_events, items_text, nested_text, nested_events, left_fence_text}
+use Rattle.md_events.proofs.ContainerRows.{left_fence_events, shared_tab_text, shared_tab_events, tabs_text, tabs_events}
+use Rattle.md_events.proofs.ContainerRows.{definition_text, definition_events, footnote_text, footnote_events}
+use Rattle.md_events.proofs.ContainerRows.{cut_chunk_text, cut_chunk_events, behind_definition_text}
+use Rattle.md_events.proofs.ContainerRows.{behind_definition_events, lazy_head_text, lazy_head_events}
 
 -- "- a\n+ b"
 abbrev items_events : List Event

@@ -17,13 +17,13 @@ use Rattle.md_meaning.specs.Leaves.{break_at, heading_at, code_at, code_goes_on,
 use Rattle.md_meaning.specs.Leaves.{html_goes_on, starts, table_goes_on, underline_depth, underlined, table_at}
 use Rattle.md_meaning.specs.Step.{fresh_line, text_line, all_continued, stopped}
 use Rattle.md_exact.specs.Blocks.{exact}
-use Rattle.md_seam.proofs.EventRows.{empty_text, empty_events, blank_text, blank_events, mark_text, mark_events}
-use Rattle.md_seam.proofs.EventRows.{paragraph_text, paragraph_events, break_text, break_events, heading_text}
-use Rattle.md_seam.proofs.EventRows.{heading_events, empty_heading_text, empty_heading_events, underlined_text}
-use Rattle.md_seam.proofs.EventRows.{underlined_events, fence_text, fence_events, open_fence_text, open_fence_events}
-use Rattle.md_seam.proofs.EventRows.{code_text, code_events, html_text, html_events, math_text, math_events}
-use Rattle.md_seam.proofs.EventRows.{frontmatter_text, frontmatter_events, empty_parts_text, empty_parts_events}
-use Rattle.md_seam.proofs.EventRows.{empty_lines_text, empty_lines_events, table_text, table_events}
+use Rattle.md_events.proofs.EventRows.{empty_text, empty_events, blank_text, blank_events, mark_text, mark_events}
+use Rattle.md_events.proofs.EventRows.{paragraph_text, paragraph_events, break_text, break_events, heading_text}
+use Rattle.md_events.proofs.EventRows.{heading_events, empty_heading_text, empty_heading_events, underlined_text}
+use Rattle.md_events.proofs.EventRows.{underlined_events, fence_text, fence_events, open_fence_text, open_fence_events}
+use Rattle.md_events.proofs.EventRows.{code_text, code_events, html_text, html_events, math_text, math_events}
+use Rattle.md_events.proofs.EventRows.{frontmatter_text, frontmatter_events, empty_parts_text, empty_parts_events}
+use Rattle.md_events.proofs.EventRows.{empty_lines_text, empty_lines_events, table_text, table_events}
 
 record AreLeaves : Type 0 where
   empty : exact given.ALL empty_text ≡ empty_events

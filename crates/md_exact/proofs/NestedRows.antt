@@ -18,9 +18,9 @@ use Rattle.md_meaning.specs.Containers.{opens_footnote}
 use Rattle.md_meaning.specs.Leaves.{break_at, heading_at, code_at, code_goes_on, fence_at, fence_goes_on, html_at}
 use Rattle.md_meaning.specs.Leaves.{html_goes_on, starts, table_goes_on, underline_depth, underlined, table_at}
 use Rattle.md_meaning.specs.Step.{fresh_line, text_line, all_continued, stopped}
-use Rattle.md_seam.specs.Events.Nested.{around, pair}
+use Rattle.md_events.specs.Events.Nested.{around, pair}
 use Rattle.md_exact.specs.Blocks.{exact}
-use Rattle.md_seam.proofs.EventRowParts.{at, chunk, string_chunk}
+use Rattle.md_events.proofs.EventRowParts.{at, chunk, string_chunk}
 
 -- "> - a\n> - b\n>\n>   c\n"
 abbrev items_in_quote_text : List ℕ

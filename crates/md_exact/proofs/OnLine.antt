@@ -12,16 +12,16 @@ use Rattle.md_engine.specs.Meaning.{Cell}
 use Rattle.md_engine.specs.Place.{next_point}
 use Rattle.md_meaning.specs.Rest.{Rest, cut_tab, indent, lose, white_columns}
 use Rattle.md_meaning.proofs.TextsLemmas.{NoEnding}
-use Rattle.md_seam.specs.Ahead.{white_end}
-use Rattle.md_seam.specs.Events.Places.{columns_from, past_byte, past_text}
-use Rattle.md_seam.proofs.AheadLemmas.{none-end}
-use Rattle.md_seam.proofs.FeedLines.{Stops, behind_last, cell, columns_more, next_column, past_text-whole, spread}
-use Rattle.md_seam.proofs.FeedLines.{tab_cells}
-use Rattle.md_seam.proofs.InlineLemmas.{past-index}
-use Rattle.md_seam.proofs.LostColumns.{column-step, lose-bare}
-use Rattle.md_seam.proofs.PlacesLemmas.{Placed, at-next, placed-text}
-use Rattle.md_seam.proofs.ReachedLemmas.{placed-next}
-use Rattle.md_seam.proofs.RestCells.{Cut, HasColumn, RestAt, bare-cells, column-first, rest_cells, without_first}
+use Rattle.md_events.specs.Ahead.{white_end}
+use Rattle.md_events.specs.Events.Places.{columns_from, past_byte, past_text}
+use Rattle.md_events.proofs.AheadLemmas.{none-end}
+use Rattle.md_events.proofs.FeedLines.{Stops, behind_last, cell, columns_more, next_column, past_text-whole, spread}
+use Rattle.md_events.proofs.FeedLines.{tab_cells}
+use Rattle.md_events.proofs.InlineLemmas.{past-index}
+use Rattle.md_events.proofs.LostColumns.{column-step, lose-bare}
+use Rattle.md_events.proofs.PlacesLemmas.{Placed, at-next, placed-text}
+use Rattle.md_events.proofs.ReachedLemmas.{placed-next}
+use Rattle.md_events.proofs.RestCells.{Cut, HasColumn, RestAt, bare-cells, column-first, rest_cells, without_first}
 use Rattle.md_exact.specs.Places.{TextLine, past, place, whole}
 use Rattle.md_exact.proofs.PlaceLemmas.{StandsIn, before-is, line_start, placed-place, past-column, no_ending-take}
 

@@ -12,13 +12,13 @@ use Rattle.md_engine.specs.declared.event.Name.TheVariants as n
 use Rattle.md_engine.specs.declared.event.Point.{Point}
 use Rattle.md_meaning.specs.Rest.{Rest, cut_tab}
 use Rattle.md_meaning.specs.Texts.{first_byte}
-use Rattle.md_seam.specs.Events.Inline.{pair_unless_empty}
-use Rattle.md_seam.specs.Events.Nested.{around}
-use Rattle.md_seam.specs.Events.Places.{columns_before, same_place}
-use Rattle.md_seam.proofs.FeedLines.{columns_more}
-use Rattle.md_seam.proofs.PlacesLemmas.{Placed}
-use Rattle.md_seam.proofs.RestCells.{Cut, RestAt}
-use Rattle.md_seam.proofs.WalkedLemmas.{one-point}
+use Rattle.md_events.specs.Events.Inline.{pair_unless_empty}
+use Rattle.md_events.specs.Events.Nested.{around}
+use Rattle.md_events.specs.Events.Places.{columns_before, same_place}
+use Rattle.md_events.proofs.FeedLines.{columns_more}
+use Rattle.md_events.proofs.PlacesLemmas.{Placed}
+use Rattle.md_events.proofs.RestCells.{Cut, RestAt}
+use Rattle.md_events.proofs.WalkedLemmas.{one-point}
 use Rattle.md_exact.specs.Places.{TextLine, chunk, is_same, part, piece, place, text_part, white}
 use Rattle.md_exact.proofs.OnLine.{LineIn, OnLine, place-on}
 use Rattle.md_exact.proofs.PlaceLemmas.{cut_len, length-cut}

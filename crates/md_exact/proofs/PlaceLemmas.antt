@@ -6,12 +6,12 @@ use Rattle.std.proofs.lemmas.Bool.{eqb-true, false_from_ne_true}
 use Rattle.std.proofs.lemmas.List.{append_assoc, length-append, length-drop, length-take, take-append-drop}
 use Rattle.md_engine.specs.declared.event.Point.{Point}
 use Rattle.md_meaning.specs.Rest.{Rest, cut_tab}
-use Rattle.md_seam.specs.Events.Places.{column_past, columns_before, columns_from, past_byte, past_text}
-use Rattle.md_seam.proofs.FeedLines.{past_text-whole}
-use Rattle.md_seam.proofs.InlineLemmas.{past-index}
-use Rattle.md_seam.proofs.PlacesLemmas.{Placed, placed-text}
+use Rattle.md_events.specs.Events.Places.{column_past, columns_before, columns_from, past_byte, past_text}
+use Rattle.md_events.proofs.FeedLines.{past_text-whole}
+use Rattle.md_events.proofs.InlineLemmas.{past-index}
+use Rattle.md_events.proofs.PlacesLemmas.{Placed, placed-text}
 use Rattle.md_meaning.proofs.TextsLemmas.{NoEnding}
-use Rattle.md_seam.proofs.RestCells.{RestAt}
+use Rattle.md_events.proofs.RestCells.{RestAt}
 use Rattle.md_exact.specs.Places.{TextLine, place}
 
 -- a line is in a text, with this after its bytes

@@ -5,9 +5,9 @@ use Rattle.std.proofs.lemmas.List.{length-append, take-append-drop}
 use Rattle.std.proofs.Math.Seq.{take-append_seam}
 use Rattle.md_engine.specs.declared.event.Point.{Point}
 use Rattle.md_meaning.specs.Rest.{Rest}
-use Rattle.md_seam.specs.Events.Places.{columns_from, past_text}
-use Rattle.md_seam.proofs.FeedLines.{past_text-whole}
-use Rattle.md_seam.proofs.InlineLemmas.{past-index}
+use Rattle.md_events.specs.Events.Places.{columns_from, past_text}
+use Rattle.md_events.proofs.FeedLines.{past_text-whole}
+use Rattle.md_events.proofs.InlineLemmas.{past-index}
 use Rattle.md_exact.specs.Places.{TextLine, line_end, past, place, whole}
 use Rattle.md_exact.proofs.OnLine.{past-line}
 use Rattle.md_exact.proofs.PlaceLemmas.{before, columns_at, cut_len, line_start, past-column}

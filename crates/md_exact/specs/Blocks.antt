@@ -13,8 +13,8 @@ use Rattle.md_meaning.specs.State.{At, OpenCode, OpenFence, OpenHtml}
 use Rattle.md_meaning.specs.Step.{spot_of}
 use Rattle.md_meaning.specs.Texts.{first_byte}
 use Rattle.md_meaning.specs.Tree.{Break, End, Heading, Html}
-use Rattle.md_seam.specs.Events.Nested.{pair}
-use Rattle.md_seam.specs.Events.Places.{first_point}
+use Rattle.md_events.specs.Events.Nested.{pair}
+use Rattle.md_events.specs.Events.Places.{first_point}
 use Rattle.md_exact.specs.Leaves.{content_line, fence, heading_line, joined, leaf, runs_line, table}
 use Rattle.md_exact.specs.Places.{TextLine, ending, line_end, lines_from, part, past, piece, white, whole}
 use Rattle.md_exact.specs.Rows.{BehindCode, Blank, Delimiter, First, FirstText, Further, FurtherText, Head, Role, Row}

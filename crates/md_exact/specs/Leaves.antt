@@ -13,8 +13,8 @@ use Rattle.md_meaning.specs.Lines.{begins_with}
 use Rattle.md_meaning.specs.Rest.{Rest, behind_indent, is_blank, lose, run_len, trim_end}
 use Rattle.md_meaning.specs.State.{Opening}
 use Rattle.md_meaning.specs.Texts.{first_byte}
-use Rattle.md_seam.specs.Events.Nested.{around}
-use Rattle.md_seam.specs.Events.Places.{first_point}
+use Rattle.md_events.specs.Events.Nested.{around}
+use Rattle.md_events.specs.Events.Places.{first_point}
 use Rattle.md_exact.specs.Places.{TextLine, ending, line_end, part, past, piece, place, text_part, white}
 use Rattle.md_exact.specs.Rows.{Row}
 

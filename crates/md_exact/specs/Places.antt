@@ -9,8 +9,8 @@ use Rattle.md_engine.specs.declared.event.Point.{Point}
 use Rattle.md_meaning.specs.Bytes.{is_end}
 use Rattle.md_meaning.specs.Lines.{without_ending}
 use Rattle.md_meaning.specs.Rest.{Rest}
-use Rattle.md_seam.specs.Events.Nested.{around, enter_link, exit, pair}
-use Rattle.md_seam.specs.Events.Places.{columns_from}
+use Rattle.md_events.specs.Events.Nested.{around, enter_link, exit, pair}
+use Rattle.md_events.specs.Events.Places.{columns_from}
 
 -- A line: its number from 1, the byte where it begins, the column of that from 0, its bytes, and those of its ending,
 -- which are none where the text ends.

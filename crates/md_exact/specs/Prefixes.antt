@@ -14,7 +14,7 @@ use Rattle.md_meaning.specs.Rest.{Rest, behind_indent, lose}
 use Rattle.md_meaning.specs.State.{Container, InQuote, InItem, InFootnote, Path, At, Within, spot}
 use Rattle.md_meaning.specs.Step.{is_concrete, is_open_text}
 use Rattle.md_meaning.specs.Tree.{Block, Item, Blocks, End, More}
-use Rattle.md_seam.specs.Events.Nested.{enter}
+use Rattle.md_events.specs.Events.Nested.{enter}
 use Rattle.md_exact.specs.Places.{TextLine, part, past, piece, place, text_part, white}
 
 -- the open containers, the outermost first

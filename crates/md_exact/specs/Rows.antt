@@ -13,7 +13,7 @@ use Rattle.md_meaning.specs.State.{Container, InQuote, InItem, InFootnote, Leaf,
 use Rattle.md_meaning.specs.State.{Path, cut, spot, texts}
 use Rattle.md_meaning.specs.Step.{step, with_lazy}
 use Rattle.md_meaning.specs.Tree.{End}
-use Rattle.md_seam.specs.Events.Nested.{exit}
+use Rattle.md_events.specs.Events.Nested.{exit}
 use Rattle.md_exact.specs.Places.{TextLine, line_end, place, whole}
 use Rattle.md_exact.specs.Prefixes.{begins, behind_all, containers, further_prefixes, gone_on, list_name}
 use Rattle.md_exact.specs.Prefixes.{new_containers}

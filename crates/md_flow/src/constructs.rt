@@ -7,7 +7,7 @@ ghost use Rattle.md_engine.specs.declared.state.Name.{Name as StateName};
 ghost use Rattle.md_engine.specs.declared.state.State.{State};
 ghost use Rattle.md_registry.specs.Registry.{construct_transition};
 ghost use Rattle.md_registry.specs.States.{flow_table_scheme, flow_transition};
-ghost use Rattle.md_seam.specs.Stays.{TakesEach};
+ghost use Rattle.md_events.specs.Stays.{TakesEach};
 
 use md_code::{code_indented, raw_flow};
 use md_containers::{block_quote, gfm_footnote_definition, list_item};

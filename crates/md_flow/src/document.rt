@@ -22,15 +22,15 @@ ghost use Rattle.md_registry.specs.Flow.{containers_after_transition, existing_a
 ghost use Rattle.md_registry.specs.Flow.{behind_all, existing_before_transition, flow_end_transition};
 ghost use Rattle.md_registry.specs.Flow.{inside_transition, new_after_transition};
 ghost use Rattle.md_registry.specs.Flow.{new_before_transition};
-ghost use Rattle.md_frame.specs.EndingName.{ending_name};
+ghost use Rattle.proof_frame.specs.EndingName.{ending_name};
 ghost use Rattle.md_registry.specs.LineFlags.{asking, begun_line, ended_on, next_container, kept_containers};
 ghost use Rattle.md_registry.specs.Registry.{bars_containers};
 ghost use Rattle.md_engine.specs.declared.resolve.name.Name.{Name as ResolveName};
-ghost use Rattle.md_frame.specs.HeldLeaf.{lazy_of, takes_lazy};
+ghost use Rattle.proof_frame.specs.HeldLeaf.{lazy_of, takes_lazy};
 ghost use Rattle.md_registry.specs.Document.{before_frontmatter_transition, document_own_transition};
 ghost use Rattle.md_registry.specs.Document.{none_opens_transition};
 ghost use Rattle.md_registry.specs.Document.{document_table_scheme, document_transition, start_transition};
-ghost use Rattle.md_seam.specs.Transition.{IsAt, NeedsNothing, taken};
+ghost use Rattle.md_events.specs.Transition.{IsAt, NeedsNothing, taken};
 ghost use Rattle.md_registry.specs.Flow.{opener_transition};
 ghost use Rattle.md_registry.specs.FlowRule.{DocumentMeans, HasOpen};
 ghost use Rattle.md_registry.specs.Registry.{opener_at};
@@ -50,11 +50,11 @@ use md_engine::stay::Stay;
 use md_engine::subtokenize::Subresult;
 use md_engine::table::Table;
 use md_engine::tokenizer::{Container, ContainerKind, Flags, HeldLeaf, Tokenizer};
+use md_events::parts::add_part;
+use md_events::space_or_tab;
 use md_leaves::blank_line::ends_line;
 use md_leaves::partial_bom;
 use md_registry::choices;
-use md_seam::parts::add_part;
-use md_seam::space_or_tab;
 
 /// At the start of the text: before a byte order mark, if there is one.
 ///
@@ -146,7 +146,7 @@ fn behind_all(tokenizer: &Tokenizer) -> DocumentState
 ///     ^
 /// ```
 #[inline(always)]
-#[tactic(auto, using(md_registry::proofs::FlowSteps::document_rule), unfolding(md_seam::specs::Look::looks_behind))]
+#[tactic(auto, using(md_registry::proofs::FlowSteps::document_rule), unfolding(md_events::specs::Look::looks_behind))]
 pub fn container_existing_before(tokenizer: &mut Tokenizer) -> State
     requires { IsAt NeedsNothing (StateName.Document DocumentState.ContainerExistingBefore) (world tokenizer.old) }
     ensures to { result ≢ State.Error → result ≡ (existing_before_transition (world tokenizer.old)).to }
@@ -305,7 +305,7 @@ pub fn before_opener(tokenizer: &mut Tokenizer, state: DocumentState) -> State
 
 /// Before a container of a kind that may open: where it does not, the next kind is tried.
 #[inline(always)]
-#[tactic(auto, unfolding(md_seam::specs::Look::looks_behind))]
+#[tactic(auto, unfolding(md_events::specs::Look::looks_behind))]
 pub(crate) fn try_new(tokenizer: &mut Tokenizer, kind: ContainerKind) -> State
     ensures to { result ≢ State.Error → result ≡ (new_before_transition kind (world tokenizer.old)).to }
     ensures world { result ≢ State.Error →
@@ -571,7 +571,7 @@ fn call_state(tokenizer: &mut Tokenizer, name: StateName) -> State
 pub struct DocumentTable;
 
 impl Table for DocumentTable {
-    ghost use Rattle.md_frame.specs.HeldLeaf.{lazy_of, takes_lazy};
+    ghost use Rattle.proof_frame.specs.HeldLeaf.{lazy_of, takes_lazy};
     ghost use Rattle.md_registry.specs.Document.{DocumentStep};
     ghost use Rattle.md_registry.specs.Resolving.{resolved_as};
 

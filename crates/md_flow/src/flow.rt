@@ -21,9 +21,9 @@ ghost use Rattle.md_registry.specs.FlowRule.{FlowMeans};
 ghost use Rattle.md_registry.specs.Flow.{after_transition, before_content_transition};
 ghost use Rattle.md_registry.specs.Flow.{blank_line_after_transition, blank_line_before_transition};
 ghost use Rattle.md_registry.specs.Flow.{flow_own_transition, leaf_after_transition, start_transition};
-ghost use Rattle.md_seam.specs.Transition.{IsAt, NeedsNothing};
+ghost use Rattle.md_events.specs.Transition.{IsAt, NeedsNothing};
 ghost use Rattle.md_registry.specs.Flow.{before_transition, leaf_transition, trial_code};
-ghost use Rattle.md_frame.specs.LeafName.{LeafName};
+ghost use Rattle.proof_frame.specs.LeafName.{LeafName};
 ghost use Rattle.md_registry.specs.Registry.{tried_at};
 
 use md_engine::class::is_white;
@@ -34,9 +34,9 @@ use md_engine::state::document::State as DocumentState;
 use md_engine::state::flow::State as FlowState;
 use md_engine::state::{Name as StateName, State};
 use md_engine::tokenizer::{HeldLeaf, Tokenizer};
+use md_events::space_or_tab::look_behind;
 use md_leaves::blank_line;
 use md_registry::choices::{self, FirstLeaf};
-use md_seam::space_or_tab::look_behind;
 
 /// At the start of the rest of a line: its first byte chooses what is tried (`choices::row`); a virtual space is a
 /// space.

@@ -4,7 +4,7 @@ ghost use Rattle.std.specs.Prelude.{◌≡◌, [], IfOk, OnOk};
 ghost use Rattle.std.specs.Option.{option_map};
 ghost use Rattle.md_engine.specs.Found.{found_in};
 ghost use Rattle.md_engine.specs.World.{world};
-ghost use Rattle.md_seam.specs.Events.Nested.{Nested};
+ghost use Rattle.md_events.specs.Events.Nested.{Nested};
 ghost use Rattle.md_registry.specs.Resolving.{resolved_as};
 ghost use Rattle.md_flow.specs.Nests.{MayNestBy};
 

@@ -15,11 +15,11 @@ use Rattle.md_engine.specs.World.{Setting, World, after, looks, looks_at}
 use Rattle.md_engine.specs.Sees.{Sees, ahead, cell_here}
 use Rattle.md_meaning.specs.Bytes.{begins, is_end}
 use Rattle.md_html.specs.Html.{are_letters, in_letters, name_here, sees_letter}
-use Rattle.md_seam.specs.Ahead.{line_bytes}
+use Rattle.md_events.specs.Ahead.{line_bytes}
 use Rattle.md_leaves.proofs.LeafSteps.{ends-seen}
-use Rattle.md_seam.specs.Lent.{lent}
-use Rattle.md_seam.specs.Spaces.{ends_line, is_current}
-use Rattle.md_seam.specs.Transition.{taken}
+use Rattle.md_events.specs.Lent.{lent}
+use Rattle.md_events.specs.Spaces.{ends_line, is_current}
+use Rattle.md_events.specs.Transition.{taken}
 
 -- Where a line ends.
 

@@ -31,12 +31,12 @@ use Rattle.md_html.proofs.HtmlBytes.{name-more, name-none, sees-here}
 use Rattle.md_leaves.proofs.LeafSteps.{Ended, ends-seen}
 use Rattle.md_html.proofs.HtmlEnds.{ends-again, ends-none, ends-one, ends-open, ends-past, ends-skip}
 use Rattle.md_html.proofs.HtmlEnds.{ends-stop, ends-tag, ends-twice}
-use Rattle.md_seam.specs.Ahead.{line_bytes}
-use Rattle.md_seam.specs.Events.Nested.{enter, enter_link, exit}
-use Rattle.md_seam.specs.Lent.{lent}
-use Rattle.md_seam.specs.Spaces.{ends_line, is_current, sees_white}
-use Rattle.md_seam.specs.Transition.{taken}
-use Rattle.md_seam.proofs.AheadLemmas.{white-no_ending}
+use Rattle.md_events.specs.Ahead.{line_bytes}
+use Rattle.md_events.specs.Events.Nested.{enter, enter_link, exit}
+use Rattle.md_events.specs.Lent.{lent}
+use Rattle.md_events.specs.Spaces.{ends_line, is_current, sees_white}
+use Rattle.md_events.specs.Transition.{taken}
+use Rattle.md_events.proofs.AheadLemmas.{white-no_ending}
 
 -- A line that is taken to its end.
 

@@ -22,13 +22,13 @@ use Rattle.md_html.specs.HtmlLine.{behind_indent, html_goes, html_keeps, html_ke
 use Rattle.md_html.specs.HtmlRule.{allowed, left}
 use Rattle.md_html.proofs.HtmlSpread.{Blind, Wide, blind-trim, byte, ended, ends-blind, kind-none, of-white, white}
 use Rattle.md_html.proofs.HtmlSpread.{wide-kind, wider}
-use Rattle.md_seam.specs.Ahead.{begins_white, line_bytes, line_cells, white_end, white_rest}
-use Rattle.md_seam.specs.Events.Places.{past_byte}
-use Rattle.md_seam.specs.Spaces.{small_indent}
-use Rattle.md_seam.proofs.FeedLines.{Stops, bytes_of, cell, columns_more, next_column, spread, tab_cells, tab_end}
-use Rattle.md_seam.proofs.RestCells.{HasIndent, RestAt, cells_by, indent-length, indent-over, indent-taken}
-use Rattle.md_seam.proofs.RestCells.{lose-no_ending, rest_cells}
-use Rattle.md_seam.proofs.RestLines.{bare-spread, blank-cells, indent-trims, large-room, rest-line, small-room}
+use Rattle.md_events.specs.Ahead.{begins_white, line_bytes, line_cells, white_end, white_rest}
+use Rattle.md_events.specs.Events.Places.{past_byte}
+use Rattle.md_events.specs.Spaces.{small_indent}
+use Rattle.md_events.proofs.FeedLines.{Stops, bytes_of, cell, columns_more, next_column, spread, tab_cells, tab_end}
+use Rattle.md_events.proofs.RestCells.{HasIndent, RestAt, cells_by, indent-length, indent-over, indent-taken}
+use Rattle.md_events.proofs.RestCells.{lose-no_ending, rest_cells}
+use Rattle.md_events.proofs.RestLines.{bare-spread, blank-cells, indent-trims, large-room, rest-line, small-room}
 
 -- Cells are bytes of which whitespace is wider: those of a tab,
 tab-wide : (line : Line) (n b : ℕ) (p : Point) (bs : List ℕ) (cs : List Cell) → is_white b ≡ true →

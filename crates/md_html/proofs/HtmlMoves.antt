@@ -22,7 +22,7 @@ use Rattle.md_meaning.specs.Lines.{begins_with}
 use Rattle.md_html.specs.Html.{Move, Stops, Takes, TakesAs, Turns, TurnsAs, cleared, is_open_text, moved}
 use Rattle.md_html.specs.HtmlRule.{HasHtml, allowed, closes, html_behaves, left, opens, opens_behind, opens_by, refuses}
 use Rattle.md_html.specs.HtmlRule.{tag_by}
-use Rattle.md_seam.specs.Ahead.{line_bytes}
+use Rattle.md_events.specs.Ahead.{line_bytes}
 
 -- A move.
 

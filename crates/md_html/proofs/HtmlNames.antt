@@ -8,7 +8,7 @@ use Rattle.md_engine.specs.World.{after, looks_at}
 use Rattle.md_meaning.specs.Html.{is_tag_byte}
 use Rattle.md_html.proofs.HtmlBytes.{all-more, name-more, name-none, sees-dark}
 use Rattle.md_html.specs.Html.{has_letter, name_of, sees_letter}
-use Rattle.md_seam.specs.Lent.{lent}
+use Rattle.md_events.specs.Lent.{lent}
 
 -- a byte of a name is no whitespace
 pub tag-dark : (b : ℕ) → is_tag_byte b ≡ true → 32 < b

@@ -32,11 +32,11 @@ use Rattle.md_html.proofs.HtmlKinds.{instruction-known, may_declare, may_open, o
 use Rattle.md_html.proofs.HtmlMoves.{MovesBy, begins-line, behind-taken, closes-taken, comes, by-moves, interrupts}
 use Rattle.md_html.proofs.HtmlMoves.{not-ending, opens-none, opens-same, opens-some, opens-taken, with-line}
 use Rattle.md_html.proofs.HtmlBytes.{name-none}
-use Rattle.md_seam.specs.Ahead.{line_bytes, white_rest}
-use Rattle.md_seam.specs.Events.Nested.{enter}
-use Rattle.md_seam.specs.Lent.{lent}
-use Rattle.md_seam.specs.Spaces.{is_current, sees_white, small_indent}
-use Rattle.md_seam.proofs.AheadLemmas.{none-rest, white-no_ending}
+use Rattle.md_events.specs.Ahead.{line_bytes, white_rest}
+use Rattle.md_events.specs.Events.Nested.{enter}
+use Rattle.md_events.specs.Lent.{lent}
+use Rattle.md_events.specs.Spaces.{is_current, sees_white, small_indent}
+use Rattle.md_events.proofs.AheadLemmas.{none-rest, white-no_ending}
 
 -- After some of the line.
 

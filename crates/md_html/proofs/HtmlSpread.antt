@@ -20,7 +20,7 @@ use Rattle.md_meaning.specs.Html.{raw_ends, starts_in_any_case}
 use Rattle.md_meaning.specs.Lines.{begins_with}
 use Rattle.md_meaning.specs.Rest.{is_blank, is_parted, is_white, trim_start}
 use Rattle.md_meaning.proofs.HtmlLemmas.{after_attributes-some, length-after_attribute}
-use Rattle.md_seam.proofs.RestLines.{count-none, count-one}
+use Rattle.md_events.proofs.RestLines.{count-none, count-one}
 
 -- the same bytes, but that runs of whitespace may be longer in the second list
 pub data Wide : List ℕ → List ℕ → Type 0 where

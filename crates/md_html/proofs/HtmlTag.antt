@@ -25,8 +25,8 @@ use Rattle.md_html.proofs.HtmlMoves.{tag-taken, with-line}
 use Rattle.md_html.proofs.HtmlTags.{assignment-more, assignment-none, assignment-sign, closes-none, opening-attribute}
 use Rattle.md_html.proofs.HtmlTags.{opening-last, opening-more, opening-slash, optional-none, trim-none, trim-white}
 use Rattle.md_html.proofs.HtmlTags.{value-bare, value-empty, value-none, value-quoted}
-use Rattle.md_seam.specs.Ahead.{line_bytes}
-use Rattle.md_seam.specs.Spaces.{ends_line, is_current, sees_white}
+use Rattle.md_events.specs.Ahead.{line_bytes}
+use Rattle.md_events.specs.Spaces.{ends_line, is_current, sees_white}
 
 -- What is left of a tag, by whether it is one.
 

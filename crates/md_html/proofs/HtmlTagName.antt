@@ -29,8 +29,8 @@ use Rattle.md_html.proofs.HtmlBytes.{name-more}
 use Rattle.md_html.proofs.HtmlNames.{tag-dark}
 use Rattle.md_html.proofs.HtmlOpening.{ends-raw}
 use Rattle.md_html.proofs.HtmlTags.{closes-none, opening-last, opening-slash, optional-none, trim-none}
-use Rattle.md_seam.specs.Ahead.{line_bytes}
-use Rattle.md_seam.specs.Spaces.{is_current}
+use Rattle.md_events.specs.Ahead.{line_bytes}
+use Rattle.md_events.specs.Spaces.{is_current}
 
 -- What follows the name.
 

@@ -28,9 +28,9 @@ use Rattle.md_html.specs.Html.{self_closing_move, start_code, stop_move, stop_of
 use Rattle.md_html.specs.Html.{unquoted_byte, value_before_byte}
 use Rattle.md_html.proofs.HtmlBytes.{letters-more, letters-none}
 use Rattle.md_html.proofs.HtmlNames.{name-kept, name-starts}
-use Rattle.md_seam.specs.Spaces.{IsRest, ends_line, is_current, rest_ready, sees_white}
-use Rattle.md_seam.specs.Transition.{entered, exited, taken}
-use Rattle.md_seam.proofs.SpacesTermination.{Does, goes-on, seen-in, seen-some}
+use Rattle.md_events.specs.Spaces.{IsRest, ends_line, is_current, rest_ready, sees_white}
+use Rattle.md_events.specs.Transition.{entered, exited, taken}
+use Rattle.md_events.proofs.SpacesTermination.{Does, goes-on, seen-in, seen-some}
 
 pub record HtmlFits (T : Scheme) : Type 1 where
   pub each : (state : HtmlState) → Fits T html_scheme (n.HtmlFlow state)

@@ -19,9 +19,9 @@ use Rattle.md_html.specs.HtmlLine.{kind_at, left_of}
 use Rattle.md_html.specs.HtmlRule.{allowed, closes, ends_by, entering, further_at, further_begun, html_at, left}
 use Rattle.md_html.specs.HtmlRule.{line_at, line_begun, line_done, nonblank_at, opens, opens_by}
 use Rattle.md_leaves.proofs.LeafSteps.{ended}
-use Rattle.md_seam.specs.Ahead.{from_ending, line_bytes, line_end, white_rest}
-use Rattle.md_seam.specs.Spaces.{IsRest, small_indent}
-use Rattle.md_seam.proofs.SpacesTermination.{rest-size}
+use Rattle.md_events.specs.Ahead.{from_ending, line_bytes, line_end, white_rest}
+use Rattle.md_events.specs.Spaces.{IsRest, small_indent}
+use Rattle.md_events.proofs.SpacesTermination.{rest-size}
 
 -- a line that is taken to its end, by what it adds, and what is open after it
 abbrev pub line_taken : List Event → HeldLeaf → List Cell → Here → Outcome

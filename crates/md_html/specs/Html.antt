@@ -20,9 +20,9 @@ use Rattle.md_meaning.specs.Html.{is_value_byte}
 use Rattle.md_meaning.specs.Leaves.{ends_at_blank}
 use Rattle.md_meaning.specs.Rest.{is_white}
 use Rattle.md_leaves.specs.Further.{further_link}
-use Rattle.md_seam.specs.Lent.{lent}
-use Rattle.md_seam.specs.Spaces.{IsRest, ends_line, is_current, rest_ready, sees_white, small_indent}
-use Rattle.md_seam.specs.Transition.{Transition, entered, entered_link, exited, taken}
+use Rattle.md_events.specs.Lent.{lent}
+use Rattle.md_events.specs.Spaces.{IsRest, ends_line, is_current, rest_ready, sees_white, small_indent}
+use Rattle.md_events.specs.Transition.{Transition, entered, entered_link, exited, taken}
 
 -- what may be first after the indent
 abbrev pub may_begin : ℕ → Bool

@@ -13,9 +13,9 @@ use Rattle.md_meaning.specs.Rest.{is_blank}
 use Rattle.md_leaves.specs.Further.{further_link}
 use Rattle.md_html.specs.Html.{ends_in_front}
 use Rattle.md_html.specs.HtmlRule.{allowed, left}
-use Rattle.md_seam.specs.Ahead.{line_bytes, line_end, white_rest}
-use Rattle.md_seam.specs.Events.Nested.{around, enter_link, exit, pair}
-use Rattle.md_seam.specs.Spaces.{small_indent}
+use Rattle.md_events.specs.Ahead.{line_bytes, line_end, white_rest}
+use Rattle.md_events.specs.Events.Nested.{around, enter_link, exit, pair}
+use Rattle.md_events.specs.Spaces.{small_indent}
 
 -- The first line.
 

@@ -21,9 +21,9 @@ use Rattle.md_meaning.specs.Lines.{begins_with}
 use Rattle.md_meaning.specs.Rest.{is_blank, trim_start}
 use Rattle.md_leaves.specs.Further.{further_link}
 use Rattle.md_html.specs.Html.{HtmlInvariant, cleared, ends_in_front, is_open_text, name_text, stop_of}
-use Rattle.md_seam.specs.Ahead.{from_ending, line_bytes, line_end, white_rest}
-use Rattle.md_seam.specs.Events.Nested.{enter, enter_link, exit}
-use Rattle.md_seam.specs.Spaces.{small_indent}
+use Rattle.md_events.specs.Ahead.{from_ending, line_bytes, line_end, white_rest}
+use Rattle.md_events.specs.Events.Nested.{enter, enter_link, exit}
+use Rattle.md_events.specs.Spaces.{small_indent}
 
 -- where the text of a line begins
 abbrev pub entering : Here → Here

@@ -44,10 +44,10 @@ ghost use Rattle.md_html.specs.Html.{continuation_raw_end_tag_transition, contin
 ghost use Rattle.md_html.specs.Html.{declaration_open_transition, html_transition, indent_transition, is_html};
 ghost use Rattle.md_html.specs.Html.{is_open_text, may_begin, moved, open_transition, start_transition};
 ghost use Rattle.md_html.specs.Html.{tag_close_start_transition, tag_name_transition};
-ghost use Rattle.md_seam.specs.Spaces.{ends_line, is_current};
-ghost use Rattle.md_seam.specs.Look.{may_with};
-ghost use Rattle.md_seam.specs.Stays.{TakesEach};
-ghost use Rattle.md_seam.specs.Transition.{IsAt};
+ghost use Rattle.md_events.specs.Spaces.{ends_line, is_current};
+ghost use Rattle.md_events.specs.Look.{may_with};
+ghost use Rattle.md_events.specs.Stays.{TakesEach};
+ghost use Rattle.md_events.specs.Transition.{IsAt};
 
 mod parts;
 mod tag;
@@ -68,9 +68,9 @@ use md_engine::state::html_flow::State as HtmlState;
 use md_engine::state::{Name as StateName, State};
 use md_engine::stay::Stay;
 use md_engine::tokenizer::{HeldLeaf, HtmlKind, Scratch, Tokenizer};
+use md_events::space_or_tab::{is_space_or_tab, small_indent};
 use md_leaves::further::FURTHER;
 use md_meaning::html_names::{is_basic_name, is_raw_name};
-use md_seam::space_or_tab::{is_space_or_tab, small_indent};
 
 /// Whether HTML is open.
 pub fn is_html(leaf: HeldLeaf) -> bool

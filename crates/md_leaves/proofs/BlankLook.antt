@@ -5,11 +5,11 @@ use Rattle.md_engine.specs.declared.event.Event.{Event}
 use Rattle.md_engine.specs.Meaning.{Accepts, Cell, Here, Refuses}
 use Rattle.md_leaves.specs.Blank.{may_begin}
 use Rattle.md_leaves.specs.BlankRule.{blank_at}
-use Rattle.md_seam.specs.Ahead.{line_bytes}
-use Rattle.md_seam.specs.Look.{first_seen, seen_behind}
-use Rattle.md_seam.specs.Spaces.{ends_line}
+use Rattle.md_events.specs.Ahead.{line_bytes}
+use Rattle.md_events.specs.Look.{first_seen, seen_behind}
+use Rattle.md_events.specs.Spaces.{ends_line}
 use Rattle.md_meaning.specs.Rest.{is_blank, is_white}
-use Rattle.md_seam.proofs.AheadLemmas.{white-no_ending}
+use Rattle.md_events.proofs.AheadLemmas.{white-no_ending}
 
 -- that byte is one of its line, and not white
 not-blank : (cells : List Cell) (b : ℕ) → seen_behind cells ≡ Some b → may_begin b ≡ false →

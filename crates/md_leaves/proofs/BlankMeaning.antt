@@ -17,12 +17,12 @@ use Rattle.md_engine.specs.Sees.{Sees, ahead}
 use Rattle.md_engine.proofs.StepOf.{steps-as, begins_only, passes}
 use Rattle.md_leaves.specs.Blank.{after_code, blank_transition, start_code}
 use Rattle.md_leaves.specs.BlankRule.{BlankMeans, HasBlank, after_blank, blank_at}
-use Rattle.md_seam.specs.Ahead.{begins_white, from_ending, line_bytes, line_end, white_end, white_rest}
-use Rattle.md_seam.specs.Events.Nested.{enter, exit}
+use Rattle.md_events.specs.Ahead.{begins_white, from_ending, line_bytes, line_end, white_end, white_rest}
+use Rattle.md_events.specs.Events.Nested.{enter, exit}
 use Rattle.md_meaning.specs.Rest.{is_blank, is_white}
-use Rattle.md_seam.specs.Spaces.{IsRest, any_size, asking, calmed, ends_line, sees_white}
-use Rattle.md_seam.proofs.WhiteMeaning.{begins-seen, behind_white, white-tried}
-use Rattle.md_seam.proofs.AheadLemmas.{white-no_ending}
+use Rattle.md_events.specs.Spaces.{IsRest, any_size, asking, calmed, ends_line, sees_white}
+use Rattle.md_events.proofs.WhiteMeaning.{begins-seen, behind_white, white-tried}
+use Rattle.md_events.proofs.AheadLemmas.{white-no_ending}
 
 -- after whitespace that began here, with these events before it
 abbrev went_on : List Event → Here → ℕ → List Cell → Here

@@ -8,8 +8,8 @@ use Rattle.md_engine.specs.World.{World}
 use Rattle.md_engine.proofs.Falls.{later_at}
 use Rattle.md_engine.proofs.Local.{accepts, refuses, turns}
 use Rattle.md_leaves.specs.Blank.{after_code, blank_scheme, blank_transition, start_code}
-use Rattle.md_seam.specs.Spaces.{IsRest, rest_ready, any_size}
-use Rattle.md_seam.proofs.SpacesTermination.{Does, WhiteFits, rest-calm, rest-none, white_try}
+use Rattle.md_events.specs.Spaces.{IsRest, rest_ready, any_size}
+use Rattle.md_events.proofs.SpacesTermination.{Does, WhiteFits, rest-calm, rest-none, white_try}
 
 pub record BlankFits (T : Scheme) : Type 1 where
   pub white : WhiteFits T

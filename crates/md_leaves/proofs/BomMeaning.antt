@@ -18,8 +18,8 @@ use Rattle.md_leaves.specs.Bom.{BomInvariant, bom_ready, bom_transition, inside_
 use Rattle.md_leaves.specs.BomRule.{BomMeans, HasBom, bom_at, inside_mark}
 use Rattle.md_leaves.specs.Heading.{without_size}
 use Rattle.md_leaves.proofs.LeafSteps.{sees-one}
-use Rattle.md_seam.specs.Events.Nested.{enter, exit}
-use Rattle.md_seam.specs.Spaces.{IsRest, is_current}
+use Rattle.md_events.specs.Events.Nested.{enter, exit}
+use Rattle.md_events.specs.Spaces.{IsRest, is_current}
 
 -- at its first byte the mark is what is inside it
 mark-begins : (cells : List Cell) (h : Here) → h.scratch.size ≡ 0 → without_size h.scratch ≡ h.scratch →

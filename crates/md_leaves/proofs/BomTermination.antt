@@ -13,9 +13,9 @@ use Rattle.md_engine.proofs.Points.{takes}
 use Rattle.md_leaves.specs.Bom.{bom_ready, bom_scheme, bom_transition, inside_code, mark_at, start_code}
 use Rattle.md_leaves.specs.Heading.{without_size}
 use Rattle.md_leaves.proofs.HeadingTermination.{rest-without}
-use Rattle.md_seam.specs.Spaces.{is_current, rest_ready}
-use Rattle.md_seam.specs.Transition.{entered}
-use Rattle.md_seam.proofs.SpacesTermination.{Does, accepts-behind, rest-size, seen-in}
+use Rattle.md_events.specs.Spaces.{is_current, rest_ready}
+use Rattle.md_events.specs.Transition.{entered}
+use Rattle.md_events.proofs.SpacesTermination.{Does, accepts-behind, rest-size, seen-in}
 
 pub record BomFits (T : Scheme) : Type 1 where
   pub each : (state : BomState) → Fits T bom_scheme (n.Bom state)

@@ -14,11 +14,11 @@ use Rattle.md_leaves.specs.BreakRule.{Apart, Marks, Run, White, at_break, before
 use Rattle.md_leaves.specs.HeadingSetext.{turns_nothing}
 use Rattle.md_leaves.specs.HeadingSetextRule.{is_underline}
 use Rattle.md_leaves.proofs.LeafSteps.{TakesWhite}
-use Rattle.md_seam.specs.Ahead.{line_bytes}
-use Rattle.md_seam.specs.Events.Nested.{enter, exit}
+use Rattle.md_events.specs.Ahead.{line_bytes}
+use Rattle.md_events.specs.Events.Nested.{enter, exit}
 use Rattle.md_meaning.specs.Leaves.{is_rule}
 use Rattle.md_meaning.specs.Rest.{is_white}
-use Rattle.md_seam.proofs.AheadLemmas.{white-no_ending}
+use Rattle.md_events.proofs.AheadLemmas.{white-no_ending}
 
 pub marks-none : (m : ℕ) → marks m [] ≡ 0
 unfolding marks

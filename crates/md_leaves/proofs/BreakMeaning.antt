@@ -33,12 +33,12 @@ use Rattle.md_leaves.proofs.BreakOneRun.{one_run-none, one_run-white, takes-one_
 use Rattle.md_leaves.proofs.BreakTermination.{marked-calm, rest-marker}
 use Rattle.md_leaves.proofs.LeafStart.{HasStart, start-steps}
 use Rattle.md_leaves.proofs.LeafSteps.{sees-one, sees-other_white, white_frame, behind-joined, white-run}
-use Rattle.md_seam.specs.Ahead.{line_bytes, white_rest}
-use Rattle.md_seam.specs.Events.Nested.{enter, exit}
+use Rattle.md_events.specs.Ahead.{line_bytes, white_rest}
+use Rattle.md_events.specs.Events.Nested.{enter, exit}
 use Rattle.md_meaning.specs.Rest.{is_white}
-use Rattle.md_seam.specs.Spaces.{IsRest, any_size, ends_line, is_current, sees_white}
-use Rattle.md_seam.proofs.LookLemmas.{first-seen}
-use Rattle.md_seam.proofs.WhiteMeaning.{begins-seen, white-tried}
+use Rattle.md_events.specs.Spaces.{IsRest, any_size, ends_line, is_current, sees_white}
+use Rattle.md_events.proofs.LookLemmas.{first-seen}
+use Rattle.md_events.proofs.WhiteMeaning.{begins-seen, white-tried}
 
 abbrev behind_marks : Here → Here
 behind_marks h = record h { events = h.events ++ exit parts.ThematicBreakSequence h.point ∷ [] }

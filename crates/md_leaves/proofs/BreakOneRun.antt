@@ -17,12 +17,12 @@ use Rattle.md_leaves.proofs.BreakLemmas.{apart-mark, before-mark, before-underli
 use Rattle.md_leaves.proofs.BreakLemmas.{marks-end, marks-white, takes-white}
 use Rattle.md_leaves.proofs.LeafSteps.{TakesWhite}
 use Rattle.md_leaves.proofs.SetextLemmas.{is_run-one, is_run-other}
-use Rattle.md_seam.specs.Ahead.{line_bytes}
-use Rattle.md_seam.specs.Events.Nested.{enter, exit}
-use Rattle.md_seam.specs.Look.{first_seen}
-use Rattle.md_seam.specs.Spaces.{ends_line}
+use Rattle.md_events.specs.Ahead.{line_bytes}
+use Rattle.md_events.specs.Events.Nested.{enter, exit}
+use Rattle.md_events.specs.Look.{first_seen}
+use Rattle.md_events.specs.Spaces.{ends_line}
 use Rattle.md_meaning.specs.Rest.{is_blank, is_white}
-use Rattle.md_seam.proofs.AheadLemmas.{white-no_ending}
+use Rattle.md_events.proofs.AheadLemmas.{white-no_ending}
 
 -- The bytes of a line from here.
 

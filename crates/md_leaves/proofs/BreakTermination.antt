@@ -14,10 +14,10 @@ use Rattle.md_engine.proofs.Points.{cells-grow, stays, takes}
 use Rattle.md_leaves.specs.Break.{at_break_code, before_code, break_ready, break_scheme, break_transition, is_marker}
 use Rattle.md_leaves.specs.Break.{marked_code, one_run_after_code, one_run_code, sequence_code, without_marker}
 use Rattle.md_leaves.specs.HeadingSetext.{turns_nothing}
-use Rattle.md_seam.specs.Spaces.{IsRest, calmed, is_current, rest_ready, sees_white, any_size}
-use Rattle.md_seam.specs.Transition.{entered, exited}
+use Rattle.md_events.specs.Spaces.{IsRest, calmed, is_current, rest_ready, sees_white, any_size}
+use Rattle.md_events.specs.Transition.{entered, exited}
 use Rattle.md_leaves.proofs.LeafStart.{FitsStart, good-start}
-use Rattle.md_seam.proofs.SpacesTermination.{Does, WhiteFits, rest-size, seen-in, white_try}
+use Rattle.md_events.proofs.SpacesTermination.{Does, WhiteFits, rest-size, seen-in, white_try}
 
 pub record BreakFits (T : Scheme) : Type 1 where
   pub white : WhiteFits T

@@ -18,12 +18,12 @@ use Rattle.md_engine.proofs.Walks.{TakesSo, Within, then-seen, then-stays, then-
 use Rattle.md_leaves.specs.Heading.{at_break_code, before_code, behind_part, data_code, heading_transition, sees_text}
 use Rattle.md_leaves.specs.Heading.{sequence_further_code, sequence_open_code, text_begun, without_size}
 use Rattle.md_leaves.specs.HeadingCalls.{HeadingStep, begins_text}
-use Rattle.md_seam.specs.Events.Nested.{exit}
-use Rattle.md_seam.specs.OneSpace.{IsOneSpace, spaced}
-use Rattle.md_seam.specs.Spaces.{any_size, ends_line, is_current, sees_white, white_then, white_transition}
-use Rattle.md_seam.specs.Stays.{TakesEach}
-use Rattle.md_seam.specs.Transition.{Transition, entered, exited}
-use Rattle.md_seam.proofs.OneSpace.{space-run}
+use Rattle.md_events.specs.Events.Nested.{exit}
+use Rattle.md_events.specs.OneSpace.{IsOneSpace, spaced}
+use Rattle.md_events.specs.Spaces.{any_size, ends_line, is_current, sees_white, white_then, white_transition}
+use Rattle.md_events.specs.Stays.{TakesEach}
+use Rattle.md_events.specs.Transition.{Transition, entered, exited}
+use Rattle.md_events.proofs.OneSpace.{space-run}
 
 -- a byte that does not end the line
 not-ending : (b : ℕ) → not (nat_eq b 10) ≡ true → nat_eq b 10 ≡ false

@@ -14,9 +14,9 @@ use Rattle.md_leaves.proofs.TitleRuns.{hash-runs, is_hash, three-runs, white-run
 use Rattle.md_leaves.proofs.TitleTexts.{Parted, Shape, parted}
 use Rattle.md_meaning.specs.Bytes.{begins, is_end}
 use Rattle.md_meaning.specs.Rest.{is_white, trim_start}
-use Rattle.md_seam.specs.Events.Grammar.{Expression, Nothing, inside, may_end}
-use Rattle.md_seam.specs.Events.Places.{past_text}
-use Rattle.md_seam.proofs.GrammarLemmas.{IsWord, Leads, leads-append, maybe}
+use Rattle.md_events.specs.Events.Grammar.{Expression, Nothing, inside, may_end}
+use Rattle.md_events.specs.Events.Places.{past_text}
+use Rattle.md_events.proofs.GrammarLemmas.{IsWord, Leads, leads-append, maybe}
 
 abbrev is_some : List ℕ → Bool
 is_some bytes = not (is_end bytes)

@@ -10,12 +10,12 @@ use Rattle.md_engine.specs.Meaning.{Cell, Here, Refuses}
 use Rattle.md_leaves.specs.Heading.{text_begun, text_ended, without_size}
 use Rattle.md_leaves.specs.HeadingRule.{at_break, before_opening, behind_opening, in_hashes, in_opening, in_text}
 use Rattle.md_leaves.specs.HeadingRule.{is_heading, is_opening}
-use Rattle.md_seam.specs.Ahead.{begins_white, line_bytes, white_rest}
-use Rattle.md_seam.specs.Events.Nested.{enter, exit}
-use Rattle.md_seam.specs.Spaces.{IsRest, any_size}
+use Rattle.md_events.specs.Ahead.{begins_white, line_bytes, white_rest}
+use Rattle.md_events.specs.Events.Nested.{enter, exit}
+use Rattle.md_events.specs.Spaces.{IsRest, any_size}
 use Rattle.md_meaning.specs.Rest.{is_white, run_len}
-use Rattle.md_seam.proofs.AheadLemmas.{white-no_ending}
-use Rattle.md_seam.proofs.WhiteMeaning.{behind_white}
+use Rattle.md_events.proofs.AheadLemmas.{white-no_ending}
+use Rattle.md_events.proofs.WhiteMeaning.{behind_white}
 
 -- After the opening sequence.
 

@@ -30,15 +30,15 @@ use Rattle.md_leaves.proofs.LeafSteps.{sees-one, white_frame}
 use Rattle.md_leaves.proofs.HeadingLemmas.{before-hash, before-other, behind_sequence, break-text, break-white}
 use Rattle.md_leaves.proofs.HeadingLemmas.{opening-ends, opening-full, opening-gap, opening-more, opening-no_gap}
 use Rattle.md_leaves.proofs.HeadingLemmas.{opening-none, opening-text, opening-white, rest-ended}
-use Rattle.md_seam.specs.Ahead.{from_ending, line_end}
-use Rattle.md_seam.specs.Events.Nested.{enter, exit, last_point}
-use Rattle.md_seam.specs.Lent.{whole_from}
+use Rattle.md_events.specs.Ahead.{from_ending, line_end}
+use Rattle.md_events.specs.Events.Nested.{enter, exit, last_point}
+use Rattle.md_events.specs.Lent.{whole_from}
 use Rattle.md_meaning.specs.Rest.{is_white}
-use Rattle.md_seam.specs.Spaces.{IsRest, any_size, ends_line, is_current, sees_white}
-use Rattle.md_seam.specs.Transition.{Transition, exited}
-use Rattle.md_seam.specs.WholeLine.{line_taken, whole_line}
-use Rattle.md_seam.proofs.LineTaken.{bytes-none, taken-more}
-use Rattle.md_seam.proofs.WhiteMeaning.{begins-seen, white-tried}
+use Rattle.md_events.specs.Spaces.{IsRest, any_size, ends_line, is_current, sees_white}
+use Rattle.md_events.specs.Transition.{Transition, exited}
+use Rattle.md_events.specs.WholeLine.{line_taken, whole_line}
+use Rattle.md_events.proofs.LineTaken.{bytes-none, taken-more}
+use Rattle.md_events.proofs.WhiteMeaning.{begins-seen, white-tried}
 
 not-or : (a b : Bool) → not (a || b) ≡ true → (a ≡ false) × (b ≡ false)
 not-or true b e = cc

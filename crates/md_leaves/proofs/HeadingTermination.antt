@@ -20,11 +20,11 @@ use Rattle.md_leaves.specs.Heading.{IsInText, at_break_code, before_code, behind
 use Rattle.md_leaves.specs.Heading.{heading_scheme, heading_transition, sees_text, sequence_further_code}
 use Rattle.md_leaves.specs.Heading.{sequence_open_code, text_added, text_begun, text_ended, without_size}
 use Rattle.md_leaves.proofs.LeafStart.{FitsStart, good-start}
-use Rattle.md_seam.specs.Lent.{whole_from}
-use Rattle.md_seam.specs.Spaces.{IsRest, calmed, ends_line, is_current, rest_ready, sees_white, any_size}
-use Rattle.md_seam.specs.Transition.{entered, exited, taken}
-use Rattle.md_seam.proofs.LineTaken.{whole-behind}
-use Rattle.md_seam.proofs.SpacesTermination.{Does, WhiteFits, goes-on, rest-calm, rest-none, rest-size, seen-in, white_try}
+use Rattle.md_events.specs.Lent.{whole_from}
+use Rattle.md_events.specs.Spaces.{IsRest, calmed, ends_line, is_current, rest_ready, sees_white, any_size}
+use Rattle.md_events.specs.Transition.{entered, exited, taken}
+use Rattle.md_events.proofs.LineTaken.{whole-behind}
+use Rattle.md_events.proofs.SpacesTermination.{Does, WhiteFits, goes-on, rest-calm, rest-none, rest-size, seen-in, white_try}
 
 -- the states in its text
 abbrev IsTextState : HeadingState → Type 0

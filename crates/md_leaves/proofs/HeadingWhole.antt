@@ -16,14 +16,14 @@ use Rattle.md_leaves.proofs.HeadingLemmas.{before-is, before-no, break-text, ope
 use Rattle.md_leaves.proofs.HeadingLemmas.{sequence_begun}
 use Rattle.md_leaves.specs.LeafStart.{entered_here}
 use Rattle.md_leaves.proofs.LeafStart.{at-none, at-off, at-white, indented-none, indented-white}
-use Rattle.md_seam.specs.Ahead.{begins_white, from_ending, line_bytes, line_end, white_end, white_rest}
-use Rattle.md_seam.specs.Events.Nested.{around, enter, exit, last_point, pair}
-use Rattle.md_seam.specs.Spaces.{IsRest, any_size, calmed, small_indent}
-use Rattle.md_seam.proofs.AheadLemmas.{none-rest, white-all, white-ending, white-line_end}
-use Rattle.md_seam.proofs.NestedLemmas.{last_point-append}
-use Rattle.md_seam.proofs.RestCells.{white-length}
-use Rattle.md_seam.proofs.SpacesTermination.{rest-calm}
-use Rattle.md_seam.proofs.WhiteMeaning.{behind_white}
+use Rattle.md_events.specs.Ahead.{begins_white, from_ending, line_bytes, line_end, white_end, white_rest}
+use Rattle.md_events.specs.Events.Nested.{around, enter, exit, last_point, pair}
+use Rattle.md_events.specs.Spaces.{IsRest, any_size, calmed, small_indent}
+use Rattle.md_events.proofs.AheadLemmas.{none-rest, white-all, white-ending, white-line_end}
+use Rattle.md_events.proofs.NestedLemmas.{last_point-append}
+use Rattle.md_events.proofs.RestCells.{white-length}
+use Rattle.md_events.proofs.SpacesTermination.{rest-calm}
+use Rattle.md_events.proofs.WhiteMeaning.{behind_white}
 
 -- a heading that was begun here
 

@@ -9,9 +9,9 @@ use Rattle.md_engine.specs.Place.{IsPlaced}
 use Rattle.md_leaves.specs.HeadingText.{Before, Opened, Outside, Place, Within, begins, ends, headings_resolved}
 use Rattle.md_leaves.specs.HeadingText.{is_heading, is_run, is_sequence, linked_text, resolved, text_between}
 use Rattle.md_leaves.specs.HeadingRuns.{heading_link}
-use Rattle.md_seam.specs.Events.Nested.{enter, enter_link, exit}
-use Rattle.md_seam.specs.Parts.{ArePlaced}
-use Rattle.md_seam.specs.Events.Tiles.{is_data}
+use Rattle.md_events.specs.Events.Nested.{enter, enter_link, exit}
+use Rattle.md_events.specs.Parts.{ArePlaced}
+use Rattle.md_events.specs.Events.Tiles.{is_data}
 
 abbrev Stands : List ℕ → Event → Type 0
 Stands bytes e = IsPlaced bytes e.point

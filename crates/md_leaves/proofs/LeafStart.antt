@@ -19,15 +19,15 @@ use Rattle.md_engine.proofs.StepOf.{begins, moves, passes}
 use Rattle.md_leaves.specs.LeafStart.{entered_here, start_at, start_code}
 use Rattle.md_leaves.proofs.LeafSteps.{white_frame}
 use Rattle.md_meaning.specs.Rest.{is_white}
-use Rattle.md_seam.specs.Ahead.{HasWhite, begins_white, line_bytes, line_cells, white_end, white_rest}
-use Rattle.md_seam.specs.Events.Nested.{enter, pair}
-use Rattle.md_seam.specs.Look.{first_seen, seen_behind}
-use Rattle.md_seam.specs.Spaces.{IsRest, rest_ready, sees_white, small_indent}
-use Rattle.md_seam.specs.Transition.{entered}
-use Rattle.md_seam.proofs.AheadLemmas.{none-end, none-rest, small-some}
-use Rattle.md_seam.proofs.LookLemmas.{rest-begins}
-use Rattle.md_seam.proofs.SpacesTermination.{Does, WhiteFits, rest-calm, rest-none, white_try}
-use Rattle.md_seam.proofs.WhiteMeaning.{begins-seen, behind_white, white-tried}
+use Rattle.md_events.specs.Ahead.{HasWhite, begins_white, line_bytes, line_cells, white_end, white_rest}
+use Rattle.md_events.specs.Events.Nested.{enter, pair}
+use Rattle.md_events.specs.Look.{first_seen, seen_behind}
+use Rattle.md_events.specs.Spaces.{IsRest, rest_ready, sees_white, small_indent}
+use Rattle.md_events.specs.Transition.{entered}
+use Rattle.md_events.proofs.AheadLemmas.{none-end, none-rest, small-some}
+use Rattle.md_events.proofs.LookLemmas.{rest-begins}
+use Rattle.md_events.proofs.SpacesTermination.{Does, WhiteFits, rest-calm, rest-none, white_try}
+use Rattle.md_events.proofs.WhiteMeaning.{begins-seen, behind_white, white-tried}
 
 -- What is left of it: where it is off,
 pub at-off : (name : Name) (on : Bool) (behind : List Cell → Here → Outcome) (options : ParseOptions)

@@ -11,11 +11,11 @@ use Rattle.md_engine.specs.Meaning.{Cell, Feed, Here, Outcome}
 use Rattle.md_engine.specs.World.{World, after}
 use Rattle.md_engine.specs.Sees.{Sees, ahead, cell_here}
 use Rattle.md_meaning.specs.Bytes.{is_end}
-use Rattle.md_seam.specs.Ahead.{from_ending, line_bytes, line_cells, white_end, white_rest}
-use Rattle.md_seam.specs.Events.Nested.{enter, exit}
+use Rattle.md_events.specs.Ahead.{from_ending, line_bytes, line_cells, white_end, white_rest}
+use Rattle.md_events.specs.Events.Nested.{enter, exit}
 use Rattle.md_meaning.specs.Rest.{is_white}
-use Rattle.md_seam.specs.Spaces.{calmed, ends_line, is_current, sees_white}
-use Rattle.md_seam.proofs.WhiteMeaning.{behind_white}
+use Rattle.md_events.specs.Spaces.{calmed, ends_line, is_current, sees_white}
+use Rattle.md_events.proofs.WhiteMeaning.{behind_white}
 
 -- what is seen of a byte that passes a test
 pub sees-one : (feed : Feed) (w : World) (t : Option ℕ → Bool) → t None ≡ false → Sees feed w → t w.current ≡ true →

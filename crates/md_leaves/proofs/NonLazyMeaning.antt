@@ -15,8 +15,8 @@ use Rattle.md_engine.specs.Sees.{Sees, ahead}
 use Rattle.md_engine.proofs.StepOf.{steps-as, moves, passes}
 use Rattle.md_leaves.specs.NonLazy.{after_code, non_lazy_transition, start_code}
 use Rattle.md_leaves.specs.NonLazyRule.{NonLazyMeans, HasNonLazy, after_ending, continuation_at, is_lazy}
-use Rattle.md_seam.specs.Events.Nested.{enter, exit, pair}
-use Rattle.md_seam.specs.Spaces.{is_current}
+use Rattle.md_events.specs.Events.Nested.{enter, exit, pair}
+use Rattle.md_events.specs.Spaces.{is_current}
 
 -- The start.
 

@@ -9,8 +9,8 @@ use Rattle.md_engine.proofs.Falls.{later}
 use Rattle.md_engine.proofs.Local.{accepts, consumes, refuses}
 use Rattle.md_engine.proofs.Points.{takes}
 use Rattle.md_leaves.specs.NonLazy.{after_code, non_lazy_ready, non_lazy_scheme, non_lazy_transition, start_code}
-use Rattle.md_seam.specs.Spaces.{is_current}
-use Rattle.md_seam.proofs.SpacesTermination.{Does, seen-in}
+use Rattle.md_events.specs.Spaces.{is_current}
+use Rattle.md_events.proofs.SpacesTermination.{Does, seen-in}
 
 pub record NonLazyFits (T : Scheme) : Type 1 where
   pub each : (state : NonLazyState) → Fits T non_lazy_scheme (n.NonLazyContinuation state)

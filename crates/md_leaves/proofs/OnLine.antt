@@ -11,11 +11,11 @@ use Rattle.md_engine.proofs.Sound.{placed-next}
 use Rattle.md_leaves.specs.OnLine.{IsOnLine}
 use Rattle.md_meaning.proofs.TextsLemmas.{NoEnding}
 use Rattle.md_meaning.specs.Lines.{is_ending}
-use Rattle.md_seam.specs.Events.Places.{past_byte, past_text}
-use Rattle.md_seam.proofs.FeedLines.{past-next}
-use Rattle.md_seam.proofs.PlacesLemmas.{at-next}
-use Rattle.md_seam.proofs.PointOrder.{reached-column}
-use Rattle.md_seam.proofs.ReachedLemmas.{same-behind}
+use Rattle.md_events.specs.Events.Places.{past_byte, past_text}
+use Rattle.md_events.proofs.FeedLines.{past-next}
+use Rattle.md_events.proofs.PlacesLemmas.{at-next}
+use Rattle.md_events.proofs.PointOrder.{reached-column}
+use Rattle.md_events.proofs.ReachedLemmas.{same-behind}
 
 -- a point of a text has a column from 1 on
 pub column-some : (bytes : List ℕ) (p : Point) → IsPlaced bytes p → 1 ≤ p.column

@@ -16,13 +16,13 @@ use Rattle.md_leaves.specs.OnLine.{IsOnLine}
 use Rattle.md_leaves.proofs.OnLine.{column-some, on-behind, on-next}
 use Rattle.md_meaning.proofs.TextsLemmas.{NoEnding}
 use Rattle.md_meaning.specs.Lines.{is_ending, without_ending}
-use Rattle.md_seam.specs.Events.Places.{past_byte, past_text}
-use Rattle.md_seam.specs.Lent.{whole_from}
-use Rattle.md_seam.specs.WholeLine.{line_taken}
-use Rattle.md_seam.proofs.InlineLemmas.{past-index, past_text-append}
-use Rattle.md_seam.proofs.LineTaken.{taken-slice}
-use Rattle.md_seam.proofs.PointOrder.{Before, placed-same, walk-before}
-use Rattle.md_seam.proofs.ReachedLemmas.{same-behind}
+use Rattle.md_events.specs.Events.Places.{past_byte, past_text}
+use Rattle.md_events.specs.Lent.{whole_from}
+use Rattle.md_events.specs.WholeLine.{line_taken}
+use Rattle.md_events.proofs.InlineLemmas.{past-index, past_text-append}
+use Rattle.md_events.proofs.LineTaken.{taken-slice}
+use Rattle.md_events.proofs.PointOrder.{Before, placed-same, walk-before}
+use Rattle.md_events.proofs.ReachedLemmas.{same-behind}
 
 -- Lines never go back.
 line-next : (bytes : List ℕ) (p : Point) → p.line ≤ (next_point bytes p).line

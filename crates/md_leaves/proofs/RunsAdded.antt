@@ -10,8 +10,8 @@ use Rattle.md_engine.specs.declared.event.Name.TheVariants.{HeadingAtxSequence, 
 use Rattle.md_engine.specs.declared.event.Point.{Point}
 use Rattle.md_leaves.specs.HeadingRuns.{Apart, Hashes, Run, White, begun, closes, goes_on, line_runs, opens}
 use Rattle.md_meaning.specs.Rest.{is_white}
-use Rattle.md_seam.specs.Events.Nested.{pair}
-use Rattle.md_seam.specs.Events.Places.{past_byte, past_text}
+use Rattle.md_events.specs.Events.Nested.{pair}
+use Rattle.md_events.specs.Events.Places.{past_byte, past_text}
 
 -- a run continues to where it ends, and after it are the runs of the rest
 run-left : (run : Run) (bs : List ℕ) (p : Point) →

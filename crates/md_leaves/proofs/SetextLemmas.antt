@@ -14,10 +14,10 @@ use Rattle.md_leaves.specs.MarkRuns.{White}
 use Rattle.md_leaves.proofs.BreakLemmas.{white-apart}
 use Rattle.md_leaves.proofs.HeadingLemmas.{run_len-one, run_len-other}
 use Rattle.md_leaves.proofs.LeafSteps.{TakesWhite}
-use Rattle.md_seam.specs.Ahead.{from_ending, line_bytes, line_cells, line_end}
-use Rattle.md_seam.specs.Events.Nested.{enter, exit}
+use Rattle.md_events.specs.Ahead.{from_ending, line_bytes, line_cells, line_end}
+use Rattle.md_events.specs.Events.Nested.{enter, exit}
 use Rattle.md_meaning.specs.Rest.{is_blank, is_white}
-use Rattle.md_seam.proofs.AheadLemmas.{white-no_ending}
+use Rattle.md_events.proofs.AheadLemmas.{white-no_ending}
 
 -- a marker ends no line,
 pub marker-no_ending : (m : ℕ) → is_marker m ≡ true → nat_eq m 10 ≡ false

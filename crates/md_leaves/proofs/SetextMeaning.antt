@@ -26,12 +26,12 @@ use Rattle.md_leaves.proofs.LeafSteps.{behind-joined, sees-one, sees-other_white
 use Rattle.md_leaves.proofs.SetextLemmas.{before-mark, before-none, before-other, behind_sequence, in_run-ends}
 use Rattle.md_leaves.proofs.SetextLemmas.{in_run-mark, in_run-none, in_run-white, in_white, marker-no_ending}
 use Rattle.md_leaves.proofs.SetextLemmas.{marker-no_white, takes-white}
-use Rattle.md_seam.specs.Ahead.{white_rest}
-use Rattle.md_seam.specs.Events.Nested.{enter, exit}
-use Rattle.md_seam.specs.Look.{first_seen}
-use Rattle.md_seam.specs.Spaces.{IsRest, any_size, ends_line, is_current, sees_white}
-use Rattle.md_seam.proofs.LookLemmas.{first-seen}
-use Rattle.md_seam.proofs.WhiteMeaning.{begins-seen, white-tried}
+use Rattle.md_events.specs.Ahead.{white_rest}
+use Rattle.md_events.specs.Events.Nested.{enter, exit}
+use Rattle.md_events.specs.Look.{first_seen}
+use Rattle.md_events.specs.Spaces.{IsRest, any_size, ends_line, is_current, sees_white}
+use Rattle.md_events.proofs.LookLemmas.{first-seen}
+use Rattle.md_events.proofs.WhiteMeaning.{begins-seen, white-tried}
 
 -- After the indent.
 

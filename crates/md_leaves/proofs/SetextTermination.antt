@@ -13,9 +13,9 @@ use Rattle.md_leaves.specs.HeadingSetext.{after_code, before_code, inside_code, 
 use Rattle.md_leaves.specs.HeadingSetext.{setext_transition, without_marker}
 use Rattle.md_leaves.proofs.BreakTermination.{marked-rest}
 use Rattle.md_leaves.proofs.LeafStart.{FitsStart, good-start}
-use Rattle.md_seam.specs.Spaces.{IsRest, any_size, is_current, rest_ready}
-use Rattle.md_seam.specs.Transition.{entered, exited}
-use Rattle.md_seam.proofs.SpacesTermination.{Does, WhiteFits, rest-calm, rest-none, rest-size, seen-in, white_try}
+use Rattle.md_events.specs.Spaces.{IsRest, any_size, is_current, rest_ready}
+use Rattle.md_events.specs.Transition.{entered, exited}
+use Rattle.md_events.proofs.SpacesTermination.{Does, WhiteFits, rest-calm, rest-none, rest-size, seen-in, white_try}
 
 -- a table that has the states of an underline, and those of whitespace
 pub record SetextFits (T : Scheme) : Type 1 where

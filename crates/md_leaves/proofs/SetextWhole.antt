@@ -17,12 +17,12 @@ use Rattle.md_leaves.specs.LeafStart.{entered_here}
 use Rattle.md_leaves.specs.MarkRuns.{Apart}
 use Rattle.md_leaves.proofs.BreakTermination.{rest-marker, rest-white}
 use Rattle.md_leaves.proofs.LeafStart.{at-none, at-off, at-white, indented-none, indented-white, rule-refused}
-use Rattle.md_seam.specs.Ahead.{begins_white, from_ending, line_bytes, line_cells, line_end, white_end, white_rest}
-use Rattle.md_seam.specs.Events.Nested.{around, pair}
-use Rattle.md_seam.specs.Look.{seen_behind}
-use Rattle.md_seam.specs.Spaces.{IsRest, calmed, small_indent}
-use Rattle.md_seam.proofs.AheadLemmas.{none-rest, white-ending, white-line_end}
-use Rattle.md_seam.proofs.WhiteMeaning.{behind_white}
+use Rattle.md_events.specs.Ahead.{begins_white, from_ending, line_bytes, line_cells, line_end, white_end, white_rest}
+use Rattle.md_events.specs.Events.Nested.{around, pair}
+use Rattle.md_events.specs.Look.{seen_behind}
+use Rattle.md_events.specs.Spaces.{IsRest, calmed, small_indent}
+use Rattle.md_events.proofs.AheadLemmas.{none-rest, white-ending, white-line_end}
+use Rattle.md_events.proofs.WhiteMeaning.{behind_white}
 
 -- the whole line is a part, with this inside, and no leaf is open after it
 abbrev pub taken_line : List Event → List Cell → Here → Outcome

@@ -16,8 +16,8 @@ use Rattle.md_leaves.specs.Spanned.{Begins, Ends, GoesOn, Stays, Turn, given, gi
 use Rattle.md_leaves.specs.Spanned.{is_blank_ending, is_code_line, passes_on, is_renamed, links_back, name_at, passes}
 use Rattle.md_leaves.specs.Spanned.{place_after, place_by, renamed, spanned, spanned_from, turn, turn_by}
 use Rattle.md_leaves.specs.Turned.{HoldNoUnderline, is_no_underline, is_underline}
-use Rattle.md_seam.specs.Events.Spelled.{role}
-use Rattle.md_seam.specs.Parts.{ArePlaced}
+use Rattle.md_events.specs.Events.Spelled.{role}
+use Rattle.md_events.specs.Parts.{ArePlaced}
 
 -- Events that pass.
 

@@ -11,8 +11,8 @@ use Rattle.md_leaves.specs.declared.spans.Place.TheVariants.{Between, Inside, Ou
 use Rattle.md_leaves.specs.Spanned.{Begins, Ends, GoesOn, Turn, begins_further, given_by, goes_on, has_lines}
 use Rattle.md_leaves.specs.Spanned.{links_back, passes, place_by, renamed, spanned_from, turn, turn_by}
 use Rattle.md_leaves.proofs.SpannedLemmas.{passes-given, stays-given}
-use Rattle.md_seam.specs.Events.Blocks.{is_block}
-use Rattle.md_seam.specs.Events.Spelled.{LeafRole, Role, role}
+use Rattle.md_events.specs.Events.Blocks.{is_block}
+use Rattle.md_events.specs.Events.Spelled.{LeafRole, Role, role}
 
 -- events that pass a place as they are; of no line; of no block
 abbrev pub Pass : Place → List Event → Type 0

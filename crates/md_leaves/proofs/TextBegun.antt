@@ -12,11 +12,11 @@ use Rattle.md_engine.specs.declared.tokenizer.Scratch.{Scratch}
 use Rattle.md_engine.specs.Place.{IsPlaced, first_point, walked}
 use Rattle.md_leaves.specs.OnLine.{IsOnLine}
 use Rattle.md_meaning.specs.Lines.{is_ending, without_ending}
-use Rattle.md_seam.specs.Events.Nested.{last_point}
-use Rattle.md_seam.specs.Lent.{whole_from}
-use Rattle.md_seam.specs.WholeLine.{line_taken}
-use Rattle.md_seam.proofs.InlineLemmas.{line-no_ending}
-use Rattle.md_seam.proofs.LineTaken.{taken-slice}
+use Rattle.md_events.specs.Events.Nested.{last_point}
+use Rattle.md_events.specs.Lent.{whole_from}
+use Rattle.md_events.specs.WholeLine.{line_taken}
+use Rattle.md_events.proofs.InlineLemmas.{line-no_ending}
+use Rattle.md_events.proofs.LineTaken.{taken-slice}
 
 -- The last event.
 

@@ -20,10 +20,10 @@ use Rattle.md_leaves.proofs.TitleTexts.{Parted, Shape, parted, text_in}
 use Rattle.md_meaning.specs.Bytes.{begins}
 use Rattle.md_meaning.specs.Leaves.{heading_text}
 use Rattle.md_meaning.specs.Rest.{is_white, run_len, trim_start}
-use Rattle.md_seam.specs.declared.inline.Chunk.{Chunk}
-use Rattle.md_seam.specs.Events.Nested.{exit}
-use Rattle.md_seam.specs.Events.Places.{past_text}
-use Rattle.md_seam.proofs.InlineLemmas.{past_text-append}
+use Rattle.md_events.specs.declared.inline.Chunk.{Chunk}
+use Rattle.md_events.specs.Events.Nested.{exit}
+use Rattle.md_events.specs.Events.Places.{past_text}
+use Rattle.md_events.proofs.InlineLemmas.{past_text-append}
 
 -- the end of a heading, and what follows
 abbrev ended : Point → List Event → List Event

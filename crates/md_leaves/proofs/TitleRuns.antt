@@ -12,8 +12,8 @@ use Rattle.md_leaves.specs.HeadingRuns.{Apart, Hashes, Run, White, begun, closes
 use Rattle.md_leaves.specs.HeadingText.{Before, Opened, Within, resolved}
 use Rattle.md_meaning.specs.Bytes.{begins}
 use Rattle.md_meaning.specs.Rest.{is_white}
-use Rattle.md_seam.specs.Events.Nested.{pair}
-use Rattle.md_seam.specs.Events.Places.{past_byte, past_text}
+use Rattle.md_events.specs.Events.Nested.{pair}
+use Rattle.md_events.specs.Events.Places.{past_byte, past_text}
 
 abbrev pub is_hash : ℕ → Bool
 is_hash b = b == 35

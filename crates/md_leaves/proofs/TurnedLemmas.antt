@@ -14,10 +14,10 @@ use Rattle.md_leaves.specs.Turned.{BeginsText, HoldNoUnderline, EndsText, EndsUn
 use Rattle.md_leaves.specs.Turned.{has_underline, is_no_underline, is_paragraph, is_turned, is_underline, on_after}
 use Rattle.md_leaves.specs.Turned.{on_by, passes, turn, turn_by, turned, turned_from, underline_behind}
 use Rattle.md_leaves.proofs.SpannedLemmas.{AtPoint, one-point}
-use Rattle.md_seam.specs.Events.Inline.{is_line_ending}
-use Rattle.md_seam.specs.Events.Nested.{around, enter, exit, is_enter, is_exit, pair}
-use Rattle.md_seam.specs.Events.Prefix.{is_prefix}
-use Rattle.md_seam.specs.Parts.{ArePlaced}
+use Rattle.md_events.specs.Events.Inline.{is_line_ending}
+use Rattle.md_events.specs.Events.Nested.{around, enter, exit, is_enter, is_exit, pair}
+use Rattle.md_events.specs.Events.Prefix.{is_prefix}
+use Rattle.md_events.specs.Parts.{ArePlaced}
 
 -- Events that pass.
 

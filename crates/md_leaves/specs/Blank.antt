@@ -7,8 +7,8 @@ use Rattle.md_engine.specs.declared.state.blank_line.State.TheVariants as its
 use Rattle.md_engine.specs.declared.state.State.TheVariants.{Ok, Nok, Next, Retry}
 use Rattle.md_engine.specs.Scheme.{Rank, Scheme, Position, ranked}
 use Rattle.md_engine.specs.World.{World}
-use Rattle.md_seam.specs.Spaces.{any_size, ends_line, rest_ready, sees_white, white_then}
-use Rattle.md_seam.specs.Transition.{Transition}
+use Rattle.md_events.specs.Spaces.{any_size, ends_line, rest_ready, sees_white, white_then}
+use Rattle.md_events.specs.Transition.{Transition}
 
 -- what may be first after the whitespace of a blank line: its ending
 abbrev pub may_begin : ℕ → Bool

@@ -1,6 +1,6 @@
 -- The rule of a blank line, as what is left of it at each state (CommonMark 4.9).
 use Rattle.std.specs.Prelude.{◌≡◌, if◌then◌else◌, List, [], ◌++◌}
-use Rattle.md_seam.specs.Spaces.{IsRest}
+use Rattle.md_events.specs.Spaces.{IsRest}
 use Rattle.md_engine.specs.World.{World}
 use Rattle.md_engine.specs.Sees.{IsStep}
 use Rattle.md_engine.specs.declared.state.State.{State}
@@ -11,9 +11,9 @@ use Rattle.md_engine.specs.declared.state.Name.TheVariants as n
 use Rattle.md_engine.specs.declared.state.blank_line.State.{State as BlankState}
 use Rattle.md_engine.specs.declared.state.blank_line.State.TheVariants as its
 use Rattle.md_engine.specs.Meaning.{Accepts, Behaviour, Cell, Here, Outcome, Refuses}
-use Rattle.md_seam.specs.Ahead.{HasWhite, begins_white, from_ending, line_bytes, line_end}
+use Rattle.md_events.specs.Ahead.{HasWhite, begins_white, from_ending, line_bytes, line_end}
 use Rattle.md_meaning.specs.Bytes.{is_end}
-use Rattle.md_seam.specs.Events.Nested.{pair}
+use Rattle.md_events.specs.Events.Nested.{pair}
 use Rattle.md_meaning.specs.Rest.{is_blank}
 
 -- after the whitespace: the line ends

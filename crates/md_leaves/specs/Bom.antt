@@ -9,8 +9,8 @@ use Rattle.md_engine.specs.declared.state.State.TheVariants.{Ok, Nok, Next, Retr
 use Rattle.md_engine.specs.Scheme.{After, Ends, Rank, Scheme, Position, ranked}
 use Rattle.md_engine.specs.World.{World}
 use Rattle.md_leaves.specs.Heading.{without_size}
-use Rattle.md_seam.specs.Spaces.{IsRest, is_current}
-use Rattle.md_seam.specs.Transition.{Transition, entered, exited, taken}
+use Rattle.md_events.specs.Spaces.{IsRest, is_current}
+use Rattle.md_events.specs.Transition.{Transition, entered, exited, taken}
 
 -- U+FEFF
 abbrev pub mark : List ℕ

@@ -12,8 +12,8 @@ use Rattle.md_engine.specs.declared.state.bom.State.TheVariants as its
 use Rattle.md_engine.specs.Meaning.{Accepts, Behaviour, Cell, Here, Outcome, Refuses}
 use Rattle.md_leaves.specs.Bom.{BomInvariant, mark}
 use Rattle.md_leaves.specs.Heading.{without_size}
-use Rattle.md_seam.specs.Ahead.{point_after}
-use Rattle.md_seam.specs.Events.Nested.{exit, pair}
+use Rattle.md_events.specs.Ahead.{point_after}
+use Rattle.md_events.specs.Events.Nested.{exit, pair}
 
 -- whether the first cells are these bytes
 abbrev pub are_next : List ℕ → List Cell → Bool

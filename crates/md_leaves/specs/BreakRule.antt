@@ -19,12 +19,12 @@ use Rattle.md_leaves.specs.HeadingSetext.{turns_nothing}
 use Rattle.md_leaves.specs.HeadingSetextRule.{is_run, is_underline}
 pub use Rattle.md_leaves.specs.MarkRuns.{Apart, Marks, Run, White}
 use Rattle.md_leaves.specs.MarkRuns.{mark_runs}
-use Rattle.md_seam.specs.Ahead.{HasWhite, begins_white, from_ending, line_bytes, line_cells, line_end}
+use Rattle.md_events.specs.Ahead.{HasWhite, begins_white, from_ending, line_bytes, line_cells, line_end}
 use Rattle.md_meaning.specs.Leaves.{is_rule}
-use Rattle.md_seam.specs.Events.Nested.{exit}
+use Rattle.md_events.specs.Events.Nested.{exit}
 use Rattle.md_meaning.specs.Rest.{is_white}
-use Rattle.md_seam.specs.Look.{first_seen}
-use Rattle.md_seam.specs.Spaces.{ends_line}
+use Rattle.md_events.specs.Look.{first_seen}
+use Rattle.md_events.specs.Spaces.{ends_line}
 
 -- the runs of markers and of whitespace that are left of a line
 abbrev pub runs : Run → ℕ → List Cell → Point → List Event

@@ -17,11 +17,11 @@ use Rattle.md_leaves.specs.HeadingRuns.{text_events}
 use Rattle.md_leaves.specs.LeafStart as leaf
 use Rattle.md_meaning.specs.Lines.{without_ending}
 use Rattle.md_meaning.specs.Rest.{is_white}
-use Rattle.md_seam.specs.Events.Nested.{last_point}
-use Rattle.md_seam.specs.Lent.{whole_from}
-use Rattle.md_seam.specs.Spaces.{any_size, ends_line, IsRest, is_current, sees_white, white_then}
-use Rattle.md_seam.specs.Transition.{Transition, entered, exited, taken}
-use Rattle.md_seam.specs.WholeLine.{line_taken}
+use Rattle.md_events.specs.Events.Nested.{last_point}
+use Rattle.md_events.specs.Lent.{whole_from}
+use Rattle.md_events.specs.Spaces.{any_size, ends_line, IsRest, is_current, sees_white, white_then}
+use Rattle.md_events.specs.Transition.{Transition, entered, exited, taken}
+use Rattle.md_events.specs.WholeLine.{line_taken}
 
 -- what may be first after the indent of a heading: `#`
 abbrev pub may_begin : ℕ → Bool

@@ -3,7 +3,7 @@ use Rattle.std.specs.Prelude.{◌≡◌, ◌&&◌, not, Bool, ℕ, Option}
 use Rattle.md_engine.specs.declared.state.Name.TheVariants as n
 use Rattle.md_engine.specs.Run.{Step}
 use Rattle.md_leaves.specs.Heading.{heading_transition, sees_text}
-use Rattle.md_seam.specs.Spaces.{is_current, white_transition}
+use Rattle.md_events.specs.Spaces.{is_current, white_transition}
 
 -- whether text begins here that is no `#`
 abbrev pub begins_text : Option ℕ → Bool

@@ -15,11 +15,11 @@ use Rattle.md_engine.specs.declared.tokenizer.TheConstants.Scratch.{REST}
 use Rattle.md_engine.specs.Meaning.{Accepts, Behaviour, Cell, Here, Outcome, Refuses}
 use Rattle.md_leaves.specs.LeafStart.{start_at}
 use Rattle.md_leaves.specs.Heading.{HeadingInvariant, text_begun, text_behind, text_ended, text_from, without_size}
-use Rattle.md_seam.specs.Ahead.{HasWhite, begins_white, from_ending, line_bytes, line_end, white_end, white_rest}
-use Rattle.md_seam.specs.Events.Nested.{enter, exit, pair}
+use Rattle.md_events.specs.Ahead.{HasWhite, begins_white, from_ending, line_bytes, line_end, white_end, white_rest}
+use Rattle.md_events.specs.Events.Nested.{enter, exit, pair}
 use Rattle.md_meaning.specs.Rest.{is_parted, run_len}
-use Rattle.md_seam.specs.Spaces.{any_size, calmed, small_indent}
-use Rattle.md_seam.specs.WholeLine.{line_taken, whole_line}
+use Rattle.md_events.specs.Spaces.{any_size, calmed, small_indent}
+use Rattle.md_events.specs.WholeLine.{line_taken, whole_line}
 
 -- the rest of a line from its text on, after these bytes of that
 unfoldable pub in_text : List ℕ → List Cell → Here → Outcome

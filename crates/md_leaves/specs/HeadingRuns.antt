@@ -8,9 +8,9 @@ use Rattle.md_engine.specs.declared.event.Name.TheVariants.{Data, HeadingAtxSequ
 use Rattle.md_engine.specs.declared.event.Point.{Point}
 use Rattle.md_meaning.specs.Leaves.{heading_text}
 use Rattle.md_meaning.specs.Rest.{is_white}
-use Rattle.md_seam.specs.declared.inline.Chunk.{Chunk}
-use Rattle.md_seam.specs.Events.Nested.{enter, enter_link, exit}
-use Rattle.md_seam.specs.Events.Places.{past_byte, past_text}
+use Rattle.md_events.specs.declared.inline.Chunk.{Chunk}
+use Rattle.md_events.specs.Events.Nested.{enter, enter_link, exit}
+use Rattle.md_events.specs.Events.Places.{past_byte, past_text}
 
 -- in which run of a line a place lies
 pub data Run : Type 0 where

@@ -16,8 +16,8 @@ use Rattle.md_engine.specs.Progress.{is_whole}
 use Rattle.md_engine.specs.Scheme.{After, Ends, Rank, Scheme, Position, cells_before, ranked, seen}
 use Rattle.md_engine.specs.World.{World}
 use Rattle.md_leaves.specs.LeafStart as leaf
-use Rattle.md_seam.specs.Spaces.{any_size, ends_line, IsRest, is_current, sees_white, white_then}
-use Rattle.md_seam.specs.Transition.{Transition, entered, exited, taken}
+use Rattle.md_events.specs.Spaces.{any_size, ends_line, IsRest, is_current, sees_white, white_then}
+use Rattle.md_events.specs.Transition.{Transition, entered, exited, taken}
 
 -- a marker of an underline
 abbrev pub is_marker : ℕ → Bool

@@ -17,11 +17,11 @@ use Rattle.md_engine.specs.Meaning.{Accepts, Behaviour, Cell, Here, Outcome, Ref
 use Rattle.md_leaves.specs.HeadingSetext.{SetextInvariant, is_marker, may_turn, without_marker}
 use Rattle.md_leaves.specs.LeafStart.{start_at}
 use Rattle.md_leaves.specs.MarkRuns.{Apart, Marks, Run, mark_runs}
-use Rattle.md_seam.specs.Ahead.{HasWhite, begins_white, from_ending, line_bytes, line_cells, line_end, white_end}
-use Rattle.md_seam.specs.Ahead.{white_rest}
-use Rattle.md_seam.specs.Events.Nested.{exit, pair}
-use Rattle.md_seam.specs.Look.{first_seen}
-use Rattle.md_seam.specs.Spaces.{ends_line, small_indent}
+use Rattle.md_events.specs.Ahead.{HasWhite, begins_white, from_ending, line_bytes, line_cells, line_end, white_end}
+use Rattle.md_events.specs.Ahead.{white_rest}
+use Rattle.md_events.specs.Events.Nested.{exit, pair}
+use Rattle.md_events.specs.Look.{first_seen}
+use Rattle.md_events.specs.Spaces.{ends_line, small_indent}
 use Rattle.md_meaning.specs.Rest.{is_blank, run_len}
 
 -- the run of the marker, and the whitespace after it

@@ -7,9 +7,9 @@ use Rattle.md_engine.specs.declared.event.Name.{Name}
 use Rattle.md_engine.specs.declared.event.Name.TheVariants as n
 use Rattle.md_engine.specs.declared.event.Point.{Point}
 use Rattle.md_leaves.specs.HeadingRuns.{heading_link}
-use Rattle.md_seam.specs.declared.inline.Chunk.{Chunk}
-use Rattle.md_seam.specs.Events.Nested.{around, enter_link, exit, is_enter, is_exit}
-use Rattle.md_seam.specs.Events.Tiles.{is_data}
+use Rattle.md_events.specs.declared.inline.Chunk.{Chunk}
+use Rattle.md_events.specs.Events.Nested.{around, enter_link, exit, is_enter, is_exit}
+use Rattle.md_events.specs.Events.Tiles.{is_data}
 
 abbrev pub is_heading : Name → Bool
 is_heading n.HeadingAtx = true

@@ -5,9 +5,9 @@ use Rattle.md_engine.specs.declared.event.Event.{Event}
 use Rattle.md_engine.specs.declared.event.Point.{Point}
 use Rattle.md_leaves.specs.HeadingRuns.{Apart, chunk_unless_empty, line_runs, linked_data}
 use Rattle.md_leaves.specs.HeadingText.{linked_text}
-use Rattle.md_seam.specs.declared.inline.Chunk.{Chunk}
+use Rattle.md_events.specs.declared.inline.Chunk.{Chunk}
 use Rattle.md_meaning.specs.Leaves.{heading_text}
-use Rattle.md_seam.specs.Events.Places.{past_text}
+use Rattle.md_events.specs.Events.Places.{past_text}
 use Rattle.md_meaning.specs.Rest.{is_white, run_len}
 
 -- The parts of a heading: its opening sequence with the whitespace around it, its text, and what follows that.

@@ -7,10 +7,10 @@ use Rattle.md_engine.specs.declared.state.Name.{Name as StateName}
 use Rattle.md_engine.specs.declared.state.State.TheVariants.{Next, Nok, Retry}
 use Rattle.md_engine.specs.Meaning.{Cell, Here, Outcome, Refuses}
 use Rattle.md_engine.specs.World.{World}
-use Rattle.md_seam.specs.Ahead.{begins_white, white_end, white_rest}
-use Rattle.md_seam.specs.Events.Nested.{enter, exit}
-use Rattle.md_seam.specs.Spaces.{calmed, sees_white, small_indent, white_then}
-use Rattle.md_seam.specs.Transition.{Transition, entered}
+use Rattle.md_events.specs.Ahead.{begins_white, white_end, white_rest}
+use Rattle.md_events.specs.Events.Nested.{enter, exit}
+use Rattle.md_events.specs.Spaces.{calmed, sees_white, small_indent, white_then}
+use Rattle.md_events.specs.Transition.{Transition, entered}
 
 -- What its first state does, by its name and its state after the indent: by whether it is on, and whether whitespace is
 -- here.

@@ -7,8 +7,8 @@ use Rattle.md_engine.specs.declared.state.non_lazy_continuation.State.TheVariant
 use Rattle.md_engine.specs.declared.state.State.TheVariants.{Ok, Nok, Next}
 use Rattle.md_engine.specs.Scheme.{After, Ends, Scheme, Position, ranked}
 use Rattle.md_engine.specs.World.{World}
-use Rattle.md_seam.specs.Spaces.{is_current}
-use Rattle.md_seam.specs.Transition.{Transition, entered, exited, taken}
+use Rattle.md_events.specs.Spaces.{is_current}
+use Rattle.md_events.specs.Transition.{Transition, entered, exited, taken}
 
 -- by whether the line ends here, with an ending
 abbrev pub start_code : World → Bool → Transition

@@ -10,7 +10,7 @@ use Rattle.md_engine.specs.declared.state.non_lazy_continuation.State.{State as 
 use Rattle.md_engine.specs.declared.state.non_lazy_continuation.State.TheVariants as its
 use Rattle.md_engine.specs.declared.tokenizer.Line.{Line}
 use Rattle.md_engine.specs.Meaning.{Steps, Feed, Accepts, Behaviour, Cell, Here, Outcome, Refuses, line_of}
-use Rattle.md_seam.specs.Events.Nested.{pair}
+use Rattle.md_events.specs.Events.Nested.{pair}
 
 -- whether the line of these cells is lazy; where no cell is left, it is what the parent says of the end
 abbrev pub is_lazy : Line → List Cell → Bool

@@ -18,9 +18,9 @@ use Rattle.md_engine.specs.declared.event.Name.TheVariants as n
 use Rattle.md_leaves.specs.declared.spans.Place.{Place}
 use Rattle.md_leaves.specs.declared.spans.Place.TheVariants.{Between, Inside, Outside}
 use Rattle.md_leaves.specs.Turned.{is_no_underline}
-use Rattle.md_seam.specs.Events.Blocks.{is_block}
-use Rattle.md_seam.specs.Events.Nested.{is_enter}
-use Rattle.md_seam.specs.Events.Spelled.{OfCode, OfFence, OfHtml, OfMath, OfTable, LeafRole, Role, role}
+use Rattle.md_events.specs.Events.Blocks.{is_block}
+use Rattle.md_events.specs.Events.Nested.{is_enter}
+use Rattle.md_events.specs.Events.Spelled.{OfCode, OfFence, OfHtml, OfMath, OfTable, LeafRole, Role, role}
 
 -- Names.
 

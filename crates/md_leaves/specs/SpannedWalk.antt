@@ -3,7 +3,7 @@ use Rattle.std.specs.Prelude.{ℕ, List, ◌++◌}
 use Rattle.std.specs.List.{prefix_len}
 use Rattle.md_engine.specs.declared.event.Event.{Event}
 use Rattle.md_leaves.specs.declared.spans.Walk.{Walk}
-use Rattle.md_seam.specs.Rewritten.{held_of, left_of, written_of}
+use Rattle.md_events.specs.Rewritten.{held_of, left_of, written_of}
 use Rattle.md_leaves.specs.Spanned.{passes_on}
 
 -- what is given so far, and the events that are left

@@ -9,9 +9,9 @@ use Rattle.md_engine.specs.declared.event.Kind.{Kind}
 use Rattle.md_engine.specs.declared.event.Kind.TheVariants.{Enter, Exit}
 use Rattle.md_engine.specs.declared.event.Name.{Name}
 use Rattle.md_engine.specs.declared.event.Name.TheVariants as n
-use Rattle.md_seam.specs.Events.Inline.{is_line_ending}
-use Rattle.md_seam.specs.Events.Nested.{enter, exit, is_enter, is_exit}
-use Rattle.md_seam.specs.Events.Prefix.{is_prefix}
+use Rattle.md_events.specs.Events.Inline.{is_line_ending}
+use Rattle.md_events.specs.Events.Nested.{enter, exit, is_enter, is_exit}
+use Rattle.md_events.specs.Events.Prefix.{is_prefix}
 
 -- Names.
 

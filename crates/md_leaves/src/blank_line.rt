@@ -12,14 +12,14 @@ ghost use Rattle.md_engine.specs.declared.state.Name.{Name as StateName};
 ghost use Rattle.md_engine.specs.declared.state.State.{State};
 ghost use Rattle.md_engine.specs.declared.state.blank_line.State.{State as BlankState};
 ghost use Rattle.md_leaves.specs.Blank.{after_transition, blank_transition, may_begin, start_transition};
-ghost use Rattle.md_seam.specs.Look.{may_with};
-ghost use Rattle.md_seam.specs.Spaces.{ends_line};
-ghost use Rattle.md_seam.specs.Transition.{IsAt, NeedsNothing};
+ghost use Rattle.md_events.specs.Look.{may_with};
+ghost use Rattle.md_events.specs.Spaces.{ends_line};
+ghost use Rattle.md_events.specs.Transition.{IsAt, NeedsNothing};
 
 use md_engine::state::blank_line::State as BlankState;
 use md_engine::state::{Name as StateName, State};
 use md_engine::tokenizer::Tokenizer;
-use md_seam::space_or_tab::{is_space_or_tab, space_or_tab};
+use md_events::space_or_tab::{is_space_or_tab, space_or_tab};
 
 /// Whether the line ends here: then what is left of it is blank.
 pub fn ends_line(current: Option<u8>) -> bool

@@ -20,10 +20,10 @@ ghost use Rattle.md_leaves.specs.Heading.{heading_transition, may_begin, sequenc
 ghost use Rattle.md_leaves.specs.Heading.{sequence_open_transition, start_transition, text_begun};
 ghost use Rattle.md_leaves.specs.HeadingCalls.{HeadingStep, begins_text};
 ghost use Rattle.md_leaves.specs.HeadingRule.{HeadingMeans};
-ghost use Rattle.md_seam.specs.Look.{may_with};
-ghost use Rattle.md_seam.specs.Spaces.{is_current, sees_white};
-ghost use Rattle.md_seam.specs.Stays.{TakesEach};
-ghost use Rattle.md_seam.specs.Transition.{IsAt, NeedsNothing};
+ghost use Rattle.md_events.specs.Look.{may_with};
+ghost use Rattle.md_events.specs.Spaces.{is_current, sees_white};
+ghost use Rattle.md_events.specs.Stays.{TakesEach};
+ghost use Rattle.md_events.specs.Transition.{IsAt, NeedsNothing};
 
 use crate::blank_line::ends_line;
 use crate::heading_text::add_text;
@@ -34,8 +34,8 @@ use md_engine::state::heading_atx::State as HeadingState;
 use md_engine::state::{Name as StateName, State};
 use md_engine::stay::Stay;
 use md_engine::tokenizer::Tokenizer;
-use md_seam::slice::whole_from;
-use md_seam::space_or_tab::{is_one_space, is_space_or_tab, space_or_tab, take_one_space};
+use md_events::slice::whole_from;
+use md_events::space_or_tab::{is_one_space, is_space_or_tab, space_or_tab, take_one_space};
 
 /// An opening sequence has at most so many `#`.
 const OPENING: usize = 6;

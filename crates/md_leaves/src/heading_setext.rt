@@ -19,9 +19,9 @@ ghost use Rattle.md_engine.specs.declared.state.heading_setext.State.{State as S
 ghost use Rattle.md_leaves.specs.HeadingSetext.{SetextNeeds, after_transition, before_transition, inside_transition};
 ghost use Rattle.md_leaves.specs.HeadingSetext.{is_marker, may_begin, may_turn, setext_transition, start_transition};
 ghost use Rattle.md_leaves.specs.HeadingSetext.{turns_nothing};
-ghost use Rattle.md_seam.specs.Look.{may_with};
-ghost use Rattle.md_seam.specs.Stays.{TakesEach};
-ghost use Rattle.md_seam.specs.Transition.{IsAt};
+ghost use Rattle.md_events.specs.Look.{may_with};
+ghost use Rattle.md_events.specs.Stays.{TakesEach};
+ghost use Rattle.md_events.specs.Transition.{IsAt};
 
 use crate::leaf_start::start_leaf;
 use md_engine::configuration::ParseOptions;
@@ -31,7 +31,7 @@ use md_engine::state::heading_setext::State as SetextState;
 use md_engine::state::{Name as StateName, State};
 use md_engine::stay::Stay;
 use md_engine::tokenizer::{HeldLeaf, Progress, Tokenizer};
-use md_seam::space_or_tab::{is_space_or_tab, space_or_tab_min_max};
+use md_events::space_or_tab::{is_space_or_tab, space_or_tab_min_max};
 
 /// Whether this is a marker of an underline.
 fn is_marker(byte: u8) -> bool

@@ -15,19 +15,19 @@ ghost use Rattle.md_leaves.specs.HeadingRuns.{Apart, Hashes, White, chunk_unless
 ghost use Rattle.md_leaves.specs.HeadingRuns.{linked_data};
 ghost use Rattle.md_leaves.specs.OnLine.{IsOnLine};
 ghost use Rattle.md_meaning.specs.Lines.{without_ending};
-ghost use Rattle.md_seam.specs.Events.Nested.{last_point};
-ghost use Rattle.md_seam.specs.Events.Places.{past_byte, past_text};
-ghost use Rattle.md_seam.specs.WholeLine.{line_taken};
+ghost use Rattle.md_events.specs.Events.Nested.{last_point};
+ghost use Rattle.md_events.specs.Events.Places.{past_byte, past_text};
+ghost use Rattle.md_events.specs.WholeLine.{line_taken};
 
 use md_engine::class::is_white;
 use md_engine::event::{Content, Link, Name, Point};
 use md_engine::message::Message;
 use md_engine::tokenizer::Tokenizer;
-use md_grammars::bytes::white_len;
-use md_grammars::heading::heading_text;
-use md_grammars::lines::line_len;
-use md_seam::parts::add_part;
-use md_seam::slice::{between, whole_from};
+use md_events::parts::add_part;
+use md_events::slice::{between, whole_from};
+use md_scan::bytes::white_len;
+use md_scan::heading::heading_text;
+use md_scan::lines::line_len;
 
 /// What is text of a heading is read later.
 const TEXT_LINK: Link = Link {

@@ -10,7 +10,7 @@ use md_engine::event::Name;
 use md_engine::or_error;
 use md_engine::state::{Name as StateName, State};
 use md_engine::tokenizer::Tokenizer;
-use md_seam::space_or_tab::{is_space_or_tab, small_indent, space_or_tab_min_max};
+use md_events::space_or_tab::{is_space_or_tab, small_indent, space_or_tab_min_max};
 
 /// Begins the leaf of this name, if it is on, takes a small indent, and continues at this state.
 #[inline(always)]

@@ -12,7 +12,7 @@ ghost use Rattle.md_engine.specs.declared.state.Name.{Name as StateName};
 ghost use Rattle.md_engine.specs.declared.state.State.{State};
 ghost use Rattle.md_engine.specs.declared.state.bom.State.{State as BomState};
 ghost use Rattle.md_leaves.specs.Bom.{BomNeeds, bom_transition, inside_transition, start_transition};
-ghost use Rattle.md_seam.specs.Transition.{IsAt};
+ghost use Rattle.md_events.specs.Transition.{IsAt};
 
 use md_engine::event::Name;
 use md_engine::or_error;

@@ -12,7 +12,7 @@ ghost use Rattle.md_engine.specs.declared.state.Name.{Name as StateName};
 ghost use Rattle.md_engine.specs.declared.state.State.{State};
 ghost use Rattle.md_engine.specs.declared.state.non_lazy_continuation.State.{State as NonLazyState};
 ghost use Rattle.md_leaves.specs.NonLazy.{after_transition, non_lazy_transition, start_transition};
-ghost use Rattle.md_seam.specs.Transition.{IsAt, NeedsNothing};
+ghost use Rattle.md_events.specs.Transition.{IsAt, NeedsNothing};
 
 use md_engine::event::Name;
 use md_engine::or_error;

@@ -10,22 +10,22 @@ ghost use Rattle.std.specs.List.{prefix_len};
 ghost use Rattle.std.specs.Option.{option_map};
 ghost use Rattle.md_engine.specs.Found.{found_in};
 ghost use Rattle.md_engine.specs.World.{world};
-ghost use Rattle.md_seam.specs.Rewritten.{IsFirst, held_of};
+ghost use Rattle.md_events.specs.Rewritten.{IsFirst, held_of};
 ghost use Rattle.md_leaves.specs.Spanned.{Ends, begins_further, given, given_by, goes_on, has_lines, is_blank_ending};
 ghost use Rattle.md_leaves.specs.Spanned.{is_code_line, is_renamed, links_back, passes, passes_on, place_after};
 ghost use Rattle.md_leaves.specs.Spanned.{place_by};
 ghost use Rattle.md_leaves.specs.Turned.{HoldNoUnderline, is_underline};
 ghost use Rattle.md_leaves.specs.Spanned.{renamed, spanned, turn_by};
-ghost use Rattle.md_seam.specs.Events.Spelled.{role};
-ghost use Rattle.md_seam.specs.Parts.{ArePlaced};
+ghost use Rattle.md_events.specs.Events.Spelled.{role};
+ghost use Rattle.md_events.specs.Parts.{ArePlaced};
 
 use md_engine::event::{Event, Kind, Link, Name};
 use md_engine::message::Message;
 use md_engine::subtokenize::Subresult;
 use md_engine::tokenizer::Tokenizer;
-use md_seam::names::is_block;
-use md_seam::rewriting::Rewriting;
-use md_seam::walks::{Test, passing};
+use md_events::names::is_block;
+use md_events::rewriting::Rewriting;
+use md_events::walks::{Test, passing};
 
 /// Whether these events are of a leaf block of several lines.
 ///

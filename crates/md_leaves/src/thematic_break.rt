@@ -16,9 +16,9 @@ ghost use Rattle.md_engine.specs.declared.state.thematic_break.State.{State as B
 ghost use Rattle.md_leaves.specs.Break.{BreakNeeds, at_break_transition, before_transition, break_transition};
 ghost use Rattle.md_leaves.specs.Break.{is_marker, may_begin, one_run_after_transition, one_run_transition};
 ghost use Rattle.md_leaves.specs.Break.{sequence_transition, start_transition};
-ghost use Rattle.md_seam.specs.Look.{may_with};
-ghost use Rattle.md_seam.specs.Stays.{TakesEach};
-ghost use Rattle.md_seam.specs.Transition.{IsAt};
+ghost use Rattle.md_events.specs.Look.{may_with};
+ghost use Rattle.md_events.specs.Stays.{TakesEach};
+ghost use Rattle.md_events.specs.Transition.{IsAt};
 
 use crate::heading_setext::turns_nothing;
 use crate::leaf_start::start_leaf;
@@ -28,7 +28,7 @@ use md_engine::state::thematic_break::State as BreakState;
 use md_engine::state::{Name as StateName, State};
 use md_engine::stay::Stay;
 use md_engine::tokenizer::Tokenizer;
-use md_seam::space_or_tab::{is_space_or_tab, small_indent, space_or_tab_min_max};
+use md_events::space_or_tab::{is_space_or_tab, small_indent, space_or_tab_min_max};
 
 /// A break has at least so many markers.
 const MARKERS: usize = 3;

@@ -20,12 +20,12 @@ use Rattle.md_link_definitions.proofs.GapLines.{AreAt}
 use Rattle.md_link_definitions.proofs.LineCells.{further, mark-split}
 use Rattle.md_link_definitions.proofs.TitleLemmas.{title-marks}
 use Rattle.md_link_definitions.proofs.WholeCellLemmas.{IsMarkFirst, rest-are, whole-after, whole-at}
-use Rattle.md_seam.specs.Ahead.{from_ending, line_cells, point_after, white_rest}
-use Rattle.md_seam.specs.Look.{first_seen}
-use Rattle.md_seam.specs.Spaces.{any_size, ends_line}
-use Rattle.md_seam.proofs.AheadLemmas.{white-ending, white-no_ending}
-use Rattle.md_seam.proofs.FeedLines.{bytes_of}
-use Rattle.md_seam.proofs.RestCells.{white-length}
+use Rattle.md_events.specs.Ahead.{from_ending, line_cells, point_after, white_rest}
+use Rattle.md_events.specs.Look.{first_seen}
+use Rattle.md_events.specs.Spaces.{any_size, ends_line}
+use Rattle.md_events.proofs.AheadLemmas.{white-ending, white-no_ending}
+use Rattle.md_events.proofs.FeedLines.{bytes_of}
+use Rattle.md_events.proofs.RestCells.{white-length}
 
 -- After the mark that closes a text.
 

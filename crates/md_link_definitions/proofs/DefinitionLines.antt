@@ -31,10 +31,10 @@ use Rattle.md_link_definitions.proofs.GapLines.{AreAt, gap-lines, gap-parted, ga
 use Rattle.md_link_definitions.proofs.LabelLines.{label-lines, label_lines}
 use Rattle.md_link_definitions.proofs.LineCells.{further, lines-first}
 use Rattle.md_link_definitions.proofs.TitleTexts.{title-texts, title_texts}
-use Rattle.md_seam.specs.Ahead.{from_ending, line_bytes, line_cells, white_end, white_rest}
-use Rattle.md_seam.specs.Spaces.{any_size}
-use Rattle.md_seam.proofs.FeedLines.{bytes_of}
-use Rattle.md_seam.proofs.RestCells.{white-length}
+use Rattle.md_events.specs.Ahead.{from_ending, line_bytes, line_cells, white_end, white_rest}
+use Rattle.md_events.specs.Spaces.{any_size}
+use Rattle.md_events.proofs.FeedLines.{bytes_of}
+use Rattle.md_events.proofs.RestCells.{white-length}
 
 -- The title.
 

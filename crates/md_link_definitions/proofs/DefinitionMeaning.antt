@@ -36,14 +36,14 @@ use Rattle.md_link_definitions.specs.LabelRule.{label_at}
 use Rattle.md_link_definitions.specs.TitleRule.{title_at}
 use Rattle.md_link_definitions.proofs.GapMeaning.{past-none, past-some}
 use Rattle.md_link_definitions.proofs.GapWhole.{gap-refused}
-use Rattle.md_seam.specs.Ahead.{begins_white, white_rest}
-use Rattle.md_seam.specs.Events.Nested.{enter, exit, pair}
-use Rattle.md_seam.specs.Look.{first_seen}
-use Rattle.md_seam.specs.Spaces.{IsRest, any_size, ends_line, is_current, sees_white}
-use Rattle.md_seam.specs.Transition.{entered}
-use Rattle.md_seam.proofs.AheadLemmas.{none-rest}
-use Rattle.md_seam.proofs.LookLemmas.{first-seen}
-use Rattle.md_seam.proofs.WhiteMeaning.{begins-seen, white-tried}
+use Rattle.md_events.specs.Ahead.{begins_white, white_rest}
+use Rattle.md_events.specs.Events.Nested.{enter, exit, pair}
+use Rattle.md_events.specs.Look.{first_seen}
+use Rattle.md_events.specs.Spaces.{IsRest, any_size, ends_line, is_current, sees_white}
+use Rattle.md_events.specs.Transition.{entered}
+use Rattle.md_events.proofs.AheadLemmas.{none-rest}
+use Rattle.md_events.proofs.LookLemmas.{first-seen}
+use Rattle.md_events.proofs.WhiteMeaning.{begins-seen, white-tried}
 
 -- Attempts.
 

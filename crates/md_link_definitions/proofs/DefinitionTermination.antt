@@ -29,9 +29,9 @@ use Rattle.md_link_definitions.proofs.DestinationTermination.{DestinationFits}
 use Rattle.md_link_definitions.proofs.GapTermination.{GapFits}
 use Rattle.md_link_definitions.proofs.LabelTermination.{LabelFits}
 use Rattle.md_link_definitions.proofs.TitleTermination.{TitleFits}
-use Rattle.md_seam.specs.Spaces.{IsRest, any_size, is_current, later_ready, rest_ready}
-use Rattle.md_seam.specs.Transition.{entered, exited}
-use Rattle.md_seam.proofs.SpacesTermination.{Does, rest-calm, rest-none, seen-in, white_try, white_try_later}
+use Rattle.md_events.specs.Spaces.{IsRest, any_size, is_current, later_ready, rest_ready}
+use Rattle.md_events.specs.Transition.{entered, exited}
+use Rattle.md_events.proofs.SpacesTermination.{Does, rest-calm, rest-none, seen-in, white_try, white_try_later}
 
 -- a table that has its states, and those of its parts
 pub record DefinitionFits (T : Scheme) : Type 1 where

@@ -29,11 +29,11 @@ use Rattle.md_link_definitions.proofs.DestinationWhole.{destination-is}
 use Rattle.md_link_definitions.proofs.GapWhole.{gap-refused, gap-took}
 use Rattle.md_link_definitions.proofs.LabelWhole.{label-whole, taken_label}
 use Rattle.md_link_definitions.proofs.TitleWhole.{taken_title, title-whole}
-use Rattle.md_seam.specs.Ahead.{begins_white, line_bytes, white_end, white_rest}
-use Rattle.md_seam.specs.Events.Nested.{enter, exit, pair}
-use Rattle.md_seam.specs.Look.{first_seen}
-use Rattle.md_seam.specs.Spaces.{IsRest, any_size, ends_line}
-use Rattle.md_seam.proofs.AheadLemmas.{none-end, none-rest}
+use Rattle.md_events.specs.Ahead.{begins_white, line_bytes, white_end, white_rest}
+use Rattle.md_events.specs.Events.Nested.{enter, exit, pair}
+use Rattle.md_events.specs.Look.{first_seen}
+use Rattle.md_events.specs.Spaces.{IsRest, any_size, ends_line}
+use Rattle.md_events.proofs.AheadLemmas.{none-end, none-rest}
 
 -- after what has these events, and ends here
 abbrev pub moved : Here → List Event → Point → Here

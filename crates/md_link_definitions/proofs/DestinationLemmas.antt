@@ -20,8 +20,8 @@ use Rattle.md_link_definitions.specs.Destination.{enclosed_piece, is_escaped, ra
 use Rattle.md_link_definitions.specs.DestinationRule.{before_literal, destination_at, in_literal, in_raw, literal_begin}
 use Rattle.md_link_definitions.specs.DestinationRule.{literal_by}
 use Rattle.md_link_definitions.specs.DestinationRule.{literal_end, raw_begin, raw_end, text_begin, text_end, text_part}
-use Rattle.md_seam.specs.Ahead.{line_bytes}
-use Rattle.md_seam.specs.Spaces.{is_current}
+use Rattle.md_events.specs.Ahead.{line_bytes}
+use Rattle.md_events.specs.Spaces.{is_current}
 
 -- a byte that is the one is not the other
 not-same : (b m k : ℕ) → nat_eq b m ≡ true → nat_eq m k ≡ false → nat_eq b k ≡ false

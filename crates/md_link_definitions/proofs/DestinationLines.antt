@@ -28,9 +28,9 @@ use Rattle.md_link_definitions.proofs.LineCells.{line-stops, lines-first, lines-
 use Rattle.md_link_definitions.proofs.WholeCellLemmas.{IsMarkFirst, NoWhite, mark-at, no-white, rest-are, whole-after}
 use Rattle.md_link_definitions.proofs.WholeCellLemmas.{whole-before, whole-from}
 use Rattle.md_link_definitions.proofs.SpreadLines.{whole-append}
-use Rattle.md_seam.specs.Ahead.{from_ending, line_bytes, line_cells, point_after}
-use Rattle.md_seam.proofs.RestLines.{count-none, count-one}
-use Rattle.md_seam.proofs.FeedLines.{NoFeed, Stops, bytes_of, point_after-append}
+use Rattle.md_events.specs.Ahead.{from_ending, line_bytes, line_cells, point_after}
+use Rattle.md_events.proofs.RestLines.{count-none, count-one}
+use Rattle.md_events.proofs.FeedLines.{NoFeed, Stops, bytes_of, point_after-append}
 
 -- On the first of some lines: a destination, and what is left of the line, before the further lines.
 abbrev pub with_further : List (List ℕ) → Option Destination → Option Lines

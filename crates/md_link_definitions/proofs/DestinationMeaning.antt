@@ -30,8 +30,8 @@ use Rattle.md_link_definitions.proofs.DestinationLemmas.{literal-closes, literal
 use Rattle.md_link_definitions.proofs.DestinationLemmas.{literal-opens, literal-other, raw-backslash, raw-bare}
 use Rattle.md_link_definitions.proofs.DestinationLemmas.{raw-closes, raw-done, raw-escaped, raw-is, raw-left, raw-opens}
 use Rattle.md_link_definitions.proofs.DestinationLemmas.{raw-other, raw-refuses, raw-stops}
-use Rattle.md_seam.specs.Spaces.{IsRest, is_current}
-use Rattle.md_seam.specs.Transition.{taken}
+use Rattle.md_events.specs.Spaces.{IsRest, is_current}
+use Rattle.md_events.specs.Transition.{taken}
 
 -- The cell that is here is taken, and the rule continues after it as the next state has it.
 takes-steps : (B : Behaviour) (feed : Feed) (w : World) (from to : DestinationState) (s : Scratch) (b : ℕ) →

@@ -19,9 +19,9 @@ use Rattle.md_link_definitions.specs.Destination.{enclosed_before_code, enclosed
 use Rattle.md_link_definitions.specs.Destination.{raw_code, raw_piece, start_code, text_entered, text_exited, with_size}
 use Rattle.md_link_definitions.specs.Destination.{without_size}
 use Rattle.md_link_definitions.proofs.DestinationLemmas.{enclosed-is}
-use Rattle.md_seam.specs.Spaces.{IsRest, is_current, rest_ready}
-use Rattle.md_seam.specs.Transition.{taken}
-use Rattle.md_seam.proofs.SpacesTermination.{Does, accepts-behind, rest-size, seen-in}
+use Rattle.md_events.specs.Spaces.{IsRest, is_current, rest_ready}
+use Rattle.md_events.specs.Transition.{taken}
+use Rattle.md_events.proofs.SpacesTermination.{Does, accepts-behind, rest-size, seen-in}
 
 -- a table that has the states of a destination
 pub record DestinationFits (T : Scheme) : Type 1 where

@@ -17,9 +17,9 @@ use Rattle.md_link_definitions.specs.DestinationRule.{before_literal, destinatio
 use Rattle.md_link_definitions.specs.DestinationRule.{behind_cells, literal_by, raw_begin, raw_end, text_part}
 use Rattle.md_link_definitions.proofs.DestinationLemmas.{begins-literal, begins-neither, begins-none, begins-raw}
 use Rattle.md_link_definitions.proofs.DestinationLemmas.{line-ends, line-more}
-use Rattle.md_seam.specs.Ahead.{line_bytes}
-use Rattle.md_seam.specs.Spaces.{IsRest}
-use Rattle.md_seam.proofs.SpacesTermination.{rest-size}
+use Rattle.md_events.specs.Ahead.{line_bytes}
+use Rattle.md_events.specs.Spaces.{IsRest}
+use Rattle.md_events.proofs.SpacesTermination.{rest-size}
 
 -- what an enclosed text becomes as a destination
 abbrev pub literal_found : Enclosed → Option Destination

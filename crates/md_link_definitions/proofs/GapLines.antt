@@ -11,11 +11,11 @@ use Rattle.md_link_definitions.specs.GapRule.{begins_gap, ending_end, ending_res
 use Rattle.md_link_definitions.specs.WholeCells.{AreWhole, IsWhole, whole_cells}
 use Rattle.md_link_definitions.proofs.CellLineLemmas.{lines-byte, lines-ending, lines-some, lines-white}
 use Rattle.md_link_definitions.proofs.WholeCellLemmas.{whole-at}
-use Rattle.md_seam.specs.Ahead.{begins_white, white_end, white_rest}
-use Rattle.md_seam.specs.Spaces.{any_size}
-use Rattle.md_seam.proofs.AheadLemmas.{white-no_ending}
-use Rattle.md_seam.proofs.RestCells.{white-length}
-use Rattle.md_seam.proofs.RestLines.{trim-white}
+use Rattle.md_events.specs.Ahead.{begins_white, white_end, white_rest}
+use Rattle.md_events.specs.Spaces.{any_size}
+use Rattle.md_events.proofs.AheadLemmas.{white-no_ending}
+use Rattle.md_events.proofs.RestCells.{white-length}
+use Rattle.md_events.proofs.RestLines.{trim-white}
 
 -- Whitespace before a further line.
 

@@ -18,12 +18,12 @@ use Rattle.md_engine.proofs.StepOf.{begins, begins_only, moves, passes, steps-as
 use Rattle.md_link_definitions.specs.Gap.{GapInvariant, after_eol_code, after_first_transition, at_eol_code, gap_ready, gap_transition}
 use Rattle.md_link_definitions.specs.Gap.{start_code, without_seen}
 use Rattle.md_link_definitions.specs.GapRule.{GapMeans, HasGap, after_first, at_eol, at_line, gap_at, past_white}
-use Rattle.md_seam.specs.Ahead.{begins_white, white_rest}
-use Rattle.md_seam.specs.Events.Nested.{enter, exit}
-use Rattle.md_seam.specs.Spaces.{IsRest, any_size, is_current, sees_white}
-use Rattle.md_seam.proofs.AheadLemmas.{none-end, none-rest}
-use Rattle.md_seam.proofs.SpacesTermination.{rest-calm}
-use Rattle.md_seam.proofs.WhiteMeaning.{begins-seen, behind_white, white-tried}
+use Rattle.md_events.specs.Ahead.{begins_white, white_rest}
+use Rattle.md_events.specs.Events.Nested.{enter, exit}
+use Rattle.md_events.specs.Spaces.{IsRest, any_size, is_current, sees_white}
+use Rattle.md_events.proofs.AheadLemmas.{none-end, none-rest}
+use Rattle.md_events.proofs.SpacesTermination.{rest-calm}
+use Rattle.md_events.proofs.WhiteMeaning.{begins-seen, behind_white, white-tried}
 
 -- Whitespace.
 

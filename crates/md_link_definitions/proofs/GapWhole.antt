@@ -10,9 +10,9 @@ use Rattle.md_link_definitions.specs.Gap.{with_seen, without_seen}
 use Rattle.md_link_definitions.specs.GapRule.{at_eol, at_line, begins_ending, begins_gap, ending_end, ending_part, ending_rest}
 use Rattle.md_link_definitions.specs.GapRule.{after_first, gap_at, gap_end, gap_part, gap_rest, past_white, white_part}
 use Rattle.md_link_definitions.proofs.GapMeaning.{at-none, at-some}
-use Rattle.md_seam.specs.Ahead.{begins_white, white_end, white_rest}
-use Rattle.md_seam.specs.Spaces.{IsRest, any_size}
-use Rattle.md_seam.proofs.AheadLemmas.{none-end, none-rest}
+use Rattle.md_events.specs.Ahead.{begins_white, white_end, white_rest}
+use Rattle.md_events.specs.Spaces.{IsRest, any_size}
+use Rattle.md_events.proofs.AheadLemmas.{none-end, none-rest}
 
 -- After the first whitespace.
 

@@ -11,7 +11,7 @@ use Rattle.md_engine.specs.World.{World}
 use Rattle.md_link_definitions.specs.Chunks.{before_mark, chunks, from_mark, string_link}
 use Rattle.md_link_definitions.specs.Label.{counted, is_bracket, is_escaped, is_full, most, unlabelled}
 use Rattle.md_link_definitions.specs.LabelRule.{has_text, in_label, is_text_of, label_closed, text_size}
-use Rattle.md_seam.specs.Events.Nested.{enter_link, exit}
+use Rattle.md_events.specs.Events.Nested.{enter_link, exit}
 
 -- Where the text ends without `]`, nothing is a label: at the end,
 pub label-none : (led begun escaped : Bool) (h : Here) →

@@ -24,9 +24,9 @@ use Rattle.md_link_definitions.specs.Label.{start_code, taken_as, unlabelled}
 use Rattle.md_link_definitions.specs.LabelRule.{LabelMeans, HasLabel, in_label, label_at, label_behaves, label_ended, label_opened}
 use Rattle.md_link_definitions.proofs.LabelLemmas.{TakesNext, label-broken, label-empty, label-ending, label-ends, label-full}
 use Rattle.md_link_definitions.proofs.LabelLemmas.{label-unescaped, label-led, label-line, label-none, label-takes, label-unled}
-use Rattle.md_seam.specs.Events.Nested.{enter, enter_link, exit, pair}
-use Rattle.md_seam.specs.Spaces.{IsRest, is_current, sees_white}
-use Rattle.md_seam.specs.Transition.{entered_link, exited, taken}
+use Rattle.md_events.specs.Events.Nested.{enter, enter_link, exit, pair}
+use Rattle.md_events.specs.Spaces.{IsRest, is_current, sees_white}
+use Rattle.md_events.specs.Transition.{entered_link, exited, taken}
 
 -- The start.
 

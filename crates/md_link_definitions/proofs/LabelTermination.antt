@@ -20,9 +20,9 @@ use Rattle.md_link_definitions.specs.Chunks.{string_link}
 use Rattle.md_link_definitions.specs.Label.{IsInLabel, at_break_code, close_code, counted, eol_after_code, escape_code}
 use Rattle.md_link_definitions.specs.Label.{inside_code, is_escaped, is_full, label_ready, label_scheme, label_transition, refused}
 use Rattle.md_link_definitions.specs.Label.{start_code, taken_as, unlabelled}
-use Rattle.md_seam.specs.Spaces.{IsRest, is_current, sees_white}
-use Rattle.md_seam.specs.Transition.{entered_link, exited, taken}
-use Rattle.md_seam.proofs.SpacesTermination.{Does, accepts-behind, rest-size, seen-in, seen-some}
+use Rattle.md_events.specs.Spaces.{IsRest, is_current, sees_white}
+use Rattle.md_events.specs.Transition.{entered_link, exited, taken}
+use Rattle.md_events.proofs.SpacesTermination.{Does, accepts-behind, rest-size, seen-in, seen-some}
 
 -- a table that has the states of a label
 pub record LabelFits (T : Scheme) : Type 1 where

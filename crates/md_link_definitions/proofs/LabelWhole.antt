@@ -7,8 +7,8 @@ use Rattle.md_link_definitions.specs.Chunks.{before_mark, chunks, from_mark}
 use Rattle.md_link_definitions.specs.Label.{is_bracket, unlabelled}
 use Rattle.md_link_definitions.specs.LabelRule.{LabelParts, in_label, is_label_text, label_at, label_closed, label_events}
 use Rattle.md_link_definitions.specs.LabelRule.{label_from, is_text_of, label_ended, label_opened, label_parts}
-use Rattle.md_seam.specs.Ahead.{point_after}
-use Rattle.md_seam.specs.Spaces.{IsRest}
+use Rattle.md_events.specs.Ahead.{point_after}
+use Rattle.md_events.specs.Spaces.{IsRest}
 
 -- what a label that was found becomes
 abbrev pub taken_label : Option LabelParts → Here → Outcome

@@ -13,9 +13,9 @@ use Rattle.md_link_definitions.specs.WholeCells.{AreWhole, whole_cells}
 use Rattle.md_link_definitions.proofs.CellLineLemmas.{lines-byte, lines-ending}
 use Rattle.md_link_definitions.proofs.GapLines.{whole-first}
 use Rattle.md_link_definitions.proofs.WholeCellLemmas.{whole-at}
-use Rattle.md_seam.specs.Ahead.{from_ending, line_cells, point_after}
-use Rattle.md_seam.proofs.FeedLines.{NoFeed, Stops, bytes_of, from_ending-append, line_cells-append}
-use Rattle.md_seam.proofs.RestLines.{stops-line}
+use Rattle.md_events.specs.Ahead.{from_ending, line_cells, point_after}
+use Rattle.md_events.proofs.FeedLines.{NoFeed, Stops, bytes_of, from_ending-append, line_cells-append}
+use Rattle.md_events.proofs.RestLines.{stops-line}
 
 -- How they lie.
 

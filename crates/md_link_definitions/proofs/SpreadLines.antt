@@ -12,11 +12,11 @@ use Rattle.md_engine.specs.declared.tokenizer.Line.{Line}
 use Rattle.md_engine.specs.Meaning.{Cell}
 use Rattle.md_link_definitions.specs.CellLines.{cell_lines}
 use Rattle.md_link_definitions.specs.WholeCells.{AreWhole, whole_cells}
-use Rattle.md_seam.specs.Ahead.{point_after}
-use Rattle.md_seam.specs.Events.Places.{past_byte, past_text}
-use Rattle.md_seam.proofs.FeedLines.{Stops, behind_last, byte-end, byte_cells, cell, columns_more, next_column}
-use Rattle.md_seam.proofs.FeedLines.{past_text-whole, spread, spread-end, tab-end, tab_cells, tab_end}
-use Rattle.md_seam.proofs.RestCells.{Cut, cells_by, past_cut, past_rest, rest-end, rest_cells}
+use Rattle.md_events.specs.Ahead.{point_after}
+use Rattle.md_events.specs.Events.Places.{past_byte, past_text}
+use Rattle.md_events.proofs.FeedLines.{Stops, behind_last, byte-end, byte_cells, cell, columns_more, next_column}
+use Rattle.md_events.proofs.FeedLines.{past_text-whole, spread, spread-end, tab-end, tab_cells, tab_end}
+use Rattle.md_events.proofs.RestCells.{Cut, cells_by, past_cut, past_rest, rest-end, rest_cells}
 
 -- One piece after another.
 

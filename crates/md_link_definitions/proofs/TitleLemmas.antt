@@ -13,7 +13,7 @@ use Rattle.md_link_definitions.specs.Chunks.{before_mark, from_mark, string_link
 use Rattle.md_link_definitions.specs.Title.{IsMarked, is_escaped, is_mark, unmarked}
 use Rattle.md_link_definitions.proofs.CellLineLemmas.{AreMarks, is_other}
 use Rattle.md_link_definitions.specs.TitleRule.{behind_ending, behind_opener, in_text, text_left, title_by, title_end, title_text}
-use Rattle.md_seam.specs.Events.Nested.{enter, enter_link, exit}
+use Rattle.md_events.specs.Events.Nested.{enter, enter_link, exit}
 
 -- The marks of a title end no line, and are neither whitespace nor a backslash.
 pub title-marks : (opener closer : ℕ) → title_closer opener ≡ Some closer → AreMarks opener closer

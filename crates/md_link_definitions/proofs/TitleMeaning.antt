@@ -25,9 +25,9 @@ use Rattle.md_link_definitions.specs.TitleRule.{title_behaves, title_end, title_
 use Rattle.md_link_definitions.proofs.TitleLemmas.{begins-none, closed_here, escaped-no_ending, line-begins, opener-closes}
 use Rattle.md_link_definitions.proofs.TitleLemmas.{pair-ends, pair-none, text-begins, text-closes, text-ending, text-more}
 use Rattle.md_link_definitions.proofs.TitleLemmas.{text-none, text-opens}
-use Rattle.md_seam.specs.Events.Nested.{enter, enter_link, exit, pair}
-use Rattle.md_seam.specs.Spaces.{is_current}
-use Rattle.md_seam.specs.Transition.{entered, entered_link, exited, taken}
+use Rattle.md_events.specs.Events.Nested.{enter, enter_link, exit, pair}
+use Rattle.md_events.specs.Spaces.{is_current}
+use Rattle.md_events.specs.Transition.{entered, entered_link, exited, taken}
 
 -- Steps by what they become.
 

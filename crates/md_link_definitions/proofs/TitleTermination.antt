@@ -19,9 +19,9 @@ use Rattle.md_link_definitions.specs.Chunks.{string_link}
 use Rattle.md_link_definitions.specs.Title.{after_eol_transition, at_break_code, begin_code, closed, escape_code, inside_code}
 use Rattle.md_link_definitions.specs.Title.{is_escaped, marked, opened, refused, start_code, title_ready, title_scheme}
 use Rattle.md_link_definitions.specs.Title.{title_transition, unmarked}
-use Rattle.md_seam.specs.Spaces.{IsRest, is_current, later_ready}
-use Rattle.md_seam.specs.Transition.{entered, entered_link, exited, taken}
-use Rattle.md_seam.proofs.SpacesTermination.{Does, accepts-behind, seen-in, seen-some}
+use Rattle.md_events.specs.Spaces.{IsRest, is_current, later_ready}
+use Rattle.md_events.specs.Transition.{entered, entered_link, exited, taken}
+use Rattle.md_events.proofs.SpacesTermination.{Does, accepts-behind, seen-in, seen-some}
 
 -- a table that has the states of a title
 pub record TitleFits (T : Scheme) : Type 1 where

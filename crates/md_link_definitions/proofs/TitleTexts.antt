@@ -13,7 +13,7 @@ use Rattle.md_link_definitions.specs.WholeCells.{AreWhole, whole_cells}
 use Rattle.md_link_definitions.proofs.TitleLemmas.{title-marks}
 use Rattle.md_link_definitions.proofs.TitleLines.{parts_lines, title-lines}
 use Rattle.md_link_definitions.proofs.WholeCellLemmas.{IsMarkFirst, NoWhite, mark-at, no-white, rest-are, whole-before, whole-from}
-use Rattle.md_seam.specs.Ahead.{point_after}
+use Rattle.md_events.specs.Ahead.{point_after}
 
 -- the lines of its text, and those after it
 abbrev pub title_texts : Option TitleParts → Option Lines

@@ -8,7 +8,7 @@ use Rattle.md_link_definitions.specs.Chunks.{before_mark, from_mark}
 use Rattle.md_link_definitions.specs.Title.{is_mark, marked, unmarked}
 use Rattle.md_link_definitions.specs.TitleRule.{TitleParts, behind_cell, behind_opener, parts_closed, parts_from, title_at}
 use Rattle.md_link_definitions.specs.TitleRule.{title_by, title_events, title_from, title_parts, title_text}
-use Rattle.md_seam.specs.Spaces.{IsRest}
+use Rattle.md_events.specs.Spaces.{IsRest}
 
 -- what a title that was found becomes
 abbrev pub taken_title : Option TitleParts → Here → Outcome

@@ -12,7 +12,7 @@ use Rattle.md_link_definitions.specs.CellLines.{cell_lines, lines_closed}
 use Rattle.md_link_definitions.specs.Title.{is_mark}
 use Rattle.md_link_definitions.specs.WholeCells.{AreWhole, IsWhole, whole_cells}
 use Rattle.md_link_definitions.proofs.CellLineLemmas.{AreMarks, all-enclosed, cells-enclosed, is_other, not-mark}
-use Rattle.md_seam.specs.Ahead.{point_after}
+use Rattle.md_events.specs.Ahead.{point_after}
 
 -- no mark is whitespace
 abbrev pub NoWhite : (ℕ → Bool) → Type 0

@@ -7,7 +7,7 @@ use Rattle.md_engine.specs.declared.event.Link.{Link}
 use Rattle.md_engine.specs.declared.event.Name.TheVariants.{Data}
 use Rattle.md_engine.specs.declared.event.Point.{Point}
 use Rattle.md_engine.specs.Meaning.{Cell}
-use Rattle.md_seam.specs.Events.Nested.{enter_link, exit}
+use Rattle.md_events.specs.Events.Nested.{enter_link, exit}
 
 -- a chunk is read later, as text with escapes and references
 abbrev pub string_link : Link

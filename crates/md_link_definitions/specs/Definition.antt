@@ -14,8 +14,8 @@ use Rattle.md_engine.specs.declared.state.State.{State}
 use Rattle.md_engine.specs.declared.state.State.TheVariants.{Ok, Nok, Next, Retry}
 use Rattle.md_engine.specs.Scheme.{After, Ends, EndsLater, Rank, Scheme, Position, ranked}
 use Rattle.md_engine.specs.World.{World}
-use Rattle.md_seam.specs.Spaces.{IsRest, any_size, ends_line, is_current, sees_white, white_then}
-use Rattle.md_seam.specs.Transition.{Transition, entered, exited, taken, tried}
+use Rattle.md_events.specs.Spaces.{IsRest, any_size, ends_line, is_current, sees_white, white_then}
+use Rattle.md_events.specs.Transition.{Transition, entered, exited, taken, tried}
 
 -- it continues with another state of it here
 abbrev pub turned : World → DefinitionState → Transition

@@ -19,10 +19,10 @@ use Rattle.md_link_definitions.specs.DestinationRule.{destination_left, destinat
 use Rattle.md_link_definitions.specs.GapRule.{HasGap, begins_gap, gap_at, gap_end, gap_part, gap_rest, past_white, white_part}
 use Rattle.md_link_definitions.specs.LabelRule.{HasLabel, LabelParts, label_at, label_events, label_parts}
 use Rattle.md_link_definitions.specs.TitleRule.{HasTitle, TitleParts, title_at, title_events, title_parts}
-use Rattle.md_seam.specs.Ahead.{line_bytes, white_end, white_rest}
-use Rattle.md_seam.specs.Events.Nested.{around, enter, exit, pair}
-use Rattle.md_seam.specs.Look.{first_seen}
-use Rattle.md_seam.specs.Spaces.{IsRest, any_size, ends_line}
+use Rattle.md_events.specs.Ahead.{line_bytes, white_end, white_rest}
+use Rattle.md_events.specs.Events.Nested.{around, enter, exit, pair}
+use Rattle.md_events.specs.Look.{first_seen}
+use Rattle.md_events.specs.Spaces.{IsRest, any_size, ends_line}
 
 -- continues by what a trial became: after what it took, or here
 abbrev pub tried : Outcome → (List Cell → Here → Outcome) → (Scratch → Flags → Outcome) → Outcome

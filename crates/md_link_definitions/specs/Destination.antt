@@ -15,8 +15,8 @@ use Rattle.md_engine.specs.declared.tokenizer.Scratch.{Scratch}
 use Rattle.md_engine.specs.Scheme.{After, Ends, Rank, Scheme, Position, cells_before, ranked, seen}
 use Rattle.md_engine.specs.World.{World}
 use Rattle.md_link_definitions.specs.Chunks.{string_link}
-use Rattle.md_seam.specs.Spaces.{IsRest, is_current}
-use Rattle.md_seam.specs.Transition.{Transition, entered, entered_link, exited, taken}
+use Rattle.md_events.specs.Spaces.{IsRest, is_current}
+use Rattle.md_events.specs.Transition.{Transition, entered, entered_link, exited, taken}
 
 abbrev pub without_size : Scratch → Scratch
 without_size s = record s { size = 0 }

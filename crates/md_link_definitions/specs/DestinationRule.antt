@@ -20,8 +20,8 @@ use Rattle.md_engine.specs.Sees.{IsStep}
 use Rattle.md_engine.specs.World.{World}
 use Rattle.md_link_definitions.specs.Chunks.{string_link}
 use Rattle.md_link_definitions.specs.Destination.{DestinationInvariant, without_size}
-use Rattle.md_seam.specs.Ahead.{line_bytes, point_after}
-use Rattle.md_seam.specs.Events.Nested.{enter, enter_link, exit, pair}
+use Rattle.md_events.specs.Ahead.{line_bytes, point_after}
+use Rattle.md_events.specs.Events.Nested.{enter, enter_link, exit, pair}
 
 -- where the text begins, and ends
 abbrev pub text_begin : Point → List Event

@@ -9,8 +9,8 @@ use Rattle.md_engine.specs.declared.state.State.TheVariants.{Ok, Nok, Next, Retr
 use Rattle.md_engine.specs.declared.tokenizer.Scratch.{Scratch}
 use Rattle.md_engine.specs.Scheme.{After, Ends, Rank, Scheme, Position, ranked}
 use Rattle.md_engine.specs.World.{World}
-use Rattle.md_seam.specs.Spaces.{any_size, IsRest, is_current, sees_white, white_then}
-use Rattle.md_seam.specs.Transition.{Transition, entered, exited, taken}
+use Rattle.md_events.specs.Spaces.{any_size, IsRest, is_current, sees_white, white_then}
+use Rattle.md_events.specs.Transition.{Transition, entered, exited, taken}
 
 -- something was taken, or nothing
 abbrev pub with_seen : Scratch → Scratch

@@ -12,9 +12,9 @@ use Rattle.md_engine.specs.Scheme.{position}
 use Rattle.md_engine.specs.Sees.{IsStep}
 use Rattle.md_engine.specs.World.{World}
 use Rattle.md_link_definitions.specs.Gap.{GapInvariant, with_seen, without_seen}
-use Rattle.md_seam.specs.Ahead.{HasWhite, begins_white, white_end, white_rest}
-use Rattle.md_seam.specs.Events.Nested.{enter, exit, pair}
-use Rattle.md_seam.specs.Spaces.{any_size}
+use Rattle.md_events.specs.Ahead.{HasWhite, begins_white, white_end, white_rest}
+use Rattle.md_events.specs.Events.Nested.{enter, exit, pair}
+use Rattle.md_events.specs.Spaces.{any_size}
 
 -- all whitespace that comes first is one part, if there is some
 abbrev pub white_part : List Cell → Point → List Event

@@ -14,8 +14,8 @@ use Rattle.md_engine.specs.declared.tokenizer.Scratch.{Scratch}
 use Rattle.md_engine.specs.Scheme.{After, Ends, EndsLater, Rank, Scheme, Position, ranked}
 use Rattle.md_engine.specs.World.{World}
 use Rattle.md_link_definitions.specs.Chunks.{string_link}
-use Rattle.md_seam.specs.Spaces.{IsRest, is_current, sees_white}
-use Rattle.md_seam.specs.Transition.{Transition, entered, entered_link, exited, taken}
+use Rattle.md_events.specs.Spaces.{IsRest, is_current, sees_white}
+use Rattle.md_events.specs.Transition.{Transition, entered, entered_link, exited, taken}
 
 -- a label has at most so many bytes (CommonMark 6.3)
 abbrev pub most : ℕ

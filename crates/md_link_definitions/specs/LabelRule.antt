@@ -17,8 +17,8 @@ use Rattle.md_engine.specs.Sees.{IsStep}
 use Rattle.md_engine.specs.World.{World}
 use Rattle.md_link_definitions.specs.Chunks.{before_mark, chunks, from_mark}
 use Rattle.md_link_definitions.specs.Label.{LabelInvariant, is_bracket, most, unlabelled}
-use Rattle.md_seam.specs.Ahead.{point_after}
-use Rattle.md_seam.specs.Events.Nested.{around, enter, exit, pair}
+use Rattle.md_events.specs.Ahead.{point_after}
+use Rattle.md_events.specs.Events.Nested.{around, enter, exit, pair}
 
 -- whether something else than whitespace and line endings is among these cells
 abbrev pub has_text : List Cell → Bool

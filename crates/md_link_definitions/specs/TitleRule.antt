@@ -15,8 +15,8 @@ use Rattle.md_engine.specs.Sees.{IsStep}
 use Rattle.md_engine.specs.World.{World}
 use Rattle.md_link_definitions.specs.Chunks.{before_mark, chunks, from_mark}
 use Rattle.md_link_definitions.specs.Title.{TitleInvariant, is_mark, marked, unmarked}
-use Rattle.md_seam.specs.Ahead.{point_after}
-use Rattle.md_seam.specs.Events.Nested.{around, enter, exit, pair}
+use Rattle.md_events.specs.Ahead.{point_after}
+use Rattle.md_events.specs.Events.Nested.{around, enter, exit, pair}
 
 -- what is left of the text part, of which a line has begun or not
 abbrev pub text_left : Bool → List Cell → Point → List Event

@@ -4,7 +4,7 @@ use Rattle.md_meaning.specs.Rest.{Rest, is_white}
 use Rattle.md_engine.specs.declared.event.Point.{Point}
 use Rattle.md_engine.specs.Meaning.{Cell}
 use Rattle.md_link_definitions.specs.OpenText.{begun_rest}
-pub use Rattle.md_seam.specs.WholeLine.{whole_cells, whole_line}
+pub use Rattle.md_events.specs.WholeLine.{whole_cells, whole_line}
 
 -- the rest of a line that begins at a point with these bytes, and that from a point on
 abbrev pub rest_here : Point → List ℕ → Rest

@@ -22,8 +22,8 @@ ghost use Rattle.md_link_definitions.specs.Definition.{label_after_transition, l
 ghost use Rattle.md_link_definitions.specs.Definition.{marker_after_transition, start_transition, title_after_transition};
 ghost use Rattle.md_link_definitions.specs.Definition.{title_before_marker_transition, title_before_transition};
 ghost use Rattle.md_link_definitions.specs.Definition.{title_after_optional_whitespace_transition, tries_part};
-ghost use Rattle.md_seam.specs.Spaces.{ends_line, sees_white};
-ghost use Rattle.md_seam.specs.Transition.{IsAt, NeedsNothing};
+ghost use Rattle.md_events.specs.Spaces.{ends_line, sees_white};
+ghost use Rattle.md_events.specs.Transition.{IsAt, NeedsNothing};
 
 use md_engine::event::Name;
 use md_engine::or_error;
@@ -34,7 +34,7 @@ use md_engine::state::space_or_tab_eol::State as GapState;
 use md_engine::state::title::State as TitleState;
 use md_engine::state::{Name as StateName, State};
 use md_engine::tokenizer::Tokenizer;
-use md_seam::space_or_tab::{is_space_or_tab, space_or_tab};
+use md_events::space_or_tab::{is_space_or_tab, space_or_tab};
 
 /// Whether the line ends here.
 fn ends_line(current: Option<u8>) -> bool

@@ -22,8 +22,8 @@ ghost use Rattle.md_meaning.specs.Definition.{is_raw_byte};
 ghost use Rattle.md_link_definitions.specs.Destination.{DestinationNeeds, destination_transition, enclosed_before_transition};
 ghost use Rattle.md_link_definitions.specs.Destination.{enclosed_escape_transition, enclosed_transition, raw_escape_transition};
 ghost use Rattle.md_link_definitions.specs.Destination.{raw_transition, start_transition};
-ghost use Rattle.md_seam.specs.Stays.{TakesEach};
-ghost use Rattle.md_seam.specs.Transition.{IsAt};
+ghost use Rattle.md_events.specs.Stays.{TakesEach};
+ghost use Rattle.md_events.specs.Transition.{IsAt};
 
 use md_engine::event::{Content, Link, Name};
 use md_engine::or_error;

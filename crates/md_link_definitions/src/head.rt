@@ -4,9 +4,9 @@ ghost use Rattle.std.specs.Prelude.{◌≡◌, ◌+◌, ◌<◌, ◌≤◌, fals
 ghost use Rattle.md_meaning.specs.Table.{row_cells};
 ghost use Rattle.md_link_definitions.specs.Head.{divided, head_columns, is_pipeless, pieces_len};
 
-use md_grammars::ahead::after_optional;
-use md_grammars::bytes::trim;
-use md_grammars::table::is_head;
+use md_scan::ahead::after_optional;
+use md_scan::bytes::trim;
+use md_scan::table::is_head;
 
 /// 1 where a pipe divides here, which no backslash takes and after which something is, and else 0.
 fn divided(byte: u8, escaped: bool, is_last: bool) -> usize

@@ -20,8 +20,8 @@ ghost use Rattle.md_engine.specs.declared.state.label.State.{State as LabelState
 ghost use Rattle.md_link_definitions.specs.Label.{at_break_transition, close_code, counted, eol_after_transition};
 ghost use Rattle.md_link_definitions.specs.Label.{escape_transition, inside_transition, is_full, label_transition};
 ghost use Rattle.md_link_definitions.specs.Label.{start_transition, taken_as, unlabelled};
-ghost use Rattle.md_seam.specs.Stays.{TakesEach};
-ghost use Rattle.md_seam.specs.Transition.{IsAt, NeedsNothing};
+ghost use Rattle.md_events.specs.Stays.{TakesEach};
+ghost use Rattle.md_events.specs.Transition.{IsAt, NeedsNothing};
 
 use md_engine::class::is_white;
 use md_engine::event::{Content, Link, Name};
@@ -30,7 +30,7 @@ use md_engine::state::label::State as LabelState;
 use md_engine::state::{Name as StateName, State};
 use md_engine::stay::Stay;
 use md_engine::tokenizer::{Scratch, Tokenizer};
-use md_seam::space_or_tab::is_space_or_tab;
+use md_events::space_or_tab::is_space_or_tab;
 
 /// A label has at most so many bytes.
 const MOST: usize = 999;

@@ -9,9 +9,9 @@ ghost use Rattle.md_link_definitions.specs.Progress as stepped;
 use crate::head::head_columns;
 use crate::progress::{progress_of, step};
 use md_engine::tokenizer::{HeldLeaf, OpenText, Progress};
-use md_grammars::ahead::{begins_white, begins_with};
-use md_grammars::bytes::trim_start;
-use md_grammars::columns::{tab_columns, white_columns};
+use md_scan::ahead::{begins_white, begins_with};
+use md_scan::bytes::trim_start;
+use md_scan::columns::{tab_columns, white_columns};
 
 /// The columns of whitespace before a line that begins at this column, from 0, perhaps within a tab.
 fn indent(column: usize, cut: bool, line: &[u8]) -> usize

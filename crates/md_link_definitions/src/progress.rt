@@ -6,9 +6,9 @@ ghost use Rattle.md_link_definitions.specs.Progress as progress;
 
 use crate::plain_destination::is_plain_destination;
 use md_engine::tokenizer::{HeldLeaf, Progress};
-use md_grammars::ahead::{after_optional, begins_with};
-use md_grammars::bytes::{is_blank, is_parted, trim_start};
-use md_grammars::definition::{Enclosed, destination_at, title_closer, up_to_mark};
+use md_scan::ahead::{after_optional, begins_with};
+use md_scan::bytes::{is_blank, is_parted, trim_start};
+use md_scan::definition::{Enclosed, destination_at, title_closer, up_to_mark};
 
 /// How many bytes a label may have.
 const LABEL_LEN: usize = 999;

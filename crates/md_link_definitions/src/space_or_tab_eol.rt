@@ -13,14 +13,14 @@ ghost use Rattle.md_engine.specs.declared.state.State.{State};
 ghost use Rattle.md_engine.specs.declared.state.space_or_tab_eol.State.{State as GapState};
 ghost use Rattle.md_link_definitions.specs.Gap.{after_eol_transition, after_first_transition, after_more_transition};
 ghost use Rattle.md_link_definitions.specs.Gap.{at_eol_transition, gap_transition, start_transition};
-ghost use Rattle.md_seam.specs.Transition.{IsAt, NeedsNothing};
+ghost use Rattle.md_events.specs.Transition.{IsAt, NeedsNothing};
 
 use md_engine::event::Name;
 use md_engine::or_error;
 use md_engine::state::space_or_tab_eol::State as GapState;
 use md_engine::state::{Name as StateName, State};
 use md_engine::tokenizer::Tokenizer;
-use md_seam::space_or_tab::{is_space_or_tab, space_or_tab};
+use md_events::space_or_tab::{is_space_or_tab, space_or_tab};
 
 /// Before whitespace or a line ending.
 ///

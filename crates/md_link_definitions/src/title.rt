@@ -19,14 +19,14 @@ ghost use Rattle.md_engine.specs.declared.state.title.State.{State as TitleState
 ghost use Rattle.md_link_definitions.specs.Title.{after_eol_transition, at_break_transition, begin_transition, closed};
 ghost use Rattle.md_link_definitions.specs.Title.{escape_transition, inside_transition, is_escaped, refused, start_transition};
 ghost use Rattle.md_link_definitions.specs.Title.{title_transition};
-ghost use Rattle.md_seam.specs.Transition.{IsAt, NeedsNothing};
+ghost use Rattle.md_events.specs.Transition.{IsAt, NeedsNothing};
 
 use md_engine::event::{Content, Link, Name};
 use md_engine::or_error;
 use md_engine::state::title::State as TitleState;
 use md_engine::state::{Name as StateName, State};
 use md_engine::tokenizer::{Scratch, Tokenizer};
-use md_grammars::definition::title_closer;
+use md_scan::definition::title_closer;
 
 /// Takes the marks back where no title is.
 fn refuse(tokenizer: &mut Tokenizer) -> State

@@ -5,8 +5,8 @@ use Rattle.md_engine.specs.declared.event.Event.{Event}
 use Rattle.md_containers.specs.Listed.{Begins, Ends, Place as ListPlace, Stays, Turn, given, given_by, goes_on, is_item}
 use Rattle.md_containers.specs.Listed.{list_begin, list_end, list_name, listed_from}
 use Rattle.md_containers.specs.Listed.{marker_ahead, next_item, place_after, turn}
-use Rattle.md_seam.specs.Events.Nested.{enter, exit}
-use Rattle.md_seam.specs.Events.Spelled.{role}
+use Rattle.md_events.specs.Events.Nested.{enter, exit}
+use Rattle.md_events.specs.Events.Spelled.{role}
 use Rattle.md_order.specs.declared.wanted.Wanted.{Wanted}
 use Rattle.md_order.specs.InOrder.{set_if}
 use Rattle.md_order.specs.Left.{Standing, left_in}

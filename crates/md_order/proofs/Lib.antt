@@ -1,3 +1,7 @@
+pub mod Plain
+pub mod Ahead
+pub mod Awaited
+pub mod ListsFirst
 pub mod HeadStep
 pub mod Items
 pub mod Names

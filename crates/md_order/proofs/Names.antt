@@ -8,8 +8,8 @@ use Rattle.md_engine.specs.declared.event.Name.TheVariants as n
 use Rattle.md_containers.specs.Listed.{is_item, list_name}
 use Rattle.md_leaves.specs.HeadingText.{is_heading}
 use Rattle.md_leaves.specs.Turned.{is_paragraph, is_underline, passes as is_unturned}
-use Rattle.md_seam.specs.Events.Prefix.{is_prefix}
-use Rattle.md_seam.specs.Events.Spelled.{is_ordered, role}
+use Rattle.md_events.specs.Events.Prefix.{is_prefix}
+use Rattle.md_events.specs.Events.Spelled.{is_ordered, role}
 use Rattle.md_tables.specs.Heads.{is_table}
 use Rattle.md_tables.specs.Tabled.{begins_table, bound_by, bound_of}
 use Rattle.md_order.specs.Alone.{is_set}

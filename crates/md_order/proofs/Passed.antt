@@ -9,8 +9,8 @@ use Rattle.md_containers.proofs.ListedLemmas.{passes-given as listed-passes}
 use Rattle.md_leaves.specs.HeadingText.{Before, Outside, begins, is_heading, resolved}
 use Rattle.md_leaves.specs.Turned.{passes as is_unturned, turned_from}
 use Rattle.md_leaves.proofs.TurnedLemmas.{passes-given as turned-passes}
-use Rattle.md_seam.specs.Events.Nested.{is_enter}
-use Rattle.md_seam.specs.Events.Spelled.{role}
+use Rattle.md_events.specs.Events.Nested.{is_enter}
+use Rattle.md_events.specs.Events.Spelled.{role}
 use Rattle.md_tables.specs.Tabled.{begins_table, bound_of, tabled}
 use Rattle.md_tables.proofs.TabledWalk.{passes-given as tabled-passes}
 use Rattle.md_order.specs.declared.wanted.Wanted.{Wanted}

@@ -11,10 +11,10 @@ use Rattle.md_containers.specs.Listed.{list_name, listed_from, marker_ahead, nex
 use Rattle.md_leaves.specs.HeadingText.{Before, Outside, begins, is_heading, resolved}
 use Rattle.md_leaves.specs.Turned.{has_underline, is_paragraph, is_turned, is_underline, underline_behind}
 use Rattle.md_leaves.proofs.TurnedLemmas.{no-ending}
-use Rattle.md_seam.specs.Events.Inline.{is_line_ending}
-use Rattle.md_seam.specs.Events.Nested.{enter, is_enter, is_exit}
-use Rattle.md_seam.specs.Events.Prefix.{is_prefix}
-use Rattle.md_seam.specs.Events.Spelled.{is_ordered, role}
+use Rattle.md_events.specs.Events.Inline.{is_line_ending}
+use Rattle.md_events.specs.Events.Nested.{enter, is_enter, is_exit}
+use Rattle.md_events.specs.Events.Prefix.{is_prefix}
+use Rattle.md_events.specs.Events.Spelled.{is_ordered, role}
 use Rattle.md_order.specs.Alone.{HoldNoBlock, InEnding, InParagraph, MayStand, Nothing, Open, closed_by, closes}
 use Rattle.md_order.specs.Alone.{opened_by}
 use Rattle.md_order.specs.InOrder.{set_if}

@@ -9,8 +9,8 @@ use Rattle.md_containers.specs.Listed.{is_item}
 use Rattle.md_leaves.specs.HeadingText.{begins, is_heading}
 use Rattle.md_leaves.specs.Turned.{BeginsText, EndsText, EndsUnderline, Stays, Turn, given_by, is_paragraph, is_turned}
 use Rattle.md_leaves.specs.Turned.{is_underline, on_by, passes as is_unturned, turn, turn_by, turned_from}
-use Rattle.md_seam.specs.Events.Nested.{is_enter}
-use Rattle.md_seam.specs.Events.Spelled.{role}
+use Rattle.md_events.specs.Events.Nested.{is_enter}
+use Rattle.md_events.specs.Events.Spelled.{role}
 use Rattle.md_tables.specs.Tabled.{begins_table, bound_by, bound_of, tabled}
 use Rattle.md_order.specs.declared.wanted.Wanted.{Wanted}
 use Rattle.md_order.specs.Alone.{InParagraph, Open, is_set, opened_by}

@@ -10,9 +10,9 @@ use Rattle.md_engine.specs.declared.event.Name.TheVariants as n
 use Rattle.md_leaves.specs.HeadingText.{begins, ends, is_heading}
 use Rattle.md_containers.specs.Listed.{is_item}
 use Rattle.md_leaves.specs.Turned.{is_paragraph, passes as is_unturned}
-use Rattle.md_seam.specs.Events.Inline.{is_line_ending}
-use Rattle.md_seam.specs.Events.Nested.{is_enter, is_exit}
-use Rattle.md_seam.specs.Events.Spelled.{role}
+use Rattle.md_events.specs.Events.Inline.{is_line_ending}
+use Rattle.md_events.specs.Events.Nested.{is_enter, is_exit}
+use Rattle.md_events.specs.Events.Spelled.{role}
 use Rattle.md_tables.specs.Heads.{is_table}
 use Rattle.md_tables.specs.Tabled.{begins_table, bound_of}
 use Rattle.md_order.specs.declared.wanted.Wanted.{Wanted}

@@ -4,7 +4,7 @@ use Rattle.std.proofs.lemmas.Bool.{and_parts, and_right}
 use Rattle.md_engine.specs.declared.event.Event.{Event}
 use Rattle.md_engine.specs.declared.event.Name.{Name}
 use Rattle.md_engine.specs.declared.event.Name.TheVariants as n
-use Rattle.md_seam.specs.Events.Nested.{is_exit}
+use Rattle.md_events.specs.Events.Nested.{is_exit}
 use Rattle.md_tables.specs.Cells.{begins_inner, ends_divider, ends_row, first_is, goes_on, has_white, is_divider}
 use Rattle.md_tables.specs.Cells.{is_inner, is_last, is_row, is_white, row_ends}
 use Rattle.md_tables.specs.Heads.{is_table}

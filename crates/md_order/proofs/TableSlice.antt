@@ -8,7 +8,7 @@ use Rattle.md_engine.specs.declared.event.Kind.{Kind}
 use Rattle.md_engine.specs.declared.event.Kind.TheVariants.{Enter, Exit}
 use Rattle.md_engine.specs.declared.event.Name.{Name}
 use Rattle.md_engine.specs.declared.event.Name.TheVariants as n
-use Rattle.md_seam.specs.Events.Nested.{is_enter, is_exit}
+use Rattle.md_events.specs.Events.Nested.{is_enter, is_exit}
 use Rattle.md_tables.specs.Cells.{Step, begins_divider, ends_inner, ends_row, ends_with}
 use Rattle.md_tables.specs.Cells.{inside_step, is_divider, is_inner, step}
 use Rattle.md_tables.specs.Heads.{is_table}

@@ -9,8 +9,8 @@ use Rattle.md_engine.specs.declared.event.Name.TheVariants as n
 use Rattle.md_containers.specs.Listed.{is_item}
 use Rattle.md_leaves.specs.HeadingText.{is_heading}
 use Rattle.md_leaves.specs.Turned.{passes as is_unturned, turned_from}
-use Rattle.md_seam.specs.Events.Nested.{is_enter, is_exit}
-use Rattle.md_seam.specs.Events.Spelled.{role}
+use Rattle.md_events.specs.Events.Nested.{is_enter, is_exit}
+use Rattle.md_events.specs.Events.Spelled.{role}
 use Rattle.md_tables.specs.Heads.{is_table}
 use Rattle.md_tables.specs.Tabled.{begins_table, bound_of, tabled}
 use Rattle.md_tables.specs.declared.cells.Stage.TheVariants as row

@@ -3,7 +3,7 @@ use Rattle.std.specs.Prelude.{◌≡◌, ◌⊎◌, Bool, true, false, ◌||◌,
 use Rattle.md_engine.specs.declared.event.Event.{Event}
 use Rattle.md_engine.specs.declared.event.Name.{Name}
 use Rattle.md_engine.specs.declared.event.Name.TheVariants as n
-use Rattle.md_seam.specs.Events.Nested.{is_enter, is_exit}
+use Rattle.md_events.specs.Events.Nested.{is_enter, is_exit}
 use Rattle.md_order.specs.declared.wanted.Wanted.{Wanted}
 
 -- what is open: an ATX heading, a paragraph, the underline of a setext heading, a table, a line ending, or none of them

@@ -5,7 +5,7 @@ use Rattle.md_engine.specs.declared.event.Kind.{Kind}
 use Rattle.md_engine.specs.declared.event.Kind.TheVariants.{Enter, Exit}
 use Rattle.md_engine.specs.declared.event.Name.{Name}
 use Rattle.md_leaves.specs.HeadingText.{begins, ends, is_heading, is_run}
-use Rattle.md_seam.specs.Events.Nested.{open_behind}
+use Rattle.md_events.specs.Events.Nested.{open_behind}
 
 -- A part is by itself: nothing is open where it begins, nor after its end.
 abbrev pub StandsAlone : List Name → Kind → Name → Type 0

@@ -5,8 +5,8 @@ use Rattle.md_engine.specs.declared.event.Event.{Event}
 use Rattle.md_containers.specs.Listed.{Place as ListPlace, is_item, listed_from}
 use Rattle.md_leaves.specs.HeadingText.{begins, ends, headings_resolved, is_heading}
 use Rattle.md_leaves.specs.Turned.{is_underline, passes as is_unturned, turned_from}
-use Rattle.md_seam.specs.Events.Nested.{is_exit}
-use Rattle.md_seam.specs.Events.Spelled.{role}
+use Rattle.md_events.specs.Events.Nested.{is_exit}
+use Rattle.md_events.specs.Events.Spelled.{role}
 use Rattle.md_tables.specs.Heads.{is_table}
 use Rattle.md_tables.specs.Tabled.{begins_table, bound_of, tabled}
 use Rattle.md_order.specs.declared.wanted.Wanted.{Wanted}

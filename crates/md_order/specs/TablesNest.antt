@@ -4,7 +4,7 @@ use Rattle.std.specs.Prelude.{◌≡◌, Bool, true, false, ◌||◌, if◌then�
 use Rattle.md_engine.specs.declared.event.Event.{Event}
 use Rattle.md_engine.specs.declared.event.Kind.TheVariants.{Enter, Exit}
 use Rattle.md_engine.specs.declared.event.Name.{Name}
-use Rattle.md_seam.specs.Events.Nested.{open_behind}
+use Rattle.md_events.specs.Events.Nested.{open_behind}
 use Rattle.md_tables.specs.Cells.{begins_row, ends_row, is_divider, is_inner, is_row}
 use Rattle.md_tables.specs.Tabled.{begins_table, bound_of}
 use Rattle.md_tables.specs.declared.cells.RowKind.{RowKind}

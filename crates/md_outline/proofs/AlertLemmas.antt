@@ -12,8 +12,8 @@ use Rattle.md_meaning.specs.Outline.{part_entry, row_entries, rows_entries, tabl
 use Rattle.md_meaning.specs.State.{then_block}
 use Rattle.md_meaning.specs.Tree.{Block, Blocks, Break, Code, Definition, End, Fence, Footnote, Frontmatter, Heading}
 use Rattle.md_meaning.specs.Tree.{Html, Item, Line, ListOf, Math, More, Paragraph, Quote, Table}
-use Rattle.md_seam.specs.Events.Spelled.{FootnoteShape, ItemShape, OpenContainer, OrderedShape, QuoteShape, Shape}
-use Rattle.md_seam.specs.Events.Spelled.{UnorderedShape, block_around, list_marker, on_last, on_shape, with_kind}
+use Rattle.md_events.specs.Events.Spelled.{FootnoteShape, ItemShape, OpenContainer, OrderedShape, QuoteShape, Shape}
+use Rattle.md_events.specs.Events.Spelled.{UnorderedShape, block_around, list_marker, on_last, on_shape, with_kind}
 use Rattle.md_outline.specs.AlertState.{alert_word, kind_given, line_given}
 use Rattle.md_outline.proofs.ClosedTrees.{HasWord, HaveWords, SameWord, depth_of, first-word, fronts, fronts-same}
 use Rattle.md_outline.proofs.ClosedTrees.{list_word, opening, shown, shown-fronts, words-renamed}

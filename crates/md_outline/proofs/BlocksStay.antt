@@ -6,12 +6,12 @@ use Rattle.md_engine.specs.declared.event.Event.{Event}
 use Rattle.md_engine.specs.declared.event.Kind.{Kind}
 use Rattle.md_engine.specs.declared.event.Kind.TheVariants.{Enter, Exit}
 use Rattle.md_engine.specs.declared.event.Point.{Point}
-use Rattle.md_seam.specs.Events.Spelled.{OpenContainer, ContainerRole, IsEnding, IsQuoteMarker, OpenLeaf, LeafRole}
-use Rattle.md_seam.specs.Events.Spelled.{Purpose, Reading, Role, Shape, TextRole, Text, block_around, block_of}
-use Rattle.md_seam.specs.Events.Spelled.{finished, left, on_shape, read, read_by, role, told_at, with_kind}
-use Rattle.md_seam.specs.Events.Throughout.{all_blocks}
+use Rattle.md_events.specs.Events.Spelled.{OpenContainer, ContainerRole, IsEnding, IsQuoteMarker, OpenLeaf, LeafRole}
+use Rattle.md_events.specs.Events.Spelled.{Purpose, Reading, Role, Shape, TextRole, Text, block_around, block_of}
+use Rattle.md_events.specs.Events.Spelled.{finished, left, on_shape, read, read_by, role, told_at, with_kind}
+use Rattle.md_events.specs.Events.Throughout.{all_blocks}
 use Rattle.md_meaning.specs.Tree.{Block}
-use Rattle.md_seam.proofs.ThroughoutLemmas.{all-inside, all-then}
+use Rattle.md_events.proofs.ThroughoutLemmas.{all-inside, all-then}
 use Rattle.md_outline.proofs.RoleLemmas.{by-ending, by-marker, by-told_at}
 
 abbrev pub outer_hold : (Block → Bool) → List OpenContainer → Bool

@@ -9,9 +9,9 @@ use Rattle.md_meaning.specs.Outline.{Entry, block_entries, entry, entry_with, ou
 use Rattle.md_meaning.specs.State.{then_block}
 use Rattle.md_meaning.specs.Texts.{first_byte}
 use Rattle.md_meaning.specs.Tree.{Block, Blocks, End, Item, More}
-use Rattle.md_seam.specs.Events.Spelled.{OpenContainer, AsDigits, AsItemMarker, FootnoteShape, ItemShape, OrderedShape}
-use Rattle.md_seam.specs.Events.Spelled.{QuoteShape, Shape, UnorderedShape, block_around, is_ordered, list_marker}
-use Rattle.md_seam.specs.Events.Spelled.{named, on_shape}
+use Rattle.md_events.specs.Events.Spelled.{OpenContainer, AsDigits, AsItemMarker, FootnoteShape, ItemShape, OrderedShape}
+use Rattle.md_events.specs.Events.Spelled.{QuoteShape, Shape, UnorderedShape, block_around, is_ordered, list_marker}
+use Rattle.md_events.specs.Events.Spelled.{named, on_shape}
 
 -- how many containers are open
 abbrev pub depth_of : List OpenContainer → ℕ

@@ -7,8 +7,8 @@ use Rattle.md_engine.specs.declared.event.Kind.{Kind}
 use Rattle.md_engine.specs.declared.event.Kind.TheVariants.{Enter, Exit}
 use Rattle.md_engine.specs.declared.event.Name.{Name}
 use Rattle.md_outline.specs.CountOpen.{begun}
-use Rattle.md_seam.specs.Events.Nested.{Fits, Matches, open_after, open_behind}
-use Rattle.md_seam.proofs.NestedLemmas.{open_after-append}
+use Rattle.md_events.specs.Events.Nested.{Fits, Matches, open_after, open_behind}
+use Rattle.md_events.proofs.NestedLemmas.{open_after-append}
 
 -- So many parts have begun in the first events: the others of these have ended a part.
 pub record Counts (events : List Event) (count enters : ℕ) : Type 0 where

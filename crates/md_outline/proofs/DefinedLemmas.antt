@@ -13,13 +13,13 @@ use Rattle.md_meaning.specs.Outline.{Entry, block_entries, entries, entry, entry
 use Rattle.md_meaning.specs.Rest.{is_blank}
 use Rattle.md_meaning.specs.Texts.{split_lines, trim_further}
 use Rattle.md_meaning.specs.Tree.{Definition, Line}
-use Rattle.md_seam.specs.Events.Places.{last_line}
-use Rattle.md_seam.specs.Events.Spelled.{AsDestination, AsLabel, AsTitle, DefinitionLeaf, DefinitionSoFar, IsPrefix}
-use Rattle.md_seam.specs.Events.Spelled.{IsTitle, Reading, TextRole, Text, after_prefix, at_ending, at_title}
-use Rattle.md_seam.specs.Events.Spelled.{before_prefix, begun, behind_title, byte_at, columns_left, first_told}
-use Rattle.md_seam.specs.Events.Spelled.{read_enter, read_exit, text_to}
-use Rattle.md_seam.specs.Events.Spelled as spelled
-use Rattle.md_seam.proofs.PlacesLemmas.{Some_line, some-split}
+use Rattle.md_events.specs.Events.Places.{last_line}
+use Rattle.md_events.specs.Events.Spelled.{AsDestination, AsLabel, AsTitle, DefinitionLeaf, DefinitionSoFar, IsPrefix}
+use Rattle.md_events.specs.Events.Spelled.{IsTitle, Reading, TextRole, Text, after_prefix, at_ending, at_title}
+use Rattle.md_events.specs.Events.Spelled.{before_prefix, begun, behind_title, byte_at, columns_left, first_told}
+use Rattle.md_events.specs.Events.Spelled.{read_enter, read_exit, text_to}
+use Rattle.md_events.specs.Events.Spelled as spelled
+use Rattle.md_events.proofs.PlacesLemmas.{Some_line, some-split}
 use Rattle.md_outline.specs.DefinitionState.{part_ended, part_parted, part_word}
 use Rattle.md_outline.specs.LinedState.{now_told, without_end}
 use Rattle.md_outline.specs.LinesStand.{DestinationLeft, LabelPart, Left, MayHaveDestination}

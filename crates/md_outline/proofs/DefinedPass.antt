@@ -13,11 +13,11 @@ use Rattle.md_engine.specs.declared.event.Kind.TheVariants.{Enter, Exit}
 use Rattle.md_engine.specs.declared.event.Name.{Name}
 use Rattle.md_engine.specs.declared.event.Point.{Point}
 use Rattle.md_meaning.specs.Lines.{is_ending}
-use Rattle.md_seam.specs.Events.Nested.{Balanced, Fits, Forward, Matches, around, enter, exit, open_behind}
-use Rattle.md_seam.specs.Events.Places.{at_or_before}
-use Rattle.md_seam.specs.Events.Spelled.{AsDestination, AsLabel, AsTitle, IsEnding, IsPrefix, IsQuiet, IsQuoteMarker}
-use Rattle.md_seam.specs.Events.Spelled.{IsTitle, OfDefinition, LeafRole, Purpose, Role, TextRole, byte_at, role}
-use Rattle.md_seam.proofs.SpelledLemmas.{Between, Quiet, QuietOrEnding, Roles}
+use Rattle.md_events.specs.Events.Nested.{Balanced, Fits, Forward, Matches, around, enter, exit, open_behind}
+use Rattle.md_events.specs.Events.Places.{at_or_before}
+use Rattle.md_events.specs.Events.Spelled.{AsDestination, AsLabel, AsTitle, IsEnding, IsPrefix, IsQuiet, IsQuoteMarker}
+use Rattle.md_events.specs.Events.Spelled.{IsTitle, OfDefinition, LeafRole, Purpose, Role, TextRole, byte_at, role}
+use Rattle.md_events.proofs.SpelledLemmas.{Between, Quiet, QuietOrEnding, Roles}
 use Rattle.md_outline.specs.LinesStand.{AtLabel, AtTitleText, BehindPart, BehindTitleText, InDestination, InPart}
 use Rattle.md_outline.specs.LinesStand.{InParted, LabelPart, Left, LinesStand, MayHaveDestination, MayHaveTitle}
 use Rattle.md_outline.specs.LinesStand.{MayStand, NoneLeft, Outside, Part, Site}

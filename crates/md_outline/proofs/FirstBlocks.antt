@@ -10,10 +10,10 @@ use Rattle.md_engine.specs.declared.event.Event.{Event}
 use Rattle.md_engine.specs.declared.event.Name.{Name}
 use Rattle.md_meaning.specs.declared.outline.OutlineLine.{OutlineLine}
 use Rattle.md_meaning.specs.Outline.{Entry, outline}
-use Rattle.md_seam.specs.Events.Nested.{Balanced, Matches, open_after, open_behind}
-use Rattle.md_seam.specs.Events.Spelled.{OpenContainer, OpenLeaf, Reading, Text, read, read_by, role, spelled, unread}
-use Rattle.md_seam.proofs.NestedLemmas.{matches-front, matches-rest, open_after-append}
-use Rattle.md_seam.proofs.SpelledLemmas.{read-append}
+use Rattle.md_events.specs.Events.Nested.{Balanced, Matches, open_after, open_behind}
+use Rattle.md_events.specs.Events.Spelled.{OpenContainer, OpenLeaf, Reading, Text, read, read_by, role, spelled, unread}
+use Rattle.md_events.proofs.NestedLemmas.{matches-front, matches-rest, open_after-append}
+use Rattle.md_events.proofs.SpelledLemmas.{read-append}
 use Rattle.md_outline.specs.HeadingDepths.{are_shallow, fits}
 use Rattle.md_outline.specs.LinesStand.{LinesStand, Outside, Site, site_by}
 use Rattle.md_outline.specs.ListsBegin.{AllTold, ListsBegin, Stage, stage_by}

@@ -7,9 +7,9 @@ use Rattle.md_meaning.specs.declared.alert.AlertKind.{AlertKind}
 use Rattle.md_meaning.specs.declared.outline.Word.TheVariants as word
 use Rattle.md_meaning.specs.Outline.{Entry, entry, entry_with}
 use Rattle.md_meaning.specs.Tree.{Blocks, End, Footnote}
-use Rattle.md_seam.specs.Events.Spelled.{OpenContainer, AsFootnoteLabel, FootnoteShape, Reading, Text, named, on_shape}
-use Rattle.md_seam.specs.Events.Spelled.{with_kind}
-use Rattle.md_seam.specs.Events.Spelled as spelled
+use Rattle.md_events.specs.Events.Spelled.{OpenContainer, AsFootnoteLabel, FootnoteShape, Reading, Text, named, on_shape}
+use Rattle.md_events.specs.Events.Spelled.{with_kind}
+use Rattle.md_events.specs.Events.Spelled as spelled
 use Rattle.md_outline.specs.FootnoteState.{label_told}
 use Rattle.md_outline.specs.Outlined.{is_unparted}
 use Rattle.md_outline.specs.OutlineSteps.{OutlineState, told_at}

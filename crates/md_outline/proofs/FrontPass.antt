@@ -7,9 +7,9 @@ use Rattle.md_engine.specs.declared.event.Event.{Event}
 use Rattle.md_engine.specs.declared.event.Name.TheVariants as n
 use Rattle.md_engine.specs.declared.event.Point.{Point}
 use Rattle.md_meaning.specs.Texts.{first_byte}
-use Rattle.md_seam.specs.Events.Nested.{around, pair}
-use Rattle.md_seam.specs.Events.Spelled.{IsFence, OfFrontmatter, byte_at}
-use Rattle.md_seam.proofs.SpelledLemmas.{Quiet, Roles}
+use Rattle.md_events.specs.Events.Nested.{around, pair}
+use Rattle.md_events.specs.Events.Spelled.{IsFence, OfFrontmatter, byte_at}
+use Rattle.md_events.proofs.SpelledLemmas.{Quiet, Roles}
 use Rattle.md_outline.specs.LinesStand.{AtEnd, AtEnding, AtInfo, AtLine, AtMarkers, Outside, Site}
 use Rattle.md_outline.proofs.LinesPass.{Passes, passes-append, passes-around, passes-leaf, passes-quiet}
 

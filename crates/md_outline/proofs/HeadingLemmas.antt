@@ -2,10 +2,10 @@
 use Rattle.std.proofs.Common.{◌≡◌, ℕ, true, cond, List, [], ◌∷◌, refl, ap, arith}
 use Rattle.std.specs.Prelude.{nat_le, nat_lt}
 use Rattle.std.proofs.lemmas.Bool.Decides.{nat_tests}
-use Rattle.md_seam.specs.Events.Spelled.{first_told}
+use Rattle.md_events.specs.Events.Spelled.{first_told}
 use Rattle.md_meaning.specs.Texts.{split_lines, trim_each}
 use Rattle.md_meaning.specs.Tree.{Block, Heading}
-use Rattle.md_seam.proofs.PlacesLemmas.{Some_line, some-split}
+use Rattle.md_events.proofs.PlacesLemmas.{Some_line, some-split}
 use Rattle.md_outline.specs.HeadingDepths.{fitted, is_shallow}
 
 -- a heading that is not too deep is shown with its depth

@@ -14,7 +14,7 @@ use Rattle.md_meaning.specs.Ascii.{left_bracket}
 use Rattle.md_meaning.specs.Lines.{begins_with}
 use Rattle.md_meaning.specs.Outline.{Entry, entry_of}
 use Rattle.md_meaning.specs.Texts.{first_byte}
-use Rattle.md_seam.specs.Events.Spelled.{OpenLeaf, kind_at, on_last}
+use Rattle.md_events.specs.Events.Spelled.{OpenLeaf, kind_at, on_last}
 use Rattle.md_outline.specs.AlertState.{alert_word, kind_given, line_given}
 use Rattle.md_outline.specs.OutlineSteps.{OutlineState, marker_begun}
 use Rattle.md_outline.specs.declared.outline.lined.Lined.{Lined}

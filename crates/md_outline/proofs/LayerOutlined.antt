@@ -11,22 +11,22 @@ use Rattle.md_engine.specs.declared.event.Kind.TheVariants.{Enter, Exit}
 use Rattle.md_engine.specs.declared.event.Name.{Name}
 use Rattle.md_engine.specs.declared.event.Name.TheVariants as n
 use Rattle.md_engine.specs.declared.event.Point.{Point}
-use Rattle.md_seam.specs.declared.inline.Chunk.{Chunk}
-use Rattle.md_seam.specs.Events.Inline.{KeepsFrame, Part, is_linked, pair_unless_empty, plain_chunks}
-use Rattle.md_seam.specs.Events.Inline.{line_end, together}
-use Rattle.md_seam.specs.Events.Nested.{Balanced, is_exit, pair}
-use Rattle.md_seam.specs.Events.Places.{same_place}
-use Rattle.md_seam.specs.Events.Spelled.{AsCell, AsDelimiter, AsDestination, AsDigits, AsFootnoteLabel, AsHeading}
-use Rattle.md_seam.specs.Events.Spelled.{AsInfo, AsItemMarker, AsLabel, AsLine, AsMarkers, AsMeta, AsParagraph, AsTitle}
-use Rattle.md_seam.specs.Events.Spelled.{IsEnding, IsPrefix, IsQuiet, IsQuoteMarker, Purpose, Role, TextRole, byte_at}
-use Rattle.md_seam.specs.Events.Spelled.{role, LeafRole}
-use Rattle.md_seam.specs.Events.Tiles.{Tiles, chunks_stand, depth_behind, filled, filled_from, first_list}
-use Rattle.md_seam.specs.Events.Tiles.{further_lists, is_chunk, is_part, parts, plain_lists, plain_read, stands_in_part}
-use Rattle.md_seam.proofs.FilledLemmas.{EachInline, chunk-behind, first-inline, further-inline, spelled-filled}
-use Rattle.md_seam.proofs.FilledLemmas.{stands-role}
-use Rattle.md_seam.proofs.NestsLemmas.{tiles-nested}
-use Rattle.md_seam.proofs.PartsLemmas.{inline-append, parts-are, read-inline_lists}
-use Rattle.md_seam.proofs.SpelledLemmas.{QuietOrEnding, QuietOrPrefix, Roles, roles-append}
+use Rattle.md_events.specs.declared.inline.Chunk.{Chunk}
+use Rattle.md_events.specs.Events.Inline.{KeepsFrame, Part, is_linked, pair_unless_empty, plain_chunks}
+use Rattle.md_events.specs.Events.Inline.{line_end, together}
+use Rattle.md_events.specs.Events.Nested.{Balanced, is_exit, pair}
+use Rattle.md_events.specs.Events.Places.{same_place}
+use Rattle.md_events.specs.Events.Spelled.{AsCell, AsDelimiter, AsDestination, AsDigits, AsFootnoteLabel, AsHeading}
+use Rattle.md_events.specs.Events.Spelled.{AsInfo, AsItemMarker, AsLabel, AsLine, AsMarkers, AsMeta, AsParagraph, AsTitle}
+use Rattle.md_events.specs.Events.Spelled.{IsEnding, IsPrefix, IsQuiet, IsQuoteMarker, Purpose, Role, TextRole, byte_at}
+use Rattle.md_events.specs.Events.Spelled.{role, LeafRole}
+use Rattle.md_events.specs.Events.Tiles.{Tiles, chunks_stand, depth_behind, filled, filled_from, first_list}
+use Rattle.md_events.specs.Events.Tiles.{further_lists, is_chunk, is_part, parts, plain_lists, plain_read, stands_in_part}
+use Rattle.md_events.proofs.FilledLemmas.{EachInline, chunk-behind, first-inline, further-inline, spelled-filled}
+use Rattle.md_events.proofs.FilledLemmas.{stands-role}
+use Rattle.md_events.proofs.NestsLemmas.{tiles-nested}
+use Rattle.md_events.proofs.PartsLemmas.{inline-append, parts-are, read-inline_lists}
+use Rattle.md_events.proofs.SpelledLemmas.{QuietOrEnding, QuietOrPrefix, Roles, roles-append}
 use Rattle.md_outline.specs.Between.{is_between}
 use Rattle.md_outline.specs.HeadingDepths.{are_shallow}
 use Rattle.md_outline.specs.LinesStand.{InTable, LinesStand, MayStand, Outside, Site, site_by, table_site}

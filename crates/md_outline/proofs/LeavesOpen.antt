@@ -7,8 +7,8 @@ use Rattle.md_meaning.specs.declared.outline.Word.TheVariants as word
 use Rattle.md_meaning.specs.Outline.{Entry, block_entries, entry}
 use Rattle.md_meaning.specs.State.{then_block}
 use Rattle.md_meaning.specs.Tree.{Block, Blocks}
-use Rattle.md_seam.specs.Events.Spelled.{OpenContainer, OpenLeaf, LeafKind, LeafRole, Reading, at_ending, block_of}
-use Rattle.md_seam.specs.Events.Spelled.{finished, fresh, next_line, on_leaf, read_enter}
+use Rattle.md_events.specs.Events.Spelled.{OpenContainer, OpenLeaf, LeafKind, LeafRole, Reading, at_ending, block_of}
+use Rattle.md_events.specs.Events.Spelled.{finished, fresh, next_line, on_leaf, read_enter}
 use Rattle.md_outline.specs.LinedState.{begin_lines, form_of, has_own_lines}
 use Rattle.md_outline.specs.Outlined.{is_unparted}
 use Rattle.md_outline.specs.OutlineSteps.{OutlineState, line_ended, state_enter}

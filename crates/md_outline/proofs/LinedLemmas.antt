@@ -12,11 +12,11 @@ use Rattle.md_meaning.specs.declared.outline.Word.TheVariants as word
 use Rattle.md_meaning.specs.Outline.{Entry, block_entries, entries, entry, entry_with, line_entry, part_entry}
 use Rattle.md_meaning.specs.Texts.{first_byte}
 use Rattle.md_meaning.specs.Tree.{Line}
-use Rattle.md_seam.specs.Events.Spelled.{AsInfo, AsLine, AsMarkers, AsMeta, CodeLeaf, FenceLeaf, FrontmatterLeaf}
-use Rattle.md_seam.specs.Events.Spelled.{HtmlLeaf, LeafKind, MathLeaf, OfCode, OfFence, OfFrontmatter, OfHtml, OfMath}
-use Rattle.md_seam.specs.Events.Spelled.{OpenLeaf, LeafRole, Reading, at_ending, at_fence, block_of, empty_line}
-use Rattle.md_seam.specs.Events.Spelled.{finished, joined, next_line, on_last, on_leaf, read_exit, without_last}
-use Rattle.md_seam.specs.Events.Spelled as spelled
+use Rattle.md_events.specs.Events.Spelled.{AsInfo, AsLine, AsMarkers, AsMeta, CodeLeaf, FenceLeaf, FrontmatterLeaf}
+use Rattle.md_events.specs.Events.Spelled.{HtmlLeaf, LeafKind, MathLeaf, OfCode, OfFence, OfFrontmatter, OfHtml, OfMath}
+use Rattle.md_events.specs.Events.Spelled.{OpenLeaf, LeafRole, Reading, at_ending, at_fence, block_of, empty_line}
+use Rattle.md_events.specs.Events.Spelled.{finished, joined, next_line, on_last, on_leaf, read_exit, without_last}
+use Rattle.md_events.specs.Events.Spelled as spelled
 use Rattle.md_outline.specs.LinedState.{closed_word, filled_line, has_own_lines, marked_word, shown_spaces, spaces_of}
 use Rattle.md_outline.specs.LinedState.{with_head, without_end}
 use Rattle.md_outline.specs.LinesStand.{HasFences, HasInfo, HasLines, HasMeta}

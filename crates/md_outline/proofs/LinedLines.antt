@@ -7,7 +7,7 @@ use Rattle.md_meaning.specs.declared.outline.OutlineLine.{OutlineLine}
 use Rattle.md_meaning.specs.declared.outline.Word.{Word}
 use Rattle.md_meaning.specs.declared.outline.Word.TheVariants as word
 use Rattle.md_meaning.specs.Outline.{Entry, entry, entry_of}
-use Rattle.md_seam.specs.Events.Spelled.{on_last}
+use Rattle.md_events.specs.Events.Spelled.{on_last}
 use Rattle.md_outline.specs.LinedState.{with_head, without_end}
 
 -- the line of a word is said more

@@ -7,13 +7,13 @@ use Rattle.md_engine.specs.declared.event.Point.{Point}
 use Rattle.md_meaning.specs.declared.outline.Word.TheVariants as word
 use Rattle.md_meaning.specs.Outline.{outline}
 use Rattle.md_meaning.specs.Tree.{Line}
-use Rattle.md_seam.specs.Events.Spelled.{AsDestination, AsHeading, AsInfo, AsLabel, AsLine, AsMarkers, AsMeta, AsTitle}
-use Rattle.md_seam.specs.Events.Spelled.{FootnoteShape, ContainerRole, IsEnding, IsFence, IsPrefix, IsQuiet}
-use Rattle.md_seam.specs.Events.Spelled.{IsQuoteMarker, IsTitle, LeafKind, OfCode, OfDefinition, OfFence, OfFrontmatter}
-use Rattle.md_seam.specs.Events.Spelled.{OfHeadingSetext, OfHtml, OfMath, OfTable, LeafRole, OrderedShape, Reading}
-use Rattle.md_seam.specs.Events.Spelled.{TextRole, UnorderedShape, byte_at, columns_left, empty_line, no_heading}
-use Rattle.md_seam.specs.Events.Spelled.{read_by, read_exit, next_line}
-use Rattle.md_seam.specs.Events.Spelled as spelled
+use Rattle.md_events.specs.Events.Spelled.{AsDestination, AsHeading, AsInfo, AsLabel, AsLine, AsMarkers, AsMeta, AsTitle}
+use Rattle.md_events.specs.Events.Spelled.{FootnoteShape, ContainerRole, IsEnding, IsFence, IsPrefix, IsQuiet}
+use Rattle.md_events.specs.Events.Spelled.{IsQuoteMarker, IsTitle, LeafKind, OfCode, OfDefinition, OfFence, OfFrontmatter}
+use Rattle.md_events.specs.Events.Spelled.{OfHeadingSetext, OfHtml, OfMath, OfTable, LeafRole, OrderedShape, Reading}
+use Rattle.md_events.specs.Events.Spelled.{TextRole, UnorderedShape, byte_at, columns_left, empty_line, no_heading}
+use Rattle.md_events.specs.Events.Spelled.{read_by, read_exit, next_line}
+use Rattle.md_events.specs.Events.Spelled as spelled
 use Rattle.md_outline.specs.HeadingDepths.{are_shallow}
 use Rattle.md_outline.specs.LinesStand.{AtEnd, AtEnding, AtInfo, AtLabel, AtLine, AtMarkers, AtMeta, AtTitle}
 use Rattle.md_outline.specs.LinesStand.{AtTitleText, BehindPart, BehindTitle, BehindTitleText, BehindUnderline}

@@ -10,10 +10,10 @@ use Rattle.md_engine.specs.declared.event.Kind.TheVariants.{Enter, Exit}
 use Rattle.md_engine.specs.declared.event.Name.{Name}
 use Rattle.md_engine.specs.declared.event.Name.TheVariants as n
 use Rattle.md_engine.specs.declared.event.Point.{Point}
-use Rattle.md_seam.specs.Events.Nested.{around, enter, exit, pair}
-use Rattle.md_seam.specs.Events.Spelled.{AsHeading, AsMarkers, IsEnding, IsQuiet, IsQuoteMarker, LeafKind, OfCode}
-use Rattle.md_seam.specs.Events.Spelled.{OfHeadingSetext, LeafRole, Role, TextRole, role}
-use Rattle.md_seam.proofs.SpelledLemmas.{Between, Quiet, QuietOrEnding, QuietOrPrefix, Roles}
+use Rattle.md_events.specs.Events.Nested.{around, enter, exit, pair}
+use Rattle.md_events.specs.Events.Spelled.{AsHeading, AsMarkers, IsEnding, IsQuiet, IsQuoteMarker, LeafKind, OfCode}
+use Rattle.md_events.specs.Events.Spelled.{OfHeadingSetext, LeafRole, Role, TextRole, role}
+use Rattle.md_events.proofs.SpelledLemmas.{Between, Quiet, QuietOrEnding, QuietOrPrefix, Roles}
 use Rattle.md_outline.specs.LinesStand.{AtEnd, AtEnding, AtLine, AtTitle, BehindTitle, BehindUnderline, HasLines}
 use Rattle.md_outline.specs.LinesStand.{InAtxText, InTitle, InUnderline, LinesStand, MayStand, Outside, Site}
 use Rattle.md_outline.specs.LinesStand.{begun_site, site_by, InParted, InPart, InTable, BehindPart, InText}

@@ -13,12 +13,12 @@ use Rattle.md_meaning.specs.declared.outline.Word.TheVariants as word
 use Rattle.md_meaning.specs.Outline.{Entry, block_entries, entry, entry_of, outline}
 use Rattle.md_meaning.specs.Texts.{first_byte}
 use Rattle.md_meaning.specs.Tree.{Block, Blocks, End, Item, More}
-use Rattle.md_seam.specs.Events.Spelled.{OpenContainer, AsDigits, AsFootnoteLabel, AsItemMarker, FootnoteShape}
-use Rattle.md_seam.specs.Events.Spelled.{ContainerRole, IsEnding, IsPrefix, IsQuiet, IsQuoteMarker, ItemShape}
-use Rattle.md_seam.specs.Events.Spelled.{OrderedShape, Reading, Shape, TextRole, Text, UnorderedShape, begun}
-use Rattle.md_seam.specs.Events.Spelled.{block_around, byte_at, columns_left, first_told, read_by, read_enter, text_to}
-use Rattle.md_seam.specs.Events.Spelled.{OpenLeaf}
-use Rattle.md_seam.specs.Events.Spelled as spelled
+use Rattle.md_events.specs.Events.Spelled.{OpenContainer, AsDigits, AsFootnoteLabel, AsItemMarker, FootnoteShape}
+use Rattle.md_events.specs.Events.Spelled.{ContainerRole, IsEnding, IsPrefix, IsQuiet, IsQuoteMarker, ItemShape}
+use Rattle.md_events.specs.Events.Spelled.{OrderedShape, Reading, Shape, TextRole, Text, UnorderedShape, begun}
+use Rattle.md_events.specs.Events.Spelled.{block_around, byte_at, columns_left, first_told, read_by, read_enter, text_to}
+use Rattle.md_events.specs.Events.Spelled.{OpenLeaf}
+use Rattle.md_events.specs.Events.Spelled as spelled
 use Rattle.md_outline.specs.HeadingDepths.{are_shallow}
 use Rattle.md_outline.specs.ListsBegin.{AllTold, AtItem, AtLabel, AtMarker, InMarker, MayFollow, Stage, marks, stage_by}
 use Rattle.md_outline.specs.Outlined.{is_unparted, parts_by}

@@ -10,19 +10,19 @@ use Rattle.md_meaning.specs.declared.alert.AlertKind.{AlertKind}
 use Rattle.md_meaning.specs.declared.outline.Word.{Word}
 use Rattle.md_meaning.specs.declared.outline.Word.TheVariants as word
 use Rattle.md_meaning.specs.Outline.{Entry, block_entries}
-use Rattle.md_seam.specs.Events.Places.{last_line}
+use Rattle.md_events.specs.Events.Places.{last_line}
 use Rattle.md_meaning.specs.Rest.{is_blank}
-use Rattle.md_seam.specs.Events.Spelled.{OpenContainer, AsDigits, AsFootnoteLabel, AsHeading, AsItemMarker, AsMarkers}
-use Rattle.md_seam.specs.Events.Spelled.{FootnoteShape, ContainerRole, IsPrefix, IsQuoteMarker, OpenLeaf, LeafRole}
-use Rattle.md_seam.specs.Events.Spelled.{Reading, Shape, TextRole, Text, after_prefix, at_ending, before_prefix, begun}
-use Rattle.md_seam.specs.Events.Spelled.{block_around, block_of, byte_at, columns_left, finished, left, next_line}
-use Rattle.md_seam.specs.Events.Spelled.{on_leaf, read_by, read_enter, read_exit, is_before_blocks, kind_at, named}
-use Rattle.md_seam.specs.Events.Spelled.{on_shape, text_to, with_kind}
-use Rattle.md_seam.specs.Events.Spelled as spelled
+use Rattle.md_events.specs.Events.Spelled.{OpenContainer, AsDigits, AsFootnoteLabel, AsHeading, AsItemMarker, AsMarkers}
+use Rattle.md_events.specs.Events.Spelled.{FootnoteShape, ContainerRole, IsPrefix, IsQuoteMarker, OpenLeaf, LeafRole}
+use Rattle.md_events.specs.Events.Spelled.{Reading, Shape, TextRole, Text, after_prefix, at_ending, before_prefix, begun}
+use Rattle.md_events.specs.Events.Spelled.{block_around, block_of, byte_at, columns_left, finished, left, next_line}
+use Rattle.md_events.specs.Events.Spelled.{on_leaf, read_by, read_enter, read_exit, is_before_blocks, kind_at, named}
+use Rattle.md_events.specs.Events.Spelled.{on_shape, text_to, with_kind}
+use Rattle.md_events.specs.Events.Spelled as spelled
 use Rattle.md_meaning.specs.State.{then_block}
 use Rattle.md_meaning.specs.Texts.{split_lines}
 use Rattle.md_meaning.specs.Tree.{Block, Blocks, End, Line, More}
-use Rattle.md_seam.proofs.ThroughoutLemmas.{all-then}
+use Rattle.md_events.proofs.ThroughoutLemmas.{all-then}
 use Rattle.md_outline.specs.AlertState.{kind_given}
 use Rattle.md_outline.specs.FootnoteState.{container_lines}
 use Rattle.md_outline.specs.HeadingDepths.{are_shallow, fits}
@@ -33,7 +33,7 @@ use Rattle.md_outline.specs.OutlineSteps.{state_by, state_enter, state_exit, tit
 use Rattle.md_outline.specs.DefinitionState.{part_word}
 use Rattle.md_outline.specs.OutlineSteps.{marked_at, marker_begun, piece_shown}
 use Rattle.md_outline.specs.ParagraphState.{begin_entries}
-use Rattle.md_seam.specs.Events.Told.{block_told}
+use Rattle.md_events.specs.Events.Told.{block_told}
 use Rattle.md_outline.specs.Roles.{is_plain, leaf_entries, noted, shown_as, told_as}
 use Rattle.md_outline.specs.TextLines.{text_entries}
 use Rattle.md_outline.specs.declared.outline.lined.Lined.{Lined}

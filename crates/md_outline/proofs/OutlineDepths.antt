@@ -6,10 +6,10 @@ use Rattle.md_engine.specs.declared.event.Kind.{Kind}
 use Rattle.md_engine.specs.declared.event.Kind.TheVariants.{Enter, Exit}
 use Rattle.md_engine.specs.declared.event.Name.{Name}
 use Rattle.md_engine.specs.declared.event.Point.{Point}
-use Rattle.md_seam.specs.Events.Nested.{Balanced, Fits, Matches, open_after, open_behind}
-use Rattle.md_seam.specs.Events.Spelled.{OpenContainer, ContainerRole, IsEnding, IsQuoteMarker, OpenLeaf, LeafRole}
-use Rattle.md_seam.specs.Events.Spelled.{Purpose, Reading, Role, TextRole, Text, finished, left, read, read_by}
-use Rattle.md_seam.specs.Events.Spelled.{read_enter, read_exit, role, told_at, unread, with_kind}
+use Rattle.md_events.specs.Events.Nested.{Balanced, Fits, Matches, open_after, open_behind}
+use Rattle.md_events.specs.Events.Spelled.{OpenContainer, ContainerRole, IsEnding, IsQuoteMarker, OpenLeaf, LeafRole}
+use Rattle.md_events.specs.Events.Spelled.{Purpose, Reading, Role, TextRole, Text, finished, left, read, read_by}
+use Rattle.md_events.specs.Events.Spelled.{read_enter, read_exit, role, told_at, unread, with_kind}
 use Rattle.md_outline.proofs.ClosedTrees.{depth_of, depth-renamed}
 use Rattle.md_outline.proofs.RoleLemmas.{by-ending, by-marker, by-told_at}
 

@@ -8,17 +8,17 @@ use Rattle.std.proofs.lemmas.Bool.{and_from, and_parts}
 use Rattle.std.proofs.lemmas.List.{at_drop_all, at_drop_more}
 use Rattle.std.proofs.lemmas.List.Elements.{All-get_or}
 use Rattle.std.proofs.lemmas.List.Sums.{AllPass-from_list_all}
-use Rattle.md_seam.proofs.PlainSteps.{range-none}
+use Rattle.md_events.proofs.PlainSteps.{range-none}
 use Rattle.md_engine.specs.declared.event.Event.{Event}
 use Rattle.md_engine.specs.declared.event.Kind.{Kind}
 use Rattle.md_engine.specs.declared.event.Kind.TheVariants.{Enter, Exit}
 use Rattle.md_engine.specs.declared.event.Point.{Point}
 use Rattle.md_meaning.specs.declared.outline.Word.{Word}
 use Rattle.md_meaning.specs.Outline.{Entry, outline}
-use Rattle.md_seam.specs.Events.Spelled.{AsHeading, ContainerRole, IsCell, IsFence, IsPrefix, OpenLeaf, LeafRole}
-use Rattle.md_seam.specs.Events.Spelled.{OrderedShape, Reading, TextRole, UnorderedShape, begun, byte_at, read, read_by}
-use Rattle.md_seam.specs.Events.Spelled.{spelled, unread, OfBreak, IsQuoteMarker, IsEnding}
-use Rattle.md_seam.specs.Events.Spelled as spelled
+use Rattle.md_events.specs.Events.Spelled.{AsHeading, ContainerRole, IsCell, IsFence, IsPrefix, OpenLeaf, LeafRole}
+use Rattle.md_events.specs.Events.Spelled.{OrderedShape, Reading, TextRole, UnorderedShape, begun, byte_at, read, read_by}
+use Rattle.md_events.specs.Events.Spelled.{spelled, unread, OfBreak, IsQuoteMarker, IsEnding}
+use Rattle.md_events.specs.Events.Spelled as spelled
 use Rattle.md_outline.specs.Between.{is_between}
 use Rattle.md_outline.specs.HeadingDepths.{fits}
 use Rattle.md_outline.specs.ListsBegin.{AllTold, ListsBegin, Stage, stage_by}

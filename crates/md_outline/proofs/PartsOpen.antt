@@ -8,15 +8,15 @@ use Rattle.md_engine.specs.declared.event.Kind.{Kind}
 use Rattle.md_engine.specs.declared.event.Kind.TheVariants.{Enter, Exit}
 use Rattle.md_engine.specs.declared.event.Name.{Name}
 use Rattle.md_engine.specs.declared.event.Point.{Point}
-use Rattle.md_seam.specs.Events.Nested.{Fits, open_behind}
-use Rattle.md_seam.specs.Events.Spelled.{AsFootnoteLabel, AsHeading, AsInfo, AsItemMarker, AsLine, AsMarkers}
-use Rattle.md_seam.specs.Events.Spelled.{ContainerRole}
-use Rattle.md_seam.specs.Events.Spelled.{FootnoteShape, IsEnding, IsPrefix, IsQuoteMarker, LeafKind, LeafRole}
-use Rattle.md_seam.specs.Events.Spelled.{OpenLeaf, OrderedShape, Purpose, Reading, Role, Text, TextRole}
-use Rattle.md_seam.specs.Events.Spelled.{UnorderedShape, finished, left, read_by, read_enter, read_exit, role}
-use Rattle.md_seam.specs.Events.Spelled.{IsCell, IsFence, IsRow, IsTitle, OfBreak, OfHeadingAtx, OpenContainer}
-use Rattle.md_seam.specs.Events.Spelled.{after_prefix, at_cell, at_fence, at_row, at_title, before_prefix}
-use Rattle.md_seam.specs.Events.Spelled.{behind_title, next_line, told_at, unread}
+use Rattle.md_events.specs.Events.Nested.{Fits, open_behind}
+use Rattle.md_events.specs.Events.Spelled.{AsFootnoteLabel, AsHeading, AsInfo, AsItemMarker, AsLine, AsMarkers}
+use Rattle.md_events.specs.Events.Spelled.{ContainerRole}
+use Rattle.md_events.specs.Events.Spelled.{FootnoteShape, IsEnding, IsPrefix, IsQuoteMarker, LeafKind, LeafRole}
+use Rattle.md_events.specs.Events.Spelled.{OpenLeaf, OrderedShape, Purpose, Reading, Role, Text, TextRole}
+use Rattle.md_events.specs.Events.Spelled.{UnorderedShape, finished, left, read_by, read_enter, read_exit, role}
+use Rattle.md_events.specs.Events.Spelled.{IsCell, IsFence, IsRow, IsTitle, OfBreak, OfHeadingAtx, OpenContainer}
+use Rattle.md_events.specs.Events.Spelled.{after_prefix, at_cell, at_fence, at_row, at_title, before_prefix}
+use Rattle.md_events.specs.Events.Spelled.{behind_title, next_line, told_at, unread}
 use Rattle.md_outline.specs.LinesStand.{AtEnd, AtEnding, AtLine, AtMarkers, BehindPart, BehindUnderline, InAtxText}
 use Rattle.md_outline.specs.LinesStand.{InEnd, InMarkers, InPart, InParted, InTable, InText, LabelPart, MayStand}
 use Rattle.md_outline.specs.LinesStand.{Outside, Part, Site}

@@ -11,15 +11,15 @@ use Rattle.md_meaning.specs.declared.alert.AlertKind.{AlertKind}
 use Rattle.md_meaning.specs.declared.outline.Word.{Word}
 use Rattle.md_meaning.specs.declared.outline.Word.TheVariants as word
 use Rattle.md_meaning.specs.Outline.{block_entries}
-use Rattle.md_seam.specs.Events.Spelled.{AsDigits, AsFootnoteLabel, AsHeading, AsItemMarker, AsMarkers, CodeLeaf}
-use Rattle.md_seam.specs.Events.Spelled.{FootnoteShape, ContainerRole, IsEnding, IsPrefix, IsQuiet, IsQuoteMarker}
-use Rattle.md_seam.specs.Events.Spelled.{LeafKind, OfCode, OfHeadingSetext, OfHtml, OpenLeaf, QuoteShape}
-use Rattle.md_seam.specs.Events.Spelled.{is_before_blocks, kind_at, read_enter, with_kind, LeafRole, OrderedShape}
-use Rattle.md_seam.specs.Events.Spelled.{Reading, Shape, TextRole, Text, UnorderedShape, add_block, at_ending}
-use Rattle.md_seam.specs.Events.Spelled.{block_around, fresh, named, next_line, on_leaf, on_shape, spelled, text_to}
-use Rattle.md_seam.specs.Events.Spelled as spelled
-use Rattle.md_seam.specs.Events.Told.{OfContainer, OfItself, OfLeaf, Told, block_told, told_of}
-use Rattle.md_seam.proofs.ToldLemmas.{told-block, told-named, told-noted}
+use Rattle.md_events.specs.Events.Spelled.{AsDigits, AsFootnoteLabel, AsHeading, AsItemMarker, AsMarkers, CodeLeaf}
+use Rattle.md_events.specs.Events.Spelled.{FootnoteShape, ContainerRole, IsEnding, IsPrefix, IsQuiet, IsQuoteMarker}
+use Rattle.md_events.specs.Events.Spelled.{LeafKind, OfCode, OfHeadingSetext, OfHtml, OpenLeaf, QuoteShape}
+use Rattle.md_events.specs.Events.Spelled.{is_before_blocks, kind_at, read_enter, with_kind, LeafRole, OrderedShape}
+use Rattle.md_events.specs.Events.Spelled.{Reading, Shape, TextRole, Text, UnorderedShape, add_block, at_ending}
+use Rattle.md_events.specs.Events.Spelled.{block_around, fresh, named, next_line, on_leaf, on_shape, spelled, text_to}
+use Rattle.md_events.specs.Events.Spelled as spelled
+use Rattle.md_events.specs.Events.Told.{OfContainer, OfItself, OfLeaf, Told, block_told, told_of}
+use Rattle.md_events.proofs.ToldLemmas.{told-block, told-named, told-noted}
 use Rattle.md_meaning.specs.Tree.{Block, End, Line}
 use Rattle.md_outline.specs.FootnoteState.{container_lines}
 use Rattle.md_outline.specs.Outlined.{begins_line, parts_exit, piece_to}

@@ -10,13 +10,13 @@ use Rattle.md_engine.specs.declared.event.Point.{Point}
 use Rattle.md_meaning.specs.Outline.{Entry, block_entries, outline}
 use Rattle.md_meaning.specs.State.{then_block}
 use Rattle.md_meaning.specs.Tree.{Block, Blocks, End, Line, More}
-use Rattle.md_seam.specs.Events.Spelled.{OpenContainer, AsDigits, AsFootnoteLabel, AsItemMarker, AsParagraph}
-use Rattle.md_seam.specs.Events.Spelled.{ContainerRole, IsCell, IsEnding, IsFence, IsPrefix, IsQuiet, IsRow, IsTitle}
-use Rattle.md_seam.specs.Events.Spelled.{OpenLeaf, LeafRole, Purpose, Reading, Role, Shape, TextRole, Text, add_block}
-use Rattle.md_seam.specs.Events.Spelled.{at_ending, finished, left, named, next_line, on_leaf, IsQuoteMarker}
-use Rattle.md_seam.specs.Events.Spelled.{is_before_blocks, kind_at, on_shape, with_kind, read, read_by, role, told}
-use Rattle.md_seam.specs.Events.Spelled.{block_around, told_at, unread}
-use Rattle.md_seam.specs.Events.Throughout.{all_blocks, all_within}
+use Rattle.md_events.specs.Events.Spelled.{OpenContainer, AsDigits, AsFootnoteLabel, AsItemMarker, AsParagraph}
+use Rattle.md_events.specs.Events.Spelled.{ContainerRole, IsCell, IsEnding, IsFence, IsPrefix, IsQuiet, IsRow, IsTitle}
+use Rattle.md_events.specs.Events.Spelled.{OpenLeaf, LeafRole, Purpose, Reading, Role, Shape, TextRole, Text, add_block}
+use Rattle.md_events.specs.Events.Spelled.{at_ending, finished, left, named, next_line, on_leaf, IsQuoteMarker}
+use Rattle.md_events.specs.Events.Spelled.{is_before_blocks, kind_at, on_shape, with_kind, read, read_by, role, told}
+use Rattle.md_events.specs.Events.Spelled.{block_around, told_at, unread}
+use Rattle.md_events.specs.Events.Throughout.{all_blocks, all_within}
 
 -- After blocks.
 

@@ -5,10 +5,10 @@ use Rattle.std.proofs.lemmas.Bool.{true≢false}
 use Rattle.md_engine.specs.declared.event.Kind.TheVariants.{Enter}
 use Rattle.md_engine.specs.declared.event.Point.{Point}
 use Rattle.md_meaning.specs.Outline.{Entry}
-use Rattle.md_seam.specs.Events.Spelled.{IsPrefix, IsQuoteMarker, LeafKind, LeafRole, OpenLeaf, Reading, Text}
-use Rattle.md_seam.specs.Events.Spelled.{after_prefix, at_ending, is_before_blocks, kind_at, on_shape, with_kind}
-use Rattle.md_seam.specs.Events.Spelled.{before_prefix, begun, byte_at, columns_left, read_enter, read_exit}
-use Rattle.md_seam.specs.Events.Spelled as spelled
+use Rattle.md_events.specs.Events.Spelled.{IsPrefix, IsQuoteMarker, LeafKind, LeafRole, OpenLeaf, Reading, Text}
+use Rattle.md_events.specs.Events.Spelled.{after_prefix, at_ending, is_before_blocks, kind_at, on_shape, with_kind}
+use Rattle.md_events.specs.Events.Spelled.{before_prefix, begun, byte_at, columns_left, read_enter, read_exit}
+use Rattle.md_events.specs.Events.Spelled as spelled
 use Rattle.md_outline.specs.Outlined.{parts_by}
 use Rattle.md_outline.specs.OutlineSteps.{OutlineState, line_ended, marker_begun, parted_at, state_enter, state_exit}
 use Rattle.md_outline.specs.OutlineSteps.{told, told_at}

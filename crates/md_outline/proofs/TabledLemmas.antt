@@ -11,10 +11,10 @@ use Rattle.md_meaning.specs.declared.outline.Word.TheVariants as word
 use Rattle.md_meaning.specs.Outline.{Entry, entry, entry_with, row_entries, rows_entries, table_entries}
 use Rattle.md_meaning.specs.Rest.{trim}
 use Rattle.md_meaning.specs.Tree.{Line}
-use Rattle.md_seam.specs.Events.Spelled.{AsCell, AsDelimiter, IsCell, IsEnding, IsPrefix, IsQuiet, IsQuoteMarker, IsRow}
-use Rattle.md_seam.specs.Events.Spelled.{OfTable, LeafRole, Reading, TableLeaf, TableSoFar, TextRole, at_cell, at_row}
-use Rattle.md_seam.specs.Events.Spelled.{byte_at, columns_left, first_told, next_line, on_last, on_leaf, read_by}
-use Rattle.md_seam.specs.Events.Spelled as spelled
+use Rattle.md_events.specs.Events.Spelled.{AsCell, AsDelimiter, IsCell, IsEnding, IsPrefix, IsQuiet, IsQuoteMarker, IsRow}
+use Rattle.md_events.specs.Events.Spelled.{OfTable, LeafRole, Reading, TableLeaf, TableSoFar, TextRole, at_cell, at_row}
+use Rattle.md_events.specs.Events.Spelled.{byte_at, columns_left, first_told, next_line, on_last, on_leaf, read_by}
+use Rattle.md_events.specs.Events.Spelled as spelled
 use Rattle.md_outline.specs.LinedState.{now_told, with_head, without_end}
 use Rattle.md_outline.specs.OutlineSteps.{OutlineState, cell_begun, counted_at, state_by, told, told_at, with_empty}
 use Rattle.md_outline.specs.Roles.{shown_as}

@@ -3,9 +3,9 @@ use Rattle.std.proofs.Common.{◌≡◌, ℕ, List, refl}
 use Rattle.md_engine.specs.declared.event.Event.{Event}
 use Rattle.md_engine.specs.declared.event.Name.{Name}
 use Rattle.md_engine.specs.declared.event.Point.{Point}
-use Rattle.md_seam.specs.Events.Nested.{around}
-use Rattle.md_seam.specs.Events.Spelled.{AsCell, AsDelimiter, IsCell, IsRow, OfTable, LeafRole, TextRole, role}
-use Rattle.md_seam.proofs.SpelledLemmas.{Between, Quiet, Roles}
+use Rattle.md_events.specs.Events.Nested.{around}
+use Rattle.md_events.specs.Events.Spelled.{AsCell, AsDelimiter, IsCell, IsRow, OfTable, LeafRole, TextRole, role}
+use Rattle.md_events.proofs.SpelledLemmas.{Between, Quiet, Roles}
 use Rattle.md_outline.specs.LinesStand.{InTable, Outside}
 use Rattle.md_outline.specs.TablePlaces.{AtCell, AtHead, BehindCell, BehindHead, BehindRow, BodyRow, HeadRow, InCell}
 use Rattle.md_outline.specs.TablePlaces.{InDelimiter, InRow, Row, TablePlace}

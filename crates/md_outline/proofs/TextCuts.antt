@@ -19,12 +19,12 @@ use Rattle.md_meaning.specs.declared.outline.Word.{Word}
 use Rattle.md_meaning.specs.Lines.{begins_with, ends_line, is_ending}
 use Rattle.md_meaning.specs.Preamble.{has_mark}
 use Rattle.md_meaning.specs.Outline.{Entry, entries, entry_with}
-use Rattle.md_seam.specs.Events.Places.{last_line}
+use Rattle.md_events.specs.Events.Places.{last_line}
 use Rattle.md_meaning.specs.Rest.{is_blank, is_white, trim_end, trim_start}
-use Rattle.md_seam.specs.Events.Spelled.{without_last}
+use Rattle.md_events.specs.Events.Spelled.{without_last}
 use Rattle.md_meaning.specs.Texts.{split_lines, trim_each, trim_further}
-use Rattle.md_seam.proofs.PlacesLemmas.{Some_line, last-next, some-split}
-use Rattle.md_seam.proofs.PlainSteps.{range-none}
+use Rattle.md_events.proofs.PlacesLemmas.{Some_line, last-next, some-split}
+use Rattle.md_events.proofs.PlainSteps.{range-none}
 use Rattle.md_meaning.proofs.PreambleLemmas.{mark-bytes}
 use Rattle.md_meaning.proofs.TextsLemmas.{split-byte}
 use Rattle.md_outline.specs.Between.{is_between}

@@ -6,7 +6,7 @@ use Rattle.std.proofs.lemmas.Bool.{true≢false}
 use Rattle.md_meaning.specs.declared.outline.Word.TheVariants as word
 use Rattle.md_meaning.specs.Lines.{begins_with}
 use Rattle.md_meaning.specs.Outline.{Entry}
-use Rattle.md_seam.specs.Events.Places.{last_line}
+use Rattle.md_events.specs.Events.Places.{last_line}
 use Rattle.md_meaning.specs.Rest.{is_blank}
 use Rattle.md_meaning.specs.Texts.{split_lines}
 use Rattle.md_outline.specs.TextLines.{full_entries, text_entries}

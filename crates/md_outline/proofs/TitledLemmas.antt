@@ -10,11 +10,11 @@ use Rattle.md_meaning.specs.Outline.{Entry, block_entries, entries, entry}
 use Rattle.md_meaning.specs.Rest.{is_blank}
 use Rattle.md_meaning.specs.Texts.{first_byte, split_lines, trim_each}
 use Rattle.md_meaning.specs.Tree.{Heading, Line}
-use Rattle.md_seam.specs.Events.Places.{last_line}
-use Rattle.md_seam.specs.Events.Spelled.{AsHeading, AsMarkers, HeadingSetextLeaf, HeadingSoFar, IsPrefix, Reading}
-use Rattle.md_seam.specs.Events.Spelled.{TextRole, Text, after_prefix, at_ending, before_prefix, begun, byte_at}
-use Rattle.md_seam.specs.Events.Spelled.{columns_left, no_heading, text_to, underline_depth}
-use Rattle.md_seam.specs.Events.Spelled as spelled
+use Rattle.md_events.specs.Events.Places.{last_line}
+use Rattle.md_events.specs.Events.Spelled.{AsHeading, AsMarkers, HeadingSetextLeaf, HeadingSoFar, IsPrefix, Reading}
+use Rattle.md_events.specs.Events.Spelled.{TextRole, Text, after_prefix, at_ending, before_prefix, begun, byte_at}
+use Rattle.md_events.specs.Events.Spelled.{columns_left, no_heading, text_to, underline_depth}
+use Rattle.md_events.specs.Events.Spelled as spelled
 use Rattle.md_outline.specs.DefinitionState.{part_word}
 use Rattle.md_outline.specs.LinedState.{marked_word, with_head}
 use Rattle.md_outline.specs.Outlined.{begins_line, parts_by}

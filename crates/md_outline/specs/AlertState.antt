@@ -5,7 +5,7 @@ use Rattle.md_meaning.specs.declared.alert.AlertKind.{AlertKind}
 use Rattle.md_meaning.specs.declared.outline.Word.{Word}
 use Rattle.md_meaning.specs.declared.outline.Word.TheVariants as word
 use Rattle.md_meaning.specs.Outline.{Entry}
-use Rattle.md_seam.specs.Events.Spelled.{on_last}
+use Rattle.md_events.specs.Events.Spelled.{on_last}
 
 -- the word with this kind, if it is that of a quote without one
 abbrev pub alert_word : Option AlertKind → Word → Word

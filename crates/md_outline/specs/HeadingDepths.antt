@@ -1,6 +1,6 @@
 -- How deep the headings of a tree are.
 use Rattle.std.specs.Prelude.{ℕ, Bool, true, if◌then◌else◌, nat_le, nat_lt}
-use Rattle.md_seam.specs.Events.Throughout.{all_blocks, all_within}
+use Rattle.md_events.specs.Events.Throughout.{all_blocks, all_within}
 use Rattle.md_meaning.specs.Tree.{Block, Blocks, Heading}
 
 -- whether a block is no heading deeper than 6 (CommonMark 4.2)

@@ -4,7 +4,7 @@ use Rattle.std.specs.Borrow.{Bor}
 use Rattle.md_meaning.specs.declared.outline.Word.TheVariants as word
 use Rattle.md_meaning.specs.Outline.{Entry, entries, entry}
 use Rattle.md_meaning.specs.Texts.{split_lines, trim_each}
-use Rattle.md_seam.specs.Events.Spelled.{HeadingSoFar, first_told}
+use Rattle.md_events.specs.Events.Spelled.{HeadingSoFar, first_told}
 use Rattle.md_outline.specs.HeadingDepths.{byte_depth}
 use Rattle.md_outline.specs.declared.outline.heading.Heading.{Heading}
 

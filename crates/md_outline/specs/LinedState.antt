@@ -4,7 +4,7 @@ use Rattle.std.specs.Prelude.{Some, None, option_map}
 use Rattle.md_meaning.specs.declared.outline.Word.{Word}
 use Rattle.md_meaning.specs.declared.outline.Word.TheVariants as word
 use Rattle.md_meaning.specs.Outline.{Entry, entry}
-use Rattle.md_seam.specs.Events.Spelled.{underline_depth}
+use Rattle.md_events.specs.Events.Spelled.{underline_depth}
 use Rattle.md_outline.specs.declared.outline.lined.Form.{Form}
 use Rattle.md_outline.specs.declared.outline.lined.Form.TheVariants as form
 use Rattle.md_outline.specs.declared.outline.lined.Lined.{Lined}

@@ -15,11 +15,11 @@ use Rattle.md_engine.specs.declared.event.Kind.TheVariants.{Enter, Exit}
 use Rattle.md_engine.specs.declared.event.Point.{Point}
 use Rattle.md_meaning.specs.Lines.{is_ending}
 use Rattle.md_meaning.specs.Texts.{first_byte}
-use Rattle.md_seam.specs.Events.Spelled.{AsCell, AsDelimiter, AsDestination, AsHeading, AsInfo, AsLabel, AsLine}
-use Rattle.md_seam.specs.Events.Spelled.{AsMarkers, AsMeta, AsTitle, IsCell, IsEnding, IsFence, IsPrefix, IsQuiet}
-use Rattle.md_seam.specs.Events.Spelled.{IsQuoteMarker, IsRow, IsTitle, LeafKind, OfCode, OfDefinition, OfFence}
-use Rattle.md_seam.specs.Events.Spelled.{OfFrontmatter, OfHeadingSetext, OfHtml, OfMath, OfTable, LeafRole, Purpose}
-use Rattle.md_seam.specs.Events.Spelled.{Role, TextRole, byte_at, role}
+use Rattle.md_events.specs.Events.Spelled.{AsCell, AsDelimiter, AsDestination, AsHeading, AsInfo, AsLabel, AsLine}
+use Rattle.md_events.specs.Events.Spelled.{AsMarkers, AsMeta, AsTitle, IsCell, IsEnding, IsFence, IsPrefix, IsQuiet}
+use Rattle.md_events.specs.Events.Spelled.{IsQuoteMarker, IsRow, IsTitle, LeafKind, OfCode, OfDefinition, OfFence}
+use Rattle.md_events.specs.Events.Spelled.{OfFrontmatter, OfHeadingSetext, OfHtml, OfMath, OfTable, LeafRole, Purpose}
+use Rattle.md_events.specs.Events.Spelled.{Role, TextRole, byte_at, role}
 use Rattle.md_outline.specs.TablePlaces.{AtHead, MayBe, TablePlace, spot_by}
 
 -- The parts of a definition that may have several lines.

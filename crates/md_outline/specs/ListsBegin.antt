@@ -11,9 +11,9 @@ use Rattle.md_engine.specs.declared.event.Kind.TheVariants.{Enter, Exit}
 use Rattle.md_engine.specs.declared.event.Point.{Point}
 use Rattle.md_meaning.specs.Containers.{is_bullet}
 use Rattle.md_meaning.specs.Texts.{first_byte}
-use Rattle.md_seam.specs.Events.Spelled.{AsDigits, AsFootnoteLabel, AsItemMarker, FootnoteShape, ContainerRole}
-use Rattle.md_seam.specs.Events.Spelled.{IsEnding, IsPrefix, IsQuiet, IsQuoteMarker, ItemShape, OrderedShape, Role}
-use Rattle.md_seam.specs.Events.Spelled.{Shape, TextRole, UnorderedShape, byte_at, is_ordered, role}
+use Rattle.md_events.specs.Events.Spelled.{AsDigits, AsFootnoteLabel, AsItemMarker, FootnoteShape, ContainerRole}
+use Rattle.md_events.specs.Events.Spelled.{IsEnding, IsPrefix, IsQuiet, IsQuoteMarker, ItemShape, OrderedShape, Role}
+use Rattle.md_events.specs.Events.Spelled.{Shape, TextRole, UnorderedShape, byte_at, is_ordered, role}
 
 -- whether a byte is the marker of items of such a list (CommonMark 5.2)
 abbrev pub marks : Shape → ℕ → Bool

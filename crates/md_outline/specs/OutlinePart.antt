@@ -3,7 +3,7 @@ use Rattle.std.specs.Prelude.{◌≡◌, ℕ, ◌<◌, ◌≤◌, List, ◌++◌
 use Rattle.md_engine.specs.declared.event.Event.{Event}
 use Rattle.md_meaning.specs.declared.outline.OutlineLine.{OutlineLine}
 use Rattle.md_meaning.specs.Outline.{entries_of, outline}
-use Rattle.md_seam.specs.Events.Spelled.{spelled}
+use Rattle.md_events.specs.Events.Spelled.{spelled}
 use Rattle.md_outline.specs.Outlined.{IsOutlined}
 
 -- lines before the outline of some events are the outline of all events, and an outline can show those, too

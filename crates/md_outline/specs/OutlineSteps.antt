@@ -10,8 +10,8 @@ use Rattle.md_meaning.specs.Outline.{Entry, entries_of, entry, entry_with}
 use Rattle.md_meaning.specs.Texts.{first_byte}
 use Rattle.md_meaning.specs.declared.outline.Word.{Word}
 use Rattle.md_meaning.specs.declared.outline.Word.TheVariants as word
-use Rattle.md_seam.specs.Events.Spelled.{OpenLeaf, kind_at}
-use Rattle.md_seam.specs.Events.Spelled as spelled
+use Rattle.md_events.specs.Events.Spelled.{OpenLeaf, kind_at}
+use Rattle.md_events.specs.Events.Spelled as spelled
 use Rattle.md_outline.specs.AlertState.{kind_given}
 use Rattle.md_outline.specs.Between.{is_between}
 use Rattle.md_outline.specs.DefinitionState.{destination_told, part_ended, part_parted, part_word}

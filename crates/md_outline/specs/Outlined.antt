@@ -9,12 +9,12 @@ use Rattle.md_engine.specs.declared.event.Kind.TheVariants.{Enter, Exit}
 use Rattle.md_engine.specs.declared.event.Point.{Point}
 use Rattle.md_meaning.specs.declared.outline.OutlineLine.{OutlineLine}
 use Rattle.md_meaning.specs.Lines.{begins_with}
-use Rattle.md_seam.specs.Events.Nested.{Balanced}
+use Rattle.md_events.specs.Events.Nested.{Balanced}
 use Rattle.md_meaning.specs.Outline.{entries_of, outline}
-use Rattle.md_seam.specs.Events.Places.{last_line}
+use Rattle.md_events.specs.Events.Places.{last_line}
 use Rattle.md_meaning.specs.Rest.{is_blank}
-use Rattle.md_seam.specs.Events.Spelled.{IsEnding, IsPrefix, IsQuiet, IsQuoteMarker, LeafRole, Role, TextRole, byte_at}
-use Rattle.md_seam.specs.Events.Spelled.{role, spelled}
+use Rattle.md_events.specs.Events.Spelled.{IsEnding, IsPrefix, IsQuiet, IsQuoteMarker, LeafRole, Role, TextRole, byte_at}
+use Rattle.md_events.specs.Events.Spelled.{role, spelled}
 use Rattle.md_meaning.specs.Texts.{split_lines}
 use Rattle.md_outline.specs.Between.{is_between}
 use Rattle.md_outline.specs.HeadingDepths.{are_shallow}

@@ -20,16 +20,16 @@
 use Rattle.std.specs.Prelude.{ℕ, Bool, true, false, List, None}
 use Rattle.md_meaning.specs.declared.outline.Word.TheVariants as word
 use Rattle.md_meaning.specs.Outline.{Entry, block_entries, quote_word}
-use Rattle.md_seam.specs.Events.Spelled.{AsCell, AsDelimiter, AsDestination, AsDigits, AsFootnoteLabel, AsHeading}
-use Rattle.md_seam.specs.Events.Spelled.{AsInfo, AsItemMarker, AsLabel, AsLine, AsMarkers, AsMeta, AsParagraph, AsTitle}
-use Rattle.md_seam.specs.Events.Spelled.{BreakLeaf, FootnoteShape, HeadingAtxLeaf, ContainerRole, IsCell, IsEnding}
-use Rattle.md_seam.specs.Events.Spelled.{IsFence, IsPrefix, IsQuiet, IsQuoteMarker, IsRow, IsTitle, ItemShape, LeafKind}
-use Rattle.md_seam.specs.Events.Spelled.{OfBreak, OfCode, OfDefinition, OfFence, OfFrontmatter, OfHeadingAtx}
-use Rattle.md_seam.specs.Events.Spelled.{OfHeadingSetext, OfHtml, OfMath, OfTable, OpenLeaf, LeafRole, OrderedShape}
-use Rattle.md_seam.specs.Events.Spelled.{QuoteShape, TextRole, UnorderedShape, block_of}
-use Rattle.md_seam.specs.Events.Spelled as spelled
-use Rattle.md_seam.specs.Events.Told.{OfItself, told_of}
-pub use Rattle.md_seam.specs.Events.Told.{is_told}
+use Rattle.md_events.specs.Events.Spelled.{AsCell, AsDelimiter, AsDestination, AsDigits, AsFootnoteLabel, AsHeading}
+use Rattle.md_events.specs.Events.Spelled.{AsInfo, AsItemMarker, AsLabel, AsLine, AsMarkers, AsMeta, AsParagraph, AsTitle}
+use Rattle.md_events.specs.Events.Spelled.{BreakLeaf, FootnoteShape, HeadingAtxLeaf, ContainerRole, IsCell, IsEnding}
+use Rattle.md_events.specs.Events.Spelled.{IsFence, IsPrefix, IsQuiet, IsQuoteMarker, IsRow, IsTitle, ItemShape, LeafKind}
+use Rattle.md_events.specs.Events.Spelled.{OfBreak, OfCode, OfDefinition, OfFence, OfFrontmatter, OfHeadingAtx}
+use Rattle.md_events.specs.Events.Spelled.{OfHeadingSetext, OfHtml, OfMath, OfTable, OpenLeaf, LeafRole, OrderedShape}
+use Rattle.md_events.specs.Events.Spelled.{QuoteShape, TextRole, UnorderedShape, block_of}
+use Rattle.md_events.specs.Events.Spelled as spelled
+use Rattle.md_events.specs.Events.Told.{OfItself, told_of}
+pub use Rattle.md_events.specs.Events.Told.{is_told}
 use Rattle.md_outline.specs.HeadingDepths.{fitted}
 use Rattle.md_outline.specs.HeadingState.{heading_of}
 use Rattle.md_outline.specs.declared.outline.role.Leaf.{Leaf}

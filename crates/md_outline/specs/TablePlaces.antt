@@ -6,8 +6,8 @@
 use Rattle.std.specs.Prelude.{Option, Some, None}
 use Rattle.md_engine.specs.declared.event.Kind.{Kind}
 use Rattle.md_engine.specs.declared.event.Kind.TheVariants.{Enter, Exit}
-use Rattle.md_seam.specs.Events.Spelled.{AsCell, AsDelimiter, ContainerRole, IsCell, IsEnding, IsPrefix, IsQuiet}
-use Rattle.md_seam.specs.Events.Spelled.{IsQuoteMarker, IsRow, OfTable, LeafRole, Role, TextRole}
+use Rattle.md_events.specs.Events.Spelled.{AsCell, AsDelimiter, ContainerRole, IsCell, IsEnding, IsPrefix, IsQuiet}
+use Rattle.md_events.specs.Events.Spelled.{IsQuoteMarker, IsRow, OfTable, LeafRole, Role, TextRole}
 
 -- The rows of a table that have cells.
 pub data Row : Type 0 where

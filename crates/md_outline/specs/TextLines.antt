@@ -5,7 +5,7 @@ use Rattle.md_meaning.specs.declared.outline.Word.{Word}
 use Rattle.md_meaning.specs.declared.outline.Word.TheVariants as word
 use Rattle.md_meaning.specs.Lines.{begins_with, is_ending}
 use Rattle.md_meaning.specs.Outline.{Entry, entries, entry_with}
-use Rattle.md_seam.specs.Events.Spelled.{without_last}
+use Rattle.md_events.specs.Events.Spelled.{without_last}
 use Rattle.md_meaning.specs.Texts.{split_lines, trim_each, trim_further}
 
 -- how many bytes are before the first line ending

@@ -13,9 +13,9 @@ use Rattle.md_engine.specs.Run.{Remains}
 use Rattle.md_engine.specs.World.{World, looks}
 use Rattle.md_engine.proofs.Loops.{CameTo}
 use Rattle.md_engine.proofs.Walks.{Within, then-stays}
-use Rattle.md_seam.specs.Spaces.{ends_line}
-use Rattle.md_seam.specs.Look.{looks_behind, may_with}
-use Rattle.md_seam.specs.Transition.{Transition, tried}
+use Rattle.md_events.specs.Spaces.{ends_line}
+use Rattle.md_events.specs.Look.{looks_behind, may_with}
+use Rattle.md_events.specs.Transition.{Transition, tried}
 use Rattle.md_registry.specs.AtOnce.{GoesAtOnce, HasPrefix, asking_by, asking_next, prefix_taken}
 use Rattle.md_registry.specs.LineFlags.{asking, next_container}
 use Rattle.md_registry.specs.States.{FlowStep}

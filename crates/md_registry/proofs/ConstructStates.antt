@@ -17,9 +17,9 @@ use Rattle.md_engine.specs.Scheme.{After, EndsLater, Position, after_all, positi
 use Rattle.md_engine.specs.World.{World, looks}
 use Rattle.md_engine.proofs.Local.{fits}
 use Rattle.md_engine.specs.Sees.{Sees}
-use Rattle.md_container_rooms.specs.Containers.BlockQuote.{quote_rules}
-use Rattle.md_container_rooms.specs.Containers.GfmFootnoteDefinition.{footnote_rules}
-use Rattle.md_container_rooms.specs.Containers.ListItem.{item_rules}
+use Rattle.proof_container_laws.specs.Containers.BlockQuote.{quote_rules}
+use Rattle.proof_container_laws.specs.Containers.GfmFootnoteDefinition.{footnote_rules}
+use Rattle.proof_container_laws.specs.Containers.ListItem.{item_rules}
 use Rattle.md_containers.proofs.FootnoteTermination.{FootnoteFits, footnote_terminates}
 use Rattle.md_containers.proofs.FootnoteMeaning.{footnote_means}
 use Rattle.md_containers.proofs.ItemTermination.{ItemFits, item_terminates}
@@ -33,16 +33,16 @@ use Rattle.md_leaves.proofs.HeadingTermination.{HeadingFits, heading_terminates}
 use Rattle.md_leaves.proofs.HeadingMeaning.{heading_means}
 use Rattle.md_leaves.proofs.SetextTermination.{SetextFits, setext_terminates}
 use Rattle.md_leaves.proofs.SetextMeaning.{setext_means}
-use Rattle.md_seam.specs.Ahead.{HasWhite}
-use Rattle.md_seam.specs.Spaces.{IsRest, rest_ready}
+use Rattle.md_events.specs.Ahead.{HasWhite}
+use Rattle.md_events.specs.Spaces.{IsRest, rest_ready}
 use Rattle.md_code.proofs.CodeTermination.{CodeFits, code_terminates}
 use Rattle.md_code.proofs.CodeMeaning.{code_means}
 use Rattle.md_code.proofs.FenceTermination.{FenceFits, fence_terminates}
 use Rattle.md_code.proofs.FenceMeaning.{fence_means}
-use Rattle.md_seam.proofs.SpacesTermination.{Does, WhiteFits}
-use Rattle.md_frame.specs.Rule.{Rule}
-use Rattle.md_frame.specs.LeafName.{CodeFurther, CodeIndented, Fence, FenceFurther, HeadingAtx, HeadingSetext, GfmTable}
-use Rattle.md_frame.specs.LeafName.{HtmlFlow, HtmlFurther, LeafName, ThematicBreak}
+use Rattle.md_events.proofs.SpacesTermination.{Does, WhiteFits}
+use Rattle.proof_frame.specs.Rule.{Rule}
+use Rattle.proof_frame.specs.LeafName.{CodeFurther, CodeIndented, Fence, FenceFurther, HeadingAtx, HeadingSetext, GfmTable}
+use Rattle.proof_frame.specs.LeafName.{HtmlFlow, HtmlFurther, LeafName, ThematicBreak}
 use Rattle.md_registry.specs.Registry.{behind, construct_owner, construct_transition, container_rules, leaf, opener_at}
 use Rattle.md_registry.specs.Registry.{openers_behind, tried_at}
 use Rattle.md_registry.specs.States.{flow_behaves_by, flow_owner, flow_table_scheme}

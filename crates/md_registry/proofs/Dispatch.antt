@@ -13,12 +13,12 @@ use Rattle.md_engine.specs.declared.tokenizer.held_leaf.HeldLeaf.TheVariants as 
 use Rattle.md_engine.specs.Meaning.{Cell, Here, Outcome}
 use Rattle.md_engine.specs.World.{Flags}
 use Rattle.md_meaning.specs.Ascii.{asterisk, backtick, dollar, equals_sign, hash, hyphen, less_than, tilde, underscore}
-use Rattle.md_seam.specs.Ahead.{begins_white}
-use Rattle.md_seam.specs.Look.{seen_behind}
-use Rattle.md_seam.specs.Spaces.{IsRest}
-use Rattle.md_frame.specs.LeafName.{CodeIndented, Fence, GfmTable, HeadingAtx, HeadingSetext, HtmlFlow, LeafName}
-use Rattle.md_frame.specs.LeafName.{ThematicBreak}
-use Rattle.md_frame.specs.Rule.{Rule, tried}
+use Rattle.md_events.specs.Ahead.{begins_white}
+use Rattle.md_events.specs.Look.{seen_behind}
+use Rattle.md_events.specs.Spaces.{IsRest}
+use Rattle.proof_frame.specs.LeafName.{CodeIndented, Fence, GfmTable, HeadingAtx, HeadingSetext, HtmlFlow, LeafName}
+use Rattle.proof_frame.specs.LeafName.{ThematicBreak}
+use Rattle.proof_frame.specs.Rule.{Rule, tried}
 use Rattle.md_registry.specs.AtOnce.{is_common}
 use Rattle.md_registry.specs.Flow.{flow_rank}
 use Rattle.md_registry.specs.FlowRule.{behind_leaf, leaves_of}

@@ -21,13 +21,13 @@ use Rattle.md_containers.specs.FrontmatterRule.{HasFront, front_at}
 use Rattle.md_containers.proofs.FrontmatterMeaning.{front_means}
 use Rattle.md_leaves.specs.BomRule.{HasBom, bom_at}
 use Rattle.md_leaves.proofs.BomMeaning.{bom_means}
-use Rattle.md_seam.specs.Ahead.{HasWhite}
-use Rattle.md_seam.proofs.SpacesTermination.{does-stands}
-use Rattle.md_seam.proofs.WhiteMeaning.{white_means}
+use Rattle.md_events.specs.Ahead.{HasWhite}
+use Rattle.md_events.proofs.SpacesTermination.{does-stands}
+use Rattle.md_events.proofs.WhiteMeaning.{white_means}
 use Rattle.md_registry.specs.Document.{DocumentStep, before_frontmatter_transition, document_own_transition}
 use Rattle.md_registry.specs.Document.{document_table_scheme, document_transition, start_transition}
-use Rattle.md_front_rooms.specs.DocumentRule.{document_behaves}
-use Rattle.md_frame.specs.Rule.{tried}
+use Rattle.proof_leaf_laws.specs.DocumentRule.{document_behaves}
+use Rattle.proof_frame.specs.Rule.{tried}
 use Rattle.md_registry.proofs.DocumentStates.{document_terminates}
 
 has_bom : (options : ParseOptions) → HasBom (document_behaves options)

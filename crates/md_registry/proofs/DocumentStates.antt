@@ -18,10 +18,10 @@ use Rattle.md_containers.specs.Frontmatter.{front_scheme}
 use Rattle.md_containers.proofs.FrontmatterTermination.{FrontFits, front_terminates}
 use Rattle.md_leaves.specs.Bom.{bom_scheme}
 use Rattle.md_leaves.proofs.BomTermination.{BomFits, bom_terminates}
-use Rattle.md_seam.specs.Spaces.{IsRest, rest_ready}
-use Rattle.md_seam.specs.Stays.{TakesEach}
-use Rattle.md_seam.proofs.StaysLemmas.{stays-on}
-use Rattle.md_seam.proofs.SpacesTermination.{Does, WhiteFits, white_terminates}
+use Rattle.md_events.specs.Spaces.{IsRest, rest_ready}
+use Rattle.md_events.specs.Stays.{TakesEach}
+use Rattle.md_events.proofs.StaysLemmas.{stays-on}
+use Rattle.md_events.proofs.SpacesTermination.{Does, WhiteFits, white_terminates}
 use Rattle.md_registry.specs.Document.{DocumentStep, before_frontmatter_transition, document_own_transition}
 use Rattle.md_registry.specs.Document.{document_owner, document_scheme, document_table_scheme}
 use Rattle.md_registry.specs.Document.{document_transition, start_transition}

@@ -10,7 +10,7 @@ use Rattle.md_engine.specs.Scheme.{stands}
 use Rattle.md_engine.specs.World.{World, looks}
 use Rattle.md_engine.proofs.Loops.{call-runs, call-sees}
 use Rattle.md_engine.proofs.Walks.{EachKeeps, Within}
-use Rattle.md_seam.proofs.SpacesTermination.{does-fall, does-remain, does-setting, does-stands}
+use Rattle.md_events.proofs.SpacesTermination.{does-fall, does-remain, does-setting, does-stands}
 use Rattle.md_registry.specs.Registry.{construct_transition}
 use Rattle.md_registry.specs.States.{FlowStep, flow_table_scheme, flow_transition, is_flow_own}
 use Rattle.md_registry.proofs.States.{flow_terminates}

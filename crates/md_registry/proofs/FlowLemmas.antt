@@ -15,16 +15,16 @@ use Rattle.md_engine.specs.declared.tokenizer.container.name.ContainerKind.{Cont
 use Rattle.md_engine.specs.World.{Flags, container_of}
 use Rattle.md_content.specs.ChunkRule.{chunk_at, inside_chunk}
 use Rattle.md_leaves.specs.BlankRule.{blank_at}
-use Rattle.md_seam.specs.Ahead.{line_bytes}
-use Rattle.md_seam.specs.Look.{first_seen}
-use Rattle.md_seam.specs.Spaces.{ends_line}
+use Rattle.md_events.specs.Ahead.{line_bytes}
+use Rattle.md_events.specs.Look.{first_seen}
+use Rattle.md_events.specs.Spaces.{ends_line}
 use Rattle.md_meaning.specs.Rest.{is_blank}
-use Rattle.md_frame.specs.Rule.{Rule, tried}
+use Rattle.proof_frame.specs.Rule.{Rule, tried}
 use Rattle.md_registry.specs.LineFlags.{begun_line, blanked, ended_on, next_container, shut_leaf, kept_containers}
 use Rattle.md_registry.specs.LineFlags.{went_on}
-use Rattle.md_frame.specs.LeafName.{LeafName}
-use Rattle.md_frame.proofs.FromEnding.{from_ending-again, from_ending-shrinks}
-use Rattle.md_frame.proofs.LeafLaws.{Shrinks, cond-shrinks}
+use Rattle.proof_frame.specs.LeafName.{LeafName}
+use Rattle.proof_frame.proofs.FromEnding.{from_ending-again, from_ending-shrinks}
+use Rattle.proof_frame.proofs.LeafLaws.{Shrinks, cond-shrinks}
 use Rattle.md_registry.proofs.Registry.{container-laws, laws}
 use Rattle.md_containers.proofs.Shorter.{Shortens}
 

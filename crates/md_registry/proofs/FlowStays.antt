@@ -5,8 +5,8 @@ use Rattle.md_engine.specs.declared.stay.Stay.{Stay}
 use Rattle.md_engine.specs.Staying.{StaysOn}
 use Rattle.md_registry.specs.States.{FlowStep, flow_table_scheme, flow_transition}
 use Rattle.md_registry.proofs.States.{flow_terminates}
-use Rattle.md_seam.specs.Stays.{TakesEach}
-use Rattle.md_seam.proofs.StaysLemmas.{stays-on}
+use Rattle.md_events.specs.Stays.{TakesEach}
+use Rattle.md_events.proofs.StaysLemmas.{stays-on}
 
 -- of a state that only takes and counts, whichever resolver is looked for
 pub flow-stays : (name : StateName) (o : Option Stay) →

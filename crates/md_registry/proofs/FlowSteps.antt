@@ -1,6 +1,6 @@
 -- Each state of flow, and of the document, takes one step of its rule.
 use Rattle.md_registry.proofs.DocumentMeans.{IsFront, own_means}
-use Rattle.md_front_rooms.specs.DocumentRule.{document_behaves}
+use Rattle.proof_leaf_laws.specs.DocumentRule.{document_behaves}
 use Rattle.std.proofs.Common.{◌≢◌, ◌≡◌, inl, inr, ℕ, Bool, true, false, ◌||◌, cond, nat_eq, List, [], ◌∷◌, ◌++◌, length}
 use Rattle.std.proofs.Common.{take, Option, Some, None, refl, sym, ◌∙◌, ap, subst, arith, append_assoc}
 use Rattle.md_registry.specs.FlowRule.{leaf_of, all_on, inside_by, inside_of, behind_leaf, ContainersInvariant}
@@ -41,19 +41,19 @@ use Rattle.md_engine.proofs.StepOf.{begins_only, changes, passes, sees, steps-as
 use Rattle.md_content.specs.ChunkRule.{chunk_at}
 use Rattle.md_leaves.specs.Blank as blank
 use Rattle.md_leaves.proofs.BlankLook.{blank-ended, blank-refused}
-use Rattle.md_seam.specs.Ahead.{begins_white}
-use Rattle.md_seam.specs.Events.Nested.{enter, exit, pair}
-use Rattle.md_seam.specs.Look.{looks_behind, may_with}
-use Rattle.md_seam.specs.Spaces.{IsRest, ends_line, sees_white}
-use Rattle.md_seam.specs.Transition.{entered, exited, taken}
-use Rattle.md_seam.proofs.LookLemmas.{first-seen, refused-first, seen-first}
-use Rattle.md_seam.proofs.WhiteMeaning.{begins-seen}
+use Rattle.md_events.specs.Ahead.{begins_white}
+use Rattle.md_events.specs.Events.Nested.{enter, exit, pair}
+use Rattle.md_events.specs.Look.{looks_behind, may_with}
+use Rattle.md_events.specs.Spaces.{IsRest, ends_line, sees_white}
+use Rattle.md_events.specs.Transition.{entered, exited, taken}
+use Rattle.md_events.proofs.LookLemmas.{first-seen, refused-first, seen-first}
+use Rattle.md_events.proofs.WhiteMeaning.{begins-seen}
 use Rattle.md_registry.specs.Document.{document_own_transition}
-use Rattle.md_frame.specs.Rule.{Rule, tried}
+use Rattle.proof_frame.specs.Rule.{Rule, tried}
 use Rattle.md_registry.specs.LineFlags as flags
-use Rattle.md_frame.specs.EndingName.{ending_name}
+use Rattle.proof_frame.specs.EndingName.{ending_name}
 use Rattle.md_registry.specs.LineFlags.{asking, blank_here, next_container, next_line, nothing_stands, went_on}
-use Rattle.md_frame.specs.LeafName.{LeafName}
+use Rattle.proof_frame.specs.LeafName.{LeafName}
 use Rattle.md_registry.proofs.FlowLemmas.{line_by_container, new_by_container}
 use Rattle.md_registry.proofs.Openers.{at-opener, left-front}
 use Rattle.md_registry.proofs.Trials.{at-trial, left-list}

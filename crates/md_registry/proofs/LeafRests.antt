@@ -4,13 +4,13 @@ use Rattle.md_engine.specs.declared.configuration.ParseOptions.{ParseOptions}
 use Rattle.md_engine.specs.declared.tokenizer.Scratch.{Scratch}
 use Rattle.md_engine.specs.Meaning.{Accepts, Cell, Fails, Here, Outcome, Refuses}
 use Rattle.md_engine.specs.World.{Flags}
-use Rattle.md_seam.specs.Spaces.{IsRest}
-use Rattle.md_frame.specs.LeafName.{GfmTable, HeadingSetext, HtmlFlow, LeafName, ThematicBreak}
-use Rattle.md_frame.specs.Rule.{Rule, tried}
-use Rattle.md_leaf_rooms.proofs.HeadingSetext.Trial as setext
-use Rattle.md_leaf_rooms.proofs.ThematicBreak.Trial as break
-use Rattle.md_literal_rooms.proofs.HtmlFlow.Trial as html
-use Rattle.md_table_rooms.proofs.GfmTable.Trial as table
+use Rattle.md_events.specs.Spaces.{IsRest}
+use Rattle.proof_frame.specs.LeafName.{GfmTable, HeadingSetext, HtmlFlow, LeafName, ThematicBreak}
+use Rattle.proof_frame.specs.Rule.{Rule, tried}
+use Rattle.proof_leaf_laws.proofs.HeadingSetext.Trial as setext
+use Rattle.proof_leaf_laws.proofs.ThematicBreak.Trial as break
+use Rattle.proof_literal_laws.proofs.HtmlFlow.Trial as html
+use Rattle.proof_table_laws.proofs.GfmTable.Trial as table
 use Rattle.md_registry.specs.Registry.{leaf}
 
 -- an outcome that refuses does so at rest

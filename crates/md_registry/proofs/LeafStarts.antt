@@ -22,22 +22,22 @@ use Rattle.md_leaves.specs.HeadingSetext.{may_turn, turns_nothing}
 use Rattle.md_leaves.specs.HeadingSetextRule.{is_underline}
 use Rattle.md_outline.specs.HeadingDepths.{is_shallow}
 use Rattle.md_outline.proofs.TextCuts.{trim-blank}
-use Rattle.md_frame.specs.Context.{context_of}
-use Rattle.md_literal_rooms.specs.Leaf.CodeIndented.{code_leaf}
-use Rattle.md_literal_rooms.specs.Leaf.Fence.{fence_leaf}
-use Rattle.md_table_rooms.specs.Leaf.GfmTable.{table_leaf}
-use Rattle.md_leaf_rooms.specs.Leaf.HeadingAtx.{heading_leaf}
-use Rattle.md_leaf_rooms.specs.Leaf.HeadingSetext.{setext_leaf}
-use Rattle.md_leaf_rooms.specs.Leaf.ThematicBreak.{break_leaf, is_ruled}
-use Rattle.md_frame.specs.LeafName.{CodeIndented, Fence, HeadingAtx, HeadingSetext, GfmTable, HtmlFlow, LeafName}
-use Rattle.md_frame.specs.LeafName.{ThematicBreak, first_of}
+use Rattle.proof_frame.specs.Context.{context_of}
+use Rattle.proof_literal_laws.specs.Leaf.CodeIndented.{code_leaf}
+use Rattle.proof_literal_laws.specs.Leaf.Fence.{fence_leaf}
+use Rattle.proof_table_laws.specs.Leaf.GfmTable.{table_leaf}
+use Rattle.proof_leaf_laws.specs.Leaf.HeadingAtx.{heading_leaf}
+use Rattle.proof_leaf_laws.specs.Leaf.HeadingSetext.{setext_leaf}
+use Rattle.proof_leaf_laws.specs.Leaf.ThematicBreak.{break_leaf, is_ruled}
+use Rattle.proof_frame.specs.LeafName.{CodeIndented, Fence, HeadingAtx, HeadingSetext, GfmTable, HtmlFlow, LeafName}
+use Rattle.proof_frame.specs.LeafName.{ThematicBreak, first_of}
 use Rattle.md_registry.specs.Registry.{behind, leaf, trials}
-use Rattle.md_literal_rooms.proofs.CodeIndented.Cells.{code-rest}
-use Rattle.md_literal_rooms.proofs.HtmlFlow.Found.{html-indented, html-lazy}
-use Rattle.md_literal_rooms.specs.Leaf.HtmlFlow.{html_leaf}
+use Rattle.proof_literal_laws.proofs.CodeIndented.Cells.{code-rest}
+use Rattle.proof_literal_laws.proofs.HtmlFlow.Found.{html-indented, html-lazy}
+use Rattle.proof_literal_laws.specs.Leaf.HtmlFlow.{html_leaf}
 use Rattle.md_registry.proofs.HeadingSetext.Found.{StartsNone, is_underlined, setext-first, some-underlined, starts-by}
 use Rattle.md_registry.proofs.HeadingSetext.Found.{underlined-first}
-use Rattle.md_leaf_rooms.proofs.HeadingSetext.Kinds.{setext-starts}
+use Rattle.proof_leaf_laws.proofs.HeadingSetext.Kinds.{setext-starts}
 use Rattle.md_registry.proofs.OpenSpan.{TurnsText}
 use Rattle.md_registry.proofs.UnderNames.{further-text}
 

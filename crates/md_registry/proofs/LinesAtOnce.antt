@@ -31,15 +31,15 @@ use Rattle.md_engine.proofs.Loops.{came-stays, not_error, reading-same}
 use Rattle.md_engine.proofs.Walks.{Within, then-stays, then-run, within-one}
 use Rattle.md_leaves.specs.Blank as blank
 use Rattle.md_leaves.proofs.HeadingCalls.{remains-of, sees-from}
-use Rattle.md_seam.specs.Look.{behind_code, first_behind, looks_behind, may_with}
-use Rattle.md_seam.specs.Spaces.{ends_line}
-use Rattle.md_seam.specs.Transition.{Transition, entered, exited, taken, tried}
+use Rattle.md_events.specs.Look.{behind_code, first_behind, looks_behind, may_with}
+use Rattle.md_events.specs.Spaces.{ends_line}
+use Rattle.md_events.specs.Transition.{Transition, entered, exited, taken, tried}
 use Rattle.md_registry.specs.AtOnce.{all_asked, content_alone, is_common, opens_none, openers_passed}
 use Rattle.md_registry.specs.Document.{document_own_transition}
-use Rattle.md_frame.specs.EndingName.{ending_name}
+use Rattle.proof_frame.specs.EndingName.{ending_name}
 use Rattle.md_registry.specs.LineFlags.{asking, begun_line, blank_here, blanked, next_line}
 use Rattle.md_registry.specs.LineFlags.{nothing_stands, kept_containers}
-use Rattle.md_frame.specs.LeafName.{GfmTable, LeafName}
+use Rattle.proof_frame.specs.LeafName.{GfmTable, LeafName}
 use Rattle.md_registry.specs.States.{FlowStep, flow_transition}
 use Rattle.md_registry.proofs.ConstructStates.{NextOpener, container-states}
 use Rattle.md_registry.proofs.Openers.{at-opener}

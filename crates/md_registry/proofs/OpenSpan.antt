@@ -10,10 +10,10 @@ use Rattle.md_meaning.specs.State.{ParagraphLine, Leaf, NoLeaf, cut, texts, then
 use Rattle.md_meaning.specs.Step.{came, is_concrete}
 use Rattle.md_meaning.specs.Tree.{Blocks}
 use Rattle.md_outline.specs.HeadingDepths.{are_shallow, is_shallow}
-use Rattle.md_frame.specs.HeldLeaf.{has_lines, kind_of_leaf, left_by}
+use Rattle.proof_frame.specs.HeldLeaf.{has_lines, kind_of_leaf, left_by}
 use Rattle.md_registry.specs.OpenSpan.{IsBuiltLeaf}
-use Rattle.md_frame.specs.LeafName.{LeafName}
-use Rattle.md_frame.specs.TextLines.{text_leaf}
+use Rattle.proof_frame.specs.LeafName.{LeafName}
+use Rattle.proof_frame.specs.TextLines.{text_leaf}
 use Rattle.md_registry.specs.Registry.{turn_leaf, further_of, asked_first, leaf, bars_containers}
 
 -- an outline can show the block that this has become, if it has

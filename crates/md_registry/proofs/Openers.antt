@@ -13,7 +13,7 @@ use Rattle.md_engine.specs.World.{World}
 use Rattle.md_engine.proofs.Local.{fits}
 use Rattle.md_registry.specs.Document.{document_own_transition}
 use Rattle.md_registry.specs.Flow.{flow_rank, flow_scheme, flow_tries, new_before_transition}
-use Rattle.md_frame.specs.Rule.{Rule}
+use Rattle.proof_frame.specs.Rule.{Rule}
 use Rattle.md_registry.specs.FlowRule.{containers_behave, openers_of}
 use Rattle.md_registry.specs.Registry.{container_rules, opener_front, openers_behind, trials}
 use Rattle.md_registry.specs.States.{containers_owner, flow_owner, flow_table_scheme}

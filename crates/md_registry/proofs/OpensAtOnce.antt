@@ -18,13 +18,13 @@ use Rattle.md_engine.proofs.Walks.{Within, then-stays}
 use Rattle.md_meaning.specs.Containers.{is_bullet, is_digit}
 use Rattle.md_containers.specs.PlainBullet.{IsPlainBullet, bulleted}
 use Rattle.md_containers.proofs.PlainBullet.{bullet-run, bullet-seen}
-use Rattle.md_seam.specs.Look.{looks_behind, may_with}
-use Rattle.md_seam.specs.Transition.{Transition, tried}
+use Rattle.md_events.specs.Look.{looks_behind, may_with}
+use Rattle.md_events.specs.Transition.{Transition, tried}
 use Rattle.md_registry.specs.AtOnce.{all_asked}
-use Rattle.md_container_rooms.specs.Containers.ListItem.{item_rules}
+use Rattle.proof_container_laws.specs.Containers.ListItem.{item_rules}
 use Rattle.md_registry.specs.Flow.{new_before_transition, trial_code}
 use Rattle.md_registry.specs.LineFlags.{asking}
-use Rattle.md_frame.specs.ContainerNames.{kind_number}
+use Rattle.proof_frame.specs.ContainerNames.{kind_number}
 use Rattle.md_registry.specs.Registry.{may_open, next_opener, opener_front, openers, openers_behind, opens_with}
 use Rattle.md_registry.specs.States.{FlowStep}
 use Rattle.md_registry.proofs.LinesAtOnce.{openers-refuse}

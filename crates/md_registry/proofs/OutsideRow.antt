@@ -11,7 +11,7 @@ use Rattle.md_meaning.specs.Html.{html_kind}
 use Rattle.md_meaning.specs.Leaves.{LeafResult, ParagraphContext, break_at, code_at, fence_at, heading_at, html_at}
 use Rattle.md_meaning.specs.Leaves.{is_free, is_rule_marker, is_run, underline_depth}
 use Rattle.md_meaning.specs.Rest.{is_white}
-use Rattle.md_frame.specs.LeafName.{Fence, HeadingAtx, HeadingSetext, HtmlFlow, LeafName, ThematicBreak}
+use Rattle.proof_frame.specs.LeafName.{Fence, HeadingAtx, HeadingSetext, HtmlFlow, LeafName, ThematicBreak}
 use Rattle.md_registry.specs.Dispatch.{IsOutsideRow, begun, in_row}
 use Rattle.md_registry.specs.Registry.{row}
 

@@ -10,10 +10,10 @@ use Rattle.md_engine.specs.Scheme.{cells_left}
 use Rattle.md_engine.specs.World.{World, looks}
 use Rattle.md_engine.proofs.Loops.{CameTo}
 use Rattle.md_engine.proofs.Walks.{Within}
-use Rattle.md_seam.specs.Look.{looks_behind, may_with}
-use Rattle.md_seam.specs.Spaces.{ends_line}
-use Rattle.md_seam.specs.Transition.{tried}
-use Rattle.md_frame.specs.ContainerRules.{ContainerRules}
+use Rattle.md_events.specs.Look.{looks_behind, may_with}
+use Rattle.md_events.specs.Spaces.{ends_line}
+use Rattle.md_events.specs.Transition.{tried}
+use Rattle.proof_frame.specs.ContainerRules.{ContainerRules}
 use Rattle.md_registry.specs.LineFlags.{asking}
 use Rattle.md_registry.specs.Registry.{opener_front, openers}
 use Rattle.md_registry.specs.States.{FlowStep}

@@ -15,36 +15,36 @@ use Rattle.md_engine.specs.declared.tokenizer.container.name.ContainerKind.{Cont
 use Rattle.md_engine.specs.declared.tokenizer.container.name.ContainerKind.TheVariants as kind
 use Rattle.md_meaning.specs.Containers.{Taken, opens, opens_footnote, opens_item, opens_quote}
 use Rattle.md_meaning.specs.Rest.{Rest}
-use Rattle.md_frame.specs.HeldLeaf.{has_lines}
-use Rattle.md_literal_rooms.specs.Leaf.CodeIndented.{is_code}
+use Rattle.proof_frame.specs.HeldLeaf.{has_lines}
+use Rattle.proof_literal_laws.specs.Leaf.CodeIndented.{is_code}
 use Rattle.md_code.specs.Fence.{is_open as is_fence}
-use Rattle.md_frame.specs.LeafName.{CodeFurther, CodeIndented, Fence, FenceFurther, HeadingAtx, HeadingSetext, GfmTable}
-use Rattle.md_frame.specs.LeafName.{HtmlFlow, HtmlFurther, LeafName, ThematicBreak}
+use Rattle.proof_frame.specs.LeafName.{CodeFurther, CodeIndented, Fence, FenceFurther, HeadingAtx, HeadingSetext, GfmTable}
+use Rattle.proof_frame.specs.LeafName.{HtmlFlow, HtmlFurther, LeafName, ThematicBreak}
 use Rattle.md_registry.specs.Resolving.{resolved}
-use Rattle.md_frame.proofs.EventNames.{is_own, is_front}
-use Rattle.md_frame.specs.TextLines.{text_leaf}
-use Rattle.md_container_rooms.proofs.BlockQuote.Laws.{quote-laws}
+use Rattle.proof_frame.proofs.EventNames.{is_own, is_front}
+use Rattle.proof_frame.specs.TextLines.{text_leaf}
+use Rattle.proof_container_laws.proofs.BlockQuote.Laws.{quote-laws}
 use Rattle.md_registry.proofs.BlockQuote.Plain.{quote-plain}
-use Rattle.md_frame.proofs.ContainerLaws.{ContainerLaws}
-use Rattle.md_literal_rooms.proofs.CodeIndented.Laws.{code-laws, code_further-laws}
-use Rattle.md_literal_rooms.proofs.Fence.Laws.{fence-laws}
-use Rattle.md_literal_rooms.proofs.FenceFurther.Laws.{fence_further-laws}
-use Rattle.md_container_rooms.proofs.GfmFootnoteDefinition.Laws.{footnote-laws}
+use Rattle.proof_frame.proofs.ContainerLaws.{ContainerLaws}
+use Rattle.proof_literal_laws.proofs.CodeIndented.Laws.{code-laws, code_further-laws}
+use Rattle.proof_literal_laws.proofs.Fence.Laws.{fence-laws}
+use Rattle.proof_literal_laws.proofs.FenceFurther.Laws.{fence_further-laws}
+use Rattle.proof_container_laws.proofs.GfmFootnoteDefinition.Laws.{footnote-laws}
 use Rattle.md_registry.proofs.GfmFootnoteDefinition.Plain.{footnote-plain}
-use Rattle.md_table_rooms.proofs.GfmTable.Laws.{table-laws}
-use Rattle.md_literal_rooms.proofs.HtmlFlow.Laws.{html-laws, html_further-laws}
+use Rattle.proof_table_laws.proofs.GfmTable.Laws.{table-laws}
+use Rattle.proof_literal_laws.proofs.HtmlFlow.Laws.{html-laws, html_further-laws}
 use Rattle.md_html.specs.Html.{is_html}
-use Rattle.md_leaf_rooms.proofs.HeadingAtx.Laws.{heading-laws}
-use Rattle.md_leaf_rooms.proofs.HeadingAtx.Outside.{front-heading, heading_resolver}
-use Rattle.md_leaf_rooms.proofs.HeadingSetext.Laws.{setext-laws}
-use Rattle.md_frame.proofs.LeafLaws.{LeafLaws}
-use Rattle.md_container_rooms.proofs.ListItem.Laws.{item-laws}
+use Rattle.proof_leaf_laws.proofs.HeadingAtx.Laws.{heading-laws}
+use Rattle.proof_leaf_laws.proofs.HeadingAtx.Outside.{front-heading, heading_resolver}
+use Rattle.proof_leaf_laws.proofs.HeadingSetext.Laws.{setext-laws}
+use Rattle.proof_frame.proofs.LeafLaws.{LeafLaws}
+use Rattle.proof_container_laws.proofs.ListItem.Laws.{item-laws}
 use Rattle.md_registry.proofs.ListItem.Plain.{item-plain}
-use Rattle.md_frame.proofs.OutsideFacts.{AreOutside}
-use Rattle.md_content_rooms.proofs.Paragraph.Laws.{paragraph-laws}
+use Rattle.proof_frame.proofs.OutsideFacts.{AreOutside}
+use Rattle.proof_content_laws.proofs.Paragraph.Laws.{paragraph-laws}
 use Rattle.md_registry.proofs.PlainLaws.{PlainLaws}
-use Rattle.md_frame.proofs.TextLaws.{TextLaws}
-use Rattle.md_leaf_rooms.proofs.ThematicBreak.Laws.{break-laws}
+use Rattle.proof_frame.proofs.TextLaws.{TextLaws}
+use Rattle.proof_leaf_laws.proofs.ThematicBreak.Laws.{break-laws}
 
 -- Leaves.
 

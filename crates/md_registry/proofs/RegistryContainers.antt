@@ -8,25 +8,25 @@ use Rattle.md_engine.specs.declared.tokenizer.container.Container.{Container as 
 use Rattle.md_engine.specs.declared.tokenizer.container.name.ContainerKind.{ContainerKind}
 use Rattle.md_engine.specs.ContainerName.{name_of}
 use Rattle.md_engine.specs.Meaning.{Cell, Here}
-use Rattle.md_seam.specs.Look.{first_seen}
-use Rattle.md_seam.specs.Spaces.{IsRest, ends_line}
+use Rattle.md_events.specs.Look.{first_seen}
+use Rattle.md_events.specs.Spaces.{IsRest, ends_line}
 use Rattle.md_meaning.specs.Containers.{Taken, continues, opens}
 use Rattle.md_meaning.specs.Preamble.{rest_at}
 use Rattle.md_meaning.specs.Rest.{Rest}
 use Rattle.md_meaning.specs.State.{Container, container_block}
 use Rattle.md_meaning.specs.Tree.{Blocks}
 use Rattle.md_outline.specs.HeadingDepths.{are_shallow, is_shallow}
-use Rattle.md_seam.proofs.RestCells.{past_rest, rest_cells}
-use Rattle.md_frame.specs.Passed.{Passed, passed_by, passed_over}
-use Rattle.md_frame.specs.ContainerNames.{IsOf, container_name, container_kind}
+use Rattle.md_events.proofs.RestCells.{past_rest, rest_cells}
+use Rattle.proof_frame.specs.Passed.{Passed, passed_by, passed_over}
+use Rattle.proof_frame.specs.ContainerNames.{IsOf, container_name, container_kind}
 use Rattle.md_registry.specs.Registry.{MatchesContainer, container_rules, continues_at, goes_at, goes_by, goes_over}
 use Rattle.md_registry.specs.Registry.{openers, opens_at, opens_by}
-use Rattle.md_frame.proofs.ContainerLaws.{ByRest, IsPassed}
-use Rattle.md_frame.proofs.ContainerNames.{container-facts}
-use Rattle.md_frame.proofs.PassedFacts.{Agree, HasFurther, HasOpening}
-use Rattle.md_frame.proofs.PrefixNames.{AreFront}
+use Rattle.proof_frame.proofs.ContainerLaws.{ByRest, IsPassed}
+use Rattle.proof_frame.proofs.ContainerNames.{container-facts}
+use Rattle.proof_frame.proofs.PassedFacts.{Agree, HasFurther, HasOpening}
+use Rattle.proof_frame.proofs.PrefixNames.{AreFront}
 use Rattle.md_registry.proofs.Registry.{container-laws, found_by, opens-found}
-use Rattle.md_frame.proofs.RegistryRead.{HasKind, IsRead, IsReadTaken, of-read}
+use Rattle.proof_frame.proofs.RegistryRead.{HasKind, IsRead, IsReadTaken, of-read}
 
 -- By the cells of a line.
 

@@ -15,35 +15,35 @@ use Rattle.md_meaning.specs.Rest.{Rest, indent, is_blank, line_of, lose}
 use Rattle.md_meaning.specs.State.{NoLeaf, OpenCode, OpenFence, OpenHtml, Opening, fence_block, without_trailing_blank}
 use Rattle.md_meaning.specs.Tree.{Break, Code, Html, Line}
 use Rattle.md_leaves.specs.HeadingSetext.{is_text}
-use Rattle.md_frame.specs.HeldLeaf.{kind_of_leaf, left_by, takes_lazy}
-use Rattle.md_frame.specs.LineLeaf.{LineLeaf}
-use Rattle.md_literal_rooms.specs.Leaf.CodeIndented.{code_further, code_leaf, is_code}
-use Rattle.md_literal_rooms.specs.Leaf.Fence.{fence_leaf, opening_at}
-use Rattle.md_literal_rooms.specs.Leaf.FenceFurther.{fence_further}
-use Rattle.md_table_rooms.specs.Leaf.GfmTable.{may_be_table}
-use Rattle.md_leaf_rooms.specs.Leaf.HeadingAtx.{heading_leaf}
-use Rattle.md_frame.specs.LeafName.{CodeFurther, CodeIndented, Fence, FenceFurther, HeadingAtx, HeadingSetext, GfmTable}
-use Rattle.md_frame.specs.LeafName.{HtmlFlow, HtmlFurther, LeafName, ThematicBreak}
+use Rattle.proof_frame.specs.HeldLeaf.{kind_of_leaf, left_by, takes_lazy}
+use Rattle.proof_frame.specs.LineLeaf.{LineLeaf}
+use Rattle.proof_literal_laws.specs.Leaf.CodeIndented.{code_further, code_leaf, is_code}
+use Rattle.proof_literal_laws.specs.Leaf.Fence.{fence_leaf, opening_at}
+use Rattle.proof_literal_laws.specs.Leaf.FenceFurther.{fence_further}
+use Rattle.proof_table_laws.specs.Leaf.GfmTable.{may_be_table}
+use Rattle.proof_leaf_laws.specs.Leaf.HeadingAtx.{heading_leaf}
+use Rattle.proof_frame.specs.LeafName.{CodeFurther, CodeIndented, Fence, FenceFurther, HeadingAtx, HeadingSetext, GfmTable}
+use Rattle.proof_frame.specs.LeafName.{HtmlFlow, HtmlFurther, LeafName, ThematicBreak}
 use Rattle.md_registry.specs.Resolving.{joins_lines}
-use Rattle.md_literal_rooms.proofs.CodeIndented.Cells.{code-rest}
-use Rattle.md_literal_rooms.proofs.CodeIndented.Found.{code-goes}
-use Rattle.md_literal_rooms.proofs.CodeIndented.Span.{code-span}
-use Rattle.md_literal_rooms.proofs.Fence.Found.{fence-off, fence-shallow}
-use Rattle.md_literal_rooms.proofs.Fence.Opened.{fence-starts}
-use Rattle.md_literal_rooms.proofs.FenceFurther.Definition.{opening-fence}
-use Rattle.md_literal_rooms.proofs.FenceSpan.Laws.{fence-span}
-use Rattle.md_table_rooms.proofs.GfmTable.Span.{table-begins, table-span}
-use Rattle.md_literal_rooms.proofs.HtmlFlow.Found.{html-enabled, html-goes, html-held}
-use Rattle.md_literal_rooms.proofs.HtmlSpan.Laws.{html-span}
+use Rattle.proof_literal_laws.proofs.CodeIndented.Cells.{code-rest}
+use Rattle.proof_literal_laws.proofs.CodeIndented.Found.{code-goes}
+use Rattle.proof_literal_laws.proofs.CodeIndented.Span.{code-span}
+use Rattle.proof_literal_laws.proofs.Fence.Found.{fence-off, fence-shallow}
+use Rattle.proof_literal_laws.proofs.Fence.Opened.{fence-starts}
+use Rattle.proof_literal_laws.proofs.FenceFurther.Definition.{opening-fence}
+use Rattle.proof_literal_laws.proofs.FenceSpan.Laws.{fence-span}
+use Rattle.proof_table_laws.proofs.GfmTable.Span.{table-begins, table-span}
+use Rattle.proof_literal_laws.proofs.HtmlFlow.Found.{html-enabled, html-goes, html-held}
+use Rattle.proof_literal_laws.proofs.HtmlSpan.Laws.{html-span}
 use Rattle.md_meaning.specs.Html.{HtmlKind, html_ends}
 use Rattle.md_html.specs.Html.{ends_in_front, is_html}
 use Rattle.md_html.specs.HtmlLine as rule
-use Rattle.md_literal_rooms.specs.Leaf.HtmlFlow.{begins_as, html_further, html_leaf, kind_begun}
-use Rattle.md_leaf_rooms.proofs.HeadingAtx.Found.{heading-shallow}
-use Rattle.md_leaf_rooms.proofs.HeadingSetext.Span.{setext-begins, setext-span}
+use Rattle.proof_literal_laws.specs.Leaf.HtmlFlow.{begins_as, html_further, html_leaf, kind_begun}
+use Rattle.proof_leaf_laws.proofs.HeadingAtx.Found.{heading-shallow}
+use Rattle.proof_leaf_laws.proofs.HeadingSetext.Span.{setext-begins, setext-span}
 use Rattle.md_registry.proofs.OpenSpan.{Begun, ComesShallow, OpenSpan}
-use Rattle.md_frame.proofs.ShallowBlocks.{shallow-then}
-use Rattle.md_frame.proofs.SpanLaws.{SpanLaws}
+use Rattle.proof_frame.proofs.ShallowBlocks.{shallow-then}
+use Rattle.proof_frame.proofs.SpanLaws.{SpanLaws}
 use Rattle.md_registry.proofs.Registry.{laws}
 
 -- a line of HTML leaves open what may be open, and an outline can show it

@@ -25,10 +25,10 @@ use Rattle.md_content.proofs.Termination.{ChunkFits, chunk_terminates}
 use Rattle.md_leaves.specs.Blank.{blank_scheme, may_begin}
 use Rattle.md_leaves.proofs.BlankTermination.{blank_terminates}
 use Rattle.md_meaning.specs.Rest.{is_white}
-use Rattle.md_seam.specs.Look.{looks_behind, may_with}
-use Rattle.md_seam.specs.Spaces.{IsRest, ends_line, sees_white}
-use Rattle.md_seam.proofs.SpacesTermination.{Does, seen-some, white_terminates}
-use Rattle.md_frame.specs.LeafName.{LeafName}
+use Rattle.md_events.specs.Look.{looks_behind, may_with}
+use Rattle.md_events.specs.Spaces.{IsRest, ends_line, sees_white}
+use Rattle.md_events.proofs.SpacesTermination.{Does, seen-some, white_terminates}
+use Rattle.proof_frame.specs.LeafName.{LeafName}
 use Rattle.md_registry.specs.Document.{document_own_transition}
 use Rattle.md_registry.specs.Flow.{before_content_transition, before_transition, behind_all, blank_line_code}
 use Rattle.md_registry.specs.Flow.{containers_after_transition, existing_before_code, flow_end_code}

@@ -10,9 +10,9 @@ use Rattle.md_engine.specs.World.{Flags, World}
 use Rattle.md_engine.proofs.Falls.{later_at}
 use Rattle.md_engine.proofs.Local.{begins_later, begins_try, turns}
 use Rattle.md_engine.proofs.Points.{passes-reaches, stays}
-use Rattle.md_seam.specs.Spaces.{IsRest, ends_line, rest_ready}
-use Rattle.md_seam.proofs.SpacesTermination.{Does}
-use Rattle.md_frame.specs.LeafName.{LeafName}
+use Rattle.md_events.specs.Spaces.{IsRest, ends_line, rest_ready}
+use Rattle.md_events.proofs.SpacesTermination.{Does}
+use Rattle.proof_frame.specs.LeafName.{LeafName}
 use Rattle.md_registry.specs.Flow.{flow_rank, flow_ready, flow_scheme, trial_code}
 use Rattle.md_registry.specs.Registry.{container_rules, leaf, next_of, next_opener}
 

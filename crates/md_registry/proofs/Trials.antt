@@ -9,9 +9,9 @@ use Rattle.md_engine.specs.Meaning.{Cell, Here}
 use Rattle.md_engine.specs.Scheme.{Fits, Scheme}
 use Rattle.md_engine.proofs.Local.{fits}
 use Rattle.md_registry.specs.Flow.{flow_rank, flow_scheme, flow_tries}
-use Rattle.md_frame.specs.Rule.{Rule}
+use Rattle.proof_frame.specs.Rule.{Rule}
 use Rattle.md_registry.specs.FlowRule.{leaves_behave, leaves_of}
-use Rattle.md_frame.specs.LeafName.{CodeFurther, FenceFurther, HtmlFurther, LeafName}
+use Rattle.proof_frame.specs.LeafName.{CodeFurther, FenceFurther, HtmlFurther, LeafName}
 use Rattle.md_registry.specs.Registry.{behind, front_of, leaf}
 use Rattle.md_registry.specs.States.{flow_owner, flow_table_scheme, leaves_owner}
 use Rattle.md_registry.proofs.Termination.{InsideFits, LeafFits, TrialFits}

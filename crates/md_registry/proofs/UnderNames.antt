@@ -6,7 +6,7 @@ use Rattle.md_engine.specs.declared.tokenizer.held_leaf.HeldLeaf.{HeldLeaf}
 use Rattle.md_engine.specs.declared.tokenizer.held_leaf.HeldLeaf.TheVariants as held_leaf
 use Rattle.md_engine.specs.declared.tokenizer.held_leaf.OpenText.{OpenText}
 use Rattle.md_meaning.specs.Rest.{Rest}
-use Rattle.md_frame.specs.LeafName.{GfmTable, HeadingSetext, LeafName}
+use Rattle.proof_frame.specs.LeafName.{GfmTable, HeadingSetext, LeafName}
 use Rattle.md_registry.specs.Registry.{leaf}
 
 pub further-text : (at : OpenText) (l : LeafName) → (leaf l).further (held_leaf.Text at) ≡ true →

@@ -7,7 +7,7 @@ use Rattle.md_engine.specs.declared.tokenizer.container.Container.{Container}
 use Rattle.md_engine.specs.declared.tokenizer.held_leaf.HeldLeaf.{HeldLeaf}
 use Rattle.md_engine.specs.World.{World, container_of}
 use Rattle.md_registry.specs.LineFlags.{asking, begun_line, next_container}
-use Rattle.md_frame.specs.LeafName.{GfmTable}
+use Rattle.proof_frame.specs.LeafName.{GfmTable}
 use Rattle.md_registry.specs.Registry.{container_rules, leaf, may_open, openers}
 use Rattle.md_meaning.specs.Ascii.{asterisk, backtick, dollar, equals_sign, hash, hyphen, less_than, tilde, underscore}
 

@@ -5,7 +5,7 @@ use Rattle.std.specs.List.{list_any}
 use Rattle.md_engine.specs.declared.configuration.ParseOptions.{ParseOptions}
 use Rattle.md_meaning.specs.Leaves.{ParagraphContext, break_at, code_at, fence_at, heading_at, html_at, underline_depth}
 use Rattle.md_meaning.specs.Rest.{Rest}
-use Rattle.md_frame.specs.LeafName.{Fence, HeadingAtx, HeadingSetext, HtmlFlow, LeafName, ThematicBreak, number}
+use Rattle.proof_frame.specs.LeafName.{Fence, HeadingAtx, HeadingSetext, HtmlFlow, LeafName, ThematicBreak, number}
 use Rattle.md_registry.specs.Registry.{row}
 
 -- whether the row of a byte has this leaf

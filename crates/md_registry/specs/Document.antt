@@ -13,11 +13,11 @@ use Rattle.md_engine.specs.Scheme.{Rank, Scheme, Position, nowhere, of_owners, r
 use Rattle.md_engine.specs.World.{World}
 use Rattle.md_containers.specs.Frontmatter.{front_scheme, front_transition}
 use Rattle.md_leaves.specs.Bom.{bom_scheme, bom_transition}
-use Rattle.md_seam.specs.Spaces.{rest_ready, white_scheme, white_transition}
-use Rattle.md_seam.specs.Transition.{Transition, tried}
+use Rattle.md_events.specs.Spaces.{rest_ready, white_scheme, white_transition}
+use Rattle.md_events.specs.Transition.{Transition, tried}
 use Rattle.md_registry.specs.Flow.{containers_after_transition, existing_after_transition, existing_before_transition}
 use Rattle.md_registry.specs.Flow.{flow_end_transition, new_after_transition, inside_transition, opener_transition}
-use Rattle.md_front_rooms.specs.Front.{body_point, front_events}
+use Rattle.proof_leaf_laws.specs.Front.{body_point, front_events}
 use Rattle.md_registry.specs.Registry.{opener_at}
 
 -- States.

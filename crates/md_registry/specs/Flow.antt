@@ -17,13 +17,13 @@ use Rattle.md_engine.specs.Scheme.{After, Rank, Scheme, Position, ranked}
 use Rattle.md_engine.specs.World.{World, closed, container_of}
 use Rattle.md_leaves.specs.Blank as blank
 use Rattle.md_meaning.specs.Rest.{is_white}
-use Rattle.md_seam.specs.Look.{looks_behind, may_with}
-use Rattle.md_seam.specs.Spaces.{ends_line, rest_ready, sees_white}
-use Rattle.md_seam.specs.Transition.{Transition, entered, exited, taken, tried}
-use Rattle.md_frame.specs.EndingName.{ending_name}
+use Rattle.md_events.specs.Look.{looks_behind, may_with}
+use Rattle.md_events.specs.Spaces.{ends_line, rest_ready, sees_white}
+use Rattle.md_events.specs.Transition.{Transition, entered, exited, taken, tried}
+use Rattle.proof_frame.specs.EndingName.{ending_name}
 use Rattle.md_registry.specs.LineFlags.{asking, begun_line, blanked, next_container, next_line, kept_containers}
 use Rattle.md_registry.specs.LineFlags.{blank_here, ended_on, nothing_stands, shut_leaf, went_on, with_container}
-use Rattle.md_frame.specs.LeafName.{LeafName}
+use Rattle.proof_frame.specs.LeafName.{LeafName}
 use Rattle.md_registry.specs.Registry.{front_of, goes_on_with, asked_first, leaf, may_go_on, may_open, next_of}
 use Rattle.md_registry.specs.Registry.{next_opener, opener_at, opener_front, opener_rank, opener_tries, openers}
 use Rattle.md_registry.specs.Registry.{opens_with, rank_of, row, bars_containers, trials, tried_at, tries_of}

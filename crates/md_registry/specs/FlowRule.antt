@@ -19,17 +19,17 @@ use Rattle.md_engine.specs.Sees.{IsStep, Sees}
 use Rattle.md_engine.specs.World.{World, closed_events, container_of, kept}
 use Rattle.md_content.specs.ChunkRule.{chunk_at}
 use Rattle.md_leaves.specs.BlankRule.{HasBlank, blank_at}
-use Rattle.md_seam.specs.Events.Nested.{pair}
-use Rattle.md_seam.specs.Look.{first_seen}
-use Rattle.md_seam.specs.Spaces.{IsRest, ends_line}
-use Rattle.md_front_rooms.specs.DocumentRule.{document_behaves}
-use Rattle.md_frame.specs.LeafName.{LeafName}
+use Rattle.md_events.specs.Events.Nested.{pair}
+use Rattle.md_events.specs.Look.{first_seen}
+use Rattle.md_events.specs.Spaces.{IsRest, ends_line}
+use Rattle.proof_leaf_laws.specs.DocumentRule.{document_behaves}
+use Rattle.proof_frame.specs.LeafName.{LeafName}
 use Rattle.md_registry.specs.Registry.{begins_at, behind, continues_at, goes_on_with, asked_first, leaf, opener_at}
 use Rattle.md_registry.specs.Registry.{openers, openers_behind, opens_with, bars_containers, trials, tried_at}
-use Rattle.md_frame.specs.EndingName.{ending_name}
+use Rattle.proof_frame.specs.EndingName.{ending_name}
 use Rattle.md_registry.specs.LineFlags.{asks, begun_line, blanked, next_container, next_line, kept_containers}
 use Rattle.md_registry.specs.LineFlags.{blank_here, ended_on, nothing_stands, shut_leaf, went_on, with_container}
-use Rattle.md_frame.specs.Rule.{Rule, tried}
+use Rattle.proof_frame.specs.Rule.{Rule, tried}
 
 -- the containers after so many end, before the event at an index
 abbrev pub ended_to : ℕ → ℕ → Here → Here

@@ -1,12 +1,12 @@
 -- What the document knows of its containers, and how each step of a line changes it.
-use Rattle.md_frame.specs.HeldLeaf.{met_by, takes_lazy}
+use Rattle.proof_frame.specs.HeldLeaf.{met_by, takes_lazy}
 use Rattle.std.specs.Prelude.{ℕ, suc, ◌+◌, Bool, true, false, ◌&&◌, ◌==◌, not, nat_lt, if◌then◌else◌, List, [], ◌∷◌}
 use Rattle.std.specs.Prelude.{◌++◌, drop, length, slice_get, slice_set, Option}
 use Rattle.md_engine.specs.declared.event.Point.{Point}
 use Rattle.md_engine.specs.declared.tokenizer.container.Container.{Container}
 use Rattle.md_engine.specs.declared.tokenizer.held_leaf.HeldLeaf.TheVariants as held_leaf
 use Rattle.md_engine.specs.World.{Flags, World}
-use Rattle.md_seam.specs.Spaces.{ends_line}
+use Rattle.md_events.specs.Spaces.{ends_line}
 use Rattle.md_registry.specs.Registry.{goes_over}
 
 -- the outermost container that was not asked yet whether it continues

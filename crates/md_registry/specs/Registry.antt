@@ -38,27 +38,27 @@ use Rattle.md_code.specs.Fence.{fence_scheme, fence_transition, is_open as is_fe
 use Rattle.md_code.specs.FenceRule.{fence_behaves}
 use Rattle.md_html.specs.Html.{html_scheme, html_transition, is_html}
 use Rattle.md_html.specs.HtmlRule.{html_behaves}
-use Rattle.md_seam.specs.Transition.{Transition}
+use Rattle.md_events.specs.Transition.{Transition}
 use Rattle.md_tables.specs.GfmTable.{table_scheme, table_transition}
 use Rattle.md_tables.specs.GfmTableRule.{table_behaves}
-use Rattle.md_frame.specs.ContainerRules.{ContainerRules}
-use Rattle.md_container_rooms.specs.Containers.BlockQuote.{quote_rules}
-use Rattle.md_container_rooms.specs.Containers.GfmFootnoteDefinition.{footnote_rules}
-use Rattle.md_container_rooms.specs.Containers.ListItem.{item_rules}
-use Rattle.md_literal_rooms.specs.Leaf.CodeIndented.{code_further, code_leaf, is_code}
-use Rattle.md_literal_rooms.specs.Leaf.Fence.{fence_leaf}
-use Rattle.md_literal_rooms.specs.Leaf.FenceFurther.{fence_further}
-use Rattle.md_table_rooms.specs.Leaf.GfmTable.{table_leaf}
-use Rattle.md_leaf_rooms.specs.Leaf.HeadingAtx.{heading_leaf}
-use Rattle.md_leaf_rooms.specs.Leaf.HeadingSetext.{setext_leaf, setext_turn}
-use Rattle.md_literal_rooms.specs.Leaf.HtmlFlow.{html_further, html_leaf}
-use Rattle.md_leaf_rooms.specs.Leaf.ThematicBreak.{break_leaf}
-use Rattle.md_frame.specs.LineLeaf.{LineLeaf}
-use Rattle.md_frame.specs.Passed.{Passed}
-use Rattle.md_frame.specs.TurnLeaf.{TurnLeaf}
-use Rattle.md_frame.specs.LeafName.{CodeFurther, CodeIndented, Fence, FenceFurther, GfmTable, HeadingAtx, HeadingSetext}
-use Rattle.md_frame.specs.LeafName.{HtmlFlow, HtmlFurther, LeafName, ThematicBreak, behind_in, number}
-use Rattle.md_frame.specs.ContainerNames.{IsOf, container_kind, kind_number}
+use Rattle.proof_frame.specs.ContainerRules.{ContainerRules}
+use Rattle.proof_container_laws.specs.Containers.BlockQuote.{quote_rules}
+use Rattle.proof_container_laws.specs.Containers.GfmFootnoteDefinition.{footnote_rules}
+use Rattle.proof_container_laws.specs.Containers.ListItem.{item_rules}
+use Rattle.proof_literal_laws.specs.Leaf.CodeIndented.{code_further, code_leaf, is_code}
+use Rattle.proof_literal_laws.specs.Leaf.Fence.{fence_leaf}
+use Rattle.proof_literal_laws.specs.Leaf.FenceFurther.{fence_further}
+use Rattle.proof_table_laws.specs.Leaf.GfmTable.{table_leaf}
+use Rattle.proof_leaf_laws.specs.Leaf.HeadingAtx.{heading_leaf}
+use Rattle.proof_leaf_laws.specs.Leaf.HeadingSetext.{setext_leaf, setext_turn}
+use Rattle.proof_literal_laws.specs.Leaf.HtmlFlow.{html_further, html_leaf}
+use Rattle.proof_leaf_laws.specs.Leaf.ThematicBreak.{break_leaf}
+use Rattle.proof_frame.specs.LineLeaf.{LineLeaf}
+use Rattle.proof_frame.specs.Passed.{Passed}
+use Rattle.proof_frame.specs.TurnLeaf.{TurnLeaf}
+use Rattle.proof_frame.specs.LeafName.{CodeFurther, CodeIndented, Fence, FenceFurther, GfmTable, HeadingAtx, HeadingSetext}
+use Rattle.proof_frame.specs.LeafName.{HtmlFlow, HtmlFurther, LeafName, ThematicBreak, behind_in, number}
+use Rattle.proof_frame.specs.ContainerNames.{IsOf, container_kind, kind_number}
 
 -- Leaves that take a line: of indented code, of fenced code and math, and of HTML, one takes the first line, and one
 -- each further line. The underline of a setext heading takes a line that turns the text before it; one more leaf takes

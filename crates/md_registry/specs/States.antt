@@ -16,14 +16,14 @@ use Rattle.md_content.specs.Chunks.{chunk_scheme, chunk_transition}
 use Rattle.md_leaves.specs.Blank.{blank_scheme, blank_transition}
 use Rattle.md_content.specs.ChunkRule.{chunk_behaves}
 use Rattle.md_leaves.specs.BlankRule.{blank_behaves}
-use Rattle.md_seam.specs.Ahead.{white_behaves}
-use Rattle.md_seam.specs.Spaces.{white_scheme, white_transition}
-use Rattle.md_seam.specs.Transition.{Transition}
+use Rattle.md_events.specs.Ahead.{white_behaves}
+use Rattle.md_events.specs.Spaces.{white_scheme, white_transition}
+use Rattle.md_events.specs.Transition.{Transition}
 use Rattle.md_registry.specs.Document.{document_own_transition}
 use Rattle.md_registry.specs.Flow.{flow_own_transition, flow_scheme}
-use Rattle.md_frame.specs.Rule.{Rule}
+use Rattle.proof_frame.specs.Rule.{Rule}
 use Rattle.md_registry.specs.FlowRule.{containers_behave, flow_at, leaves_behave}
-use Rattle.md_frame.specs.LeafName.{LeafName}
+use Rattle.proof_frame.specs.LeafName.{LeafName}
 use Rattle.md_registry.specs.Registry.{construct_behaves, construct_owner, construct_transition, opener_at, tried_at}
 
 -- a container is tried at this state, or none

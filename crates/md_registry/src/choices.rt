@@ -15,18 +15,18 @@ ghost use Rattle.md_engine.specs.declared.state.Name.{Name as StateName};
 ghost use Rattle.md_engine.specs.declared.state.flow.State.{State as FlowState};
 ghost use Rattle.md_registry.specs.LineFlags.{asking};
 ghost use Rattle.md_registry.specs.Resolving.{joins_lines};
-ghost use Rattle.md_table_rooms.specs.Headed.{heads_read};
+ghost use Rattle.proof_table_laws.specs.Headed.{heads_read};
 ghost use Rattle.md_registry.specs.Registry.{bars_containers};
 ghost use Rattle.md_registry.specs.Registry.{goes_on_with, asked_first, leaf};
 ghost use Rattle.md_registry.specs.AtOnce.{HasPrefix, all_asked, content_alone, is_common, opens_none, prefix_taken};
 ghost use Rattle.md_registry.specs.Flow.{leaf_end, row_transition, trial_code};
 ghost use Rattle.md_registry.specs.Registry.{may_go_on, may_open, next_opener, opener_front, openers};
-ghost use Rattle.md_frame.specs.LeafName.{LeafName};
+ghost use Rattle.proof_frame.specs.LeafName.{LeafName};
 ghost use Rattle.md_registry.specs.Registry.{front_of, next_of, opens_with, row, trials, tried_at};
 ghost use Rattle.md_meaning.specs.Rest.{is_white};
-ghost use Rattle.md_literal_rooms.specs.Leaf.CodeIndented.{is_code};
-ghost use Rattle.md_seam.specs.Look.{looks_behind, may_with};
-ghost use Rattle.md_seam.specs.Spaces.{sees_white};
+ghost use Rattle.proof_literal_laws.specs.Leaf.CodeIndented.{is_code};
+ghost use Rattle.md_events.specs.Look.{looks_behind, may_with};
+ghost use Rattle.md_events.specs.Spaces.{sees_white};
 
 use md_code::{code_indented, raw_flow};
 use md_containers::{block_quote, gfm_footnote_definition, list_item, plain_item};
@@ -47,9 +47,9 @@ use md_engine::state::list_item::State as ItemState;
 use md_engine::state::raw_flow::State as RawState;
 use md_engine::state::thematic_break::State as BreakState;
 use md_engine::tokenizer::{Container, ContainerKind, HeldLeaf, Tokenizer};
+use md_events::space_or_tab::look_behind;
 use md_html::html_flow;
 use md_leaves::{heading_atx, heading_setext, thematic_break};
-use md_seam::space_or_tab::look_behind;
 use md_tables::{gfm_table, heads};
 
 /// The state of the document before the first container that may open.

@@ -15,9 +15,9 @@ use Rattle.md_leaves.proofs.TurnedLemmas.{no_underlines-turned}
 use Rattle.md_order.specs.Alone.{MayPass, is_one}
 use Rattle.md_order.specs.InOrder.{in_order, set_if}
 use Rattle.md_order.specs.declared.wanted.Wanted.{Wanted}
-use Rattle.md_seam.specs.Events.Nested.{exit}
-use Rattle.md_seam.specs.Events.Spelled.{is_ordered, role}
-use Rattle.md_seam.specs.Events.Tiles.{is_data}
+use Rattle.md_events.specs.Events.Nested.{exit}
+use Rattle.md_events.specs.Events.Spelled.{is_ordered, role}
+use Rattle.md_events.specs.Events.Tiles.{is_data}
 use Rattle.md_tables.specs.Tabled.{tabled}
 
 -- events of no underline

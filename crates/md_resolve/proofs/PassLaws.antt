@@ -20,14 +20,14 @@ use Rattle.md_order.proofs.HeadStep.{heading-more, heading-step}
 use Rattle.md_order.proofs.Items.{item-step}
 use Rattle.md_order.proofs.SetextStep.{setext-step}
 use Rattle.md_order.proofs.TableStep.{table-step}
-use Rattle.md_seam.specs.Events.Spelled.{role}
-use Rattle.md_seam.specs.Events.Nested.{is_exit}
+use Rattle.md_events.specs.Events.Spelled.{role}
+use Rattle.md_events.specs.Events.Nested.{is_exit}
 use Rattle.md_tables.specs.Heads.{is_table}
 use Rattle.md_tables.specs.Tabled.{begins_table, bound_by, bound_of, tabled}
 use Rattle.md_resolve.specs.PassWalk as walk
-use Rattle.md_seam.specs.Rewritten.{IsFirst, given_of as given_at, held_of, left_of, written_of}
+use Rattle.md_events.specs.Rewritten.{IsFirst, given_of as given_at, held_of, left_of, written_of}
 use Rattle.md_resolve.specs.declared.pass.Walk.{Walk}
-use Rattle.md_seam.specs.declared.rewriting.Rewriting.{Rewriting}
+use Rattle.md_events.specs.declared.rewriting.Rewriting.{Rewriting}
 
 abbrev pub at : ListPlace → Bool → Standing
 at p o = record { items = p; on = o }

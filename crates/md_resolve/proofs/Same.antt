@@ -12,8 +12,8 @@ use Rattle.md_leaves.proofs.TurnedLemmas.{turned-none, turned-placed}
 use Rattle.md_order.specs.InOrder.{in_order, set_if}
 use Rattle.md_order.specs.Left.{is_same}
 use Rattle.md_order.specs.declared.wanted.Wanted.{Wanted}
-use Rattle.md_seam.specs.Events.Spelled.{role}
-use Rattle.md_seam.specs.Parts.{ArePlaced}
+use Rattle.md_events.specs.Events.Spelled.{role}
+use Rattle.md_events.specs.Parts.{ArePlaced}
 use Rattle.md_tables.specs.Tabled.{begins_table, bound_of, passes, tabled}
 use Rattle.md_tables.specs.declared.tables.Section.TheVariants.{Outside as InNone}
 use Rattle.md_tables.proofs.TabledWalk.{tabled-none, tabled-placed}

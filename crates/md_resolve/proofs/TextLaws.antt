@@ -16,9 +16,9 @@ use Rattle.md_leaves.specs.HeadingText.{Before, Opened, Outside, Place, Within, 
 use Rattle.md_leaves.specs.HeadingText.{is_heading, is_run, is_sequence, resolved, text_between}
 use Rattle.md_order.specs.Left.{heading_len}
 use Rattle.md_order.proofs.HeadStep.{heading-more, one-more}
-use Rattle.md_seam.specs.Events.Nested.{is_enter, is_exit}
-use Rattle.md_seam.specs.Events.Tiles.{is_data}
-use Rattle.md_seam.specs.Rewritten.{IsFirst}
+use Rattle.md_events.specs.Events.Nested.{is_enter, is_exit}
+use Rattle.md_events.specs.Events.Tiles.{is_data}
+use Rattle.md_events.specs.Rewritten.{IsFirst}
 use Rattle.md_resolve.specs.Texted.{IsInside, IsLastRun, begun, last_point, point_at, texted}
 
 -- Names.

@@ -12,8 +12,8 @@ use Rattle.md_order.specs.Alone.{is_set}
 use Rattle.md_order.specs.Left.{is_passed, is_same}
 use Rattle.md_order.specs.declared.wanted.Wanted.{Wanted}
 use Rattle.md_order.proofs.Names.{bare-unturned, tableless, unset-bare, unset-item}
-use Rattle.md_seam.specs.Events.Nested.{is_enter, is_exit}
-use Rattle.md_seam.specs.Events.Spelled.{role}
+use Rattle.md_events.specs.Events.Nested.{is_enter, is_exit}
+use Rattle.md_events.specs.Events.Spelled.{role}
 use Rattle.md_tables.specs.Tabled.{begins_table, bound_of}
 
 pub off : (x y : Bool) → x ≡ false → (x && y) ≡ false

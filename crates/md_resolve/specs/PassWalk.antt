@@ -4,7 +4,7 @@ use Rattle.md_engine.specs.declared.event.Event.{Event}
 use Rattle.md_containers.specs.Listed.{Place}
 use Rattle.md_order.specs.Left.{Standing, left_in}
 use Rattle.md_order.specs.declared.wanted.Wanted.{Wanted}
-use Rattle.md_seam.specs.Rewritten.{given_of as given_by, left_of}
+use Rattle.md_events.specs.Rewritten.{given_of as given_by, left_of}
 use Rattle.md_resolve.specs.declared.pass.Walk.{Walk}
 
 abbrev pub items_of : Walk → Place

@@ -6,7 +6,7 @@ ghost use Rattle.md_engine.specs.Found.{found_in};
 ghost use Rattle.md_engine.specs.World.{world};
 ghost use Rattle.md_tables.specs.Tabled.{tabled};
 ghost use Rattle.md_order.specs.TablesNest.{TablesNest};
-ghost use Rattle.md_seam.specs.Events.Nested.{Nested};
+ghost use Rattle.md_events.specs.Events.Nested.{Nested};
 
 use crate::pass::pass;
 use md_engine::message::Message;

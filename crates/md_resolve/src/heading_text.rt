@@ -8,15 +8,15 @@ ghost use Rattle.std.specs.Prelude.{◌≡◌, ◌++◌, ◌≤◌, None, OnOk, 
 ghost use Rattle.std.specs.List.{All};
 ghost use Rattle.md_engine.specs.declared.event.Event.{Event};
 ghost use Rattle.md_resolve.specs.Texted.{IsInside, IsLastRun, begun, texted};
-ghost use Rattle.md_seam.specs.Rewritten.{IsFirst, given_of, held_of, left_of, written_of};
+ghost use Rattle.md_events.specs.Rewritten.{IsFirst, given_of, held_of, left_of, written_of};
 ghost use Rattle.md_leaves.specs.HeadingText.{Before, Within, begins, ends, headings_resolved, is_heading, is_run};
 ghost use Rattle.md_leaves.specs.HeadingText.{is_sequence, resolved, text_between};
 ghost use Rattle.md_order.specs.Left.{heading_len};
 
 use md_engine::event::{Content, Event, Kind, Link, Name, Point};
 use md_engine::message::Message;
-use md_seam::rewriting::Rewriting;
-use md_seam::walks::{Test, passing};
+use md_events::rewriting::Rewriting;
+use md_events::walks::{Test, passing};
 
 /// The link of a text that is read later.
 const TEXT_LINK: Link = Link {

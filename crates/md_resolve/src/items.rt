@@ -2,11 +2,11 @@
 
 ghost use Rattle.std.specs.Prelude.{◌≡◌, ◌&&◌, None, get_or};
 ghost use Rattle.md_containers.specs.Listed.{goes_on, is_item, is_marker, list_name, marker_ahead, next_item};
-ghost use Rattle.md_seam.specs.Events.Nested.{is_enter};
-ghost use Rattle.md_seam.specs.Events.Spelled.{role};
+ghost use Rattle.md_events.specs.Events.Nested.{is_enter};
+ghost use Rattle.md_events.specs.Events.Spelled.{role};
 
 use md_engine::event::{Event, Kind, Name, Point};
-use md_seam::names::is_block;
+use md_events::names::is_block;
 
 /// Whether these events are of an item.
 #[inline(always)]

@@ -3,11 +3,11 @@
 ghost use Rattle.std.specs.Prelude.{◌≡◌, ◌&&◌};
 ghost use Rattle.md_leaves.specs.Turned.{has_underline, is_paragraph, is_turned};
 ghost use Rattle.md_leaves.specs.Turned.{is_underline, passes, underline_behind};
-ghost use Rattle.md_seam.specs.Events.Inline.{is_line_ending};
-ghost use Rattle.md_seam.specs.Events.Nested.{enter, exit};
+ghost use Rattle.md_events.specs.Events.Inline.{is_line_ending};
+ghost use Rattle.md_events.specs.Events.Nested.{enter, exit};
 
 use md_engine::event::{Event, Kind, Name, Point};
-use md_seam::names::is_prefix;
+use md_events::names::is_prefix;
 
 /// Whether these events are of a paragraph.
 #[inline(always)]

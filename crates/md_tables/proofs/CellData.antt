@@ -9,10 +9,10 @@ use Rattle.md_engine.specs.declared.event.Name.TheVariants as n
 use Rattle.md_engine.specs.declared.event.Point.{Point}
 use Rattle.md_meaning.specs.Lines.{is_ending, without_ending}
 use Rattle.md_meaning.proofs.TextsLemmas.{NoEnding}
-use Rattle.md_seam.specs.Events.Inline.{pair_unless_empty}
-use Rattle.md_seam.specs.Events.Nested.{pair}
-use Rattle.md_seam.specs.Events.Places.{past_text, same_place}
-use Rattle.md_seam.proofs.InlineLemmas.{past-index, same-refl}
+use Rattle.md_events.specs.Events.Inline.{pair_unless_empty}
+use Rattle.md_events.specs.Events.Nested.{pair}
+use Rattle.md_events.specs.Events.Places.{past_text, same_place}
+use Rattle.md_events.proofs.InlineLemmas.{past-index, same-refl}
 use Rattle.md_tables.specs.RowCells.{read_text}
 use Rattle.md_tables.proofs.RowBytes.{Stands, stands-first}
 

@@ -10,7 +10,7 @@ use Rattle.md_meaning.specs.Lines.{begins_with}
 use Rattle.md_meaning.specs.Rest.{is_blank, is_white, trim, trim_end, trim_start}
 use Rattle.md_meaning.specs.Table.{is_delimiter}
 use Rattle.md_leaves.proofs.TitleTexts.{front-stops, kept-ends, kept-whole, tail, tail-passes}
-use Rattle.md_seam.proofs.RestLines.{count-one, trim-white}
+use Rattle.md_events.proofs.RestLines.{count-one, trim-white}
 use Rattle.md_tables.specs.Delimiter.{Aligns, Dash, Divides, Mark, Other, Stops, White, mark_of}
 use Rattle.md_tables.specs.DelimiterRule.{Behind, Counts, Dashes, Fails, Front, Goes, Left}
 use Rattle.md_tables.specs.DelimiterRule.{Marks, Move, Open, Place, move}

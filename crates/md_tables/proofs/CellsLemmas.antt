@@ -9,7 +9,7 @@ use Rattle.md_engine.specs.declared.event.Kind.{Kind}
 use Rattle.md_engine.specs.declared.event.Kind.TheVariants.{Enter, Exit}
 use Rattle.md_engine.specs.declared.event.Name.{Name}
 use Rattle.md_engine.specs.declared.event.Name.TheVariants as n
-use Rattle.md_seam.specs.Events.Nested.{enter, exit, is_enter, is_exit}
+use Rattle.md_events.specs.Events.Nested.{enter, exit, is_enter, is_exit}
 use Rattle.md_tables.specs.Cells.{Step, begins_divider, begins_inner, begins_row, cell_name, divider_step}
 use Rattle.md_tables.specs.Cells.{ends_divider, ends_inner, ends_row, ends_with, first_is, front_step, goes_on}
 use Rattle.md_tables.specs.Cells.{has_white, inner_name, inner_step, inside_step, is_divider, is_last, is_row, is_white}

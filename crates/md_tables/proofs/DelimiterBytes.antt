@@ -12,8 +12,8 @@ use Rattle.md_meaning.specs.Bytes.{begins}
 use Rattle.md_meaning.specs.Rest.{is_white, trim, trim_end, trim_start}
 use Rattle.md_meaning.specs.Table.{delimiter_columns}
 use Rattle.md_leaves.proofs.TitleTexts.{front-stops}
-use Rattle.md_seam.specs.Events.Places.{past_byte}
-use Rattle.md_seam.proofs.FeedLines.{bytes_of, cell, columns_more, next_column, spread, tab_cells}
+use Rattle.md_events.specs.Events.Places.{past_byte}
+use Rattle.md_events.proofs.FeedLines.{bytes_of, cell, columns_more, next_column, spread, tab_cells}
 use Rattle.md_tables.specs.Delimiter.{mark_of}
 use Rattle.md_tables.specs.DelimiterRule.{Behind, Dashes, Front, Left, Open, Place, fits, move}
 use Rattle.md_tables.specs.GfmTable.{asking_columns}

@@ -6,9 +6,9 @@ use Rattle.md_engine.specs.declared.event.Name.TheVariants.{SpaceOrTab}
 use Rattle.md_engine.specs.Meaning.{Cell, Here, Outcome, Refuses}
 use Rattle.md_meaning.specs.Rest.{is_white}
 use Rattle.md_leaves.proofs.LeafSteps.{TakesWhite}
-use Rattle.md_seam.specs.Ahead.{begins_white}
-use Rattle.md_seam.specs.Events.Nested.{enter, exit}
-use Rattle.md_seam.proofs.AheadLemmas.{white-no_ending}
+use Rattle.md_events.specs.Ahead.{begins_white}
+use Rattle.md_events.specs.Events.Nested.{enter, exit}
+use Rattle.md_events.proofs.AheadLemmas.{white-no_ending}
 use Rattle.md_tables.specs.Delimiter.{Aligns, Dash, Divides, Mark, Stops, White, mark_of, uncounted}
 use Rattle.md_tables.specs.DelimiterRule.{Apart, Behind, Counts, Dashes, Fails, Goes, Marks, Move, Open}
 use Rattle.md_tables.specs.DelimiterRule.{Place, Run, Space, begun, behind_white, closes, counted}

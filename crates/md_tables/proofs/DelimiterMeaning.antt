@@ -21,12 +21,12 @@ use Rattle.md_engine.specs.World.{World, after}
 use Rattle.md_engine.specs.Sees.{Sees, ahead, cell_here}
 use Rattle.md_engine.proofs.StepOf.{begins, begins_only, moves, passes}
 use Rattle.md_leaves.proofs.LeafSteps.{behind-joined, sees-one, white-run, white_frame}
-use Rattle.md_seam.specs.Ahead.{begins_white, white_rest}
-use Rattle.md_seam.specs.Events.Nested.{enter, exit}
-use Rattle.md_seam.specs.Spaces.{IsRest, any_size, calmed, sees_white, small_indent}
-use Rattle.md_seam.specs.Transition.{Transition}
-use Rattle.md_seam.proofs.AheadLemmas.{small-some}
-use Rattle.md_seam.proofs.WhiteMeaning.{begins-seen, white-tried}
+use Rattle.md_events.specs.Ahead.{begins_white, white_rest}
+use Rattle.md_events.specs.Events.Nested.{enter, exit}
+use Rattle.md_events.specs.Spaces.{IsRest, any_size, calmed, sees_white, small_indent}
+use Rattle.md_events.specs.Transition.{Transition}
+use Rattle.md_events.proofs.AheadLemmas.{small-some}
+use Rattle.md_events.proofs.WhiteMeaning.{begins-seen, white-tried}
 use Rattle.md_tables.specs.Delimiter.{Aligns, Dash, Divides, IsCounting, IsOfDelimiter, Mark, Other, Stops, White}
 use Rattle.md_tables.specs.Delimiter.{before_code, cell_after_code, delimiter_transition, ends_code, filled}
 use Rattle.md_tables.specs.Delimiter.{filler_code, is_counted, left_after_code, mark, mark_of, marked, refused}

@@ -9,14 +9,14 @@ use Rattle.md_engine.specs.declared.event.Point.{Point}
 use Rattle.md_meaning.specs.Bytes.{begins}
 use Rattle.md_meaning.specs.Lines.{begins_with}
 use Rattle.md_meaning.specs.Rest.{is_white, trim, trim_end, trim_start}
-use Rattle.md_seam.specs.Events.Nested.{around, exit}
-use Rattle.md_seam.specs.Events.Places.{past_byte, past_text}
-use Rattle.md_seam.specs.Events.Spelled.{AsDelimiter, IsQuiet, OpenLeaf, Reading, Role, TableLeaf, begun, byte_at}
-use Rattle.md_seam.specs.Events.Spelled.{read, role, told_at}
-use Rattle.md_seam.proofs.FeedLines.{past-next, slice-front}
-use Rattle.md_seam.proofs.InlineLemmas.{past-index}
-use Rattle.md_seam.proofs.RestLines.{trim-white}
-use Rattle.md_seam.proofs.SpelledLemmas.{Quiet, Roles, read-from, read-quiet, roles-append}
+use Rattle.md_events.specs.Events.Nested.{around, exit}
+use Rattle.md_events.specs.Events.Places.{past_byte, past_text}
+use Rattle.md_events.specs.Events.Spelled.{AsDelimiter, IsQuiet, OpenLeaf, Reading, Role, TableLeaf, begun, byte_at}
+use Rattle.md_events.specs.Events.Spelled.{read, role, told_at}
+use Rattle.md_events.proofs.FeedLines.{past-next, slice-front}
+use Rattle.md_events.proofs.InlineLemmas.{past-index}
+use Rattle.md_events.proofs.RestLines.{trim-white}
+use Rattle.md_events.proofs.SpelledLemmas.{Quiet, Roles, read-from, read-quiet, roles-append}
 use Rattle.md_tables.specs.DelimiterCells.{delimiter_events, delimiter_runs, value_part}
 use Rattle.md_tables.specs.DelimiterRule.{Apart, Colon, Filler, Pipe, Run, Space}
 use Rattle.md_tables.specs.DelimiterRule.{begun as run_begun, closes, goes_on, opens}

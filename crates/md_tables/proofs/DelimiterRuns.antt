@@ -6,9 +6,9 @@ use Rattle.md_engine.specs.declared.event.Event.{Event}
 use Rattle.md_engine.specs.declared.event.Name.TheVariants as n
 use Rattle.md_engine.specs.declared.event.Point.{Point}
 use Rattle.md_meaning.specs.Rest.{is_blank, is_white, trim_end, trim_start}
-use Rattle.md_seam.specs.Events.Nested.{enter, exit}
-use Rattle.md_seam.specs.Events.Places.{past_byte, past_text}
-use Rattle.md_seam.proofs.RestLines.{trim-white}
+use Rattle.md_events.specs.Events.Nested.{enter, exit}
+use Rattle.md_events.specs.Events.Places.{past_byte, past_text}
+use Rattle.md_events.proofs.RestLines.{trim-white}
 use Rattle.md_tables.specs.Cells.{ends_row, first_is, is_white as is_white_name, row_ends}
 use Rattle.md_tables.specs.DelimiterCells.{delimiter_runs, value_part}
 use Rattle.md_tables.specs.DelimiterRule.{Apart, Colon, Filler, Pipe, Run, Space, begun, closes, goes_on, opens}

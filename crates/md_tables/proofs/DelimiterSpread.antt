@@ -6,10 +6,10 @@ use Rattle.md_engine.specs.declared.event.Name.TheVariants.{SpaceOrTab}
 use Rattle.md_engine.specs.declared.event.Point.{Point}
 use Rattle.md_engine.specs.declared.tokenizer.Line.{Line}
 use Rattle.md_engine.specs.Meaning.{Cell}
-use Rattle.md_seam.specs.Ahead.{begins_white, line_cells, white_end, white_rest}
-use Rattle.md_seam.specs.Events.Nested.{pair}
-use Rattle.md_seam.specs.Events.Places.{past_byte}
-use Rattle.md_seam.proofs.FeedLines.{cell, spread}
+use Rattle.md_events.specs.Ahead.{begins_white, line_cells, white_end, white_rest}
+use Rattle.md_events.specs.Events.Nested.{pair}
+use Rattle.md_events.specs.Events.Places.{past_byte}
+use Rattle.md_events.proofs.FeedLines.{cell, spread}
 use Rattle.md_tables.proofs.RunSpread.{AreSpread, HaveWhite, bytes-run, front-run}
 use Rattle.md_tables.specs.DelimiterRule.{Apart, Run, Space, begun, closes, goes_on, opens, runs}
 use Rattle.md_tables.specs.GfmTableLine.{delimiter_runs}

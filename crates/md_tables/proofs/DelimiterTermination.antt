@@ -13,9 +13,9 @@ use Rattle.md_engine.specs.World.{World, looks}
 use Rattle.md_engine.proofs.Falls.{later, later_at}
 use Rattle.md_engine.proofs.Local.{accepts, consumes, refuses, turns}
 use Rattle.md_engine.proofs.Points.{cells-grow, stays, takes}
-use Rattle.md_seam.specs.Spaces.{IsRest, any_size, calmed, small_indent}
-use Rattle.md_seam.specs.Transition.{entered, exited, taken}
-use Rattle.md_seam.proofs.SpacesTermination.{Does, WhiteFits, rest-none, seen-in, white_try}
+use Rattle.md_events.specs.Spaces.{IsRest, any_size, calmed, small_indent}
+use Rattle.md_events.specs.Transition.{entered, exited, taken}
+use Rattle.md_events.proofs.SpacesTermination.{Does, WhiteFits, rest-none, seen-in, white_try}
 use Rattle.md_tables.specs.Delimiter.{IsOfDelimiter}
 use Rattle.md_tables.specs.Delimiter.IsOfDelimiter.{Before, CellAfter, CellBefore, Filler, LeftAfter}
 use Rattle.md_tables.specs.Delimiter.IsOfDelimiter.{Refused, RightAfter, Start, ValueBefore}

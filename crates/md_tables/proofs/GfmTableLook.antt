@@ -11,8 +11,8 @@ use Rattle.md_engine.specs.Meaning.{Cell}
 use Rattle.md_meaning.specs.Ascii.{colon, hyphen, pipe}
 use Rattle.md_meaning.specs.Rest.{is_small, is_white}
 use Rattle.md_leaves.proofs.LeafStart.{rule-refused}
-use Rattle.md_seam.specs.Look.{seen_behind}
-use Rattle.md_seam.specs.Spaces.{small_indent}
+use Rattle.md_events.specs.Look.{seen_behind}
+use Rattle.md_events.specs.Spaces.{small_indent}
 use Rattle.md_tables.specs.DelimiterRule as delimiter
 use Rattle.md_tables.specs.Delimiter.{Aligns, Dash, Divides, Other, Stops, White}
 use Rattle.md_tables.specs.GfmTable.{asking_columns, may_begin, may_head}

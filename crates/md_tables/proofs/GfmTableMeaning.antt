@@ -27,9 +27,9 @@ use Rattle.md_tables.specs.declared.row.Place.{Place}
 use Rattle.md_tables.specs.declared.row.Place.TheVariants as place
 use Rattle.md_tables.specs.declared.row.Row.{Row}
 use Rattle.md_tables.specs.declared.row.Row.TheVariants.{Head, Body}
-use Rattle.md_seam.specs.Look.{looks_behind, may_with}
-use Rattle.md_seam.specs.Spaces.{IsRest}
-use Rattle.md_seam.proofs.LookLemmas.{refused-first}
+use Rattle.md_events.specs.Look.{looks_behind, may_with}
+use Rattle.md_events.specs.Spaces.{IsRest}
+use Rattle.md_events.proofs.LookLemmas.{refused-first}
 use Rattle.md_tables.proofs.DelimiterMeaning.{delimiter_steps}
 use Rattle.md_tables.proofs.GfmTableLook.{table-looked}
 use Rattle.md_tables.proofs.GfmTableWhole.{table-refused}

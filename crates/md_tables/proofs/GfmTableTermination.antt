@@ -13,8 +13,8 @@ use Rattle.md_engine.specs.World.{World, looks}
 use Rattle.md_engine.proofs.Falls.{later}
 use Rattle.md_engine.proofs.Local.{refuses, turns}
 use Rattle.md_engine.proofs.Points.{stays}
-use Rattle.md_seam.specs.Spaces.{IsRest, rest_ready}
-use Rattle.md_seam.proofs.SpacesTermination.{Does, WhiteFits, rest-size}
+use Rattle.md_events.specs.Spaces.{IsRest, rest_ready}
+use Rattle.md_events.proofs.SpacesTermination.{Does, WhiteFits, rest-size}
 use Rattle.md_tables.specs.Delimiter.{IsOfDelimiter, delimiter_scheme, uncounted}
 use Rattle.md_tables.specs.Delimiter.IsOfDelimiter.{Before, CellAfter, CellBefore, Filler, LeftAfter}
 use Rattle.md_tables.specs.Delimiter.IsOfDelimiter.{Refused, RightAfter, Start, ValueBefore}

@@ -8,9 +8,9 @@ use Rattle.md_engine.specs.declared.tokenizer.held_leaf.HeldLeaf.TheVariants as 
 use Rattle.md_engine.specs.declared.tokenizer.held_leaf.OpenText.{OpenText}
 use Rattle.md_engine.specs.Meaning.{Accepts, Cell, Here, Outcome, Refuses}
 use Rattle.md_engine.specs.World.{Flags}
-use Rattle.md_seam.specs.Ahead.{begins_white, from_ending, line_bytes, line_cells, line_end, white_rest}
-use Rattle.md_seam.specs.Spaces.{IsRest, calmed, small_indent}
-use Rattle.md_seam.proofs.AheadLemmas.{none-end, none-rest, white-ending, white-line_end}
+use Rattle.md_events.specs.Ahead.{begins_white, from_ending, line_bytes, line_cells, line_end, white_rest}
+use Rattle.md_events.specs.Spaces.{IsRest, calmed, small_indent}
+use Rattle.md_events.proofs.AheadLemmas.{none-end, none-rest, white-ending, white-line_end}
 use Rattle.md_tables.specs.Delimiter.{uncounted}
 use Rattle.md_tables.specs.DelimiterRule.{Apart, Front, Place, Run, delimiter_at, fits, in_row, row_closes, runs}
 use Rattle.md_tables.specs.GfmTable.{asking_columns, may_head}

@@ -15,9 +15,9 @@ use Rattle.md_engine.specs.TextFeed.{text_feed}
 use Rattle.md_engine.specs.World.{Setting, World, fresh, reads_to}
 use Rattle.md_engine.proofs.Standing.{runs-mean}
 use Rattle.md_engine.proofs.TextFeed.{flush-means, text-follows}
-use Rattle.md_seam.specs.Ahead.{from_ending, line_end}
-use Rattle.md_seam.specs.Events.Nested.{enter, exit}
-use Rattle.md_seam.specs.Spaces.{IsRest}
+use Rattle.md_events.specs.Ahead.{from_ending, line_end}
+use Rattle.md_events.specs.Events.Nested.{enter, exit}
+use Rattle.md_events.specs.Spaces.{IsRest}
 use Rattle.md_tables.specs.HeadStates.{HeadStep, head_behaves, head_scheme, head_start}
 use Rattle.md_tables.specs.Heads.{cells_between, head_line, head_row}
 use Rattle.md_tables.specs.RowRule.{in_row}

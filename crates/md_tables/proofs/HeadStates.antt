@@ -18,12 +18,12 @@ use Rattle.md_engine.proofs.Loops.{call-runs, call-sees}
 use Rattle.md_engine.specs.Sees.{Sees}
 use Rattle.md_engine.proofs.StepOf.{sees, steps-as}
 use Rattle.md_engine.proofs.Walks.{EachKeeps, Within}
-use Rattle.md_seam.specs.Ahead.{HasWhite}
-use Rattle.md_seam.specs.Stays.{TakesEach}
-use Rattle.md_seam.proofs.SpacesTermination.{Does, WhiteFits, does-fall, does-remain}
-use Rattle.md_seam.proofs.SpacesTermination.{does-setting, does-stands, white_terminates}
-use Rattle.md_seam.proofs.StaysLemmas.{stays-on}
-use Rattle.md_seam.proofs.WhiteMeaning.{white_means}
+use Rattle.md_events.specs.Ahead.{HasWhite}
+use Rattle.md_events.specs.Stays.{TakesEach}
+use Rattle.md_events.proofs.SpacesTermination.{Does, WhiteFits, does-fall, does-remain}
+use Rattle.md_events.proofs.SpacesTermination.{does-setting, does-stands, white_terminates}
+use Rattle.md_events.proofs.StaysLemmas.{stays-on}
+use Rattle.md_events.proofs.WhiteMeaning.{white_means}
 use Rattle.md_tables.specs.HeadStates.{HeadStep, head_behaves, head_owner, head_scheme, head_transition}
 use Rattle.md_tables.specs.Row.{name_at, row_scheme, row_transition}
 use Rattle.md_tables.specs.RowRule.{HasRow, row_behaves}

@@ -7,9 +7,9 @@ use Rattle.md_engine.specs.declared.event.Event.{Event}
 use Rattle.md_engine.specs.declared.event.Name.{Name}
 use Rattle.md_engine.specs.declared.event.Name.TheVariants as n
 use Rattle.md_leaves.specs.Spanned.{is_blank_ending}
-use Rattle.md_seam.specs.Events.Blocks.{is_block}
-use Rattle.md_seam.specs.Events.Prefix.{is_prefix}
-use Rattle.md_seam.specs.Events.Spelled.{role}
+use Rattle.md_events.specs.Events.Blocks.{is_block}
+use Rattle.md_events.specs.Events.Prefix.{is_prefix}
+use Rattle.md_events.specs.Events.Spelled.{role}
 use Rattle.md_tables.specs.Heads.{begins_chunk, begins_further_row, head_line, headed}
 use Rattle.md_tables.specs.Heads.{is_chunk, meets_table, stops_look}
 use Rattle.md_tables.proofs.HeadsWalk.{headed-begins, headed-passes, not-head}

@@ -7,9 +7,9 @@ use Rattle.std.proofs.lemmas.List.Elements.{All-append, All-drop, All-nil, All-t
 use Rattle.md_engine.specs.declared.configuration.ParseOptions.{ParseOptions}
 use Rattle.md_engine.specs.declared.event.Event.{Event}
 use Rattle.md_engine.specs.Place.{IsPlaced}
-use Rattle.md_seam.specs.Parts.{ArePlaced}
-use Rattle.md_seam.specs.Rewritten.{given_of, held_of, left_of, written_of}
-use Rattle.md_seam.specs.declared.rewriting.Rewriting.{Rewriting}
+use Rattle.md_events.specs.Parts.{ArePlaced}
+use Rattle.md_events.specs.Rewritten.{given_of, held_of, left_of, written_of}
+use Rattle.md_events.specs.declared.rewriting.Rewriting.{Rewriting}
 use Rattle.md_tables.specs.Heads.{begins_chunk, begins_further_row, head_line, headed, is_head, meets_table, stops_look}
 
 -- the first event passes where no head begins with it

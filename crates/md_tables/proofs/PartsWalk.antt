@@ -7,7 +7,7 @@ use Rattle.md_engine.specs.declared.event.Kind.{Kind}
 use Rattle.md_engine.specs.declared.event.Kind.TheVariants.{Enter, Exit}
 use Rattle.md_engine.specs.declared.event.Name.{Name}
 use Rattle.md_engine.specs.declared.event.Name.TheVariants as n
-use Rattle.md_seam.specs.Events.Nested.{enter, exit, is_enter, is_exit}
+use Rattle.md_events.specs.Events.Nested.{enter, exit, is_enter, is_exit}
 use Rattle.md_tables.specs.Cells.{begins_inner, begins_row, cell_name, ends_inner, goes_on, inner_name}
 use Rattle.md_tables.specs.Cells.{is_divider, is_inner, is_white, row_ends, row_kind, step}
 use Rattle.md_tables.specs.Goes.{begins_body, ends_head, ends_text_row, in_table, is_between, is_delimiter_row}

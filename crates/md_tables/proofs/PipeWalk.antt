@@ -4,8 +4,8 @@ use Rattle.md_engine.specs.declared.event.Event.{Event}
 use Rattle.md_engine.specs.declared.event.Name.TheVariants as n
 use Rattle.md_engine.specs.declared.event.Point.{Point}
 use Rattle.md_meaning.specs.Rest.{is_blank}
-use Rattle.md_seam.specs.Events.Nested.{enter, exit}
-use Rattle.md_seam.specs.Events.Places.{past_byte}
+use Rattle.md_events.specs.Events.Nested.{enter, exit}
+use Rattle.md_events.specs.Events.Places.{past_byte}
 use Rattle.md_tables.specs.Cells.{cell_name, celled, divider_step, has_white, is_white, row_ends}
 use Rattle.md_tables.specs.RowCells.{Cells, Divides, Shut, behind_pipe, cell_by, white_part}
 use Rattle.md_tables.specs.declared.cells.RowKind.{RowKind}

@@ -11,9 +11,9 @@ use Rattle.md_meaning.specs.Bytes.{begins}
 use Rattle.md_meaning.specs.Lines.{begins_with}
 use Rattle.md_meaning.specs.Rest.{is_blank, is_white, trim, trim_start}
 use Rattle.md_leaves.proofs.TitleTexts.{front-passes}
-use Rattle.md_seam.specs.Events.Places.{past_text}
-use Rattle.md_seam.proofs.FeedLines.{drop-past, past_text-whole, slice-front}
-use Rattle.md_seam.proofs.InlineLemmas.{past-index, past-vs}
+use Rattle.md_events.specs.Events.Places.{past_text}
+use Rattle.md_events.proofs.FeedLines.{drop-past, past_text-whole, slice-front}
+use Rattle.md_events.proofs.InlineLemmas.{past-index, past-vs}
 use Rattle.md_tables.specs.RowCells.{Cells, Divides, Ends, Shut, behind_pipe, cells_of, line_cells, onto, white_back}
 use Rattle.md_tables.specs.RowCells.{white_front}
 use Rattle.md_tables.proofs.WhiteEnds.{end-whole, front-none, front-one}

@@ -6,9 +6,9 @@ use Rattle.md_engine.specs.declared.event.Name.{Name}
 use Rattle.md_engine.specs.declared.event.Name.TheVariants as n
 use Rattle.md_engine.specs.declared.event.Point.{Point}
 use Rattle.md_meaning.specs.Rest.{is_blank, is_white, trim, trim_end, trim_start}
-use Rattle.md_seam.specs.Events.Nested.{enter, enter_link, exit}
-use Rattle.md_seam.specs.Events.Places.{past_byte, past_text}
-use Rattle.md_seam.proofs.RestLines.{trim-white}
+use Rattle.md_events.specs.Events.Nested.{enter, enter_link, exit}
+use Rattle.md_events.specs.Events.Places.{past_byte, past_text}
+use Rattle.md_events.proofs.RestLines.{trim-white}
 use Rattle.md_tables.specs.Row.{text_link}
 use Rattle.md_tables.specs.RowCells.{Cells, Divides, Ends, Shut, behind_pipe, cell_by, cell_inside, cells_by, cells_of}
 use Rattle.md_tables.specs.RowCells.{first_pipe}

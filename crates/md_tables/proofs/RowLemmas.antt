@@ -7,9 +7,9 @@ use Rattle.md_engine.specs.declared.event.Point.{Point}
 use Rattle.md_engine.specs.Meaning.{Cell, Here}
 use Rattle.md_meaning.specs.Rest.{is_white}
 use Rattle.md_leaves.proofs.LeafSteps.{TakesWhite}
-use Rattle.md_seam.specs.Ahead.{begins_white}
-use Rattle.md_seam.specs.Events.Nested.{enter, exit}
-use Rattle.md_seam.proofs.AheadLemmas.{white-no_ending}
+use Rattle.md_events.specs.Ahead.{begins_white}
+use Rattle.md_events.specs.Events.Nested.{enter, exit}
+use Rattle.md_events.proofs.AheadLemmas.{white-no_ending}
 use Rattle.md_tables.specs.declared.row.Row.{Row}
 use Rattle.md_tables.specs.RowRule.{Apart, Escaped, Run, Text, White, at_break, begun, closes, goes_on, in_row}
 use Rattle.md_tables.specs.RowRule.{in_text, next, opens}

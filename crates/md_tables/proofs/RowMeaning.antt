@@ -15,11 +15,11 @@ use Rattle.md_engine.specs.Sees.{Sees, ahead, cell_here}
 use Rattle.md_engine.proofs.StepOf.{begins, moves, passes, steps-as}
 use Rattle.md_meaning.specs.Rest.{is_white}
 use Rattle.md_leaves.proofs.LeafSteps.{behind-joined, sees-one, white-run, white_frame}
-use Rattle.md_seam.specs.Ahead.{white_rest}
-use Rattle.md_seam.specs.Events.Nested.{enter, exit}
-use Rattle.md_seam.specs.Spaces.{IsRest, any_size, calmed, sees_white}
-use Rattle.md_seam.specs.Transition.{Transition}
-use Rattle.md_seam.proofs.WhiteMeaning.{begins-seen, white-tried}
+use Rattle.md_events.specs.Ahead.{white_rest}
+use Rattle.md_events.specs.Events.Nested.{enter, exit}
+use Rattle.md_events.specs.Spaces.{IsRest, any_size, calmed, sees_white}
+use Rattle.md_events.specs.Transition.{Transition}
+use Rattle.md_events.proofs.WhiteMeaning.{begins-seen, white-tried}
 use Rattle.md_tables.specs.Row.{Divides, Ends, Escapes, Other, Piece, White as Space, at_break_code, behind_part, begun}
 use Rattle.md_tables.specs.Row.{data_code, escape_code, is_escaped, is_text, name_at, piece, row_transition, text_link}
 use Rattle.md_tables.specs.RowRule.{Apart, Escaped, HasRow, Pipe, RowMeans, Run, Text, White, at_break, closes, goes_on}

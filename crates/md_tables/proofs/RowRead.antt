@@ -10,13 +10,13 @@ use Rattle.md_meaning.specs.Bytes.{begins}
 use Rattle.md_meaning.specs.Lines.{begins_with}
 use Rattle.md_meaning.specs.Rest.{is_white, trim, trim_start}
 use Rattle.md_meaning.specs.Table.{row_cells}
-use Rattle.md_seam.specs.declared.inline.Chunk.{Chunk}
-use Rattle.md_seam.specs.Events.Inline.{line_end, pair_unless_empty, plain_chunk}
-use Rattle.md_seam.specs.Events.Nested.{around, exit, pair}
-use Rattle.md_seam.specs.Events.Places.{past_byte, past_text, same_place}
-use Rattle.md_seam.specs.Events.Spelled.{AsCell, OpenLeaf, Reading, TableLeaf, Text, at_cell, at_row, begun, byte_at}
-use Rattle.md_seam.specs.Events.Spelled.{first_told, on_last, on_leaf, read, role, text_to, told_at}
-use Rattle.md_seam.proofs.SpelledLemmas.{Quiet, QuietOrEnding, Roles, read-from, read-inline, read-quiet, roles-append}
+use Rattle.md_events.specs.declared.inline.Chunk.{Chunk}
+use Rattle.md_events.specs.Events.Inline.{line_end, pair_unless_empty, plain_chunk}
+use Rattle.md_events.specs.Events.Nested.{around, exit, pair}
+use Rattle.md_events.specs.Events.Places.{past_byte, past_text, same_place}
+use Rattle.md_events.specs.Events.Spelled.{AsCell, OpenLeaf, Reading, TableLeaf, Text, at_cell, at_row, begun, byte_at}
+use Rattle.md_events.specs.Events.Spelled.{first_told, on_last, on_leaf, read, role, text_to, told_at}
+use Rattle.md_events.proofs.SpelledLemmas.{Quiet, QuietOrEnding, Roles, read-from, read-inline, read-quiet, roles-append}
 use Rattle.md_tables.specs.RowCells.{Cells, Divides, Ends, Shut, cell_inside, cells_events, first_pipe, line_cells}
 use Rattle.md_tables.specs.RowCells.{past_pipe, pipe_part, read_text, row_events, text_part}
 use Rattle.md_tables.specs.RowCells.{white_back, white_front, white_part}

@@ -6,8 +6,8 @@ use Rattle.md_engine.specs.declared.event.Event.{Event}
 use Rattle.md_engine.specs.declared.event.Name.TheVariants as n
 use Rattle.md_engine.specs.declared.event.Point.{Point}
 use Rattle.md_meaning.specs.Rest.{is_blank, is_white}
-use Rattle.md_seam.specs.Events.Nested.{enter, enter_link, exit}
-use Rattle.md_seam.specs.Events.Places.{past_byte, past_text}
+use Rattle.md_events.specs.Events.Nested.{enter, enter_link, exit}
+use Rattle.md_events.specs.Events.Places.{past_byte, past_text}
 use Rattle.md_tables.specs.Cells.{begins_inner, ends_row, first_is, goes_on as text_goes_on, row_ends}
 use Rattle.md_tables.specs.Row.{text_link}
 use Rattle.md_tables.specs.RowCells.{Cells, cell_inside, cells_of, onto, row_runs, text_part, unread_text, white_part}

@@ -4,8 +4,8 @@ use Rattle.md_engine.specs.declared.event.Event.{Event}
 use Rattle.md_engine.specs.declared.event.Point.{Point}
 use Rattle.md_engine.specs.declared.tokenizer.Line.{Line}
 use Rattle.md_engine.specs.Meaning.{Cell}
-use Rattle.md_seam.specs.Events.Places.{past_byte}
-use Rattle.md_seam.proofs.FeedLines.{cell, spread}
+use Rattle.md_events.specs.Events.Places.{past_byte}
+use Rattle.md_events.proofs.FeedLines.{cell, spread}
 use Rattle.md_tables.specs.RowCells.{row_runs}
 use Rattle.md_tables.specs.RowRule as row
 use Rattle.md_tables.proofs.RunSpread.{AreSpread, bytes-run}

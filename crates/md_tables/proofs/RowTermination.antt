@@ -12,9 +12,9 @@ use Rattle.md_engine.proofs.Falls.{later, later_at, seen_grows}
 use Rattle.md_engine.proofs.Local.{accepts, consumes, refuses, turns}
 use Rattle.md_engine.proofs.Points.{stays, takes}
 use Rattle.md_meaning.specs.Rest.{is_white}
-use Rattle.md_seam.specs.Spaces.{IsRest, any_size, calmed, rest_ready, sees_white}
-use Rattle.md_seam.specs.Transition.{entered_link, exited, taken}
-use Rattle.md_seam.proofs.SpacesTermination.{Does, WhiteFits, rest-calm, rest-none, seen-in, white_try}
+use Rattle.md_events.specs.Spaces.{IsRest, any_size, calmed, rest_ready, sees_white}
+use Rattle.md_events.specs.Transition.{entered_link, exited, taken}
+use Rattle.md_events.proofs.SpacesTermination.{Does, WhiteFits, rest-calm, rest-none, seen-in, white_try}
 use Rattle.md_tables.specs.Row.{Divides, Ends as AtEnd, Escapes, Other, Piece, White, at_break_code, begun, behind_part}
 use Rattle.md_tables.specs.Row.{data_code, escape_code, is_escaped, is_text, name_at, piece, row_scheme, row_transition}
 use Rattle.md_tables.specs.Row.{shut, text_link}

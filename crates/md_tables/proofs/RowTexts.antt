@@ -5,7 +5,7 @@ use Rattle.std.proofs.lemmas.Bool.{and_parts, eqb-true}
 use Rattle.md_meaning.specs.Bytes.{after_optional, is_end}
 use Rattle.md_meaning.specs.Rest.{is_blank, is_white, trim, trim_end, trim_start}
 use Rattle.md_meaning.specs.Table.{pieces, row_cells}
-use Rattle.md_seam.proofs.RestLines.{trim-white}
+use Rattle.md_events.proofs.RestLines.{trim-white}
 use Rattle.md_tables.specs.RowCells.{Cells, Divides, Ends, Shut, behind_pipe, cells_of, line_cells, onto, white_back}
 use Rattle.md_tables.proofs.CellLemmas.{dark-next, ends_dark, trimmed-dark}
 use Rattle.md_tables.proofs.RowMeaning.{white-apart}

@@ -30,11 +30,11 @@ use Rattle.md_engine.proofs.Walks.{TakesSo, Within, then-seen, then-stays, then-
 use Rattle.md_meaning.specs.Ascii.{pipe}
 use Rattle.md_meaning.specs.Rest.{is_white}
 use Rattle.md_leaves.proofs.HeadingCalls.{sees-from}
-use Rattle.md_seam.specs.OneSpace.{spaced}
-use Rattle.md_seam.specs.Spaces.{any_size, sees_white, white_then}
-use Rattle.md_seam.specs.Stays.{TakesEach}
-use Rattle.md_seam.specs.Transition.{Transition, entered_link, exited, taken}
-use Rattle.md_seam.proofs.OneSpace.{HasWhite, space-run}
+use Rattle.md_events.specs.OneSpace.{spaced}
+use Rattle.md_events.specs.Spaces.{any_size, sees_white, white_then}
+use Rattle.md_events.specs.Stays.{TakesEach}
+use Rattle.md_events.specs.Transition.{Transition, entered_link, exited, taken}
+use Rattle.md_events.proofs.OneSpace.{HasWhite, space-run}
 use Rattle.md_tables.specs.Row.{Piece, at_break_code, begun, behind_part, data_code, escape_code, is_escaped, is_text}
 use Rattle.md_tables.specs.Row.{name_at, piece, piece_of, place_of, row_transition, shut, state_at, text_link}
 use Rattle.md_tables.specs.Row.Piece.{Ends, White, Divides, Escapes, Other}

@@ -10,12 +10,12 @@ use Rattle.md_engine.specs.declared.event.Point.{Point}
 use Rattle.md_engine.specs.declared.tokenizer.Line.{Line}
 use Rattle.md_engine.specs.Meaning.{Cell}
 use Rattle.md_meaning.specs.Rest.{is_white}
-use Rattle.md_seam.specs.Ahead.{begins_white, line_cells, white_end, white_rest}
-use Rattle.md_seam.specs.Events.Nested.{enter, exit, pair}
-use Rattle.md_seam.specs.Events.Places.{past_byte}
-use Rattle.md_seam.proofs.AheadLemmas.{white-no_ending}
-use Rattle.md_seam.proofs.FeedLines.{behind_last, byte_cells, cell, columns_more, next_column, spread, tab_cells}
-use Rattle.md_seam.proofs.FeedLines.{tab_end, tab_end-last, tab_end-next, tab_end-stop}
+use Rattle.md_events.specs.Ahead.{begins_white, line_cells, white_end, white_rest}
+use Rattle.md_events.specs.Events.Nested.{enter, exit, pair}
+use Rattle.md_events.specs.Events.Places.{past_byte}
+use Rattle.md_events.proofs.AheadLemmas.{white-no_ending}
+use Rattle.md_events.proofs.FeedLines.{behind_last, byte_cells, cell, columns_more, next_column, spread, tab_cells}
+use Rattle.md_events.proofs.FeedLines.{tab_end, tab_end-last, tab_end-next, tab_end-stop}
 
 -- Runs by cells and by bytes, of which one is whitespace: each byte does the same, and so does a column of a tab.
 -- Before whitespace is what `turns` puts there.

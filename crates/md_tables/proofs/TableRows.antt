@@ -7,8 +7,8 @@ use Rattle.md_engine.specs.declared.event.Point.{Point}
 use Rattle.md_engine.specs.declared.tokenizer.Scratch.{Scratch}
 use Rattle.md_meaning.specs.Ascii.{backslash}
 use Rattle.md_meaning.specs.Rest.{is_blank, trim_start}
-use Rattle.md_seam.specs.Events.Nested.{around, enter, exit}
-use Rattle.md_seam.specs.Events.Places.{past_byte, past_text}
+use Rattle.md_events.specs.Events.Nested.{around, enter, exit}
+use Rattle.md_events.specs.Events.Places.{past_byte, past_text}
 use Rattle.md_tables.specs.Cells.{celled}
 use Rattle.md_tables.specs.DelimiterCells.{delimiter_events, delimiter_runs}
 use Rattle.md_tables.specs.DelimiterRule as delimiter

@@ -8,7 +8,7 @@ use Rattle.md_engine.specs.declared.event.Kind.TheVariants.{Enter, Exit}
 use Rattle.md_engine.specs.declared.event.Name.{Name}
 use Rattle.md_engine.specs.declared.event.Name.TheVariants as n
 use Rattle.md_engine.specs.declared.event.Point.{Point}
-use Rattle.md_seam.specs.Events.Nested.{around, enter, exit}
+use Rattle.md_events.specs.Events.Nested.{around, enter, exit}
 use Rattle.md_tables.specs.Cells.{Step, celled, ends_row, ends_with, is_row, step}
 use Rattle.md_tables.specs.TableLines.{Table, TableLine, TableRow, body_given, lines_celled, lines_read}
 use Rattle.md_tables.specs.TableLines.{row_celled, row_read, row_name, table_begin, table_read, table_given}

@@ -9,8 +9,8 @@ use Rattle.md_engine.specs.declared.event.Kind.TheVariants.{Enter, Exit}
 use Rattle.md_engine.specs.declared.event.Name.TheVariants as n
 use Rattle.md_engine.specs.Place.{IsPlaced}
 use Rattle.md_leaves.proofs.SpannedLemmas.{AtPoint}
-use Rattle.md_seam.specs.Events.Nested.{enter, exit}
-use Rattle.md_seam.specs.Parts.{ArePlaced}
+use Rattle.md_events.specs.Events.Nested.{enter, exit}
+use Rattle.md_events.specs.Parts.{ArePlaced}
 use Rattle.md_tables.specs.Goes.{in_all}
 use Rattle.md_tables.specs.Tabled.{begins_table, behind, given, in_front, bound_of, next, passes, tabled, tabled_from}
 use Rattle.md_tables.specs.Tabled.{with_cells}

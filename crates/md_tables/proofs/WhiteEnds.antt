@@ -7,7 +7,7 @@ use Rattle.md_meaning.specs.Bytes.{is_end}
 use Rattle.md_meaning.specs.Rest.{is_blank, is_white, trim_end, trim_start}
 use Rattle.md_meaning.specs.Texts.{first_byte}
 use Rattle.md_leaves.proofs.TitleTexts.{tail}
-use Rattle.md_seam.proofs.RestLines.{count-one}
+use Rattle.md_events.proofs.RestLines.{count-one}
 use Rattle.md_tables.specs.RowCells.{white_back, white_front}
 use Rattle.md_tables.proofs.CellLemmas.{dark-next, ends_dark, tail-blank, trimmed-dark, trimmed-whole}
 

@@ -3,7 +3,7 @@ use Rattle.std.specs.Prelude.{Bool, true, false, ◌&&◌, if◌then◌else◌, 
 use Rattle.md_engine.specs.declared.event.Event.{Event}
 use Rattle.md_engine.specs.declared.event.Name.{Name}
 use Rattle.md_engine.specs.declared.event.Name.TheVariants as n
-use Rattle.md_seam.specs.Events.Nested.{enter, exit, is_enter, is_exit}
+use Rattle.md_events.specs.Events.Nested.{enter, exit, is_enter, is_exit}
 use Rattle.md_tables.specs.declared.cells.RowKind.{RowKind}
 use Rattle.md_tables.specs.declared.cells.RowKind.TheVariants.{Delimiter, Text}
 use Rattle.md_tables.specs.declared.cells.Stage.{Stage}

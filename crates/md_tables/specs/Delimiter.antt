@@ -15,8 +15,8 @@ use Rattle.md_engine.specs.World.{World}
 use Rattle.md_meaning.specs.Ascii.{colon, hyphen, line_feed, pipe}
 use Rattle.md_meaning.specs.Rest.{is_white}
 use Rattle.md_leaves.specs.Further.{further_link}
-use Rattle.md_seam.specs.Spaces.{IsRest, any_size, sees_white, small_indent, white_then}
-use Rattle.md_seam.specs.Transition.{Transition, entered, entered_link, exited, taken}
+use Rattle.md_events.specs.Spaces.{IsRest, any_size, sees_white, small_indent, white_then}
+use Rattle.md_events.specs.Transition.{Transition, entered, entered_link, exited, taken}
 
 -- without what it keeps
 abbrev pub uncounted : Scratch → Scratch

@@ -5,8 +5,8 @@ use Rattle.std.specs.Prelude.{ℕ, List, [], ◌∷◌}
 use Rattle.md_engine.specs.declared.event.Event.{Event}
 use Rattle.md_engine.specs.declared.event.Name.TheVariants as n
 use Rattle.md_engine.specs.declared.event.Point.{Point}
-use Rattle.md_seam.specs.Events.Nested.{around}
-use Rattle.md_seam.specs.Events.Places.{past_text}
+use Rattle.md_events.specs.Events.Nested.{around}
+use Rattle.md_events.specs.Events.Places.{past_text}
 use Rattle.md_tables.specs.DelimiterRule.{Apart}
 pub use Rattle.md_tables.specs.GfmTableLine.{delimiter_runs}
 use Rattle.md_tables.specs.RowCells.{row_by}

@@ -14,10 +14,10 @@ use Rattle.md_engine.specs.Meaning.{Accepts, Behaviour, Cell, Here, Outcome, Ref
 use Rattle.md_meaning.specs.Ascii.{colon, hyphen, pipe}
 use Rattle.md_meaning.specs.Rest.{is_white}
 use Rattle.md_leaves.specs.Further.{further_link}
-use Rattle.md_seam.specs.Ahead.{HasWhite, begins_white, from_ending, line_bytes, line_cells, line_end, white_end}
-use Rattle.md_seam.specs.Ahead.{white_rest}
-use Rattle.md_seam.specs.Events.Nested.{enter, enter_link, exit}
-use Rattle.md_seam.specs.Spaces.{calmed, small_indent}
+use Rattle.md_events.specs.Ahead.{HasWhite, begins_white, from_ending, line_bytes, line_cells, line_end, white_end}
+use Rattle.md_events.specs.Ahead.{white_rest}
+use Rattle.md_events.specs.Events.Nested.{enter, enter_link, exit}
+use Rattle.md_events.specs.Spaces.{calmed, small_indent}
 use Rattle.md_tables.specs.Delimiter.{Aligns, Dash, Divides, IsOfDelimiter, Mark, White, is_counted, mark_of, uncounted}
 
 -- where in a row a place lies

@@ -19,9 +19,9 @@ use Rattle.md_engine.specs.Scheme.{Position, Scheme, nowhere, of_owners, ranked}
 use Rattle.md_engine.specs.World.{World}
 use Rattle.md_meaning.specs.Ascii.{colon, hyphen, pipe}
 use Rattle.md_meaning.specs.Rest.{is_small}
-use Rattle.md_seam.specs.Look.{looks_behind, may_with}
-use Rattle.md_seam.specs.Spaces.{IsRest, rest_ready}
-use Rattle.md_seam.specs.Transition.{Transition}
+use Rattle.md_events.specs.Look.{looks_behind, may_with}
+use Rattle.md_events.specs.Spaces.{IsRest, rest_ready}
+use Rattle.md_events.specs.Transition.{Transition}
 use Rattle.md_tables.specs.Delimiter.{DelimiterNeeds, IsCounting, delimiter_scheme, delimiter_transition}
 use Rattle.md_tables.specs.Row.{row_scheme, row_transition}
 use Rattle.md_tables.specs.declared.row.Place.TheVariants as place

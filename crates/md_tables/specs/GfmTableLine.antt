@@ -9,10 +9,10 @@ use Rattle.md_engine.specs.declared.tokenizer.held_leaf.HeldLeaf.{HeldLeaf}
 use Rattle.md_engine.specs.declared.tokenizer.held_leaf.HeldLeaf.TheVariants as held_leaf
 use Rattle.md_engine.specs.declared.tokenizer.TheConstants.Scratch.{REST}
 use Rattle.md_engine.specs.Meaning.{Cell}
-use Rattle.md_seam.specs.Ahead.{begins_white, line_bytes, line_cells, line_end, white_end, white_rest}
-use Rattle.md_seam.specs.Events.Nested.{around, pair}
-use Rattle.md_seam.specs.Events.Places.{past_byte, past_text}
-use Rattle.md_seam.specs.Spaces.{small_indent}
+use Rattle.md_events.specs.Ahead.{begins_white, line_bytes, line_cells, line_end, white_end, white_rest}
+use Rattle.md_events.specs.Events.Nested.{around, pair}
+use Rattle.md_events.specs.Events.Places.{past_byte, past_text}
+use Rattle.md_events.specs.Spaces.{small_indent}
 use Rattle.md_tables.specs.DelimiterRule as delimiter
 use Rattle.md_tables.specs.GfmTable.{asking_columns, may_head}
 use Rattle.md_tables.specs.RowRule as row

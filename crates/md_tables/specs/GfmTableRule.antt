@@ -12,7 +12,7 @@ use Rattle.md_engine.specs.Meaning.{Behaviour, Cell, Here, Outcome, Refuses}
 use Rattle.md_engine.specs.Scheme.{position}
 use Rattle.md_engine.specs.Sees.{IsStep}
 use Rattle.md_engine.specs.World.{World}
-use Rattle.md_seam.specs.Ahead.{HasWhite}
+use Rattle.md_events.specs.Ahead.{HasWhite}
 use Rattle.md_tables.specs.DelimiterRule.{delimiter_at, delimiter_behaves}
 use Rattle.md_tables.specs.GfmTable.{TableInvariant, asking_columns, may_head}
 use Rattle.md_tables.specs.RowRule.{row_behaves}

@@ -8,9 +8,9 @@ use Rattle.md_engine.specs.declared.state.State.TheVariants.{Nok}
 use Rattle.md_engine.specs.Meaning.{Behaviour, Cell, Here, Outcome, Refuses}
 use Rattle.md_engine.specs.Scheme.{Scheme, nowhere, of_owners}
 use Rattle.md_engine.specs.World.{World}
-use Rattle.md_seam.specs.Ahead.{white_behaves}
-use Rattle.md_seam.specs.Spaces.{white_scheme, white_transition}
-use Rattle.md_seam.specs.Transition.{Transition}
+use Rattle.md_events.specs.Ahead.{white_behaves}
+use Rattle.md_events.specs.Spaces.{white_scheme, white_transition}
+use Rattle.md_events.specs.Transition.{Transition}
 use Rattle.md_tables.specs.Row.{name_at, place_of, row_scheme, row_transition}
 use Rattle.md_tables.specs.RowRule.{row_behaves}
 use Rattle.md_tables.specs.declared.row.Place.{Place}

@@ -13,10 +13,10 @@ use Rattle.md_engine.specs.Meaning.{Cell}
 use Rattle.md_engine.specs.TextFeed.{text_feed}
 use Rattle.md_engine.specs.World.{fresh, reads_to}
 use Rattle.md_leaves.specs.Spanned.{is_blank_ending, links_back}
-use Rattle.md_seam.specs.Ahead.{line_cells, line_end}
-use Rattle.md_seam.specs.Events.Blocks.{is_block}
-use Rattle.md_seam.specs.Events.Nested.{around, is_enter}
-use Rattle.md_seam.specs.Events.Spelled.{role}
+use Rattle.md_events.specs.Ahead.{line_cells, line_end}
+use Rattle.md_events.specs.Events.Blocks.{is_block}
+use Rattle.md_events.specs.Events.Nested.{around, is_enter}
+use Rattle.md_events.specs.Events.Spelled.{role}
 use Rattle.md_tables.specs.RowRule.{Apart, row_closes, row_opens, runs}
 use Rattle.md_tables.specs.declared.row.Row.TheVariants.{Head}
 

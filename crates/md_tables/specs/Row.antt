@@ -13,8 +13,8 @@ use Rattle.md_engine.specs.World.{World}
 use Rattle.md_meaning.specs.Ascii.{backslash, line_feed, pipe}
 use Rattle.md_meaning.specs.Rest.{is_white}
 use Rattle.md_leaves.specs.Further.{further_link}
-use Rattle.md_seam.specs.Spaces.{any_size, rest_ready, sees_white, white_then}
-use Rattle.md_seam.specs.Transition.{Transition, entered, entered_link, exited, taken}
+use Rattle.md_events.specs.Spaces.{any_size, rest_ready, sees_white, white_then}
+use Rattle.md_events.specs.Transition.{Transition, entered, entered_link, exited, taken}
 use Rattle.md_tables.specs.declared.row.Place.{Place}
 use Rattle.md_tables.specs.declared.row.Place.TheVariants as place
 use Rattle.md_tables.specs.declared.row.Row.{Row}

@@ -13,10 +13,10 @@ use Rattle.md_meaning.specs.Ascii.{backslash, pipe}
 use Rattle.md_meaning.specs.Bytes.{after_optional}
 use Rattle.md_meaning.specs.Lines.{begins_with}
 use Rattle.md_meaning.specs.Rest.{is_blank, is_white, trim, trim_end, trim_start}
-use Rattle.md_seam.specs.declared.inline.PartKind.TheVariants as kind
-use Rattle.md_seam.specs.Events.Inline.{plain_events}
-use Rattle.md_seam.specs.Events.Nested.{around, enter_link, exit, pair}
-use Rattle.md_seam.specs.Events.Places.{past_byte, past_text}
+use Rattle.md_events.specs.declared.inline.PartKind.TheVariants as kind
+use Rattle.md_events.specs.Events.Inline.{plain_events}
+use Rattle.md_events.specs.Events.Nested.{around, enter_link, exit, pair}
+use Rattle.md_events.specs.Events.Places.{past_byte, past_text}
 use Rattle.md_tables.specs.Row.{text_link}
 pub use Rattle.md_tables.specs.GfmTableLine.{row_runs}
 

@@ -12,9 +12,9 @@ use Rattle.md_engine.specs.World.{World}
 use Rattle.md_meaning.specs.Ascii.{backslash, pipe}
 use Rattle.md_meaning.specs.Rest.{is_white}
 use Rattle.md_leaves.specs.Further.{further_link}
-use Rattle.md_seam.specs.Ahead.{HasWhite, begins_white, from_ending, line_cells, line_end}
-use Rattle.md_seam.specs.Events.Nested.{enter, exit}
-use Rattle.md_seam.specs.Spaces.{IsRest}
+use Rattle.md_events.specs.Ahead.{HasWhite, begins_white, from_ending, line_cells, line_end}
+use Rattle.md_events.specs.Events.Nested.{enter, exit}
+use Rattle.md_events.specs.Spaces.{IsRest}
 use Rattle.md_tables.specs.Row.{name_at, text_link}
 use Rattle.md_tables.specs.declared.row.Place.{Place}
 use Rattle.md_tables.specs.declared.row.Place.TheVariants as place

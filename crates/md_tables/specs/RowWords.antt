@@ -10,9 +10,9 @@ use Rattle.md_engine.specs.Going.{SeesOn}
 use Rattle.md_engine.specs.Run.{RunsHere, Step, reading}
 use Rattle.md_engine.specs.World.{World, looks}
 use Rattle.md_meaning.specs.Ascii.{backslash}
-use Rattle.md_seam.specs.OneSpace.{IsOneSpace, spaced}
-use Rattle.md_seam.specs.Spaces.{sees_white, white_transition}
-use Rattle.md_seam.specs.Transition.{entered, exited, taken}
+use Rattle.md_events.specs.OneSpace.{IsOneSpace, spaced}
+use Rattle.md_events.specs.Spaces.{sees_white, white_transition}
+use Rattle.md_events.specs.Transition.{entered, exited, taken}
 use Rattle.md_tables.specs.Row.{name_at, row_transition}
 use Rattle.md_tables.specs.declared.row.Place.{Place}
 use Rattle.md_tables.specs.declared.row.Place.TheVariants as place

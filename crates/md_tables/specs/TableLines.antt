@@ -6,8 +6,8 @@ use Rattle.md_engine.specs.declared.event.Link.{Link}
 use Rattle.md_engine.specs.declared.event.Name.{Name}
 use Rattle.md_engine.specs.declared.event.Name.TheVariants as n
 use Rattle.md_engine.specs.declared.event.Point.{Point}
-use Rattle.md_seam.specs.Events.Nested.{around, enter, exit}
-use Rattle.md_seam.specs.Events.Places.{past_text}
+use Rattle.md_events.specs.Events.Nested.{around, enter, exit}
+use Rattle.md_events.specs.Events.Places.{past_text}
 use Rattle.md_tables.specs.Cells.{celled}
 use Rattle.md_tables.specs.DelimiterCells.{delimiter_runs}
 use Rattle.md_tables.specs.DelimiterRule as delimiter

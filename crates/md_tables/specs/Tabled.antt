@@ -10,7 +10,7 @@ use Rattle.md_engine.specs.declared.event.Kind.TheVariants.{Enter, Exit}
 use Rattle.md_engine.specs.declared.event.Name.{Name}
 use Rattle.md_engine.specs.declared.event.Name.TheVariants as n
 use Rattle.md_engine.specs.declared.event.Point.{Point}
-use Rattle.md_seam.specs.Events.Nested.{enter, exit}
+use Rattle.md_events.specs.Events.Nested.{enter, exit}
 use Rattle.md_tables.specs.Cells.{Step, passed, step}
 use Rattle.md_tables.specs.declared.cells.Stage.{Stage}
 use Rattle.md_tables.specs.declared.cells.Stage.TheVariants as row

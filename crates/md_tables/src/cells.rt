@@ -5,7 +5,7 @@
 // are one text, with the whitespace between them. In a delimiter row the colons and dashes of a cell are its value.
 
 ghost use Rattle.std.specs.Prelude.{◌≡◌, ◌++◌, ◌∷◌, [], None, OnOk};
-ghost use Rattle.md_seam.specs.Events.Nested.{enter, exit};
+ghost use Rattle.md_events.specs.Events.Nested.{enter, exit};
 ghost use Rattle.md_tables.specs.Cells.{begins_divider, begins_inner, begins_row, cell_name, ends_divider};
 ghost use Rattle.md_tables.specs.Cells.{ends_inner, ends_row, goes_on, has_white, inner_name, is_inner, is_last};
 ghost use Rattle.md_tables.specs.Cells.{divider_step, ends_with, front_step, gap_step, inner_step, inside_step};

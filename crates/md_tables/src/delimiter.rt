@@ -14,9 +14,9 @@ ghost use Rattle.md_engine.specs.World.{world};
 ghost use Rattle.md_engine.specs.declared.state.Name.{Name as StateName};
 ghost use Rattle.md_engine.specs.declared.state.State.{State};
 ghost use Rattle.md_engine.specs.declared.state.gfm_table.State.{State as TableState};
-ghost use Rattle.md_seam.specs.Spaces.{sees_white};
-ghost use Rattle.md_seam.specs.Stays.{TakesEach};
-ghost use Rattle.md_seam.specs.Transition.{IsAt};
+ghost use Rattle.md_events.specs.Spaces.{sees_white};
+ghost use Rattle.md_events.specs.Stays.{TakesEach};
+ghost use Rattle.md_events.specs.Transition.{IsAt};
 ghost use Rattle.md_tables.specs.Delimiter.{DelimiterNeeds, before_transition, cell_after_transition};
 ghost use Rattle.md_tables.specs.Delimiter.{cell_before_transition, delimiter_transition, filler_transition};
 ghost use Rattle.md_tables.specs.Delimiter.{left_after_transition, marked, refused, right_after_transition};
@@ -29,8 +29,8 @@ use md_engine::state::gfm_table::State as TableState;
 use md_engine::state::{Name as StateName, State};
 use md_engine::stay::Stay;
 use md_engine::tokenizer::{HeldLeaf, Scratch, Tokenizer};
+use md_events::space_or_tab::{is_space_or_tab, small_indent, space_or_tab_min_max};
 use md_leaves::further::FURTHER;
-use md_seam::space_or_tab::{is_space_or_tab, small_indent, space_or_tab_min_max};
 
 /// Without what a delimiter row keeps.
 fn uncounted(scratch: Scratch) -> Scratch

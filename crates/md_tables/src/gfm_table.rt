@@ -12,9 +12,9 @@ ghost use Rattle.md_engine.specs.World.{world};
 ghost use Rattle.md_engine.specs.declared.state.Name.{Name as StateName};
 ghost use Rattle.md_engine.specs.declared.state.State.{State};
 ghost use Rattle.md_engine.specs.declared.state.gfm_table.State.{State as TableState};
-ghost use Rattle.md_seam.specs.Stays.{TakesEach};
-ghost use Rattle.md_seam.specs.Transition.{IsAt};
-ghost use Rattle.md_seam.specs.Look.{may_with};
+ghost use Rattle.md_events.specs.Stays.{TakesEach};
+ghost use Rattle.md_events.specs.Transition.{IsAt};
+ghost use Rattle.md_events.specs.Look.{may_with};
 ghost use Rattle.md_tables.specs.GfmTable.{AnswersWith, TableNeeds, head_row_start_transition, may_begin, may_head};
 ghost use Rattle.md_tables.specs.GfmTable.{start_transition, table_transition};
 ghost use Rattle.md_tables.specs.GfmTableRule.{TableMeans};
@@ -34,8 +34,8 @@ use md_engine::state::gfm_table::State as TableState;
 use md_engine::state::{Name as StateName, State};
 use md_engine::stay::Stay;
 use md_engine::tokenizer::{HeldLeaf, OpenText, Tokenizer};
-use md_grammars::columns::is_small;
-use md_seam::space_or_tab::look_behind;
+use md_events::space_or_tab::look_behind;
+use md_scan::columns::is_small;
 
 /// Whether the last line of this text may be the head of a table.
 fn may_head(options: &ParseOptions, text: OpenText) -> bool

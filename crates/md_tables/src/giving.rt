@@ -1,7 +1,7 @@
 // Events that are given several at once. Room for them is made first, and then they are copied once.
 
 ghost use Rattle.std.specs.Prelude.{◌≡◌, ◌++◌, ◌∷◌, [], OnOk};
-ghost use Rattle.md_seam.specs.Events.Nested.{enter, exit};
+ghost use Rattle.md_events.specs.Events.Nested.{enter, exit};
 
 use crate::cells::plain;
 use md_engine::event::{Event, Kind, Name};

@@ -14,9 +14,9 @@ ghost use Rattle.md_engine.specs.Full.{IsFull, OnError};
 ghost use Rattle.md_engine.specs.World.{world};
 ghost use Rattle.md_engine.specs.declared.state.Name.{Name as StateName};
 ghost use Rattle.md_engine.specs.declared.state.State.{State};
-ghost use Rattle.md_seam.specs.Spaces.{sees_white};
-ghost use Rattle.md_seam.specs.Stays.{TakesEach};
-ghost use Rattle.md_seam.specs.Transition.{IsAt, NeedsNothing};
+ghost use Rattle.md_events.specs.Spaces.{sees_white};
+ghost use Rattle.md_events.specs.Stays.{TakesEach};
+ghost use Rattle.md_events.specs.Transition.{IsAt, NeedsNothing};
 ghost use Rattle.md_tables.specs.Row.{at_break_transition, begun, behind_part, cell_before_transition, data_transition};
 ghost use Rattle.md_tables.specs.Row.{escape_transition, place_of, row_transition, start_transition, state_at};
 ghost use Rattle.md_tables.specs.RowRule.{RowMeans};
@@ -28,8 +28,8 @@ use md_engine::state::gfm_table::State as TableState;
 use md_engine::state::{Name as StateName, State};
 use md_engine::stay::Stay;
 use md_engine::tokenizer::Tokenizer;
+use md_events::space_or_tab::{is_space_or_tab, space_or_tab};
 use md_leaves::further::FURTHER;
-use md_seam::space_or_tab::{is_space_or_tab, space_or_tab};
 
 /// What is text of a cell is read later.
 pub(crate) const TEXT_LINK: Link = Link {

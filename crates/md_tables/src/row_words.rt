@@ -15,8 +15,8 @@ ghost use Rattle.md_engine.specs.World.{looks, world};
 ghost use Rattle.md_engine.specs.declared.state.State.{State};
 ghost use Rattle.md_engine.specs.declared.stay.Stay.{Stay};
 ghost use Rattle.md_meaning.specs.Ascii.{pipe};
-ghost use Rattle.md_seam.specs.Spaces.{sees_white};
-ghost use Rattle.md_seam.specs.Transition.{IsAt, NeedsNothing};
+ghost use Rattle.md_events.specs.Spaces.{sees_white};
+ghost use Rattle.md_events.specs.Transition.{IsAt, NeedsNothing};
 ghost use Rattle.md_tables.specs.Row.{behind_part, is_escaped, is_text, name_at, piece};
 ghost use Rattle.md_tables.specs.RowWords.{Goes, GoesTo, IsGap, RowStep, TakesTo, divided, is_backslash};
 
@@ -26,7 +26,7 @@ use md_engine::event::Name;
 use md_engine::message::Message;
 use md_engine::state::State;
 use md_engine::tokenizer::Tokenizer;
-use md_seam::space_or_tab::{is_one_space, is_space_or_tab, take_one_space};
+use md_events::space_or_tab::{is_one_space, is_space_or_tab, take_one_space};
 
 /// Whether a pipe is here.
 #[inline(always)]

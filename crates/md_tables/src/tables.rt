@@ -12,7 +12,7 @@
 
 ghost use Rattle.std.specs.Prelude.{◌≡◌, ℕ, ◌≤◌, ◌<◌, ◌++◌, [], IfOk, List, OnOk, drop, false, length, true};
 ghost use Rattle.std.specs.List.{prefix_len};
-ghost use Rattle.md_seam.specs.Parts.{ArePlaced};
+ghost use Rattle.md_events.specs.Parts.{ArePlaced};
 ghost use Rattle.md_engine.specs.declared.event.Kind.{Kind};
 ghost use Rattle.md_tables.specs.declared.tables.Bound.{Bound};
 ghost use Rattle.md_tables.specs.Goes.{in_all, in_table};
@@ -23,8 +23,8 @@ use crate::cells::{Stage, plain};
 use crate::giving::give;
 use md_engine::event::{Event, Kind, Name};
 use md_engine::message::Message;
-use md_seam::moving::append;
-use md_seam::walks::{Test, passing};
+use md_events::moving::append;
+use md_events::walks::{Test, passing};
 
 /// What an event is to the head and the body of a table.
 #[derive(Clone, Copy)]

@@ -8,7 +8,7 @@ ghost use Rattle.md_program.specs.Printed.{PrintsOutline};
 use md_program::body::Body;
 use md_program::printing::OutlineOf;
 use md_program::system::{Uninterrupted, arguments};
-use plain_body::Plain;
+use reference_tree::plain::Plain;
 use std::alloc::Global;
 use std::io::{Read, Write};
 use std::process::ExitCode;

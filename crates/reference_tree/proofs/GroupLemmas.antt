@@ -5,15 +5,17 @@ use Rattle.std.proofs.lemmas.Bool.Decides.{nat_tests}
 use Rattle.std.proofs.lemmas.Bool.{eqb-true}
 use Rattle.md_meaning.specs.Tree as t
 use Rattle.md_meaning.specs.Grouped.{with_item, with_front}
-use Rattle.md_grammars.specs.declared.tree.Block.{Block}
-use Rattle.md_grammars.specs.declared.tree.Block.TheVariants as b
-use Rattle.md_grammars.specs.declared.tree.Block.TheOpen as layer
-use Rattle.md_grammars.specs.declared.tree.Block.TheOpen.{Block-F}
-use Rattle.md_grammars.specs.declared.tree.Block.TheViews.{out-Block, roll-Block, roll-out-Block}
-use Rattle.md_grammars.specs.Trees.{meaning, meanings}
-use Rattle.md_grammars.proofs.MeaningLemmas.{meaning-Frontmatter, meaning-Quote, meaning-Footnote, meaning-Heading}
-use Rattle.md_grammars.proofs.MeaningLemmas.{meaning-Break, meaning-Code, meaning-Html, meaning-Fence, meaning-Math}
-use Rattle.md_grammars.proofs.MeaningLemmas.{meaning-Definition, meaning-Paragraph, meaning-Table}
+use Rattle.reference_grammars.specs.declared.tree.Block.{Block}
+use Rattle.reference_grammars.specs.declared.tree.Block.TheVariants as b
+use Rattle.reference_grammars.specs.declared.tree.Block.TheOpen as layer
+use Rattle.reference_grammars.specs.declared.tree.Block.TheOpen.{Block-F}
+use Rattle.reference_grammars.specs.declared.tree.Block.TheViews.{out-Block, roll-Block, roll-out-Block}
+use Rattle.reference_grammars.specs.Trees.{meaning, meanings}
+use Rattle.reference_grammars.proofs.MeaningLemmas.{meaning-Frontmatter, meaning-Quote, meaning-Footnote}
+use Rattle.reference_grammars.proofs.MeaningLemmas.{meaning-Heading}
+use Rattle.reference_grammars.proofs.MeaningLemmas.{meaning-Break, meaning-Code, meaning-Html, meaning-Fence}
+use Rattle.reference_grammars.proofs.MeaningLemmas.{meaning-Math}
+use Rattle.reference_grammars.proofs.MeaningLemmas.{meaning-Definition, meaning-Paragraph, meaning-Table}
 use Rattle.reference_tree.specs.Groups.{then_blocks, with_items}
 
 eqb-same : (n : ℕ) → (n == n) ≡ true

@@ -1,3 +1,4 @@
+pub mod Outlines
 pub mod Held
 pub mod States
 pub mod Markers

@@ -2,9 +2,9 @@
 
 ghost use Rattle.std.specs.Prelude.{◌≡◌, [], ◌∷◌, ◌++◌, map, string_bytes, IfOk, OnOk};
 ghost use Rattle.md_meaning.specs.Label as label;
-ghost use Rattle.md_grammars.specs.Definitions.{texts};
-ghost use Rattle.md_grammars.specs.Labels.{labels_meaning};
-ghost use Rattle.md_grammars.specs.Trees.{meaning};
+ghost use Rattle.md_scan.specs.Definitions.{texts};
+ghost use Rattle.reference_grammars.specs.Labels.{labels_meaning};
+ghost use Rattle.reference_grammars.specs.Trees.{meaning};
 ghost use Rattle.reference_tree.specs.Held.{blocks_meaning};
 ghost use Rattle.reference_tree.specs.Labels.{labels_at, own_labels};
 ghost use Rattle.reference_tree.specs.Placed.{places};
@@ -12,9 +12,10 @@ ghost use Rattle.reference_tree.specs.Placed.{places};
 use crate::blocks::Blocks;
 use crate::order::{Place, in_order};
 use md_engine::message::Message;
-use md_grammars::label::{Labels, normal_form};
-use md_grammars::memory;
-use md_grammars::tree::Block;
+use md_scan::label::normal_form;
+use md_scan::memory;
+use reference_grammars::label::Labels;
+use reference_grammars::tree::Block;
 use std::alloc::Global;
 
 /// Adds the normal form of a label, given its lines, also where it is there already.

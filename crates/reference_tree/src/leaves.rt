@@ -7,21 +7,21 @@ ghost use Rattle.std.specs.Option.{option_copied, option_or};
 ghost use Rattle.md_meaning.specs.Leaves as leaves;
 ghost use Rattle.md_meaning.specs.Rest.{is_blank, is_white, is_parted};
 ghost use Rattle.md_meaning.specs.State.{fence_block, OpenCode, OpenHtml, OpenTable};
-ghost use Rattle.md_grammars.specs.Rests.{rest_meaning};
-ghost use Rattle.md_grammars.specs.Trees.{meaning, line_meanings, slices};
+ghost use Rattle.reference_grammars.specs.Rests.{rest_meaning};
+ghost use Rattle.reference_grammars.specs.Trees.{meaning, line_meanings, slices};
 ghost use Rattle.reference_tree.specs.States.{opening_meaning, came_meaning, came_option, against_meaning};
 ghost use Rattle.reference_tree.specs.States.{leaf_meaning, went_option, HandsBack};
 
 use crate::state::{Leaf, LeafResult, Opening, ParagraphContext};
 use md_engine::configuration::ParseOptions;
 use md_engine::message::Message;
-use md_grammars::bytes::{is_blank, is_parted, is_white, run_len, trim_start};
-use md_grammars::heading::heading_text;
-use md_grammars::html::{HtmlKind, html_ends, html_kind};
-use md_grammars::memory;
-use md_grammars::rest::Rest;
-use md_grammars::table::row_cells;
-use md_grammars::tree::{Block, Line};
+use md_scan::bytes::{is_blank, is_parted, is_white, run_len, trim_start};
+use md_scan::heading::heading_text;
+use md_scan::memory;
+use reference_grammars::html::{HtmlKind, html_ends, html_kind};
+use reference_grammars::rest::Rest;
+use reference_grammars::table::row_cells;
+use reference_grammars::tree::{Block, Line};
 use std::alloc::Global;
 
 /// Whether a line has only this byte, spaces and tabs.

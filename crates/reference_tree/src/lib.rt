@@ -1,4 +1,5 @@
-// The line definition as a plain program: slow, ordinary functions, each of which computes one definition of `md_seam`.
+// The line definition as a plain program: slow, ordinary functions, each of which computes one definition of
+// `md_meaning`.
 #![tactic(auto)]
 
 pub mod blocks;
@@ -11,5 +12,6 @@ pub mod meaning;
 pub mod order;
 pub mod outline_lines;
 pub mod paragraph;
+pub mod plain;
 pub mod state;
 pub mod step;

@@ -5,7 +5,7 @@ ghost use Rattle.md_meaning.specs.Tree.{End};
 ghost use Rattle.md_meaning.specs.State as state;
 ghost use Rattle.md_meaning.specs.Leaves.{Text, goes_on, starts, table_at};
 ghost use Rattle.md_meaning.specs.Step as definition;
-ghost use Rattle.md_grammars.specs.Rests.{rest_meaning};
+ghost use Rattle.reference_grammars.specs.Rests.{rest_meaning};
 ghost use Rattle.reference_tree.specs.Held.{blocks_meaning};
 ghost use Rattle.reference_tree.specs.States.{kept_meanings, leaf_meaning, spot_meaning, came_meaning, taken_meaning};
 ghost use Rattle.reference_tree.specs.States.{path_meaning, within};
@@ -23,9 +23,9 @@ use crate::state::{
 };
 use md_engine::configuration::ParseOptions;
 use md_engine::message::Message;
-use md_grammars::bytes::is_blank;
-use md_grammars::memory;
-use md_grammars::rest::Rest;
+use md_scan::bytes::is_blank;
+use md_scan::memory;
+use reference_grammars::rest::Rest;
 use std::alloc::Global;
 
 /// What a leaf became, after these blocks.

@@ -13,56 +13,56 @@ use Rattle.md_meaning.specs.Leaves.{LeafResult}
 use Rattle.md_meaning.specs.State.{Container, NoLeaf, shut, texts}
 use Rattle.md_meaning.specs.Tree.{Block, End}
 use Rattle.md_link_definitions.specs.DefinitionRule.{DefinitionParts}
-use Rattle.md_seam.specs.Events.Nested.{exit, pair}
-use Rattle.md_seam.specs.Events.Spelled.{OpenContainer, Reading, add_block, read, role, spelled, unread}
-use Rattle.md_seam.proofs.PlacesLemmas.{all-append}
-use Rattle.md_seam.proofs.SpelledLemmas.{Between, QuietOrEnding, read-between, read-from, roles-append, unmarked-append}
-use Rattle.md_rows.specs.BlockList.{lines_unread, text_unread, turned_unread, unread_lines}
-use Rattle.md_frame.specs.Closed.{close_containers}
-use Rattle.md_frame.specs.EndingName.{ending_name}
-use Rattle.md_frame.specs.TextLines.{text_leaf}
+use Rattle.md_events.specs.Events.Nested.{exit, pair}
+use Rattle.md_events.specs.Events.Spelled.{OpenContainer, Reading, add_block, read, role, spelled, unread}
+use Rattle.md_events.proofs.PlacesLemmas.{all-append}
+use Rattle.md_events.proofs.SpelledLemmas.{Between, QuietOrEnding, read-between, read-from, roles-append, unmarked-append}
+use Rattle.proof_rows.specs.BlockList.{lines_unread, text_unread, turned_unread, unread_lines}
+use Rattle.proof_frame.specs.Closed.{close_containers}
+use Rattle.proof_frame.specs.EndingName.{ending_name}
+use Rattle.proof_frame.specs.TextLines.{text_leaf}
 use Rattle.md_registry.specs.Registry.{further_of, leaf}
-use Rattle.md_rows.specs.Rows.{front_done, Group, Headed, Lines, Single, LeafLines, Turned, defined_done, group_events}
-use Rattle.md_rows.specs.Rows.{leaf_done, leaf_events, groups_events, lines_done, heading_done, row_events, rows_events}
-use Rattle.md_rows.specs.Rows.{tail_events, text_done, turned_done}
-use Rattle.md_frame.specs.Row.{BlankRow, LeafRow, Row, RowKind, TextRow, is_blank_by, span_done, ending_of, last_row}
-use Rattle.md_content_rooms.specs.Defined.{defined_unread}
-use Rattle.md_table_rooms.specs.Headed.{headed_done}
-use Rattle.md_rows.specs.Unread.{headed_lines, unread_group, unread_groups}
-use Rattle.md_frame.proofs.ContentFacts.{content-alone, no_content-label}
-use Rattle.md_content_rooms.proofs.Defined.Facts.{defined-facts}
-use Rattle.md_content_rooms.proofs.Defined.Form.{form_block, form_done}
-use Rattle.md_content_rooms.proofs.Defined.Is.{IsDefined}
-use Rattle.md_frame.proofs.FrontFacts.{LinePrefix}
-use Rattle.md_frame.proofs.FrontNames.{HasFront, fronts-unmarked}
-use Rattle.md_rows.proofs.GroupFacts.{span-block}
-use Rattle.md_rows.proofs.GroupLines.{AreGroups, AreLines, AreSpan, Begins, IsHead, IsLeft, IsSingle, IsUnder}
-use Rattle.md_rows.proofs.GroupLines.{behind-first, line-further, line-of, span-begins, kept-of}
-use Rattle.md_rows.proofs.GroupLemmas.{headed-quiet, spans-quiet, under-quiet}
-use Rattle.md_rows.proofs.HeadedTable.{IsHeaded, headed-facts, headed-is, headed_block}
-use Rattle.md_rows.proofs.JoinedLemmas.{EachNoContent, HasNoContent, ending-other, has_front-no_content}
-use Rattle.md_rows.proofs.JoinedLemmas.{tail-no_content}
-use Rattle.md_content_rooms.proofs.Labels.Groups.{form-label, front-none}
-use Rattle.md_rows.proofs.Labels.Leaves.{line-unlabelled, lines-unlabelled, shut-unlabelled}
-use Rattle.md_content_rooms.proofs.Labels.Reading.{labels-added, labels-closed, labels-enters, labels-shown}
-use Rattle.md_content_rooms.proofs.Labels.Reading.{read_labels, outer_labels, shown_labels}
-use Rattle.md_content_rooms.proofs.Labels.Trees.{defined_by, defined_in}
-use Rattle.md_frame.proofs.LeafFacts.{shown}
+use Rattle.proof_rows.specs.Rows.{front_done, Group, Headed, Lines, Single, LeafLines, Turned, defined_done, group_events}
+use Rattle.proof_rows.specs.Rows.{leaf_done, leaf_events, groups_events, lines_done, heading_done, row_events, rows_events}
+use Rattle.proof_rows.specs.Rows.{tail_events, text_done, turned_done}
+use Rattle.proof_frame.specs.Row.{BlankRow, LeafRow, Row, RowKind, TextRow, is_blank_by, span_done, ending_of, last_row}
+use Rattle.proof_content_laws.specs.Defined.{defined_unread}
+use Rattle.proof_table_laws.specs.Headed.{headed_done}
+use Rattle.proof_rows.specs.Unread.{headed_lines, unread_group, unread_groups}
+use Rattle.proof_frame.proofs.ContentFacts.{content-alone, no_content-label}
+use Rattle.proof_content_laws.proofs.Defined.Facts.{defined-facts}
+use Rattle.proof_content_laws.proofs.Defined.Form.{form_block, form_done}
+use Rattle.proof_content_laws.proofs.Defined.Is.{IsDefined}
+use Rattle.proof_frame.proofs.FrontFacts.{LinePrefix}
+use Rattle.proof_frame.proofs.FrontNames.{HasFront, fronts-unmarked}
+use Rattle.proof_rows.proofs.GroupFacts.{span-block}
+use Rattle.proof_rows.proofs.GroupLines.{AreGroups, AreLines, AreSpan, Begins, IsHead, IsLeft, IsSingle, IsUnder}
+use Rattle.proof_rows.proofs.GroupLines.{behind-first, line-further, line-of, span-begins, kept-of}
+use Rattle.proof_rows.proofs.GroupLemmas.{headed-quiet, spans-quiet, under-quiet}
+use Rattle.proof_rows.proofs.HeadedTable.{IsHeaded, headed-facts, headed-is, headed_block}
+use Rattle.proof_rows.proofs.JoinedLemmas.{EachNoContent, HasNoContent, ending-other, has_front-no_content}
+use Rattle.proof_rows.proofs.JoinedLemmas.{tail-no_content}
+use Rattle.proof_content_laws.proofs.Labels.Groups.{form-label, front-none}
+use Rattle.proof_rows.proofs.Labels.Leaves.{line-unlabelled, lines-unlabelled, shut-unlabelled}
+use Rattle.proof_content_laws.proofs.Labels.Reading.{labels-added, labels-closed, labels-enters, labels-shown}
+use Rattle.proof_content_laws.proofs.Labels.Reading.{read_labels, outer_labels, shown_labels}
+use Rattle.proof_content_laws.proofs.Labels.Trees.{defined_by, defined_in}
+use Rattle.proof_frame.proofs.LeafFacts.{shown}
 use Rattle.md_registry.proofs.SpanLeaves.{span-laws}
-use Rattle.md_rows.proofs.RowLeaf.{block_of, row-facts}
-use Rattle.md_frame.proofs.SpanLaws.{come_behind}
+use Rattle.proof_rows.proofs.RowLeaf.{block_of, row-facts}
+use Rattle.proof_frame.proofs.SpanLaws.{come_behind}
 use Rattle.markdown_blocks.proofs.SpelledLines.{read-fronts, read-tail}
-use Rattle.md_frame.proofs.ParagraphLines.{fronts-between}
-use Rattle.md_frame.proofs.Enters.{enters}
+use Rattle.proof_frame.proofs.ParagraphLines.{fronts-between}
+use Rattle.proof_frame.proofs.Enters.{enters}
 use Rattle.markdown_blocks.proofs.SpelledPaths.{close_containers-between}
-use Rattle.md_rows.proofs.Text.Cut.{IsCutText, between}
-use Rattle.md_rows.proofs.Text.Cut.IsCutText.{Defines, Follows, Remains}
-use Rattle.md_rows.proofs.Text.Cuts.{cut-is}
-use Rattle.md_rows.proofs.Text.Facts.{text-facts}
-use Rattle.md_rows.proofs.Text.Stands.{done-is}
-use Rattle.md_rows.proofs.Turned.Cut as headings
-use Rattle.md_rows.proofs.Turned.Cut.{IsCutHeading, heading-cut, left-remains}
-use Rattle.md_rows.proofs.Turned.Facts.{turned-block, turned-facts}
+use Rattle.proof_rows.proofs.Text.Cut.{IsCutText, between}
+use Rattle.proof_rows.proofs.Text.Cut.IsCutText.{Defines, Follows, Remains}
+use Rattle.proof_rows.proofs.Text.Cuts.{cut-is}
+use Rattle.proof_rows.proofs.Text.Facts.{text-facts}
+use Rattle.proof_rows.proofs.Text.Stands.{done-is}
+use Rattle.proof_rows.proofs.Turned.Cut as headings
+use Rattle.proof_rows.proofs.Turned.Cut.{IsCutHeading, heading-cut, left-remains}
+use Rattle.proof_rows.proofs.Turned.Facts.{turned-block, turned-facts}
 
 -- Events in which these labels are, and those once their texts are read: read between blocks, they show blocks with
 -- these labels.

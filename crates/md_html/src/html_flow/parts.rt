@@ -10,7 +10,7 @@ ghost use Rattle.md_html.specs.Html.{data_ended, cdata_byte, cleared, ends_in_fr
 ghost use Rattle.md_html.specs.Html.{name_here, sees_letter, sees_tag_byte, shut, stop_byte, stop_of, takes_as};
 ghost use Rattle.md_html.specs.Html.{turns_as};
 ghost use Rattle.md_meaning.specs.Html.{begins_attribute, is_attribute_byte, is_tag_byte, is_value_byte};
-ghost use Rattle.md_seam.specs.Transition.{taken};
+ghost use Rattle.md_events.specs.Transition.{taken};
 
 use md_engine::event::Name;
 use md_engine::or_error;

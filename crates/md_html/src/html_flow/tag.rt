@@ -12,7 +12,7 @@ ghost use Rattle.md_html.specs.Html.{complete_attribute_value_quoted_after_trans
 ghost use Rattle.md_html.specs.Html.{complete_attribute_value_quoted_transition};
 ghost use Rattle.md_html.specs.Html.{complete_attribute_value_unquoted_transition};
 ghost use Rattle.md_html.specs.Html.{complete_closing_tag_after_transition};
-ghost use Rattle.md_seam.specs.Transition.{IsAt};
+ghost use Rattle.md_events.specs.Transition.{IsAt};
 
 use crate::html_flow::parts::{
     begin_here, begins_attribute, clear_to, is_attribute_byte, is_value_byte, marked, refuse,
@@ -21,7 +21,7 @@ use crate::html_flow::parts::{
 use md_engine::state::html_flow::State as HtmlState;
 use md_engine::state::{Name as StateName, State};
 use md_engine::tokenizer::{HtmlKind, Tokenizer};
-use md_seam::space_or_tab::is_space_or_tab;
+use md_events::space_or_tab::is_space_or_tab;
 
 /// After the name of a closing tag.
 ///

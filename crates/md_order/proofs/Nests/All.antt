@@ -7,7 +7,7 @@ use Rattle.md_containers.specs.Listed.{listed}
 use Rattle.md_containers.proofs.ListedNests.{listed-nested}
 use Rattle.md_leaves.specs.HeadingText.{headings_resolved}
 use Rattle.md_leaves.specs.Turned.{turned}
-use Rattle.md_seam.specs.Events.Nested.{Nested, around, pair}
+use Rattle.md_events.specs.Events.Nested.{Nested, around, pair}
 use Rattle.md_tables.specs.Tabled.{tabled}
 use Rattle.md_order.specs.declared.wanted.Wanted.{Wanted}
 use Rattle.md_order.specs.HeadingsNest.{HeadingsNest}

@@ -8,8 +8,8 @@ use Rattle.md_engine.specs.declared.event.Kind.TheVariants.{Enter, Exit}
 use Rattle.md_engine.specs.declared.event.Name.{Name}
 use Rattle.md_engine.specs.declared.event.Name.TheVariants as n
 use Rattle.md_engine.specs.declared.event.Point.{Point}
-use Rattle.md_seam.specs.Events.Nested.{Fits, enter, exit, is_enter, is_exit, open_behind}
-use Rattle.md_seam.proofs.NestedLemmas.{at_or_before-refl}
+use Rattle.md_events.specs.Events.Nested.{Fits, enter, exit, is_enter, is_exit, open_behind}
+use Rattle.md_events.proofs.NestedLemmas.{at_or_before-refl}
 use Rattle.md_tables.specs.Cells.{Step, begins_divider, begins_inner, cell_name, divider_step, ends_divider, ends_inner}
 use Rattle.md_tables.specs.Cells.{ends_with, first_is, front_step, gap_step, goes_on, inner_name, inner_step}
 use Rattle.md_tables.specs.Cells.{inside_step, is_divider, is_inner, is_last, is_white, last_step, passed, piece_step}

@@ -10,10 +10,10 @@ use Rattle.md_engine.specs.declared.event.Point.{Point}
 use Rattle.md_leaves.specs.HeadingText.{Opened, Outside, Place, Within, begins, ends, headings_resolved, is_heading}
 use Rattle.md_leaves.specs.HeadingText.{is_run, is_sequence, resolved, text_between}
 use Rattle.md_leaves.specs.HeadingText as text
-use Rattle.md_seam.specs.Events.Nested.{Fits, Nested, around, is_enter, is_exit, open_behind, pair}
-use Rattle.md_seam.specs.Events.Places.{first_point}
-use Rattle.md_seam.specs.Events.Tiles.{is_data}
-use Rattle.md_seam.proofs.NestedLemmas.{at_or_before-refl, at_or_before-trans}
+use Rattle.md_events.specs.Events.Nested.{Fits, Nested, around, is_enter, is_exit, open_behind, pair}
+use Rattle.md_events.specs.Events.Places.{first_point}
+use Rattle.md_events.specs.Events.Tiles.{is_data}
+use Rattle.md_events.proofs.NestedLemmas.{at_or_before-refl, at_or_before-trans}
 use Rattle.md_order.specs.HeadingsNest.{HeadingsNest, RunsStand}
 use Rattle.md_order.proofs.Nests.Leads.{Before, Leads, Under, alone-begun, alone-ended, behind-under, fits-inside}
 use Rattle.md_order.proofs.Nests.Leads.{leads-append, leads-event, leads-from, leads-none, leads-order, leads-under}

@@ -6,11 +6,11 @@ use Rattle.md_engine.specs.declared.event.Kind.{Kind}
 use Rattle.md_engine.specs.declared.event.Kind.TheVariants.{Enter, Exit}
 use Rattle.md_engine.specs.declared.event.Name.{Name}
 use Rattle.md_engine.specs.declared.event.Point.{Point}
-use Rattle.md_seam.specs.Events.Nested.{Fits, Forward, Matches, Nested, last_point, open_after, open_behind}
-use Rattle.md_seam.specs.Events.Places.{at_or_before, first_point}
-use Rattle.md_seam.proofs.NestedLemmas.{at_or_before-refl, at_or_before-trans, forward-append, forward-from}
-use Rattle.md_seam.proofs.NestedLemmas.{forward-last, last_point-append, matches-append, matches-under}
-use Rattle.md_seam.proofs.NestedLemmas.{open_after-append, open_after-under}
+use Rattle.md_events.specs.Events.Nested.{Fits, Forward, Matches, Nested, last_point, open_after, open_behind}
+use Rattle.md_events.specs.Events.Places.{at_or_before, first_point}
+use Rattle.md_events.proofs.NestedLemmas.{at_or_before-refl, at_or_before-trans, forward-append, forward-from}
+use Rattle.md_events.proofs.NestedLemmas.{forward-last, last_point-append, matches-append, matches-under}
+use Rattle.md_events.proofs.NestedLemmas.{open_after-append, open_after-under}
 use Rattle.md_order.specs.HeadingsNest.{StandsAlone}
 
 -- one point is not after another

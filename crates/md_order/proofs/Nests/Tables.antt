@@ -8,9 +8,9 @@ use Rattle.md_engine.specs.declared.event.Kind.TheVariants.{Enter, Exit}
 use Rattle.md_engine.specs.declared.event.Name.{Name}
 use Rattle.md_engine.specs.declared.event.Name.TheVariants as n
 use Rattle.md_engine.specs.declared.event.Point.{Point}
-use Rattle.md_seam.specs.Events.Nested.{Fits, Nested, around, enter, exit, is_enter, is_exit, open_behind, pair}
-use Rattle.md_seam.specs.Events.Places.{first_point}
-use Rattle.md_seam.proofs.NestedLemmas.{at_or_before-refl}
+use Rattle.md_events.specs.Events.Nested.{Fits, Nested, around, enter, exit, is_enter, is_exit, open_behind, pair}
+use Rattle.md_events.specs.Events.Places.{first_point}
+use Rattle.md_events.proofs.NestedLemmas.{at_or_before-refl}
 use Rattle.md_tables.specs.Cells.{Step, begins_row, ends_row, ends_with, inside_step, is_row, row_kind, step}
 use Rattle.md_tables.specs.Heads.{is_table}
 use Rattle.md_tables.specs.TableLines.{row_name}

@@ -14,9 +14,9 @@ use Rattle.md_engine.specs.declared.event.Point.{Point}
 use Rattle.md_leaves.specs.Turned.{BeginsText, EndsText, EndsUnderline, Stays, Turn, given_by, is_paragraph, is_turned}
 use Rattle.md_leaves.specs.Turned.{is_underline, on_after, turn, turned, turned_from}
 use Rattle.md_leaves.proofs.TurnedLemmas.{passes-given}
-use Rattle.md_seam.specs.Events.Nested.{Forward, Matches, Nested, around, open_after, pair}
-use Rattle.md_seam.specs.Events.Places.{at_or_before, first_point}
-use Rattle.md_seam.proofs.NestedLemmas.{at_or_before-refl}
+use Rattle.md_events.specs.Events.Nested.{Forward, Matches, Nested, around, open_after, pair}
+use Rattle.md_events.specs.Events.Places.{at_or_before, first_point}
+use Rattle.md_events.proofs.NestedLemmas.{at_or_before-refl}
 use Rattle.md_order.specs.TurnsNest.{Apart, Between, InText, InUnderline, IsOther, MayStandAt, Spot, TurnsNest}
 use Rattle.md_order.specs.TurnsNest.{TurnsNestFrom, spot_by}
 

@@ -4,7 +4,7 @@
 ghost use Rattle.std.specs.Prelude.{◌≡◌, None, Some, false};
 ghost use Rattle.md_meaning.specs.Alert.{first_kind, has_marker, kinds, marker_of};
 ghost use Rattle.md_meaning.specs.Outline.{entries_of};
-ghost use Rattle.md_seam.specs.Events.Spelled as spelled;
+ghost use Rattle.md_events.specs.Events.Spelled as spelled;
 ghost use Rattle.md_outline.specs.AlertState.{alert_word, kind_given};
 
 use crate::outline::lines::{first_of, part};

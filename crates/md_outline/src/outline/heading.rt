@@ -2,7 +2,7 @@
 
 ghost use Rattle.std.specs.Prelude.{◌≡◌, ◌++◌, length, OnOk};
 ghost use Rattle.md_meaning.specs.Outline.{entries_of};
-ghost use Rattle.md_seam.specs.Events.Spelled.{with_text};
+ghost use Rattle.md_events.specs.Events.Spelled.{with_text};
 ghost use Rattle.md_outline.specs.HeadingState.{heading_entries, heading_of, with_markers};
 
 use crate::outline::lines::{next, push, push_text};

@@ -6,7 +6,7 @@ ghost use Rattle.std.specs.Prelude.{◌≡◌, ◌+◌, ◌∷◌, [], ◌++◌,
 ghost use Rattle.std.specs.Str.{IsUtf8};
 ghost use Rattle.md_meaning.specs.Outline.{entries_of, entry, entry_with};
 ghost use Rattle.md_meaning.specs.declared.outline.Word.TheVariants as word;
-ghost use Rattle.md_seam.specs.Events.Spelled as spelled;
+ghost use Rattle.md_events.specs.Events.Spelled as spelled;
 ghost use Rattle.md_outline.specs.LinedState.{begin_lines, closed_word, filled_line, form_of, has_own_lines};
 ghost use Rattle.md_outline.specs.LinedState.{is_heading, marked_word, spaces_of, with_head, without_end};
 

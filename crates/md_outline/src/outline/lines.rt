@@ -6,7 +6,7 @@ ghost use Rattle.std.specs.Str.{IsUtf8};
 ghost use Rattle.md_meaning.specs.Outline.{entries_of, entry_with};
 ghost use Rattle.md_meaning.specs.Rest.{is_white, trim, trim_start};
 ghost use Rattle.md_meaning.specs.Texts.{first_byte, split_lines, trim_each};
-ghost use Rattle.md_seam.specs.Events.Places.{last_line};
+ghost use Rattle.md_events.specs.Events.Places.{last_line};
 ghost use Rattle.md_outline.specs.TextLines.{after_ending, first_as, first_full_as, full_as, line_len, lines_as};
 ghost use Rattle.md_outline.specs.TextLines.{text_entries};
 

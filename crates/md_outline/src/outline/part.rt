@@ -2,7 +2,7 @@
 
 ghost use Rattle.std.specs.Prelude.{◌≡◌, ◌<◌, ◌≤◌, [], length, take};
 ghost use Rattle.md_outline.specs.CountOpen.{begun};
-ghost use Rattle.md_seam.specs.Events.Nested.{Balanced, open_after};
+ghost use Rattle.md_events.specs.Events.Nested.{Balanced, open_after};
 
 use md_engine::event::{Event, Kind};
 

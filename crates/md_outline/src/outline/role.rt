@@ -3,7 +3,7 @@
 ghost use Rattle.std.specs.Prelude.{◌≡◌, ◌++◌, OnOk};
 ghost use Rattle.std.specs.Str.{IsUtf8};
 ghost use Rattle.md_meaning.specs.Outline.{entries_of};
-ghost use Rattle.md_seam.specs.Events.Spelled as spelled;
+ghost use Rattle.md_events.specs.Events.Spelled as spelled;
 ghost use Rattle.md_outline.specs.Roles.{leaf_entries, leaf_of, noted, shown_as};
 
 use crate::outline::heading::{Heading, push_heading};

@@ -8,10 +8,10 @@ use Rattle.md_engine.proofs.Points.{cells-fall}
 use Rattle.md_engine.proofs.StayLemmas.{seen-inside}
 use Rattle.md_containers.specs.Quote.{may_begin}
 use Rattle.md_containers.proofs.QuotePrefix.{HasQuote, prefix-run}
-use Rattle.md_seam.specs.Look.{behind_code, first_behind, looks_behind, may_with}
-use Rattle.md_seam.specs.Spaces.{ends_line}
-use Rattle.md_seam.specs.Transition.{Transition}
-use Rattle.md_container_rooms.specs.Containers.BlockQuote.{quote_rules}
+use Rattle.md_events.specs.Look.{behind_code, first_behind, looks_behind, may_with}
+use Rattle.md_events.specs.Spaces.{ends_line}
+use Rattle.md_events.specs.Transition.{Transition}
+use Rattle.proof_container_laws.specs.Containers.BlockQuote.{quote_rules}
 use Rattle.md_registry.specs.States.{FlowStep}
 use Rattle.md_registry.proofs.PlainLaws.{PlainLaws, others}
 

@@ -7,9 +7,9 @@ use Rattle.md_code.specs.FenceRule.{before_info, before_meta, before_sequence, b
 use Rattle.md_code.specs.FenceRule.{behind_white_of, fence_at, in_info, in_meta, in_sequence, is_end, is_line, is_word}
 use Rattle.md_code.specs.FenceRule.{run_has, run_rest, run_size}
 use Rattle.md_meaning.specs.Leaves.{is_fence_marker, least_size}
-use Rattle.md_seam.specs.Ahead.{begins_white, white_rest}
-use Rattle.md_seam.specs.Spaces.{IsRest, any_size, calmed, small_indent}
-use Rattle.md_frame.specs.LeafName.{Fence}
+use Rattle.md_events.specs.Ahead.{begins_white, white_rest}
+use Rattle.md_events.specs.Spaces.{IsRest, any_size, calmed, small_indent}
+use Rattle.proof_frame.specs.LeafName.{Fence}
 use Rattle.md_registry.proofs.LeafRests.{Rests, RestsAfter, cond-rests}
 use Rattle.std.specs.Prelude.{nat_lt, ◌+◌, ◌==◌}
 

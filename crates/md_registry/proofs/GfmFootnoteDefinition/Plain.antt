@@ -1,5 +1,5 @@
 -- The indent of a footnote definition on a further line, taken at once, is what the states of an item take.
-use Rattle.md_container_rooms.specs.Containers.GfmFootnoteDefinition.{footnote_rules}
+use Rattle.proof_container_laws.specs.Containers.GfmFootnoteDefinition.{footnote_rules}
 use Rattle.md_registry.proofs.ListItem.Plain.{item-plain}
 use Rattle.md_registry.proofs.PlainLaws.{PlainLaws}
 

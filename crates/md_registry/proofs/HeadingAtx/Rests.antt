@@ -4,9 +4,9 @@ use Rattle.std.specs.Prelude.{◌==◌}
 use Rattle.md_engine.specs.Meaning.{Cell, Here}
 use Rattle.md_leaves.specs.HeadingRule.{at_break, before_opening, behind_opening, in_hashes, in_text, is_heading}
 use Rattle.md_leaves.specs.LeafStart.{start_at}
-use Rattle.md_seam.specs.Ahead.{begins_white, line_bytes, white_rest}
-use Rattle.md_seam.specs.Spaces.{IsRest, any_size, calmed, small_indent}
-use Rattle.md_frame.specs.LeafName.{HeadingAtx}
+use Rattle.md_events.specs.Ahead.{begins_white, line_bytes, white_rest}
+use Rattle.md_events.specs.Spaces.{IsRest, any_size, calmed, small_indent}
+use Rattle.proof_frame.specs.LeafName.{HeadingAtx}
 use Rattle.md_registry.proofs.LeafRests.{Rests, RestsAfter, cond-rests}
 
 break : (cells : List Cell) (h : Here) → IsRest h.scratch → RestsAfter (at_break cells h)

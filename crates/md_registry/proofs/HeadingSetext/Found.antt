@@ -18,16 +18,16 @@ use Rattle.md_leaves.specs.HeadingRule.{is_heading}
 use Rattle.md_leaves.specs.HeadingSetext.{is_marker, is_text, may_turn}
 use Rattle.md_leaves.specs.HeadingSetextRule.{is_run, is_underline}
 use Rattle.md_leaves.proofs.TitleTexts.{front-stops}
-use Rattle.md_literal_rooms.specs.Leaf.CodeIndented.{code_leaf}
-use Rattle.md_literal_rooms.specs.Leaf.Fence.{fence_leaf}
-use Rattle.md_leaf_rooms.specs.Leaf.HeadingAtx.{heading_leaf}
-use Rattle.md_leaf_rooms.specs.Leaf.HeadingSetext.{depth_of, setext_leaf}
-use Rattle.md_literal_rooms.specs.Leaf.HtmlFlow.{html_leaf}
-use Rattle.md_literal_rooms.proofs.Fence.Opened.{fence-starts}
-use Rattle.md_leaf_rooms.proofs.HeadingAtx.Cells.{heading-other}
-use Rattle.md_leaf_rooms.proofs.HeadingSetext.Kinds.{Underlines, underline-first, run-one, run-other, setext-starts}
-use Rattle.md_leaf_rooms.proofs.HeadingSetext.Trimmed.{trim-more}
-use Rattle.md_literal_rooms.proofs.HtmlFlow.Found.{html-first}
+use Rattle.proof_literal_laws.specs.Leaf.CodeIndented.{code_leaf}
+use Rattle.proof_literal_laws.specs.Leaf.Fence.{fence_leaf}
+use Rattle.proof_leaf_laws.specs.Leaf.HeadingAtx.{heading_leaf}
+use Rattle.proof_leaf_laws.specs.Leaf.HeadingSetext.{depth_of, setext_leaf}
+use Rattle.proof_literal_laws.specs.Leaf.HtmlFlow.{html_leaf}
+use Rattle.proof_literal_laws.proofs.Fence.Opened.{fence-starts}
+use Rattle.proof_leaf_laws.proofs.HeadingAtx.Cells.{heading-other}
+use Rattle.proof_leaf_laws.proofs.HeadingSetext.Kinds.{Underlines, underline-first, run-one, run-other, setext-starts}
+use Rattle.proof_leaf_laws.proofs.HeadingSetext.Trimmed.{trim-more}
+use Rattle.proof_literal_laws.proofs.HtmlFlow.Found.{html-first}
 
 -- Its depth.
 

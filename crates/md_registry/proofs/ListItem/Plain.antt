@@ -9,10 +9,10 @@ use Rattle.md_engine.proofs.Loops.{CameTo}
 use Rattle.md_containers.specs.Item.{at_least_one, least_width}
 use Rattle.md_containers.specs.PlainItem.{IsPlainIndent, indented}
 use Rattle.md_containers.proofs.PlainItem.{HasItem, indent-run, space-seen, spaces-fall, spaces-index}
-use Rattle.md_seam.specs.Look.{looks_behind, may_with}
-use Rattle.md_seam.specs.Spaces.{ends_line}
-use Rattle.md_seam.specs.Transition.{Transition}
-use Rattle.md_container_rooms.specs.Containers.ListItem.{item_rules}
+use Rattle.md_events.specs.Look.{looks_behind, may_with}
+use Rattle.md_events.specs.Spaces.{ends_line}
+use Rattle.md_events.specs.Transition.{Transition}
+use Rattle.proof_container_laws.specs.Containers.ListItem.{item_rules}
 use Rattle.md_registry.specs.States.{FlowStep}
 use Rattle.md_registry.proofs.PlainLaws.{PlainLaws, others}
 

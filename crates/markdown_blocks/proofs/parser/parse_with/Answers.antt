@@ -3,8 +3,8 @@ use Rattle.std.specs.Str.{IsUtf8}
 use Rattle.md_engine.specs.Found.{found_in}
 use Rattle.md_engine.specs.World.{Setting, world}
 use Rattle.md_engine.specs.declared.parse_state.ParseState.{ParseState}
-use Rattle.md_seam.specs.TextPart.{document_of}
-use Rattle.md_container_rooms.specs.Footnotes.{footnotes_listed}
+use Rattle.md_events.specs.TextPart.{document_of}
+use Rattle.proof_container_laws.specs.Footnotes.{footnotes_listed}
 use Rattle.markdown_blocks.specs.Parsed.{IsRead}
 use Rattle.markdown_blocks.proofs.ReadsWith.{IsAhead, parts-asked, reads-with}
 use Rattle.markdown_blocks.proofs.parser.parse_with.Given.{Over}

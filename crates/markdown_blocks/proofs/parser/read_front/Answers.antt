@@ -1,6 +1,6 @@
 use Rattle.std.proofs.Common.{arith, refl}
 use Rattle.markdown_blocks.proofs.DocumentReads.{document-reads-from}
-use Rattle.md_front_rooms.proofs.MarkLemmas.{placed-first}
+use Rattle.proof_leaf_laws.proofs.MarkLemmas.{placed-first}
 use Rattle.markdown_blocks.proofs.parser.read_front.Goals as goal
 
 pub new-tokenizer-requires : goal.new-tokenizer-requires

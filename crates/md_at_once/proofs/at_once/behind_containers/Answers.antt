@@ -12,7 +12,7 @@ use Rattle.md_engine.specs.declared.state.flow.State.TheVariants as flow
 use Rattle.md_engine.specs.declared.state.Name.TheVariants as n
 use Rattle.md_engine.proofs.Loops.{CameHere, CameTo, came-first}
 use Rattle.md_engine.proofs.StayLemmas.{within-world}
-use Rattle.md_seam.specs.Spaces.{ends_line}
+use Rattle.md_events.specs.Spaces.{ends_line}
 use Rattle.md_registry.specs.LineFlags.{begun_line, blanked}
 use Rattle.md_registry.specs.States.{FlowStep}
 use Rattle.md_registry.proofs.LinesAtOnce.{ends-with, line-begun, line-blank, line-front, line-leaves}

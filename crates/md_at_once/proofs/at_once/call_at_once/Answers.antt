@@ -4,7 +4,7 @@ use Rattle.md_engine.specs.declared.state.State.TheVariants.{Error}
 use Rattle.md_engine.specs.Run.{RunsHere}
 use Rattle.md_engine.specs.World.{world}
 use Rattle.md_engine.proofs.StayLemmas.{within-world}
-use Rattle.md_seam.specs.Transition.{Transition}
+use Rattle.md_events.specs.Transition.{Transition}
 use Rattle.md_registry.specs.Registry.{construct_transition}
 use Rattle.md_registry.specs.States.{FlowStep, flow_transition}
 use Rattle.md_registry.proofs.FlowCalls.{called-once, flow-constructs}

@@ -4,8 +4,8 @@ use Rattle.md_engine.specs.declared.state.Name.TheVariants as n
 use Rattle.md_engine.specs.declared.state.State.{State}
 use Rattle.md_engine.specs.World.{World, world}
 use Rattle.md_engine.proofs.Walks.{runs-in}
-use Rattle.md_seam.specs.Spaces.{WhiteStep}
-use Rattle.md_seam.specs.Transition.{Transition}
+use Rattle.md_events.specs.Spaces.{WhiteStep}
+use Rattle.md_events.specs.Transition.{Transition}
 use Rattle.md_registry.specs.States.{FlowStep}
 use Rattle.md_at_once.proofs.at_once.call_white.Goals as goal
 

@@ -13,7 +13,7 @@ use Rattle.md_engine.specs.declared.state.Name.TheVariants as n
 use Rattle.md_engine.specs.declared.tokenizer.container.name.ContainerKind.{ContainerKind}
 use Rattle.md_engine.proofs.Loops.{CameHere, CameTo, came-first}
 use Rattle.md_engine.proofs.StayLemmas.{within-world}
-use Rattle.md_seam.specs.Transition.{Transition}
+use Rattle.md_events.specs.Transition.{Transition}
 use Rattle.md_registry.specs.AtOnce.{openers_passed}
 use Rattle.md_registry.specs.Registry.{asked_first, opener_at, opener_front, openers}
 use Rattle.md_registry.specs.States.{FlowStep}

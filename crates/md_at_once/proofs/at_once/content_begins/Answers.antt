@@ -8,7 +8,7 @@ use Rattle.md_engine.specs.declared.state.flow.State.TheVariants as flow
 use Rattle.md_engine.specs.declared.stay.Stay.TheVariants.{Line}
 use Rattle.md_engine.specs.declared.tokenizer.Tokenizer.{Tokenizer}
 use Rattle.md_engine.proofs.StayLemmas.{some-setting, within-world}
-use Rattle.md_seam.specs.Lent.{whole_from}
+use Rattle.md_events.specs.Lent.{whole_from}
 use Rattle.md_registry.proofs.LinesAtOnce.{leaves-once}
 use Rattle.md_at_once.specs.AtOnce.{line_added, line_tried}
 use Rattle.md_at_once.proofs.ContentLines.{content-ends, content-waits, some-order}

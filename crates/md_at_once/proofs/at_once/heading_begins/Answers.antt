@@ -12,7 +12,7 @@ use Rattle.md_engine.proofs.Walks.{Within, runs-in}
 use Rattle.md_leaves.specs.Heading as heading
 use Rattle.md_leaves.specs.HeadingCalls.{HeadingStep}
 use Rattle.md_leaves.specs.LeafStart as leaf_start
-use Rattle.md_seam.specs.Spaces.{sees_white}
+use Rattle.md_events.specs.Spaces.{sees_white}
 use Rattle.md_registry.specs.States.{FlowStep}
 use Rattle.md_registry.proofs.HeadingAtx.Calls.{heading-flows}
 use Rattle.md_registry.proofs.LinesAtOnce.{Goes, Leaves, goes-through, leaves-once}

@@ -1,7 +1,7 @@
 use Rattle.std.proofs.Common.{◌∙◌, ap₂, arith}
 use Rattle.std.specs.Prelude.{slice_range}
 use Rattle.md_content.specs.Chunks.{begun}
-use Rattle.md_seam.proofs.LineTaken.{placed-within, taken-slice}
+use Rattle.md_events.proofs.LineTaken.{placed-within, taken-slice}
 use Rattle.md_at_once.proofs.at_once.line_from.Goals as goal
 
 pub slice_bounds-result-end : goal.slice_bounds-result-end

@@ -6,7 +6,7 @@ use Rattle.md_engine.specs.declared.state.Name.TheVariants as n
 use Rattle.md_engine.specs.declared.state.State.TheVariants.{Error, Next}
 use Rattle.md_engine.proofs.Loops.{CameHere}
 use Rattle.md_engine.proofs.StayLemmas.{within-world}
-use Rattle.md_seam.specs.Spaces.{ends_line}
+use Rattle.md_events.specs.Spaces.{ends_line}
 use Rattle.md_registry.specs.States.{FlowStep}
 use Rattle.md_registry.proofs.LinesAtOnce.{ends-behind, leaves-once}
 use Rattle.md_at_once.proofs.HtmlLines.{close-leaves, close-takes}

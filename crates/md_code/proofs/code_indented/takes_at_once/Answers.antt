@@ -5,8 +5,8 @@ use Rattle.md_engine.specs.declared.state.code_indented.State.TheVariants as its
 use Rattle.md_engine.specs.declared.stay.Stay.TheVariants.{Byte, Line}
 use Rattle.md_code.specs.Code.{code_transition, further_inside_code, inside_blank_code, inside_code}
 use Rattle.md_meaning.specs.Rest.{is_white}
-use Rattle.md_seam.specs.Spaces.{ends_line, sees_white}
-use Rattle.md_seam.specs.Stays.{TakesEach}
+use Rattle.md_events.specs.Spaces.{ends_line, sees_white}
+use Rattle.md_events.specs.Stays.{TakesEach}
 use Rattle.md_code.proofs.code_indented.takes_at_once.Goals as goal
 
 -- the spaces at the front of a chunk are taken,

@@ -2,8 +2,8 @@ use Rattle.std.proofs.Common.{◌≡◌, ℕ, zero, suc, ◌<◌, ◌∙◌, ap,
 use Rattle.md_engine.specs.World.{World, world}
 use Rattle.md_engine.specs.declared.state.list_item.State.TheVariants as its
 use Rattle.md_containers.specs.Item.{cont_filled_code, indent_code, inside_transition, least_width}
-use Rattle.md_seam.specs.Spaces.{sees_white}
-use Rattle.md_seam.specs.Transition.{Transition}
+use Rattle.md_events.specs.Spaces.{sees_white}
+use Rattle.md_events.specs.Transition.{Transition}
 use Rattle.md_containers.proofs.ItemMeaning.{item_rule}
 use Rattle.md_containers.proofs.list_item.cont_filled.Goals as goal
 

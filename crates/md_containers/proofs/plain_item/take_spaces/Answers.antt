@@ -2,7 +2,7 @@ use Rattle.std.proofs.Common.{◌≡◌, ◌+◌, ℕ, suc, ap, arith, length, r
 use Rattle.md_engine.specs.Staying.{along}
 use Rattle.md_engine.specs.World.{World, world}
 use Rattle.md_containers.specs.PlainItem.{moved}
-use Rattle.md_seam.specs.Transition.{taken}
+use Rattle.md_events.specs.Transition.{taken}
 use Rattle.md_containers.proofs.PlainItem.{moved-more, spaces-index}
 use Rattle.md_containers.proofs.plain_item.take_spaces.Goals as goal
 

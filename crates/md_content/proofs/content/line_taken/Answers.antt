@@ -1,6 +1,6 @@
 use Rattle.std.proofs.Common.{◌∙◌, ap, arith, length}
 use Rattle.std.specs.Prelude.{slice_range}
-use Rattle.md_seam.proofs.LineTaken.{slice-bound, taken-slice}
+use Rattle.md_events.proofs.LineTaken.{slice-bound, taken-slice}
 use Rattle.md_content.proofs.content.line_taken.Goals as goal
 
 pub returns-clause-value : goal.returns-clause-value

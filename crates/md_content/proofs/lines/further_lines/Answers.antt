@@ -14,9 +14,9 @@ use Rattle.md_content.proofs.ParagraphLines.{counts-more, ended-lines, last-belo
 use Rattle.md_content.proofs.ParagraphLines.{paragraph-found, two-first, whole-last, whole-more}
 use Rattle.md_content.proofs.lines.further_lines.Goals as goal
 use Rattle.md_content.proofs.lines.further_lines.Goals.{else-more-gt0, then-more-gt0}
-use Rattle.md_seam.specs.declared.inline.Chunk.{Chunk}
-use Rattle.md_seam.specs.Parts.{IsChunk}
-use Rattle.md_seam.specs.Substituted.{chunk_of}
+use Rattle.md_events.specs.declared.inline.Chunk.{Chunk}
+use Rattle.md_events.specs.Parts.{IsChunk}
+use Rattle.md_events.specs.Substituted.{chunk_of}
 
 -- what indexing gives past the end of a list
 abbrev unset : Event

@@ -8,7 +8,7 @@ use Rattle.md_engine.specs.declared.event.Name.TheVariants.{Frontmatter}
 use Rattle.md_content.specs.Joined.{is_of_prefix}
 use Rattle.md_content.proofs.JoinedLemmas.{goes-none, goes-some, to-end}
 use Rattle.md_content.proofs.lines.goes_on.Goals as goal
-use Rattle.md_seam.specs.Events.Inline.{is_line_ending}
+use Rattle.md_events.specs.Events.Inline.{is_line_ending}
 
 -- what indexing gives past the end of a list
 abbrev unset : Event

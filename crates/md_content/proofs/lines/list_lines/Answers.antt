@@ -9,7 +9,7 @@ use Rattle.md_content.specs.Lines.{begins_chunk}
 use Rattle.md_content.proofs.JoinedLemmas.{to-end}
 use Rattle.md_content.proofs.LinesLemmas.{lines-end, lines-more, lines-past, lines-stop}
 use Rattle.md_content.proofs.lines.list_lines.Goals as goal
-use Rattle.md_seam.specs.declared.inline.Chunk.{Chunk}
+use Rattle.md_events.specs.declared.inline.Chunk.{Chunk}
 
 -- what indexing gives past the end of a list
 abbrev unset : Event

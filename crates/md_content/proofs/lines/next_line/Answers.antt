@@ -8,8 +8,8 @@ use Rattle.md_content.specs.Joined.{ends_content}
 use Rattle.md_content.proofs.JoinedLemmas.{to-end}
 use Rattle.md_content.proofs.ParagraphLines.{joins-two}
 use Rattle.md_content.proofs.lines.next_line.Goals as goal
-use Rattle.md_seam.specs.Events.Inline.{is_line_ending}
-use Rattle.md_seam.specs.Substituted.{is_plain_prefix}
+use Rattle.md_events.specs.Events.Inline.{is_line_ending}
+use Rattle.md_events.specs.Substituted.{is_plain_prefix}
 
 -- what indexing gives past the end of a list
 abbrev unset : Event

@@ -7,7 +7,7 @@ use Rattle.md_engine.specs.declared.event.Kind.TheVariants.{Enter}
 use Rattle.md_engine.specs.declared.event.Name.TheVariants.{Frontmatter}
 use Rattle.md_content.proofs.LinesLemmas.{lines-placed}
 use Rattle.md_content.proofs.lines.or_read.Goals as goal
-use Rattle.md_seam.specs.Parts.{AreChunks}
+use Rattle.md_events.specs.Parts.{AreChunks}
 
 -- what indexing gives past the end of a list
 abbrev unset : Event

@@ -15,10 +15,10 @@ use Rattle.md_content.proofs.ParagraphLines.{HasFurther, begins, fewer-left, fur
 use Rattle.md_content.proofs.ParagraphLines.{given-more, has-further, paragraph-all, paragraph-first, paragraph-more}
 use Rattle.md_content.proofs.ParagraphLines.{unlinked-prefixes}
 use Rattle.md_content.proofs.lines.put_paragraph.Goals as goal
-use Rattle.md_seam.specs.declared.inline.Chunk.{Chunk}
-use Rattle.md_seam.specs.Events.Nested.{enter, exit}
-use Rattle.md_seam.specs.Rewritten.{given_of, held_of, left_of, written_of}
-use Rattle.md_seam.specs.Substituted.{is_plain_prefix}
+use Rattle.md_events.specs.declared.inline.Chunk.{Chunk}
+use Rattle.md_events.specs.Events.Nested.{enter, exit}
+use Rattle.md_events.specs.Rewritten.{given_of, held_of, left_of, written_of}
+use Rattle.md_events.specs.Substituted.{is_plain_prefix}
 
 -- what indexing gives past the end of a list
 abbrev unset : Event

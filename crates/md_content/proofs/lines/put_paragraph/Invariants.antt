@@ -4,7 +4,7 @@ use Rattle.md_engine.specs.declared.event.Event.{Event}
 use Rattle.md_content.specs.ParagraphLines.{IsParagraph, Reached}
 use Rattle.md_content.proofs.ParagraphLines.{Behind, HasFurther}
 use Rattle.md_content.proofs.lines.put_paragraph.Given as goal
-use Rattle.md_seam.specs.Rewritten.{given_of, held_of, left_of}
+use Rattle.md_events.specs.Rewritten.{given_of, held_of, left_of}
 
 abbrev pub invariant-loop-more : goal.invariant-loop-more
 invariant-loop-more l = record {

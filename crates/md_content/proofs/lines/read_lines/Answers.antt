@@ -15,10 +15,10 @@ use Rattle.md_content.specs.ParagraphLines.{IsParagraph, Reached}
 use Rattle.md_content.proofs.LinesLemmas.{leads-end, leads-line, leads-passed}
 use Rattle.md_content.proofs.ParagraphLines.{from-unbegun, no-chunks, to-unbegun}
 use Rattle.md_content.proofs.lines.read_lines.Goals as goal
-use Rattle.md_seam.specs.Parts.{ArePlaced}
-use Rattle.md_seam.specs.Rewritten.{given_of, held_of, left_of, written_of}
-use Rattle.md_seam.proofs.ReadingLemmas.{placed-place}
-use Rattle.md_seam.proofs.SubstitutedLemmas.{Leads, leads-all, leads-first}
+use Rattle.md_events.specs.Parts.{ArePlaced}
+use Rattle.md_events.specs.Rewritten.{given_of, held_of, left_of, written_of}
+use Rattle.md_events.proofs.ReadingLemmas.{placed-place}
+use Rattle.md_events.proofs.SubstitutedLemmas.{Leads, leads-all, leads-first}
 
 -- what indexing gives past the end of a list
 abbrev unset : Event

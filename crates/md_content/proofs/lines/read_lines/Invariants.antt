@@ -2,9 +2,9 @@ use Rattle.std.proofs.Common.{drop, length}
 use Rattle.md_content.specs.ContentReads.{content_readings, wants_content}
 use Rattle.md_content.specs.Joined.{joined}
 use Rattle.md_content.proofs.lines.read_lines.Given as goal
-use Rattle.md_seam.specs.Parts.{ArePlaced}
-use Rattle.md_seam.specs.Rewritten.{given_of, left_of}
-use Rattle.md_seam.proofs.SubstitutedLemmas.{Leads}
+use Rattle.md_events.specs.Parts.{ArePlaced}
+use Rattle.md_events.specs.Rewritten.{given_of, left_of}
+use Rattle.md_events.proofs.SubstitutedLemmas.{Leads}
 
 abbrev pub invariant-loop-event : goal.invariant-loop-event
 invariant-loop-event l = record {

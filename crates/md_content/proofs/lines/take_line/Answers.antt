@@ -9,9 +9,9 @@ use Rattle.md_content.proofs.LinesLemmas.{lines-split}
 use Rattle.md_content.proofs.ParagraphLines.{begins, last-next, last-none, last-some}
 use Rattle.md_content.proofs.lines.take_line.Goals as goal
 use Rattle.md_content.proofs.lines.take_line.Goals.{else-more-gt0, then-more-gt0}
-use Rattle.md_seam.specs.declared.inline.Chunk.{Chunk}
-use Rattle.md_seam.specs.Rewritten.{left_of}
-use Rattle.md_seam.specs.Substituted.{chunk_of}
+use Rattle.md_events.specs.declared.inline.Chunk.{Chunk}
+use Rattle.md_events.specs.Rewritten.{left_of}
+use Rattle.md_events.specs.Substituted.{chunk_of}
 
 -- what indexing gives past the end of a list
 abbrev unset : Event

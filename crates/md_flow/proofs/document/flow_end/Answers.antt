@@ -5,10 +5,10 @@ use Rattle.md_engine.specs.declared.event.Name.{Name}
 use Rattle.md_engine.specs.declared.state.document.State.TheVariants as document
 use Rattle.md_engine.specs.Place.{IsPlaced}
 use Rattle.md_engine.specs.World.{Setting, World, closed, world}
-use Rattle.md_seam.specs.Events.Nested.{enter, exit}
-use Rattle.md_seam.specs.Transition.{entered, exited, taken}
+use Rattle.md_events.specs.Events.Nested.{enter, exit}
+use Rattle.md_events.specs.Transition.{entered, exited, taken}
 use Rattle.md_registry.specs.Flow.{flow_end_code}
-use Rattle.md_frame.specs.EndingName.{ending_name}
+use Rattle.proof_frame.specs.EndingName.{ending_name}
 use Rattle.md_registry.specs.LineFlags.{next_line}
 use Rattle.md_registry.proofs.FlowSteps.{document_rule}
 use Rattle.md_flow.proofs.OnOk.{on-ok}

@@ -5,10 +5,10 @@ use Rattle.md_engine.specs.declared.state.Name.{Name as StateName}
 use Rattle.md_engine.specs.declared.state.Name.TheVariants as n
 use Rattle.md_engine.specs.declared.state.State.TheVariants.{Retry}
 use Rattle.md_engine.specs.declared.state.flow.State.{State as FlowState}
-use Rattle.md_frame.specs.LeafName.{LeafName}
-use Rattle.md_seam.specs.Look.{looks_behind, may_with}
-use Rattle.md_seam.specs.Spaces.{sees_white}
-use Rattle.md_seam.specs.Transition.{Transition}
+use Rattle.proof_frame.specs.LeafName.{LeafName}
+use Rattle.md_events.specs.Look.{looks_behind, may_with}
+use Rattle.md_events.specs.Spaces.{sees_white}
+use Rattle.md_events.specs.Transition.{Transition}
 use Rattle.md_registry.specs.Flow.{leaf_end, leaf_transition, trial_code}
 use Rattle.md_registry.specs.Registry.{leaf, next_of, tried_at}
 use Rattle.md_flow.proofs.flow.try_leaf.Goals as goal

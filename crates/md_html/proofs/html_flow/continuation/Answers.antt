@@ -7,7 +7,7 @@ use Rattle.md_html.specs.Html.{continuation_transition, moved, stop_move}
 use Rattle.md_html.specs.HtmlRule.{HtmlMeans}
 use Rattle.md_html.proofs.HtmlMeaning.{html_rule}
 use Rattle.md_html.proofs.html_flow.continuation.Goals as goal
-use Rattle.md_seam.specs.Transition.{Transition}
+use Rattle.md_events.specs.Transition.{Transition}
 
 -- at the byte with which an end may begin
 at-stop : (w : World) (b : ℕ) → w.current ≡ Some b → nat_eq b 10 ≡ false → b ≡ w.scratch.marker →

@@ -12,8 +12,8 @@ use Rattle.md_leaves.specs.Heading.{before_transition}
 use Rattle.md_leaves.specs.HeadingCalls.{HeadingStep}
 use Rattle.md_leaves.proofs.HeadingCalls.{ahead, before-remains, remains-of, sees-from, sequence-begins}
 use Rattle.md_leaves.proofs.HeadingCalls.{sequence-inside, sequence-taken, sequence-waits}
-use Rattle.md_seam.specs.Spaces.{is_current}
-use Rattle.md_seam.specs.Transition.{entered}
+use Rattle.md_events.specs.Spaces.{is_current}
+use Rattle.md_events.specs.Transition.{entered}
 use Rattle.md_leaves.proofs.heading_atx.opening.Goals as goal
 
 pub returns-then-not-begins_sequence-clause-runs : goal.returns-then-not-begins_sequence-clause-runs

@@ -12,8 +12,8 @@ use Rattle.md_engine.proofs.StayLemmas.{within-world}
 use Rattle.md_leaves.specs.Heading.{sees_text, sequence_open_transition}
 use Rattle.md_leaves.specs.HeadingCalls.{HeadingStep}
 use Rattle.md_leaves.proofs.HeadingCalls.{opening-ends, opening-remains, opening_ended, remains-of, sees-from}
-use Rattle.md_seam.specs.OneSpace.{IsOneSpace, spaced}
-use Rattle.md_seam.specs.Spaces.{is_current, sees_white}
+use Rattle.md_events.specs.OneSpace.{IsOneSpace, spaced}
+use Rattle.md_events.specs.Spaces.{is_current, sees_white}
 use Rattle.md_leaves.proofs.heading_atx.opens.Goals as goal
 
 on-ok : {T E : Type 0} → (x : Result T E) (P : Type 0) → is_ok x ≡ true → OnOk x P → P

@@ -11,7 +11,7 @@ use Rattle.md_leaves.specs.Heading.{at_break_transition, data_transition, sees_t
 use Rattle.md_leaves.specs.HeadingCalls.{HeadingStep, begins_text}
 use Rattle.md_leaves.proofs.HeadingCalls.{ahead, at_break-remains, at_text, begins-inside, data-remains, remains-of}
 use Rattle.md_leaves.proofs.HeadingCalls.{sees-from, text-begins, text-taken, text-waits}
-use Rattle.md_seam.specs.Spaces.{ends_line, is_current}
+use Rattle.md_events.specs.Spaces.{ends_line, is_current}
 use Rattle.md_leaves.proofs.heading_atx.text.Goals as goal
 
 pub returns-then-not-begins_text-clause-runs : goal.returns-then-not-begins_text-clause-runs

@@ -11,8 +11,8 @@ use Rattle.md_leaves.specs.HeadingRuns.{Apart, Hashes, White, goes_on, line_runs
 use Rattle.md_leaves.specs.OnLine.{IsOnLine}
 use Rattle.md_leaves.proofs.OnLine.{on-behind, on-front}
 use Rattle.md_leaves.proofs.RunsAdded.{none-left, run-parted, run-some}
-use Rattle.md_seam.specs.Events.Nested.{pair}
-use Rattle.md_seam.specs.Events.Places.{past_text}
+use Rattle.md_events.specs.Events.Nested.{pair}
+use Rattle.md_events.specs.Events.Places.{past_text}
 use Rattle.md_leaves.proofs.heading_text.add_runs.Goals as goal
 
 -- what is left of the piece lies on the line, in its first run and after that

@@ -15,9 +15,9 @@ use Rattle.md_leaves.proofs.OnLine.{on-behind}
 use Rattle.md_leaves.proofs.TextBegun.{first-placed, last-placed, text-on}
 use Rattle.md_meaning.specs.Leaves.{heading_text}
 use Rattle.md_meaning.specs.Lines.{without_ending}
-use Rattle.md_seam.specs.Events.Nested.{last_point}
-use Rattle.md_seam.specs.Events.Places.{past_text}
-use Rattle.md_seam.specs.WholeLine.{line_taken}
+use Rattle.md_events.specs.Events.Nested.{last_point}
+use Rattle.md_events.specs.Events.Places.{past_text}
+use Rattle.md_events.specs.WholeLine.{line_taken}
 use Rattle.md_leaves.proofs.heading_text.add_text.Goals as goal
 
 -- where the text began

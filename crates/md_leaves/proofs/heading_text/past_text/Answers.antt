@@ -3,7 +3,7 @@ use Rattle.std.proofs.lemmas.List.{at_drop_all, at_drop_more}
 use Rattle.md_leaves.specs.OnLine.{IsOnLine}
 use Rattle.md_leaves.proofs.OneLine.{past-plain}
 use Rattle.md_leaves.proofs.OnLine.{column-some, on-next, on-room}
-use Rattle.md_seam.specs.Events.Places.{past_text}
+use Rattle.md_events.specs.Events.Places.{past_text}
 use Rattle.md_leaves.proofs.heading_text.past_text.Goals as goal
 
 pub returns-then-not-has_tab : goal.returns-then-not-has_tab

@@ -1,6 +1,6 @@
 use Rattle.std.proofs.Common.{◌≡◌, drop}
 use Rattle.md_leaves.specs.OnLine.{IsOnLine}
-use Rattle.md_seam.specs.Events.Places.{past_text}
+use Rattle.md_events.specs.Events.Places.{past_text}
 use Rattle.md_leaves.proofs.heading_text.past_text.Given as goal
 
 abbrev pub invariant-loop-byte : goal.invariant-loop-byte

@@ -3,9 +3,9 @@ use Rattle.std.specs.Prelude.{slice_range}
 use Rattle.md_engine.specs.declared.tokenizer.Tokenizer.{Tokenizer}
 use Rattle.md_leaves.proofs.OneLine.{line-whole, one-line}
 use Rattle.md_meaning.specs.Lines.{without_ending}
-use Rattle.md_seam.specs.Lent.{whole_from}
-use Rattle.md_seam.specs.WholeLine.{line_taken}
-use Rattle.md_seam.proofs.LineTaken.{taken-slice}
+use Rattle.md_events.specs.Lent.{whole_from}
+use Rattle.md_events.specs.WholeLine.{line_taken}
+use Rattle.md_events.proofs.LineTaken.{taken-slice}
 use Rattle.md_leaves.proofs.heading_text.text_taken.Goals as goal
 
 taken-is : (t : Tokenizer) (line : List ℕ) (to : ℕ) → line ≡ slice_range t.bytes.now t.scratch.start to →

@@ -6,8 +6,8 @@ use Rattle.md_leaves.specs.declared.spans.Walk.{Walk}
 use Rattle.md_leaves.specs.Spanned.{given, goes_on, passes_on, spanned, spanned_from, turn}
 use Rattle.md_leaves.specs.SpannedWalk.{given_of, passing, rest_of}
 use Rattle.md_leaves.specs.Turned.{HoldNoUnderline, is_underline}
-use Rattle.md_seam.specs.Rewritten.{held_of, left_of, written_of}
-use Rattle.md_seam.specs.Parts.{ArePlaced}
+use Rattle.md_events.specs.Rewritten.{held_of, left_of, written_of}
+use Rattle.md_events.specs.Parts.{ArePlaced}
 use Rattle.md_leaves.proofs.SpannedLemmas.{passing-on, plain-append, plain-given, plain-passed, spanned-placed}
 use Rattle.md_leaves.proofs.SpannedLemmas.{spanned-some, walk-done, walk-passed, walk-stepped}
 use Rattle.md_leaves.proofs.spans.join.Goals as goal

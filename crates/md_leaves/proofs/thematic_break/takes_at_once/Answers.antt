@@ -3,8 +3,8 @@ use Rattle.md_engine.specs.declared.state.Name.TheVariants as n
 use Rattle.md_engine.specs.declared.state.thematic_break.State.TheVariants as its
 use Rattle.md_engine.specs.declared.stay.Stay.TheVariants.{Markers}
 use Rattle.md_leaves.specs.Break.{break_transition, one_run_code, sequence_code}
-use Rattle.md_seam.specs.Spaces.{is_current, sees_white}
-use Rattle.md_seam.specs.Stays.{TakesEach}
+use Rattle.md_events.specs.Spaces.{is_current, sees_white}
+use Rattle.md_events.specs.Stays.{TakesEach}
 use Rattle.md_leaves.proofs.thematic_break.takes_at_once.Goals as goal
 
 -- what is taken is the marker

@@ -6,7 +6,7 @@ use Rattle.md_engine.specs.World.{World, world}
 use Rattle.md_link_definitions.specs.Title.{closed, inside_transition, refused}
 use Rattle.md_link_definitions.proofs.TitleMeaning.{title_rule}
 use Rattle.md_link_definitions.proofs.title.inside.Goals as goal
-use Rattle.md_seam.specs.Transition.{Transition, exited}
+use Rattle.md_events.specs.Transition.{Transition, exited}
 
 -- at the closing mark,
 inside-closes : (w : World) (b : ℕ) → w.current ≡ Some b → b ≡ w.scratch.marker →

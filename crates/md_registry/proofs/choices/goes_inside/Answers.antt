@@ -1,7 +1,7 @@
 use Rattle.std.proofs.Common.{◌≡◌, ◌∙◌, Option, Some, None, ap, refl}
 use Rattle.std.specs.Option.{is_some, option_map}
 use Rattle.md_engine.specs.declared.state.Name.{Name as StateName}
-use Rattle.md_frame.specs.LeafName.{LeafName}
+use Rattle.proof_frame.specs.LeafName.{LeafName}
 use Rattle.md_registry.specs.Registry.{asked_first, leaf}
 use Rattle.md_registry.proofs.choices.goes_inside.Goals as goal
 

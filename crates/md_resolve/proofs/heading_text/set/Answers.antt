@@ -7,7 +7,7 @@ use Rattle.md_engine.specs.declared.event.Kind.TheVariants.{Enter}
 use Rattle.md_engine.specs.declared.event.Name.TheVariants.{Frontmatter}
 use Rattle.md_engine.specs.declared.event.Point.{Point}
 use Rattle.md_leaves.specs.HeadingText.{text_between}
-use Rattle.md_seam.specs.Rewritten.{given_of, held_of, left_of, written_of}
+use Rattle.md_events.specs.Rewritten.{given_of, held_of, left_of, written_of}
 use Rattle.md_resolve.specs.Texted.{IsInside}
 use Rattle.md_resolve.proofs.TextLaws.{IsFound, found, heading-given, heading-inside, heading-kept, heading-left}
 use Rattle.md_resolve.proofs.TextLaws.{slice-from}

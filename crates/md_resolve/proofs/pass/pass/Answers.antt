@@ -3,7 +3,7 @@ use Rattle.md_engine.specs.World.{World, world}
 use Rattle.md_order.specs.declared.wanted.Wanted.{Wanted}
 use Rattle.md_order.specs.InOrder.{in_order, wanted_of}
 use Rattle.md_order.proofs.Nests.All.{in_order-nested}
-use Rattle.md_seam.specs.Events.Nested.{Nested}
+use Rattle.md_events.specs.Events.Nested.{Nested}
 use Rattle.md_resolve.proofs.pass.pass.Goals as goal
 
 pub set_events-requires-clause-placed : goal.set_events-requires-clause-placed

@@ -1,5 +1,5 @@
 use Rattle.std.proofs.Common.{sym, subst, ◌∙◌}
-use Rattle.md_seam.specs.Parts.{ArePlaced}
+use Rattle.md_events.specs.Parts.{ArePlaced}
 use Rattle.md_resolve.proofs.PassLaws.{now_of, passed-done}
 use Rattle.md_resolve.proofs.Same.{in_order-placed}
 use Rattle.md_resolve.proofs.pass.set_all.Goals as goal

@@ -3,8 +3,8 @@ use Rattle.std.specs.List.{prefix_len}
 use Rattle.std.proofs.lemmas.List.{take_rest}
 use Rattle.md_engine.specs.declared.event.Event.{Event}
 use Rattle.md_engine.specs.Place.{IsPlaced}
-use Rattle.md_seam.specs.Parts.{ArePlaced}
-use Rattle.md_seam.specs.Rewritten.{left_of}
+use Rattle.md_events.specs.Parts.{ArePlaced}
+use Rattle.md_events.specs.Rewritten.{left_of}
 use Rattle.md_tables.specs.Heads.{begins_chunk}
 use Rattle.md_tables.proofs.HeadsWalk.{head-two, headed-next, leads-all, leads-first, leads-headed, leads-held}
 use Rattle.md_tables.proofs.Unset.{unset}

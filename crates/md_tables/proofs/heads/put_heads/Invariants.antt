@@ -1,5 +1,5 @@
 use Rattle.std.proofs.Common.{length}
-use Rattle.md_seam.specs.Rewritten.{left_of}
+use Rattle.md_events.specs.Rewritten.{left_of}
 use Rattle.md_tables.proofs.HeadsWalk.{Leads}
 use Rattle.md_tables.proofs.heads.put_heads.Given as goal
 

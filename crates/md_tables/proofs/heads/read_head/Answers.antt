@@ -2,9 +2,9 @@ use Rattle.std.proofs.Common.{◌≡◌, ◌++◌, ◌∷◌, ℕ, List, [], ap,
 use Rattle.md_engine.specs.declared.event.Event.{Event}
 use Rattle.md_engine.specs.declared.event.Name.TheVariants.{GfmTable}
 use Rattle.md_engine.specs.World.{Setting, World, fresh, world}
-use Rattle.md_seam.specs.Events.Nested.{enter}
-use Rattle.md_seam.specs.Parts.{ArePlaced}
-use Rattle.md_seam.proofs.Settings.{flushes-setting}
+use Rattle.md_events.specs.Events.Nested.{enter}
+use Rattle.md_events.specs.Parts.{ArePlaced}
+use Rattle.md_events.proofs.Settings.{flushes-setting}
 use Rattle.md_tables.proofs.HeadRuns.{head-whole}
 use Rattle.md_tables.proofs.heads.read_head.Goals as goal
 

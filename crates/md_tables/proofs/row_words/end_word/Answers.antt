@@ -3,7 +3,7 @@ use Rattle.md_engine.specs.declared.event.Name.TheVariants.{Data}
 use Rattle.md_engine.specs.Scheme.{cells_left}
 use Rattle.md_engine.specs.World.{World, world}
 use Rattle.md_engine.proofs.StayLemmas.{within-world}
-use Rattle.md_seam.specs.Transition.{exited}
+use Rattle.md_events.specs.Transition.{exited}
 use Rattle.md_tables.specs.Row.{name_at}
 use Rattle.md_tables.specs.RowWords.{Goes}
 use Rattle.md_tables.specs.declared.row.Place.TheVariants as place

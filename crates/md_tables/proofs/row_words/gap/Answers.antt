@@ -1,7 +1,7 @@
 use Rattle.std.proofs.Common.{◌≡◌, ◌∙◌, false, true, is_ok, subst, sym}
 use Rattle.md_engine.specs.World.{world}
-use Rattle.md_seam.specs.OneSpace.{spaced}
-use Rattle.md_seam.specs.Spaces.{sees_white}
+use Rattle.md_events.specs.OneSpace.{spaced}
+use Rattle.md_events.specs.Spaces.{sees_white}
 use Rattle.md_tables.specs.RowWords.{IsGap}
 use Rattle.md_tables.specs.RowWords.IsGap.{NoSpace, OneSpace}
 use Rattle.md_tables.proofs.RowWords.{on-ok}

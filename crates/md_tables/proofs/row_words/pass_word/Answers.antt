@@ -2,7 +2,7 @@ use Rattle.std.proofs.Common.{◌≡◌, Some, is_ok, true}
 use Rattle.md_engine.specs.declared.event.Name.TheVariants.{Data}
 use Rattle.md_engine.specs.World.{world}
 use Rattle.md_engine.proofs.StayLemmas.{within-world}
-use Rattle.md_seam.specs.Transition.{entered_link}
+use Rattle.md_events.specs.Transition.{entered_link}
 use Rattle.md_tables.specs.Row.{name_at, text_link}
 use Rattle.md_tables.specs.declared.row.Place.TheVariants as place
 use Rattle.md_tables.proofs.RowWords.{goes-on, passes-on, word-begins}

@@ -1,6 +1,6 @@
 use Rattle.std.proofs.Common.{sym, subst}
 use Rattle.std.proofs.lemmas.List.{take_rest}
-use Rattle.md_seam.specs.Parts.{ArePlaced}
+use Rattle.md_events.specs.Parts.{ArePlaced}
 use Rattle.md_tables.specs.Tabled.{tabled}
 use Rattle.md_tables.proofs.TabledWalk.{tabled-placed, walk-done, walk-goes}
 use Rattle.md_tables.proofs.tables.put_tables.Goals as goal

@@ -1,6 +1,6 @@
-use Rattle.md_seam.specs.Events.Inline.{Part}
-use Rattle.md_seam.specs.TextPart.{Document, document_of, text_kind}
-use Rattle.md_seam.proofs.TextParts.{text-lines}
+use Rattle.md_events.specs.Events.Inline.{Part}
+use Rattle.md_events.specs.TextPart.{Document, document_of, text_kind}
+use Rattle.md_events.proofs.TextParts.{text-lines}
 use Rattle.markdown_blocks.proofs.parser.TextReaderReader.plain_text.Goals as goal
 
 pub returns-then-is_plain-clause-lines : goal.returns-then-is_plain-clause-lines

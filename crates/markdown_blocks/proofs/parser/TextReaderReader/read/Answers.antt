@@ -1,10 +1,10 @@
 use Rattle.std.proofs.Common.{List, subst, sym}
 use Rattle.std.proofs.lemmas.Result.{on_ok_weaker}
 use Rattle.md_engine.specs.declared.event.Event.{Event}
-use Rattle.md_seam.specs.declared.inline.PartKind.{PartKind}
-use Rattle.md_seam.specs.Events.Inline.{Part}
-use Rattle.md_seam.specs.TextPart.{Document, IsTextPart, document_of}
-use Rattle.md_seam.proofs.TextParts.{placed-events, text-part}
+use Rattle.md_events.specs.declared.inline.PartKind.{PartKind}
+use Rattle.md_events.specs.Events.Inline.{Part}
+use Rattle.md_events.specs.TextPart.{Document, IsTextPart, document_of}
+use Rattle.md_events.proofs.TextParts.{placed-events, text-part}
 use Rattle.markdown_blocks.proofs.parser.TextReaderReader.read.Goals as goal
 
 pub read_into-requires : goal.read_into-requires

@@ -1,7 +1,7 @@
-use Rattle.md_seam.specs.Events.Inline.{Part}
-use Rattle.md_seam.specs.TextPart.{document_of}
-use Rattle.md_seam.proofs.PlainSteps.{lines-each}
-use Rattle.md_seam.proofs.TextParts.{text-part, text-part-chunks}
+use Rattle.md_events.specs.Events.Inline.{Part}
+use Rattle.md_events.specs.TextPart.{document_of}
+use Rattle.md_events.proofs.PlainSteps.{lines-each}
+use Rattle.md_events.proofs.TextParts.{text-part, text-part-chunks}
 use Rattle.markdown_blocks.proofs.plain.PlainInline.read_into.Goals as goal
 
 pub read_into-requires-clause-chunks : goal.read_into-requires-clause-chunks

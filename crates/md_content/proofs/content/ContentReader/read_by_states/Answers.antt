@@ -4,8 +4,8 @@ use Rattle.md_engine.specs.declared.event.Event.{Event}
 use Rattle.md_engine.specs.World.{Setting, World, fresh, world}
 use Rattle.md_content.specs.ContentReads.{first_of, settled, skipping_all}
 use Rattle.md_content.proofs.ContentReadsLemmas.{end-at, first-at, part-read, small-at, skipping-more}
-use Rattle.md_seam.specs.Parts.{ArePlaced}
-use Rattle.md_seam.proofs.Settings.{flushes-setting}
+use Rattle.md_events.specs.Parts.{ArePlaced}
+use Rattle.md_events.proofs.Settings.{flushes-setting}
 use Rattle.md_content.proofs.content.ContentReader.read_by_states.Goals as goal
 
 pub new-tokenizer-requires : goal.new-tokenizer-requires

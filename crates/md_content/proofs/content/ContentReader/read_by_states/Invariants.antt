@@ -1,7 +1,7 @@
 use Rattle.std.proofs.Common.{◌≡◌, [], drop}
 use Rattle.md_engine.specs.World.{fresh, world}
 use Rattle.md_content.specs.ContentReads.{first_of, skipping_all}
-use Rattle.md_seam.specs.Spaces.{IsRest}
+use Rattle.md_events.specs.Spaces.{IsRest}
 use Rattle.md_content.proofs.content.ContentReader.read_by_states.Given as goal
 
 abbrev pub invariant-loop-chunk : goal.invariant-loop-chunk

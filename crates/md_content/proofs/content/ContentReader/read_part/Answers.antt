@@ -1,7 +1,7 @@
 use Rattle.std.proofs.Common.{sym, subst}
 use Rattle.std.proofs.lemmas.Result.{on_ok_weaker}
 use Rattle.md_content.proofs.WholeLines.{paragraph-placed}
-use Rattle.md_seam.specs.Parts.{ArePlaced}
+use Rattle.md_events.specs.Parts.{ArePlaced}
 use Rattle.md_content.proofs.content.ContentReader.read_part.Goals as goal
 
 pub returns-then-is_paragraph-clause-placed : goal.returns-then-is_paragraph-clause-placed

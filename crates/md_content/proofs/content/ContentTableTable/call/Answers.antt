@@ -10,9 +10,9 @@ use Rattle.md_engine.proofs.StayLemmas.{within-world}
 use Rattle.md_engine.proofs.Walks.{here-keeps, runs-in}
 use Rattle.md_content.specs.States.{ContentStep, content_scheme, content_transition}
 use Rattle.md_content.proofs.States.{content-keeps, content_terminates}
-use Rattle.md_seam.specs.Spaces.{WhiteStep}
-use Rattle.md_seam.specs.Transition.{Transition}
-use Rattle.md_seam.proofs.SpacesTermination.{does-remain, does-setting}
+use Rattle.md_events.specs.Spaces.{WhiteStep}
+use Rattle.md_events.specs.Transition.{Transition}
+use Rattle.md_events.proofs.SpacesTermination.{does-remain, does-setting}
 use Rattle.md_content.proofs.content.ContentTableTable.call.Goals as goal
 
 -- what whitespace does, it does in the table

@@ -3,7 +3,7 @@ use Rattle.md_engine.proofs.Loops.{call-runs, call-sees}
 use Rattle.md_engine.proofs.StayLemmas.{within-world}
 use Rattle.md_registry.specs.Document.{DocumentStep, document_table_scheme}
 use Rattle.md_registry.proofs.DocumentStates.{document_terminates}
-use Rattle.md_seam.proofs.SpacesTermination.{does-fall, does-remain, does-setting, does-stands}
+use Rattle.md_events.proofs.SpacesTermination.{does-fall, does-remain, does-setting, does-stands}
 use Rattle.md_flow.proofs.document.DocumentTableTable.call.Goals as goal
 
 pub returns-clause-stands : goal.returns-clause-stands

@@ -1,7 +1,7 @@
 use Rattle.std.proofs.Common.{◌≡◌, ◌++◌, length}
 use Rattle.std.specs.Str.{IsUtf8}
 use Rattle.md_meaning.specs.Outline.{entries_of}
-use Rattle.md_seam.specs.Events.Places.{last_line}
+use Rattle.md_events.specs.Events.Places.{last_line}
 use Rattle.md_meaning.specs.Texts.{split_lines}
 use Rattle.md_outline.specs.TextLines.{full_as}
 use Rattle.md_outline.proofs.outline.lines.push_full_lines.Given as goal

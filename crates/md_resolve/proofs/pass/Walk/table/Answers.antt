@@ -5,7 +5,7 @@ use Rattle.std.proofs.lemmas.List.{drop_all, length-take}
 use Rattle.md_engine.specs.declared.event.Event.{Event}
 use Rattle.md_order.specs.Left.{table_len}
 use Rattle.md_tables.specs.Tabled.{tabled}
-use Rattle.md_seam.specs.Rewritten.{held_of, left_of, written_of}
+use Rattle.md_events.specs.Rewritten.{held_of, left_of, written_of}
 use Rattle.md_resolve.proofs.PassLaws.{Now, now_of, rest_of, slice-many}
 use Rattle.md_resolve.proofs.pass.Walk.table.Goals as goal
 use Rattle.md_resolve.proofs.pass.Walk.table.Goals.{else-end-left, then-end-left}

@@ -1,6 +1,6 @@
 use Rattle.std.proofs.Common.{[], ◌∷◌, drop, get_or, sym, ◌∙◌, ap}
 use Rattle.md_engine.specs.declared.event.Name.TheVariants as n
-use Rattle.md_seam.specs.Events.Nested.{exit}
+use Rattle.md_events.specs.Events.Nested.{exit}
 use Rattle.md_tables.specs.Tabled.{tabled_from}
 use Rattle.md_tables.specs.declared.cells.Stage.TheVariants.{Outside}
 use Rattle.md_tables.specs.declared.tables.Section.TheVariants.{Between}

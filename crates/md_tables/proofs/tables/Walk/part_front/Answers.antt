@@ -1,5 +1,5 @@
 use Rattle.std.proofs.Common.{[], ◌∷◌, drop, get_or, sym, ◌∙◌, ap}
-use Rattle.md_seam.specs.Events.Nested.{enter}
+use Rattle.md_events.specs.Events.Nested.{enter}
 use Rattle.md_tables.specs.Cells.{cell_name}
 use Rattle.md_tables.specs.Tabled.{tabled_from}
 use Rattle.md_tables.specs.declared.cells.Stage.TheVariants.{Within}

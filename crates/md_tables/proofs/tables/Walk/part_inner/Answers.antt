@@ -1,6 +1,6 @@
 use Rattle.std.proofs.Common.{[], ◌∷◌, drop, get_or, sym, ◌∙◌, ap}
 use Rattle.std.proofs.lemmas.List.{take_rest}
-use Rattle.md_seam.specs.Events.Nested.{exit}
+use Rattle.md_events.specs.Events.Nested.{exit}
 use Rattle.md_tables.specs.Cells.{inner_name}
 use Rattle.md_tables.specs.Tabled.{tabled_from}
 use Rattle.md_tables.specs.declared.cells.Stage.TheVariants.{Within}

@@ -4,7 +4,7 @@ use Rattle.md_tables.specs.Goes.{in_all}
 use Rattle.md_tables.specs.Tabled.{tabled_from}
 use Rattle.md_tables.specs.declared.cells.Stage.TheVariants.{Front}
 use Rattle.md_engine.specs.declared.event.Name.TheVariants as n
-use Rattle.md_seam.specs.Events.Nested.{enter}
+use Rattle.md_events.specs.Events.Nested.{enter}
 use Rattle.md_tables.specs.declared.cells.RowKind.TheVariants.{Text}
 use Rattle.md_tables.specs.declared.tables.Section.TheVariants.{Body}
 use Rattle.md_tables.proofs.PartsWalk.{body-begins, ending-goes, gives, one-first, row-goes, two-first}

@@ -1,6 +1,6 @@
 use Rattle.std.proofs.Common.{[], ◌∷◌, sym, ◌∙◌, ap}
 use Rattle.std.proofs.lemmas.List.{drop-drop}
-use Rattle.md_seam.specs.Events.Nested.{enter, exit}
+use Rattle.md_events.specs.Events.Nested.{enter, exit}
 use Rattle.md_tables.specs.Cells.{cell_name}
 use Rattle.md_tables.specs.Goes.{in_all}
 use Rattle.md_tables.specs.Tabled.{tabled_from}

@@ -1,5 +1,5 @@
 use Rattle.std.proofs.Common.{◌∙◌, ℕ, List, ap, sym}
-use Rattle.md_seam.specs.Events.Spelled.{HeadingSoFar, first_told}
+use Rattle.md_events.specs.Events.Spelled.{HeadingSoFar, first_told}
 use Rattle.md_meaning.specs.Texts.{split_lines, trim_each}
 use Rattle.md_outline.specs.HeadingState.{heading_of, title_lines}
 use Rattle.md_outline.proofs.HeadingLemmas.{title-stands}

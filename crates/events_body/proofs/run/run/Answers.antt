@@ -1,4 +1,0 @@
-use Rattle.events_body.proofs.run.run.Goals as goal
-
-pub returns : goal.returns
-returns g c = c.run.ensures

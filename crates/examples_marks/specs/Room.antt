@@ -1,0 +1,16 @@
+-- Which points and chunks the layer can count in.
+use Rattle.std.specs.Prelude.{ℕ, ◌+◌, ◌*◌, ◌^◌, ◌<◌, ◌≤◌, List, length}
+use Rattle.md_engine.specs.declared.event.Point.{Point}
+use Rattle.md_events.specs.declared.inline.Chunk.{Chunk}
+
+-- from a point on, so many bytes of a line can be counted
+pub record HasRoom (point : Point) (count : ℕ) : Type 0 where
+  pub index : point.index + count < 2 ^ 61
+  pub column : point.column ≤ 4 * point.index + 5
+
+-- a chunk is a piece of the text
+pub record IsStretch (bytes : List ℕ) (chunk : Chunk) : Type 0 where
+  pub sized : length bytes < 2 ^ 61
+  pub column : chunk.first.column ≤ 4 * chunk.first.index + 5
+  pub forward : chunk.first.index ≤ chunk.after.index
+  pub within : chunk.after.index ≤ length bytes

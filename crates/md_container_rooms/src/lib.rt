@@ -1,2 +1,0 @@
-// The rooms of containers: quotes, items and footnote definitions.
-#![tactic(auto)]

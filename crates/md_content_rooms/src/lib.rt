@@ -1,2 +1,0 @@
-// The rooms of content: definitions, labels, paragraphs.
-#![tactic(auto)]

@@ -1,0 +1,14 @@
+use Rattle.std.proofs.Common.{◌∙◌, ℕ, sym, ap, arith, drop}
+use Rattle.std.proofs.lemmas.List.{drop-drop}
+use Rattle.md_events.proofs.RewrittenLemmas.{held-many}
+use Rattle.md_events.proofs.rewriting.Rewriting.hold_many.Goals as goal
+
+pub returns-clause-left : goal.returns-clause-left
+returns-clause-left c =
+    sym
+    (drop-drop c.args.count c.args.self.now.read c.args.self.now.events.items
+    ∙ ap (λ (n : ℕ). drop n c.args.self.now.events.items) (omega arith))
+
+pub returns-clause-held : goal.returns-clause-held
+returns-clause-held c =
+    held-many c.args.self.now.events.items c.args.self.now.done c.args.self.now.read c.args.count (omega arith)

@@ -1,0 +1,151 @@
+use Rattle.std.proofs.Common.{◌≡◌, ◌<◌, ℕ, ◌+◌, ◌++◌, ◌⊎◌, List, [], append-nil, append_assoc, ap, arith, drop, get_or, inl, inr}
+use Rattle.std.proofs.Common.{length, subst, suc, sym, take, ◌∙◌}
+use Rattle.std.specs.List.{prefix_len}
+use Rattle.std.specs.Prelude.{None, Some}
+use Rattle.std.proofs.lemmas.List.{drop_all, take_rest}
+use Rattle.std.proofs.lemmas.List.Elements.{All-drop, All-nil}
+use Rattle.md_engine.specs.declared.event.Kind.TheVariants.{Enter}
+use Rattle.md_engine.specs.declared.event.Name.TheVariants.{Frontmatter}
+use Rattle.md_engine.specs.Place.{IsPlaced}
+use Rattle.md_engine.specs.declared.event.Event.{Event}
+use Rattle.md_events.specs.Parts.{ArePlaced}
+use Rattle.md_events.specs.Rewritten.{given_of, held_of, left_of, written_of}
+use Rattle.md_events.specs.Substituted.{EachAsked, stays, wanted}
+use Rattle.md_events.proofs.AskedLemmas.{asked-next, asked-part, asked-stays}
+use Rattle.md_events.proofs.ReadingLemmas.{placed-place}
+use Rattle.md_events.proofs.SubstitutedLemmas.{Leads, leads-all, leads-first, leads-part, leads-stays}
+use Rattle.md_events.proofs.subtokenize.read_parts.Goals as goal
+use Rattle.md_events.proofs.subtokenize.read_parts.Goals.{in_default-chunk_content-via-in-Some-chunk_content+else-left-gt1}
+use Rattle.md_events.proofs.subtokenize.read_parts.Goals.{in_default-chunk_content-via-in_default-chunk_content}
+
+-- what indexing gives past the end of a list
+abbrev unset : Event
+unset = record {
+  kind = Enter;
+  name = Frontmatter;
+  point = record { line = 0; column = 0; index = 0; vs = 0 };
+  link = None;
+}
+
+pub loop-event-init : goal.loop-event-init
+loop-event-init g c =
+    let text : List ℕ = g.R.Reader.text c.args.reader.now in
+    let wants = g.R.Reader.wants c.args.reader.now in
+    let all = c.new-all.result in
+    let found = c.nothing-found in
+    let none : given_of all ≡ [] = ap (λ (l : List Event). l ++ held_of all) c.new-all.ensures.written
+    ∙ c.new-all.ensures.held in
+    record {
+      given = subst (ArePlaced text) (sym none) (All-nil (λ (e : Event). IsPlaced text e.point));
+      left = subst (ArePlaced text) (sym c.new-all.ensures.left) c.requires.placed;
+      found = subst (ArePlaced text) (sym found.ensures.events) (All-nil (λ (e : Event). IsPlaced text e.point));
+      substituted = leads-first wants (g.R.Reader.reads_as c.args.reader.now) c.args.events.items (left_of all)
+          found.result.events.items (given_of all) found.result.placed found.result.chunks c.new-all.ensures.left
+          found.ensures.events found.ensures.placed found.ensures.chunks none;
+      asked = rw (found.ensures.chunks, c.new-all.ensures.left) c.requires.asked;
+    }
+
+pub or_read-requires-clause-placed : goal.or_read-requires-clause-placed
+or_read-requires-clause-placed g c =
+    subst (ArePlaced (g.R.Reader.text c.args.reader.now)) (sym c.left-in-Some-chunk_content.ensures)
+    c.loop-event.invariant.left
+
+pub or_read-requires-clause-asked : goal.or_read-requires-clause-asked
+or_read-requires-clause-asked g c = λ none.
+    let wants = g.R.Reader.wants c.args.reader.now in
+    let rest : List Event = left_of c.loop-event.all in
+    let some : Some c.in-Some-chunk_content.content ≡ wanted wants (get_or rest 0 unset) =
+    c.in-Some-chunk_content.ensures ∙ ap (wanted wants) (sym (ap (λ (l : List Event). get_or l 0 unset) c.in-Some.ensures.some)) in
+    let two : 1 < length rest = rw c.left.ensures at c.if-left-gt1.true in
+    rw c.left-in-Some-chunk_content.ensures
+    (asked-part wants (g.R.Reader.may_read c.args.reader.now) rest c.loop-event.found.chunks unset
+    c.in-Some-chunk_content.content two some c.loop-event.invariant.asked none)
+
+pub loop-event-preserved-then-left-gt1 : goal.loop-event-preserved-then-left-gt1
+loop-event-preserved-then-left-gt1 g c =
+    let text : List ℕ = g.R.Reader.text c.args.reader.now in
+    let wants = g.R.Reader.wants c.args.reader.now in
+    let reads = g.R.Reader.reads_as c.args.reader.now in
+    let inv = c.loop-event.invariant in
+    let rest : List Event = left_of c.loop-event.all in
+    let read = c.in_ok-or_read-in-Some-chunk_content.ensures in
+    let place = c.in_ok-place-in-Some-chunk_content.ensures in
+    let all = c.place.new.events in
+    let some : Some c.in-Some-chunk_content.content ≡ wanted wants (get_or rest 0 unset) =
+    c.in-Some-chunk_content.ensures ∙ ap (wanted wants) (sym (ap (λ (l : List Event). get_or l 0 unset) c.in-Some.ensures.some)) in
+    let two : 1 < length rest = rw c.left.ensures at c.if-left-gt1.true in
+    let left : left_of all ≡ drop 2 rest = place.rest ∙ c.skip.ensures.left in
+    let begun = rw c.left-in-Some-chunk_content.ensures at read.begun in
+    let given = ap (λ (l : List Event). written_of all ++ l) (c.place.ensures.held ∙ c.skip.ensures.held)
+    ∙ append-nil (written_of all)
+    ∙ (rw (c.skip.ensures.written, c.left-in-Some-chunk_content-2.ensures) at place.placed) in
+    let behind = rw c.left-in-Some-chunk_content-2.ensures at place.left in
+    record {
+      given = placed-place text (given_of c.loop-event.all) (given_of all) _ _ _ given inv.given read.placed;
+      left = subst (ArePlaced text) (sym left) (All-drop (λ (e : Event). IsPlaced text e.point) 2 rest inv.left);
+      found = rw c.place.ensures.same read.placed;
+      substituted =
+          subst
+          (λ (l : List Event).
+          Leads wants reads c.args.events.items (drop c.place.new.self.placed c.place.new.self.events.items)
+          c.place.new.self.chunks l (given_of all)) (sym left)
+          (leads-part wants reads c.args.events.items rest _ _ _ (given_of c.loop-event.all) (given_of all) _ _ _ unset
+          c.in-Some-chunk_content.content two some begun place.chunks given behind inv.substituted);
+      asked = subst (EachAsked wants (g.R.Reader.may_read c.args.reader.now) c.place.new.self.chunks) (sym left)
+          (asked-next wants (g.R.Reader.may_read c.args.reader.now) _ rest _ _ _ _ _ unset c.in-Some-chunk_content.content
+          two some begun place.chunks inv.asked);
+    }
+
+pub loop-event-preserved : goal.loop-event-preserved
+loop-event-preserved g c =
+    let text : List ℕ = g.R.Reader.text c.args.reader.now in
+    let wants = g.R.Reader.wants c.args.reader.now in
+    let reads = g.R.Reader.reads_as c.args.reader.now in
+    let inv = c.loop-event.invariant in
+    let old = c.loop-event.all in
+    let all = c.hold_many.new.self in
+    let rest : List Event = left_of old in
+    let left : List Event = drop c.loop-event.found.placed c.loop-event.found.events.items in
+    let chunks : ℕ = c.loop-event.found.chunks in
+    let many : ℕ = 1 + c.staying-many.result in
+    let run : c.staying-many.result ≡ prefix_len (stays wants) (drop 1 rest) = c.staying-many.ensures.value
+    ∙ ap (prefix_len (stays wants))
+    (take_rest c.left-in_default-chunk_content.result.now 1 ∙ ap (drop 1) c.left-in_default-chunk_content.ensures) in
+    let count : many ≡ suc (prefix_len (stays wants) (drop 1 rest)) = omega (arith, run) in
+    let given : given_of all ≡ given_of old ++ take many rest =
+    ap (λ (l : List Event). l ++ held_of all) c.hold_many.ensures.written
+    ∙ ap (λ (l : List Event). written_of old ++ l) c.hold_many.ensures.held
+    ∙ sym (append_assoc (written_of old) (held_of old) (take many rest)) in
+    let stay : (wanted wants c.in-Some.event ≡ None) ⊎ (drop 1 rest ≡ []) = elim c.in_default-chunk_content.branch [
+      | in_default-chunk_content-via-in-Some-chunk_content+else-left-gt1 w ↦
+          inr (drop_all 1 rest (omega (arith, rw w.left.ensures at w.if-left-gt1.false)))
+      | in_default-chunk_content-via-in_default-chunk_content w ↦
+          inl (sym c.chunk_content.ensures ∙ w.in_default-chunk_content.is)
+    ] in
+    record {
+      given = placed-place text (given_of old) (given_of all) rest 0 many given inv.given inv.left;
+      left = subst (ArePlaced text) (sym c.hold_many.ensures.left)
+          (All-drop (λ (e : Event). IsPlaced text e.point) many rest inv.left);
+      found = inv.found;
+      substituted =
+          subst (λ (l : List Event). Leads wants reads c.args.events.items left chunks l (given_of all))
+          (sym c.hold_many.ensures.left)
+          (subst (Leads wants reads c.args.events.items left chunks (drop many rest)) (sym given)
+          (leads-stays wants reads c.args.events.items left (given_of old) rest chunks many c.in-Some.event c.in-Some.ensures.some
+          stay count inv.substituted));
+      asked = subst (EachAsked wants (g.R.Reader.may_read c.args.reader.now) c.loop-event.found.chunks)
+          (sym c.hold_many.ensures.left)
+          (asked-stays wants (g.R.Reader.may_read c.args.reader.now) rest _ many c.in-Some.event c.in-Some.ensures.some stay
+          count inv.asked);
+    }
+
+pub returns-clause-placed : goal.returns-clause-placed
+returns-clause-placed g c =
+    subst (ArePlaced (g.R.Reader.text c.args.reader.now)) (sym (c.finish.ensures ∙ c.give.ensures.written))
+    c.loop-event.invariant.given
+
+pub returns-clause-substituted : goal.returns-clause-substituted
+returns-clause-substituted g c =
+    rw (c.finish.ensures, c.give.ensures.written)
+    (leads-all (g.R.Reader.wants c.args.reader.now) (g.R.Reader.reads_as c.args.reader.now) c.args.events.items _ _ _ _
+    c.in_default.ensures.none c.loop-event.invariant.substituted)

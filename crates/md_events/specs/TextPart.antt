@@ -1,0 +1,68 @@
+-- What an inline layer reads: the text parts of a document, each with all labels of the document.
+use Rattle.std.specs.Prelude.{◌≡◌, ℕ, ◌^◌, ◌<◌, Bool, true, false, List, ◌∷◌, ◌++◌, length, map}
+use Rattle.std.specs.String.{string_bytes}
+use Rattle.md_engine.specs.declared.configuration.ParseOptions.{ParseOptions}
+use Rattle.md_engine.specs.declared.event.Content.{Content}
+use Rattle.md_engine.specs.declared.event.Content.TheVariants as content
+use Rattle.md_engine.specs.declared.event.Event.{Event}
+use Rattle.md_engine.specs.declared.parse_state.ParseState.{ParseState}
+use Rattle.md_meaning.specs.Label.{labels}
+use Rattle.md_meaning.specs.Meaning.{tree}
+use Rattle.md_events.specs.declared.inline.PartKind.{PartKind}
+use Rattle.md_events.specs.declared.inline.PartKind.TheVariants as kind
+use Rattle.md_events.specs.Substituted.{Readings}
+use Rattle.md_events.specs.Events.Inline.{Covers, Part, pieces}
+use Rattle.md_events.specs.Events.Places.{first_point}
+use Rattle.md_events.specs.Events.Spelled.{spelled}
+use Rattle.md_events.specs.Events.Tiles.{IsBlockList, end_point, parts}
+
+-- Which contents an inline layer reads, and as what.
+
+abbrev pub wants_text : Content → Bool
+wants_text content.Text = true
+wants_text content.String = true
+wants_text _ = false
+
+abbrev pub text_kind : Content → PartKind
+text_kind content.Text = kind.Text
+text_kind _ = kind.String
+
+-- what a layer may give for a part, by its content and its chunks
+abbrev pub text_readings : (Part → List Event → Type 0) → Readings
+text_readings reads = λ content chunks answer. reads (record { kind = text_kind content; chunks = chunks }) answer
+
+-- What is known of a document when its text parts are read.
+pub record Document : Type 0 where
+  pub bytes : List ℕ
+  pub options : ParseOptions
+  -- the normal forms of the labels of its definitions, and of its footnote definitions
+  pub definitions : List (List ℕ)
+  pub footnotes : List (List ℕ)
+
+abbrev pub document_of : ParseState → Document
+document_of state = record {
+  bytes = state.bytes.now;
+  options = state.options.now;
+  definitions = map string_bytes state.definitions.items;
+  footnotes = map string_bytes state.gfm_footnote_definitions.items;
+}
+
+-- A document whose blocks are known, before its text parts are read: they spell its tree and tile it, and the labels
+-- are all labels of that tree, those of definitions after a part too.
+pub record AreBlocks (document : Document) (blocks : List Event) : Type 0 where
+  -- points have room for it
+  pub sized : length document.bytes < 2 ^ 61
+  pub list : IsBlockList document.bytes blocks
+  pub covers : Covers first_point (pieces blocks) (end_point document.bytes)
+  pub spells : spelled blocks document.bytes ≡ tree document.options document.bytes
+  pub definitions : document.definitions ≡ (labels (tree document.options document.bytes)).definitions
+  pub footnotes : document.footnotes ≡ (labels (tree document.options document.bytes)).footnotes
+
+-- A text part of a document.
+pub record IsTextPart (document : Document) (part : Part) : Type 0 where
+  pub blocks : List Event
+  pub are : AreBlocks document blocks
+  -- it is among the text parts of these blocks
+  pub before : List Part
+  pub behind : List Part
+  pub among : parts blocks ≡ before ++ part ∷ behind

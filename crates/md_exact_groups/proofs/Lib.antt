@@ -1,4 +1,0 @@
-pub mod Tails
-pub mod Remaining
-pub mod CutTexts
-pub mod WholeTexts

@@ -1,2 +1,0 @@
-// The lines of a text, put together by leaves, are put together alike by the exact definition.
-#![tactic(auto)]

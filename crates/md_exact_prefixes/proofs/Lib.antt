@@ -1,2 +1,0 @@
-pub mod ContainersSame
-pub mod FrontSame

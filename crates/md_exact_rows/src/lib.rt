@@ -1,2 +1,0 @@
-// What each line of the exact list and its row agree in.
-#![tactic(auto)]

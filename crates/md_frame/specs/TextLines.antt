@@ -1,6 +1,0 @@
--- Which leaf takes lines of text.
-use Rattle.md_frame.specs.Leaf.Paragraph.{paragraph_leaf}
-use Rattle.md_frame.specs.TextLeaf.{TextLeaf}
-
-abbrev pub text_leaf : TextLeaf
-text_leaf = paragraph_leaf

@@ -1,4 +1,0 @@
-pub mod HeadingAtx
-pub mod HeadingSetext
-pub mod MarkRuns
-pub mod ThematicBreak

@@ -1,4 +1,0 @@
-pub mod Plain
-pub mod Ahead
-pub mod Awaited
-pub mod ListsFirst

@@ -1,2 +1,0 @@
-// The rooms of leaves whose lines are literal text: fences, indented code, HTML.
-#![tactic(auto)]

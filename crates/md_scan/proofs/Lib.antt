@@ -1,0 +1,2 @@
+pub mod DefinitionLemmas
+pub mod WordLemmas

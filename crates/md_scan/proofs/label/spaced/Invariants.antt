@@ -1,0 +1,10 @@
+use Rattle.std.proofs.Common.{◌≡◌, [], drop, flat_map}
+use Rattle.md_meaning.specs.Label.{words}
+use Rattle.md_scan.specs.Definitions.{texts}
+use Rattle.md_scan.specs.Words.{with_words}
+use Rattle.md_scan.proofs.label.spaced.Given as goal
+
+abbrev pub invariant-loop-line : goal.invariant-loop-line
+invariant-loop-line l =
+    with_words l.text.items (flat_map words (texts (drop l.line-index l.lines))) ≡
+    with_words [] (flat_map words (texts l.lines))

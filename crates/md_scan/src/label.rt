@@ -1,0 +1,79 @@
+// The normal forms of labels (CommonMark 6.3).
+ghost use Rattle.std.specs.Prelude.{◌≡◌, ◌≤◌, not, length, string_bytes, IfOk, OnOk};
+ghost use Rattle.std.specs.List.{prefix_len};
+ghost use Rattle.md_meaning.specs.Label as label;
+ghost use Rattle.md_meaning.specs.Rest.{is_white};
+ghost use Rattle.md_scan.specs.Definitions.{texts};
+ghost use Rattle.md_scan.specs.Words as words;
+
+use crate::bytes::is_white;
+use crate::memory;
+use caseless::default_case_fold_str;
+use md_engine::message::Message;
+use std::alloc::Global;
+
+/// How many bytes come first that are neither spaces nor tabs.
+fn word_len(rest: &[u8]) -> usize
+    ensures value { result ≡ prefix_len (λ b. not (is_white b)) rest.now }
+    ensures bound { result ≤ length rest.now }
+{
+    rest.iter().take_while(|b| !is_white(**b)).count()
+}
+
+/// Adds a word, after a space unless it is the first. After an `Err` the text is cut off.
+fn push_word(text: &mut Vec<u8>, word: &[u8]) -> Result<(), Message>
+    ensures { OnOk result (text.new.items ≡ words.with_word text.old.items word.now) }
+{
+    if !text.is_empty() {
+        memory::push(text, b' ')?;
+    }
+    match text.extend_from_slice(word) {
+        Ok(()) => Ok(()),
+        Err(_) => Err(Message),
+    }
+}
+
+/// Adds the words of a line. After an `Err` the text is cut off.
+fn push_words(text: &mut Vec<u8>, line: &[u8]) -> Result<(), Message>
+    ensures { OnOk result (text.new.items ≡ words.with_words text.old.items (label.words line.now)) }
+{
+    let mut rest = line;
+    while let Some((first, others)) = rest.split_first() {
+        if is_white(*first) {
+            rest = others;
+        } else {
+            let (word, behind) = rest.split_at(word_len(rest));
+            push_word(text, word)?;
+            rest = behind;
+        }
+    }
+    Ok(())
+}
+
+/// The lines as one, with a single space for each run of spaces, tabs and endings, and none at the ends.
+fn spaced(alloc: Global, lines: &[&[u8]]) -> Result<Vec<u8>, Message>
+    ensures { IfOk result (λ text. text.items ≡ label.spaced (texts lines.now)) }
+{
+    let mut text = Vec::new(alloc);
+    for line in lines {
+        push_words(&mut text, line)?;
+    }
+    Ok(text)
+}
+
+/// The normal form of a label (CommonMark 6.3), given the bytes of its lines without the prefixes of containers: one
+/// space for each run of spaces, tabs and line endings, none at the ends, and Unicode full case folding. An `Err` says
+/// that memory ran out; so it does of bytes that are no UTF-8, which no label of a text has.
+#[tactic(auto, unfolding(md_meaning::specs::Label::normal_form))]
+pub fn normal_form(alloc: Global, lines: &[&[u8]]) -> Result<String, Message>
+    ensures { IfOk result (λ form. string_bytes form ≡ label.normal_form (texts lines.now)) }
+{
+    let bytes = spaced(alloc, lines)?;
+    let Ok(text) = str::from_utf8(&bytes) else {
+        return Err(Message);
+    };
+    match default_case_fold_str(alloc, text) {
+        Ok(form) => Ok(form),
+        Err(_) => Err(Message),
+    }
+}

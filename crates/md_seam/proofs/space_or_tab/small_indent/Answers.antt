@@ -1,5 +1,0 @@
-use Rattle.std.proofs.Common.{rules}
-use Rattle.md_seam.proofs.space_or_tab.small_indent.Goals as goal
-
-pub returns-then-tokenizer : goal.returns-then-tokenizer
-returns-then-tokenizer c = search rules

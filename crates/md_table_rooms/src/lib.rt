@@ -1,2 +1,0 @@
-// The room of tables.
-#![tactic(auto)]

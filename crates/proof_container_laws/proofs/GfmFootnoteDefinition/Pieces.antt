@@ -1,0 +1,55 @@
+-- The label of a footnote definition is over its bytes.
+use Rattle.std.proofs.Common.{◌≡◌, ℕ, true, List, refl}
+use Rattle.std.specs.Prelude.{Option, None, Some}
+use Rattle.std.proofs.lemmas.Bool.{and_from}
+use Rattle.md_engine.specs.declared.event.Event.{Event}
+use Rattle.md_engine.specs.declared.event.Kind.TheVariants.{Enter}
+use Rattle.md_engine.specs.declared.event.Link.{Link}
+use Rattle.md_engine.specs.declared.event.Name.TheVariants as n
+use Rattle.md_engine.specs.declared.event.Point.{Point}
+use Rattle.md_containers.specs.Footnote.{label_link}
+use Rattle.md_events.specs.Events.Inline.{Piece, is_linked}
+use Rattle.md_events.specs.Events.Pieces.{piece_stands}
+use Rattle.proof_frame.proofs.ChunkFacts.{in-line}
+use Rattle.proof_container_laws.proofs.GfmFootnoteDefinition.Prefix.{IsFront, data_at, label-text, label_at, label_end}
+use Rattle.proof_container_laws.proofs.GfmFootnoteDefinition.Prefix.{label_part}
+use Rattle.proof_frame.proofs.LineTexts.{one-last}
+use Rattle.proof_frame.proofs.PieceFacts.{PiecesValid, begins-whole, chunk-stands, over-front, over-stands, stood-around}
+
+-- the label, as it is read later or was read
+abbrev label_piece : Option Link → Point → Point → Piece
+label_piece link p q = record {
+  name = n.Data;
+  linked = is_linked (record { kind = Enter; name = n.Data; point = p; link = link });
+  first = p;
+  after = q;
+}
+
+-- it is over its bytes
+abbrev pub LabelStands : List ℕ → Option Link → List ℕ → Point → Type 0
+LabelStands bytes link label start =
+    piece_stands bytes (label_piece link (label_at start) (label_end label start)) ≡ true
+
+pub label-linked : (bytes label : List ℕ) (link : Option Link) (p q : Point) (es : List Event) →
+    (is : IsFront bytes label link p q es) → LabelStands bytes (Some label_link) label is.start
+label-linked bytes label link p q es is =
+    chunk-stands bytes n.Data (label_at is.start) (label_end label is.start) label
+    (over-front bytes (label_at is.start) (label_end label is.start) label _ (label-text bytes label link p q es is)
+    is.some refl) refl
+    (one-last label is.some is.one_line true refl)
+
+pub label-read : (bytes label : List ℕ) (link : Option Link) (p q : Point) (es : List Event) →
+    (is : IsFront bytes label link p q es) → LabelStands bytes None label is.start
+label-read bytes label link p q es is =
+    over-stands bytes n.Data (label_at is.start) (label_end label is.start) label
+    (over-front bytes (label_at is.start) (label_end label is.start) label _ (label-text bytes label link p q es is)
+    is.some refl) (begins-whole n.Data (label_at is.start) refl)
+    (in-line label is.one_line)
+
+pub label-stood : (bytes label : List ℕ) (link : Option Link) (start : Point) → LabelStands bytes link label start →
+    PiecesValid bytes (label_part link (label_at start) (label_end label start))
+label-stood bytes label link start stands =
+    let first : Point = label_at start in
+    let end : Point = label_end label start in
+    stood-around bytes n.GfmFootnoteDefinitionLabelString first end (data_at link first end) refl
+    (record { ends = refl; stand = and_from (piece_stands bytes (label_piece link first end)) true stands refl })

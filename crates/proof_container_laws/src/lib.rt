@@ -1,0 +1,2 @@
+// The values and laws of containers: quotes, items and footnote definitions.
+#![tactic(auto)]

@@ -1,0 +1,2 @@
+// The values and laws of content: definitions, labels, paragraphs.
+#![tactic(auto)]

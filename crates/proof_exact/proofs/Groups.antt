@@ -1,0 +1,88 @@
+-- The events of a group, and of the groups after it: that of a leaf on one line, and in general.
+use Rattle.std.proofs.Common.{◌≡◌, ℕ, true, false, List, [], ◌∷◌, ◌++◌, refl, sym, ap, ap₂, ◌∙◌, append-nil}
+use Rattle.std.proofs.lemmas.Bool.{and_parts}
+use Rattle.std.specs.Prelude.{◌&&◌, not}
+use Rattle.md_engine.specs.declared.configuration.ParseOptions.{ParseOptions}
+use Rattle.md_engine.specs.declared.event.Event.{Event}
+use Rattle.md_engine.specs.declared.event.Name.TheVariants as n
+use Rattle.md_leaves.specs.HeadingSetext.{turns_nothing}
+use Rattle.md_leaves.specs.HeadingSetextRule.{is_underline}
+use Rattle.md_meaning.specs.Leaves.{is_rule}
+use Rattle.md_meaning.specs.Rest.{trim_start}
+use Rattle.md_exact.specs.Blocks.{events_by, tail}
+use Rattle.md_exact.specs.Leaves.{content_line}
+use Rattle.md_exact.specs.Rows.{Role, Row}
+use Rattle.proof_frame.specs.LeafName.{CodeFurther, CodeIndented, Fence, FenceFurther, GfmTable, HeadingAtx, HeadingSetext}
+use Rattle.proof_frame.specs.LeafName.{HtmlFlow, HtmlFurther, LeafName, ThematicBreak}
+use Rattle.proof_frame.specs.Row.{BlankRow, LeafRow, Row as FrameRow, RowKind, TextRow, blank_line}
+use Rattle.proof_leaf_laws.specs.Leaf.ThematicBreak.{is_ruled}
+use Rattle.md_registry.specs.Registry.{leaf}
+use Rattle.proof_rows.specs.BlockList.{group_unread, tabled_group}
+use Rattle.proof_rows.specs.Rows.{Group, Single, final_row, first_row, group_ending, leaf_unread, tail_events}
+use Rattle.proof_rows.proofs.GroupLines.{IsSingle}
+use Rattle.proof_exact_lines.proofs.BeginsAt.{rest_bytes}
+use Rattle.proof_exact_lines.proofs.LeafLines.{blank-one, break-one, heading-one}
+use Rattle.proof_exact_lines.specs.Unlisted.{unlisted_group, without_lists}
+use Rattle.proof_exact.proofs.Fit.{Fit}
+use Rattle.proof_exact.proofs.FitLines.{MayEnd, blank-role, first-role, leaf-starts, line-is, read-as, tail-same}
+
+-- A group, by what follows it and by its leaf.
+pub group-same : (options : ParseOptions) (bytes : List ℕ) (x : Row) (xs : List Row) (g : Group) →
+    Fit options bytes x (first_row g) →
+    without_lists (tail (x ∷ xs)) ≡ tail_events (group_ending g) (final_row g) →
+    events_by options x.role (x ∷ xs) ≡ group_unread options bytes g →
+    unlisted_group options (x ∷ xs) ≡ tabled_group options bytes g
+group-same options bytes x xs g fit ends is =
+    ap₂ (λ (es fs : List Event). es ++ fs) (ap₂ (λ (es fs : List Event). es ++ fs) fit.front is) ends
+
+-- A leaf on one line, and a blank line.
+
+single-leaf : (options : ParseOptions) (bytes : List ℕ) (x : Row) (r : FrameRow) → Fit options bytes x r →
+    (l : LeafName) → r.kind ≡ LeafRow l → (leaf l).ends ≡ true →
+    events_by options x.role (x ∷ []) ≡ (leaf l).unread (rest_bytes x.rest) r.first
+single-leaf options bytes x r fit HeadingAtx e ends =
+    ap (λ (role : Role). events_by options role (x ∷ [])) (first-role options bytes x r fit HeadingAtx e refl)
+    ∙ heading-one x r.first (read-as options bytes x r fit).at
+single-leaf options bytes x r fit ThematicBreak e ends =
+    let starts = leaf-starts options bytes x r fit ThematicBreak e in
+    let ruled = (and_parts (is_ruled options x.rest)
+    (not (turns_nothing options r.on && is_underline (trim_start x.rest.bytes))) starts).0 in
+    ap (λ (role : Role). events_by options role (x ∷ [])) (first-role options bytes x r fit ThematicBreak e refl)
+    ∙ break-one x r.first (read-as options bytes x r fit).at
+    (and_parts _ (is_rule (trim_start x.rest.bytes)) ruled).1
+single-leaf options bytes x r fit CodeIndented e ends = cc
+single-leaf options bytes x r fit CodeFurther e ends = cc
+single-leaf options bytes x r fit Fence e ends = cc
+single-leaf options bytes x r fit FenceFurther e ends = cc
+single-leaf options bytes x r fit HtmlFlow e ends = cc
+single-leaf options bytes x r fit HtmlFurther e ends = cc
+single-leaf options bytes x r fit HeadingSetext e ends = cc
+single-leaf options bytes x r fit GfmTable e ends = cc
+
+single-events : (options : ParseOptions) (bytes : List ℕ) (x : Row) (r : FrameRow) → Fit options bytes x r →
+    IsSingle options bytes r → events_by options x.role (x ∷ []) ≡ leaf_unread bytes r.kind r
+single-events options bytes x r fit single = go r.kind refl
+  where
+    go : (kind : RowKind) → r.kind ≡ kind → events_by options x.role (x ∷ []) ≡ leaf_unread bytes kind r
+    go BlankRow e =
+        ap (λ (role : Role). events_by options role (x ∷ [])) (blank-role options bytes x r fit e)
+        ∙ append-nil (content_line n.SpaceOrTab 0 x.line x.rest ++ [])
+        ∙ append-nil (content_line n.SpaceOrTab 0 x.line x.rest)
+        ∙ blank-one x r.first (read-as options bytes x r fit).at
+        ∙ ap (λ (line : List ℕ). blank_line line r.first) (sym (line-is options bytes x r fit) ∙ fit.is.text)
+        ∙ sym (fit.is.blank e)
+    go (LeafRow l) e =
+        single-leaf options bytes x r fit l e (single.ends l e)
+        ∙ ap (λ (line : List ℕ). (leaf l).unread line r.first) (sym (line-is options bytes x r fit))
+    go TextRow e = absurd (single.other e)
+
+-- it is no further line of code
+single-ends : (options : ParseOptions) (bytes : List ℕ) (x : Row) (r : FrameRow) → IsSingle options bytes r → MayEnd x r
+single-ends options bytes x r single e = let ends : false ≡ true = single.ends CodeFurther e in cc
+
+pub single-same : (options : ParseOptions) (bytes : List ℕ) (x : Row) (r : FrameRow) → Fit options bytes x r →
+    IsSingle options bytes r → unlisted_group options (x ∷ []) ≡ tabled_group options bytes (Single r)
+single-same options bytes x r fit single =
+    group-same options bytes x [] (Single r) fit
+    (tail-same options bytes x r fit (single-ends options bytes x r single))
+    (single-events options bytes x r fit single)

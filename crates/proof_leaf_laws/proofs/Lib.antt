@@ -1,0 +1,9 @@
+pub mod FrontAgrees
+pub mod Frontmatter
+pub mod FrontUnlinked
+pub mod FullLines
+pub mod MarkLemmas
+pub mod HeadingAtx
+pub mod HeadingSetext
+pub mod MarkRuns
+pub mod ThematicBreak

@@ -1,0 +1,3 @@
+pub mod Front
+pub mod DocumentRule
+pub mod Leaf

@@ -1,0 +1,2 @@
+// The values and laws of headings, thematic breaks and frontmatter.
+#![tactic(auto)]

@@ -1,0 +1,2 @@
+// The values and laws of leaves whose lines are literal text: fences, indented code, HTML.
+#![tactic(auto)]

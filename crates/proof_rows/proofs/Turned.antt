@@ -1,0 +1,13 @@
+-- The laws of a text that an underline turns into a heading.
+pub mod Cut
+pub mod CutReads
+pub mod Events
+pub mod Facts
+pub mod Gap
+pub mod Line
+pub mod Reads
+pub mod Stands
+pub mod Text
+pub mod TextReads
+pub mod Turns
+pub mod Under

@@ -1,0 +1,2 @@
+// The values and laws of tables.
+#![tactic(auto)]

@@ -1,0 +1,10 @@
+pub mod AlertLemmas
+pub mod DefinitionLemmas
+pub mod PieceLemmas
+pub mod RestLemmas
+pub mod LinesLemmas
+pub mod MapLemmas
+pub mod TreeLemmas
+pub mod LabelLemmas
+pub mod FrontLemmas
+pub mod MeaningLemmas

@@ -1,0 +1,8 @@
+pub mod Alerts
+pub mod Trees
+pub mod Rests
+pub mod Pieces
+pub mod Definitions
+pub mod Labels
+pub mod Fronts
+pub mod WholeTrees

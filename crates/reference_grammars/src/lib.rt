@@ -1,0 +1,14 @@
+// The grammars of the line definition as plain functions, which the reference program alone uses: lines, frontmatter,
+// HTML, definitions, labels, tables and alerts. `reference_tree` makes trees of them.
+#![tactic(auto)]
+
+pub mod alert;
+pub mod blocks;
+pub mod definition;
+pub mod html;
+pub mod label;
+pub mod lines;
+pub mod preamble;
+pub mod rest;
+pub mod table;
+pub mod tree;
