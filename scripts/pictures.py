@@ -3,7 +3,7 @@
 crates.txt. With --check both are compared and not written.
 
 It takes the program that `rt ci` has built, or that of the folder PROGRAMS, where that is set."""
-import html, os, subprocess, sys
+import html, os, re, subprocess, sys
 
 os.chdir(os.path.join(os.path.dirname(os.path.abspath(__file__)), ".."))
 EVENTS = os.path.join(os.environ.get("PROGRAMS", "crates/events/out"), "events")
@@ -12,6 +12,23 @@ LEFT, CELL, ROW = 12, 84, 20
 DASHED = ' stroke-dasharray="4 3"'
 FILLS = {"text": "#dff3df", "mark": "#ffe3c2", "space": "#e8edf6", "ending": "#e4e0ff"}
 TEXTS = ("Data", "CodeFlowChunk", "MathFlowChunk", "HtmlFlowData", "FrontmatterChunk")
+
+# The groups of crates, from the top: each depends on those below it.
+GROUPS = (
+    ("Tests and the reference program", r"test_.*|reference_.*|plain_blocks",
+     "what compares definitions, programs and the library with each other"),
+    ("Programs and examples", r"md_program|printing|reports|html_blocks|blocks|events|hoxalgurre|hoxalgurre_c|examples_.*",
+     "what users run, link or copy"),
+    ("The library", r"markdown_blocks", "parse, outline, wrap: what users name"),
+    ("Proofs of the exact list", r"proof_rows|proof_exact.*", "no code: the events of flow are the list of md_exact"),
+    ("The machine", r"md_registry|md_flow|md_at_once", "which constructs there are; lines, read call by call and at once"),
+    ("Laws of constructs", r"proof_frame|proof_.*_laws", "no code: each construct seen by bytes, by cells and by lines"),
+    ("After flow", r"md_order|md_resolve|md_outline|md_wrap", "resolvers, the outline, texts written into containers"),
+    ("Constructs", r"md_leaves|md_code|md_html|md_tables|md_link_definitions|md_content|md_containers",
+     "the states of each construct, with their rules"),
+    ("Beliefs and the tokenizer", r"md_engine|md_meaning|md_events|md_exact|md_scan",
+     "what a text means, what events are, and what calls states"),
+)
 
 
 class Picture:
@@ -133,33 +150,46 @@ def reached(crates, name):
     return found
 
 
-def draw_crates():
-    """The crates in layers, the lowest at the bottom, with a line to each library that no other line leads to."""
-    picture = Picture("The crates, each above those that it depends on")
-    crates = read_crates()
-    below = {name: reached(crates, name) for name in crates}
-    direct = {name: [dep for dep in deps if not any(dep in below[other] for other in deps)] for name, deps in crates.items()}
-    level = {}
-    for name in sorted(crates, key=lambda name: len(below[name])):
-        level[name] = 1 + max((level[dep] for dep in crates[name]), default=-1)
-    layers = [[] for _ in range(max(level.values()) + 1)]
+def grouped(crates):
+    """The crates of each group, those that others depend on first. Each is in one group, and depends on none above."""
+    groups = [[] for _ in GROUPS]
     for name in crates:
-        layers[level[name]].append(name)
-    widest = 7
-    rows = [layer[at:at + widest] for layer in reversed(layers) for at in range(0, len(layer), widest)]
-    places, wide, high = {}, 170, 56
-    for index, row in enumerate(rows):
-        left = (widest - len(row)) * wide / 2 + 12
-        for at, name in enumerate(row):
-            places[name] = (int(left + at * wide), 12 + index * high)
-    for name, (x, y) in places.items():
-        for dep in direct[name]:
-            to_x, to_y = places[dep]
-            picture.line(x + 77, y + 26, to_x + 77, to_y)
-    for name, (x, y) in places.items():
-        fill = "#dff3df" if name == "markdown_blocks" else "#ffe3c2" if not any(name in crates[o] for o in crates) else "#e8edf6"
-        picture.box(x, y, 154, 26, fill)
-        picture.text(x + 77, y + 17, name, 12)
+        found = [at for at, (_, names, _) in enumerate(GROUPS) if re.fullmatch(names, name)]
+        if len(found) != 1:
+            sys.exit(f"pictures: {name} is in {len(found)} groups")
+        groups[found[0]].append(name)
+    place = {name: at for at, group in enumerate(groups) for name in group}
+    for name, deps in crates.items():
+        for dep in deps:
+            if place[dep] < place[name]:
+                sys.exit(f"pictures: {name} depends on {dep}, which is in a group above")
+    below = {name: len(reached(crates, name)) for name in crates}
+    return [sorted(group, key=lambda name: below[name]) for group in groups]
+
+
+def draw_crates():
+    """A box for each group, with its crates, and a line to the group below."""
+    picture = Picture("The crates in nine groups, each above those that it depends on")
+    width, size, top = 900, 12, 12
+    groups = grouped(read_crates())
+    for (title, _, what), names in zip(GROUPS, groups):
+        rows, row = [], ""
+        for name in names:
+            if row and len(row) + len(name) > 110:
+                rows, row = [*rows, row], ""
+            row += (" · " if row else "") + name
+        rows.append(row)
+        height = 26 + 18 * len(rows)
+        has_code = not all(name.startswith("proof_") for name in names)
+        picture.box(LEFT, top, width, height, "#dff3df" if title == "The library" else "#e8edf6" if has_code else "#f7f7fa")
+        picture.text(LEFT + 10, top + 17, title, 13, "start", "bold")
+        picture.text(LEFT + width - 10, top + 17, what, size, "end")
+        for at, row in enumerate(rows):
+            picture.text(LEFT + 10, top + 37 + 18 * at, row, size, "start")
+        top += height
+        if names is not groups[-1]:
+            picture.line(LEFT + width // 2, top, LEFT + width // 2, top + 14)
+            top += 14
     return picture.svg()
 
 
