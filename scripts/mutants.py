@@ -140,7 +140,7 @@ def copied(work, found):
     crates = crates.replace("hoxalgurre_c staticlib:", "hoxalgurre_c:") + "\nmutant:\n"
     for crate in CRATES:
         crates = re.sub(rf"^{crate}:", f"{crate}: mutant", crates, flags=re.M)
-    crates = crates.replace("\nhoxalgurre: ", "\nhoxalgurre: printing printing hoxalgurre_c md_program ")
+    crates = crates.replace("\nhoxalgurre: ", "\nhoxalgurre: printing hoxalgurre_c md_program ")
     for name, text in (("crates.txt", crates), ("crates/mutant/src/lib.rt", LIBRARY),
                        ("crates/mutant/c/mutant.c", IN_C.replace("KEPT", f"{work}/kept"))):
         with open(f"{work}/{name}", "w", encoding="utf-8") as file:
