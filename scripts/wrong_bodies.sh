@@ -6,7 +6,7 @@
 # of the crates, where a body is wrong only for its number: `is_wrong()` in a `new:` line asks that of the constructs, or
 # of the walk over the cells of a table, which have a field for it in the copy, or in `md_program` of the program's name.
 # The copy of `test_bench` then tries the rows with the number of its argument, and 0 is for the bodies as they are; of the
-# parser also the rows of events, as the program `events` prints them and by `references`. It also prints the status of a
+# parser also the rows of events, as the program `events` prints them and by `examples_layer`. It also prints the status of a
 # run with an argument that is none. An edit of a crate of the plain program changes that body, each other the parser. One
 # with the line `# bench` is tried with each construct off too, by its events, and on long labels, and something must be
 # wrong.
