@@ -1,5 +1,4 @@
-// The parser with the layer `references`, as a body whose events mark references.
-ghost use Rattle.std.specs.Prelude.{Unit};
+// The parser with the layer of `examples_layer`, as a body whose events mark references.
 ghost use Rattle.markdown_blocks.specs.Parsed.{IsWithoutMdx};
 ghost use Rattle.printing.specs.Built.{built_from};
 
