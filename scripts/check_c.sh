@@ -22,8 +22,8 @@ library=${LIBRARY:-$work/libhoxalgurre_c.a}
 if [ ! -f "$library" ]; then
     below=$(python3 - crates.txt <<'PYTHON'
 import sys
-lines = [line.split("#")[0].partition(":") for line in open(sys.argv[1], encoding="utf-8") if ":" in line]
-below = {name.split()[0]: crates.split() for name, _, crates in lines}
+lines = [line.split("#")[0].partition(":") for line in open(sys.argv[1], encoding="utf-8")]
+below = {name.split()[0]: crates.split() for name, colon, crates in lines if colon}
 needed, left = set(), ["hoxalgurre_c"]
 while left:
     name = left.pop()
