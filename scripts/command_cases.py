@@ -15,6 +15,22 @@ REDIRECTED = {"full": ">/dev/full", "no errors": "2>&-", "errors full": "2>/dev/
 
 PAGE = "docs/hoxalgurre.1"
 
+# What is printed of a table without an argument: a paragraph, as in CommonMark.
+WITHOUT_TABLES = {
+    "blocks": b"paragraph\n  | |a|\n  | |-|\n\ndefinitions 0\nfootnotes 0\n",
+    "events": b"""+ Paragraph 1 1 0 0
+  + Data 1 1 0 0
+  - Data 1 4 3 0
+  + LineEnding 1 4 3 0
+  - LineEnding 2 1 4 0
+  + Data 2 1 4 0
+  - Data 2 4 7 0
+- Paragraph 2 4 7 0
++ LineEnding 2 4 7 0
+- LineEnding 3 1 8 0
+""",
+}
+
 # Texts that are not UTF-8, each with the line and the column of the first byte that is none.
 BROKEN = [
     (b"\xff", 1, 1), (b"a\xff", 1, 2), (b"a\nb\xff", 2, 2), (b"a\r\nb\xff", 2, 2), (b"a\rb\xff", 2, 2),
@@ -121,6 +137,7 @@ def argument_cases(folder):
         yield Case(["gfm"], stderr=f"{name}: read failed\n".encode(), status=4, name=name, how="no input")
         yield Case(["gfm"], stderr=f"{name}: write failed\n".encode(), status=4, name=name, how="full", stdin=b"a")
         yield Case(["x"], status=2, name=name, how="no errors")
+        yield Case([], stdout=WITHOUT_TABLES[name], name=name, stdin=b"|a|\n|-|\n")
 
 
 SHORT = {"a.md": b"# a\n\n|b|\n|-|\n", "b.md": b"> [!tip]\n> c\n\n$$\nd\n$$\n\n[^e]: f\n", "-x.md": b"- g\n\n  h\n",
