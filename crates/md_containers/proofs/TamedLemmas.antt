@@ -9,7 +9,7 @@ use Rattle.md_engine.specs.declared.event.Name.TheVariants as n
 use Rattle.md_containers.specs.Unlisted.{in_place}
 use Rattle.md_events.specs.Events.Grammar.{Expression, Many, Never, Nothing, One, Or, Then, and_then, behind}
 use Rattle.md_events.specs.Events.Grammar.{behind_block, blocks, inside, may_end, one, or_else, white}
-use Rattle.md_events.specs.Events.Names.{same_name}
+use Rattle.md_events.specs.Events.Words.{same_name}
 
 -- Containers.
 

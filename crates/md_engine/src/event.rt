@@ -68,7 +68,7 @@ pub struct Event {
 /// Most of what a parse takes of memory is events.
 const _: () = prove!(size_of::<Event>() <= 40);
 
-/// Names of parts, by construct.
+/// Names of parts, by construct. From `Link` on they are of inline layers: no block and no line has them.
 #[derive(Clone, Copy, Debug, PartialEq, Eq)]
 pub enum Name {
     // Frontmatter.
@@ -159,8 +159,81 @@ pub enum Name {
     // What is read later, until it is.
     Content,
     Data,
-    // What an inline layer may find in a text: a link, its brackets, and the text between them.
+    // What an inline layer alone gives. A link, its brackets, and the text between them.
     Link,
     LabelMarker,
     LabelText,
+    // An image, and what else the label of a link, of an image and of a call has.
+    Image,
+    Label,
+    LabelLink,
+    LabelImage,
+    LabelImageMarker,
+    LabelEnd,
+    // The call of a footnote.
+    GfmFootnoteCall,
+    GfmFootnoteCallLabel,
+    GfmFootnoteCallMarker,
+    // Where a link leads, in parentheses after its label.
+    Resource,
+    ResourceMarker,
+    ResourceDestination,
+    ResourceDestinationLiteral,
+    ResourceDestinationLiteralMarker,
+    ResourceDestinationRaw,
+    ResourceDestinationString,
+    ResourceTitle,
+    ResourceTitleMarker,
+    ResourceTitleString,
+    // The label of a definition after its label.
+    Reference,
+    ReferenceMarker,
+    ReferenceString,
+    // Emphasis, strong emphasis and strikethrough.
+    Emphasis,
+    EmphasisSequence,
+    EmphasisText,
+    Strong,
+    StrongSequence,
+    StrongText,
+    GfmStrikethrough,
+    GfmStrikethroughSequence,
+    GfmStrikethroughText,
+    // Code, math and HTML in a text.
+    CodeText,
+    CodeTextSequence,
+    CodeTextData,
+    MathText,
+    MathTextSequence,
+    MathTextData,
+    HtmlText,
+    HtmlTextData,
+    // Autolinks, in angle brackets and without them.
+    Autolink,
+    AutolinkMarker,
+    AutolinkProtocol,
+    AutolinkEmail,
+    GfmAutolinkLiteralEmail,
+    GfmAutolinkLiteralMailto,
+    GfmAutolinkLiteralProtocol,
+    GfmAutolinkLiteralWww,
+    GfmAutolinkLiteralXmpp,
+    // Escapes, and references to characters.
+    CharacterEscape,
+    CharacterEscapeMarker,
+    CharacterEscapeValue,
+    CharacterReference,
+    CharacterReferenceMarker,
+    CharacterReferenceMarkerNumeric,
+    CharacterReferenceMarkerHexadecimal,
+    CharacterReferenceValue,
+    CharacterReferenceMarkerSemi,
+    // Hard line breaks.
+    HardBreakEscape,
+    HardBreakTrailing,
+    // The check of a task item.
+    GfmTaskListItemCheck,
+    GfmTaskListItemMarker,
+    GfmTaskListItemValueChecked,
+    GfmTaskListItemValueUnchecked,
 }

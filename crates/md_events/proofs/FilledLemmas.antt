@@ -24,10 +24,8 @@ use Rattle.md_events.proofs.ToldLemmas.{told-role}
 
 -- what an inline layer may give is quiet, or a line ending
 pub inline-role : (name : Name) → is_inline name ≡ true → QuietOrEnding (role name)
-inline-role n.ByteOrderMark h = tt
 inline-role n.SpaceOrTab h = tt
 inline-role n.LineEnding h = tt
-inline-role n.BlankLineEnding h = tt
 inline-role n.Data h = tt
 inline-role _ h = cc
 

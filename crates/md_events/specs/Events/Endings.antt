@@ -7,31 +7,12 @@ use Rattle.md_engine.specs.declared.event.Event.{Event}
 use Rattle.md_engine.specs.declared.event.Kind.{Kind}
 use Rattle.md_engine.specs.declared.event.Kind.TheVariants.{Enter, Exit}
 use Rattle.md_engine.specs.declared.event.Name.{Name}
-use Rattle.md_engine.specs.declared.event.Name.TheVariants as n
+use Rattle.md_events.specs.Events.Names.{facts}
+pub use Rattle.md_events.specs.Events.Names.{OnLine, IsLeaf, Ends, IsOther}
 
 -- What a name says of the line on which it is.
-pub data OnLine : Type 0 where
-  -- a leaf block begins or ends
-  IsLeaf : OnLine
-  -- an ending, of a blank line or of another
-  Ends : Bool → OnLine
-  IsOther : OnLine
-
 abbrev pub on_line : Name → OnLine
-on_line n.Frontmatter = IsLeaf
-on_line n.HeadingAtx = IsLeaf
-on_line n.HeadingSetext = IsLeaf
-on_line n.ThematicBreak = IsLeaf
-on_line n.CodeIndented = IsLeaf
-on_line n.CodeFenced = IsLeaf
-on_line n.MathFlow = IsLeaf
-on_line n.HtmlFlow = IsLeaf
-on_line n.Definition = IsLeaf
-on_line n.Paragraph = IsLeaf
-on_line n.GfmTable = IsLeaf
-on_line n.LineEnding = Ends false
-on_line n.BlankLineEnding = Ends true
-on_line _ = IsOther
+on_line name = (facts name).line
 
 -- where one is in a text: whether in a leaf, and whether one was on the line before here
 pub record EndingPlace : Type 0 where

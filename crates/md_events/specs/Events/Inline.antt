@@ -12,6 +12,7 @@ use Rattle.md_events.specs.declared.inline.PartKind.{PartKind}
 use Rattle.md_events.specs.declared.inline.Chunk.{Chunk}
 use Rattle.md_meaning.specs.Lines.{without_ending}
 use Rattle.md_meaning.specs.Texts.{split_lines}
+use Rattle.md_events.specs.Events.Names.{facts}
 use Rattle.md_events.specs.Events.Places.{first_point, is_placed, are_placed, same_place, at_or_before, past_text}
 use Rattle.md_events.specs.Events.Nested.{Balanced, Forward, last_point, pair}
 use Rattle.md_events.specs.Substituted.{share}
@@ -127,15 +128,7 @@ plain_events bytes part = together (plain_chunks bytes part.chunks)
 
 -- whether a name may be inside a text part: the others are names of blocks and of their parts
 abbrev pub is_inline : Name → Bool
-is_inline n.ByteOrderMark = true
-is_inline n.SpaceOrTab = true
-is_inline n.LineEnding = true
-is_inline n.BlankLineEnding = true
-is_inline n.Data = true
-is_inline n.Link = true
-is_inline n.LabelMarker = true
-is_inline n.LabelText = true
-is_inline _ = false
+is_inline name = (facts name).is_inline
 
 abbrev pub is_line_ending : Name → Bool
 is_line_ending n.LineEnding = true

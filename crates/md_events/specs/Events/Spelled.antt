@@ -9,7 +9,6 @@ use Rattle.md_engine.specs.declared.event.Event.{Event}
 use Rattle.md_engine.specs.declared.event.Kind.{Kind}
 use Rattle.md_engine.specs.declared.event.Kind.TheVariants.{Enter, Exit}
 use Rattle.md_engine.specs.declared.event.Name.{Name}
-use Rattle.md_engine.specs.declared.event.Name.TheVariants as n
 use Rattle.md_meaning.specs.Tree.{Line, Block, Blocks, Quote, ListOf, Item, Footnote, Heading, Break, Code, Html}
 use Rattle.md_meaning.specs.Tree.{Fence, Math, Definition, Paragraph, Table, End, More}
 use Rattle.md_meaning.specs.Tree as t
@@ -19,6 +18,15 @@ use Rattle.md_meaning.specs.Containers.{is_bullet}
 use Rattle.md_meaning.specs.Rest.{trim, tab_columns}
 use Rattle.md_meaning.specs.State.{then_block}
 use Rattle.md_meaning.specs.Texts.{split_lines, trim_each, trim_further, first_byte}
+use Rattle.md_events.specs.Events.Names.{facts}
+pub use Rattle.md_events.specs.Events.Roles.{Shape, QuoteShape, OrderedShape, UnorderedShape, ItemShape, FootnoteShape}
+pub use Rattle.md_events.specs.Events.Roles.{LeafKind, OfFrontmatter, OfHeadingAtx, OfHeadingSetext, OfBreak, OfCode}
+pub use Rattle.md_events.specs.Events.Roles.{OfFence, OfMath, OfHtml, OfDefinition, OfTable}
+pub use Rattle.md_events.specs.Events.Roles.{Purpose, AsParagraph, AsHeading, AsMarkers, AsLine, AsInfo, AsMeta, AsLabel}
+pub use Rattle.md_events.specs.Events.Roles.{AsDestination, AsTitle, AsCell, AsDelimiter, AsFootnoteLabel, AsDigits}
+pub use Rattle.md_events.specs.Events.Roles.{AsItemMarker}
+pub use Rattle.md_events.specs.Events.Roles.{Role, ContainerRole, LeafRole, TextRole, IsFence, IsTitle, IsRow, IsCell}
+pub use Rattle.md_events.specs.Events.Roles.{IsPrefix, IsEnding, IsQuoteMarker, IsQuiet}
 
 -- a list with its last item changed
 abbrev pub on_last : {A : Type 0} → (A → A) → List A → List A
@@ -42,32 +50,10 @@ abbrev pub first_some : {A : Type 0} → Option A → A → Option A
 first_some None now = Some now
 first_some (Some x) now = Some x
 
--- What is known of an open container: which list it is, an item's marker and digits, the label of a footnote
--- definition. There is no marker yet where it is 0, and no digits or label where they are empty.
-pub data Shape : Type 0 where
-  QuoteShape : Option AlertKind → Shape
-  OrderedShape : Shape
-  UnorderedShape : Shape
-  ItemShape : ℕ → List ℕ → Shape
-  FootnoteShape : List ℕ → Shape
-
 -- an open container, and the blocks that were finished before it
 pub record OpenContainer : Type 0 where
   pub shape : Shape
   pub before : Blocks
-
--- The kinds of leaf blocks that have parts; a paragraph is a text alone.
-pub data LeafKind : Type 0 where
-  OfFrontmatter : LeafKind
-  OfHeadingAtx : LeafKind
-  OfHeadingSetext : LeafKind
-  OfBreak : LeafKind
-  OfCode : LeafKind
-  OfFence : LeafKind
-  OfMath : LeafKind
-  OfHtml : LeafKind
-  OfDefinition : LeafKind
-  OfTable : LeafKind
 
 -- What was found so far in a leaf block that is open. What is not there yet is an empty list or `None`.
 
@@ -130,98 +116,9 @@ pub record Reading : Type 0 where
   pub leaf : Option OpenLeaf
   pub text : Option Text
 
--- What a text is read as.
-pub data Purpose : Type 0 where
-  AsParagraph : Purpose
-  AsHeading : Purpose
-  AsMarkers : Purpose
-  AsLine : Purpose
-  AsInfo : Purpose
-  AsMeta : Purpose
-  AsLabel : Purpose
-  AsDestination : Purpose
-  AsTitle : Purpose
-  AsCell : Purpose
-  AsDelimiter : Purpose
-  AsFootnoteLabel : Purpose
-  AsDigits : Purpose
-  AsItemMarker : Purpose
-
--- What a pair of events means, by its name.
-pub data Role : Type 0 where
-  -- a container, as it begins
-  ContainerRole : Shape → Role
-  -- a leaf block
-  LeafRole : LeafKind → Role
-  -- the slice between the points
-  TextRole : Purpose → Role
-  -- a fence, or one of frontmatter
-  IsFence : Role
-  -- a title, also an empty one
-  IsTitle : Role
-  -- a row of a table
-  IsRow : Role
-  -- a cell of a row, also an empty one
-  IsCell : Role
-  -- a container prefix, which belongs to no text
-  IsPrefix : Role
-  -- a line ending, which may open a line
-  IsEnding : Role
-  -- a marker of a quote, which may show its kind
-  IsQuoteMarker : Role
-  -- what the tree does not show
-  IsQuiet : Role
-
--- The names that are read, and what for.
+-- What the events of a name are read as.
 abbrev pub role : Name → Role
-role n.Frontmatter = LeafRole OfFrontmatter
-role n.FrontmatterFence = IsFence
-role n.FrontmatterSequence = TextRole AsMarkers
-role n.FrontmatterChunk = TextRole AsLine
-role n.BlockQuote = ContainerRole (QuoteShape None)
-role n.BlockQuoteMarker = IsQuoteMarker
-role n.BlockQuotePrefix = IsPrefix
-role n.ListOrdered = ContainerRole OrderedShape
-role n.ListUnordered = ContainerRole UnorderedShape
-role n.ListItem = ContainerRole (ItemShape 0 [])
-role n.ListItemValue = TextRole AsDigits
-role n.ListItemMarker = TextRole AsItemMarker
-role n.GfmFootnoteDefinition = ContainerRole (FootnoteShape [])
-role n.GfmFootnoteDefinitionLabelString = TextRole AsFootnoteLabel
-role n.HeadingAtx = LeafRole OfHeadingAtx
-role n.HeadingAtxSequence = TextRole AsMarkers
-role n.HeadingAtxText = TextRole AsHeading
-role n.HeadingSetext = LeafRole OfHeadingSetext
-role n.HeadingSetextText = TextRole AsHeading
-role n.HeadingSetextUnderlineSequence = TextRole AsMarkers
-role n.ThematicBreak = LeafRole OfBreak
-role n.CodeIndented = LeafRole OfCode
-role n.CodeFenced = LeafRole OfFence
-role n.CodeFencedFence = IsFence
-role n.CodeFencedFenceSequence = TextRole AsMarkers
-role n.CodeFencedFenceInfo = TextRole AsInfo
-role n.CodeFencedFenceMeta = TextRole AsMeta
-role n.CodeFlowChunk = TextRole AsLine
-role n.MathFlow = LeafRole OfMath
-role n.MathFlowFence = IsFence
-role n.MathFlowFenceSequence = TextRole AsMarkers
-role n.MathFlowFenceMeta = TextRole AsMeta
-role n.MathFlowChunk = TextRole AsLine
-role n.HtmlFlow = LeafRole OfHtml
-role n.HtmlFlowData = TextRole AsLine
-role n.Definition = LeafRole OfDefinition
-role n.DefinitionLabelString = TextRole AsLabel
-role n.DefinitionDestinationString = TextRole AsDestination
-role n.DefinitionTitle = IsTitle
-role n.DefinitionTitleString = TextRole AsTitle
-role n.Paragraph = TextRole AsParagraph
-role n.GfmTable = LeafRole OfTable
-role n.GfmTableRow = IsRow
-role n.GfmTableCell = IsCell
-role n.GfmTableCellText = TextRole AsCell
-role n.GfmTableDelimiterRow = TextRole AsDelimiter
-role n.LineEnding = IsEnding
-role _ = IsQuiet
+role name = (facts name).role
 
 -- Texts.
 

@@ -14,6 +14,7 @@ use Rattle.md_events.specs.declared.inline.PartKind.{PartKind}
 use Rattle.md_events.specs.declared.inline.PartKind.TheVariants as k
 use Rattle.md_events.specs.declared.inline.Chunk.{Chunk}
 use Rattle.md_meaning.specs.Rest.{is_blank}
+use Rattle.md_events.specs.Events.Names.{facts}
 use Rattle.md_events.specs.Events.Prefix.{is_prefix}
 use Rattle.md_events.specs.Events.Places.{first_point, are_placed, same_place}
 use Rattle.md_events.specs.Events.Nested.{Nested, is_exit}
@@ -29,20 +30,9 @@ end_point bytes = record first_point { index = length bytes }
 
 -- Text parts.
 
--- The names of text parts, and what each may hold.
+-- What a text part of each name may hold; a name that has no kind is no text part's.
 abbrev pub part_kind : Name → Option PartKind
-part_kind n.Paragraph = Some k.Text
-part_kind n.HeadingAtxText = Some k.Text
-part_kind n.HeadingSetextText = Some k.Text
-part_kind n.GfmTableCellText = Some k.Text
-part_kind n.CodeFencedFenceInfo = Some k.String
-part_kind n.CodeFencedFenceMeta = Some k.String
-part_kind n.MathFlowFenceMeta = Some k.String
-part_kind n.DefinitionLabelString = Some k.String
-part_kind n.DefinitionDestinationString = Some k.String
-part_kind n.DefinitionTitleString = Some k.String
-part_kind n.GfmFootnoteDefinitionLabelString = Some k.String
-part_kind _ = None
+part_kind name = (facts name).part
 
 -- What may be inside a text part beside the enters of its chunks: their exits, container prefixes, and spaces and tabs.
 abbrev pub stands_in_part : Kind → Name → Bool
