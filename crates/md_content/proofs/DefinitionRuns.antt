@@ -15,7 +15,7 @@ use Rattle.md_engine.specs.TextFeed.{text_feed}
 use Rattle.md_engine.specs.World.{Setting, fresh, line_begun}
 use Rattle.md_content.specs.ContentReads.{content_events, end_of, first_of, part_world, settled}
 use Rattle.md_content.specs.WholeLines.{are_lines, is_followed}
-use Rattle.md_content.proofs.ContentReadsLemmas.{end-at, first-at, small-at}
+use Rattle.md_content.proofs.ContentReadsLemmas.{end-at, small-at}
 use Rattle.md_content.specs.ContentRule.{content_over}
 use Rattle.md_content.specs.WholeDefinitions.{definition_part}
 use Rattle.md_content.specs.WholeDefinitions.{IsDefinition, IsWritten, past}
@@ -25,7 +25,7 @@ use Rattle.md_events.specs.declared.inline.Chunk.{Chunk}
 use Rattle.md_events.specs.Events.Nested.{pair}
 use Rattle.md_events.specs.Parts.{AreChunks, ArePlaced, IsChunk}
 use Rattle.md_events.proofs.PlacesLemmas.{at-next}
-use Rattle.std.proofs.lemmas.List.Elements.{All-append, All-drop, All-head, All-nil}
+use Rattle.std.proofs.lemmas.List.Elements.{All-append, All-drop, All-head}
 use Rattle.md_content.proofs.DefinitionSteps.{all-placed, definition-placed, end-placed, has-text, reads}
 use Rattle.md_content.proofs.DefinitionSteps.{step-last, step-on}
 
@@ -62,18 +62,6 @@ pub record Written (bytes : List ℕ) (chunks : List Chunk) (at : ℕ) (d : Chun
       slice_index bytes (get_or chunks at d).first.index ≡ 91 →
       events ++ reads options (setting_of bytes options chunks) (drop at chunks) ≡
       reads options (setting_of bytes options chunks) chunks
-
-pub written-none : (bytes : List ℕ) (chunks : List Chunk) (d : Chunk) → AreChunks bytes chunks → are_lines chunks ≡ true →
-    Written bytes chunks 0 d []
-written-none bytes chunks d are lines = record {
-  within = are.some;
-  lines = lines;
-  line =
-      let same = ap (λ (p : Point). p.line) (first-at chunks d are.some) in omega (arith, same);
-  end = refl;
-  placed = All-nil (λ (e : Event). IsPlaced bytes e.point);
-  so_far = λ options on bracket. refl;
-}
 
 end-limit : (bytes : List ℕ) (chunks : List Chunk) (d : Chunk) → AreChunks bytes chunks → end_of chunks < 2 ^ 61
 end-limit bytes chunks d are =

@@ -18,7 +18,7 @@ use Rattle.md_engine.specs.Place.{is_ending, next_point, seen_at}
 use Rattle.md_engine.specs.TextFeed.{text_feed}
 use Rattle.md_engine.specs.World.{Setting}
 use Rattle.md_content.specs.WholeDefinitions as whole
-use Rattle.md_content.specs.WholeDefinitions.{AreParts, definition_between, definition_line, definition_part, is_label_byte}
+use Rattle.md_content.specs.WholeDefinitions.{AreParts, definition_between, definition_part, is_label_byte}
 use Rattle.md_content.specs.WholeDefinitions.{IsDefinition, label_part, past}
 use Rattle.md_content.proofs.LineReads.{after-plain}
 use Rattle.md_link_definitions.specs.Chunks.{before_mark, chunks, from_mark, string_link}

@@ -1,5 +1,5 @@
 -- What a call that has not failed gives.
-use Rattle.std.proofs.Common.{◌≡◌, Bool, true, is_ok}
+use Rattle.std.proofs.Common.{◌≡◌, true, is_ok}
 use Rattle.std.specs.Prelude.{OnOk}
 use Rattle.std.specs.declared.result.Result.{Result}
 use Rattle.std.specs.declared.result.Result.TheVariants as result

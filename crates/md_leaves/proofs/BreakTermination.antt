@@ -47,12 +47,7 @@ rest-marker s e = ap without_marker e ∙ sym e
 pub rest-white : (s : Scratch) → IsRest s → without_marker (calmed s) ≡ s
 rest-white s e = ap (λ (t : Scratch). without_marker (calmed t)) e ∙ sym e
 
--- after a run the rank is low
-pub low-rank : (y : Bool) → (cond y (ranked 2 refl) (ranked 0 refl)).number < 3
-low-rank true = omega arith
-low-rank false = omega arith
-
--- at a marker it is below that before the marker,
+-- at a marker the rank is below that before the marker,
 marked-rank : (y : Bool) → (cond y (ranked 2 refl) (ranked 0 refl)).number < 4
 marked-rank true = omega arith
 marked-rank false = omega arith

@@ -20,9 +20,6 @@ pub meaning-Quote : (kind : Option AlertKind) (bs : Vec Block Global) →
 meaning-Quote kind bs =
     ap meaning (sym (b.rolls-Quote kind bs)) ∙ fold-roll-Block t.Block block_step (layer.Quote kind bs)
 
-pub meaning-ListOf : (m : ℕ) (bs : Vec Block Global) → meaning (b.ListOf m bs) ≡ t.ListOf m (meanings bs.items)
-meaning-ListOf m bs = ap meaning (sym (b.rolls-ListOf m bs)) ∙ fold-roll-Block t.Block block_step (layer.ListOf m bs)
-
 pub meaning-Footnote : (label : Bor (List ℕ)) (bs : Vec Block Global) →
     meaning (b.Footnote label bs) ≡ t.Footnote label.now (meanings bs.items)
 meaning-Footnote label bs =

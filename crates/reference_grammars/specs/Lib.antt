@@ -3,6 +3,4 @@ pub mod Trees
 pub mod Rests
 pub mod Pieces
 pub mod Definitions
-pub mod Labels
 pub mod Fronts
-pub mod WholeTrees

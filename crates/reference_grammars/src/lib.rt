@@ -1,12 +1,10 @@
 // The grammars of the line definition as plain functions, which the reference program alone uses: lines, frontmatter,
-// HTML, definitions, labels, tables and alerts. `reference_tree` makes trees of them.
+// HTML, definitions, tables and alerts, and the blocks of a tree. `reference_tree` makes trees of them.
 #![tactic(auto)]
 
 pub mod alert;
-pub mod blocks;
 pub mod definition;
 pub mod html;
-pub mod label;
 pub mod lines;
 pub mod preamble;
 pub mod rest;

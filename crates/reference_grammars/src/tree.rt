@@ -1,4 +1,4 @@
-// The block tree: what a text means, with slices of it.
+// The blocks of a tree: what a text means, with slices of it.
 
 use md_meaning::alert::AlertKind;
 
@@ -36,12 +36,4 @@ pub enum Block<'a> {
     Paragraph(Vec<&'a [u8]>),
     /// The delimiter row without outer whitespace, and the cells of each row, the head first.
     Table(&'a [u8], Vec<Vec<&'a [u8]>>),
-}
-
-/// The block tree of a text.
-#[derive(Drop)]
-pub struct Tree<'a> {
-    pub frontmatter: Option<Block<'a>>,
-    /// The blocks of the body, at the root.
-    pub blocks: Vec<Block<'a>>,
 }

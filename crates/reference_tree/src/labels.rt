@@ -3,10 +3,9 @@
 ghost use Rattle.std.specs.Prelude.{◌≡◌, [], ◌∷◌, ◌++◌, map, string_bytes, IfOk, OnOk};
 ghost use Rattle.md_meaning.specs.Label as label;
 ghost use Rattle.md_scan.specs.Definitions.{texts};
-ghost use Rattle.reference_grammars.specs.Labels.{labels_meaning};
 ghost use Rattle.reference_grammars.specs.Trees.{meaning};
 ghost use Rattle.reference_tree.specs.Held.{blocks_meaning};
-ghost use Rattle.reference_tree.specs.Labels.{labels_at, own_labels};
+ghost use Rattle.reference_tree.specs.Labels.{labels_at, labels_meaning, own_labels};
 ghost use Rattle.reference_tree.specs.Placed.{places};
 
 use crate::blocks::Blocks;
@@ -14,9 +13,15 @@ use crate::order::{Place, in_order};
 use md_engine::message::Message;
 use md_scan::label::normal_form;
 use md_scan::memory;
-use reference_grammars::label::Labels;
 use reference_grammars::tree::Block;
 use std::alloc::Global;
+
+/// The normal forms of the labels of a tree, in source order, repeats kept.
+#[derive(Drop)]
+pub struct Labels {
+    pub definitions: Vec<String>,
+    pub footnotes: Vec<String>,
+}
 
 /// Adds the normal form of a label, given its lines, also where it is there already.
 fn push_form(alloc: Global, forms: &mut Vec<String>, lines: &[&[u8]]) -> Result<(), Message>
@@ -51,7 +56,7 @@ fn push_places(alloc: Global, labels: &mut Labels, found: &[Place<'_, '_>]) -> R
     Ok(())
 }
 
-/// The normal forms of the labels of a tree, in source order, repeats kept.
+/// The labels of a tree.
 #[tactic(auto, using(crate::proofs::PlacedLemmas::labels_placed))]
 pub fn labels_of(alloc: Global, tree: &Blocks) -> Result<Labels, Message>
     ensures { IfOk result (λ found. labels_meaning found ≡ label.labels (blocks_meaning tree.now)) }

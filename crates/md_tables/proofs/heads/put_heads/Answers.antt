@@ -1,12 +1,9 @@
-use Rattle.std.proofs.Common.{◌≡◌, ℕ, ◌+◌, List, ap, arith, drop, get_or, subst, sym, ◌∙◌, not}
-use Rattle.std.specs.List.{prefix_len}
-use Rattle.std.proofs.lemmas.List.{take_rest}
+use Rattle.std.proofs.Common.{◌≡◌, ◌+◌, List, ap, arith, get_or, subst, sym, ◌∙◌}
 use Rattle.md_engine.specs.declared.event.Event.{Event}
 use Rattle.md_engine.specs.Place.{IsPlaced}
 use Rattle.md_events.specs.Parts.{ArePlaced}
 use Rattle.md_events.specs.Rewritten.{left_of}
-use Rattle.md_tables.specs.Heads.{begins_chunk}
-use Rattle.md_tables.proofs.HeadsWalk.{head-two, headed-next, leads-all, leads-first, leads-headed, leads-held}
+use Rattle.md_tables.proofs.HeadsWalk.{head-two, leads-all, leads-first, leads-headed, leads-held}
 use Rattle.md_tables.proofs.Unset.{unset}
 use Rattle.md_tables.proofs.heads.put_heads.Goals as goal
 

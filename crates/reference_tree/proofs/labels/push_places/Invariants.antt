@@ -1,7 +1,6 @@
 use Rattle.std.proofs.Common.{◌≡◌, drop}
 use Rattle.md_meaning.specs.Label.{both}
-use Rattle.reference_grammars.specs.Labels.{labels_meaning}
-use Rattle.reference_tree.specs.Labels.{labels_at}
+use Rattle.reference_tree.specs.Labels.{labels_at, labels_meaning}
 use Rattle.reference_tree.specs.Placed.{places}
 use Rattle.reference_tree.proofs.labels.push_places.Given as goal
 
