@@ -349,226 +349,255 @@ record IsTextHeld (on : HeldLeaf) : Type 0 where
   at : OpenText
   is : on ≡ held_leaf.Text at
 
-match-step : (options : ParseOptions) (bytes : List ℕ) (Fit : Fits) (e f : exact.Row) (es fs : List exact.Row)
-    (ess : List (List exact.Row)) (row next : Row) (rows : List Row) →
-    AreAligned options bytes Fit (e ∷ f ∷ es) (row ∷ next ∷ rows) →
-    GroupsMatch Fit (groups (next ∷ rows)) ((f ∷ fs) ∷ ess) →
-    GroupsMatch Fit (groups (row ∷ next ∷ rows)) (joined e f fs ess (goes_kind next rows next.kind))
-match-step options bytes Fit e f es fs ess row next rows are more = go row.kind refl
+-- A line before others, of which those after it are put together as their rows are.
+record LineStep : Type 1 where
+  options : ParseOptions
+  bytes : List ℕ
+  Fit : Fits
+  e : exact.Row
+  f : exact.Row
+  es : List exact.Row
+  fs : List exact.Row
+  ess : List (List exact.Row)
+  row : Row
+  next : Row
+  rows : List Row
+  are : AreAligned options bytes Fit (e ∷ f ∷ es) (row ∷ next ∷ rows)
+  more : GroupsMatch Fit (groups (next ∷ rows)) ((f ∷ fs) ∷ ess)
+
+-- the groups after it, and whether it is put together with the first of them
+abbrev groups_after : LineStep → List Group
+groups_after s = groups (s.next ∷ s.rows)
+
+abbrev is_joined : LineStep → Bool
+is_joined s = goes_kind s.next s.rows s.next.kind
+
+-- the further lines of the leaf of the next line, and the groups after them
+abbrev further_lines : LineStep → List Row
+further_lines s = further_rows s.rows
+
+abbrev groups_below : LineStep → List Group
+groups_below s = groups (behind_further s.rows)
+
+abbrev Matches : LineStep → List Group → Bool → Type 0
+Matches s here x = GroupsMatch s.Fit here (joined s.e s.f s.fs s.ess x)
+
+-- nothing is open after the line
+single-step : (s : LineStep) → s.row.behind ≡ held_leaf.None → Matches s (Single s.row ∷ groups_after s) (is_joined s)
+single-step s none =
+    alone-step s.Fit s.e s.f s.fs s.ess s.row (groups_after s) (is_joined s) s.are.0.fits
+    (unlazy-goes s.row s.next s.rows s.are.1 (ap takes_lazy none)
+    (shut-further s.options s.bytes s.are.2.0.line s.row s.next s.are.2.0.is s.are.1 (ap may_go_on none))) s.more
+
+-- a line that continues a leaf meets what is open, and is put together with the line before it but for blank lines
+meets-open : (s : LineStep) → is_further s.next.kind s.next.on ≡ true → s.next.on ≡ s.row.behind
+meets-open s y = s.are.1.met (further-may s.options s.bytes s.are.2.0.line s.next s.are.2.0.is y)
+
+joined-further : (s : LineStep) (m : LeafName) → s.next.kind ≡ LeafRow m → is_further s.next.kind s.next.on ≡ true →
+    is_joined s ≡ (not (is_code s.next.on) || any_framed row_unread (s.next ∷ further_lines s))
+joined-further s m k y =
+    ap (goes_kind s.next s.rows) k
+    ∙ ap (λ (x : Bool). x && (not (is_code s.next.on) || in_code s.next s.rows))
+    (ap (λ (kind : RowKind). is_further kind s.next.on) (sym k) ∙ y)
+
+-- a line of a leaf of several
+leaf-step : (s : LineStep) → takes_lazy s.row.behind ≡ false → (y : Bool) → is_further s.next.kind s.next.on ≡ y →
+    (kind : RowKind) → s.next.kind ≡ kind → Matches s (onto_span s.row (groups_after s)) (is_joined s)
+leaf-step s unlazy false y kind k =
+    subst (λ (l : List Group). Matches s l (is_joined s))
+    (sym (span-alone s.row (groups_after s) (onto-first Begins s.next s.next.kind (groups s.rows) y)))
+    (alone-step s.Fit s.e s.f s.fs s.ess s.row (groups_after s) (is_joined s) s.are.0.fits
+    (unlazy-goes s.row s.next s.rows s.are.1 unlazy y) s.more)
+leaf-step s unlazy true y BlankRow k =
+    let bad : false ≡ true = ap (λ (kind : RowKind). is_further kind s.next.on) (sym k) ∙ y in absurd (cc)
+leaf-step s unlazy true y TextRow k =
+    let bad : false ≡ true = ap (λ (kind : RowKind). is_further kind s.next.on) (sym k) ∙ y in absurd (cc)
+leaf-step s unlazy true y (LeafRow m) k =
+    subst (λ (l : List Group). Matches s l (is_joined s)) (sym (ap (onto_span s.row) same ∙ ap put_together y))
+    (subst (λ (x : Bool). Matches s (LeafLines s.row (s.next ∷ further_lines s) ∷ groups_below s) x)
+    (sym
+    (joined-further s m k y
+    ∙ ap (λ (x : Bool). not x || any_framed row_unread (s.next ∷ further_lines s)) (ap is_code (meets-open s y))))
+    (span-step s.Fit s.e s.f s.fs s.ess s.row s.next (further_lines s) (GroupsMatch s.Fit (groups_below s))
+    (is_code s.row.behind) (any_framed row_unread (s.next ∷ further_lines s)) s.are.0.fits refl
+    (subst
+    (λ (x : Bool).
+    TakesLines s.Fit (s.next ∷ within_leaf x (further_lines s))
+    (TakesEach s.Fit (behind_leaf x (further_lines s)) (GroupsMatch s.Fit (groups_below s))) ((s.f ∷ s.fs) ∷ s.ess))
+    (further-code s.options s.bytes s.are.2.0.line s.next m s.are.2.0.is k y ∙ ap is_code (meets-open s y))
+    (subst (λ (l : List Group). GroupsMatch s.Fit l ((s.f ∷ s.fs) ∷ s.ess)) same s.more))))
   where
-    gs : List Group
-    gs = groups (next ∷ rows)
+    put_together : Bool → List Group
+    put_together x =
+        cond x (LeafLines s.row (s.next ∷ further_lines s) ∷ groups_below s)
+        (LeafLines s.row [] ∷ LeafLines s.next (further_lines s) ∷ groups_below s)
 
-    g : Bool
-    g = goes_kind next rows next.kind
+    same : groups_after s ≡ LeafLines s.next (further_lines s) ∷ groups_below s
+    same =
+        span-group s.next s.rows m k
+        (further-several m s.next.on (ap (λ (kind : RowKind). is_further kind s.next.on) (sym k) ∙ y))
 
-    is : IsRow options bytes are.0.line row
-    is = are.0.is
+-- Text before a line that begins something.
 
-    below : IsBelow row next
-    below = are.1
+abbrev WithText : LineStep → Type 0
+WithText s = Matches s (onto_groups s.row TextRow (groups_after s)) (is_joined s)
 
-    below_is : IsRow options bytes are.2.0.line next
-    below_is = are.2.0.is
+text-alone : (s : LineStep) (first : List Group) → groups_after s ≡ first →
+    onto_groups s.row TextRow first ≡ Lines s.row [] ∷ first → is_joined s ≡ false → WithText s
+text-alone s first same onto_first none =
+    subst (λ (l : List Group). Matches s l (is_joined s)) (sym (ap (onto_groups s.row TextRow) same ∙ onto_first))
+    (alone-step s.Fit s.e s.f s.fs s.ess s.row first (is_joined s) s.are.0.fits none
+    (subst (λ (l : List Group). GroupsMatch s.Fit l ((s.f ∷ s.fs) ∷ s.ess)) same s.more))
 
-    fit : Fit e row
-    fit = are.0.fits
+-- that is one line
+single-kind : (s : LineStep) (kind : RowKind) → s.next.kind ≡ kind →
+    onto_groups s.next kind (groups s.rows) ≡ Single s.next ∷ groups s.rows → goes_kind s.next s.rows kind ≡ false →
+    WithText s
+single-kind s kind k onto_first none =
+    text-alone s (Single s.next ∷ groups s.rows)
+    (ap (λ (x : RowKind). onto_groups s.next x (groups s.rows)) k ∙ onto_first) refl
+    (ap (goes_kind s.next s.rows) k ∙ none)
 
-    -- the further lines of the leaf of the next line, and the groups after them
-    further : List Row
-    further = further_rows rows
+single-leaf : (s : LineStep) (m : LeafName) → s.next.kind ≡ LeafRow m → (leaf m).ends ≡ true → WithText s
+single-leaf s m k ends =
+    single-kind s (LeafRow m) k (ap (λ (x : Bool). onto_leaf x s.next (groups s.rows)) ends)
+    (ap (λ (x : Bool). x && (not (is_code s.next.on) || in_code s.next s.rows))
+    (begins ((leaf m).further s.next.on) refl))
+  where
+    begins : (x : Bool) → (leaf m).further s.next.on ≡ x → x ≡ false
+    begins false y = refl
+    begins true y = let bad : true ≡ false = sym ends ∙ further-several m s.next.on y in cc
 
-    behind : List Group
-    behind = groups (behind_further rows)
+-- or a line of a leaf of several: it begins that, or continues the text
+abbrev underlined : LineStep → Bool → Bool → List Row → List Group
+underlined s y h more_rows =
+    cond (y && h) (Headed s.row s.next more_rows ∷ groups_below s)
+    (cond (y && is_last more_rows) (Turned s.row [] s.next ∷ groups_below s)
+    (Lines s.row [] ∷ LeafLines s.next more_rows ∷ groups_below s))
 
-    Done : List Group → Bool → Type 0
-    Done groups_here x = GroupsMatch Fit groups_here (joined e f fs ess x)
+text-held : (s : LineStep) → s.row.kind ≡ TextRow → IsTextHeld s.row.behind
+text-held s e = record {
+  at = _;
+  is = s.are.0.is.behind ∙ ap (line_behind s.options s.row.on s.are.0.is.rest) e;
+}
 
-    -- nothing is open after the line
-    closed : row.behind ≡ held_leaf.None → g ≡ false
-    closed none =
-        unlazy-goes row next rows below (ap takes_lazy none)
-        (shut-further options bytes are.2.0.line row next below_is below (ap may_go_on none))
+several-leaf : (s : LineStep) → s.row.kind ≡ TextRow → (m : LeafName) → s.next.kind ≡ LeafRow m →
+    (leaf m).ends ≡ false → (y : Bool) → is_further s.next.kind s.next.on ≡ y → (h : Bool) →
+    takes_head s.next.kind ≡ h → WithText s
+several-leaf s text m k several false y h heads =
+    text-alone s (LeafLines s.next (further_lines s) ∷ groups_below s) (span-group s.next s.rows m k several)
+    (ap (λ (x : Bool). underlined s x (takes_head s.next.kind) (further_lines s)) y)
+    (ap (goes_kind s.next s.rows) k
+    ∙ ap (λ (x : Bool). x && (not (is_code s.next.on) || in_code s.next s.rows))
+    (ap (λ (kind : RowKind). is_further kind s.next.on) (sym k) ∙ y))
+several-leaf s text m k several true y h heads =
+    subst (λ (x : Bool). Matches s (onto_groups s.row TextRow (groups_after s)) x) (sym is_true)
+    (subst (λ (l : List Group). Matches s l true) (sym (ap (onto_groups s.row TextRow) same)) (by h heads))
+  where
+    held : IsTextHeld s.row.behind
+    held = text-held s text
 
-    single : row.behind ≡ held_leaf.None → Done (Single row ∷ gs) g
-    single none = alone-step Fit e f fs ess row gs g fit (closed none) more
+    on : s.next.on ≡ held_leaf.Text held.at
+    on = meets-open s y ∙ held.is
 
-    meets : is_further next.kind next.on ≡ true → next.on ≡ row.behind
-    meets y = below.met (further-may options bytes are.2.0.line next below_is y)
+    is_true : is_joined s ≡ true
+    is_true =
+        joined-further s m k y
+        ∙ ap (λ (met : HeldLeaf). not (is_code met) || any_framed row_unread (s.next ∷ further_lines s)) on
 
-    goes-further : (m : LeafName) → next.kind ≡ LeafRow m → is_further next.kind next.on ≡ true →
-        g ≡ (not (is_code next.on) || any_framed row_unread (next ∷ further))
-    goes-further m k y =
-        ap (goes_kind next rows) k
-        ∙ ap (λ (x : Bool). x && (not (is_code next.on) || in_code next rows))
-        (ap (λ (kind : RowKind). is_further kind next.on) (sym k) ∙ y)
+    same : groups_after s ≡ LeafLines s.next (further_lines s) ∷ groups_below s
+    same = span-group s.next s.rows m k several
 
-    -- a line of a leaf of several
-    span : takes_lazy row.behind ≡ false → (y : Bool) → is_further next.kind next.on ≡ y → (kind : RowKind) →
-        next.kind ≡ kind → Done (onto_span row gs) g
-    span unlazy false y kind k =
-        subst (λ (l : List Group). Done l g)
-        (sym (span-alone row gs (onto-first Begins next next.kind (groups rows) y)))
-        (alone-step Fit e f fs ess row gs g fit (unlazy-goes row next rows below unlazy y) more)
-    span unlazy true y BlankRow k =
-        let bad : false ≡ true = ap (λ (kind : RowKind). is_further kind next.on) (sym k) ∙ y in absurd (cc)
-    span unlazy true y TextRow k =
-        let bad : false ≡ true = ap (λ (kind : RowKind). is_further kind next.on) (sym k) ∙ y in absurd (cc)
-    span unlazy true y (LeafRow m) k =
-        let several = further-several m next.on (ap (λ (kind : RowKind). is_further kind next.on) (sym k) ∙ y) in
-        let same : gs ≡ LeafLines next further ∷ behind = span-group next rows m k several in
-        let code : is_code next.on ≡ is_code row.behind = ap is_code (meets y) in
-        subst (λ (l : List Group). Done l g)
+    lines : GroupsMatch s.Fit (LeafLines s.next (further_lines s) ∷ groups_below s) ((s.f ∷ s.fs) ∷ s.ess)
+    lines = subst (λ (l : List Group). GroupsMatch s.Fit l ((s.f ∷ s.fs) ∷ s.ess)) same s.more
+
+    continues_text : (leaf m).further (held_leaf.Text held.at) ≡ true
+    continues_text =
+        ap (leaf m).further (sym on) ∙ ap (λ (kind : RowKind). is_further kind s.next.on) (sym k) ∙ y
+
+    by : (h : Bool) → takes_head s.next.kind ≡ h →
+        Matches s (onto_underline s.row s.next (further_lines s) (groups_below s)) true
+    by true heads =
+        subst (λ (l : List Group). Matches s l true)
+        (sym (ap₂ (λ (a b : Bool). underlined s a b (further_lines s)) y heads))
+        (head-step s.Fit s.e s.f s.fs s.ess s.row s.next (further_lines s) (GroupsMatch s.Fit (groups_below s))
+        (is_code s.next.behind) s.are.0.fits
+        (further-code s.options s.bytes s.are.2.0.line s.next m s.are.2.0.is k y ∙ ap is_code on) lines)
+    by false heads =
+        subst (λ (l : List Group). Matches s l true)
         (sym
-        (ap (onto_span row) same
-        ∙ ap
-        (λ (x : Bool).
-        cond x (LeafLines row (next ∷ further) ∷ behind) (LeafLines row [] ∷ LeafLines next further ∷ behind)) y))
-        (subst (λ (x : Bool). Done (LeafLines row (next ∷ further) ∷ behind) x)
-        (sym
-        (goes-further m k y
-        ∙ ap (λ (x : Bool). not x || any_framed row_unread (next ∷ further)) code))
-        (span-step Fit e f fs ess row next further (GroupsMatch Fit behind) (is_code row.behind)
-        (any_framed row_unread (next ∷ further)) fit refl
-        (subst
-        (λ (x : Bool).
-        TakesLines Fit (next ∷ within_leaf x further) (TakesEach Fit (behind_leaf x further) (GroupsMatch Fit behind))
-        ((f ∷ fs) ∷ ess)) (further-code options bytes are.2.0.line next m below_is k y ∙ code)
-        (subst (λ (l : List Group). GroupsMatch Fit l ((f ∷ fs) ∷ ess)) same more))))
-
-    -- text before a line that begins something
-    alone : (first : List Group) → gs ≡ first → onto_groups row TextRow first ≡ Lines row [] ∷ first → g ≡ false →
-        Done (onto_groups row TextRow gs) g
-    alone first same onto_first none =
-        subst (λ (l : List Group). Done l g) (sym (ap (onto_groups row TextRow) same ∙ onto_first))
-        (alone-step Fit e f fs ess row first g fit none
-        (subst (λ (l : List Group). GroupsMatch Fit l ((f ∷ fs) ∷ ess)) same more))
-
-    -- that is one line
-    single-kind : (kind : RowKind) → next.kind ≡ kind →
-        onto_groups next kind (groups rows) ≡ Single next ∷ groups rows → goes_kind next rows kind ≡ false →
-        Done (onto_groups row TextRow gs) g
-    single-kind kind k onto_first none =
-        alone (Single next ∷ groups rows) (ap (λ (x : RowKind). onto_groups next x (groups rows)) k ∙ onto_first) refl
-        (ap (goes_kind next rows) k ∙ none)
-
-    single-leaf : (m : LeafName) → next.kind ≡ LeafRow m → (leaf m).ends ≡ true → Done (onto_groups row TextRow gs) g
-    single-leaf m k ends =
-        single-kind (LeafRow m) k (ap (λ (x : Bool). onto_leaf x next (groups rows)) ends)
-        (ap (λ (x : Bool). x && (not (is_code next.on) || in_code next rows)) (begins ((leaf m).further next.on) refl))
+        (ap₂ (λ (a b : Bool). underlined s a b (further_lines s)) y heads ∙ ap (underlined s true false) none))
+        ((s.are.0.fits, under.0), under.1)
       where
-        begins : (x : Bool) → (leaf m).further next.on ≡ x → x ≡ false
-        begins false y = refl
-        begins true y = let bad : true ≡ false = sym ends ∙ further-several m next.on y in cc
+        none : further_lines s ≡ []
+        none =
+            stops-further s.options s.bytes s.Fit s.next s.es s.rows s.are.2.1 s.are.2.2
+            (ap may_go_on
+            (s.are.2.0.is.behind ∙ ap (line_behind s.options s.next.on s.are.2.0.is.rest) k
+            ∙ under-shuts held.at m continues_text (ap takes_head (sym k) ∙ heads) s.options s.next.on
+            s.are.2.0.is.rest))
 
-    -- or a line of a leaf of several: it begins that, or continues the text
-    underlined : Bool → Bool → List Row → List Group
-    underlined y h more_rows =
-        cond (y && h) (Headed row next more_rows ∷ behind)
-        (cond (y && is_last more_rows) (Turned row [] next ∷ behind)
-        (Lines row [] ∷ LeafLines next more_rows ∷ behind))
+        under : TakesLines s.Fit (s.next ∷ []) (GroupsMatch s.Fit (groups_below s)) ((s.f ∷ s.fs) ∷ s.ess)
+        under =
+            subst
+            (λ (l : List Row). GroupsMatch s.Fit (LeafLines s.next l ∷ groups_below s) ((s.f ∷ s.fs) ∷ s.ess))
+            none lines
 
-    text-held : row.kind ≡ TextRow → IsTextHeld row.behind
-    text-held e = record { at = _; is = is.behind ∙ ap (line_behind options row.on is.rest) e }
+-- or more text, which may be a head
+more-text : (s : LineStep) → s.row.kind ≡ TextRow → s.next.kind ≡ TextRow → (z : Bool) → is_headed s.rows ≡ z →
+    WithText s
+more-text s text k true headed = head s.rows refl headed
+  where
+    head : (l : List Row) → s.rows ≡ l → is_headed l ≡ true → WithText s
+    head [] same_rows h = cc
+    head (under ∷ l) same_rows h =
+        text-alone s (Headed s.next under (further_rows l) ∷ groups (behind_further l))
+        (ap (λ (r : List Row). groups (s.next ∷ r)) same_rows ∙ head-group s.next under l k h) refl
+        (ap (goes_kind s.next s.rows) k ∙ ap (λ (x : Bool). not x && takes_lazy s.next.on) headed)
+more-text s text k false headed =
+    text-step s.Fit s.e s.f s.fs s.ess s.row s.next (is_joined s) (groups_after s) s.are.0.fits
+    (ap (goes_kind s.next s.rows) k ∙ ap (λ (x : Bool). not x && takes_lazy s.next.on) headed
+    ∙ s.are.1.text (behind-lazy s.options s.bytes s.are.0.line s.row s.are.0.is ∙ ap is_text text) k)
+    (text-first s.next s.rows k headed) s.more
 
-    several-leaf : row.kind ≡ TextRow → (m : LeafName) → next.kind ≡ LeafRow m → (leaf m).ends ≡ false → (y : Bool) →
-        is_further next.kind next.on ≡ y → (h : Bool) → takes_head next.kind ≡ h → Done (onto_groups row TextRow gs) g
-    several-leaf text m k several false y h heads =
-        alone (LeafLines next further ∷ behind) (span-group next rows m k several)
-        (ap (λ (x : Bool). underlined x (takes_head next.kind) further) y)
-        (ap (goes_kind next rows) k
-        ∙ ap (λ (x : Bool). x && (not (is_code next.on) || in_code next rows))
-        (ap (λ (kind : RowKind). is_further kind next.on) (sym k) ∙ y))
-    several-leaf text m k several true y h heads =
-        subst (λ (x : Bool). Done (onto_groups row TextRow gs) x) (sym goes)
-        (subst (λ (l : List Group). Done l true) (sym (ap (onto_groups row TextRow) same)) (by h heads))
-      where
-        held : IsTextHeld row.behind
-        held = text-held text
+text-by : (s : LineStep) → s.row.kind ≡ TextRow → (kind : RowKind) → s.next.kind ≡ kind → WithText s
+text-by s text BlankRow k = single-kind s BlankRow k refl refl
+text-by s text TextRow k = more-text s text k (is_headed s.rows) refl
+text-by s text (LeafRow m) k = by_ends (leaf m).ends refl
+  where
+    by_ends : (x : Bool) → (leaf m).ends ≡ x → WithText s
+    by_ends true ends = single-leaf s m k ends
+    by_ends false several =
+        several-leaf s text m k several (is_further s.next.kind s.next.on) refl (takes_head s.next.kind) refl
 
-        on : next.on ≡ held_leaf.Text held.at
-        on = meets y ∙ held.is
+-- A line before others is put together with them as its row is.
+match-step : (s : LineStep) → Matches s (groups (s.row ∷ s.next ∷ s.rows)) (is_joined s)
+match-step s = by_kind s.row.kind refl
+  where
+    is : IsRow s.options s.bytes s.are.0.line s.row
+    is = s.are.0.is
 
-        goes : g ≡ true
-        goes =
-            goes-further m k y
-            ∙ ap (λ (met : HeldLeaf). not (is_code met) || any_framed row_unread (next ∷ further)) on
+    by_ends : (l : LeafName) → s.row.kind ≡ LeafRow l → (x : Bool) → (leaf l).ends ≡ x →
+        Matches s (onto_leaf x s.row (groups_after s)) (is_joined s)
+    by_ends l e true ends =
+        single-step s
+        (is.behind ∙ ap (line_behind s.options s.row.on is.rest) e
+        ∙ ((laws l).shut ends s.options s.row.on).1 is.rest)
+    by_ends l e false several =
+        leaf-step s (behind-lazy s.options s.bytes s.are.0.line s.row is ∙ ap is_text e)
+        (is_further s.next.kind s.next.on) refl s.next.kind refl
 
-        same : gs ≡ LeafLines next further ∷ behind
-        same = span-group next rows m k several
-
-        lines : GroupsMatch Fit (LeafLines next further ∷ behind) ((f ∷ fs) ∷ ess)
-        lines = subst (λ (l : List Group). GroupsMatch Fit l ((f ∷ fs) ∷ ess)) same more
-
-        goes_on_text : (leaf m).further (held_leaf.Text held.at) ≡ true
-        goes_on_text =
-            ap (leaf m).further (sym on) ∙ ap (λ (kind : RowKind). is_further kind next.on) (sym k) ∙ y
-
-        by : (h : Bool) → takes_head next.kind ≡ h → Done (onto_underline row next further behind) true
-        by true heads =
-            subst (λ (l : List Group). Done l true)
-            (sym (ap₂ (λ (a b : Bool). underlined a b further) y heads))
-            (head-step Fit e f fs ess row next further (GroupsMatch Fit behind) (is_code next.behind) fit
-            (further-code options bytes are.2.0.line next m below_is k y ∙ ap is_code on) lines)
-        by false heads =
-            subst (λ (l : List Group). Done l true)
-            (sym
-            (ap₂ (λ (a b : Bool). underlined a b further) y heads ∙ ap (underlined true false) none))
-            ((fit, under.0), under.1)
-          where
-            none : further ≡ []
-            none =
-                stops-further options bytes Fit next es rows are.2.1 are.2.2
-                (ap may_go_on
-                (below_is.behind ∙ ap (line_behind options next.on below_is.rest) k
-                ∙ under-shuts held.at m goes_on_text (ap takes_head (sym k) ∙ heads) options next.on below_is.rest))
-
-            under : TakesLines Fit (next ∷ []) (GroupsMatch Fit behind) ((f ∷ fs) ∷ ess)
-            under =
-                subst (λ (l : List Row). GroupsMatch Fit (LeafLines next l ∷ behind) ((f ∷ fs) ∷ ess)) none lines
-
-    -- or more text, which may be a head
-    text-behind : row.kind ≡ TextRow → next.kind ≡ TextRow → (z : Bool) → is_headed rows ≡ z →
-        Done (onto_groups row TextRow gs) g
-    text-behind text k true headed = head rows refl headed
-      where
-        head : (l : List Row) → rows ≡ l → is_headed l ≡ true → Done (onto_groups row TextRow gs) g
-        head [] same_rows h = cc
-        head (under ∷ l) same_rows h =
-            alone (Headed next under (further_rows l) ∷ groups (behind_further l))
-            (ap (λ (r : List Row). groups (next ∷ r)) same_rows ∙ head-group next under l k h) refl
-            (ap (goes_kind next rows) k ∙ ap (λ (x : Bool). not x && takes_lazy next.on) headed)
-    text-behind text k false headed =
-        text-step Fit e f fs ess row next g gs fit
-        (ap (goes_kind next rows) k ∙ ap (λ (x : Bool). not x && takes_lazy next.on) headed
-        ∙ below.text (behind-lazy options bytes are.0.line row is ∙ ap is_text text) k) (text-first next rows k headed)
-        more
-
-    text-by : row.kind ≡ TextRow → (kind : RowKind) → next.kind ≡ kind → Done (onto_groups row TextRow gs) g
-    text-by text BlankRow k = single-kind BlankRow k refl refl
-    text-by text TextRow k = text-behind text k (is_headed rows) refl
-    text-by text (LeafRow m) k = by_ends (leaf m).ends refl
-      where
-        by_ends : (x : Bool) → (leaf m).ends ≡ x → Done (onto_groups row TextRow gs) g
-        by_ends true ends = single-leaf m k ends
-        by_ends false several =
-            several-leaf text m k several (is_further next.kind next.on) refl (takes_head next.kind) refl
-
-    leaf-by : (l : LeafName) → row.kind ≡ LeafRow l → (x : Bool) → (leaf l).ends ≡ x → Done (onto_leaf x row gs) g
-    leaf-by l e true ends =
-        single (is.behind ∙ ap (line_behind options row.on is.rest) e ∙ ((laws l).shut ends options row.on).1 is.rest)
-    leaf-by l e false several =
-        span (behind-lazy options bytes are.0.line row is ∙ ap is_text e) (is_further next.kind next.on) refl next.kind
-        refl
-
-    go : (kind : RowKind) → row.kind ≡ kind → Done (onto_groups row row.kind gs) g
-    go BlankRow e =
-        subst (λ (kind : RowKind). Done (onto_groups row kind gs) g) (sym e)
-        (single (is.behind ∙ ap (line_behind options row.on is.rest) e))
-    go (LeafRow l) e =
-        subst (λ (kind : RowKind). Done (onto_groups row kind gs) g) (sym e) (leaf-by l e (leaf l).ends refl)
-    go TextRow e =
-        subst (λ (kind : RowKind). Done (onto_groups row kind gs) g) (sym e) (text-by e next.kind refl)
+    by_kind : (kind : RowKind) → s.row.kind ≡ kind →
+        Matches s (onto_groups s.row s.row.kind (groups_after s)) (is_joined s)
+    by_kind BlankRow e =
+        subst (λ (kind : RowKind). Matches s (onto_groups s.row kind (groups_after s)) (is_joined s)) (sym e)
+        (single-step s (is.behind ∙ ap (line_behind s.options s.row.on is.rest) e))
+    by_kind (LeafRow l) e =
+        subst (λ (kind : RowKind). Matches s (onto_groups s.row kind (groups_after s)) (is_joined s)) (sym e)
+        (by_ends l e (leaf l).ends refl)
+    by_kind TextRow e =
+        subst (λ (kind : RowKind). Matches s (onto_groups s.row kind (groups_after s)) (is_joined s)) (sym e)
+        (text-by s e s.next.kind refl)
 
 -- The last line is alone.
 last-match : (Fit : Fits) (e : exact.Row) (row : Row) (kind : RowKind) → Fit e row →
@@ -595,6 +624,21 @@ groups-match options bytes Fit (e ∷ f ∷ es) (row ∷ next ∷ rows) are =
     (sym
     (ap (onto e) (grouped-run f es)
     ∙ ap (joined e f (run es) (grouped (behind_run es))) are.2.0.goes))
-    (match-step options bytes Fit e f es (run es) (grouped (behind_run es)) row next rows are
-    (subst (λ (ess : List (List exact.Row)). GroupsMatch Fit (groups (next ∷ rows)) ess) (grouped-run f es)
-    (groups-match options bytes Fit (f ∷ es) (next ∷ rows) are.2)))
+    (match-step
+    (record {
+      options = options;
+      bytes = bytes;
+      Fit = Fit;
+      e = e;
+      f = f;
+      es = es;
+      fs = run es;
+      ess = grouped (behind_run es);
+      row = row;
+      next = next;
+      rows = rows;
+      are = are;
+      more =
+          subst (λ (ess : List (List exact.Row)). GroupsMatch Fit (groups (next ∷ rows)) ess) (grouped-run f es)
+          (groups-match options bytes Fit (f ∷ es) (next ∷ rows) are.2);
+    }))

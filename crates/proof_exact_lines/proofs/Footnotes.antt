@@ -31,6 +31,140 @@ pub record HasFootnoteOpening (text behind : List ℕ) (line : TextLine) (r : Re
   pub events : enter n.GfmFootnoteDefinition p ∷ footnote_prefix line label r t.rest ≡ passed.events
   pub on : OnLine text behind line t.rest passed.point
 
+-- The rests of the line after `[`, `[^`, the label, `]` and `:`.
+
+abbrev hat : Rest → Rest
+hat r = past 1 (behind_indent r)
+
+abbrev inner : Rest → Rest
+inner r = past 1 (hat r)
+
+abbrev close : List ℕ → Rest → Rest
+close label r = past (length label) (inner r)
+
+abbrev colon : List ℕ → Rest → Rest
+colon label r = past 1 (close label r)
+
+abbrev ended : List ℕ → Rest → Rest
+ended label r = past 1 (colon label r)
+
+-- the points of `^` and of `:`
+abbrev at_hat : Point → Point
+at_hat v = past_byte 91 v
+
+abbrev at_colon : List ℕ → Point → Point
+at_colon label v = past_byte 93 (label_end label v)
+
+-- each of these rests has the bytes of the text at its point
+record HasRests (text behind : List ℕ) (line : TextLine) (r : Rest) (p v : Point) (label more : List ℕ) : Type 0 where
+  indented : BehindIndent text behind line r p v (footnote_bytes label more)
+  first : BehindBytes text behind line (behind_indent r) v (91 ∷ []) (94 ∷ (label ++ (93 ∷ 58 ∷ more)))
+  marked : BehindBytes text behind line (hat r) (at_hat v) (94 ∷ []) (label ++ (93 ∷ 58 ∷ more))
+  labelled : BehindBytes text behind line (inner r) (label_start v) label (93 ∷ 58 ∷ more)
+  closed : BehindBytes text behind line (close label r) (label_end label v) (93 ∷ []) (58 ∷ more)
+  last : BehindBytes text behind line (colon label r) (at_colon label v) (58 ∷ []) more
+
+has-rests : (text behind : List ℕ) (line : TextLine) (r : Rest) (p v : Point) (label more : List ℕ) →
+    BehindIndent text behind line r p v (footnote_bytes label more) → HasRests text behind line r p v label more
+has-rests text behind line r p v label more indented = record {
+  indented = indented;
+  first = b1;
+  marked = b2;
+  labelled = b3;
+  closed = b4;
+  last =
+      behind-bytes text behind line (colon label r) (at_colon label v) (58 ∷ []) more b4.on refl b4.bytes_are b4.plain;
+}
+  where
+    b1 : BehindBytes text behind line (behind_indent r) v (91 ∷ []) (94 ∷ (label ++ (93 ∷ 58 ∷ more)))
+    b1 = behind-bytes text behind line (behind_indent r) v (91 ∷ []) (94 ∷ (label ++ (93 ∷ 58 ∷ more))) indented.on
+        indented.spaces indented.bytes_are indented.plain
+
+    b2 : BehindBytes text behind line (hat r) (at_hat v) (94 ∷ []) (label ++ (93 ∷ 58 ∷ more))
+    b2 = behind-bytes text behind line (hat r) (at_hat v) (94 ∷ []) (label ++ (93 ∷ 58 ∷ more)) b1.on refl
+        b1.bytes_are b1.plain
+
+    b3 : BehindBytes text behind line (inner r) (label_start v) label (93 ∷ 58 ∷ more)
+    b3 = behind-bytes text behind line (inner r) (label_start v) label (93 ∷ 58 ∷ more) b2.on refl b2.bytes_are
+        b2.plain
+
+    b4 : BehindBytes text behind line (close label r) (label_end label v) (93 ∷ []) (58 ∷ more)
+    b4 = behind-bytes text behind line (close label r) (label_end label v) (93 ∷ []) (58 ∷ more) b3.on refl
+        b3.bytes_are b3.plain
+
+-- The label of the exact list, from `[` to `]`, has the events of its cells.
+
+abbrev label_inside : TextLine → Rest → List ℕ → List Event
+label_inside line r label =
+    piece line n.GfmFootnoteDefinitionLabelMarker (behind_indent r) (hat r)
+    ++ piece line n.GfmFootnoteDefinitionMarker (hat r) (inner r)
+    ++ text_part line String n.GfmFootnoteDefinitionLabelString (inner r) (close label r)
+    ++ piece line n.GfmFootnoteDefinitionLabelMarker (close label r) (colon label r)
+
+abbrev label_cells : List ℕ → Point → List Event
+label_cells label v =
+    pair n.GfmFootnoteDefinitionLabelMarker v (at_hat v)
+    ++ pair n.GfmFootnoteDefinitionMarker (at_hat v) (label_start v)
+    ++ around n.GfmFootnoteDefinitionLabelString (label_start v) (label_end label v)
+    (chunk String (label_start v) (label_end label v))
+    ++ pair n.GfmFootnoteDefinitionLabelMarker (label_end label v) (at_colon label v)
+
+label-events : (text behind : List ℕ) (line : TextLine) (r : Rest) (p v : Point) (label more : List ℕ) →
+    LineIn text behind line → HasRests text behind line r p v label more → 1 ≤ length label →
+    part line n.GfmFootnoteDefinitionLabel (behind_indent r) (colon label r) (label_inside line r label) ≡
+    around n.GfmFootnoteDefinitionLabel v (at_colon label v) (label_cells label v)
+label-events text behind line r p v label more is rests long =
+    part-on text behind line n.GfmFootnoteDefinitionLabel (behind_indent r) (colon label r) v (at_colon label v)
+    (label_inside line r label) is rests.indented.on rests.closed.on
+    ∙ ap (λ (es : List Event). around n.GfmFootnoteDefinitionLabel v (at_colon label v) es)
+    (ap₂ (λ (xs ys : List Event). xs ++ ys)
+    (ap₂ (λ (xs ys : List Event). xs ++ ys) (ap₂ (λ (xs ys : List Event). xs ++ ys) bracket_is hat_is) inner_is)
+    close_is)
+  where
+    at_label : Point
+    at_label = label_start v
+
+    at_close : Point
+    at_close = label_end label v
+
+    some : (bytes : List ℕ) → 1 ≤ length bytes → same_place at_label (past_text bytes at_label) ≡ false
+    some [] le = absurd (omega (arith, le))
+    some (b ∷ bytes) le = over-some at_label b bytes
+
+    bracket_is : piece line n.GfmFootnoteDefinitionLabelMarker (behind_indent r) (hat r) ≡
+        pair n.GfmFootnoteDefinitionLabelMarker v (at_hat v)
+    bracket_is =
+        piece-on text behind line n.GfmFootnoteDefinitionLabelMarker (behind_indent r) (hat r) v (at_hat v) is
+        rests.indented.on rests.first.on
+        ∙ ap (λ (x : Bool). cond x [] (pair n.GfmFootnoteDefinitionLabelMarker v (at_hat v))) (over-some v 91 [])
+
+    hat_is : piece line n.GfmFootnoteDefinitionMarker (hat r) (inner r) ≡
+        pair n.GfmFootnoteDefinitionMarker (at_hat v) at_label
+    hat_is =
+        piece-on text behind line n.GfmFootnoteDefinitionMarker (hat r) (inner r) (at_hat v) at_label is
+        rests.first.on rests.marked.on
+        ∙ ap (λ (x : Bool). cond x [] (pair n.GfmFootnoteDefinitionMarker (at_hat v) at_label))
+        (over-some (at_hat v) 94 [])
+
+    inner_is : text_part line String n.GfmFootnoteDefinitionLabelString (inner r) (close label r) ≡
+        around n.GfmFootnoteDefinitionLabelString at_label at_close (chunk String at_label at_close)
+    inner_is =
+        text_part-on text behind line String n.GfmFootnoteDefinitionLabelString (inner r) (close label r) at_label
+        at_close is rests.marked.on rests.labelled.on
+        ∙ ap
+        (λ (x : Bool).
+        cond x []
+        (around n.GfmFootnoteDefinitionLabelString at_label at_close (chunk String at_label at_close)))
+        (some label long)
+
+    close_is : piece line n.GfmFootnoteDefinitionLabelMarker (close label r) (colon label r) ≡
+        pair n.GfmFootnoteDefinitionLabelMarker at_close (at_colon label v)
+    close_is =
+        piece-on text behind line n.GfmFootnoteDefinitionLabelMarker (close label r) (colon label r) at_close
+        (at_colon label v) is rests.labelled.on rests.closed.on
+        ∙ ap (λ (x : Bool). cond x [] (pair n.GfmFootnoteDefinitionLabelMarker at_close (at_colon label v)))
+        (over-some at_close 93 [])
+
 -- It has the events of its cells.
 pub footnote-opens : (cell_line : Line) (text behind : List ℕ) (line : TextLine) (r : Rest) (p : Point)
     (stop : List Cell) (passed : ItemPassed) (t : Taken) →
@@ -42,12 +176,14 @@ footnote-opens cell_line text behind line r p stop passed t is on plain k has = 
   container = sym has.leaves.container ∙ has.container;
   events =
       ap (λ (es : List Event). enter n.GfmFootnoteDefinition p ∷ es)
-      (ap₂ (λ (xs ys : List Event). xs ++ ys) indented.indent
-      (part-on text behind line n.GfmFootnoteDefinitionPrefix bracket t.rest v passed.point inside is indented.on
-      on_end
+      (ap₂ (λ (xs ys : List Event). xs ++ ys) rests.indented.indent
+      (part-on text behind line n.GfmFootnoteDefinitionPrefix (behind_indent r) t.rest v passed.point inside is
+      rests.indented.on on_end
       ∙ ap (λ (es : List Event). around n.GfmFootnoteDefinitionPrefix v passed.point es)
-      (ap₂ (λ (xs ys : List Event). xs ++ ys) (ap₂ (λ (xs ys : List Event). xs ++ ys) label_is colon_is)
-      (white-on text behind line after t.rest at_after passed.point is b5.on on_end))))
+      (ap₂ (λ (xs ys : List Event). xs ++ ys)
+      (ap₂ (λ (xs ys : List Event). xs ++ ys) (label-events text behind line r p v label more is rests has.sized.0)
+      colon_is)
+      (white-on text behind line (ended label r) t.rest at_after passed.point is rests.last.on on_end))))
       ∙ sym has.events;
   on = on_end;
 }
@@ -61,66 +197,21 @@ footnote-opens cell_line text behind line r p stop passed t is on plain k has = 
     v : Point
     v = has.start
 
-    bracket : Rest
-    bracket = behind_indent r
-
-    at_hat : Point
-    at_hat = past_byte 91 v
-
-    at_label : Point
-    at_label = label_start v
-
-    at_close : Point
-    at_close = label_end label v
-
-    at_colon : Point
-    at_colon = past_byte 93 at_close
-
     at_after : Point
     at_after = colon_end label v
 
-    hat : Rest
-    hat = past 1 bracket
-
-    inner : Rest
-    inner = past 1 hat
-
-    close : Rest
-    close = past (length label) inner
-
-    colon : Rest
-    colon = past 1 close
-
-    after : Rest
-    after = past 1 colon
-
-    indented : BehindIndent text behind line r p v (footnote_bytes label more)
-    indented =
-        behind-indent cell_line text behind line r p v stop (footnote_bytes label more) is on plain k has.start_is
+    rests : HasRests text behind line r p v label more
+    rests =
+        has-rests text behind line r p v label more
+        (behind-indent cell_line text behind line r p v stop (footnote_bytes label more) is on plain k has.start_is
         (has.text_is ∙ ap (footnote_bytes label) has.more_is
-        ∙ ap (λ (l : List ℕ). 91 ∷ 94 ∷ l) (sym (append_assoc label (93 ∷ 58 ∷ more) behind)))
-
-    b1 : BehindBytes text behind line bracket v (91 ∷ []) (94 ∷ (label ++ (93 ∷ 58 ∷ more)))
-    b1 = behind-bytes text behind line bracket v (91 ∷ []) (94 ∷ (label ++ (93 ∷ 58 ∷ more))) indented.on
-        indented.spaces indented.bytes_are indented.plain
-
-    b2 : BehindBytes text behind line hat at_hat (94 ∷ []) (label ++ (93 ∷ 58 ∷ more))
-    b2 = behind-bytes text behind line hat at_hat (94 ∷ []) (label ++ (93 ∷ 58 ∷ more)) b1.on refl b1.bytes_are b1.plain
-
-    b3 : BehindBytes text behind line inner at_label label (93 ∷ 58 ∷ more)
-    b3 = behind-bytes text behind line inner at_label label (93 ∷ 58 ∷ more) b2.on refl b2.bytes_are b2.plain
-
-    b4 : BehindBytes text behind line close at_close (93 ∷ []) (58 ∷ more)
-    b4 = behind-bytes text behind line close at_close (93 ∷ []) (58 ∷ more) b3.on refl b3.bytes_are b3.plain
-
-    b5 : BehindBytes text behind line colon at_colon (58 ∷ []) more
-    b5 = behind-bytes text behind line colon at_colon (58 ∷ []) more b4.on refl b4.bytes_are b4.plain
+        ∙ ap (λ (l : List ℕ). 91 ∷ 94 ∷ l) (sym (append_assoc label (93 ∷ 58 ∷ more) behind))))
 
     -- the rest after `:` is the one whose whitespace belongs to the prefix
-    after_is : after ≡ rest has.padded.column more
+    after_is : ended label r ≡ rest has.padded.column more
     after_is =
         ap₂ (λ (c : ℕ) (l : List ℕ). rest c l)
-        (omega (arith, b5.on.stands.column, has.padded.stands.column)) b5.bytes_are
+        (omega (arith, rests.last.on.stands.column, has.padded.stands.column)) rests.last.bytes_are
 
     on_end : OnLine text behind line t.rest passed.point
     on_end =
@@ -128,66 +219,17 @@ footnote-opens cell_line text behind line r p stop passed t is on plain k has = 
         (subst (OnLine text behind line (behind_indent (rest has.padded.column more))) (sym has.padded.end_is)
         (indent-on cell_line text behind line (indent (rest has.padded.column more))
         (indent (rest has.padded.column more)) (rest has.padded.column more) at_after stop
-        (subst (λ (s : Rest). OnLine text behind line s at_after) after_is b5.on) k refl (omega arith)))
+        (subst (λ (s : Rest). OnLine text behind line s at_after) after_is rests.last.on) k refl (omega arith)))
 
-    some : (bytes : List ℕ) → 1 ≤ length bytes → same_place at_label (past_text bytes at_label) ≡ false
-    some [] le = absurd (omega (arith, le))
-    some (b ∷ bytes) le = over-some at_label b bytes
-
-    bracket_is : piece line n.GfmFootnoteDefinitionLabelMarker bracket hat ≡
-        pair n.GfmFootnoteDefinitionLabelMarker v at_hat
-    bracket_is =
-        piece-on text behind line n.GfmFootnoteDefinitionLabelMarker bracket hat v at_hat is indented.on b1.on
-        ∙ ap (λ (x : Bool). cond x [] (pair n.GfmFootnoteDefinitionLabelMarker v at_hat)) (over-some v 91 [])
-
-    hat_is : piece line n.GfmFootnoteDefinitionMarker hat inner ≡ pair n.GfmFootnoteDefinitionMarker at_hat at_label
-    hat_is =
-        piece-on text behind line n.GfmFootnoteDefinitionMarker hat inner at_hat at_label is b1.on b2.on
-        ∙ ap (λ (x : Bool). cond x [] (pair n.GfmFootnoteDefinitionMarker at_hat at_label)) (over-some at_hat 94 [])
-
-    inner_is : text_part line String n.GfmFootnoteDefinitionLabelString inner close ≡
-        around n.GfmFootnoteDefinitionLabelString at_label at_close (chunk String at_label at_close)
-    inner_is =
-        text_part-on text behind line String n.GfmFootnoteDefinitionLabelString inner close at_label at_close is b2.on
-        b3.on
-        ∙ ap
-        (λ (x : Bool).
-        cond x []
-        (around n.GfmFootnoteDefinitionLabelString at_label at_close (chunk String at_label at_close)))
-        (some label has.sized.0)
-
-    close_is : piece line n.GfmFootnoteDefinitionLabelMarker close colon ≡
-        pair n.GfmFootnoteDefinitionLabelMarker at_close at_colon
-    close_is =
-        piece-on text behind line n.GfmFootnoteDefinitionLabelMarker close colon at_close at_colon is b3.on b4.on
-        ∙ ap (λ (x : Bool). cond x [] (pair n.GfmFootnoteDefinitionLabelMarker at_close at_colon))
-        (over-some at_close 93 [])
-
-    colon_is : piece line n.DefinitionMarker colon after ≡ pair n.DefinitionMarker at_colon at_after
+    colon_is : piece line n.DefinitionMarker (colon label r) (ended label r) ≡
+        pair n.DefinitionMarker (at_colon label v) at_after
     colon_is =
-        piece-on text behind line n.DefinitionMarker colon after at_colon at_after is b4.on b5.on
-        ∙ ap (λ (x : Bool). cond x [] (pair n.DefinitionMarker at_colon at_after)) (over-some at_colon 58 [])
-
-    label_inside : List Event
-    label_inside =
-        piece line n.GfmFootnoteDefinitionLabelMarker bracket hat ++ piece line n.GfmFootnoteDefinitionMarker hat inner
-        ++ text_part line String n.GfmFootnoteDefinitionLabelString inner close
-        ++ piece line n.GfmFootnoteDefinitionLabelMarker close colon
+        piece-on text behind line n.DefinitionMarker (colon label r) (ended label r) (at_colon label v) at_after is
+        rests.closed.on rests.last.on
+        ∙ ap (λ (x : Bool). cond x [] (pair n.DefinitionMarker (at_colon label v) at_after))
+        (over-some (at_colon label v) 58 [])
 
     inside : List Event
     inside =
-        part line n.GfmFootnoteDefinitionLabel bracket colon label_inside ++ piece line n.DefinitionMarker colon after
-        ++ white line after t.rest
-
-    label_is : part line n.GfmFootnoteDefinitionLabel bracket colon label_inside ≡
-        around n.GfmFootnoteDefinitionLabel v at_colon
-        (pair n.GfmFootnoteDefinitionLabelMarker v at_hat ++ pair n.GfmFootnoteDefinitionMarker at_hat at_label
-        ++ around n.GfmFootnoteDefinitionLabelString at_label at_close (chunk String at_label at_close)
-        ++ pair n.GfmFootnoteDefinitionLabelMarker at_close at_colon)
-    label_is =
-        part-on text behind line n.GfmFootnoteDefinitionLabel bracket colon v at_colon label_inside is indented.on
-        b4.on
-        ∙ ap (λ (es : List Event). around n.GfmFootnoteDefinitionLabel v at_colon es)
-        (ap₂ (λ (xs ys : List Event). xs ++ ys)
-        (ap₂ (λ (xs ys : List Event). xs ++ ys) (ap₂ (λ (xs ys : List Event). xs ++ ys) bracket_is hat_is) inner_is)
-        close_is)
+        part line n.GfmFootnoteDefinitionLabel (behind_indent r) (colon label r) (label_inside line r label)
+        ++ piece line n.DefinitionMarker (colon label r) (ended label r) ++ white line (ended label r) t.rest
