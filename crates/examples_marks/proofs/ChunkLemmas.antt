@@ -22,7 +22,7 @@ use Rattle.md_events.specs.Events.Inline.{line_endings, pair_unless_empty, piece
 use Rattle.md_events.specs.Events.Nested.{enter, exit, pair}
 use Rattle.md_events.specs.Events.Places.{are_placed, at_or_before, is_placed, past_byte, same_place}
 use Rattle.md_events.specs.Substituted.{belongs}
-use Rattle.md_events.proofs.InlineLemmas.{end-before, end-placed, line-no_ending, past-index}
+use Rattle.md_events.proofs.InlineLemmas.{end-before, end-placed, endings-append, line-no_ending, past-index}
 use Rattle.md_events.proofs.NestedLemmas.{at_or_before-refl}
 use Rattle.md_events.proofs.PlacesLemmas.{Placed, all-append, apart-later, drop-next}
 use Rattle.md_events.proofs.PlacesLemmas.{placed-byte, placed-facts, placed-from}
@@ -32,7 +32,7 @@ use Rattle.examples_marks.specs.declared.roles.Role.{Role}
 use Rattle.examples_marks.proofs.BalanceLemmas.{AreEndings, Runs, Turns, runs-split}
 use Rattle.examples_marks.proofs.BalanceLemmas.{turns-append, turns-ending, turns-line}
 use Rattle.examples_marks.proofs.FrontLemmas.{covers-chunk}
-use Rattle.examples_marks.proofs.LineLemmas.{Along, Goes, Mark, all-line, along-unit, endings-append, goes-append}
+use Rattle.examples_marks.proofs.LineLemmas.{Along, Goes, Mark, all-line, along-unit, goes-append}
 use Rattle.examples_marks.proofs.LineLemmas.{goes-line, goes-pair, line-endings}
 use Rattle.examples_marks.proofs.LineLemmas.{on_bracket, on_label, on_link, on_text}
 

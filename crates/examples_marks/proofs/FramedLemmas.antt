@@ -22,7 +22,7 @@ use Rattle.md_events.specs.Events.Places.{are_placed, at_or_before, first_point,
 use Rattle.md_events.specs.Substituted.{belongs}
 use Rattle.md_events.specs.TextPart.{Document}
 use Rattle.md_events.proofs.CutLemmas.{cut-front, cut-last}
-use Rattle.md_events.proofs.InlineLemmas.{end-behind, plain-framed}
+use Rattle.md_events.proofs.InlineLemmas.{end-behind, endings-append, plain-framed}
 use Rattle.md_events.proofs.PlacesLemmas.{all-append}
 use Rattle.md_events.proofs.PlainSteps.{lines-each}
 use Rattle.examples_marks.specs.References.{chunks_events, ending_events, ends_label, line_events, part_text}
@@ -34,7 +34,6 @@ use Rattle.examples_marks.proofs.ChunkLemmas.{Whole, chunk-belongs, chunk-covers
 use Rattle.examples_marks.proofs.ChunkLemmas.{chunk-inline, chunk-placed, chunk-turns}
 use Rattle.examples_marks.proofs.ChunkLemmas.{goes-on, label-apart, read_chunk}
 use Rattle.examples_marks.proofs.FrontLemmas.{front-line}
-use Rattle.examples_marks.proofs.LineLemmas.{endings-append}
 
 -- The chunks of a part.
 

@@ -98,16 +98,6 @@ module _ (test : Event → Bool) (P : Point → Type 0)
 
 -- No `LineEnding` is in a line.
 
-pub endings-append : (xs ys : List Event) → line_endings (xs ++ ys) ≡ line_endings xs ++ line_endings ys
-endings-append [] ys = refl
-endings-append (e ∷ xs) ys = go (is_line_ending e.name) (endings-append xs ys)
-  where
-    go : (x : Bool) → line_endings (xs ++ ys) ≡ line_endings xs ++ line_endings ys →
-        cond x (e ∷ line_endings (xs ++ ys)) (line_endings (xs ++ ys)) ≡
-        cond x (e ∷ line_endings xs) (line_endings xs) ++ line_endings ys
-    go true h = ap (λ (l : List Event). e ∷ l) h
-    go false h = h
-
 no-endings : (es : List Event) → list_all (λ (e : Event). not (is_line_ending e.name)) es ≡ true → line_endings es ≡ []
 no-endings [] h = refl
 no-endings (e ∷ es) h =

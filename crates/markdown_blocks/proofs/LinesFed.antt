@@ -48,7 +48,8 @@ use Rattle.markdown_blocks.proofs.FlowMeans.{Takes, ending-taken, flow-steps-by,
 use Rattle.proof_rows.proofs.FlowLine.{Begins, Done, line-done}
 use Rattle.proof_rows.proofs.FlowRows.{held-shorter, leaving, next-begins, next_here}
 use Rattle.proof_rows.proofs.FlowRows.{no-closes, row-adds, rows_below, text-begins}
-use Rattle.proof_frame.proofs.FromEnding.{from_ending-shrinks, from_ending-stops}
+use Rattle.md_containers.proofs.QuoteCells.{ending-shorter}
+use Rattle.md_link_definitions.proofs.LineCells.{line-stops}
 
 -- After some lines.
 
@@ -185,8 +186,8 @@ line-next options from all n left h l rest new is = by l.size l.fits l.rows
         LineAt options from all (suc n) rest new
     by zero fits rows = absurd (omega arith)
     by (suc m) fits rows =
-        go (from_ending x.cells) refl (from_ending-stops x.cells)
-        (omega (arith, from_ending-shrinks x.cells, held-shorter options l.containers l.still left h.point)) rows
+        go (from_ending x.cells) refl (line-stops x.cells)
+        (omega (arith, ending-shorter x.cells, held-shorter options l.containers l.still left h.point)) rows
       where
         go : (ls : List Cell) → from_ending x.cells ≡ ls → Stops ls → length ls < suc m →
             drop n all ≡ onto_rows options x (rows_below options m behind text ls) →
@@ -199,7 +200,7 @@ line-next options from all n left h l rest new is = by l.size l.fits l.rows
             let fewer : length (c ∷ xs) ≤ any_size =
             let same = ap length e in
             omega
-            (arith, same, l.few, from_ending-shrinks x.cells, held-shorter options l.containers l.still left h.point)
+            (arith, same, l.few, ending-shorter x.cells, held-shorter options l.containers l.still left h.point)
             in
             let below : List Row = rows_at options m behind text xs c.after in
             let row : Row = row_of options x below in
@@ -572,7 +573,7 @@ line-last options from all n left h l new is = by l.size l.fits l.rows
     by : (size : ℕ) → length left < size → drop n all ≡ rows_at options size l.containers l.still left h.point →
         suc n ≡ length all
     by zero fits rows = absurd (omega arith)
-    by (suc m) fits rows = go (from_ending x.cells) refl (from_ending-stops x.cells) rows
+    by (suc m) fits rows = go (from_ending x.cells) refl (line-stops x.cells) rows
       where
         go : (ls : List Cell) → from_ending x.cells ≡ ls → Stops ls →
             drop n all ≡ onto_rows options x (rows_below options m behind text ls) → suc n ≡ length all

@@ -1,6 +1,6 @@
 -- Where all events stay as they are by their names, no content is read, and joining lines and running the resolvers
 -- changes nothing.
-use Rattle.std.proofs.Common.{◌≡◌, ℕ, zero, suc, drop, Bool, true, false, cond, not, ◌&&◌, ◌+◌, ◌≤◌, List, [], ◌∷◌}
+use Rattle.std.proofs.Common.{◌≡◌, ℕ, zero, suc, drop, Bool, true, false, cond, not, ◌+◌, ◌≤◌, List, [], ◌∷◌}
 use Rattle.std.proofs.Common.{◌∙◌, ap, arith, length, refl}
 use Rattle.std.specs.List.{prefix_len}
 use Rattle.std.proofs.lemmas.Bool.{and_parts, or_from}
@@ -17,8 +17,8 @@ use Rattle.md_leaves.specs.Turned.{is_no_underline, is_underline}
 use Rattle.md_order.specs.InOrder.{every, in_order}
 use Rattle.md_order.specs.Left.{is_same}
 use Rattle.md_order.proofs.Names.{tableless}
-use Rattle.md_resolve.proofs.Same.{in_order-same}
-use Rattle.md_resolve.proofs.Unset.{same-by}
+use Rattle.md_resolve.proofs.Same.{in_order-same, weaker}
+use Rattle.md_resolve.proofs.Unset.{off-right, same-by}
 use Rattle.md_events.specs.Events.Nested.{is_enter}
 use Rattle.md_events.specs.Events.Spelled.{role}
 use Rattle.md_tables.specs.Heads.{is_table}
@@ -27,29 +27,11 @@ use Rattle.md_content.specs.Joined.{is_content}
 use Rattle.markdown_blocks.specs.Alone.{may_change, passes_alone, stays_by_name}
 use Rattle.markdown_blocks.specs.ContentRead.{holds_content}
 
--- what passes one test passes another
-all-pass : (p q : Event → Bool) → ((e : Event) → p e ≡ true → q e ≡ true) → (es : List Event) →
-    prefix_len p es ≡ length es → prefix_len q es ≡ length es
-all-pass p q gives [] all = refl
-all-pass p q gives (e ∷ es) all = go (p e) refl (λ rest. all-pass p q gives es rest) all
-  where
-    go : (x : Bool) → p e ≡ x → (prefix_len p es ≡ length es → prefix_len q es ≡ length es) →
-        cond x (1 + prefix_len p es) 0 ≡ length (e ∷ es) → cond (q e) (1 + prefix_len q es) 0 ≡ length (e ∷ es)
-    go true here more all =
-        let rest : prefix_len p es ≡ length es = omega (arith, all) in
-        let below : prefix_len q es ≡ length es = more rest in
-        ap (λ (x : Bool). cond x (1 + prefix_len q es) 0) (gives e here) ∙ omega (arith, below)
-    go false here more all = cc
-
 -- An event of a name that does not change stays as it is.
 
 off : (x : Bool) → not x ≡ true → x ≡ false
 off true h = cc
 off false h = refl
-
-off-right : (x y : Bool) → y ≡ false → (x && y) ≡ false
-off-right true y h = h
-off-right false y h = refl
 
 no-content : (name : Name) → may_change name ≡ false → is_content name ≡ false
 no-content n.Content h = absurd (let no : true ≡ false = h in cc)
@@ -109,7 +91,7 @@ pub alone-same : (options : ParseOptions) (bytes : List ℕ) (es : List Event) �
 alone-same options bytes es all =
     ap (in_order every bytes) (joined (joins_lines options))
     ∙ in_order-same every bytes es
-    (all-pass stays_by_name (is_same every)
+    (weaker stays_by_name (is_same every)
     named-same es all)
   where
     on : (e : Event) → stays_by_name e ≡ true → passes Outside e ≡ true
@@ -118,7 +100,7 @@ alone-same options bytes es all =
         (passes-on e (named-alone e h))).0
 
     joined : (x : Bool) → cond x (spanned es) es ≡ es
-    joined true = spanned-none es (all-pass stays_by_name (passes Outside) on es all)
+    joined true = spanned-none es (weaker stays_by_name (passes Outside) on es all)
     joined false = refl
 
 -- a look for the first that may not pass continues after those that are known to
@@ -167,4 +149,4 @@ none-held (e ∷ es) all =
 pub stay-none : (es : List Event) → prefix_len stays_by_name es ≡ length es → holds_content es ≡ false
 stay-none es all =
     none-held es
-    (all-pass stays_by_name passes_alone named-alone es all)
+    (weaker stays_by_name passes_alone named-alone es all)

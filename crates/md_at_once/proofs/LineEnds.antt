@@ -1,6 +1,6 @@
 -- Lines that are taken and end in one call.
-use Rattle.std.proofs.Common.{◌≡◌, ◌-◌, ◌<◌, ◌≤◌, ◌∙◌, ◌⊎◌, ℕ, suc, Bool, true, false, List, [], ◌∷◌, ◌++◌, length}
-use Rattle.std.proofs.Common.{Option, Some, None, IfSome, reverse, slice_get, ap, arith, cond, inl, inr, nat_eq}
+use Rattle.std.proofs.Common.{◌≡◌, ◌-◌, ◌<◌, ◌≤◌, ◌∙◌, ℕ, suc, Bool, true, false, List, [], ◌∷◌, ◌++◌, length}
+use Rattle.std.proofs.Common.{Option, Some, None, IfSome, reverse, slice_get, ap, arith, cond, inr, nat_eq}
 use Rattle.std.proofs.Common.{subst, sym}
 use Rattle.std.proofs.lemmas.List.{reverse-append}
 use Rattle.md_engine.specs.Going.{SeesOn}
@@ -18,9 +18,7 @@ use Rattle.md_engine.specs.declared.tokenizer.Frame.{Frame}
 use Rattle.md_engine.specs.declared.tokenizer.Tokenizer.{Tokenizer}
 use Rattle.md_engine.proofs.Keeps.{runs-append}
 use Rattle.md_engine.proofs.Loops.{CameHere, came-first, runs-then}
-use Rattle.md_engine.proofs.StayLemmas.{seen-inside}
 use Rattle.md_engine.proofs.Walks.{TakesSo, Within, then-seen, then-waits}
-use Rattle.md_events.specs.Spaces.{ends_line}
 use Rattle.md_events.specs.Stays.{TakesEach}
 use Rattle.md_events.specs.Transition.{Transition, entered, exited, taken}
 use Rattle.proof_frame.specs.EndingName.{ending_name}
@@ -28,11 +26,6 @@ use Rattle.md_registry.specs.Flow.{flow_end_code, flow_end_transition, leaf_end}
 use Rattle.md_registry.specs.LineFlags.{kept_containers, next_line}
 use Rattle.md_registry.specs.States.{FlowStep, flow_transition}
 use Rattle.md_at_once.specs.AtOnce.{GoesOn, IsTried}
-
--- what may be read, where the text has not ended
-pub ahead : {P : Type 0} → (false ≡ true) ⊎ P → P
-ahead (inl e) = cc
-ahead (inr h) = h
 
 -- After a leaf.
 
@@ -96,14 +89,6 @@ end-sees w to is from new =
     by u (Some b) = at u (nat_eq b 10)
 
 -- The rest of a line.
-
--- where the line does not end something is here
-pub inside-line : (w : World) → w.current ≡ looks w → ends_line w.current ≡ false → w.point.index < w.setting.limit
-inside-line w seen is = go w.current seen is
-  where
-    go : (o : Option ℕ) → o ≡ looks w → ends_line o ≡ false → w.point.index < w.setting.limit
-    go None e k = cc
-    go (Some b) e k = seen-inside w.setting w.point b (sym e)
 
 -- a state that takes it byte after byte
 pub takes-so : (name : StateName) → TakesEach Line name (flow_transition name) → TakesSo FlowStep name Line

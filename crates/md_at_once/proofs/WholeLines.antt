@@ -34,9 +34,11 @@ use Rattle.md_at_once.specs.AtOnce.{IsNoClose}
 use Rattle.md_at_once.specs.WholeLines.{IsWhole, chunk_event, line_event, settled, whole_added, whole_frame, whole_tried}
 use Rattle.md_at_once.proofs.ContentLines.{Keeps, line-over, some-keeps, some-with, with}
 use Rattle.md_at_once.proofs.FenceLines.{chunk-takes}
-use Rattle.md_at_once.proofs.LineEnds.{inside-line, line-waits, takes-so}
+use Rattle.md_at_once.proofs.LineEnds.{line-waits, takes-so}
 use Rattle.md_at_once.proofs.NoClose.{closes-none}
 use Rattle.md_at_once.proofs.TakenBack.{stepped-as}
+use Rattle.md_events.proofs.SpacesTermination.{inside-line}
+use Rattle.md_resolve.proofs.Unset.{off-right}
 
 -- Such a line has begun, and what is on it, and an attempt at it;
 abbrev begins_in : World → World → World
@@ -49,18 +51,14 @@ asked : (w : World) → IsWhole w → asked_first w.flags.leaf ≡ Some FenceFur
 unfolding asked_first
 asked w h = rw h.opened refl
 
--- and has whitespace in front that is not taken away, or none.
-and-no : (x y : Bool) → y ≡ false → (x && y) ≡ false
-and-no true y e = e
-and-no false y e = refl
-
+-- and has whitespace in front that is not taken away, or none
 kept : (w : World) → IsWhole w → (nat_lt 0 (held_indent w.flags.leaf) && sees_white w.current) ≡ false
 kept w h = go (sees_white w.current) refl
   where
     go : (y : Bool) → sees_white w.current ≡ y →
         (nat_lt 0 (held_indent w.flags.leaf) && sees_white w.current) ≡ false
     go true e = ap₂ (λ (k : ℕ) (z : Bool). nat_lt 0 k && z) (h.white e).1 e
-    go false e = and-no (nat_lt 0 (held_indent w.flags.leaf)) (sees_white w.current) e
+    go false e = off-right (nat_lt 0 (held_indent w.flags.leaf)) (sees_white w.current) e
 
 -- it closes nothing where the attempt has begun either
 no-close : (w : World) (g : Flags) (fs : List Frame) → g.leaf ≡ w.flags.leaf → IsNoClose w →

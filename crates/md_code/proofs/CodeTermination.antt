@@ -19,7 +19,7 @@ use Rattle.md_leaves.specs.Further.{further_link}
 use Rattle.md_events.specs.Events.Nested.{enter, enter_link}
 use Rattle.md_events.specs.Spaces.{IsRest, calmed, ends_line, rest_ready, sees_white}
 use Rattle.md_events.specs.Transition.{entered, exited, taken}
-use Rattle.md_events.proofs.SpacesTermination.{Does, WhiteFits, goes-on, rest-calm, rest-none, seen-in, white_try}
+use Rattle.md_events.proofs.SpacesTermination.{Does, WhiteFits, inside-line, rest-calm, rest-none, seen-in, white_try}
 
 pub record CodeFits (T : Scheme) : Type 1 where
   pub white : WhiteFits T
@@ -86,7 +86,7 @@ inside_ends T w true has c r e = (
   refl,
 )
 inside_ends T w false has c r e =
-    let inside = goes-on w c e in (
+    let inside = inside-line w c e in (
       consumes T code_scheme _ _ w w.events w.scratch (has.each its.Inside) (has.each its.Inside) inside
           (r.0, later _ _ (position w) _ _ _ (takes w.setting w.point inside) r.1) (omega arith),
       refl,

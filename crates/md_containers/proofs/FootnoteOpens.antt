@@ -24,7 +24,6 @@ use Rattle.md_containers.proofs.FootnoteLabel.{LabelIs, has_no_white, label-walk
 use Rattle.md_containers.proofs.FootnoteShorter.{LabelFits, label-fits}
 use Rattle.md_containers.proofs.ItemDigits.{byte-behind, spread-one, starts, starts-spread, starts-stop}
 use Rattle.md_containers.proofs.ItemLines.{ItemAgrees, LeavesRest}
-use Rattle.md_containers.proofs.ItemOpens.{past-append}
 use Rattle.md_containers.proofs.QuoteLines.{HasWhite, white-walk, white_end-same}
 use Rattle.md_meaning.specs.Containers.{Labelled, Taken, footnote_by, footnote_label, opens_footnote}
 use Rattle.md_meaning.specs.Lines.{begins_with}
@@ -40,6 +39,7 @@ use Rattle.md_events.proofs.FeedLines.{Stops, spread}
 use Rattle.md_events.proofs.LostColumns.{White}
 use Rattle.md_events.proofs.RestCells.{HasIndent, RestAt, indent-length}
 use Rattle.md_events.proofs.RestCells.{indent-taken, lose-no_ending, past_rest, rest_cells, white-length}
+use Rattle.md_events.proofs.InlineLemmas.{past_text-append}
 
 -- The points of a prefix that begins at a point: after `[^`, after the label, and after `]:`.
 
@@ -350,7 +350,7 @@ labelled-agrees line text past column cs p stop front (Some l) (Some m) has fewe
     ends =
         sym
         (ap (λ (l : List ℕ). past_text l (label_start p)) has.bytes_are
-        ∙ past-append label (93 ∷ m.after) (label_start p))
+        ∙ past_text-append label (93 ∷ m.after) (label_start p))
 
     found : IsSized label → (x : Option ItemPassed) (t : Option Taken) →
         ItemAgrees

@@ -40,6 +40,7 @@ use Rattle.md_events.specs.Events.Places.{past_byte, past_text}
 use Rattle.md_events.specs.Spaces.{small_indent}
 use Rattle.md_events.proofs.FeedLines.{Stops, cell, past-next, spread}
 use Rattle.md_events.proofs.RestCells.{Bare, RestAt, past_rest, rest_cells}
+use Rattle.md_events.proofs.InlineLemmas.{past_text-append}
 
 abbrev rest : ℕ → List ℕ → Rest
 rest column bytes = record { column = column; spaces = 0; bytes = bytes }
@@ -95,10 +96,6 @@ white-digit b e = grind (arith, nat_tests)
 
 digit-no_end : (b : ℕ) → is_digit b ≡ true → ends_value b ≡ false
 digit-no_end b e = grind (arith, nat_tests)
-
-pub past-append : (xs ys : List ℕ) (p : Point) → past_text (xs ++ ys) p ≡ past_text ys (past_text xs p)
-past-append [] ys p = refl
-past-append (x ∷ xs) ys p = past-append xs ys (past_byte x p)
 
 -- A bullet.
 
@@ -333,7 +330,7 @@ by-digits options interrupting line text past column bytes q stop p before front
             fed = item.leaves.fed;
             stands = item.leaves.stands;
             ends =
-                item.leaves.ends ∙ sym (past-append ds (m ∷ ms) q) ∙ ap (λ (l : List ℕ). past_text l q) (sym are);
+                item.leaves.ends ∙ sym (past_text-append ds (m ∷ ms) q) ∙ ap (λ (l : List ℕ). past_text l q) (sym are);
             no_ending = item.leaves.no_ending;
             shorter = omega (arith, size, item.leaves.shorter);
           };

@@ -46,7 +46,7 @@ pub prefix-shorter : (options : ParseOptions) (cells : List Cell) → takes_pref
 prefix-shorter options cells e =
     omega (arith, marker-shorter (white_rest (small_indent options) cells) e, white-length (small_indent options) cells)
 
-ending-shorter : (cells : List Cell) → length (from_ending cells) ≤ length cells
+pub ending-shorter : (cells : List Cell) → length (from_ending cells) ≤ length cells
 ending-shorter [] = omega arith
 ending-shorter (c ∷ cs) = go (c.byte == 10) (ending-shorter cs)
   where

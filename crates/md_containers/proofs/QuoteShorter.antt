@@ -1,5 +1,5 @@
 -- The prefix of a quote is refused, or takes a cell at least.
-use Rattle.std.proofs.Common.{ℕ, ◌<◌, ◌≤◌, Bool, true, false, cond, not, nat_eq, List, [], ◌∷◌, drop, length, arith}
+use Rattle.std.proofs.Common.{ℕ, ◌<◌, ◌≤◌, cond, not, nat_eq, List, [], ◌∷◌, drop, length, arith}
 use Rattle.std.specs.Char.{to_ascii_lowercase}
 use Rattle.md_engine.specs.declared.configuration.ParseOptions.{ParseOptions}
 use Rattle.md_engine.specs.Meaning.{Accepts, Cell, Fails, Here, Outcome, Refuses}
@@ -8,10 +8,11 @@ use Rattle.md_containers.specs.QuoteRule.{alert_at, alert_letter, alert_mark, al
 use Rattle.md_containers.specs.QuoteRule.{at_marker, behind_marker, ended_by, indent_at, opening_at, prefix_at}
 use Rattle.md_containers.specs.QuoteRule.{prefix_ended, quote_at}
 use Rattle.md_containers.proofs.Shorter.{Shortens, cond-shortens}
+use Rattle.md_containers.proofs.QuoteCells.{ending-shorter}
 use Rattle.md_leaves.specs.BlankRule.{blank_at}
 use Rattle.md_meaning.specs.Bytes.{is_end}
 use Rattle.md_meaning.specs.Rest.{is_blank, is_white}
-use Rattle.md_events.specs.Ahead.{begins_white, from_ending, line_bytes}
+use Rattle.md_events.specs.Ahead.{begins_white, line_bytes}
 use Rattle.md_events.specs.Spaces.{small_indent}
 use Rattle.md_events.proofs.RestCells.{white-length}
 
@@ -46,20 +47,10 @@ indent-shortens options n next cells h then =
 
 -- The marker of an alert.
 
--- the ending of a line is none of the cells before it
-ending-length : (cells : List Cell) → length (from_ending cells) ≤ length cells
-ending-length [] = omega arith
-ending-length (c ∷ cs) = go (nat_eq c.byte 10) (ending-length cs)
-  where
-    go : (x : Bool) → length (from_ending cs) ≤ length cs →
-        length (cond x (c ∷ cs) (from_ending cs)) ≤ length (c ∷ cs)
-    go true le = omega arith
-    go false le = omega (arith, le)
-
 blank-shortens : (n : ℕ) → Keeps n blank_at
 unfolding blank_at
 blank-shortens n cells h lt =
-    cond-shortens n (is_blank (line_bytes cells)) _ _ (omega (arith, lt, ending-length cells)) tt
+    cond-shortens n (is_blank (line_bytes cells)) _ _ (omega (arith, lt, ending-shorter cells)) tt
 
 name-shortens : (n : ℕ) (left : List ℕ) → Keeps n (alert_name left)
 unfolding alert_name

@@ -16,7 +16,7 @@ use Rattle.md_events.proofs.LineTaken.{whole-behind}
 use Rattle.md_events.specs.Lent.{whole_from}
 use Rattle.md_events.specs.Spaces.{IsRest, ends_line, rest_ready}
 use Rattle.md_events.specs.Transition.{entered_link, exited}
-use Rattle.md_events.proofs.SpacesTermination.{Does, goes-on}
+use Rattle.md_events.proofs.SpacesTermination.{Does, inside-line}
 
 pub record ChunkFits (T : Scheme) : Type 1 where
   pub each : (state : ContentState) → Fits T chunk_scheme (n.Content state)
@@ -49,7 +49,7 @@ chunk_inside_ends : (T : Scheme) (w : World) (x : Bool) → ChunkFits T →
 chunk_inside_ends T w true has r c e =
     (accepts T _ w IsRest IsRest (exited w parts.Content).events (unbegun w.scratch) r.2 r.1, refl)
 chunk_inside_ends T w false has r c e =
-    let inside = goes-on w c e in (
+    let inside = inside-line w c e in (
       consumes T chunk_scheme _ (n.Content content.ChunkInside) w w.events w.scratch (has.each content.ChunkInside)
           (has.each content.ChunkInside) inside (
             start-taken w w.current c e r.0,

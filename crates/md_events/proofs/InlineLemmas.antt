@@ -162,7 +162,7 @@ forward-pair o name p q es h k f = go (same_place p q)
     go true = forward-from o q es (at_or_before-trans o p q h k) f
     go false = (h, (k, f))
 
-endings-append : (xs ys : List Event) → line_endings (xs ++ ys) ≡ line_endings xs ++ line_endings ys
+pub endings-append : (xs ys : List Event) → line_endings (xs ++ ys) ≡ line_endings xs ++ line_endings ys
 endings-append [] ys = refl
 endings-append (e ∷ xs) ys = go (is_line_ending e.name) (endings-append xs ys)
   where

@@ -28,7 +28,7 @@ use Rattle.md_events.specs.Events.Inline.{Part, is_linked, are_lines, piece_of, 
 use Rattle.md_events.specs.Events.Tiles.{IsBlockList, stands_in_part, is_data, is_part, is_chunk, depth_behind, chunks_stand}
 use Rattle.md_events.specs.Events.Tiles.{parts, part_kind, part_of, part_at, part_end, part_stands, parts_stand, inside_part}
 use Rattle.md_events.specs.Events.Tiles.{begins_at, is_white_piece, of_kind, links_kind, chunks}
-use Rattle.md_events.proofs.FilledLemmas.{data-no_part}
+use Rattle.md_events.proofs.FilledLemmas.{chunk-parts, data-no_part}
 use Rattle.md_events.proofs.NestsLemmas.{chunks-unlinked, part-none}
 
 -- Events.
@@ -105,22 +105,6 @@ part-no_prefix n.BlockQuoteMarker h = cc
 part-no_prefix _ h = refl
 
 -- Chunks.
-
-chunk-facts : (e f : Event) (es : List Event) → is_chunk e (f ∷ es) ≡ true →
-    (e.kind ≡ Enter) × (is_data e.name ≡ true) × (f.kind ≡ Exit) × (is_data f.name ≡ true)
-chunk-facts e f es h = go e.kind f.kind h
-  where
-    go : (k l : Kind) → (not (is_exit k) && is_data e.name && is_exit l && is_data f.name) ≡ true →
-        (k ≡ Enter) × (is_data e.name ≡ true) × (l ≡ Exit) × (is_data f.name ≡ true)
-    go Enter Exit h =
-        let outer : (is_data e.name && true ≡ true) ×
-        (is_data f.name ≡ true) = and_parts (is_data e.name && true) (is_data f.name) h in
-        (refl, (and_parts (is_data e.name) true outer.0).0, refl, outer.1)
-    go Enter Enter h =
-        let outer : (is_data e.name && false ≡ true) ×
-        (is_data f.name ≡ true) = and_parts (is_data e.name && false) (is_data f.name) h in
-        let no : false ≡ true = (and_parts (is_data e.name) false outer.0).1 in cc
-    go Exit l h = cc
 
 chunks-behind_exit : (f : Event) (es : List Event) → f.kind ≡ Exit → chunks (pieces (f ∷ es)) ≡ chunks (pieces es)
 chunks-behind_exit f [] exits = refl
@@ -339,7 +323,7 @@ inside-chunk bytes e f es kind part N inside in_part linked chunk stands =
     }))
   where
     facts : (e.kind ≡ Enter) × (is_data e.name ≡ true) × (f.kind ≡ Exit) × (is_data f.name ≡ true)
-    facts = chunk-facts e f es chunk
+    facts = chunk-parts e f es chunk
 
     outside : is_part e.name ≡ false
     outside = data-no_part e.name facts.1

@@ -77,8 +77,8 @@ white-here w b c e = go w.current c e
     go (Some x) k e = seen-some (position w) x (sym k)
 
 -- where the line does not end here, something is here
-pub goes-on : (w : World) → w.current ≡ looks w → ends_line w.current ≡ false → w.point.index < w.setting.limit
-goes-on w c e = go w.current c e
+pub inside-line : (w : World) → w.current ≡ looks w → ends_line w.current ≡ false → w.point.index < w.setting.limit
+inside-line w c e = go w.current c e
   where
     go : (o : Option ℕ) → o ≡ looks w → ends_line o ≡ false → w.point.index < w.setting.limit
     go None k e = cc

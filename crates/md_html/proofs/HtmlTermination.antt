@@ -30,7 +30,7 @@ use Rattle.md_html.proofs.HtmlBytes.{letters-more, letters-none}
 use Rattle.md_html.proofs.HtmlNames.{name-kept, name-starts}
 use Rattle.md_events.specs.Spaces.{IsRest, ends_line, is_current, rest_ready, sees_white}
 use Rattle.md_events.specs.Transition.{entered, exited, taken}
-use Rattle.md_events.proofs.SpacesTermination.{Does, goes-on, seen-in, seen-some}
+use Rattle.md_events.proofs.SpacesTermination.{Does, inside-line, seen-in, seen-some}
 
 pub record HtmlFits (T : Scheme) : Type 1 where
   pub each : (state : HtmlState) → Fits T html_scheme (n.HtmlFlow state)
@@ -350,7 +350,7 @@ text_ends : (T : Scheme) (w : World) (x : Bool) → HtmlFits T → w.current ≡
 text_ends T w true has c r e = ended_ends T its.Continuation w has r (omega arith)
 text_ends T w false has c r e =
     move_terminates T its.Continuation w (text_move w.scratch (is_current w.scratch.marker w.current)) has r
-    (asks_text T w (is_current w.scratch.marker w.current) r (goes-on w c e))
+    (asks_text T w (is_current w.scratch.marker w.current) r (inside-line w c e))
 
 -- after one `-`, or one `]`
 asks_twice : (T : Scheme) (from : HtmlState) (w : World) (x : Bool) →
@@ -403,7 +403,7 @@ close_ends : (T : Scheme) (w : World) (x : Bool) → HtmlFits T → w.current �
     ends_line w.current ≡ x → Does T (n.HtmlFlow its.ContinuationClose) w (close_code w x)
 close_ends T w true has c r e = ended_ends T its.ContinuationClose w has r (omega arith)
 close_ends T w false has c r e =
-    let inside = goes-on w c e in
+    let inside = inside-line w c e in
     move_terminates T its.ContinuationClose w (Takes its.ContinuationClose w.scratch) has r
     (inside, behind T w w.scratch inside r r.0)
 

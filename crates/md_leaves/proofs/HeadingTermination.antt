@@ -24,7 +24,7 @@ use Rattle.md_events.specs.Lent.{whole_from}
 use Rattle.md_events.specs.Spaces.{IsRest, calmed, ends_line, is_current, rest_ready, sees_white, any_size}
 use Rattle.md_events.specs.Transition.{entered, exited, taken}
 use Rattle.md_events.proofs.LineTaken.{whole-behind}
-use Rattle.md_events.proofs.SpacesTermination.{Does, WhiteFits, goes-on, rest-calm, rest-none, rest-size, seen-in, white_try}
+use Rattle.md_events.proofs.SpacesTermination.{Does, WhiteFits, inside-line, rest-calm, rest-none, rest-size, seen-in, white_try}
 
 -- the states in its text
 abbrev IsTextState : HeadingState → Type 0
@@ -173,7 +173,7 @@ text-goes_on : (T : Scheme) (state : HeadingState) (w : World) → HeadingFits T
     ends_line w.current ≡ false →
     Does T (n.HeadingAtx state) w (record { to = Next (n.HeadingAtx state); world = taken w })
 text-goes_on T its.SequenceFurther w has text r ends c e =
-    let inside = goes-on w c e in (
+    let inside = inside-line w c e in (
       consumes T heading_scheme _ _ w w.events w.scratch (has.each its.SequenceFurther)
           (has.each its.SequenceFurther) inside (
             record { begun = start-taken w w.current c e r.begun; rest = r.rest },
@@ -183,7 +183,7 @@ text-goes_on T its.SequenceFurther w has text r ends c e =
       refl,
     )
 text-goes_on T its.Data w has text r ends c e =
-    let inside = goes-on w c e in (
+    let inside = inside-line w c e in (
       consumes T heading_scheme _ _ w w.events w.scratch (has.each its.Data) (has.each its.Data) inside (
         record { begun = start-taken w w.current c e r.begun; rest = r.rest },
         later _ _ (position w) _ _ _ (takes w.setting w.point inside) ends,

@@ -13,7 +13,7 @@ use Rattle.md_link_definitions.proofs.CellLineLemmas.{lines-byte, lines-ending, 
 use Rattle.md_link_definitions.proofs.WholeCellLemmas.{whole-at}
 use Rattle.md_events.specs.Ahead.{begins_white, white_end, white_rest}
 use Rattle.md_events.specs.Spaces.{any_size}
-use Rattle.md_events.proofs.AheadLemmas.{white-no_ending}
+use Rattle.md_events.proofs.AheadLemmas.{white-all, white-no_ending}
 use Rattle.md_events.proofs.RestCells.{white-length}
 use Rattle.md_events.proofs.RestLines.{trim-white}
 
@@ -202,17 +202,6 @@ white-at (suc room) p (c ∷ cs) le are = go (is_white c.byte) refl (white-at ro
     go true white on = rw white on
     go false other on = rw other (at-other p c cs other are)
 
--- of which none is left,
-pub white-over : (room : ℕ) (cells : List Cell) → length cells ≤ room → begins_white (white_rest room cells) ≡ false
-white-over room [] le = refl
-white-over zero (c ∷ cs) le = absurd (omega arith)
-white-over (suc room) (c ∷ cs) le = go (is_white c.byte) refl (white-over room cs (omega arith))
-  where
-    go : (x : Bool) → is_white c.byte ≡ x → begins_white (white_rest room cs) ≡ false →
-        begins_white (white_rest (suc room) (c ∷ cs)) ≡ false
-    go true white on = rw white on
-    go false other on = rw other other
-
 -- and an ending
 ending-at : (p : Point) (cells : List Cell) → begins_white cells ≡ false → length cells ≤ any_size →
     AreWhole p cells → AreAt (ending_end cells p) (ending_rest cells)
@@ -228,7 +217,7 @@ pub gap-stands : (p : Point) (cells : List Cell) → length cells ≤ any_size �
     AreAt (gap_end cells p) (gap_rest cells)
 gap-stands p cells small are =
     let fewer = white-length any_size cells in
-    ending-at (white_end any_size cells p) (white_rest any_size cells) (white-over any_size cells small)
+    ending-at (white_end any_size cells p) (white_rest any_size cells) (white-all any_size cells small)
     (omega (arith, fewer)) (white-at any_size p cells small are).are
 
 -- Where it begins.

@@ -1,7 +1,7 @@
 -- The lines of the cells of a text: those of the bytes of its lines, further ones without leading spaces and tabs.
 use Rattle.std.proofs.Common.{◌≡◌, inl, inr, ℕ, zero, suc, ◌+◌, ◌≤◌, Bool, true, false, cond, nat_eq, List, [], ◌∷◌}
 use Rattle.std.proofs.Common.{◌++◌, refl, sym, ◌∙◌, ap, arith, subst, append-nil}
-use Rattle.std.specs.List.{onto_first, prefix_len}
+use Rattle.std.specs.List.{onto_first}
 use Rattle.std.proofs.lemmas.Bool.{eqb-true, or_parts}
 use Rattle.std.proofs.lemmas.Bool.Decides.{nat_tests}
 use Rattle.md_meaning.specs.Lines.{is_ending}
@@ -17,6 +17,7 @@ use Rattle.md_events.specs.Events.Places.{past_byte, past_text}
 use Rattle.md_events.proofs.FeedLines.{Stops, behind_last, byte-end, byte_cells, cell, columns_more, next_column}
 use Rattle.md_events.proofs.FeedLines.{past_text-whole, spread, spread-end, tab-end, tab_cells, tab_end}
 use Rattle.md_events.proofs.RestCells.{Cut, cells_by, past_cut, past_rest, rest-end, rest_cells}
+use Rattle.md_events.proofs.RestLines.{trim-white}
 
 -- One piece after another.
 
@@ -141,12 +142,7 @@ spread-on line (b ∷ bs) p more none at one =
     ap (cell_lines false) then.1
     ∙ rw plain (ap (onto_first b) (spread-on line bs (past_byte b p) more none.1 refl (omega arith)))
 
--- and of a further line, without whitespace in front:
-trim-white : (b : ℕ) (bs : List ℕ) → is_white b ≡ true → trim_start (b ∷ bs) ≡ trim_start bs
-trim-white b bs e =
-    let next : 1 + prefix_len is_white bs ≡ suc (prefix_len is_white bs) = omega arith in rw (e, next) refl
-
--- what comes first is none
+-- and of a further line, without whitespace in front: here none comes first
 trim-dark : (b : ℕ) (bs : List ℕ) → is_white b ≡ false → trim_start (b ∷ bs) ≡ b ∷ bs
 trim-dark b bs e = rw e refl
 

@@ -23,21 +23,22 @@ use Rattle.proof_frame.specs.Rule.{Rule, tried}
 use Rattle.md_registry.specs.LineFlags.{begun_line, blanked, ended_on, next_container, shut_leaf, kept_containers}
 use Rattle.md_registry.specs.LineFlags.{went_on}
 use Rattle.proof_frame.specs.LeafName.{LeafName}
-use Rattle.proof_frame.proofs.FromEnding.{from_ending-again, from_ending-shrinks}
+use Rattle.proof_frame.proofs.FromEnding.{from_ending-again}
 use Rattle.proof_frame.proofs.LeafLaws.{Shrinks, cond-shrinks}
 use Rattle.md_registry.proofs.Registry.{container-laws, laws}
 use Rattle.md_containers.proofs.Shorter.{Shortens}
+use Rattle.md_containers.proofs.QuoteCells.{ending-shorter}
 
 -- Blank lines and content: a line is taken or refused.
 
 pub blank_at-shrinks : (cells : List Cell) (h : Here) → Shrinks (length cells) (blank_at cells h)
 unfolding blank_at
 blank_at-shrinks cells h =
-    cond-shrinks _ (is_blank (line_bytes cells)) _ _ (from_ending-shrinks cells, from_ending-again cells) tt
+    cond-shrinks _ (is_blank (line_bytes cells)) _ _ (ending-shorter cells, from_ending-again cells) tt
 
 pub chunk_at-shrinks : (cells : List Cell) (h : Here) → Shrinks (length cells) (chunk_at cells h)
 unfolding chunk_at inside_chunk
-chunk_at-shrinks cells h = (from_ending-shrinks cells, from_ending-again cells)
+chunk_at-shrinks cells h = (ending-shorter cells, from_ending-again cells)
 
 -- Rules that continue in the same way.
 

@@ -19,7 +19,7 @@ use Rattle.md_tables.specs.declared.tables.Section.TheVariants.{Outside as InNon
 use Rattle.md_tables.proofs.TabledWalk.{tabled-none, tabled-placed}
 
 -- where all events pass a test they pass each that asks less
-weaker : (p q : Event → Bool) → ((e : Event) → p e ≡ true → q e ≡ true) → (es : List Event) →
+pub weaker : (p q : Event → Bool) → ((e : Event) → p e ≡ true → q e ≡ true) → (es : List Event) →
     prefix_len p es ≡ length es → prefix_len q es ≡ length es
 weaker p q less [] h = refl
 weaker p q less (e ∷ es) h = go (p e) refl (weaker p q less es)

@@ -487,10 +487,6 @@ pub on-ok : {T E : Type 0} → (x : Result T E) (P : Type 0) → is_ok x ≡ tru
 on-ok (result.Ok v) P e h = h
 on-ok (result.Err v) P e h = cc
 
-pub ahead : {P : Type 0} → (false ≡ true) ⊎ P → P
-ahead (inl e) = cc
-ahead (inr h) = h
-
 -- the state at the place of a state is that state
 pub place-named : (r : Row) (state : TableState) (p : Place) → place_of r state ≡ Some p → state ≡ state_at r p
 place-named Head its.HeadRowBefore p e = ap (state_at Head) (same_Some place.Start p e)

@@ -23,16 +23,17 @@ use Rattle.proof_exact_lines.proofs.BeginsAt.{BeginsAt}
 use Rattle.proof_frame.specs.EndingName.{ending_name}
 use Rattle.proof_frame.specs.HeldLeaf.{has_lines, kind_of_leaf, may_go_on, takes_lazy}
 use Rattle.proof_frame.specs.LeafName.{CodeFurther, CodeIndented, Fence, FenceFurther, GfmTable, HeadingAtx, HeadingSetext}
-use Rattle.proof_frame.specs.LeafName.{HtmlFlow, HtmlFurther, LeafName, ThematicBreak, first_of}
+use Rattle.proof_frame.specs.LeafName.{HtmlFlow, HtmlFurther, LeafName, ThematicBreak}
 use Rattle.proof_frame.specs.Row.{BlankRow, LeafRow, Row, RowKind, TextRow, any_framed, ending_of, is_blank_by}
 use Rattle.proof_frame.specs.Row.{is_empty_row, is_framed}
 use Rattle.proof_frame.proofs.LeafLines.Rest.{row_unread}
-use Rattle.md_registry.specs.Registry.{asked_first, leaf, trials}
+use Rattle.md_registry.specs.Registry.{asked_first, leaf}
 use Rattle.md_registry.proofs.Registry.{insider-none, laws}
-use Rattle.proof_rows.specs.Rows.{kind_of, line_kind, stays_blank}
-use Rattle.proof_rows.proofs.KindLemmas.{kind-filled, kind-starts, kind-text}
+use Rattle.proof_rows.specs.Rows.{kind_of, stays_blank}
+use Rattle.proof_rows.proofs.KindLemmas.{kind-filled, kind-starts}
 use Rattle.proof_rows.proofs.RowFacts.{IsRow}
 use Rattle.proof_rows.proofs.RowLeaf.{row-as}
+use Rattle.proof_rows.proofs.Text.Parted.{text-nonblank}
 use Rattle.proof_exact.proofs.GroupsMatch.{code-held}
 use Rattle.proof_exact.proofs.KindRoles.{further_role, leaf_role}
 use Rattle.proof_exact.proofs.RowRoles.{IsCode, behind_code, code-further, code-is, further_rows, is_headed}
@@ -103,16 +104,6 @@ filled-row : (options : ParseOptions) (bytes own : List ℕ) (row : Row) → (is
     is_blank is.rest.bytes ≡ false → is_empty_row row ≡ false
 filled-row options bytes own row is dark =
     row-empty options bytes own row is ∙ rest-filled is.rest dark
-
--- text is not blank
-text-filled : (options : ParseOptions) (on : HeldLeaf) (r : Rest) → line_kind options on r ≡ TextRow →
-    is_blank r.bytes ≡ false
-text-filled options on r e =
-    go (is_blank r.bytes) (first_of (λ l. (leaf l).starts options on r) trials) (kind-text options on r e)
-  where
-    go : (x : Bool) (o : Option LeafName) → cond x BlankRow (kind_of o) ≡ TextRow → x ≡ false
-    go true o f = cc
-    go false o f = refl
 
 -- a leaf that continues is one on which a line may go
 lines-may : (on : HeldLeaf) → has_lines on ≡ true → may_go_on on ≡ true
@@ -306,5 +297,5 @@ name-same options bytes x r is last = to (go r.kind refl)
     go TextRow e =
         ap₂ (λ (a b : Bool). a || b)
         (ap is_blank_role (role_by TextRow e) ∙ text (is_headed is.below) (takes_lazy r.on))
-        (filled-line x.line rest r.first is.at (text-filled options r.on rest (sym is.is.kind ∙ e)))
+        (filled-line x.line rest r.first is.at (text-nonblank options r.on rest (sym is.is.kind ∙ e)))
         ∙ sym (ap (λ (kind : RowKind). is_blank_by kind r) e)

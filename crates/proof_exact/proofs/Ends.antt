@@ -39,6 +39,7 @@ use Rattle.proof_exact.proofs.ExactRoles.{AreMet, contained-by, contained_at, no
 use Rattle.proof_exact.proofs.KindRoles.{further_role, kind_role, lazy-role, lazy_role}
 use Rattle.proof_exact.proofs.Opened.{all-same, containers-same, held_in}
 use Rattle.proof_exact.proofs.RowsMet.{KnowsStep}
+use Rattle.proof_rows.proofs.ContainedLemmas.{none-nil}
 
 -- A line continues the open text although not all containers continue, just if it is text.
 
@@ -112,10 +113,6 @@ lazy-same options open_leaf r built =
 
 -- Those that do not stay on a line are those that the line ends.
 
-none-left : (cs : List Container) → is_none cs ≡ true → cs ≡ []
-none-left [] e = refl
-none-left (c ∷ cs) e = cc
-
 pub stays-same : (options : ParseOptions) (p : Path) (line : TextLine) (below : List exact.Row) → IsPlain p →
     drop (row_of options p line below).stays (containers p) ≡
     (contained_at options p (whole line)).change.closes
@@ -185,7 +182,7 @@ stays-same options p line below plain =
     go : (a n : Bool) → is_none others ≡ a →
         drop (stays a n (length (containers_of p))) (containers_of p) ≡
         closes (takes_lazy still && n && is_text (kind_at n))
-    go true n e = left ∙ no_others (takes_lazy still && n && is_text (kind_at n)) (none-left others e)
+    go true n e = left ∙ no_others (takes_lazy still && n && is_text (kind_at n)) (none-nil others e)
     go false false e = left ∙ opens (takes_lazy still) (is_text (kind_at false))
     go false true e =
         lazy (is_some (with_lazy options (spot p).leaf rest))

@@ -22,7 +22,6 @@ use Rattle.md_events.proofs.FeedLines.{front-within, line-feed, past_ending, spr
 use Rattle.md_events.proofs.InlineLemmas.{past-index}
 use Rattle.md_events.proofs.PlacesLemmas.{Placed, placed-text}
 use Rattle.proof_leaf_laws.proofs.FullLines.{IsLines, LastLine, NextLine, NoLines, ending-is, last-ending, last-is}
-use Rattle.proof_leaf_laws.proofs.FullLines.{line-is}
 use Rattle.md_exact.specs.Places.{TextLine, line_at, line_end, lines_from, next_line, place, whole}
 use Rattle.md_exact.proofs.OnLine.{LineIn, whole-on}
 use Rattle.md_exact.proofs.PlaceLemmas.{line_start}
@@ -31,6 +30,7 @@ use Rattle.proof_frame.specs.Change.{open_behind}
 use Rattle.proof_frame.specs.Row.{Row}
 use Rattle.proof_frame.proofs.RegistryRead.{AreRead}
 use Rattle.proof_frame.proofs.RestRows.{rest-ending}
+use Rattle.proof_frame.proofs.LineTexts.{without-one}
 use Rattle.proof_rows.specs.Fronted.{Contained, contained}
 use Rattle.proof_rows.specs.Rows.{Held, after_ending, behind_held, held_at, onto_rows, row_of, rows_at, rows_by}
 use Rattle.proof_exact.proofs.TextLines.{begin-behind, placed-behind, some-ending}
@@ -226,7 +226,7 @@ rows-fed options (suc n) x open_before still number index column text fulls buil
     own = line_at number index column full
 
     bytes : own.bytes ≡ line
-    bytes = line-is line ending h
+    bytes = without-one line ending h
 
     ends : own.ending ≡ ending_bytes ending
     ends = ending-is line ending h

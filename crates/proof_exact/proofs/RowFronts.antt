@@ -16,8 +16,6 @@ use Rattle.md_meaning.specs.Leaves.{LeafResult, NoText, starts}
 use Rattle.md_meaning.specs.Rest.{Rest, is_blank}
 use Rattle.md_meaning.specs.State.{Container, NoLeaf, OpenCode, Path, spot}
 use Rattle.md_meaning.specs.Step.{is_concrete, is_open_text, step, with_lazy}
-use Rattle.md_meaning.proofs.ContainerLemmas.{opens-leaves}
-use Rattle.md_meaning.proofs.TakenLemmas.{LeavesFewer}
 use Rattle.md_events.proofs.FeedLines.{Stops, byte_cells, cell, columns_more, spread, tab_cells, tab_end}
 use Rattle.md_events.specs.Events.Places.{past_byte}
 use Rattle.md_events.proofs.RestCells.{rest_cells}
@@ -37,6 +35,7 @@ use Rattle.proof_rows.specs.Stands.{IsPlain, containers_of, still_of}
 use Rattle.proof_rows.proofs.FurtherSpan.{built-concrete}
 use Rattle.proof_exact_lines.specs.Unlisted.{plain_begins, without_lists}
 use Rattle.proof_exact_lines.proofs.RowEvents.{front-plain}
+use Rattle.proof_exact_lines.proofs.StepLast.{opened-enough}
 use Rattle.proof_exact.proofs.FrontSame.{IsFront, continued-same, opened-same}
 use Rattle.proof_exact.proofs.Opened.{all-same, text-same}
 
@@ -44,32 +43,6 @@ use Rattle.proof_exact.proofs.Opened.{all-same, text-same}
 
 abbrev opened_by : ParseOptions → ℕ → Option Taken → List Taken
 opened_by options n o = elim o [ Some t ↦ t ∷ opened options false n t.rest | None ↦ [] ]
-
-opened-enough : (options : ParseOptions) (interrupting : Bool) (n m : ℕ) (r : Rest) → length r.bytes ≤ n →
-    length r.bytes ≤ m → opened options interrupting n r ≡ opened options interrupting m r
-opened-enough options interrupting zero zero r h k = refl
-opened-enough options interrupting zero (suc m) r h k =
-    go (opens options interrupting r) (opens-leaves options interrupting r)
-  where
-    go : (o : Option Taken) → LeavesFewer o (length r.bytes) → [] ≡ opened_by options m o
-    go None less = refl
-    go (Some t) less = absurd (omega (arith, less t refl))
-opened-enough options interrupting (suc n) zero r h k =
-    go (opens options interrupting r) (opens-leaves options interrupting r)
-  where
-    go : (o : Option Taken) → LeavesFewer o (length r.bytes) → opened_by options n o ≡ []
-    go None less = refl
-    go (Some t) less = absurd (omega (arith, less t refl))
-opened-enough options interrupting (suc n) (suc m) r h k =
-    go (opened-enough options false n m) (opens options interrupting r) (opens-leaves options interrupting r)
-  where
-    go : ((s : Rest) → length s.bytes ≤ n → length s.bytes ≤ m →
-        opened options false n s ≡ opened options false m s) →
-        (o : Option Taken) → LeavesFewer o (length r.bytes) → opened_by options n o ≡ opened_by options m o
-    go below None less = refl
-    go below (Some t) less =
-        let fewer = less t refl in
-        ap (λ (ts : List Taken). t ∷ ts) (below t.rest (omega (arith, fewer)) (omega (arith, fewer)))
 
 -- There are at least as many cells as bytes.
 

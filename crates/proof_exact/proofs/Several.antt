@@ -15,7 +15,7 @@ use Rattle.md_engine.specs.declared.tokenizer.held_leaf.HeldLeaf.{HeldLeaf}
 use Rattle.md_engine.specs.declared.tokenizer.held_leaf.HeldLeaf.TheVariants as held_leaf
 use Rattle.md_code.specs.Fence.{block_name, held_marker, is_open as is_fence}
 use Rattle.md_html.specs.Html.{is_html}
-use Rattle.md_leaves.specs.Spanned.{has_lines, renamed}
+use Rattle.md_leaves.specs.Spanned.{renamed}
 use Rattle.md_leaves.specs.declared.spans.Place.TheVariants.{Outside}
 use Rattle.md_meaning.specs.Ascii.{dollar}
 use Rattle.md_meaning.specs.Bytes.{is_end}
@@ -40,6 +40,7 @@ use Rattle.proof_literal_laws.specs.Leaf.FenceFurther.{further_line, opening_of}
 use Rattle.proof_literal_laws.specs.Leaf.HtmlFlow.{begins_as, kind_begun}
 use Rattle.proof_literal_laws.proofs.CodeIndented.Rows.{in-framed, row-in}
 use Rattle.proof_literal_laws.proofs.Fence.Opened.{fence-starts}
+use Rattle.proof_literal_laws.proofs.FenceFurther.Joined.{block-lines}
 use Rattle.md_registry.specs.Registry.{asked_first, leaf}
 use Rattle.proof_rows.specs.Rows.{tail_events}
 use Rattle.proof_rows.proofs.KindLemmas.{kind-filled}
@@ -184,13 +185,6 @@ html-group options bytes x r xs rs fit kind pairs goes are =
         ∙ kind-filled options r.on fit.is.rest HtmlFlow (sym fit.is.kind ∙ kind) (asked-html r.on)
 
 -- Fences.
-
-block-lines : (m : ℕ) → has_lines (role (block_name m)) ≡ true
-block-lines m = go (m == 36)
-  where
-    go : (x : Bool) → has_lines (role (cond x n.MathFlow n.CodeFenced)) ≡ true
-    go true = refl
-    go false = refl
 
 fence-framed : (options : ParseOptions) (on : HeldLeaf) (line : List ℕ) (p : Point) →
     is_framed ((leaf FenceFurther).added options on line p) ≡ true

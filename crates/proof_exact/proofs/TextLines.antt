@@ -21,13 +21,14 @@ use Rattle.md_events.proofs.PlacesLemmas.{Placed, placed-text}
 use Rattle.md_events.proofs.ReachedLemmas.{placed-next}
 use Rattle.proof_leaf_laws.specs.Front.{body_point, ending_of}
 use Rattle.proof_leaf_laws.proofs.FullLines.{IsLines, LastLine, NextLine, NoLines, ending-is, full-lines, last-ending}
-use Rattle.proof_leaf_laws.proofs.FullLines.{last-is, line-is}
+use Rattle.proof_leaf_laws.proofs.FullLines.{last-is}
 use Rattle.md_exact.specs.Blocks.{front_size, text_lines}
 use Rattle.md_exact.specs.Places.{TextLine, line_at, lines_from}
 use Rattle.md_exact.proofs.OnLine.{past-line}
 use Rattle.proof_exact_lines.proofs.Front.{begin}
 use Rattle.proof_exact_lines.proofs.FrontBody.{Body, Ends, Goes, front-body}
 use Rattle.proof_exact.proofs.RowsMet.{HaveBytes}
+use Rattle.proof_frame.proofs.LineTexts.{without-one}
 
 pub some-ending : (ending : Ending) → is_end (ending_bytes ending) ≡ false
 some-ending LineFeed = refl
@@ -58,7 +59,7 @@ have-bytes number index column text fulls (NextLine line ending rest more h befo
     (sym (ap is_end (ending-is line ending h) ∙ some-ending ending))
     (sym
     (ap split_lines (sym (append_assoc line (ending_bytes ending) rest)) ∙ split-next line ending rest h before))
-    (line-is line ending h, refl, have-bytes (number + 1) (index + length full) 0 rest more is)
+    (without-one line ending h, refl, have-bytes (number + 1) (index + length full) 0 rest more is)
   where
     full : List ℕ
     full = line ++ ending_bytes ending

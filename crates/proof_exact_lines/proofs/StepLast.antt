@@ -26,7 +26,7 @@ held_in ts = map (λ (t : Taken). t.container) ts
 -- Containers that open one in the other.
 
 -- as many trials as there are bytes are enough
-opened-enough : (options : ParseOptions) (interrupting : Bool) (n m : ℕ) (r : Rest) → length r.bytes ≤ n →
+pub opened-enough : (options : ParseOptions) (interrupting : Bool) (n m : ℕ) (r : Rest) → length r.bytes ≤ n →
     length r.bytes ≤ m → opened options interrupting n r ≡ opened options interrupting m r
 opened-enough options interrupting zero zero r h k = refl
 opened-enough options interrupting zero (suc m) r h k =

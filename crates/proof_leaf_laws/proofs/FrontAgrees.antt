@@ -39,8 +39,9 @@ use Rattle.proof_leaf_laws.specs.Front as front
 use Rattle.proof_leaf_laws.specs.Front.{FrontRead, behind_these, ending_of, ending_part, fence_part, front_from}
 use Rattle.proof_leaf_laws.specs.Front.{front_read, line_part, lines_read}
 use Rattle.proof_leaf_laws.proofs.FullLines.{IsLines, LastLine, NextLine, NoLines, ending-is, full-lines, last-ending}
-use Rattle.proof_leaf_laws.proofs.FullLines.{last-is, line-is}
+use Rattle.proof_leaf_laws.proofs.FullLines.{last-is}
 use Rattle.proof_leaf_laws.proofs.Frontmatter.Taken.{around_fence, fence-is, fence_done, not-fence, one-line}
+use Rattle.proof_frame.proofs.LineTexts.{without-one}
 
 -- All lines.
 
@@ -252,7 +253,7 @@ lines-agree x _ _ (NextLine line ending rest more bare before lines same') h is 
     (Some (record { events = fence_part line h.point ++ exit n.Frontmatter q ∷ es; point = r }))
     (option_map (behind_these (line_part line h.point ++ es)) (lines_read m more r))))
     (past-same ending q) (part-same ending q))
-    ∙ ap₂ (λ (l e : List ℕ). outcome x h (lines_from m l e more h.point)) (sym (line-is line ending bare))
+    ∙ ap₂ (λ (l e : List ℕ). outcome x h (lines_from m l e more h.point)) (sym (without-one line ending bare))
     (sym (ending-is line ending bare))
   where
     m : ℕ
@@ -583,7 +584,7 @@ on-agrees x _ _ (NextLine line ending text more bare before lines same') h is at
     (sym
     (ap (λ (t : Bool). cond t (front_from (front_marker (without_ending full)) full more h.point) None) on
     ∙ from-by (front_marker (without_ending full)) full more h.point
-    ∙ ap₂ (λ (l e : List ℕ). front_by (front_marker l) l e more h.point) (line-is line ending bare)
+    ∙ ap₂ (λ (l e : List ℕ). front_by (front_marker l) l e more h.point) (without-one line ending bare)
     (ending-is line ending bare)))
 
 pub off-none : (options : ParseOptions) (lines : List (List ℕ)) (p : Point) → options.constructs.frontmatter ≡ false →

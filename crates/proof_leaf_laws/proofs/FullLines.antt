@@ -5,10 +5,10 @@ use Rattle.std.specs.Prelude.{◌==◌, not}
 use Rattle.std.specs.List.{onto_first}
 use Rattle.std.proofs.Math.Seq.{drop-append_seam, drop-length}
 use Rattle.std.proofs.lemmas.Bool.{eqb-true}
-use Rattle.std.proofs.lemmas.List.Sums.{take_while-cons}
 use Rattle.md_meaning.specs.Lines.{begins_with, full_lines_of, is_ending, without_ending}
 use Rattle.md_meaning.proofs.TextsLemmas.{Both, Ending, EndsBefore, LineFeed, NoEnding, Return, ending_bytes}
 use Rattle.proof_leaf_laws.specs.Front.{ending_of}
+use Rattle.proof_frame.proofs.LineTexts.{without-none, without-one}
 
 -- What the lines of a text are: none, one without an ending, or one with its ending and those after it.
 pub data IsLines : List ℕ → List (List ℕ) → Type 0 where
@@ -66,26 +66,15 @@ full-lines (b ∷ bs) = go (b == 10) (b == 13) (begins_with 10 bs) refl refl ref
 
 -- A line and its ending, distinguished from both.
 
-without-none : (line : List ℕ) → NoEnding line → without_ending line ≡ line
-without-none [] h = refl
-without-none (b ∷ line) h =
-    take_while-cons (λ (c : ℕ). not (is_ending c)) b line ∙ rw h.0 (ap (λ (l : List ℕ). b ∷ l) (without-none line h.1))
-
 without-first : (ending : Ending) → without_ending (ending_bytes ending) ≡ []
 without-first LineFeed = refl
 without-first Return = refl
 without-first Both = refl
 
-pub line-is : (line : List ℕ) (ending : Ending) → NoEnding line → without_ending (line ++ ending_bytes ending) ≡ line
-line-is [] ending h = without-first ending
-line-is (b ∷ line) ending h =
-    take_while-cons (λ (c : ℕ). not (is_ending c)) b (line ++ ending_bytes ending)
-    ∙ rw h.0 (ap (λ (l : List ℕ). b ∷ l) (line-is line ending h.1))
-
 pub ending-is : (line : List ℕ) (ending : Ending) → NoEnding line →
     ending_of (line ++ ending_bytes ending) ≡ ending_bytes ending
 ending-is line ending h =
-    ap (λ (l : List ℕ). drop (length l) (line ++ ending_bytes ending)) (line-is line ending h)
+    ap (λ (l : List ℕ). drop (length l) (line ++ ending_bytes ending)) (without-one line ending h)
     ∙ drop-append_seam line (ending_bytes ending)
 
 pub last-is : (line : List ℕ) → NoEnding line → without_ending line ≡ line

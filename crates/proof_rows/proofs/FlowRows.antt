@@ -26,12 +26,12 @@ use Rattle.md_registry.specs.LineFlags.{next_line}
 use Rattle.md_registry.specs.Registry.{leaf}
 use Rattle.proof_frame.specs.Row.{BlankRow, LeafRow, Row, RowKind, TextRow, ending_of, is_blank_by}
 use Rattle.proof_rows.specs.Stands.{AreOpen}
-use Rattle.proof_frame.proofs.FromEnding.{from_ending-shrinks}
 use Rattle.proof_rows.proofs.FlowLeaf.{added_by, blank_by}
 use Rattle.proof_rows.proofs.FlowHeld.{ends-are, ends-behind, ends-none}
 use Rattle.proof_rows.proofs.FlowContinues.{went-shorter}
 use Rattle.proof_rows.proofs.FlowOpens.{new-shorter}
 use Rattle.proof_rows.proofs.FlowLine.{Begins, Done, line-done}
+use Rattle.md_containers.proofs.QuoteCells.{ending-shorter}
 
 -- Rows.
 
@@ -200,7 +200,7 @@ flow-adds options zero most front tail p cs still cells h new rest fits b e = ab
 flow-adds options (suc m) most front tail p cs still cells h new rest fits b e =
     ended-adds options m (flow_lines options m) (flow-adds options m (omega (arith, most))) (open_behind x.change)
     (behind_held options x) left d.new new rest
-    (omega (arith, from_ending-shrinks x.cells, held-shorter options cs still cells h.point)) d.rest d.leaf d.containers
+    (omega (arith, ending-shorter x.cells, held-shorter options cs still cells h.point)) d.rest d.leaf d.containers
     (sym d.is ∙ e)
     ∙ row-adds (flow_lines options m) options front tail p x (line_then options (flow_lines options m) cells h) d
     (closes_before (open_behind x.change) below) left below (rows_events below) refl

@@ -55,10 +55,10 @@ use Rattle.proof_rows.proofs.Text.Cut.{IsCutText, between}
 use Rattle.proof_rows.proofs.Text.Cut.IsCutText.{Defines, Follows, Remains}
 use Rattle.proof_rows.proofs.Text.Cuts.{cut-is}
 use Rattle.proof_rows.proofs.Text.Names.{between-of, defined-of, unturned-of}
-use Rattle.proof_rows.proofs.Text.Stands.{last-behind}
 use Rattle.proof_rows.proofs.TextProgress.{IsShut}
 use Rattle.proof_rows.proofs.Turned.Cut.{IsCutHeading, heading-cut, left-remains, IsCutHeading as cut_heading}
 use Rattle.proof_rows.proofs.Turned.Under.{under-is}
+use Rattle.proof_rows.proofs.ContentCut.{last-split}
 
 -- Events that pass.
 
@@ -362,7 +362,7 @@ cut-headed options bytes under row rows before behind done more
     let follows : List Event = tail_events n.LineEnding (last_row next below) ++ line in
     let tail : List Event = tail_events (ending_of under.kind under) under in
     ap (λ (last : Row). turned ((begun ++ left) ++ (tail_events n.LineEnding last ++ line)))
-    (last-behind first own next below)
+    (last-split first own next below)
     ∙ ap turned (append_assoc begun left follows)
     ∙ passed begun (left ++ follows) pass
     ∙ ap (λ (l : List Event). begun ++ l) (cut-headed options bytes under next below left turns read more rest)

@@ -11,13 +11,12 @@ use Rattle.md_engine.specs.Meaning.{Cell}
 use Rattle.md_meaning.specs.Rest.{cut_tab, is_blank, is_white}
 use Rattle.md_link_definitions.specs.GapRule.{ending_end, ending_part, ending_rest, gap_end}
 use Rattle.md_link_definitions.specs.GapRule.{gap_part, gap_rest, white_part}
-use Rattle.md_link_definitions.proofs.GapLines.{white-over}
 use Rattle.md_events.specs.Ahead.{begins_white, point_after, white_end, white_rest}
 use Rattle.md_events.specs.Events.Inline.{pair_unless_empty}
 use Rattle.md_events.specs.Events.Nested.{enter, exit, pair}
 use Rattle.md_events.specs.Events.Places.{same_place}
 use Rattle.md_events.specs.Spaces.{any_size}
-use Rattle.md_events.proofs.AheadLemmas.{none-end, white-no_ending}
+use Rattle.md_events.proofs.AheadLemmas.{none-end, white-all, white-no_ending}
 use Rattle.md_events.proofs.FeedLines.{NoFeed, all-spread, bytes_of, spread, tab_cells, tab_end}
 use Rattle.md_events.proofs.PlacesLemmas.{apart-later}
 use Rattle.md_events.proofs.RestCells.{cells_by}
@@ -111,7 +110,7 @@ white-of bytes last p cells turns walk = by (begins_white cells) refl
     known = white-front any_size p cells walk.small
 
     dark : begins_white rest ≡ false
-    dark = white-over any_size cells walk.small
+    dark = white-all any_size cells walk.small
 
     front-walk : Walk bytes last p (known.front ++ rest) turns
     front-walk = subst (λ (l : List Cell). Walk bytes last p l turns) (sym known.split) walk

@@ -22,6 +22,7 @@ use Rattle.md_events.specs.Events.Places.{same_place}
 use Rattle.md_events.specs.Events.Spelled.{byte_at, is_ordered, role}
 use Rattle.md_events.specs.Events.Tiles.{chunks_stand, depth_behind, filled_from, first_list, further_lists, is_chunk}
 use Rattle.md_events.specs.Events.Tiles.{is_data, is_part, parts, plain_lists, plain_read, stands_in_part}
+use Rattle.md_events.proofs.FilledLemmas.{data-no_part}
 
 -- One event.
 
@@ -157,10 +158,6 @@ further-unlabelled (es ∷ lists) h = h.1
 data-unlabelled : (name : Name) → is_data name ≡ true → is_footnote_label name ≡ false
 data-unlabelled n.Data h = refl
 data-unlabelled _ h = cc
-
-data-no_part : (name : Name) → is_data name ≡ true → is_part name ≡ false
-data-no_part n.Data h = refl
-data-no_part _ h = cc
 
 -- what the plain layer reads is text and endings
 pair-unlabelled : (name : Name) (p q : Point) (rest : List Event) → is_footnote_label name ≡ false → Unlabelled rest →

@@ -24,9 +24,10 @@ use Rattle.proof_leaf_laws.proofs.FrontAgrees as agrees
 use Rattle.proof_leaf_laws.proofs.FrontAgrees.{from-by, last-none, lines_from, marked, marker_by, off-none, part-same}
 use Rattle.proof_leaf_laws.proofs.FrontAgrees.{past-same, some-same}
 use Rattle.proof_leaf_laws.proofs.FullLines.{IsLines, LastLine, NextLine, NoLines, ending-is, full-lines, last-ending}
-use Rattle.proof_leaf_laws.proofs.FullLines.{last-is, line-is}
+use Rattle.proof_leaf_laws.proofs.FullLines.{last-is}
 use Rattle.proof_leaf_laws.proofs.Frontmatter.Lines.{Closes, IsFront, IsRest, More}
 use Rattle.proof_leaf_laws.proofs.Frontmatter.Parts.{HasText, fence_over, has-fence}
+use Rattle.proof_frame.proofs.LineTexts.{without-one}
 
 -- Lists, up to the first that passes a test.
 
@@ -240,10 +241,10 @@ next-means bytes m line ending rest more p marks bare before same at below =
     go true e =
         closes-mean bytes m p full line more
         (record { events = fence_part line p ++ exit n.Frontmatter q ∷ pair n.LineEnding q r; point = r })
-        (pair n.LineEnding q r) marks (line-is line ending bare) goes.text e (Ended r goes.ending_is) refl
+        (pair n.LineEnding q r) marks (without-one line ending bare) goes.text e (Ended r goes.ending_is) refl
         (left-lines bytes rest more r goes.next same)
     go false e =
-        more-means bytes m p full line more r (line-is line ending bare) goes.text e goes.ending_is
+        more-means bytes m p full line more r (without-one line ending bare) goes.text e goes.ending_is
         (lines_read m more r) below
 
 lines-mean : (bytes : List ℕ) (m : ℕ) → is_marker m ≡ true → (text : List ℕ) (lines : List (List ℕ)) →
@@ -255,7 +256,7 @@ lines-mean bytes m marks _ _ (LastLine b line bare) p at =
 lines-mean bytes m marks _ _ (NextLine line ending rest more bare before lines same) p at =
     let goes = next-text bytes line ending rest p at bare before in
     subst₂ (λ (l e : List ℕ). Means bytes m p ((line ++ ending_bytes ending) ∷ more) l e more)
-    (sym (line-is line ending bare)) (sym (ending-is line ending bare))
+    (sym (without-one line ending bare)) (sym (ending-is line ending bare))
     (next-means bytes m line ending rest more p marks bare before same at
     (lines-mean bytes m marks rest more lines (past_ending ending (past_text line p)) goes.next))
 
@@ -422,7 +423,7 @@ next-front : (bytes : List ℕ) (options : ParseOptions) (line : List ℕ) (endi
     FrontMeans bytes options p ((line ++ ending_bytes ending) ∷ more)
     (agrees.front_by o line (ending_bytes ending) more p)
 next-front bytes options line ending rest more p on bare lines goes None marker =
-    ap (λ (l : List ℕ). front_of options (l ∷ map without_ending more)) (line-is line ending bare)
+    ap (λ (l : List ℕ). front_of options (l ∷ map without_ending more)) (without-one line ending bare)
     ∙ none-by options line (map without_ending more) marker
 next-front bytes options line ending rest more p on bare lines goes (Some m) marker =
     let q = past_text line p in
@@ -432,7 +433,7 @@ next-front bytes options line ending rest more p on bare lines goes (Some m) mar
     (option_map (behind_these (enter n.Frontmatter p ∷ fence_part line p ++ es)) (lines_read m more x)))
     (sym (past-same ending q)) (sym (part-same ending q))
     (open-means bytes options p (line ++ ending_bytes ending) line ending rest more m on
-    (line-is line ending bare) marker
+    (without-one line ending bare) marker
     goes (lines_read m more (past_ending ending q))
     (lines-mean bytes m (marker-marks line m marker).0 rest more lines (past_ending ending q) goes.next))
 
@@ -454,7 +455,7 @@ on-means bytes options _ _ on (NextLine line ending rest more bare before lines 
     (sym
     (ap (λ (t : Bool). cond t (front_from (front_marker (without_ending full)) full more p) None) on
     ∙ from-by (front_marker (without_ending full)) full more p
-    ∙ ap₂ (λ (l e : List ℕ). agrees.front_by (front_marker l) l e more p) (line-is line ending bare)
+    ∙ ap₂ (λ (l e : List ℕ). agrees.front_by (front_marker l) l e more p) (without-one line ending bare)
     (ending-is line ending bare)))
     (next-front bytes options line ending rest more p on bare lines
     (next-text bytes line ending rest p at bare before) (front_marker line) refl)

@@ -17,9 +17,10 @@ use Rattle.md_events.specs.Spaces.{IsRest, any_size, small_indent}
 use Rattle.md_events.proofs.RestCells.{white-length}
 use Rattle.md_events.proofs.SpacesTermination.{rest-calm}
 use Rattle.proof_leaf_laws.specs.Leaf.HeadingAtx.{heading_leaf}
-use Rattle.proof_frame.proofs.FromEnding.{from_ending-again, from_ending-shrinks}
+use Rattle.proof_frame.proofs.FromEnding.{from_ending-again}
 use Rattle.proof_frame.proofs.LeafLaws.{Shrinks, cond-shrinks, whole_line}
 use Rattle.proof_frame.proofs.LeafStarts.{start-shrinks}
+use Rattle.md_containers.proofs.QuoteCells.{ending-shorter}
 
 -- a line where another byte than `#` is first after whitespace holds no heading
 pub trial-looked : (options : ParseOptions) (cells : List Cell) (b : ℕ) → seen_behind cells ≡ Some b →
@@ -46,7 +47,7 @@ in_text-shrinks : (n : ℕ) (taken : List ℕ) (cells : List Cell) (h : Here) �
     Shrinks n (in_text taken cells h)
 unfolding in_text
 in_text-shrinks n taken cells h le =
-    let shorter = from_ending-shrinks cells in (omega arith, from_ending-again cells)
+    let shorter = ending-shorter cells in (omega arith, from_ending-again cells)
 
 -- before it,
 at_break-shrinks : (n : ℕ) (cells : List Cell) (h : Here) → length cells ≤ n → Shrinks n (at_break cells h)

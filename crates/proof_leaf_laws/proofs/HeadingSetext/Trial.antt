@@ -14,9 +14,10 @@ use Rattle.md_events.specs.Ahead.{line_bytes}
 use Rattle.md_events.specs.Look.{seen_behind}
 use Rattle.md_events.specs.Spaces.{IsRest}
 use Rattle.proof_leaf_laws.specs.Leaf.HeadingSetext.{setext_leaf}
-use Rattle.proof_frame.proofs.FromEnding.{from_ending-again, from_ending-shrinks}
+use Rattle.proof_frame.proofs.FromEnding.{from_ending-again}
 use Rattle.proof_frame.proofs.LeafLaws.{Shrinks, cond-shrinks, whole_line}
 use Rattle.proof_frame.proofs.LeafStarts.{start-shrinks}
+use Rattle.md_containers.proofs.QuoteCells.{ending-shorter}
 
 -- No underline is where another byte than a marker is first after whitespace.
 pub setext-looked : (options : ParseOptions) (on : HeldLeaf) (cells : List Cell) (b : ℕ) → seen_behind cells ≡ Some b →
@@ -44,7 +45,7 @@ unfolding before_run
 before_run-shrinks n [] h le = tt
 before_run-shrinks n (c ∷ cs) h le =
     cond-shrinks n (is_underline (line_bytes (c ∷ cs))) _ _
-    (let less = from_ending-shrinks (c ∷ cs) in omega arith, from_ending-again (c ∷ cs)) tt
+    (let less = ending-shorter (c ∷ cs) in omega arith, from_ending-again (c ∷ cs)) tt
 
 -- from its first state on
 pub setext-shrinks : (options : ParseOptions) (cells : List Cell) (h : Here) →

@@ -25,9 +25,10 @@ use Rattle.md_events.specs.Spaces.{IsRest, calmed, small_indent}
 use Rattle.md_events.proofs.AheadLemmas.{none-rest, white-ending, white-line_end}
 use Rattle.md_events.proofs.WhiteMeaning.{behind_white}
 use Rattle.proof_leaf_laws.specs.Leaf.ThematicBreak.{break_inside, first_cell, is_break, break_leaf, is_lost}
-use Rattle.proof_frame.proofs.FromEnding.{from_ending-again, from_ending-shrinks}
+use Rattle.proof_frame.proofs.FromEnding.{from_ending-again}
 use Rattle.proof_frame.proofs.LeafStarts.{start-shrinks}
 use Rattle.proof_frame.proofs.LeafLaws.{Shrinks, cond-shrinks, whole_line}
+use Rattle.md_containers.proofs.QuoteCells.{ending-shorter}
 
 -- what is in it after its indent
 abbrev behind_indent : List Cell → Point → List Event
@@ -192,7 +193,7 @@ unfolding before_marker
 before_marker-shrinks options n [] h le = tt
 before_marker-shrinks options n (c ∷ cs) h le =
     cond-shrinks n (breaks options h.flags.leaf (c ∷ cs)) _ _
-    (let less = from_ending-shrinks (c ∷ cs) in omega arith, from_ending-again (c ∷ cs)) tt
+    (let less = ending-shorter (c ∷ cs) in omega arith, from_ending-again (c ∷ cs)) tt
 
 pub break-shrinks : (options : ParseOptions) (cells : List Cell) (h : Here) →
     Shrinks (length cells) (break_at options cells h)

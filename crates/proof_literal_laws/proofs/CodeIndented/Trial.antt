@@ -21,8 +21,9 @@ use Rattle.md_events.specs.Spaces.{IsRest, calmed}
 use Rattle.md_events.proofs.RestCells.{white-length}
 use Rattle.md_events.proofs.SpacesTermination.{rest-calm}
 use Rattle.proof_literal_laws.specs.Leaf.CodeIndented.{code_further, code_leaf, is_code}
-use Rattle.proof_frame.proofs.FromEnding.{from_ending-again, from_ending-shrinks}
+use Rattle.proof_frame.proofs.FromEnding.{from_ending-again}
 use Rattle.proof_frame.proofs.LeafLaws.{Shrinks, cond-shrinks, left_open, whole_line}
+use Rattle.md_containers.proofs.QuoteCells.{ending-shorter}
 
 -- What is held, by whether it takes the line.
 
@@ -107,7 +108,7 @@ code_further-refused options cells h on is e =
 text-shrinks : (n : ℕ) (cells : List Cell) (h : Here) → length cells ≤ n → Shrinks n (in_text cells h)
 unfolding in_text
 text-shrinks n cells h le =
-    let less = from_ending-shrinks cells in (omega (arith, le, less), from_ending-again cells)
+    let less = ending-shorter cells in (omega (arith, le, less), from_ending-again cells)
 
 break-shrinks : (n : ℕ) (cells : List Cell) (h : Here) → length cells ≤ n → Shrinks n (at_break cells h)
 unfolding in_blank
@@ -127,7 +128,7 @@ code-shrinks options cells h = line-shrinks _ _ cells h
 inside-shrinks : (n : ℕ) (cells : List Cell) (h : Here) → length cells ≤ n → Shrinks n (further_inside cells h)
 unfolding further_inside
 inside-shrinks n cells h le =
-    let less = from_ending-shrinks cells in
+    let less = ending-shorter cells in
     cond-shrinks n (is_blank (line_bytes cells)) _ _ (omega (arith, le, less), from_ending-again cells) tt
 
 after-shrinks : (n : ℕ) (cells : List Cell) (h : Here) → length cells ≤ n → Shrinks n (further_after cells h)

@@ -85,7 +85,7 @@ spread-run line (b ∷ bs) p stop one k =
     go false e false f next = rw f refl
 
 -- whether whitespace comes first
-first-white : (cells : List Cell) (b : ℕ) → first_seen cells ≡ Some b → begins_white cells ≡ is_white b
+pub first-white : (cells : List Cell) (b : ℕ) → first_seen cells ≡ Some b → begins_white cells ≡ is_white b
 first-white [] b e = absurd (cc)
 first-white (c ∷ cs) b e = let same : c.byte ≡ b = cc in ap is_white same
 

@@ -2,7 +2,7 @@
 -- does.
 use Rattle.std.proofs.Common.{◌≡◌, ℕ, zero, suc, ◌^◌, ◌<◌, ◌≤◌, Bool, true, false, cond, ◌&&◌, List, [], ◌∷◌}
 use Rattle.std.proofs.Common.{◌++◌, length, drop, take, refl, sym, ◌∙◌, ap, ap₂, arith}
-use Rattle.std.specs.Prelude.{◌==◌, nat_le, nat_lt, Option, Some, None}
+use Rattle.std.specs.Prelude.{◌==◌, nat_le, nat_lt, Option, None}
 use Rattle.std.proofs.lemmas.Bool.{and_parts}
 use Rattle.std.proofs.lemmas.Bool.Decides.{nat_tests}
 use Rattle.std.proofs.lemmas.List.{length-append}
@@ -32,7 +32,6 @@ use Rattle.md_code.proofs.FenceFurther.{small-behind}
 use Rattle.md_events.specs.Ahead.{begins_white, white_end, white_rest}
 use Rattle.md_events.specs.Events.Nested.{enter, enter_link, exit, pair}
 use Rattle.md_events.specs.Events.Places.{past_text}
-use Rattle.md_events.specs.Look.{first_seen}
 use Rattle.md_events.specs.Spaces.{any_size, small_indent}
 use Rattle.md_events.proofs.FeedLines.{Stops, spread, stops-white}
 use Rattle.md_events.proofs.RestCells.{RestAt, column-first, indent-length, lose-no_ending}
@@ -44,6 +43,7 @@ use Rattle.proof_frame.specs.LineColumns.{columns_part, next_point, part_over, p
 use Rattle.proof_frame.proofs.IndentRemoved.Columns.{columns-end, past-line, rest-again, first-next, rest}
 use Rattle.proof_literal_laws.proofs.IndentRemoved.Columns.{columns-part}
 use Rattle.proof_literal_laws.proofs.FenceFurther.Trial.{fence-marker, fence-size}
+use Rattle.proof_literal_laws.proofs.Fence.White.{first-white}
 
 -- What is held is a fence, with one marker at least.
 
@@ -105,15 +105,6 @@ left-part m r p q e =
 
 -- The line by its cells is the line by its rest.
 
--- what a byte is, from the cells of some bytes
-seen-white : (cells : List Cell) (b : ℕ) → first_seen cells ≡ Some b → begins_white cells ≡ is_white b
-seen-white [] b e = cc
-seen-white (c ∷ cs) b e = ap (λ (o : Option ℕ). seen o) e
-  where
-    seen : Option ℕ → Bool
-    seen None = false
-    seen (Some x) = is_white x
-
 -- a closing fence, up to where the line ends
 closing-same : (m : ℕ) (said : Line) (bytes : List ℕ) (at q : Point) (stop : List Cell) → may_begin m ≡ true →
     is_blank (drop (run_len m bytes) bytes) ≡ true → Stops stop →
@@ -148,7 +139,7 @@ closing-same m said bytes at q stop is blank k ends =
     go [] h = rw (stops-white stop k) refl
     go (b ∷ bs) h =
         let white : begins_white (spread said (b ∷ bs) end ++ stop) ≡ true =
-        seen-white (spread said (b ∷ bs) end ++ stop) b (first-spread said b bs end stop)
+        first-white (spread said (b ∷ bs) end ++ stop) b (first-spread said b bs end stop)
         ∙ (and_parts (is_white b) (is_blank bs) h).0 in
         ap (λ (x : Bool). parts end x q) white
 

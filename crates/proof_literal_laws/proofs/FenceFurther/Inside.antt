@@ -22,10 +22,10 @@ use Rattle.proof_literal_laws.specs.Leaf.FenceFurther.{chunk_line, closing_line,
 use Rattle.md_code.specs.Fence.{is_open as is_fence}
 use Rattle.proof_frame.specs.LineColumns.{past_columns}
 use Rattle.proof_frame.proofs.IndentRemoved.Placed.{columns-stretch, lost-stretch, over-onward, over-stretch}
-use Rattle.proof_literal_laws.proofs.FenceFurther.Names.{either-name}
 use Rattle.proof_frame.proofs.IndentRemoved.Places.{FurtherAt, has-left}
 use Rattle.proof_literal_laws.proofs.FenceFurther.Places.{HasClosing, has-closing}
 use Rattle.proof_literal_laws.proofs.FenceFurther.Trial.{fence-marker, fence-size}
+use Rattle.proof_literal_laws.proofs.Fence.Each.{by-math}
 use Rattle.proof_frame.proofs.PieceFacts.{Over, begins-cut, begins-whole, over-front, over-stands}
 use Rattle.md_engine.specs.declared.event.Event.{Event}
 use Rattle.md_outline.specs.Between.{is_between}
@@ -39,16 +39,16 @@ use Rattle.proof_frame.proofs.ChunkFacts.{in-line}
 
 chunk-over : (m : ℕ) (line : List ℕ) → NoEnding line → stands_over (chunk_name m) line ≡ true
 chunk-over m line h =
-    either-name (λ name. stands_over name line ≡ true) (m == 36) _ _ (in-line line h) (in-line line h)
+    by-math (λ name. stands_over name line ≡ true) (m == 36) _ _ (in-line line h) (in-line line h)
 
 chunk-begins : (m : ℕ) → begins_in_tab (chunk_name m) ≡ true
-chunk-begins m = either-name (λ name. begins_in_tab name ≡ true) (m == 36) _ _ refl refl
+chunk-begins m = by-math (λ name. begins_in_tab name ≡ true) (m == 36) _ _ refl refl
 
 chunk-stretch : (bytes : List ℕ) (m lost : ℕ) (r : Rest) (p q : Point) → FurtherAt bytes r p q →
     Stretch IsPart bytes p q (chunk_line m lost r p q) (chunk_line m lost r p q)
 chunk-stretch bytes m lost r p q is =
     lost-stretch IsPart bytes (chunk_name m) lost r p q tt
-    (either-name (IsPiece IsPart bytes) (m == 36) _ _
+    (by-math (IsPiece IsPart bytes) (m == 36) _ _
     (record { role_is = tt; no_part = refl; parted = λ x y ys h. h })
     (record { role_is = tt; no_part = refl; parted = λ x y ys h. h }))
     (chunk-begins m) (chunk-over m (rest_line (lose lost r))) is
@@ -162,11 +162,11 @@ closing-stretch bytes on r p q e closing =
     let end = past_text seq at in
     let sequence = has-sequence bytes on r p q e closing in
     stretch-around (fence_name m)
-    (either-name (IsGroup IsPart) (m == 36) _ _ (record { role_is = tt; no_part = refl; still = tt })
+    (by-math (IsGroup IsPart) (m == 36) _ _ (record { role_is = tt; no_part = refl; still = tt })
     (record { role_is = tt; no_part = refl; still = tt })) refl refl
     (stretch-append
     (stretch-pair IsPart bytes (sequence_name m) at end
-    (either-name (IsPiece IsPart bytes) (m == 36) _ _
+    (by-math (IsPiece IsPart bytes) (m == 36) _ _
     (record { role_is = tt; no_part = refl; parted = λ x y ys h. h })
     (record { role_is = tt; no_part = refl; parted = λ x y ys h. h })) sequence.onward
     (over-stands bytes (sequence_name m) at end seq sequence.over (begins-whole (sequence_name m) at closing.whole)

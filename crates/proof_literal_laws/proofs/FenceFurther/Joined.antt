@@ -20,8 +20,8 @@ use Rattle.proof_frame.specs.RestLine.{rest_line}
 use Rattle.proof_literal_laws.specs.Leaf.FenceFurther.{chunk_line, closing_line, fence_further, further_parts, opening_of}
 use Rattle.proof_frame.specs.LineColumns.{part_over, past_columns}
 use Rattle.proof_literal_laws.proofs.FenceFurther.Cells.{fence-some}
+use Rattle.proof_literal_laws.proofs.Fence.Each.{by-math}
 use Rattle.proof_frame.proofs.IndentRemoved.Columns.{rest-again}
-use Rattle.proof_literal_laws.proofs.FenceFurther.Names.{either-name}
 use Rattle.proof_frame.proofs.IndentRemoved.Places.{FurtherAt, further-rest}
 
 -- The line, where it is.
@@ -39,7 +39,7 @@ further-is options bytes on r p q is =
 
 -- its begin is that of a further line, and its end the end of one
 pub block-lines : (m : ℕ) → has_lines (role (block_name m)) ≡ true
-block-lines m = either-name (λ name. has_lines (role name) ≡ true) (m == 36) _ _ refl refl
+block-lines m = by-math (λ name. has_lines (role name) ≡ true) (m == 36) _ _ refl refl
 
 pub further-begins : (m : ℕ) (p : Point) → IsFurther (enter_link (block_name m) p further_link)
 further-begins m p = record { kind = refl; lines = block-lines m; link = refl }

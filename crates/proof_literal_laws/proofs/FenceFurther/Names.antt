@@ -6,7 +6,6 @@ use Rattle.md_engine.specs.declared.event.Content.{Content}
 use Rattle.md_engine.specs.declared.event.Content.TheVariants as content
 use Rattle.md_engine.specs.declared.event.Event.{Event}
 use Rattle.md_engine.specs.declared.event.Kind.TheVariants.{Enter, Exit}
-use Rattle.md_engine.specs.declared.event.Name.{Name}
 use Rattle.md_engine.specs.declared.event.Name.TheVariants as n
 use Rattle.md_engine.specs.declared.event.Point.{Point}
 use Rattle.md_engine.specs.declared.tokenizer.held_leaf.HeldLeaf.{HeldLeaf}
@@ -27,21 +26,18 @@ use Rattle.proof_frame.proofs.ContentFacts.{NoContent}
 use Rattle.proof_frame.proofs.EventNames.{is_told, is_lined}
 use Rattle.proof_literal_laws.proofs.IndentRemoved.Names.{is_inside, AreInside, More, either-part, inside-lined}
 use Rattle.proof_literal_laws.proofs.IndentRemoved.Names.{lost-each, more-no_content, over-each}
+use Rattle.proof_literal_laws.proofs.Fence.Each.{by-math}
 use Rattle.proof_frame.proofs.EachEvent.{each-append}
 use Rattle.proof_frame.proofs.LinedFacts.{AreLined, IsLined}
 
-pub either-name : (P : Name → Type 0) (x : Bool) (a b : Name) → P a → P b → P (cond x a b)
-either-name P true a b h k = h
-either-name P false a b h k = k
-
 fence-inside : (m : ℕ) → is_inside (fence_name m) ≡ true
-fence-inside m = either-name (λ a. is_inside a ≡ true) (m == 36) _ _ refl refl
+fence-inside m = by-math (λ a. is_inside a ≡ true) (m == 36) _ _ refl refl
 
 sequence-inside : (m : ℕ) → is_inside (sequence_name m) ≡ true
-sequence-inside m = either-name (λ a. is_inside a ≡ true) (m == 36) _ _ refl refl
+sequence-inside m = by-math (λ a. is_inside a ≡ true) (m == 36) _ _ refl refl
 
 chunk-inside : (m : ℕ) → is_inside (chunk_name m) ≡ true
-chunk-inside m = either-name (λ a. is_inside a ≡ true) (m == 36) _ _ refl refl
+chunk-inside m = by-math (λ a. is_inside a ≡ true) (m == 36) _ _ refl refl
 
 -- By its rest: what holds of no events, and of one more such, holds of what is in the line.
 pub parts-each : (P : List Event → Type 0) → P [] → More P → (options : ParseOptions) (on : HeldLeaf) (r : Rest)
@@ -133,12 +129,12 @@ inside-each P more options on cells p es h = go (closes_here options on cells)
 -- What is in the line has no name of a resolver's, and no content.
 
 block-content : (m : ℕ) → is_told (block_name m) ≡ false
-block-content m = either-name (λ a. is_told a ≡ false) (m == 36) _ _ refl refl
+block-content m = by-math (λ a. is_told a ≡ false) (m == 36) _ _ refl refl
 
 -- Its names may be in a leaf of several lines.
 
 block-lined : (m : ℕ) → is_lined (block_name m) ≡ true
-block-lined m = either-name (λ a. is_lined a ≡ true) (m == 36) _ _ refl refl
+block-lined m = by-math (λ a. is_lined a ≡ true) (m == 36) _ _ refl refl
 
 pub further-lined : (options : ParseOptions) (on : HeldLeaf) (line : List ℕ) (p : Point) →
     AreLined (fence_further.added options on line p)

@@ -23,7 +23,7 @@ use Rattle.proof_literal_laws.specs.Leaf.FenceFurther.{chunk_line, closing_line,
 use Rattle.proof_frame.specs.LineColumns.{columns_part, part_over, past_columns}
 use Rattle.proof_frame.proofs.IndentRemoved.Reads.{columns-quiet, empty-joined, leaf-told, on-last}
 use Rattle.proof_literal_laws.proofs.IndentRemoved.Reads.{lost-read}
-use Rattle.proof_literal_laws.proofs.FenceFurther.Names.{either-name}
+use Rattle.proof_literal_laws.proofs.Fence.Each.{by-math}
 use Rattle.proof_frame.proofs.IndentRemoved.Places.{FurtherAt}
 use Rattle.proof_frame.proofs.WhiteQuiet.{white-quiet}
 
@@ -109,7 +109,7 @@ closing-noted before line _ h = absurd h
 
 -- a part over a line is read as one
 pub chunk-role : (m : ℕ) → role (chunk_name m) ≡ TextRole AsLine
-chunk-role m = either-name (λ name. role name ≡ TextRole AsLine) (m == 36) _ _ refl refl
+chunk-role m = by-math (λ name. role name ≡ TextRole AsLine) (m == 36) _ _ refl refl
 
 -- a closing fence
 closing-told : (bytes : List ℕ) (m : ℕ) (p q end : Point) (rd : Reading) (more : List Event) →
@@ -117,7 +117,7 @@ closing-told : (bytes : List ℕ) (m : ℕ) (p q end : Point) (rd : Reading) (mo
     read bytes
     (on_leaf (noted AsMarkers (code.chunk_line bytes p end)) (record (on_leaf at_fence rd) { text = None })) more
 closing-told bytes m p q end rd more =
-    either-name
+    by-math
     (λ name.
     read bytes rd (enter name p ∷ enter (sequence_name m) p ∷ exit (sequence_name m) end ∷ more) ≡
     read bytes
@@ -128,7 +128,7 @@ closing-told bytes m p q end rd more =
         read bytes
         (on_leaf (noted AsMarkers (code.chunk_line bytes p end)) (record (on_leaf at_fence rd) { text = None })) more
     sequence =
-        either-name
+        by-math
         (λ name.
         read bytes (on_leaf at_fence rd) (enter name p ∷ exit name end ∷ more) ≡
         read bytes
@@ -137,7 +137,7 @@ closing-told bytes m p q end rd more =
 
 fence-end : (bytes : List ℕ) (m : ℕ) (q : Point) (rd : Reading) → read bytes rd (exit (fence_name m) q ∷ []) ≡ rd
 fence-end bytes m q rd =
-    either-name (λ name. read bytes rd (exit name q ∷ []) ≡ rd) (m == 36) _ _ refl refl
+    by-math (λ name. read bytes rd (exit name q ∷ []) ≡ rd) (m == 36) _ _ refl refl
 
 closing-read : (bytes : List ℕ) (m : ℕ) (text : List ℕ) (at q : Point) (rd : Reading) (leaf : OpenLeaf)
     (before : List Line) →

@@ -18,8 +18,9 @@ use Rattle.md_events.specs.Ahead.{begins_white, line_bytes, white_rest}
 use Rattle.md_events.specs.Look.{seen_behind}
 use Rattle.md_events.specs.Spaces.{IsRest, small_indent}
 use Rattle.proof_literal_laws.specs.Leaf.HtmlFlow.{html_further, html_leaf}
-use Rattle.proof_frame.proofs.FromEnding.{from_ending-again, from_ending-shrinks}
+use Rattle.proof_frame.proofs.FromEnding.{from_ending-again}
 use Rattle.proof_frame.proofs.LeafLaws.{Shrinks, left_open, whole_line}
+use Rattle.md_containers.proofs.QuoteCells.{ending-shorter}
 
 -- A line where another byte than `<` is first after whitespace begins none.
 
@@ -95,7 +96,7 @@ further-refused options cells h on is e =
 -- What is left of a line is no longer than it was, and begins with its ending.
 
 leaves-shrinks : (cells : List Cell) (o : Outcome) → LeavesEnding cells o → Shrinks (length cells) o
-leaves-shrinks cells (Accepts h rest) e = rw e (from_ending-shrinks cells, from_ending-again cells)
+leaves-shrinks cells (Accepts h rest) e = rw e (ending-shorter cells, from_ending-again cells)
 leaves-shrinks cells (Refuses s g) e = tt
 leaves-shrinks cells Fails e = absurd e
 

@@ -1,6 +1,6 @@
 -- All that the frame asks of what is in the place of the lines of a text, whatever it is read as: definitions at its
 -- front, one after the other, and the leaf of the lines that remain.
-use Rattle.std.proofs.Common.{◌≡◌, ℕ, Bool, true, false, List, [], ◌∷◌, ◌++◌, refl, sym, ◌∙◌, ap, subst, append_assoc}
+use Rattle.std.proofs.Common.{◌≡◌, ℕ, Bool, true, false, List, [], ◌++◌, sym, ◌∙◌, ap, subst, append_assoc}
 use Rattle.std.proofs.Common.{subst₂}
 use Rattle.md_engine.specs.declared.configuration.ParseOptions.{ParseOptions}
 use Rattle.md_engine.specs.declared.event.Event.{Event}
@@ -26,6 +26,7 @@ use Rattle.proof_rows.proofs.Text.Cuts.{cut-is}
 use Rattle.proof_rows.proofs.Text.Facts.{text-facts}
 use Rattle.proof_rows.proofs.Text.Parted.{rest-clear}
 use Rattle.proof_rows.proofs.Turned.Under.{text-whole}
+use Rattle.proof_rows.proofs.ContentCut.{last-split}
 
 -- One after the other.
 
@@ -76,12 +77,6 @@ cut-clear options bytes _ _ _ _ (Defines d row rows are is) = lines-clear option
 cut-clear options bytes _ _ _ _ (Follows d row own next more q es fs are is after ends front behind) =
     lines-clear options bytes row own are
 
--- the last of lines with further ones after them is the last of these
-pub last-behind : (row : Row) (own : List Row) (next : Row) (more : List Row) →
-    last_row row (own ++ next ∷ more) ≡ last_row next more
-last-behind row [] next more = refl
-last-behind row (second ∷ own) next more = last-behind second own next more
-
 -- What is in the place of the lines of a text is from the begin of the first to the end of the last.
 pub cut-stands : (options : ParseOptions) (bytes : List ℕ) (row : Row) (rows : List Row) (unread done : List Event) →
     IsCutText options bytes row rows unread done →
@@ -95,7 +90,7 @@ cut-stands options bytes _ _ _ _ (Follows d row own next more q es fs are is aft
     (λ (end : Row).
     StandFacts bytes true row.first end.end (defined_unread d row own ++ cut.between last.end q next.front ++ es)
     (defined_done bytes d row own ++ cut.between last.end q next.front ++ fs))
-    (sym (last-behind row own next more))
+    (sym (last-split row own next more))
     (stand-then bytes true row.first last.end q next.first (last_row next more).end next.front
     (defined_unread d row own) (defined_done bytes d row own) es fs (defined-stands bytes d row own is)
     (text-whole options bytes row own are) ends front (cut-clear options bytes next more es fs behind)

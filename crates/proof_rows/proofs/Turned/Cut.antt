@@ -25,7 +25,7 @@ use Rattle.md_events.proofs.FeedLines.{IsEnding}
 use Rattle.proof_rows.proofs.Text.Cut.{between}
 use Rattle.proof_rows.proofs.Text.Cuts.{IsRest, cuts}
 use Rattle.proof_rows.proofs.Text.Reads.{defined_of, further-behind, lines-definition, none-behind}
-use Rattle.proof_rows.proofs.Text.Stands.{last-behind}
+use Rattle.proof_rows.proofs.ContentCut.{last-split}
 
 -- where definitions are on, something is left of these lines after the definitions at their front
 abbrev pub Remains : (options : ParseOptions) (bytes : List ℕ) (row : Row) (rows : List Row) →
@@ -91,7 +91,7 @@ rest-turned options bytes under row rows are holds d on e own left all behind Al
         absurd (cc)
     go (next ∷ below) all behind = λ lines. (
       subst (λ (last : Row). IsUnder options bytes last under)
-          (sym (ap (last_row row) all) ∙ last-behind row own next below) holds.0,
+          (sym (ap (last_row row) all) ∙ last-split row own next below) holds.0,
       λ on. ap (λ (l : List (List ℕ)). is_none_left (cut_definitions l).1)
           (sym (further-behind options bytes d next below lines behind)) ∙ some,
     )

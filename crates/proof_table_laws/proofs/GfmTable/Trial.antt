@@ -16,8 +16,9 @@ use Rattle.md_tables.specs.RowRule as row
 use Rattle.md_tables.specs.declared.row.Row.TheVariants.{Body}
 use Rattle.md_tables.proofs.GfmTableWhole as whole
 use Rattle.proof_table_laws.specs.Leaf.GfmTable.{table_leaf}
-use Rattle.proof_frame.proofs.FromEnding.{from_ending-again, from_ending-shrinks}
+use Rattle.proof_frame.proofs.FromEnding.{from_ending-again}
 use Rattle.proof_frame.proofs.LeafLaws.{Shrinks, cond-shrinks, whole_line}
+use Rattle.md_containers.proofs.QuoteCells.{ending-shorter}
 
 -- A line is taken, and a table is open after it,
 pub table-took : (options : ParseOptions) (cells : List Cell) (h : Here) → IsRest h.scratch →
@@ -39,7 +40,7 @@ in_row-shrinks : (n : ℕ) (cells : List Cell) (h : Here) → length cells ≤ n
 unfolding delimiter.in_row
 in_row-shrinks n cells h le =
     cond-shrinks n (delimiter.fits delimiter.Front h.scratch (line_bytes cells)) _ _
-    (let less = from_ending-shrinks cells in omega arith, from_ending-again cells) tt
+    (let less = ending-shorter cells in omega arith, from_ending-again cells) tt
 
 delimiter-shrinks : (options : ParseOptions) (cells : List Cell) (h : Here) →
     Shrinks (length cells) (delimiter_at options cells h)
@@ -58,7 +59,7 @@ head-shrinks options text false cells h = tt
 -- of a further row
 row-shrinks : (cells : List Cell) (h : Here) → Shrinks (length cells) (row.in_row Body row.Apart cells h)
 unfolding row.in_row
-row-shrinks cells h = (from_ending-shrinks cells, from_ending-again cells)
+row-shrinks cells h = (ending-shorter cells, from_ending-again cells)
 
 -- of either
 pub table-shrinks : (options : ParseOptions) (cells : List Cell) (h : Here) →

@@ -17,9 +17,9 @@ use Rattle.md_registry.specs.States.{FlowStep}
 use Rattle.md_registry.proofs.AtOnce.{AskedHas, asked-prefix, asked_taken, existing-remains, goes-on, took-prefix}
 use Rattle.md_registry.specs.LineFlags.{next_container}
 use Rattle.md_registry.specs.Registry.{opener_front, openers}
-use Rattle.md_flow.proofs.OnOk.{on-ok}
 use Rattle.md_at_once.specs.AtOnce.{EndsAtOnce, SeesAhead}
 use Rattle.md_at_once.proofs.NoIndent.{container-ends, ends-ahead, existing-stays, taken-held}
+use Rattle.md_tables.proofs.RowWords.{on-ok}
 use Rattle.md_at_once.proofs.at_once.containers_existing.Goals as goal
 
 -- the next container was asked, and its prefix was taken

@@ -12,8 +12,9 @@ use Rattle.md_events.specs.Lent.{whole_from}
 use Rattle.md_registry.proofs.LinesAtOnce.{leaves-once}
 use Rattle.md_at_once.specs.AtOnce.{line_added, line_tried}
 use Rattle.md_at_once.proofs.ContentLines.{content-ends, content-waits, some-order}
-use Rattle.md_at_once.proofs.LineEnds.{ahead, inside-line}
-use Rattle.md_flow.proofs.OnOk.{on-ok}
+use Rattle.md_events.proofs.SpacesTermination.{inside-line}
+use Rattle.md_leaves.proofs.HeadingCalls.{ahead}
+use Rattle.md_tables.proofs.RowWords.{on-ok}
 use Rattle.md_at_once.proofs.at_once.content_begins.Goals as goal
 
 pub returns-then-ends_line-clause-runs : goal.returns-then-ends_line-clause-runs

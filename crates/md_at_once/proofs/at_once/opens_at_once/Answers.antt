@@ -14,7 +14,7 @@ use Rattle.md_registry.specs.Registry.{opener_front, openers}
 use Rattle.md_registry.specs.States.{FlowStep}
 use Rattle.md_registry.proofs.LinesAtOnce.{ends-behind}
 use Rattle.md_registry.proofs.OpensAtOnce.{bullet-opens}
-use Rattle.md_flow.proofs.OnOk.{on-ok}
+use Rattle.md_tables.proofs.RowWords.{on-ok}
 use Rattle.md_at_once.proofs.at_once.opens_at_once.Goals as goal
 
 pub returns-2-clause-runs : goal.returns-2-clause-runs

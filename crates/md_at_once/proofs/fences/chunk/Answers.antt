@@ -10,7 +10,9 @@ use Rattle.md_events.specs.Spaces.{ends_line}
 use Rattle.md_registry.specs.States.{FlowStep}
 use Rattle.md_registry.proofs.LinesAtOnce.{ends-behind, leaves-once}
 use Rattle.md_at_once.proofs.FenceLines.{chunk-leaves, chunk-takes}
-use Rattle.md_at_once.proofs.LineEnds.{ahead, inside-line, line-taken, line-waits}
+use Rattle.md_at_once.proofs.LineEnds.{line-taken, line-waits}
+use Rattle.md_events.proofs.SpacesTermination.{inside-line}
+use Rattle.md_leaves.proofs.HeadingCalls.{ahead}
 use Rattle.md_at_once.proofs.fences.chunk.Goals as goal
 
 pub returns-then-ends_line : goal.returns-then-ends_line

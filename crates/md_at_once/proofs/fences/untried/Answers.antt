@@ -7,8 +7,8 @@ use Rattle.md_engine.proofs.StayLemmas.{within-world}
 use Rattle.md_registry.specs.States.{FlowStep}
 use Rattle.md_registry.proofs.LinesAtOnce.{runs-on}
 use Rattle.md_at_once.specs.AtOnce.{unclosed}
-use Rattle.md_flow.proofs.OnOk.{on-ok}
 use Rattle.md_at_once.proofs.NoClose.{closes-none}
+use Rattle.md_tables.proofs.RowWords.{on-ok}
 use Rattle.md_at_once.proofs.fences.untried.Goals as goal
 
 pub returns-2-clause-runs : goal.returns-2-clause-runs

@@ -7,9 +7,9 @@ use Rattle.md_engine.specs.declared.stay.Stay.TheVariants.{Line}
 use Rattle.md_engine.specs.declared.tokenizer.Tokenizer.{Tokenizer}
 use Rattle.md_engine.proofs.StayLemmas.{some-setting, within-world}
 use Rattle.md_at_once.specs.WholeLines.{whole_added, whole_tried}
-use Rattle.md_at_once.proofs.LineEnds.{ahead}
-use Rattle.md_flow.proofs.OnOk.{on-ok}
 use Rattle.md_at_once.proofs.WholeLines.{whole-ends, whole-waits}
+use Rattle.md_leaves.proofs.HeadingCalls.{ahead}
+use Rattle.md_tables.proofs.RowWords.{on-ok}
 use Rattle.md_at_once.proofs.fences.whole.Goals as goal
 
 -- the point before the line lies in the text that is seen after it

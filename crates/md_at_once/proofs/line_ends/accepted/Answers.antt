@@ -4,7 +4,8 @@ use Rattle.md_engine.specs.Run.Runs.{Stays, ThenLeaves}
 use Rattle.md_engine.specs.World.{World, world}
 use Rattle.md_engine.specs.declared.state.State.TheVariants.{Ok}
 use Rattle.md_registry.specs.States.{FlowStep}
-use Rattle.md_at_once.proofs.LineEnds.{ahead, end-runs}
+use Rattle.md_at_once.proofs.LineEnds.{end-runs}
+use Rattle.md_leaves.proofs.HeadingCalls.{ahead}
 use Rattle.md_at_once.proofs.line_ends.accepted.Goals as goal
 
 pub returns-then-see_or_wait-clause-runs : goal.returns-then-see_or_wait-clause-runs

@@ -11,7 +11,7 @@ use Rattle.md_registry.specs.Flow.{flow_end_code}
 use Rattle.proof_frame.specs.EndingName.{ending_name}
 use Rattle.md_registry.specs.LineFlags.{next_line}
 use Rattle.md_registry.proofs.FlowSteps.{document_rule}
-use Rattle.md_flow.proofs.OnOk.{on-ok}
+use Rattle.md_tables.proofs.RowWords.{on-ok}
 use Rattle.md_flow.proofs.document.flow_end.Goals as goal
 
 pub add_part-requires-clause-from : goal.add_part-requires-clause-from

@@ -7,7 +7,7 @@ use Rattle.md_engine.specs.declared.state.State.TheVariants.{Next, Retry}
 use Rattle.md_engine.specs.World.{World, world}
 use Rattle.md_tables.specs.GfmTable.{AnswersWith}
 use Rattle.md_tables.specs.GfmTable.AnswersWith.{ThatStays, ThatTook}
-use Rattle.md_tables.proofs.RowWords.{ahead}
+use Rattle.md_leaves.proofs.HeadingCalls.{ahead}
 use Rattle.md_tables.proofs.gfm_table.next.Goals as goal
 
 stays : (to : State) (name : StateName) (w : World) (o : Option TableState) → to ≡ Retry name →

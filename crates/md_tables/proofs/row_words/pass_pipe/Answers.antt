@@ -10,7 +10,8 @@ use Rattle.md_tables.specs.Row.{name_at}
 use Rattle.md_tables.specs.RowWords.{RowStep, divided}
 use Rattle.md_tables.specs.RowWords.RowStep.{OfRow}
 use Rattle.md_tables.specs.declared.row.Place.TheVariants as place
-use Rattle.md_tables.proofs.RowWords.{Stood, ahead, gap-falls, gap-goes, on-ok, pipe-taken, pipe-waits, stood-first}
+use Rattle.md_tables.proofs.RowWords.{Stood, gap-falls, gap-goes, on-ok, pipe-taken, pipe-waits, stood-first}
+use Rattle.md_leaves.proofs.HeadingCalls.{ahead}
 use Rattle.md_tables.proofs.row_words.pass_pipe.Goals as goal
 
 pub returns-then-see_or_wait-clause-goes : goal.returns-then-see_or_wait-clause-goes

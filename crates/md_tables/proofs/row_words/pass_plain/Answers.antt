@@ -7,8 +7,9 @@ use Rattle.md_engine.proofs.StayLemmas.{within-world}
 use Rattle.md_tables.specs.Row.{name_at}
 use Rattle.md_tables.specs.RowWords.{RowStep}
 use Rattle.md_tables.specs.declared.row.Place.TheVariants as place
-use Rattle.md_tables.proofs.RowWords.{Stood, ahead, stood-first, stood-passes, word-falls, word-rests, word-taken}
+use Rattle.md_tables.proofs.RowWords.{Stood, stood-first, stood-passes, word-falls, word-rests, word-taken}
 use Rattle.md_tables.proofs.RowWords.{word-waits}
+use Rattle.md_leaves.proofs.HeadingCalls.{ahead}
 use Rattle.md_tables.proofs.row_words.pass_plain.Goals as goal
 
 pub returns-then-see_or_wait-clause-goes : goal.returns-then-see_or_wait-clause-goes

@@ -1,5 +1,5 @@
 -- The lines of a text of a definition, one by one: what the chunk of each is.
-use Rattle.std.proofs.Common.{◌≡◌, ◌≢◌, ℕ, ◌<◌, Bool, true, false, cond, List, [], ◌∷◌, ◌++◌, length, slice_range}
+use Rattle.std.proofs.Common.{◌≡◌, ◌≢◌, ℕ, ◌<◌, Bool, true, false, cond, List, [], ◌∷◌, ◌++◌, slice_range}
 use Rattle.std.proofs.Common.{refl, ap, sym, ◌∙◌, subst, subst₂, arith}
 use Rattle.std.specs.Prelude.{IsTrue}
 use Rattle.std.proofs.lemmas.Bool.{true≢false}
@@ -17,6 +17,7 @@ use Rattle.md_events.proofs.NestedLemmas.{at_or_before-trans}
 use Rattle.md_events.proofs.PlacesLemmas.{apart-later}
 use Rattle.proof_frame.proofs.ChunkFacts.{Chunked, chunked-alone, chunked-ended, ending-order, ending-stands, line-ending}
 use Rattle.proof_content_laws.proofs.Defined.Form.{IsBreak, IsRun, IsStrand, LastLine, NoLine, OneLine, Strand}
+use Rattle.proof_content_laws.proofs.Defined.Known.Marks.{some-long}
 use Rattle.proof_frame.proofs.LineTexts.{one-next, without-none, without-one}
 use Rattle.proof_frame.proofs.PieceFacts.{Starts, PiecesValid, chunk-stands, stood-append, stood-unless_empty}
 
@@ -57,10 +58,6 @@ strand-lines bytes p q (OneLine a e b r text front (OneLine c f d x line next s)
 
 -- A run.
 
-pub some-length : (text : List ℕ) → text ≢ [] → 0 < length text
-some-length [] some = absurd (some refl)
-some-length (b ∷ text) some = omega arith
-
 pub run-order : (bytes text : List ℕ) (p q : Point) → IsRun bytes text p q → IsTrue (at_or_before p q)
 run-order bytes text p q run = subst (λ (x : Point). IsTrue (at_or_before p x)) (sym run.end) (before-text text p)
 
@@ -73,7 +70,7 @@ run-end bytes text p q run =
 
 pub run-alone : (bytes text : List ℕ) (p q : Point) → text ≢ [] → IsRun bytes text p q → Chunked bytes p q
 run-alone bytes text p q some run =
-    chunked-alone bytes text p q (some-length text some) run.no_ending run.whole run.size run.slice
+    chunked-alone bytes text p q (some-long text some) run.no_ending run.whole run.size run.slice
 
 -- A run with its ending.
 

@@ -14,7 +14,7 @@ use Rattle.md_events.proofs.NestedLemmas.{at_or_before-refl}
 use Rattle.md_events.proofs.PartsLemmas.{order-from}
 use Rattle.proof_content_laws.proofs.Defined.Form.{Strand, strand_chunks, strand_done, strand_unread}
 use Rattle.proof_content_laws.proofs.Defined.Strings.Lines.{AreLines, Last, More, NoneLeft, ended-order, ended-slice}
-use Rattle.proof_content_laws.proofs.Defined.Strings.Lines.{run-order, some-length}
+use Rattle.proof_content_laws.proofs.Defined.Strings.Lines.{run-order}
 use Rattle.proof_content_laws.proofs.Defined.Strings.Places.{HasLine}
 use Rattle.proof_frame.proofs.FrontLemmas.{fronts-order}
 use Rattle.proof_frame.proofs.LineTexts.{one-last, one-next}
@@ -22,6 +22,7 @@ use Rattle.md_events.specs.declared.inline.PartKind.TheVariants.{String}
 use Rattle.proof_frame.proofs.BetweenFacts.{ending-before, ending-behind}
 use Rattle.proof_frame.proofs.TextInside.{TextInside, text-line, text-more, text-none}
 use Rattle.proof_content_laws.proofs.Defined.Strings.Lines.{ended-end, run-alone, run-end, run-ended}
+use Rattle.proof_content_laws.proofs.Defined.Known.Marks.{some-long}
 
 -- what is known of them
 pub strand-inside : (bytes : List ℕ) (p q : Point) (s : Strand) → AreLines bytes p q s →
@@ -51,7 +52,7 @@ strand-one bytes q _ _ (NoneLeft _ whole) = refl
 strand-one bytes p q _ (Last _ _ text some run) =
     and_from _ _
     (ap (λ (l : List ℕ). is_one_line (split_lines l) (same_place q q)) run.slice
-    ∙ one-last text (some-length text some) run.no_ending (same_place q q) (same-refl q))
+    ∙ one-last text (some-long text some) run.no_ending (same_place q q) (same-refl q))
     refl
 strand-one bytes p q _ (More _ e b r _ text front s run break more) =
     let ends : Bool = is_none (strand_chunks s) && same_place b q in
