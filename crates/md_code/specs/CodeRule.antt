@@ -15,7 +15,7 @@ use Rattle.md_engine.specs.Meaning.{Accepts, Behaviour, Cell, Here, Outcome, Ref
 use Rattle.md_engine.specs.Scheme.{position}
 use Rattle.md_engine.specs.Sees.{IsStep}
 use Rattle.md_engine.specs.World.{World}
-use Rattle.md_code.specs.Code.{CodeInvariant, chunk_begun, may_open}
+use Rattle.md_code.specs.Code.{CodeInvariant, chunk_begun, may_open, code_transition}
 use Rattle.md_leaves.specs.Further.{further_link}
 use Rattle.md_events.specs.Ahead.{HasWhite, begins_white, from_ending, line_bytes, line_end, white_end, white_rest}
 use Rattle.md_events.specs.Ahead.{white_size}
@@ -23,6 +23,9 @@ use Rattle.md_events.specs.Events.Nested.{enter, enter_link, exit, pair}
 use Rattle.md_events.specs.Spaces.{calmed}
 use Rattle.md_meaning.specs.Bytes.{is_end}
 use Rattle.md_meaning.specs.Rest.{is_blank}
+use Rattle.md_events.specs.States.{IsState, IsSureState}
+use Rattle.md_engine.specs.declared.tokenizer.Tokenizer.{Tokenizer}
+use Rattle.md_engine.specs.Full.{IsFull}
 
 -- after an event
 abbrev pub then_here : Event → Here → Here
@@ -188,3 +191,11 @@ line_by blank added cells h (Some leaf) =
       flags = record h.flags { leaf = leaf; blank = blank || h.flags.blank };
     })
     (from_ending cells)
+
+-- what a state of indented code promises
+abbrev pub IsCodeState : CodeState → World → State → Tokenizer → Type 0
+IsCodeState state old answer new = IsState (code_transition state old) (CodeMeans state old) (IsFull new) answer new
+
+-- the same of a state that wants no memory
+abbrev pub IsSureCodeState : CodeState → World → State → Tokenizer → Type 0
+IsSureCodeState state old answer new = IsSureState (code_transition state old) (CodeMeans state old) answer new

@@ -18,12 +18,15 @@ use Rattle.md_engine.specs.World.{World}
 use Rattle.md_meaning.specs.Leaves.{is_fence_marker, least_size}
 use Rattle.md_meaning.specs.Rest.{is_white}
 use Rattle.md_code.specs.Fence.{FenceInvariant, block_name, chunk_name, cleared, fence_name, held_indent, held_marker}
-use Rattle.md_code.specs.Fence.{held_size, is_on, is_refused, meta_name, sequence_name, string_link}
+use Rattle.md_code.specs.Fence.{held_size, is_on, is_refused, meta_name, sequence_name, string_link, fence_transition}
 use Rattle.md_leaves.specs.Further.{further_link}
 use Rattle.md_events.specs.Ahead.{HasWhite, begins_white, white_end, white_rest}
 use Rattle.md_events.specs.Events.Nested.{enter, enter_link, exit, pair}
 use Rattle.md_events.specs.Look.{first_seen}
 use Rattle.md_events.specs.Spaces.{any_size, calmed, ends_line, small_indent}
+use Rattle.md_events.specs.States.{IsState}
+use Rattle.md_engine.specs.declared.tokenizer.Tokenizer.{Tokenizer}
+use Rattle.md_engine.specs.Full.{IsFull}
 
 -- The cells that come first and pass a test: how many there are, where they end, and what follows them.
 
@@ -289,3 +292,7 @@ unfoldable pub FenceMeans : RawState → World → State → World → Type 0
 FenceMeans state old to new =
     FenceInvariant (n.RawFlow state) (position old) →
     IsStep (λ B. HasFence B old.setting.options) (n.RawFlow state) to old new
+
+-- what a state of fenced code and math promises
+abbrev pub IsFenceState : RawState → World → State → Tokenizer → Type 0
+IsFenceState state old answer new = IsState (fence_transition state old) (FenceMeans state old) (IsFull new) answer new

@@ -9,18 +9,14 @@
 // of them. A blank line is bare, as it is not known yet whether code continues after it: a `SpaceOrTab` of at most four
 // columns, and a chunk over what whitespace is left, which `scratch.seen` notes until it begins.
 
-ghost use Rattle.std.specs.Prelude.{◌≡◌, ◌≢◌, IfSome};
-ghost use Rattle.md_code.specs.CodeRule.{CodeMeans};
-ghost use Rattle.md_engine.specs.Full.{IsFull, OnError};
+ghost use Rattle.std.specs.Prelude.{◌≡◌, IfSome};
+ghost use Rattle.md_code.specs.CodeRule.{IsCodeState, IsSureCodeState};
 ghost use Rattle.md_engine.specs.World.{world};
 ghost use Rattle.md_engine.specs.declared.state.Name.{Name as StateName};
 ghost use Rattle.md_engine.specs.declared.state.State.{State};
 ghost use Rattle.md_engine.specs.declared.state.code_indented.State.{State as CodeState};
-ghost use Rattle.md_code.specs.Code.{after_transition, at_break_transition, code_transition};
-ghost use Rattle.md_code.specs.Code.{further_after_transition};
-ghost use Rattle.md_code.specs.Code.{further_begin_transition, further_inside_transition, further_line_transition};
-ghost use Rattle.md_code.specs.Code.{further_start_transition, inside_blank_transition, inside_transition};
-ghost use Rattle.md_code.specs.Code.{may_open, start_transition};
+ghost use Rattle.md_code.specs.Code.{code_transition};
+ghost use Rattle.md_code.specs.Code.{may_open};
 ghost use Rattle.md_events.specs.Stays.{TakesEach};
 ghost use Rattle.md_events.specs.Transition.{IsAt, NeedsNothing};
 
@@ -53,10 +49,7 @@ fn may_open(leaf: HeldLeaf) -> bool
 #[tactic(auto, using(crate::proofs::CodeMeaning::code_rule))]
 pub fn start(tokenizer: &mut Tokenizer) -> State
     requires { IsAt NeedsNothing (StateName.CodeIndented CodeState.Start) (world tokenizer.old) }
-    ensures to { result ≢ State.Error → result ≡ (start_transition (world tokenizer.old)).to }
-    ensures world { result ≢ State.Error → world tokenizer.new ≡ (start_transition (world tokenizer.old)).world }
-    ensures rule { result ≢ State.Error → CodeMeans CodeState.Start (world tokenizer.old) result (world tokenizer.new) }
-    ensures full { OnError result (IsFull tokenizer.new) }
+    ensures { IsCodeState CodeState.Start (world tokenizer.old) result tokenizer.new }
 {
     if tokenizer.options.constructs.code_indented
         && may_open(tokenizer.flags.leaf)
@@ -84,11 +77,7 @@ pub fn start(tokenizer: &mut Tokenizer) -> State
 #[tactic(auto, using(crate::proofs::CodeMeaning::code_rule))]
 pub fn at_break(tokenizer: &mut Tokenizer) -> State
     requires { IsAt NeedsNothing (StateName.CodeIndented CodeState.AtBreak) (world tokenizer.old) }
-    ensures to { result ≢ State.Error → result ≡ (at_break_transition (world tokenizer.old)).to }
-    ensures world { result ≢ State.Error → world tokenizer.new ≡ (at_break_transition (world tokenizer.old)).world }
-    ensures rule { result ≢ State.Error →
-        CodeMeans CodeState.AtBreak (world tokenizer.old) result (world tokenizer.new) }
-    ensures full { OnError result (IsFull tokenizer.new) }
+    ensures { IsCodeState CodeState.AtBreak (world tokenizer.old) result tokenizer.new }
 {
     or_error!(tokenizer.enter(Name::CodeFlowChunk));
     if tokenizer.scratch.seen {
@@ -108,9 +97,7 @@ pub fn at_break(tokenizer: &mut Tokenizer) -> State
 #[tactic(auto, using(crate::proofs::CodeMeaning::code_rule))]
 pub fn inside_blank(tokenizer: &mut Tokenizer) -> State
     requires { IsAt NeedsNothing (StateName.CodeIndented CodeState.InsideBlank) (world tokenizer.old) }
-    ensures to { result ≡ (inside_blank_transition (world tokenizer.old)).to }
-    ensures world { world tokenizer.new ≡ (inside_blank_transition (world tokenizer.old)).world }
-    ensures rule { CodeMeans CodeState.InsideBlank (world tokenizer.old) result (world tokenizer.new) }
+    ensures { IsSureCodeState CodeState.InsideBlank (world tokenizer.old) result tokenizer.new }
 {
     match tokenizer.current {
         None | Some(b'\n') => State::Nok,
@@ -131,11 +118,7 @@ pub fn inside_blank(tokenizer: &mut Tokenizer) -> State
 #[tactic(auto, using(crate::proofs::CodeMeaning::code_rule))]
 pub fn inside(tokenizer: &mut Tokenizer) -> State
     requires { IsAt NeedsNothing (StateName.CodeIndented CodeState.Inside) (world tokenizer.old) }
-    ensures to { result ≢ State.Error → result ≡ (inside_transition (world tokenizer.old)).to }
-    ensures world { result ≢ State.Error → world tokenizer.new ≡ (inside_transition (world tokenizer.old)).world }
-    ensures rule { result ≢ State.Error →
-        CodeMeans CodeState.Inside (world tokenizer.old) result (world tokenizer.new) }
-    ensures full { OnError result (IsFull tokenizer.new) }
+    ensures { IsCodeState CodeState.Inside (world tokenizer.old) result tokenizer.new }
 {
     match tokenizer.current {
         None | Some(b'\n') => {
@@ -158,10 +141,7 @@ pub fn inside(tokenizer: &mut Tokenizer) -> State
 #[tactic(auto, using(crate::proofs::CodeMeaning::code_rule))]
 pub fn after(tokenizer: &mut Tokenizer) -> State
     requires { IsAt NeedsNothing (StateName.CodeIndented CodeState.After) (world tokenizer.old) }
-    ensures to { result ≢ State.Error → result ≡ (after_transition (world tokenizer.old)).to }
-    ensures world { result ≢ State.Error → world tokenizer.new ≡ (after_transition (world tokenizer.old)).world }
-    ensures rule { result ≢ State.Error → CodeMeans CodeState.After (world tokenizer.old) result (world tokenizer.new) }
-    ensures full { OnError result (IsFull tokenizer.new) }
+    ensures { IsCodeState CodeState.After (world tokenizer.old) result tokenizer.new }
 {
     or_error!(tokenizer.exit(Name::CodeIndented));
     tokenizer.flags.leaf = HeldLeaf::Code;
@@ -178,12 +158,7 @@ pub fn after(tokenizer: &mut Tokenizer) -> State
 #[tactic(auto, using(crate::proofs::CodeMeaning::code_rule))]
 pub fn further_start(tokenizer: &mut Tokenizer) -> State
     requires { IsAt NeedsNothing (StateName.CodeIndented CodeState.FurtherStart) (world tokenizer.old) }
-    ensures to { result ≢ State.Error → result ≡ (further_start_transition (world tokenizer.old)).to }
-    ensures world { result ≢ State.Error →
-        world tokenizer.new ≡ (further_start_transition (world tokenizer.old)).world }
-    ensures rule { result ≢ State.Error →
-        CodeMeans CodeState.FurtherStart (world tokenizer.old) result (world tokenizer.new) }
-    ensures full { OnError result (IsFull tokenizer.new) }
+    ensures { IsCodeState CodeState.FurtherStart (world tokenizer.old) result tokenizer.new }
 {
     or_error!(tokenizer.attempt(
         State::Ok,
@@ -202,12 +177,7 @@ pub fn further_start(tokenizer: &mut Tokenizer) -> State
 #[tactic(auto, using(crate::proofs::CodeMeaning::code_rule))]
 pub fn further_line(tokenizer: &mut Tokenizer) -> State
     requires { IsAt NeedsNothing (StateName.CodeIndented CodeState.FurtherLine) (world tokenizer.old) }
-    ensures to { result ≢ State.Error → result ≡ (further_line_transition (world tokenizer.old)).to }
-    ensures world { result ≢ State.Error →
-        world tokenizer.new ≡ (further_line_transition (world tokenizer.old)).world }
-    ensures rule { result ≢ State.Error →
-        CodeMeans CodeState.FurtherLine (world tokenizer.old) result (world tokenizer.new) }
-    ensures full { OnError result (IsFull tokenizer.new) }
+    ensures { IsCodeState CodeState.FurtherLine (world tokenizer.old) result tokenizer.new }
 {
     if is_space_or_tab(tokenizer.current) {
         or_error!(tokenizer.enter_link(Name::CodeIndented, FURTHER));
@@ -233,12 +203,7 @@ pub fn further_line(tokenizer: &mut Tokenizer) -> State
 #[tactic(auto, using(crate::proofs::CodeMeaning::code_rule))]
 pub fn further_begin(tokenizer: &mut Tokenizer) -> State
     requires { IsAt NeedsNothing (StateName.CodeIndented CodeState.FurtherBegin) (world tokenizer.old) }
-    ensures to { result ≢ State.Error → result ≡ (further_begin_transition (world tokenizer.old)).to }
-    ensures world { result ≢ State.Error →
-        world tokenizer.new ≡ (further_begin_transition (world tokenizer.old)).world }
-    ensures rule { result ≢ State.Error →
-        CodeMeans CodeState.FurtherBegin (world tokenizer.old) result (world tokenizer.new) }
-    ensures full { OnError result (IsFull tokenizer.new) }
+    ensures { IsCodeState CodeState.FurtherBegin (world tokenizer.old) result tokenizer.new }
 {
     if is_space_or_tab(tokenizer.current) {
         space_or_tab_min_max(
@@ -264,9 +229,7 @@ pub fn further_begin(tokenizer: &mut Tokenizer) -> State
 #[tactic(auto, using(crate::proofs::CodeMeaning::code_rule))]
 pub fn further_after(tokenizer: &mut Tokenizer) -> State
     requires { IsAt NeedsNothing (StateName.CodeIndented CodeState.FurtherAfter) (world tokenizer.old) }
-    ensures to { result ≡ (further_after_transition (world tokenizer.old)).to }
-    ensures world { world tokenizer.new ≡ (further_after_transition (world tokenizer.old)).world }
-    ensures rule { CodeMeans CodeState.FurtherAfter (world tokenizer.old) result (world tokenizer.new) }
+    ensures { IsSureCodeState CodeState.FurtherAfter (world tokenizer.old) result tokenizer.new }
 {
     match tokenizer.current {
         None | Some(b'\n') => {
@@ -291,12 +254,7 @@ pub fn further_after(tokenizer: &mut Tokenizer) -> State
 #[tactic(auto, using(crate::proofs::CodeMeaning::code_rule))]
 pub fn further_inside(tokenizer: &mut Tokenizer) -> State
     requires { IsAt NeedsNothing (StateName.CodeIndented CodeState.FurtherInside) (world tokenizer.old) }
-    ensures to { result ≢ State.Error → result ≡ (further_inside_transition (world tokenizer.old)).to }
-    ensures world { result ≢ State.Error →
-        world tokenizer.new ≡ (further_inside_transition (world tokenizer.old)).world }
-    ensures rule { result ≢ State.Error →
-        CodeMeans CodeState.FurtherInside (world tokenizer.old) result (world tokenizer.new) }
-    ensures full { OnError result (IsFull tokenizer.new) }
+    ensures { IsCodeState CodeState.FurtherInside (world tokenizer.old) result tokenizer.new }
 {
     match tokenizer.current {
         None | Some(b'\n') => {
@@ -328,10 +286,7 @@ pub fn takes_at_once(state: CodeState) -> Option<Stay>
 #[tactic(auto, using(crate::proofs::CodeMeaning::code_rule))]
 pub fn call(tokenizer: &mut Tokenizer, state: CodeState) -> State
     requires { IsAt NeedsNothing (StateName.CodeIndented state) (world tokenizer.old) }
-    ensures to { result ≢ State.Error → result ≡ (code_transition state (world tokenizer.old)).to }
-    ensures world { result ≢ State.Error → world tokenizer.new ≡ (code_transition state (world tokenizer.old)).world }
-    ensures rule { result ≢ State.Error → CodeMeans state (world tokenizer.old) result (world tokenizer.new) }
-    ensures full { OnError result (IsFull tokenizer.new) }
+    ensures { IsCodeState state (world tokenizer.old) result tokenizer.new }
 {
     match state {
         CodeState::Start => start(tokenizer),

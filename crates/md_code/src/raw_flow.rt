@@ -19,20 +19,16 @@
 // begin with `MathFlow`.
 
 ghost use Rattle.std.specs.Prelude.{◌≡◌, ◌≢◌, IfSome};
-ghost use Rattle.md_code.specs.FenceRule.{FenceMeans};
+ghost use Rattle.md_code.specs.FenceRule.{FenceMeans, IsFenceState};
 ghost use Rattle.md_engine.specs.Full.{IsFull, OnError};
 ghost use Rattle.md_engine.specs.World.{world};
 ghost use Rattle.md_engine.specs.declared.state.Name.{Name as StateName};
 ghost use Rattle.md_engine.specs.declared.state.State.{State};
 ghost use Rattle.md_engine.specs.declared.state.raw_flow.State.{State as RawState};
-ghost use Rattle.md_code.specs.Fence.{FenceNeeds, after_transition, at_non_lazy_break_transition, behind_part};
-ghost use Rattle.md_code.specs.Fence.{before_content_chunk_transition, before_sequence_close_transition};
-ghost use Rattle.md_code.specs.Fence.{before_sequence_open_transition, close_start_transition};
-ghost use Rattle.md_code.specs.Fence.{content_before_transition, content_chunk_transition, content_start_transition};
+ghost use Rattle.md_code.specs.Fence.{FenceNeeds, behind_part};
+ghost use Rattle.md_code.specs.Fence.{content_before_transition};
 ghost use Rattle.md_code.specs.Fence.{fence_transition};
-ghost use Rattle.md_code.specs.Fence.{info_before_transition, info_transition, is_open, may_begin};
-ghost use Rattle.md_code.specs.Fence.{meta_before_transition, meta_transition, sequence_close_after_transition};
-ghost use Rattle.md_code.specs.Fence.{sequence_close_transition, sequence_open_transition, start_transition};
+ghost use Rattle.md_code.specs.Fence.{is_open, may_begin};
 ghost use Rattle.md_events.specs.Look.{may_with};
 ghost use Rattle.md_events.specs.Spaces.{sees_white};
 ghost use Rattle.md_events.specs.Stays.{TakesEach};
@@ -84,10 +80,7 @@ pub fn is_open(leaf: HeldLeaf) -> bool
 #[tactic(auto, using(crate::proofs::FenceMeaning::fence_rule))]
 pub fn start(tokenizer: &mut Tokenizer) -> State
     requires { IsAt FenceNeeds (StateName.RawFlow RawState.Start) (world tokenizer.old) }
-    ensures to { result ≢ State.Error → result ≡ (start_transition (world tokenizer.old)).to }
-    ensures world { result ≢ State.Error → world tokenizer.new ≡ (start_transition (world tokenizer.old)).world }
-    ensures rule { result ≢ State.Error → FenceMeans RawState.Start (world tokenizer.old) result (world tokenizer.new) }
-    ensures full { OnError result (IsFull tokenizer.new) }
+    ensures { IsFenceState RawState.Start (world tokenizer.old) result tokenizer.new }
 {
     if !tokenizer.options.constructs.code_fenced && !tokenizer.options.constructs.math_flow {
         return State::Nok;
@@ -118,12 +111,7 @@ pub fn start(tokenizer: &mut Tokenizer) -> State
 #[tactic(auto, using(crate::proofs::FenceMeaning::fence_rule))]
 pub fn before_sequence_open(tokenizer: &mut Tokenizer) -> State
     requires { IsAt FenceNeeds (StateName.RawFlow RawState.BeforeSequenceOpen) (world tokenizer.old) }
-    ensures to { result ≢ State.Error → result ≡ (before_sequence_open_transition (world tokenizer.old)).to }
-    ensures world { result ≢ State.Error →
-        world tokenizer.new ≡ (before_sequence_open_transition (world tokenizer.old)).world }
-    ensures rule { result ≢ State.Error →
-        FenceMeans RawState.BeforeSequenceOpen (world tokenizer.old) result (world tokenizer.new) }
-    ensures full { OnError result (IsFull tokenizer.new) }
+    ensures { IsFenceState RawState.BeforeSequenceOpen (world tokenizer.old) result tokenizer.new }
 {
     match tokenizer.current {
         Some(byte) if is_marker(tokenizer.options, byte) => {
@@ -174,12 +162,7 @@ fn go_on(tokenizer: &mut Tokenizer, behind: RawState) -> State
 #[tactic(auto, using(crate::proofs::FenceMeaning::fence_rule))]
 pub fn sequence_open(tokenizer: &mut Tokenizer) -> State
     requires { IsAt FenceNeeds (StateName.RawFlow RawState.SequenceOpen) (world tokenizer.old) }
-    ensures to { result ≢ State.Error → result ≡ (sequence_open_transition (world tokenizer.old)).to }
-    ensures world { result ≢ State.Error →
-        world tokenizer.new ≡ (sequence_open_transition (world tokenizer.old)).world }
-    ensures rule { result ≢ State.Error →
-        FenceMeans RawState.SequenceOpen (world tokenizer.old) result (world tokenizer.new) }
-    ensures full { OnError result (IsFull tokenizer.new) }
+    ensures { IsFenceState RawState.SequenceOpen (world tokenizer.old) result tokenizer.new }
 {
     let marker = tokenizer.scratch.marker;
     if tokenizer.current == Some(marker) {
@@ -210,12 +193,7 @@ pub fn sequence_open(tokenizer: &mut Tokenizer) -> State
 #[tactic(auto, using(crate::proofs::FenceMeaning::fence_rule))]
 pub fn info_before(tokenizer: &mut Tokenizer) -> State
     requires { IsAt FenceNeeds (StateName.RawFlow RawState.InfoBefore) (world tokenizer.old) }
-    ensures to { result ≢ State.Error → result ≡ (info_before_transition (world tokenizer.old)).to }
-    ensures world { result ≢ State.Error →
-        world tokenizer.new ≡ (info_before_transition (world tokenizer.old)).world }
-    ensures rule { result ≢ State.Error →
-        FenceMeans RawState.InfoBefore (world tokenizer.old) result (world tokenizer.new) }
-    ensures full { OnError result (IsFull tokenizer.new) }
+    ensures { IsFenceState RawState.InfoBefore (world tokenizer.old) result tokenizer.new }
 {
     match tokenizer.current {
         None | Some(b'\n') => {
@@ -259,10 +237,7 @@ pub fn info_before(tokenizer: &mut Tokenizer) -> State
 #[tactic(auto, using(crate::proofs::FenceMeaning::fence_rule))]
 pub fn info(tokenizer: &mut Tokenizer) -> State
     requires { IsAt FenceNeeds (StateName.RawFlow RawState.Info) (world tokenizer.old) }
-    ensures to { result ≢ State.Error → result ≡ (info_transition (world tokenizer.old)).to }
-    ensures world { result ≢ State.Error → world tokenizer.new ≡ (info_transition (world tokenizer.old)).world }
-    ensures rule { result ≢ State.Error → FenceMeans RawState.Info (world tokenizer.old) result (world tokenizer.new) }
-    ensures full { OnError result (IsFull tokenizer.new) }
+    ensures { IsFenceState RawState.Info (world tokenizer.old) result tokenizer.new }
 {
     match tokenizer.current {
         None | Some(b'\t' | b'\n' | b' ') => {
@@ -293,12 +268,7 @@ pub fn info(tokenizer: &mut Tokenizer) -> State
 #[tactic(auto, using(crate::proofs::FenceMeaning::fence_rule))]
 pub fn meta_before(tokenizer: &mut Tokenizer) -> State
     requires { IsAt FenceNeeds (StateName.RawFlow RawState.MetaBefore) (world tokenizer.old) }
-    ensures to { result ≢ State.Error → result ≡ (meta_before_transition (world tokenizer.old)).to }
-    ensures world { result ≢ State.Error →
-        world tokenizer.new ≡ (meta_before_transition (world tokenizer.old)).world }
-    ensures rule { result ≢ State.Error →
-        FenceMeans RawState.MetaBefore (world tokenizer.old) result (world tokenizer.new) }
-    ensures full { OnError result (IsFull tokenizer.new) }
+    ensures { IsFenceState RawState.MetaBefore (world tokenizer.old) result tokenizer.new }
 {
     match tokenizer.current {
         None | Some(b'\n') => State::Retry(StateName::RawFlow(RawState::InfoBefore)),
@@ -327,10 +297,7 @@ pub fn meta_before(tokenizer: &mut Tokenizer) -> State
 #[tactic(auto, using(crate::proofs::FenceMeaning::fence_rule))]
 pub fn meta(tokenizer: &mut Tokenizer) -> State
     requires { IsAt FenceNeeds (StateName.RawFlow RawState.Meta) (world tokenizer.old) }
-    ensures to { result ≢ State.Error → result ≡ (meta_transition (world tokenizer.old)).to }
-    ensures world { result ≢ State.Error → world tokenizer.new ≡ (meta_transition (world tokenizer.old)).world }
-    ensures rule { result ≢ State.Error → FenceMeans RawState.Meta (world tokenizer.old) result (world tokenizer.new) }
-    ensures full { OnError result (IsFull tokenizer.new) }
+    ensures { IsFenceState RawState.Meta (world tokenizer.old) result tokenizer.new }
 {
     match tokenizer.current {
         None | Some(b'\n') => {
@@ -364,12 +331,7 @@ pub fn meta(tokenizer: &mut Tokenizer) -> State
 #[tactic(auto, using(crate::proofs::FenceMeaning::fence_rule))]
 pub fn at_non_lazy_break(tokenizer: &mut Tokenizer) -> State
     requires { IsAt FenceNeeds (StateName.RawFlow RawState.AtNonLazyBreak) (world tokenizer.old) }
-    ensures to { result ≢ State.Error → result ≡ (at_non_lazy_break_transition (world tokenizer.old)).to }
-    ensures world { result ≢ State.Error →
-        world tokenizer.new ≡ (at_non_lazy_break_transition (world tokenizer.old)).world }
-    ensures rule { result ≢ State.Error →
-        FenceMeans RawState.AtNonLazyBreak (world tokenizer.old) result (world tokenizer.new) }
-    ensures full { OnError result (IsFull tokenizer.new) }
+    ensures { IsFenceState RawState.AtNonLazyBreak (world tokenizer.old) result tokenizer.new }
 {
     let marker = held_marker(tokenizer.flags.leaf);
     or_error!(tokenizer.enter_link(block_name(marker), FURTHER));
@@ -396,12 +358,7 @@ pub fn at_non_lazy_break(tokenizer: &mut Tokenizer) -> State
 #[tactic(auto, using(crate::proofs::FenceMeaning::fence_rule))]
 pub fn close_start(tokenizer: &mut Tokenizer) -> State
     requires { IsAt FenceNeeds (StateName.RawFlow RawState.CloseStart) (world tokenizer.old) }
-    ensures to { result ≢ State.Error → result ≡ (close_start_transition (world tokenizer.old)).to }
-    ensures world { result ≢ State.Error →
-        world tokenizer.new ≡ (close_start_transition (world tokenizer.old)).world }
-    ensures rule { result ≢ State.Error →
-        FenceMeans RawState.CloseStart (world tokenizer.old) result (world tokenizer.new) }
-    ensures full { OnError result (IsFull tokenizer.new) }
+    ensures { IsFenceState RawState.CloseStart (world tokenizer.old) result tokenizer.new }
 {
     if is_space_or_tab(tokenizer.current) {
         let max = small_indent(tokenizer);
@@ -428,12 +385,7 @@ pub fn close_start(tokenizer: &mut Tokenizer) -> State
 #[tactic(auto, using(crate::proofs::FenceMeaning::fence_rule))]
 pub fn before_sequence_close(tokenizer: &mut Tokenizer) -> State
     requires { IsAt FenceNeeds (StateName.RawFlow RawState.BeforeSequenceClose) (world tokenizer.old) }
-    ensures to { result ≢ State.Error → result ≡ (before_sequence_close_transition (world tokenizer.old)).to }
-    ensures world { result ≢ State.Error →
-        world tokenizer.new ≡ (before_sequence_close_transition (world tokenizer.old)).world }
-    ensures rule { result ≢ State.Error →
-        FenceMeans RawState.BeforeSequenceClose (world tokenizer.old) result (world tokenizer.new) }
-    ensures full { OnError result (IsFull tokenizer.new) }
+    ensures { IsFenceState RawState.BeforeSequenceClose (world tokenizer.old) result tokenizer.new }
 {
     let marker = tokenizer.scratch.marker;
     if tokenizer.current == Some(marker) {
@@ -457,12 +409,7 @@ pub fn before_sequence_close(tokenizer: &mut Tokenizer) -> State
 #[tactic(auto, using(crate::proofs::FenceMeaning::fence_rule))]
 pub fn sequence_close(tokenizer: &mut Tokenizer) -> State
     requires { IsAt FenceNeeds (StateName.RawFlow RawState.SequenceClose) (world tokenizer.old) }
-    ensures to { result ≢ State.Error → result ≡ (sequence_close_transition (world tokenizer.old)).to }
-    ensures world { result ≢ State.Error →
-        world tokenizer.new ≡ (sequence_close_transition (world tokenizer.old)).world }
-    ensures rule { result ≢ State.Error →
-        FenceMeans RawState.SequenceClose (world tokenizer.old) result (world tokenizer.new) }
-    ensures full { OnError result (IsFull tokenizer.new) }
+    ensures { IsFenceState RawState.SequenceClose (world tokenizer.old) result tokenizer.new }
 {
     let Scratch { marker, size, .. } = tokenizer.scratch;
     if tokenizer.current == Some(marker) {
@@ -489,12 +436,7 @@ pub fn sequence_close(tokenizer: &mut Tokenizer) -> State
 #[tactic(auto, using(crate::proofs::FenceMeaning::fence_rule))]
 pub fn sequence_close_after(tokenizer: &mut Tokenizer) -> State
     requires { IsAt FenceNeeds (StateName.RawFlow RawState.SequenceCloseAfter) (world tokenizer.old) }
-    ensures to { result ≢ State.Error → result ≡ (sequence_close_after_transition (world tokenizer.old)).to }
-    ensures world { result ≢ State.Error →
-        world tokenizer.new ≡ (sequence_close_after_transition (world tokenizer.old)).world }
-    ensures rule { result ≢ State.Error →
-        FenceMeans RawState.SequenceCloseAfter (world tokenizer.old) result (world tokenizer.new) }
-    ensures full { OnError result (IsFull tokenizer.new) }
+    ensures { IsFenceState RawState.SequenceCloseAfter (world tokenizer.old) result tokenizer.new }
 {
     match tokenizer.current {
         None | Some(b'\n') => {
@@ -537,12 +479,7 @@ pub fn content_before(_tokenizer: &mut Tokenizer) -> State
 #[tactic(auto, using(crate::proofs::FenceMeaning::fence_rule))]
 pub fn content_start(tokenizer: &mut Tokenizer) -> State
     requires { IsAt FenceNeeds (StateName.RawFlow RawState.ContentStart) (world tokenizer.old) }
-    ensures to { result ≢ State.Error → result ≡ (content_start_transition (world tokenizer.old)).to }
-    ensures world { result ≢ State.Error →
-        world tokenizer.new ≡ (content_start_transition (world tokenizer.old)).world }
-    ensures rule { result ≢ State.Error →
-        FenceMeans RawState.ContentStart (world tokenizer.old) result (world tokenizer.new) }
-    ensures full { OnError result (IsFull tokenizer.new) }
+    ensures { IsFenceState RawState.ContentStart (world tokenizer.old) result tokenizer.new }
 {
     let max = held_indent(tokenizer.flags.leaf);
     if max > 0 && is_space_or_tab(tokenizer.current) {
@@ -569,12 +506,7 @@ pub fn content_start(tokenizer: &mut Tokenizer) -> State
 #[tactic(auto, using(crate::proofs::FenceMeaning::fence_rule))]
 pub fn before_content_chunk(tokenizer: &mut Tokenizer) -> State
     requires { IsAt FenceNeeds (StateName.RawFlow RawState.BeforeContentChunk) (world tokenizer.old) }
-    ensures to { result ≢ State.Error → result ≡ (before_content_chunk_transition (world tokenizer.old)).to }
-    ensures world { result ≢ State.Error →
-        world tokenizer.new ≡ (before_content_chunk_transition (world tokenizer.old)).world }
-    ensures rule { result ≢ State.Error →
-        FenceMeans RawState.BeforeContentChunk (world tokenizer.old) result (world tokenizer.new) }
-    ensures full { OnError result (IsFull tokenizer.new) }
+    ensures { IsFenceState RawState.BeforeContentChunk (world tokenizer.old) result tokenizer.new }
 {
     match tokenizer.current {
         None | Some(b'\n') => {
@@ -601,12 +533,7 @@ pub fn before_content_chunk(tokenizer: &mut Tokenizer) -> State
 #[tactic(auto, using(crate::proofs::FenceMeaning::fence_rule))]
 pub fn content_chunk(tokenizer: &mut Tokenizer) -> State
     requires { IsAt FenceNeeds (StateName.RawFlow RawState.ContentChunk) (world tokenizer.old) }
-    ensures to { result ≢ State.Error → result ≡ (content_chunk_transition (world tokenizer.old)).to }
-    ensures world { result ≢ State.Error →
-        world tokenizer.new ≡ (content_chunk_transition (world tokenizer.old)).world }
-    ensures rule { result ≢ State.Error →
-        FenceMeans RawState.ContentChunk (world tokenizer.old) result (world tokenizer.new) }
-    ensures full { OnError result (IsFull tokenizer.new) }
+    ensures { IsFenceState RawState.ContentChunk (world tokenizer.old) result tokenizer.new }
 {
     match tokenizer.current {
         None | Some(b'\n') => {
@@ -632,10 +559,7 @@ pub fn content_chunk(tokenizer: &mut Tokenizer) -> State
 #[tactic(auto, using(crate::proofs::FenceMeaning::fence_rule))]
 pub fn after(tokenizer: &mut Tokenizer) -> State
     requires { IsAt FenceNeeds (StateName.RawFlow RawState.After) (world tokenizer.old) }
-    ensures to { result ≢ State.Error → result ≡ (after_transition (world tokenizer.old)).to }
-    ensures world { result ≢ State.Error → world tokenizer.new ≡ (after_transition (world tokenizer.old)).world }
-    ensures rule { result ≢ State.Error → FenceMeans RawState.After (world tokenizer.old) result (world tokenizer.new) }
-    ensures full { OnError result (IsFull tokenizer.new) }
+    ensures { IsFenceState RawState.After (world tokenizer.old) result tokenizer.new }
 {
     let name = block_name(held_marker(tokenizer.flags.leaf));
     or_error!(tokenizer.exit(name));
@@ -658,10 +582,7 @@ pub fn takes_at_once(state: RawState) -> Option<Stay>
 #[tactic(auto, using(crate::proofs::FenceMeaning::fence_rule))]
 pub fn call(tokenizer: &mut Tokenizer, state: RawState) -> State
     requires { IsAt FenceNeeds (StateName.RawFlow state) (world tokenizer.old) }
-    ensures to { result ≢ State.Error → result ≡ (fence_transition state (world tokenizer.old)).to }
-    ensures world { result ≢ State.Error → world tokenizer.new ≡ (fence_transition state (world tokenizer.old)).world }
-    ensures rule { result ≢ State.Error → FenceMeans state (world tokenizer.old) result (world tokenizer.new) }
-    ensures full { OnError result (IsFull tokenizer.new) }
+    ensures { IsFenceState state (world tokenizer.old) result tokenizer.new }
 {
     match state {
         RawState::Start => start(tokenizer),

@@ -18,6 +18,7 @@ use Rattle.md_engine.specs.Scheme.{position}
 use Rattle.md_engine.specs.Sees.{IsStep}
 use Rattle.md_engine.specs.World.{World}
 use Rattle.md_containers.specs.Footnote.{FootnoteInvariant, breaks_label, footnote_held, label_link, most}
+use Rattle.md_containers.specs.Footnote.{footnote_transition}
 use Rattle.md_containers.specs.Item.{without_size}
 use Rattle.md_containers.specs.ItemRule.{behind_columns}
 use Rattle.md_meaning.specs.Ascii.{backslash, caret, colon, left_bracket, right_bracket}
@@ -26,6 +27,9 @@ use Rattle.md_leaves.specs.LeafStart.{start_at}
 use Rattle.md_events.specs.Ahead.{HasWhite, begins_white, white_rest}
 use Rattle.md_events.specs.Events.Nested.{enter, enter_link, exit, pair}
 use Rattle.md_events.specs.Spaces.{any_size}
+use Rattle.md_events.specs.States.{IsState, IsSureState}
+use Rattle.md_engine.specs.declared.tokenizer.Tokenizer.{Tokenizer}
+use Rattle.md_engine.specs.Full.{IsFull}
 
 -- The label.
 
@@ -153,3 +157,13 @@ unfoldable pub FootnoteMeans : FootnoteState → World → State → World → T
 FootnoteMeans state old to new =
     FootnoteInvariant (n.GfmFootnoteDefinition state) (position old) →
     IsStep (λ B. HasFootnote B old.setting.options) (n.GfmFootnoteDefinition state) to old new
+
+-- what a state of a footnote definition promises
+abbrev pub IsFootnoteState : FootnoteState → World → State → Tokenizer → Type 0
+IsFootnoteState state old answer new =
+    IsState (footnote_transition state old) (FootnoteMeans state old) (IsFull new) answer new
+
+-- the same of a state that wants no memory
+abbrev pub IsSureFootnoteState : FootnoteState → World → State → Tokenizer → Type 0
+IsSureFootnoteState state old answer new =
+    IsSureState (footnote_transition state old) (FootnoteMeans state old) answer new

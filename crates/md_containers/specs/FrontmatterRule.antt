@@ -16,7 +16,10 @@ use Rattle.md_events.specs.Ahead.{HasWhite}
 use Rattle.md_events.specs.Events.Nested.{enter, exit, pair}
 use Rattle.md_events.specs.Look.{first_seen}
 use Rattle.md_events.specs.Spaces.{any_size, is_current}
-use Rattle.md_containers.specs.Frontmatter.{cleared, is_marker}
+use Rattle.md_containers.specs.Frontmatter.{cleared, is_marker, front_transition}
+use Rattle.md_events.specs.States.{IsState}
+use Rattle.md_engine.specs.declared.tokenizer.Tokenizer.{Tokenizer}
+use Rattle.md_engine.specs.Full.{IsFull}
 
 abbrev pub refuses : Here → Outcome
 refuses h = Refuses (cleared h.scratch) h.flags
@@ -155,3 +158,7 @@ pub record HasFront (B : Behaviour) (options : ParseOptions) : Type 0 where
 -- what a state of frontmatter means: its call is one step of the rule
 unfoldable pub FrontMeans : FrontState → World → State → World → Type 0
 FrontMeans state old to new = IsStep (λ B. HasFront B old.setting.options) (n.Frontmatter state) to old new
+
+-- what a state of frontmatter promises
+abbrev pub IsFrontState : FrontState → World → State → Tokenizer → Type 0
+IsFrontState state old answer new = IsState (front_transition state old) (FrontMeans state old) (IsFull new) answer new

@@ -15,7 +15,7 @@ use Rattle.md_engine.specs.Sees.{IsStep}
 use Rattle.md_engine.specs.World.{World}
 use Rattle.md_containers.specs.Interrupts.{interrupts}
 use Rattle.md_containers.specs.Item.{ItemInvariant, ends_value, is_item_marker, item_gone_on, item_held, least_width}
-use Rattle.md_containers.specs.Item.{unseen, without_size}
+use Rattle.md_containers.specs.Item.{unseen, without_size, item_transition}
 use Rattle.md_meaning.specs.Containers.{is_bullet, is_digit}
 use Rattle.md_meaning.specs.Leaves.{is_rule}
 use Rattle.md_meaning.specs.Rest.{is_blank, is_white}
@@ -26,6 +26,9 @@ use Rattle.md_events.specs.Ahead.{HasWhite, begins_white, line_bytes, white_end,
 use Rattle.md_events.specs.Events.Nested.{enter, exit, pair}
 use Rattle.md_events.specs.Look.{first_seen}
 use Rattle.md_events.specs.Spaces.{asking, calmed, ends_line}
+use Rattle.md_events.specs.States.{IsState, IsSureState}
+use Rattle.md_engine.specs.declared.tokenizer.Tokenizer.{Tokenizer}
+use Rattle.md_engine.specs.Full.{IsFull}
 
 -- The digits that come first, at most so many: how many there are, where they end, and what follows them.
 
@@ -238,3 +241,11 @@ unfoldable pub ItemMeans : ItemState → World → State → World → Type 0
 ItemMeans state old to new =
     ItemInvariant (n.ListItem state) (position old) →
     IsStep (λ B. HasItem B old.setting.options) (n.ListItem state) to old new
+
+-- what a state of a list item promises
+abbrev pub IsItemState : ItemState → World → State → Tokenizer → Type 0
+IsItemState state old answer new = IsState (item_transition state old) (ItemMeans state old) (IsFull new) answer new
+
+-- the same of a state that wants no memory
+abbrev pub IsSureItemState : ItemState → World → State → Tokenizer → Type 0
+IsSureItemState state old answer new = IsSureState (item_transition state old) (ItemMeans state old) answer new

@@ -14,7 +14,7 @@ use Rattle.md_engine.specs.declared.state.State.{State}
 use Rattle.md_engine.specs.Meaning.{Accepts, Behaviour, Cell, Fails, Here, Outcome, Refuses}
 use Rattle.md_engine.specs.Sees.{IsStep}
 use Rattle.md_engine.specs.World.{World}
-use Rattle.md_containers.specs.Quote.{name_of, naming, unnamed}
+use Rattle.md_containers.specs.Quote.{name_of, naming, unnamed, quote_transition}
 use Rattle.md_leaves.specs.BlankRule.{HasBlank, blank_at, blank_events}
 use Rattle.md_meaning.specs.Alert.{first_kind, kinds, marker_of}
 use Rattle.md_meaning.specs.declared.alert.AlertKind.{AlertKind}
@@ -24,6 +24,9 @@ use Rattle.md_events.specs.Ahead.{white_rest}
 use Rattle.md_events.specs.Events.Nested.{enter, exit, pair}
 use Rattle.md_meaning.specs.Rest.{is_blank, is_white}
 use Rattle.md_events.specs.Spaces.{calmed, small_indent}
+use Rattle.md_events.specs.States.{IsState}
+use Rattle.md_engine.specs.declared.tokenizer.Tokenizer.{Tokenizer}
+use Rattle.md_engine.specs.Full.{IsFull}
 
 -- the end of the prefix
 abbrev pub prefix_ended : List Cell → Here → Outcome
@@ -292,3 +295,7 @@ pub record HasQuote (B : Behaviour) (options : ParseOptions) : Type 0 where
 -- what a state of the prefix of a quote means: its call is one step of the rule
 unfoldable pub QuoteMeans : QuoteState → World → State → World → Type 0
 QuoteMeans state old to new = IsStep (λ B. HasQuote B old.setting.options) (n.BlockQuote state) to old new
+
+-- what a state of a block quote promises
+abbrev pub IsQuoteState : QuoteState → World → State → Tokenizer → Type 0
+IsQuoteState state old answer new = IsState (quote_transition state old) (QuoteMeans state old) (IsFull new) answer new

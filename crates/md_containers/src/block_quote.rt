@@ -13,19 +13,14 @@
 
 ghost use Rattle.std.specs.Prelude.{◌≡◌, ◌≢◌, ◌==◌, OnOk, is_err, slice_get, true};
 ghost use Rattle.std.specs.Char.{to_ascii_lowercase};
-ghost use Rattle.md_containers.specs.QuoteRule.{QuoteMeans};
-ghost use Rattle.md_engine.specs.Full.{IsFull, OnError};
+ghost use Rattle.md_containers.specs.QuoteRule.{IsQuoteState};
+ghost use Rattle.md_engine.specs.Full.{Grown, IsFull, IsFullList, OnError};
 ghost use Rattle.md_engine.specs.World.{looks, world};
 ghost use Rattle.md_engine.specs.declared.state.Name.{Name as StateName};
 ghost use Rattle.md_engine.specs.declared.state.State.{State};
 ghost use Rattle.md_engine.specs.declared.state.block_quote.State.{State as QuoteState};
 ghost use Rattle.md_containers.specs.QuotePrefix.{IsPlainPrefix, prefixed};
-ghost use Rattle.md_containers.specs.Quote.{alert_before_transition, alert_letter_transition, alert_mark_transition};
-ghost use Rattle.md_containers.specs.Quote.{alert_name_transition, alert_start_transition, alert_try_transition};
-ghost use Rattle.md_containers.specs.Quote.{cont_after_transition, cont_before_transition, cont_start_transition};
 ghost use Rattle.md_containers.specs.Quote.{forgotten, indent_code, marker_code, may_begin, name_of};
-ghost use Rattle.md_containers.specs.Quote.{open_after_transition, open_before_transition, open_start_transition};
-ghost use Rattle.md_containers.specs.Quote.{prefix_end_transition, quote_transition, start_transition};
 ghost use Rattle.md_events.specs.Look.{may_with};
 ghost use Rattle.md_events.specs.Spaces.{is_current, sees_white};
 ghost use Rattle.md_events.specs.Transition.{IsAt, NeedsNothing};
@@ -135,11 +130,7 @@ fn no_name(tokenizer: &mut Tokenizer) -> State
 #[tactic(auto, using(crate::proofs::QuoteMeaning::quote_rule))]
 pub fn start(tokenizer: &mut Tokenizer) -> State
     requires { IsAt NeedsNothing (StateName.BlockQuote QuoteState.Start) (world tokenizer.old) }
-    ensures to { result ≢ State.Error → result ≡ (start_transition (world tokenizer.old)).to }
-    ensures world { result ≢ State.Error → world tokenizer.new ≡ (start_transition (world tokenizer.old)).world }
-    ensures rule { result ≢ State.Error →
-        QuoteMeans QuoteState.Start (world tokenizer.old) result (world tokenizer.new) }
-    ensures full { OnError result (IsFull tokenizer.new) }
+    ensures { IsQuoteState QuoteState.Start (world tokenizer.old) result tokenizer.new }
 {
     if !tokenizer.options.constructs.block_quote {
         return State::Nok;
@@ -161,11 +152,7 @@ pub fn start(tokenizer: &mut Tokenizer) -> State
 #[tactic(auto, using(crate::proofs::QuoteMeaning::quote_rule))]
 pub fn open_start(tokenizer: &mut Tokenizer) -> State
     requires { IsAt NeedsNothing (StateName.BlockQuote QuoteState.OpenStart) (world tokenizer.old) }
-    ensures to { result ≢ State.Error → result ≡ (open_start_transition (world tokenizer.old)).to }
-    ensures world { result ≢ State.Error → world tokenizer.new ≡ (open_start_transition (world tokenizer.old)).world }
-    ensures rule { result ≢ State.Error →
-        QuoteMeans QuoteState.OpenStart (world tokenizer.old) result (world tokenizer.new) }
-    ensures full { OnError result (IsFull tokenizer.new) }
+    ensures { IsQuoteState QuoteState.OpenStart (world tokenizer.old) result tokenizer.new }
 {
     indent_then(tokenizer, QuoteState::OpenBefore)
 }
@@ -179,11 +166,7 @@ pub fn open_start(tokenizer: &mut Tokenizer) -> State
 #[tactic(auto, using(crate::proofs::QuoteMeaning::quote_rule))]
 pub fn open_before(tokenizer: &mut Tokenizer) -> State
     requires { IsAt NeedsNothing (StateName.BlockQuote QuoteState.OpenBefore) (world tokenizer.old) }
-    ensures to { result ≢ State.Error → result ≡ (open_before_transition (world tokenizer.old)).to }
-    ensures world { result ≢ State.Error → world tokenizer.new ≡ (open_before_transition (world tokenizer.old)).world }
-    ensures rule { result ≢ State.Error →
-        QuoteMeans QuoteState.OpenBefore (world tokenizer.old) result (world tokenizer.new) }
-    ensures full { OnError result (IsFull tokenizer.new) }
+    ensures { IsQuoteState QuoteState.OpenBefore (world tokenizer.old) result tokenizer.new }
 {
     marker_then(tokenizer, QuoteState::OpenAfter)
 }
@@ -197,11 +180,7 @@ pub fn open_before(tokenizer: &mut Tokenizer) -> State
 #[tactic(auto, using(crate::proofs::QuoteMeaning::quote_rule))]
 pub fn open_after(tokenizer: &mut Tokenizer) -> State
     requires { IsAt NeedsNothing (StateName.BlockQuote QuoteState.OpenAfter) (world tokenizer.old) }
-    ensures to { result ≢ State.Error → result ≡ (open_after_transition (world tokenizer.old)).to }
-    ensures world { result ≢ State.Error → world tokenizer.new ≡ (open_after_transition (world tokenizer.old)).world }
-    ensures rule { result ≢ State.Error →
-        QuoteMeans QuoteState.OpenAfter (world tokenizer.old) result (world tokenizer.new) }
-    ensures full { OnError result (IsFull tokenizer.new) }
+    ensures { IsQuoteState QuoteState.OpenAfter (world tokenizer.old) result tokenizer.new }
 {
     if is_space_or_tab(tokenizer.current) {
         or_error!(tokenizer.enter(Name::SpaceOrTab));
@@ -222,11 +201,7 @@ pub fn open_after(tokenizer: &mut Tokenizer) -> State
 #[tactic(auto, using(crate::proofs::QuoteMeaning::quote_rule))]
 pub fn alert_try(tokenizer: &mut Tokenizer) -> State
     requires { IsAt NeedsNothing (StateName.BlockQuote QuoteState.AlertTry) (world tokenizer.old) }
-    ensures to { result ≢ State.Error → result ≡ (alert_try_transition (world tokenizer.old)).to }
-    ensures world { result ≢ State.Error → world tokenizer.new ≡ (alert_try_transition (world tokenizer.old)).world }
-    ensures rule { result ≢ State.Error →
-        QuoteMeans QuoteState.AlertTry (world tokenizer.old) result (world tokenizer.new) }
-    ensures full { OnError result (IsFull tokenizer.new) }
+    ensures { IsQuoteState QuoteState.AlertTry (world tokenizer.old) result tokenizer.new }
 {
     or_error!(tokenizer.attempt(
         State::Next(StateName::BlockQuote(QuoteState::PrefixEnd)),
@@ -244,11 +219,7 @@ pub fn alert_try(tokenizer: &mut Tokenizer) -> State
 #[tactic(auto, using(crate::proofs::QuoteMeaning::quote_rule))]
 pub fn alert_start(tokenizer: &mut Tokenizer) -> State
     requires { IsAt NeedsNothing (StateName.BlockQuote QuoteState.AlertStart) (world tokenizer.old) }
-    ensures to { result ≢ State.Error → result ≡ (alert_start_transition (world tokenizer.old)).to }
-    ensures world { result ≢ State.Error → world tokenizer.new ≡ (alert_start_transition (world tokenizer.old)).world }
-    ensures rule { result ≢ State.Error →
-        QuoteMeans QuoteState.AlertStart (world tokenizer.old) result (world tokenizer.new) }
-    ensures full { OnError result (IsFull tokenizer.new) }
+    ensures { IsQuoteState QuoteState.AlertStart (world tokenizer.old) result tokenizer.new }
 {
     indent_then(tokenizer, QuoteState::AlertBefore)
 }
@@ -262,11 +233,7 @@ pub fn alert_start(tokenizer: &mut Tokenizer) -> State
 #[tactic(auto, using(crate::proofs::QuoteMeaning::quote_rule))]
 pub fn alert_before(tokenizer: &mut Tokenizer) -> State
     requires { IsAt NeedsNothing (StateName.BlockQuote QuoteState.AlertBefore) (world tokenizer.old) }
-    ensures to { result ≢ State.Error → result ≡ (alert_before_transition (world tokenizer.old)).to }
-    ensures world { result ≢ State.Error → world tokenizer.new ≡ (alert_before_transition (world tokenizer.old)).world }
-    ensures rule { result ≢ State.Error →
-        QuoteMeans QuoteState.AlertBefore (world tokenizer.old) result (world tokenizer.new) }
-    ensures full { OnError result (IsFull tokenizer.new) }
+    ensures { IsQuoteState QuoteState.AlertBefore (world tokenizer.old) result tokenizer.new }
 {
     if tokenizer.current != Some(b'[') {
         return State::Nok;
@@ -285,11 +252,7 @@ pub fn alert_before(tokenizer: &mut Tokenizer) -> State
 #[tactic(auto, using(crate::proofs::QuoteMeaning::quote_rule))]
 pub fn alert_mark(tokenizer: &mut Tokenizer) -> State
     requires { IsAt NeedsNothing (StateName.BlockQuote QuoteState.AlertMark) (world tokenizer.old) }
-    ensures to { result ≢ State.Error → result ≡ (alert_mark_transition (world tokenizer.old)).to }
-    ensures world { result ≢ State.Error → world tokenizer.new ≡ (alert_mark_transition (world tokenizer.old)).world }
-    ensures rule { result ≢ State.Error →
-        QuoteMeans QuoteState.AlertMark (world tokenizer.old) result (world tokenizer.new) }
-    ensures full { OnError result (IsFull tokenizer.new) }
+    ensures { IsQuoteState QuoteState.AlertMark (world tokenizer.old) result tokenizer.new }
 {
     if tokenizer.current != Some(b'!') {
         return State::Nok;
@@ -307,11 +270,7 @@ pub fn alert_mark(tokenizer: &mut Tokenizer) -> State
 #[tactic(auto, using(crate::proofs::QuoteMeaning::quote_rule))]
 pub fn alert_letter(tokenizer: &mut Tokenizer) -> State
     requires { IsAt NeedsNothing (StateName.BlockQuote QuoteState.AlertLetter) (world tokenizer.old) }
-    ensures to { result ≢ State.Error → result ≡ (alert_letter_transition (world tokenizer.old)).to }
-    ensures world { result ≢ State.Error → world tokenizer.new ≡ (alert_letter_transition (world tokenizer.old)).world }
-    ensures rule { result ≢ State.Error →
-        QuoteMeans QuoteState.AlertLetter (world tokenizer.old) result (world tokenizer.new) }
-    ensures full { OnError result (IsFull tokenizer.new) }
+    ensures { IsQuoteState QuoteState.AlertLetter (world tokenizer.old) result tokenizer.new }
 {
     let Some(byte) = tokenizer.current else {
         return State::Nok;
@@ -335,11 +294,7 @@ pub fn alert_letter(tokenizer: &mut Tokenizer) -> State
 #[tactic(auto, using(crate::proofs::QuoteMeaning::quote_rule))]
 pub fn alert_name(tokenizer: &mut Tokenizer) -> State
     requires { IsAt NeedsNothing (StateName.BlockQuote QuoteState.AlertName) (world tokenizer.old) }
-    ensures to { result ≢ State.Error → result ≡ (alert_name_transition (world tokenizer.old)).to }
-    ensures world { result ≢ State.Error → world tokenizer.new ≡ (alert_name_transition (world tokenizer.old)).world }
-    ensures rule { result ≢ State.Error →
-        QuoteMeans QuoteState.AlertName (world tokenizer.old) result (world tokenizer.new) }
-    ensures full { OnError result (IsFull tokenizer.new) }
+    ensures { IsQuoteState QuoteState.AlertName (world tokenizer.old) result tokenizer.new }
 {
     let left = name_byte(tokenizer.scratch.marker, tokenizer.scratch.size);
     let Some(byte) = tokenizer.current else {
@@ -376,11 +331,7 @@ pub fn alert_name(tokenizer: &mut Tokenizer) -> State
 #[tactic(auto, using(crate::proofs::QuoteMeaning::quote_rule))]
 pub fn prefix_end(tokenizer: &mut Tokenizer) -> State
     requires { IsAt NeedsNothing (StateName.BlockQuote QuoteState.PrefixEnd) (world tokenizer.old) }
-    ensures to { result ≢ State.Error → result ≡ (prefix_end_transition (world tokenizer.old)).to }
-    ensures world { result ≢ State.Error → world tokenizer.new ≡ (prefix_end_transition (world tokenizer.old)).world }
-    ensures rule { result ≢ State.Error →
-        QuoteMeans QuoteState.PrefixEnd (world tokenizer.old) result (world tokenizer.new) }
-    ensures full { OnError result (IsFull tokenizer.new) }
+    ensures { IsQuoteState QuoteState.PrefixEnd (world tokenizer.old) result tokenizer.new }
 {
     or_error!(tokenizer.exit(Name::BlockQuotePrefix));
     State::Ok
@@ -396,11 +347,7 @@ pub fn prefix_end(tokenizer: &mut Tokenizer) -> State
 #[tactic(auto, using(crate::proofs::QuoteMeaning::quote_rule))]
 pub fn cont_start(tokenizer: &mut Tokenizer) -> State
     requires { IsAt NeedsNothing (StateName.BlockQuote QuoteState.ContStart) (world tokenizer.old) }
-    ensures to { result ≢ State.Error → result ≡ (cont_start_transition (world tokenizer.old)).to }
-    ensures world { result ≢ State.Error → world tokenizer.new ≡ (cont_start_transition (world tokenizer.old)).world }
-    ensures rule { result ≢ State.Error →
-        QuoteMeans QuoteState.ContStart (world tokenizer.old) result (world tokenizer.new) }
-    ensures full { OnError result (IsFull tokenizer.new) }
+    ensures { IsQuoteState QuoteState.ContStart (world tokenizer.old) result tokenizer.new }
 {
     indent_then(tokenizer, QuoteState::ContBefore)
 }
@@ -414,11 +361,7 @@ pub fn cont_start(tokenizer: &mut Tokenizer) -> State
 #[tactic(auto, using(crate::proofs::QuoteMeaning::quote_rule))]
 pub fn cont_before(tokenizer: &mut Tokenizer) -> State
     requires { IsAt NeedsNothing (StateName.BlockQuote QuoteState.ContBefore) (world tokenizer.old) }
-    ensures to { result ≢ State.Error → result ≡ (cont_before_transition (world tokenizer.old)).to }
-    ensures world { result ≢ State.Error → world tokenizer.new ≡ (cont_before_transition (world tokenizer.old)).world }
-    ensures rule { result ≢ State.Error →
-        QuoteMeans QuoteState.ContBefore (world tokenizer.old) result (world tokenizer.new) }
-    ensures full { OnError result (IsFull tokenizer.new) }
+    ensures { IsQuoteState QuoteState.ContBefore (world tokenizer.old) result tokenizer.new }
 {
     marker_then(tokenizer, QuoteState::ContAfter)
 }
@@ -432,11 +375,7 @@ pub fn cont_before(tokenizer: &mut Tokenizer) -> State
 #[tactic(auto, using(crate::proofs::QuoteMeaning::quote_rule))]
 pub fn cont_after(tokenizer: &mut Tokenizer) -> State
     requires { IsAt NeedsNothing (StateName.BlockQuote QuoteState.ContAfter) (world tokenizer.old) }
-    ensures to { result ≢ State.Error → result ≡ (cont_after_transition (world tokenizer.old)).to }
-    ensures world { result ≢ State.Error → world tokenizer.new ≡ (cont_after_transition (world tokenizer.old)).world }
-    ensures rule { result ≢ State.Error →
-        QuoteMeans QuoteState.ContAfter (world tokenizer.old) result (world tokenizer.new) }
-    ensures full { OnError result (IsFull tokenizer.new) }
+    ensures { IsQuoteState QuoteState.ContAfter (world tokenizer.old) result tokenizer.new }
 {
     if is_space_or_tab(tokenizer.current) {
         or_error!(tokenizer.enter(Name::SpaceOrTab));
@@ -464,7 +403,7 @@ pub fn is_plain_prefix(tokenizer: &Tokenizer) -> bool
 fn take_growing(tokenizer: &mut Tokenizer) -> Result<(), Message>
     requires { IsPlainPrefix (world tokenizer.old) }
     ensures world { OnOk result (world tokenizer.new ≡ prefixed (world tokenizer.old)) }
-    ensures full { is_err result ≡ true → IsFull tokenizer.new }
+    ensures full { is_err result ≡ true → IsFullList Grown.Events tokenizer.new }
 {
     tokenizer.enter(Name::BlockQuotePrefix)?;
     tokenizer.enter(Name::BlockQuoteMarker)?;
@@ -483,7 +422,7 @@ fn take_growing(tokenizer: &mut Tokenizer) -> Result<(), Message>
 pub fn take_plain_prefix(tokenizer: &mut Tokenizer) -> Result<(), Message>
     requires { IsPlainPrefix (world tokenizer.old) }
     ensures world { OnOk result (world tokenizer.new ≡ prefixed (world tokenizer.old)) }
-    ensures full { is_err result ≡ true → IsFull tokenizer.new }
+    ensures full { is_err result ≡ true → IsFullList Grown.Events tokenizer.new }
 {
     if !has_room(tokenizer, 6) {
         return take_growing(tokenizer);
@@ -516,10 +455,7 @@ pub fn take_plain_prefix(tokenizer: &mut Tokenizer) -> Result<(), Message>
 #[tactic(auto, using(crate::proofs::QuoteMeaning::quote_rule))]
 pub fn call(tokenizer: &mut Tokenizer, state: QuoteState) -> State
     requires { IsAt NeedsNothing (StateName.BlockQuote state) (world tokenizer.old) }
-    ensures to { result ≢ State.Error → result ≡ (quote_transition state (world tokenizer.old)).to }
-    ensures world { result ≢ State.Error → world tokenizer.new ≡ (quote_transition state (world tokenizer.old)).world }
-    ensures rule { result ≢ State.Error → QuoteMeans state (world tokenizer.old) result (world tokenizer.new) }
-    ensures full { OnError result (IsFull tokenizer.new) }
+    ensures { IsQuoteState state (world tokenizer.old) result tokenizer.new }
 {
     match state {
         QuoteState::Start => start(tokenizer),

@@ -12,14 +12,12 @@
 // the lines of the text begin after it.
 
 ghost use Rattle.std.specs.Prelude.{◌≡◌, ◌≢◌, ◌<◌, IfSome, OnOk, is_err, length, true};
-ghost use Rattle.md_containers.specs.Frontmatter.{after_transition, cleared, close_after_transition};
-ghost use Rattle.md_containers.specs.Frontmatter.{close_sequence_transition, close_start_transition};
-ghost use Rattle.md_containers.specs.Frontmatter.{content_end_transition, content_inside_transition};
-ghost use Rattle.md_containers.specs.Frontmatter.{content_start_transition, ending_taken, fence_entered};
-ghost use Rattle.md_containers.specs.Frontmatter.{front_transition, is_marker, open_after_transition};
-ghost use Rattle.md_containers.specs.Frontmatter.{open_sequence_transition, sequence_transition, start_transition};
-ghost use Rattle.md_containers.specs.FrontmatterRule.{FrontMeans};
-ghost use Rattle.md_engine.specs.Full.{IsFull, OnError};
+ghost use Rattle.md_containers.specs.Frontmatter.{cleared};
+ghost use Rattle.md_containers.specs.Frontmatter.{ending_taken, fence_entered};
+ghost use Rattle.md_containers.specs.Frontmatter.{front_transition, is_marker};
+ghost use Rattle.md_containers.specs.Frontmatter.{sequence_transition};
+ghost use Rattle.md_containers.specs.FrontmatterRule.{IsFrontState};
+ghost use Rattle.md_engine.specs.Full.{Grown, IsFull, IsFullList, OnError};
 ghost use Rattle.md_engine.specs.World.{looks, world};
 ghost use Rattle.md_engine.specs.declared.state.Name.{Name as StateName};
 ghost use Rattle.md_engine.specs.declared.state.State.{State};
@@ -69,7 +67,7 @@ fn uncounted(scratch: Scratch) -> Scratch
 /// A fence begins.
 fn enter_fence(tokenizer: &mut Tokenizer) -> Result<(), Message>
     ensures world { OnOk result (world tokenizer.new ≡ fence_entered (world tokenizer.old)) }
-    ensures full { is_err result ≡ true → IsFull tokenizer.new }
+    ensures full { is_err result ≡ true → IsFullList Grown.Events tokenizer.new }
 {
     tokenizer.enter(Name::FrontmatterFence)?;
     tokenizer.enter(Name::FrontmatterSequence)
@@ -79,7 +77,7 @@ fn enter_fence(tokenizer: &mut Tokenizer) -> Result<(), Message>
 fn take_ending(tokenizer: &mut Tokenizer) -> Result<(), Message>
     requires { (world tokenizer.old).point.index < length (world tokenizer.old).setting.bytes }
     ensures world { OnOk result (world tokenizer.new ≡ ending_taken (world tokenizer.old)) }
-    ensures full { is_err result ≡ true → IsFull tokenizer.new }
+    ensures full { is_err result ≡ true → IsFullList Grown.Events tokenizer.new }
 {
     tokenizer.enter(Name::LineEnding)?;
     tokenizer.consume();
@@ -97,11 +95,7 @@ fn take_ending(tokenizer: &mut Tokenizer) -> Result<(), Message>
 #[tactic(auto, using(crate::proofs::FrontmatterMeaning::front_rule))]
 pub fn start(tokenizer: &mut Tokenizer) -> State
     requires { IsAt NeedsNothing (StateName.Frontmatter FrontState.Start) (world tokenizer.old) }
-    ensures to { result ≢ State.Error → result ≡ (start_transition (world tokenizer.old)).to }
-    ensures world { result ≢ State.Error → world tokenizer.new ≡ (start_transition (world tokenizer.old)).world }
-    ensures rule { result ≢ State.Error →
-        FrontMeans FrontState.Start (world tokenizer.old) result (world tokenizer.new) }
-    ensures full { OnError result (IsFull tokenizer.new) }
+    ensures { IsFrontState FrontState.Start (world tokenizer.old) result tokenizer.new }
 {
     if !tokenizer.options.constructs.frontmatter {
         return State::Nok;
@@ -170,12 +164,7 @@ fn sequence(
 #[tactic(auto, using(crate::proofs::FrontmatterMeaning::front_rule))]
 pub fn open_sequence(tokenizer: &mut Tokenizer) -> State
     requires { IsAt NeedsNothing (StateName.Frontmatter FrontState.OpenSequence) (world tokenizer.old) }
-    ensures to { result ≢ State.Error → result ≡ (open_sequence_transition (world tokenizer.old)).to }
-    ensures world { result ≢ State.Error →
-        world tokenizer.new ≡ (open_sequence_transition (world tokenizer.old)).world }
-    ensures rule { result ≢ State.Error →
-        FrontMeans FrontState.OpenSequence (world tokenizer.old) result (world tokenizer.new) }
-    ensures full { OnError result (IsFull tokenizer.new) }
+    ensures { IsFrontState FrontState.OpenSequence (world tokenizer.old) result tokenizer.new }
 {
     let refused = cleared(tokenizer.scratch);
     sequence(
@@ -197,12 +186,7 @@ pub fn open_sequence(tokenizer: &mut Tokenizer) -> State
 #[tactic(auto, using(crate::proofs::FrontmatterMeaning::front_rule))]
 pub fn open_after(tokenizer: &mut Tokenizer) -> State
     requires { IsAt NeedsNothing (StateName.Frontmatter FrontState.OpenAfter) (world tokenizer.old) }
-    ensures to { result ≢ State.Error → result ≡ (open_after_transition (world tokenizer.old)).to }
-    ensures world { result ≢ State.Error →
-        world tokenizer.new ≡ (open_after_transition (world tokenizer.old)).world }
-    ensures rule { result ≢ State.Error →
-        FrontMeans FrontState.OpenAfter (world tokenizer.old) result (world tokenizer.new) }
-    ensures full { OnError result (IsFull tokenizer.new) }
+    ensures { IsFrontState FrontState.OpenAfter (world tokenizer.old) result tokenizer.new }
 {
     if tokenizer.current != Some(b'\n') {
         tokenizer.scratch = cleared(tokenizer.scratch);
@@ -225,12 +209,7 @@ pub fn open_after(tokenizer: &mut Tokenizer) -> State
 #[tactic(auto, using(crate::proofs::FrontmatterMeaning::front_rule))]
 pub fn close_start(tokenizer: &mut Tokenizer) -> State
     requires { IsAt NeedsNothing (StateName.Frontmatter FrontState.CloseStart) (world tokenizer.old) }
-    ensures to { result ≢ State.Error → result ≡ (close_start_transition (world tokenizer.old)).to }
-    ensures world { result ≢ State.Error →
-        world tokenizer.new ≡ (close_start_transition (world tokenizer.old)).world }
-    ensures rule { result ≢ State.Error →
-        FrontMeans FrontState.CloseStart (world tokenizer.old) result (world tokenizer.new) }
-    ensures full { OnError result (IsFull tokenizer.new) }
+    ensures { IsFrontState FrontState.CloseStart (world tokenizer.old) result tokenizer.new }
 {
     if tokenizer.current != Some(tokenizer.scratch.marker) {
         return State::Retry(StateName::Frontmatter(FrontState::ContentStart));
@@ -254,12 +233,7 @@ pub fn close_start(tokenizer: &mut Tokenizer) -> State
 #[tactic(auto, using(crate::proofs::FrontmatterMeaning::front_rule))]
 pub fn close_sequence(tokenizer: &mut Tokenizer) -> State
     requires { IsAt NeedsNothing (StateName.Frontmatter FrontState.CloseSequence) (world tokenizer.old) }
-    ensures to { result ≢ State.Error → result ≡ (close_sequence_transition (world tokenizer.old)).to }
-    ensures world { result ≢ State.Error →
-        world tokenizer.new ≡ (close_sequence_transition (world tokenizer.old)).world }
-    ensures rule { result ≢ State.Error →
-        FrontMeans FrontState.CloseSequence (world tokenizer.old) result (world tokenizer.new) }
-    ensures full { OnError result (IsFull tokenizer.new) }
+    ensures { IsFrontState FrontState.CloseSequence (world tokenizer.old) result tokenizer.new }
 {
     let refused = uncounted(tokenizer.scratch);
     sequence(
@@ -281,12 +255,7 @@ pub fn close_sequence(tokenizer: &mut Tokenizer) -> State
 #[tactic(auto, using(crate::proofs::FrontmatterMeaning::front_rule))]
 pub fn close_after(tokenizer: &mut Tokenizer) -> State
     requires { IsAt NeedsNothing (StateName.Frontmatter FrontState.CloseAfter) (world tokenizer.old) }
-    ensures to { result ≢ State.Error → result ≡ (close_after_transition (world tokenizer.old)).to }
-    ensures world { result ≢ State.Error →
-        world tokenizer.new ≡ (close_after_transition (world tokenizer.old)).world }
-    ensures rule { result ≢ State.Error →
-        FrontMeans FrontState.CloseAfter (world tokenizer.old) result (world tokenizer.new) }
-    ensures full { OnError result (IsFull tokenizer.new) }
+    ensures { IsFrontState FrontState.CloseAfter (world tokenizer.old) result tokenizer.new }
 {
     if !ends_line(tokenizer.current) {
         return State::Nok;
@@ -306,12 +275,7 @@ pub fn close_after(tokenizer: &mut Tokenizer) -> State
 #[tactic(auto, using(crate::proofs::FrontmatterMeaning::front_rule))]
 pub fn content_start(tokenizer: &mut Tokenizer) -> State
     requires { IsAt NeedsNothing (StateName.Frontmatter FrontState.ContentStart) (world tokenizer.old) }
-    ensures to { result ≢ State.Error → result ≡ (content_start_transition (world tokenizer.old)).to }
-    ensures world { result ≢ State.Error →
-        world tokenizer.new ≡ (content_start_transition (world tokenizer.old)).world }
-    ensures rule { result ≢ State.Error →
-        FrontMeans FrontState.ContentStart (world tokenizer.old) result (world tokenizer.new) }
-    ensures full { OnError result (IsFull tokenizer.new) }
+    ensures { IsFrontState FrontState.ContentStart (world tokenizer.old) result tokenizer.new }
 {
     if ends_line(tokenizer.current) {
         return State::Retry(StateName::Frontmatter(FrontState::ContentEnd));
@@ -331,12 +295,7 @@ pub fn content_start(tokenizer: &mut Tokenizer) -> State
 #[tactic(auto, using(crate::proofs::FrontmatterMeaning::front_rule))]
 pub fn content_inside(tokenizer: &mut Tokenizer) -> State
     requires { IsAt NeedsNothing (StateName.Frontmatter FrontState.ContentInside) (world tokenizer.old) }
-    ensures to { result ≢ State.Error → result ≡ (content_inside_transition (world tokenizer.old)).to }
-    ensures world { result ≢ State.Error →
-        world tokenizer.new ≡ (content_inside_transition (world tokenizer.old)).world }
-    ensures rule { result ≢ State.Error →
-        FrontMeans FrontState.ContentInside (world tokenizer.old) result (world tokenizer.new) }
-    ensures full { OnError result (IsFull tokenizer.new) }
+    ensures { IsFrontState FrontState.ContentInside (world tokenizer.old) result tokenizer.new }
 {
     if ends_line(tokenizer.current) {
         or_error!(tokenizer.exit(Name::FrontmatterChunk));
@@ -357,12 +316,7 @@ pub fn content_inside(tokenizer: &mut Tokenizer) -> State
 #[tactic(auto, using(crate::proofs::FrontmatterMeaning::front_rule))]
 pub fn content_end(tokenizer: &mut Tokenizer) -> State
     requires { IsAt NeedsNothing (StateName.Frontmatter FrontState.ContentEnd) (world tokenizer.old) }
-    ensures to { result ≢ State.Error → result ≡ (content_end_transition (world tokenizer.old)).to }
-    ensures world { result ≢ State.Error →
-        world tokenizer.new ≡ (content_end_transition (world tokenizer.old)).world }
-    ensures rule { result ≢ State.Error →
-        FrontMeans FrontState.ContentEnd (world tokenizer.old) result (world tokenizer.new) }
-    ensures full { OnError result (IsFull tokenizer.new) }
+    ensures { IsFrontState FrontState.ContentEnd (world tokenizer.old) result tokenizer.new }
 {
     if tokenizer.current != Some(b'\n') {
         tokenizer.scratch = cleared(tokenizer.scratch);
@@ -383,11 +337,7 @@ pub fn content_end(tokenizer: &mut Tokenizer) -> State
 #[tactic(auto, using(crate::proofs::FrontmatterMeaning::front_rule))]
 pub fn after(tokenizer: &mut Tokenizer) -> State
     requires { IsAt NeedsNothing (StateName.Frontmatter FrontState.After) (world tokenizer.old) }
-    ensures to { result ≢ State.Error → result ≡ (after_transition (world tokenizer.old)).to }
-    ensures world { result ≢ State.Error → world tokenizer.new ≡ (after_transition (world tokenizer.old)).world }
-    ensures rule { result ≢ State.Error →
-        FrontMeans FrontState.After (world tokenizer.old) result (world tokenizer.new) }
-    ensures full { OnError result (IsFull tokenizer.new) }
+    ensures { IsFrontState FrontState.After (world tokenizer.old) result tokenizer.new }
 {
     tokenizer.scratch = cleared(tokenizer.scratch);
     or_error!(tokenizer.exit(Name::Frontmatter));
@@ -411,10 +361,7 @@ pub fn takes_at_once(state: FrontState) -> Option<Stay>
 #[tactic(auto, using(crate::proofs::FrontmatterMeaning::front_rule))]
 pub fn call(tokenizer: &mut Tokenizer, state: FrontState) -> State
     requires { IsAt NeedsNothing (StateName.Frontmatter state) (world tokenizer.old) }
-    ensures to { result ≢ State.Error → result ≡ (front_transition state (world tokenizer.old)).to }
-    ensures world { result ≢ State.Error → world tokenizer.new ≡ (front_transition state (world tokenizer.old)).world }
-    ensures rule { result ≢ State.Error → FrontMeans state (world tokenizer.old) result (world tokenizer.new) }
-    ensures full { OnError result (IsFull tokenizer.new) }
+    ensures { IsFrontState state (world tokenizer.old) result tokenizer.new }
 {
     match state {
         FrontState::Start => start(tokenizer),

@@ -14,18 +14,14 @@
 // as many. That is what an item of this width asks for that did not start blank; so the states of an item read it.
 
 ghost use Rattle.std.specs.Prelude.{◌≡◌, ◌≢◌, ◌<◌, ◌==◌, length};
-ghost use Rattle.md_containers.specs.FootnoteRule.{FootnoteMeans};
+ghost use Rattle.md_containers.specs.FootnoteRule.{IsFootnoteState, IsSureFootnoteState};
 ghost use Rattle.md_engine.specs.Full.{IsFull, OnError};
 ghost use Rattle.md_engine.specs.World.{world};
 ghost use Rattle.md_engine.specs.declared.state.Name.{Name as StateName};
 ghost use Rattle.md_engine.specs.declared.state.State.{State};
 ghost use Rattle.md_engine.specs.declared.state.gfm_footnote_definition.State.{State as FootnoteState};
-ghost use Rattle.md_containers.specs.Footnote.{breaks_label, closed_code, footnote_transition, label_after_transition};
-ghost use Rattle.md_containers.specs.Footnote.{label_at_marker_transition, label_before_transition};
-ghost use Rattle.md_containers.specs.Footnote.{label_escape_transition, label_inside_transition};
-ghost use Rattle.md_containers.specs.Footnote.{marker_after_transition};
-ghost use Rattle.md_containers.specs.Footnote.{may_begin, refused, start_transition, taken_as};
-ghost use Rattle.md_containers.specs.Footnote.{whitespace_after_transition};
+ghost use Rattle.md_containers.specs.Footnote.{breaks_label, closed_code};
+ghost use Rattle.md_containers.specs.Footnote.{may_begin, refused, taken_as};
 ghost use Rattle.md_meaning.specs.Containers.{is_label_mark};
 ghost use Rattle.md_events.specs.Look.{may_with};
 ghost use Rattle.md_events.specs.Transition.{IsAt, NeedsNothing};
@@ -74,11 +70,7 @@ pub fn may_begin(first: Option<u8>) -> bool
 #[tactic(auto, using(crate::proofs::FootnoteMeaning::footnote_rule))]
 pub fn start(tokenizer: &mut Tokenizer) -> State
     requires { IsAt NeedsNothing (StateName.GfmFootnoteDefinition FootnoteState.Start) (world tokenizer.old) }
-    ensures to { result ≢ State.Error → result ≡ (start_transition (world tokenizer.old)).to }
-    ensures world { result ≢ State.Error → world tokenizer.new ≡ (start_transition (world tokenizer.old)).world }
-    ensures rule { result ≢ State.Error →
-        FootnoteMeans FootnoteState.Start (world tokenizer.old) result (world tokenizer.new) }
-    ensures full { OnError result (IsFull tokenizer.new) }
+    ensures { IsFootnoteState FootnoteState.Start (world tokenizer.old) result tokenizer.new }
 {
     if !tokenizer.options.constructs.gfm_footnote_definition {
         return State::Nok;
@@ -107,12 +99,7 @@ pub fn start(tokenizer: &mut Tokenizer) -> State
 #[tactic(auto, using(crate::proofs::FootnoteMeaning::footnote_rule))]
 pub fn label_before(tokenizer: &mut Tokenizer) -> State
     requires { IsAt NeedsNothing (StateName.GfmFootnoteDefinition FootnoteState.LabelBefore) (world tokenizer.old) }
-    ensures to { result ≢ State.Error → result ≡ (label_before_transition (world tokenizer.old)).to }
-    ensures world { result ≢ State.Error →
-        world tokenizer.new ≡ (label_before_transition (world tokenizer.old)).world }
-    ensures rule { result ≢ State.Error →
-        FootnoteMeans FootnoteState.LabelBefore (world tokenizer.old) result (world tokenizer.new) }
-    ensures full { OnError result (IsFull tokenizer.new) }
+    ensures { IsFootnoteState FootnoteState.LabelBefore (world tokenizer.old) result tokenizer.new }
 {
     if tokenizer.current != Some(b'[') {
         return State::Nok;
@@ -134,12 +121,7 @@ pub fn label_before(tokenizer: &mut Tokenizer) -> State
 #[tactic(auto, using(crate::proofs::FootnoteMeaning::footnote_rule))]
 pub fn label_at_marker(tokenizer: &mut Tokenizer) -> State
     requires { IsAt NeedsNothing (StateName.GfmFootnoteDefinition FootnoteState.LabelAtMarker) (world tokenizer.old) }
-    ensures to { result ≢ State.Error → result ≡ (label_at_marker_transition (world tokenizer.old)).to }
-    ensures world { result ≢ State.Error →
-        world tokenizer.new ≡ (label_at_marker_transition (world tokenizer.old)).world }
-    ensures rule { result ≢ State.Error →
-        FootnoteMeans FootnoteState.LabelAtMarker (world tokenizer.old) result (world tokenizer.new) }
-    ensures full { OnError result (IsFull tokenizer.new) }
+    ensures { IsFootnoteState FootnoteState.LabelAtMarker (world tokenizer.old) result tokenizer.new }
 {
     if tokenizer.current != Some(b'^') {
         return State::Nok;
@@ -211,12 +193,7 @@ fn close(tokenizer: &mut Tokenizer) -> State
 #[tactic(auto, using(crate::proofs::FootnoteMeaning::footnote_rule))]
 pub fn label_inside(tokenizer: &mut Tokenizer) -> State
     requires { IsAt NeedsNothing (StateName.GfmFootnoteDefinition FootnoteState.LabelInside) (world tokenizer.old) }
-    ensures to { result ≢ State.Error → result ≡ (label_inside_transition (world tokenizer.old)).to }
-    ensures world { result ≢ State.Error →
-        world tokenizer.new ≡ (label_inside_transition (world tokenizer.old)).world }
-    ensures rule { result ≢ State.Error →
-        FootnoteMeans FootnoteState.LabelInside (world tokenizer.old) result (world tokenizer.new) }
-    ensures full { OnError result (IsFull tokenizer.new) }
+    ensures { IsFootnoteState FootnoteState.LabelInside (world tokenizer.old) result tokenizer.new }
 {
     let Some(byte) = tokenizer.current else {
         return refuse(tokenizer);
@@ -242,9 +219,7 @@ pub fn label_inside(tokenizer: &mut Tokenizer) -> State
 #[tactic(auto, using(crate::proofs::FootnoteMeaning::footnote_rule))]
 pub fn label_escape(tokenizer: &mut Tokenizer) -> State
     requires { IsAt NeedsNothing (StateName.GfmFootnoteDefinition FootnoteState.LabelEscape) (world tokenizer.old) }
-    ensures to { result ≡ (label_escape_transition (world tokenizer.old)).to }
-    ensures world { world tokenizer.new ≡ (label_escape_transition (world tokenizer.old)).world }
-    ensures rule { FootnoteMeans FootnoteState.LabelEscape (world tokenizer.old) result (world tokenizer.new) }
+    ensures { IsSureFootnoteState FootnoteState.LabelEscape (world tokenizer.old) result tokenizer.new }
 {
     match tokenizer.current {
         Some(byte) if is_label_mark(byte) => take(tokenizer, FootnoteState::LabelInside),
@@ -261,12 +236,7 @@ pub fn label_escape(tokenizer: &mut Tokenizer) -> State
 #[tactic(auto, using(crate::proofs::FootnoteMeaning::footnote_rule))]
 pub fn label_after(tokenizer: &mut Tokenizer) -> State
     requires { IsAt NeedsNothing (StateName.GfmFootnoteDefinition FootnoteState.LabelAfter) (world tokenizer.old) }
-    ensures to { result ≢ State.Error → result ≡ (label_after_transition (world tokenizer.old)).to }
-    ensures world { result ≢ State.Error →
-        world tokenizer.new ≡ (label_after_transition (world tokenizer.old)).world }
-    ensures rule { result ≢ State.Error →
-        FootnoteMeans FootnoteState.LabelAfter (world tokenizer.old) result (world tokenizer.new) }
-    ensures full { OnError result (IsFull tokenizer.new) }
+    ensures { IsFootnoteState FootnoteState.LabelAfter (world tokenizer.old) result tokenizer.new }
 {
     if tokenizer.current != Some(b':') {
         return State::Nok;
@@ -286,12 +256,7 @@ pub fn label_after(tokenizer: &mut Tokenizer) -> State
 #[tactic(auto, using(crate::proofs::FootnoteMeaning::footnote_rule))]
 pub fn marker_after(tokenizer: &mut Tokenizer) -> State
     requires { IsAt NeedsNothing (StateName.GfmFootnoteDefinition FootnoteState.MarkerAfter) (world tokenizer.old) }
-    ensures to { result ≢ State.Error → result ≡ (marker_after_transition (world tokenizer.old)).to }
-    ensures world { result ≢ State.Error →
-        world tokenizer.new ≡ (marker_after_transition (world tokenizer.old)).world }
-    ensures rule { result ≢ State.Error →
-        FootnoteMeans FootnoteState.MarkerAfter (world tokenizer.old) result (world tokenizer.new) }
-    ensures full { OnError result (IsFull tokenizer.new) }
+    ensures { IsFootnoteState FootnoteState.MarkerAfter (world tokenizer.old) result tokenizer.new }
 {
     if is_space_or_tab(tokenizer.current) {
         space_or_tab(
@@ -314,12 +279,7 @@ pub fn marker_after(tokenizer: &mut Tokenizer) -> State
 pub fn whitespace_after(tokenizer: &mut Tokenizer) -> State
     requires { IsAt NeedsNothing (StateName.GfmFootnoteDefinition FootnoteState.WhitespaceAfter)
         (world tokenizer.old) }
-    ensures to { result ≢ State.Error → result ≡ (whitespace_after_transition (world tokenizer.old)).to }
-    ensures world { result ≢ State.Error →
-        world tokenizer.new ≡ (whitespace_after_transition (world tokenizer.old)).world }
-    ensures rule { result ≢ State.Error →
-        FootnoteMeans FootnoteState.WhitespaceAfter (world tokenizer.old) result (world tokenizer.new) }
-    ensures full { OnError result (IsFull tokenizer.new) }
+    ensures { IsFootnoteState FootnoteState.WhitespaceAfter (world tokenizer.old) result tokenizer.new }
 {
     tokenizer.flags.asked.width = WIDTH;
     tokenizer.flags.asked.starts_blank = false;
@@ -331,11 +291,7 @@ pub fn whitespace_after(tokenizer: &mut Tokenizer) -> State
 #[tactic(auto, using(crate::proofs::FootnoteMeaning::footnote_rule))]
 pub fn call(tokenizer: &mut Tokenizer, state: FootnoteState) -> State
     requires { IsAt NeedsNothing (StateName.GfmFootnoteDefinition state) (world tokenizer.old) }
-    ensures to { result ≢ State.Error → result ≡ (footnote_transition state (world tokenizer.old)).to }
-    ensures world { result ≢ State.Error →
-        world tokenizer.new ≡ (footnote_transition state (world tokenizer.old)).world }
-    ensures rule { result ≢ State.Error → FootnoteMeans state (world tokenizer.old) result (world tokenizer.new) }
-    ensures full { OnError result (IsFull tokenizer.new) }
+    ensures { IsFootnoteState state (world tokenizer.old) result tokenizer.new }
 {
     match state {
         FootnoteState::Start => start(tokenizer),

@@ -13,20 +13,18 @@
 // a footnote definition too.
 
 ghost use Rattle.std.specs.Prelude.{◌≡◌, ◌≢◌, IfSome};
-ghost use Rattle.md_containers.specs.ItemRule.{ItemMeans};
+ghost use Rattle.md_containers.specs.ItemRule.{IsItemState, IsSureItemState};
 ghost use Rattle.md_engine.specs.Full.{IsFull, OnError};
 ghost use Rattle.md_engine.specs.World.{world};
 ghost use Rattle.md_engine.specs.declared.state.Name.{Name as StateName};
 ghost use Rattle.md_engine.specs.declared.state.State.{State};
 ghost use Rattle.md_engine.specs.declared.state.list_item.State.{State as ItemState};
-ghost use Rattle.md_containers.specs.Item.{after_transition, at_least_one, before_ordered_transition};
-ghost use Rattle.md_containers.specs.Item.{before_transition, before_unordered_transition, blank_code};
-ghost use Rattle.md_containers.specs.Item.{cont_blank_transition, cont_filled_transition, cont_start_transition};
-ghost use Rattle.md_containers.specs.Item.{ends_value, filled_transition, indent_code, inside_transition};
-ghost use Rattle.md_containers.specs.Item.{item_transition, least_width, marker_after_transition, marker_transition};
-ghost use Rattle.md_containers.specs.Item.{may_begin, may_break, prefix_other_transition, sees, start_transition};
-ghost use Rattle.md_containers.specs.Item.{value_transition, whitespace_after_transition};
-ghost use Rattle.md_containers.specs.Item.{whitespace_transition, width_here};
+ghost use Rattle.md_containers.specs.Item.{at_least_one};
+ghost use Rattle.md_containers.specs.Item.{blank_code};
+ghost use Rattle.md_containers.specs.Item.{ends_value, indent_code, inside_transition};
+ghost use Rattle.md_containers.specs.Item.{item_transition, least_width};
+ghost use Rattle.md_containers.specs.Item.{may_begin, may_break, sees};
+ghost use Rattle.md_containers.specs.Item.{width_here};
 ghost use Rattle.md_meaning.specs.Containers.{is_bullet, is_digit};
 ghost use Rattle.md_events.specs.Look.{looks_behind, may_with};
 ghost use Rattle.md_events.specs.Spaces.{sees_white};
@@ -121,10 +119,7 @@ pub fn may_begin(first: Option<u8>) -> bool
 #[tactic(auto, using(crate::proofs::ItemMeaning::item_rule))]
 pub fn start(tokenizer: &mut Tokenizer) -> State
     requires { IsAt NeedsNothing (StateName.ListItem ItemState.Start) (world tokenizer.old) }
-    ensures to { result ≢ State.Error → result ≡ (start_transition (world tokenizer.old)).to }
-    ensures world { result ≢ State.Error → world tokenizer.new ≡ (start_transition (world tokenizer.old)).world }
-    ensures rule { result ≢ State.Error → ItemMeans ItemState.Start (world tokenizer.old) result (world tokenizer.new) }
-    ensures full { OnError result (IsFull tokenizer.new) }
+    ensures { IsItemState ItemState.Start (world tokenizer.old) result tokenizer.new }
 {
     if !tokenizer.options.constructs.list_item {
         return State::Nok;
@@ -153,11 +148,7 @@ pub fn start(tokenizer: &mut Tokenizer) -> State
 #[tactic(auto, using(crate::proofs::ItemMeaning::item_rule))]
 pub fn before(tokenizer: &mut Tokenizer) -> State
     requires { IsAt NeedsNothing (StateName.ListItem ItemState.Before) (world tokenizer.old) }
-    ensures to { result ≢ State.Error → result ≡ (before_transition (world tokenizer.old)).to }
-    ensures world { result ≢ State.Error → world tokenizer.new ≡ (before_transition (world tokenizer.old)).world }
-    ensures rule { result ≢ State.Error →
-        ItemMeans ItemState.Before (world tokenizer.old) result (world tokenizer.new) }
-    ensures full { OnError result (IsFull tokenizer.new) }
+    ensures { IsItemState ItemState.Before (world tokenizer.old) result tokenizer.new }
 {
     let Some(byte) = tokenizer.current else {
         return State::Nok;
@@ -187,12 +178,7 @@ pub fn before(tokenizer: &mut Tokenizer) -> State
 #[tactic(auto, using(crate::proofs::ItemMeaning::item_rule))]
 pub fn before_unordered(tokenizer: &mut Tokenizer) -> State
     requires { IsAt NeedsNothing (StateName.ListItem ItemState.BeforeUnordered) (world tokenizer.old) }
-    ensures to { result ≢ State.Error → result ≡ (before_unordered_transition (world tokenizer.old)).to }
-    ensures world { result ≢ State.Error →
-        world tokenizer.new ≡ (before_unordered_transition (world tokenizer.old)).world }
-    ensures rule { result ≢ State.Error →
-        ItemMeans ItemState.BeforeUnordered (world tokenizer.old) result (world tokenizer.new) }
-    ensures full { OnError result (IsFull tokenizer.new) }
+    ensures { IsItemState ItemState.BeforeUnordered (world tokenizer.old) result tokenizer.new }
 {
     or_error!(tokenizer.enter(Name::ListItemPrefix));
     State::Retry(StateName::ListItem(ItemState::Marker))
@@ -207,12 +193,7 @@ pub fn before_unordered(tokenizer: &mut Tokenizer) -> State
 #[tactic(auto, using(crate::proofs::ItemMeaning::item_rule))]
 pub fn before_ordered(tokenizer: &mut Tokenizer) -> State
     requires { IsAt NeedsNothing (StateName.ListItem ItemState.BeforeOrdered) (world tokenizer.old) }
-    ensures to { result ≢ State.Error → result ≡ (before_ordered_transition (world tokenizer.old)).to }
-    ensures world { result ≢ State.Error →
-        world tokenizer.new ≡ (before_ordered_transition (world tokenizer.old)).world }
-    ensures rule { result ≢ State.Error →
-        ItemMeans ItemState.BeforeOrdered (world tokenizer.old) result (world tokenizer.new) }
-    ensures full { OnError result (IsFull tokenizer.new) }
+    ensures { IsItemState ItemState.BeforeOrdered (world tokenizer.old) result tokenizer.new }
 {
     match tokenizer.current {
         Some(byte) if is_digit(byte) => {
@@ -233,10 +214,7 @@ pub fn before_ordered(tokenizer: &mut Tokenizer) -> State
 #[tactic(auto, using(crate::proofs::ItemMeaning::item_rule))]
 pub fn value(tokenizer: &mut Tokenizer) -> State
     requires { IsAt NeedsNothing (StateName.ListItem ItemState.Value) (world tokenizer.old) }
-    ensures to { result ≢ State.Error → result ≡ (value_transition (world tokenizer.old)).to }
-    ensures world { result ≢ State.Error → world tokenizer.new ≡ (value_transition (world tokenizer.old)).world }
-    ensures rule { result ≢ State.Error → ItemMeans ItemState.Value (world tokenizer.old) result (world tokenizer.new) }
-    ensures full { OnError result (IsFull tokenizer.new) }
+    ensures { IsItemState ItemState.Value (world tokenizer.old) result tokenizer.new }
 {
     let size = tokenizer.scratch.size;
     if sees_digit(tokenizer.current) && size < DIGITS {
@@ -264,11 +242,7 @@ pub fn value(tokenizer: &mut Tokenizer) -> State
 #[tactic(auto, using(crate::proofs::ItemMeaning::item_rule))]
 pub fn marker(tokenizer: &mut Tokenizer) -> State
     requires { IsAt NeedsNothing (StateName.ListItem ItemState.Marker) (world tokenizer.old) }
-    ensures to { result ≢ State.Error → result ≡ (marker_transition (world tokenizer.old)).to }
-    ensures world { result ≢ State.Error → world tokenizer.new ≡ (marker_transition (world tokenizer.old)).world }
-    ensures rule { result ≢ State.Error →
-        ItemMeans ItemState.Marker (world tokenizer.old) result (world tokenizer.new) }
-    ensures full { OnError result (IsFull tokenizer.new) }
+    ensures { IsItemState ItemState.Marker (world tokenizer.old) result tokenizer.new }
 {
     match tokenizer.current {
         Some(byte) if is_bullet(byte) || ends_value(byte) => {
@@ -314,11 +288,7 @@ fn by_blank(tokenizer: &mut Tokenizer, blank: ItemState, filled: ItemState) -> S
 #[tactic(auto, using(crate::proofs::ItemMeaning::item_rule))]
 pub fn marker_after(tokenizer: &mut Tokenizer) -> State
     requires { IsAt NeedsNothing (StateName.ListItem ItemState.MarkerAfter) (world tokenizer.old) }
-    ensures to { result ≢ State.Error → result ≡ (marker_after_transition (world tokenizer.old)).to }
-    ensures world { result ≢ State.Error → world tokenizer.new ≡ (marker_after_transition (world tokenizer.old)).world }
-    ensures rule { result ≢ State.Error →
-        ItemMeans ItemState.MarkerAfter (world tokenizer.old) result (world tokenizer.new) }
-    ensures full { OnError result (IsFull tokenizer.new) }
+    ensures { IsItemState ItemState.MarkerAfter (world tokenizer.old) result tokenizer.new }
 {
     by_blank(tokenizer, ItemState::After, ItemState::MarkerAfterFilled)
 }
@@ -332,11 +302,7 @@ pub fn marker_after(tokenizer: &mut Tokenizer) -> State
 #[tactic(auto, using(crate::proofs::ItemMeaning::item_rule))]
 pub fn marker_after_filled(tokenizer: &mut Tokenizer) -> State
     requires { IsAt NeedsNothing (StateName.ListItem ItemState.MarkerAfterFilled) (world tokenizer.old) }
-    ensures to { result ≢ State.Error → result ≡ (filled_transition (world tokenizer.old)).to }
-    ensures world { result ≢ State.Error → world tokenizer.new ≡ (filled_transition (world tokenizer.old)).world }
-    ensures rule { result ≢ State.Error →
-        ItemMeans ItemState.MarkerAfterFilled (world tokenizer.old) result (world tokenizer.new) }
-    ensures full { OnError result (IsFull tokenizer.new) }
+    ensures { IsItemState ItemState.MarkerAfterFilled (world tokenizer.old) result tokenizer.new }
 {
     or_error!(tokenizer.attempt(
         State::Next(StateName::ListItem(ItemState::After)),
@@ -355,11 +321,7 @@ pub fn marker_after_filled(tokenizer: &mut Tokenizer) -> State
 #[tactic(auto, using(crate::proofs::ItemMeaning::item_rule))]
 pub fn whitespace(tokenizer: &mut Tokenizer) -> State
     requires { IsAt NeedsNothing (StateName.ListItem ItemState.Whitespace) (world tokenizer.old) }
-    ensures to { result ≢ State.Error → result ≡ (whitespace_transition (world tokenizer.old)).to }
-    ensures world { result ≢ State.Error → world tokenizer.new ≡ (whitespace_transition (world tokenizer.old)).world }
-    ensures rule { result ≢ State.Error →
-        ItemMeans ItemState.Whitespace (world tokenizer.old) result (world tokenizer.new) }
-    ensures full { OnError result (IsFull tokenizer.new) }
+    ensures { IsItemState ItemState.Whitespace (world tokenizer.old) result tokenizer.new }
 {
     space_or_tab_min_max(
         tokenizer,
@@ -379,9 +341,7 @@ pub fn whitespace(tokenizer: &mut Tokenizer) -> State
 #[tactic(auto, using(crate::proofs::ItemMeaning::item_rule))]
 pub fn whitespace_after(tokenizer: &mut Tokenizer) -> State
     requires { IsAt NeedsNothing (StateName.ListItem ItemState.WhitespaceAfter) (world tokenizer.old) }
-    ensures to { result ≡ (whitespace_after_transition (world tokenizer.old)).to }
-    ensures world { world tokenizer.new ≡ (whitespace_after_transition (world tokenizer.old)).world }
-    ensures rule { ItemMeans ItemState.WhitespaceAfter (world tokenizer.old) result (world tokenizer.new) }
+    ensures { IsSureItemState ItemState.WhitespaceAfter (world tokenizer.old) result tokenizer.new }
 {
     if is_space_or_tab(tokenizer.current) {
         State::Nok
@@ -399,11 +359,7 @@ pub fn whitespace_after(tokenizer: &mut Tokenizer) -> State
 #[tactic(auto, using(crate::proofs::ItemMeaning::item_rule))]
 pub fn prefix_other(tokenizer: &mut Tokenizer) -> State
     requires { IsAt NeedsNothing (StateName.ListItem ItemState.PrefixOther) (world tokenizer.old) }
-    ensures to { result ≢ State.Error → result ≡ (prefix_other_transition (world tokenizer.old)).to }
-    ensures world { result ≢ State.Error → world tokenizer.new ≡ (prefix_other_transition (world tokenizer.old)).world }
-    ensures rule { result ≢ State.Error →
-        ItemMeans ItemState.PrefixOther (world tokenizer.old) result (world tokenizer.new) }
-    ensures full { OnError result (IsFull tokenizer.new) }
+    ensures { IsItemState ItemState.PrefixOther (world tokenizer.old) result tokenizer.new }
 {
     if is_space_or_tab(tokenizer.current) {
         or_error!(tokenizer.enter(Name::SpaceOrTab));
@@ -444,14 +400,7 @@ pub(crate) fn width_here(tokenizer: &Tokenizer, blank: bool) -> usize
 #[tactic(auto, using(crate::proofs::ItemMeaning::item_rule))]
 pub fn after(tokenizer: &mut Tokenizer) -> State
     requires { IsAt NeedsNothing (StateName.ListItem ItemState.After) (world tokenizer.old) }
-    ensures to { result ≢ State.Error →
-        result ≡
-        (after_transition (world tokenizer.old)).to }
-    ensures world { result ≢ State.Error →
-        world tokenizer.new ≡
-        (after_transition (world tokenizer.old)).world }
-    ensures rule { result ≢ State.Error → ItemMeans ItemState.After (world tokenizer.old) result (world tokenizer.new) }
-    ensures full { OnError result (IsFull tokenizer.new) }
+    ensures { IsItemState ItemState.After (world tokenizer.old) result tokenizer.new }
 {
     let blank = !tokenizer.scratch.seen;
     tokenizer.scratch.seen = false;
@@ -474,11 +423,7 @@ pub fn after(tokenizer: &mut Tokenizer) -> State
 #[tactic(auto, using(crate::proofs::ItemMeaning::item_rule))]
 pub fn cont_start(tokenizer: &mut Tokenizer) -> State
     requires { IsAt NeedsNothing (StateName.ListItem ItemState.ContStart) (world tokenizer.old) }
-    ensures to { result ≢ State.Error → result ≡ (cont_start_transition (world tokenizer.old)).to }
-    ensures world { result ≢ State.Error → world tokenizer.new ≡ (cont_start_transition (world tokenizer.old)).world }
-    ensures rule { result ≢ State.Error →
-        ItemMeans ItemState.ContStart (world tokenizer.old) result (world tokenizer.new) }
-    ensures full { OnError result (IsFull tokenizer.new) }
+    ensures { IsItemState ItemState.ContStart (world tokenizer.old) result tokenizer.new }
 {
     if !ends_line(tokenizer.current) {
         return by_blank(tokenizer, ItemState::ContBlank, ItemState::ContFilled);
@@ -553,11 +498,7 @@ fn go_on_indent(tokenizer: &mut Tokenizer, state: ItemState) -> State
 #[tactic(auto, using(crate::proofs::ItemMeaning::item_rule))]
 pub fn cont_blank(tokenizer: &mut Tokenizer) -> State
     requires { IsAt NeedsNothing (StateName.ListItem ItemState.ContBlank) (world tokenizer.old) }
-    ensures to { result ≢ State.Error → result ≡ (cont_blank_transition (world tokenizer.old)).to }
-    ensures world { result ≢ State.Error → world tokenizer.new ≡ (cont_blank_transition (world tokenizer.old)).world }
-    ensures rule { result ≢ State.Error →
-        ItemMeans ItemState.ContBlank (world tokenizer.old) result (world tokenizer.new) }
-    ensures full { OnError result (IsFull tokenizer.new) }
+    ensures { IsItemState ItemState.ContBlank (world tokenizer.old) result tokenizer.new }
 {
     if tokenizer.scratch.whitespace.max > 0 {
         go_on_indent(tokenizer, ItemState::ContBlank)
@@ -578,11 +519,7 @@ pub fn cont_blank(tokenizer: &mut Tokenizer) -> State
 #[tactic(auto, using(crate::proofs::ItemMeaning::item_rule))]
 pub fn cont_filled(tokenizer: &mut Tokenizer) -> State
     requires { IsAt NeedsNothing (StateName.ListItem ItemState.ContFilled) (world tokenizer.old) }
-    ensures to { result ≢ State.Error → result ≡ (cont_filled_transition (world tokenizer.old)).to }
-    ensures world { result ≢ State.Error → world tokenizer.new ≡ (cont_filled_transition (world tokenizer.old)).world }
-    ensures rule { result ≢ State.Error →
-        ItemMeans ItemState.ContFilled (world tokenizer.old) result (world tokenizer.new) }
-    ensures full { OnError result (IsFull tokenizer.new) }
+    ensures { IsItemState ItemState.ContFilled (world tokenizer.old) result tokenizer.new }
 {
     if tokenizer.scratch.whitespace.max > 0 {
         go_on_indent(tokenizer, ItemState::ContFilled)
@@ -606,14 +543,7 @@ pub fn takes_at_once(state: ItemState) -> Option<Stay>
 #[tactic(auto, using(crate::proofs::ItemMeaning::item_rule))]
 pub fn call(tokenizer: &mut Tokenizer, state: ItemState) -> State
     requires { IsAt NeedsNothing (StateName.ListItem state) (world tokenizer.old) }
-    ensures to { result ≢ State.Error →
-        result ≡
-        (item_transition state (world tokenizer.old)).to }
-    ensures world { result ≢ State.Error →
-        world tokenizer.new ≡
-        (item_transition state (world tokenizer.old)).world }
-    ensures rule { result ≢ State.Error → ItemMeans state (world tokenizer.old) result (world tokenizer.new) }
-    ensures full { OnError result (IsFull tokenizer.new) }
+    ensures { IsItemState state (world tokenizer.old) result tokenizer.new }
 {
     match state {
         ItemState::Start => start(tokenizer),

@@ -2,7 +2,7 @@
 // indent of a further line, where it is spaces and the line is not blank.
 
 ghost use Rattle.std.specs.Prelude.{◌≡◌, ◌+◌, ◌≤◌, OnOk, is_err, length, true};
-ghost use Rattle.md_engine.specs.Full.{IsFull};
+ghost use Rattle.md_engine.specs.Full.{Grown, IsFullList};
 ghost use Rattle.md_engine.specs.World.{world};
 ghost use Rattle.md_engine.specs.declared.tokenizer.container.Container.{Container};
 ghost use Rattle.md_containers.specs.Item.{least_width};
@@ -44,7 +44,7 @@ pub fn is_plain_bullet(tokenizer: &Tokenizer) -> bool
 fn take_bullet_growing(tokenizer: &mut Tokenizer) -> Result<(), Message>
     requires { IsPlainBullet (world tokenizer.old) }
     ensures world { OnOk result (world tokenizer.new ≡ bulleted (world tokenizer.old)) }
-    ensures full { is_err result ≡ true → IsFull tokenizer.new }
+    ensures full { is_err result ≡ true → IsFullList Grown.Events tokenizer.new }
 {
     tokenizer.enter(Name::ListItem)?;
     tokenizer.enter(Name::ListItemPrefix)?;
@@ -73,7 +73,7 @@ fn take_bullet_growing(tokenizer: &mut Tokenizer) -> Result<(), Message>
 pub fn take_plain_bullet(tokenizer: &mut Tokenizer) -> Result<(), Message>
     requires { IsPlainBullet (world tokenizer.old) }
     ensures world { OnOk result (world tokenizer.new ≡ bulleted (world tokenizer.old)) }
-    ensures full { is_err result ≡ true → IsFull tokenizer.new }
+    ensures full { is_err result ≡ true → IsFullList Grown.Events tokenizer.new }
 {
     if !has_room(tokenizer, 7) {
         return take_bullet_growing(tokenizer);
@@ -168,7 +168,7 @@ fn take_indent_growing(tokenizer: &mut Tokenizer) -> Result<(), Message>
     requires { IsPlainIndent (least_width (world tokenizer.old).flags.asked) (world tokenizer.old) }
     ensures world { OnOk result
         (world tokenizer.new ≡ indented (least_width (world tokenizer.old).flags.asked) (world tokenizer.old)) }
-    ensures full { is_err result ≡ true → IsFull tokenizer.new }
+    ensures full { is_err result ≡ true → IsFullList Grown.Events tokenizer.new }
 {
     let columns = at_least_one(tokenizer.flags.asked.width);
     tokenizer.enter(Name::SpaceOrTab)?;
@@ -191,7 +191,7 @@ pub fn take_plain_indent(tokenizer: &mut Tokenizer) -> Result<(), Message>
     ensures world { OnOk result
         (world tokenizer.new ≡
         indented (least_width (world tokenizer.old).flags.asked) (world tokenizer.old)) }
-    ensures full { is_err result ≡ true → IsFull tokenizer.new }
+    ensures full { is_err result ≡ true → IsFullList Grown.Events tokenizer.new }
 {
     if !has_room(tokenizer, 2) {
         return take_indent_growing(tokenizer);

@@ -9,12 +9,16 @@ use Rattle.md_engine.specs.Meaning.{Accepts, Behaviour, Cell, Here, Outcome, Ref
 use Rattle.md_engine.specs.Scheme.{position}
 use Rattle.md_engine.specs.Sees.{IsStep}
 use Rattle.md_engine.specs.World.{World}
-use Rattle.md_content.specs.Chunks.{ChunkInvariant, content_link, rest_taken, unbegun}
+use Rattle.md_content.specs.Chunks.{ChunkInvariant, content_link, rest_taken, unbegun, chunk_transition}
 use Rattle.md_meaning.specs.Rest.{Rest}
 use Rattle.md_link_definitions.specs.OpenText.{text_behind}
 use Rattle.md_link_definitions.specs.WholeCells.{rest_here, whole_line}
 use Rattle.md_events.specs.Ahead.{from_ending, line_end}
 use Rattle.md_events.specs.Events.Nested.{enter_link, exit}
+use Rattle.md_events.specs.States.{IsState}
+use Rattle.md_engine.specs.declared.tokenizer.Tokenizer.{Tokenizer}
+use Rattle.md_engine.specs.Full.{IsFullOf}
+use Rattle.md_engine.specs.Full.Grown.{Events, Frames, Resolvers}
 
 -- a rest with these bytes after it
 abbrev pub longer : Rest → List ℕ → Rest
@@ -54,3 +58,9 @@ unfoldable pub ChunkMeans : ContentState → World → State → World → Type 
 ChunkMeans state old to new =
     ChunkInvariant (n.Content state) (position old) →
     IsStep (λ B. HasChunk B old.setting.bytes) (n.Content state) to old new
+
+-- what a state of a line of content promises
+abbrev pub IsChunkState : ContentState → World → State → Tokenizer → Type 0
+IsChunkState state old answer new =
+    IsState (chunk_transition state old) (ChunkMeans state old)
+    (IsFullOf (Resolvers ∷ Events ∷ Frames ∷ []) new) answer new

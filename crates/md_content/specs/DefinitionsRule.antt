@@ -14,6 +14,10 @@ use Rattle.md_link_definitions.specs.DefinitionRule.{HasDefinition}
 use Rattle.md_events.specs.Ahead.{point_after}
 use Rattle.md_events.specs.Look.{first_seen}
 use Rattle.md_events.specs.Spaces.{IsRest, ends_line}
+use Rattle.md_content.specs.Definitions.{definitions_transition}
+use Rattle.md_events.specs.States.{IsState}
+use Rattle.md_engine.specs.declared.tokenizer.Tokenizer.{Tokenizer}
+use Rattle.md_engine.specs.Full.{IsFull}
 
 -- the content of all that is left
 unfoldable pub content_at : ParseOptions → List Cell → Here → Outcome
@@ -50,3 +54,8 @@ pub record HasDefinitions (B : Behaviour) (options : ParseOptions) : Type 0 wher
 unfoldable pub DefinitionsMeans : ContentState → World → State → World → Type 0
 DefinitionsMeans state old to new =
     IsRest old.scratch → IsStep (λ B. HasDefinitions B old.setting.options) (n.Content state) to old new
+
+-- what a state of content, as it is cut into definitions and a paragraph promises
+abbrev pub IsDefinitionsState : ContentState → World → State → Tokenizer → Type 0
+IsDefinitionsState state old answer new =
+    IsState (definitions_transition state old) (DefinitionsMeans state old) (IsFull new) answer new

@@ -10,9 +10,12 @@ use Rattle.md_engine.specs.declared.state.State.{State}
 use Rattle.md_engine.specs.Meaning.{Accepts, Behaviour, Cell, Here, Outcome}
 use Rattle.md_engine.specs.Sees.{IsStep}
 use Rattle.md_engine.specs.World.{World}
-use Rattle.md_content.specs.Paragraph.{text_link}
+use Rattle.md_content.specs.Paragraph.{text_link, paragraph_transition}
 use Rattle.md_events.specs.Ahead.{point_after}
 use Rattle.md_events.specs.Events.Nested.{enter, enter_link, exit}
+use Rattle.md_events.specs.States.{IsState}
+use Rattle.md_engine.specs.declared.tokenizer.Tokenizer.{Tokenizer}
+use Rattle.md_engine.specs.Full.{IsFull}
 
 -- each line is one part with its ending, of which the first has begun
 abbrev pub line_events : List Cell → Point → List Event
@@ -54,3 +57,8 @@ pub record HasParagraph (B : Behaviour) : Type 0 where
 -- what a state of a paragraph means: its call is one step of the rule
 unfoldable pub ParagraphMeans : ParagraphState → World → State → World → Type 0
 ParagraphMeans state old to new = IsStep HasParagraph (n.Paragraph state) to old new
+
+-- what a state of a paragraph promises
+abbrev pub IsParagraphState : ParagraphState → World → State → Tokenizer → Type 0
+IsParagraphState state old answer new =
+    IsState (paragraph_transition state old) (ParagraphMeans state old) (IsFull new) answer new

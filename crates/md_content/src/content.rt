@@ -13,8 +13,8 @@ ghost use Rattle.std.specs.Prelude.{◌≡◌, ◌≢◌, ℕ, ◌^◌, ◌<◌,
 ghost use Rattle.std.specs.Prelude.{OnOk, length, slice_range, true};
 ghost use Rattle.std.specs.List.{prefix_len};
 ghost use Rattle.std.specs.Option.{option_map};
-ghost use Rattle.md_content.specs.ChunkRule.{ChunkMeans};
-ghost use Rattle.md_engine.specs.Full.{IsFull, OnError};
+ghost use Rattle.md_content.specs.ChunkRule.{IsChunkState};
+ghost use Rattle.md_engine.specs.Full.{Grown, IsFullOf, OnError};
 ghost use Rattle.md_engine.specs.Found.{found_in};
 ghost use Rattle.md_engine.specs.Scheme.{stands};
 ghost use Rattle.md_engine.specs.World.{looks, world};
@@ -22,7 +22,7 @@ ghost use Rattle.md_engine.specs.declared.state.Name.{Name as StateName};
 ghost use Rattle.md_engine.specs.declared.state.State.{State};
 ghost use Rattle.md_engine.specs.declared.state.content.State.{State as ContentState};
 ghost use Rattle.md_content.specs.States.{content_scheme, content_transition};
-ghost use Rattle.md_content.specs.Chunks.{chunk_inside_code, chunk_start_transition, chunk_transition};
+ghost use Rattle.md_content.specs.Chunks.{chunk_transition};
 ghost use Rattle.md_events.specs.WholeLine.{line_taken};
 ghost use Rattle.md_content.specs.Chunks.{rest_taken};
 ghost use Rattle.md_link_definitions.specs.OpenText.{text_behind};
@@ -32,7 +32,6 @@ ghost use Rattle.md_content.specs.LabelLook.{may_close, may_define_in};
 ghost use Rattle.md_content.specs.WholeLines.{are_lines, is_followed, is_within_line, paragraph_of};
 ghost use Rattle.md_engine.specs.declared.configuration.ParseOptions.{ParseOptions};
 ghost use Rattle.md_events.specs.Parts.{AreChunks, ArePlaced, IsChunk};
-ghost use Rattle.md_events.specs.Spaces.{ends_line};
 ghost use Rattle.md_events.specs.Stays.{TakesEach};
 ghost use Rattle.md_events.specs.Transition.{IsAt, NeedsNothing};
 
@@ -92,11 +91,7 @@ fn text_with_line(tokenizer: &Tokenizer) -> HeldLeaf
 #[tactic(auto, using(crate::proofs::ContentMeaning::chunk_rule))]
 pub fn chunk_start(tokenizer: &mut Tokenizer) -> State
     requires { IsAt NeedsNothing (StateName.Content ContentState.ChunkStart) (world tokenizer.old) }
-    ensures to { result ≢ State.Error → result ≡ (chunk_start_transition (world tokenizer.old)).to }
-    ensures world { result ≢ State.Error → world tokenizer.new ≡ (chunk_start_transition (world tokenizer.old)).world }
-    ensures rule { result ≢ State.Error →
-        ChunkMeans ContentState.ChunkStart (world tokenizer.old) result (world tokenizer.new) }
-    ensures full { OnError result (IsFull tokenizer.new) }
+    ensures { IsChunkState ContentState.ChunkStart (world tokenizer.old) result tokenizer.new }
 {
     let link = Link {
         previous: false,
@@ -119,17 +114,7 @@ pub fn chunk_start(tokenizer: &mut Tokenizer) -> State
 #[tactic(auto, using(crate::proofs::ContentMeaning::chunk_rule))]
 pub fn chunk_inside(tokenizer: &mut Tokenizer) -> State
     requires { IsAt NeedsNothing (StateName.Content ContentState.ChunkInside) (world tokenizer.old) }
-    ensures to { result ≢ State.Error →
-        result ≡
-        (chunk_inside_code (world tokenizer.old)
-        (ends_line tokenizer.old.current)).to }
-    ensures world { result ≢ State.Error →
-        world tokenizer.new ≡
-        (chunk_inside_code (world tokenizer.old)
-        (ends_line tokenizer.old.current)).world }
-    ensures rule { result ≢ State.Error →
-        ChunkMeans ContentState.ChunkInside (world tokenizer.old) result (world tokenizer.new) }
-    ensures full { OnError result (IsFull tokenizer.new) }
+    ensures { IsChunkState ContentState.ChunkInside (world tokenizer.old) result tokenizer.new }
 {
     match tokenizer.current {
         None | Some(b'\n') => {
@@ -152,16 +137,7 @@ pub fn chunk_inside(tokenizer: &mut Tokenizer) -> State
 #[tactic(auto, using(crate::proofs::ContentMeaning::chunk_rule))]
 pub fn call(tokenizer: &mut Tokenizer, state: ContentState) -> State
     requires { IsAt NeedsNothing (StateName.Content state) (world tokenizer.old) }
-    ensures to { result ≢ State.Error →
-        result ≡
-        (chunk_transition state
-        (world tokenizer.old)).to }
-    ensures world { result ≢ State.Error →
-        world tokenizer.new ≡
-        (chunk_transition state
-        (world tokenizer.old)).world }
-    ensures rule { result ≢ State.Error → ChunkMeans state (world tokenizer.old) result (world tokenizer.new) }
-    ensures full { OnError result (IsFull tokenizer.new) }
+    ensures { IsChunkState state (world tokenizer.old) result tokenizer.new }
 {
     match state {
         ContentState::ChunkStart => chunk_start(tokenizer),
@@ -186,7 +162,7 @@ fn call_state(tokenizer: &mut Tokenizer, name: StateName) -> State
     requires stands { stands content_scheme (world tokenizer.old) (State.Next name) }
     ensures to { result ≢ State.Error → result ≡ (content_transition name (world tokenizer.old)).to }
     ensures world { result ≢ State.Error → world tokenizer.new ≡ (content_transition name (world tokenizer.old)).world }
-    ensures full { OnError result (IsFull tokenizer.new) }
+    ensures full { OnError result (IsFullOf (Grown.Resolvers ∷ Grown.Events ∷ Grown.Frames ∷ []) tokenizer.new) }
 {
     match name {
         StateName::Content(state) => definitions::call(tokenizer, state),

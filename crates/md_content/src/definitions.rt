@@ -5,15 +5,13 @@
 // A definition is tried on each line before the paragraph, and the paragraph begins where none is. It adds `LineEnding`
 // after a definition. By one look most paragraphs begin at once.
 
-ghost use Rattle.std.specs.Prelude.{◌≡◌, ◌≢◌};
-ghost use Rattle.md_content.specs.DefinitionsRule.{DefinitionsMeans};
-ghost use Rattle.md_engine.specs.Full.{IsFull, OnError};
+ghost use Rattle.std.specs.Prelude.{◌≡◌};
+ghost use Rattle.md_content.specs.DefinitionsRule.{IsDefinitionsState};
 ghost use Rattle.md_engine.specs.World.{world};
 ghost use Rattle.md_engine.specs.declared.state.Name.{Name as StateName};
 ghost use Rattle.md_engine.specs.declared.state.State.{State};
 ghost use Rattle.md_engine.specs.declared.state.content.State.{State as ContentState};
-ghost use Rattle.md_content.specs.Definitions.{definition_after_transition, definition_before_transition};
-ghost use Rattle.md_content.specs.Definitions.{definitions_transition, may_define};
+ghost use Rattle.md_content.specs.Definitions.{may_define};
 ghost use Rattle.md_events.specs.Transition.{IsAt, NeedsNothing};
 
 use md_engine::event::Name;
@@ -43,12 +41,7 @@ fn may_define(current: Option<u8>) -> bool
 #[tactic(auto, using(crate::proofs::DefinitionsMeaning::definitions_rule))]
 pub fn definition_before(tokenizer: &mut Tokenizer) -> State
     requires { IsAt NeedsNothing (StateName.Content ContentState.DefinitionBefore) (world tokenizer.old) }
-    ensures to { result ≢ State.Error → result ≡ (definition_before_transition (world tokenizer.old)).to }
-    ensures world { result ≢ State.Error →
-        world tokenizer.new ≡ (definition_before_transition (world tokenizer.old)).world }
-    ensures rule { result ≢ State.Error →
-        DefinitionsMeans ContentState.DefinitionBefore (world tokenizer.old) result (world tokenizer.new) }
-    ensures full { OnError result (IsFull tokenizer.new) }
+    ensures { IsDefinitionsState ContentState.DefinitionBefore (world tokenizer.old) result tokenizer.new }
 {
     let paragraph = StateName::Paragraph(ParagraphState::Start);
     if !may_define(tokenizer.current) {
@@ -69,12 +62,7 @@ pub fn definition_before(tokenizer: &mut Tokenizer) -> State
 #[tactic(auto, using(crate::proofs::DefinitionsMeaning::definitions_rule))]
 pub fn definition_after(tokenizer: &mut Tokenizer) -> State
     requires { IsAt NeedsNothing (StateName.Content ContentState.DefinitionAfter) (world tokenizer.old) }
-    ensures to { result ≢ State.Error → result ≡ (definition_after_transition (world tokenizer.old)).to }
-    ensures world { result ≢ State.Error →
-        world tokenizer.new ≡ (definition_after_transition (world tokenizer.old)).world }
-    ensures rule { result ≢ State.Error →
-        DefinitionsMeans ContentState.DefinitionAfter (world tokenizer.old) result (world tokenizer.new) }
-    ensures full { OnError result (IsFull tokenizer.new) }
+    ensures { IsDefinitionsState ContentState.DefinitionAfter (world tokenizer.old) result tokenizer.new }
 {
     match tokenizer.current {
         None => State::Ok,
@@ -92,11 +80,7 @@ pub fn definition_after(tokenizer: &mut Tokenizer) -> State
 #[tactic(auto, using(crate::proofs::DefinitionsMeaning::definitions_rule))]
 pub fn call(tokenizer: &mut Tokenizer, state: ContentState) -> State
     requires { IsAt NeedsNothing (StateName.Content state) (world tokenizer.old) }
-    ensures to { result ≢ State.Error → result ≡ (definitions_transition state (world tokenizer.old)).to }
-    ensures world { result ≢ State.Error →
-        world tokenizer.new ≡ (definitions_transition state (world tokenizer.old)).world }
-    ensures rule { result ≢ State.Error → DefinitionsMeans state (world tokenizer.old) result (world tokenizer.new) }
-    ensures full { OnError result (IsFull tokenizer.new) }
+    ensures { IsDefinitionsState state (world tokenizer.old) result tokenizer.new }
 {
     match state {
         ContentState::DefinitionBefore => definition_before(tokenizer),

@@ -5,15 +5,13 @@
 // It adds `Paragraph` around one linked `Data` a line, which reaches over the line's ending where the paragraph
 // continues.
 
-ghost use Rattle.std.specs.Prelude.{◌≡◌, ◌≢◌, IfSome};
-ghost use Rattle.md_content.specs.ParagraphRule.{ParagraphMeans};
-ghost use Rattle.md_engine.specs.Full.{IsFull, OnError};
+ghost use Rattle.std.specs.Prelude.{IfSome};
+ghost use Rattle.md_content.specs.ParagraphRule.{IsParagraphState};
 ghost use Rattle.md_engine.specs.World.{world};
 ghost use Rattle.md_engine.specs.declared.state.Name.{Name as StateName};
 ghost use Rattle.md_engine.specs.declared.state.State.{State};
 ghost use Rattle.md_engine.specs.declared.state.paragraph.State.{State as ParagraphState};
-ghost use Rattle.md_content.specs.Paragraph.{inside_transition, line_start_transition, paragraph_transition};
-ghost use Rattle.md_content.specs.Paragraph.{start_transition};
+ghost use Rattle.md_content.specs.Paragraph.{paragraph_transition};
 ghost use Rattle.md_events.specs.Stays.{TakesEach};
 ghost use Rattle.md_events.specs.Transition.{IsAt, NeedsNothing};
 
@@ -34,11 +32,7 @@ use md_engine::tokenizer::Tokenizer;
 #[tactic(auto, using(crate::proofs::ParagraphMeaning::paragraph_rule))]
 pub fn start(tokenizer: &mut Tokenizer) -> State
     requires { IsAt NeedsNothing (StateName.Paragraph ParagraphState.Start) (world tokenizer.old) }
-    ensures to { result ≢ State.Error → result ≡ (start_transition (world tokenizer.old)).to }
-    ensures world { result ≢ State.Error → world tokenizer.new ≡ (start_transition (world tokenizer.old)).world }
-    ensures rule { result ≢ State.Error →
-        ParagraphMeans ParagraphState.Start (world tokenizer.old) result (world tokenizer.new) }
-    ensures full { OnError result (IsFull tokenizer.new) }
+    ensures { IsParagraphState ParagraphState.Start (world tokenizer.old) result tokenizer.new }
 {
     or_error!(tokenizer.enter(Name::Paragraph));
     State::Retry(StateName::Paragraph(ParagraphState::LineStart))
@@ -55,11 +49,7 @@ pub fn start(tokenizer: &mut Tokenizer) -> State
 #[tactic(auto, using(crate::proofs::ParagraphMeaning::paragraph_rule))]
 pub fn line_start(tokenizer: &mut Tokenizer) -> State
     requires { IsAt NeedsNothing (StateName.Paragraph ParagraphState.LineStart) (world tokenizer.old) }
-    ensures to { result ≢ State.Error → result ≡ (line_start_transition (world tokenizer.old)).to }
-    ensures world { result ≢ State.Error → world tokenizer.new ≡ (line_start_transition (world tokenizer.old)).world }
-    ensures rule { result ≢ State.Error →
-        ParagraphMeans ParagraphState.LineStart (world tokenizer.old) result (world tokenizer.new) }
-    ensures full { OnError result (IsFull tokenizer.new) }
+    ensures { IsParagraphState ParagraphState.LineStart (world tokenizer.old) result tokenizer.new }
 {
     let link = Link {
         previous: false,
@@ -79,11 +69,7 @@ pub fn line_start(tokenizer: &mut Tokenizer) -> State
 #[tactic(auto, using(crate::proofs::ParagraphMeaning::paragraph_rule))]
 pub fn inside(tokenizer: &mut Tokenizer) -> State
     requires { IsAt NeedsNothing (StateName.Paragraph ParagraphState.Inside) (world tokenizer.old) }
-    ensures to { result ≢ State.Error → result ≡ (inside_transition (world tokenizer.old)).to }
-    ensures world { result ≢ State.Error → world tokenizer.new ≡ (inside_transition (world tokenizer.old)).world }
-    ensures rule { result ≢ State.Error →
-        ParagraphMeans ParagraphState.Inside (world tokenizer.old) result (world tokenizer.new) }
-    ensures full { OnError result (IsFull tokenizer.new) }
+    ensures { IsParagraphState ParagraphState.Inside (world tokenizer.old) result tokenizer.new }
 {
     match tokenizer.current {
         None => {
@@ -107,11 +93,7 @@ pub fn inside(tokenizer: &mut Tokenizer) -> State
 #[tactic(auto, using(crate::proofs::ParagraphMeaning::paragraph_rule))]
 pub fn call(tokenizer: &mut Tokenizer, state: ParagraphState) -> State
     requires { IsAt NeedsNothing (StateName.Paragraph state) (world tokenizer.old) }
-    ensures to { result ≢ State.Error → result ≡ (paragraph_transition state (world tokenizer.old)).to }
-    ensures world { result ≢ State.Error →
-        world tokenizer.new ≡ (paragraph_transition state (world tokenizer.old)).world }
-    ensures rule { result ≢ State.Error → ParagraphMeans state (world tokenizer.old) result (world tokenizer.new) }
-    ensures full { OnError result (IsFull tokenizer.new) }
+    ensures { IsParagraphState state (world tokenizer.old) result tokenizer.new }
 {
     match state {
         ParagraphState::Start => start(tokenizer),

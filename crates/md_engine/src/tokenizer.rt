@@ -298,7 +298,7 @@ fn turn(events: &mut Vec<Event>, at: usize, count: usize)
 }
 
 impl<'a> Tokenizer<'a> {
-    ghost use Rattle.md_engine.specs.Full.{IsFull};
+    ghost use Rattle.md_engine.specs.Full.{Grown, IsFullList};
     ghost use Rattle.md_engine.specs.Staying.{TakesAll};
     ghost use Rattle.md_engine.specs.World.{closed, world, looks, after, fresh, line_begun, reads_to, registered};
     ghost use Rattle.md_engine.specs.World.{registered_before, skipping};
@@ -349,7 +349,7 @@ impl<'a> Tokenizer<'a> {
     /// Adds an event at the point where the list may have no room for it, or changes nothing. This is rare, so it is
     /// apart.
     #[inline(never)]
-    #[tactic(auto, unfolding(crate::specs::Full::IsFull))]
+    #[tactic(auto, unfolding(crate::specs::Full::IsFullList))]
     fn add_growing(&mut self, kind: Kind, name: Name, link: Option<Link>) -> Result<(), Message>
         ensures world { world self.new ≡
             record (world self.old) {
@@ -358,7 +358,7 @@ impl<'a> Tokenizer<'a> {
                   ++ record { kind = kind; name = name; point = (world self.old).point; link = link } ∷ []
                   else (world self.old).events;
             } }
-        ensures full { is_err result ≡ true → IsFull self.new }
+        ensures full { is_err result ≡ true → IsFullList Grown.Events self.new }
     {
         if self.events.reserve(1).is_err() {
             return Err(Message);
@@ -382,7 +382,7 @@ impl<'a> Tokenizer<'a> {
                   ++ record { kind = kind; name = name; point = (world self.old).point; link = link } ∷ []
                   else (world self.old).events;
             } }
-        ensures full { is_err result ≡ true → IsFull self.new }
+        ensures full { is_err result ≡ true → IsFullList Grown.Events self.new }
     {
         if self.events.len() >= self.events.capacity() {
             return self.add_growing(kind, name, link);
@@ -406,7 +406,7 @@ impl<'a> Tokenizer<'a> {
                   ++ record { kind = Kind.Enter; name = name; point = (world self.old).point; link = None } ∷ []
                   else (world self.old).events;
             } }
-        ensures full { is_err result ≡ true → IsFull self.new }
+        ensures full { is_err result ≡ true → IsFullList Grown.Events self.new }
     {
         self.add(Kind::Enter, name, None)
     }
@@ -420,7 +420,7 @@ impl<'a> Tokenizer<'a> {
                   ++ record { kind = Kind.Enter; name = name; point = (world self.old).point; link = Some link } ∷ []
                   else (world self.old).events;
             } }
-        ensures full { is_err result ≡ true → IsFull self.new }
+        ensures full { is_err result ≡ true → IsFullList Grown.Events self.new }
     {
         self.add(Kind::Enter, name, Some(link))
     }
@@ -434,7 +434,7 @@ impl<'a> Tokenizer<'a> {
                   ++ record { kind = Kind.Exit; name = name; point = (world self.old).point; link = None } ∷ []
                   else (world self.old).events;
             } }
-        ensures full { is_err result ≡ true → IsFull self.new }
+        ensures full { is_err result ≡ true → IsFullList Grown.Events self.new }
     {
         self.add(Kind::Exit, name, None)
     }
@@ -513,7 +513,7 @@ impl<'a> Tokenizer<'a> {
     }
 
     /// Begins an attempt, or changes nothing.
-    #[tactic(auto, unfolding(crate::specs::Full::IsFull))]
+    #[tactic(auto, unfolding(crate::specs::Full::IsFullList))]
     fn begin(&mut self, ok: State, nok: State, is_check: bool) -> Result<(), Message>
         ensures world { world self.new ≡
             record (world self.old) {
@@ -528,7 +528,7 @@ impl<'a> Tokenizer<'a> {
                   ∷ (world self.old).frames
                   else (world self.old).frames;
             } }
-        ensures full { is_err result ≡ true → IsFull self.new }
+        ensures full { is_err result ≡ true → IsFullList Grown.Frames self.new }
     {
         if self.frames.reserve(1).is_err() {
             return Err(Message);
@@ -560,7 +560,7 @@ impl<'a> Tokenizer<'a> {
                   ∷ (world self.old).frames
                   else (world self.old).frames;
             } }
-        ensures full { is_err result ≡ true → IsFull self.new }
+        ensures full { is_err result ≡ true → IsFullList Grown.Frames self.new }
     {
         self.begin(ok, nok, false)
     }
@@ -580,7 +580,7 @@ impl<'a> Tokenizer<'a> {
                   ∷ (world self.old).frames
                   else (world self.old).frames;
             } }
-        ensures full { is_err result ≡ true → IsFull self.new }
+        ensures full { is_err result ≡ true → IsFullList Grown.Frames self.new }
     {
         self.begin(ok, nok, true)
     }
@@ -618,11 +618,11 @@ impl<'a> Tokenizer<'a> {
 
     /// Has the next line begin at `point`, after the prefixes of its containers, and goes there if the tokenizer is at
     /// the line's first byte; or changes nothing.
-    #[tactic(auto, unfolding(crate::specs::Full::IsFull))]
+    #[tactic(auto, unfolding(crate::specs::Full::IsFullList))]
     pub fn define_skip(&mut self, point: Point) -> Result<(), Message>
         requires { IsPlaced (world self.old).setting.bytes point }
         ensures world { world self.new ≡ (if is_ok result then skipping (world self.old) point else world self.old) }
-        ensures full { is_err result ≡ true → IsFull self.new }
+        ensures full { is_err result ≡ true → IsFullList Grown.Skips self.new }
     {
         if self.skips.reserve(1).is_err() {
             return Err(Message);
@@ -635,7 +635,7 @@ impl<'a> Tokenizer<'a> {
     }
 
     /// Has a resolver run at the end, after those that are registered; or changes nothing.
-    #[tactic(auto, unfolding(crate::specs::Full::IsFull))]
+    #[tactic(auto, unfolding(crate::specs::Full::IsFullList))]
     pub fn register_resolver(&mut self, name: ResolveName) -> Result<(), Message>
         ensures world { world self.new ≡
             record (world self.old) {
@@ -643,7 +643,7 @@ impl<'a> Tokenizer<'a> {
                   then registered (world self.old).resolvers name
                   else (world self.old).resolvers;
             } }
-        ensures full { is_err result ≡ true → IsFull self.new }
+        ensures full { is_err result ≡ true → IsFullList Grown.Resolvers self.new }
     {
         if self.resolvers.contains(&name) {
             return Ok(());
@@ -656,7 +656,7 @@ impl<'a> Tokenizer<'a> {
     }
 
     /// Has a resolver run at the end, before those that are registered; or changes nothing.
-    #[tactic(auto, unfolding(crate::specs::Full::IsFull))]
+    #[tactic(auto, unfolding(crate::specs::Full::IsFullList))]
     pub fn register_resolver_before(&mut self, name: ResolveName) -> Result<(), Message>
         ensures world { world self.new ≡
             record (world self.old) {
@@ -665,7 +665,7 @@ impl<'a> Tokenizer<'a> {
                   (world self.old).resolvers name
                   else (world self.old).resolvers;
             } }
-        ensures full { is_err result ≡ true → IsFull self.new }
+        ensures full { is_err result ≡ true → IsFullList Grown.Resolvers self.new }
     {
         if self.resolvers.contains(&name) {
             return Ok(());
@@ -680,7 +680,7 @@ impl<'a> Tokenizer<'a> {
     }
 
     /// Opens a container in those that are open, or changes nothing.
-    #[tactic(auto, unfolding(crate::specs::Full::IsFull))]
+    #[tactic(auto, unfolding(crate::specs::Full::IsFullList))]
     pub fn open(&mut self, container: Container) -> Result<(), Message>
         ensures world { world self.new ≡
             record (world self.old) {
@@ -689,7 +689,7 @@ impl<'a> Tokenizer<'a> {
                     then (world self.old).flags.containers ++ container ∷ [] else (world self.old).flags.containers;
               };
             } }
-        ensures full { is_err result ≡ true → IsFull self.new }
+        ensures full { is_err result ≡ true → IsFullList Grown.Containers self.new }
     {
         if self.containers.reserve(1).is_err() {
             return Err(Message);

@@ -12,7 +12,10 @@ use Rattle.md_engine.specs.Sees.{IsStep}
 use Rattle.md_engine.specs.World.{World}
 use Rattle.md_events.specs.Events.Nested.{enter, exit}
 use Rattle.md_meaning.specs.Rest.{is_white}
-use Rattle.md_events.specs.Spaces.{asking, calmed}
+use Rattle.md_events.specs.Spaces.{asking, calmed, white_transition}
+use Rattle.md_events.specs.States.{IsState, IsSureState}
+use Rattle.md_engine.specs.declared.tokenizer.Tokenizer.{Tokenizer}
+use Rattle.md_engine.specs.Full.{IsFull}
 
 -- the cells of the line, without its ending
 abbrev pub line_cells : List Cell → List Cell
@@ -100,3 +103,11 @@ pub record HasWhite (B : Behaviour) : Type 0 where
 -- what a state of whitespace means: its call is one step of the rule
 unfoldable pub WhiteMeans : WhiteState → World → State → World → Type 0
 WhiteMeans state old to new = IsStep HasWhite (n.SpaceOrTab state) to old new
+
+-- what a state of whitespace promises
+abbrev pub IsWhiteState : WhiteState → World → State → Tokenizer → Type 0
+IsWhiteState state old answer new = IsState (white_transition state old) (WhiteMeans state old) (IsFull new) answer new
+
+-- the same of a state that wants no memory
+abbrev pub IsSureWhiteState : WhiteState → World → State → Tokenizer → Type 0
+IsSureWhiteState state old answer new = IsSureState (white_transition state old) (WhiteMeans state old) answer new

@@ -1,4 +1,5 @@
 pub mod Transition
+pub mod States
 pub mod Stays
 pub mod Spaces
 pub mod OneSpace

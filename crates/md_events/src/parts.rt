@@ -1,7 +1,7 @@
 // Parts whose begin and end are both known: their two events are added in one call. The point may lie elsewhere.
 
 ghost use Rattle.std.specs.Prelude.{◌≡◌, ◌∷◌, ◌++◌, [], None, OnOk, is_err, true};
-ghost use Rattle.md_engine.specs.Full.{IsFull};
+ghost use Rattle.md_engine.specs.Full.{Grown, IsFullList};
 ghost use Rattle.md_engine.specs.Place.{IsPlaced};
 ghost use Rattle.md_engine.specs.World.{world};
 ghost use Rattle.md_engine.specs.declared.event.Event.{Event};
@@ -13,14 +13,14 @@ use md_engine::tokenizer::Tokenizer;
 
 /// Adds two events where the list may have no room for them. This is rare, so it is a function of its own.
 #[inline(never)]
-#[tactic(auto, unfolding(md_engine::specs::Full::IsFull))]
+#[tactic(auto, unfolding(md_engine::specs::Full::IsFullList))]
 fn add_growing(tokenizer: &mut Tokenizer, first: Event, last: Event) -> Result<(), Message>
     requires first { IsPlaced (world tokenizer.old).setting.bytes first.point }
     requires last { IsPlaced (world tokenizer.old).setting.bytes last.point }
     ensures world { OnOk result
         (world tokenizer.new ≡
         record (world tokenizer.old) { events = (world tokenizer.old).events ++ first ∷ last ∷ [] }) }
-    ensures full { is_err result ≡ true → IsFull tokenizer.new }
+    ensures full { is_err result ≡ true → IsFullList Grown.Events tokenizer.new }
 {
     if tokenizer.events.reserve(1).is_err() {
         return Err(Message);
@@ -78,7 +78,7 @@ pub fn add_part(
               ∷ record { kind = Kind.Exit; name = name; point = to; link = None }
               ∷ [];
         }) }
-    ensures full { is_err result ≡ true → IsFull tokenizer.new }
+    ensures full { is_err result ≡ true → IsFullList Grown.Events tokenizer.new }
 {
     if tokenizer.events.capacity() - tokenizer.events.len() < 2 {
         return add_growing(tokenizer, begin(name, link, from), end(name, to));

@@ -5,22 +5,21 @@
 // It adds one `SpaceOrTab` around them, and nothing where there are none.
 
 ghost use Rattle.std.specs.Prelude.{◌≡◌, ◌≢◌, IfSome, OnOk, is_err, true};
-ghost use Rattle.md_events.specs.Ahead.{WhiteMeans};
-ghost use Rattle.md_engine.specs.Full.{IsFull, OnError};
-ghost use Rattle.md_engine.specs.Going.{SeesOn};
+ghost use Rattle.md_events.specs.Ahead.{IsSureWhiteState, IsWhiteState};
+ghost use Rattle.md_engine.specs.Full.{Grown, IsFull, IsFullList, OnError};
 ghost use Rattle.md_engine.specs.Place.{is_ending};
-ghost use Rattle.md_engine.specs.Run.{RunsHere};
 ghost use Rattle.md_engine.specs.World.{world};
 ghost use Rattle.md_engine.specs.declared.state.Name.{Name as StateName};
 ghost use Rattle.md_engine.specs.declared.state.State.{State};
 ghost use Rattle.md_engine.specs.declared.state.space_or_tab.State.{State as WhiteState};
 ghost use Rattle.md_events.specs.Look.{as_seen, looks_behind, sees_other};
 ghost use Rattle.md_events.specs.OneSpace.{IsOneSpace, spaced};
-ghost use Rattle.md_events.specs.Spaces.{WhiteNeeds, WhiteStep, after_transition, any_size, begins_white};
-ghost use Rattle.md_events.specs.Spaces.{inside_transition, sees_white, small_indent, start_transition, white_then};
+ghost use Rattle.md_events.specs.Spaces.{WhiteNeeds, WhiteStep, any_size, begins_white};
+ghost use Rattle.md_events.specs.Spaces.{sees_white, small_indent, white_then};
 ghost use Rattle.md_events.specs.Spaces.{white_transition};
 ghost use Rattle.md_events.specs.Stays.{TakesEach};
 ghost use Rattle.md_events.specs.Transition.{IsAt};
+ghost use Rattle.md_events.specs.States.{IsRun};
 
 use crate::parts::add_part;
 use md_engine::class::is_white;
@@ -143,7 +142,7 @@ pub fn is_one_space(tokenizer: &Tokenizer) -> bool
 pub fn take_one_space(tokenizer: &mut Tokenizer) -> Result<(), Message>
     requires { IsOneSpace (world tokenizer.old) }
     ensures world { OnOk result (world tokenizer.new ≡ spaced (world tokenizer.old)) }
-    ensures full { is_err result ≡ true → IsFull tokenizer.new }
+    ensures full { is_err result ≡ true → IsFullList Grown.Events tokenizer.new }
 {
     let from = tokenizer.point;
     tokenizer.consume();
@@ -174,11 +173,7 @@ fn begins(tokenizer: &Tokenizer) -> bool
 #[tactic(auto, using(crate::proofs::WhiteMeaning::white_rule))]
 pub fn start(tokenizer: &mut Tokenizer) -> State
     requires { IsAt WhiteNeeds (StateName.SpaceOrTab WhiteState.Start) (world tokenizer.old) }
-    ensures to { result ≢ State.Error → result ≡ (start_transition (world tokenizer.old)).to }
-    ensures world { result ≢ State.Error → world tokenizer.new ≡ (start_transition (world tokenizer.old)).world }
-    ensures rule { result ≢ State.Error →
-        WhiteMeans WhiteState.Start (world tokenizer.old) result (world tokenizer.new) }
-    ensures full { OnError result (IsFull tokenizer.new) }
+    ensures { IsWhiteState WhiteState.Start (world tokenizer.old) result tokenizer.new }
 {
     if begins(tokenizer) {
         or_error!(tokenizer.enter(Name::SpaceOrTab));
@@ -197,11 +192,7 @@ pub fn start(tokenizer: &mut Tokenizer) -> State
 #[tactic(auto, using(crate::proofs::WhiteMeaning::white_rule))]
 pub fn inside(tokenizer: &mut Tokenizer) -> State
     requires { IsAt WhiteNeeds (StateName.SpaceOrTab WhiteState.Inside) (world tokenizer.old) }
-    ensures to { result ≢ State.Error → result ≡ (inside_transition (world tokenizer.old)).to }
-    ensures world { result ≢ State.Error → world tokenizer.new ≡ (inside_transition (world tokenizer.old)).world }
-    ensures rule { result ≢ State.Error →
-        WhiteMeans WhiteState.Inside (world tokenizer.old) result (world tokenizer.new) }
-    ensures full { OnError result (IsFull tokenizer.new) }
+    ensures { IsWhiteState WhiteState.Inside (world tokenizer.old) result tokenizer.new }
 {
     let Whitespace { max, size, .. } = tokenizer.scratch.whitespace;
     if is_space_or_tab(tokenizer.current) && size < max {
@@ -223,9 +214,7 @@ pub fn inside(tokenizer: &mut Tokenizer) -> State
 #[tactic(auto, using(crate::proofs::WhiteMeaning::white_rule))]
 pub fn after(tokenizer: &mut Tokenizer) -> State
     requires { IsAt WhiteNeeds (StateName.SpaceOrTab WhiteState.After) (world tokenizer.old) }
-    ensures to { result ≡ (after_transition (world tokenizer.old)).to }
-    ensures world { world tokenizer.new ≡ (after_transition (world tokenizer.old)).world }
-    ensures rule { WhiteMeans WhiteState.After (world tokenizer.old) result (world tokenizer.new) }
+    ensures { IsSureWhiteState WhiteState.After (world tokenizer.old) result tokenizer.new }
 {
     let Whitespace { min, size, .. } = tokenizer.scratch.whitespace;
     tokenizer.scratch.whitespace = Whitespace {
@@ -250,10 +239,7 @@ pub fn takes_at_once(state: WhiteState) -> Option<Stay>
 #[tactic(auto, using(crate::proofs::WhiteMeaning::white_rule))]
 pub fn call(tokenizer: &mut Tokenizer, state: WhiteState) -> State
     requires { IsAt WhiteNeeds (StateName.SpaceOrTab state) (world tokenizer.old) }
-    ensures to { result ≢ State.Error → result ≡ (white_transition state (world tokenizer.old)).to }
-    ensures world { result ≢ State.Error → world tokenizer.new ≡ (white_transition state (world tokenizer.old)).world }
-    ensures rule { result ≢ State.Error → WhiteMeans state (world tokenizer.old) result (world tokenizer.new) }
-    ensures full { OnError result (IsFull tokenizer.new) }
+    ensures { IsWhiteState state (world tokenizer.old) result tokenizer.new }
 {
     match state {
         WhiteState::Start => start(tokenizer),
@@ -270,11 +256,8 @@ pub fn call(tokenizer: &mut Tokenizer, state: WhiteState) -> State
 /// ```
 fn start_at_once(tokenizer: &mut Tokenizer) -> State
     requires { IsAt WhiteNeeds (StateName.SpaceOrTab WhiteState.Start) (world tokenizer.old) }
-    ensures runs { result ≢ State.Error →
-        RunsHere WhiteStep
-        (StateName.SpaceOrTab WhiteState.Start) (world tokenizer.old) result (world tokenizer.new) }
-    ensures sees { result ≢ State.Error → SeesOn result (world tokenizer.old) (world tokenizer.new) }
-    ensures full { OnError result (IsFull tokenizer.new) }
+    ensures { IsRun WhiteStep (StateName.SpaceOrTab WhiteState.Start)
+        (world tokenizer.old) (IsFull tokenizer.new) result tokenizer.new }
 {
     if begins(tokenizer) {
         or_error!(tokenizer.enter(Name::SpaceOrTab));
@@ -291,10 +274,7 @@ fn start_at_once(tokenizer: &mut Tokenizer) -> State
 /// Calls a state of whitespace; all of it is taken at once.
 pub fn call_at_once(tokenizer: &mut Tokenizer, state: WhiteState) -> State
     requires { IsAt WhiteNeeds (StateName.SpaceOrTab state) (world tokenizer.old) }
-    ensures runs { result ≢ State.Error →
-        RunsHere WhiteStep (StateName.SpaceOrTab state) (world tokenizer.old) result (world tokenizer.new) }
-    ensures sees { result ≢ State.Error → SeesOn result (world tokenizer.old) (world tokenizer.new) }
-    ensures full { OnError result (IsFull tokenizer.new) }
+    ensures { IsRun WhiteStep (StateName.SpaceOrTab state) (world tokenizer.old) (IsFull tokenizer.new) result tokenizer.new }
 {
     match state {
         WhiteState::Start => start_at_once(tokenizer),

@@ -11,28 +11,25 @@
 // Where nothing is left of a line no container is asked, and none opens: what is held of each shows whether it
 // continues there.
 
-ghost use Rattle.std.specs.Prelude.{◌≡◌, ◌≢◌, ◌⊎◌, ◌<◌, length, true};
+ghost use Rattle.std.specs.Prelude.{◌≡◌, ◌≢◌, ◌<◌, length, true};
 ghost use Rattle.md_engine.specs.Full.{IsFull, OnError};
 ghost use Rattle.md_engine.specs.Scheme.{stands};
 ghost use Rattle.md_engine.specs.World.{looks, world};
 ghost use Rattle.md_engine.specs.declared.state.Name.{Name as StateName};
 ghost use Rattle.md_engine.specs.declared.state.State.{State};
 ghost use Rattle.md_engine.specs.declared.state.document.State.{State as DocumentState};
-ghost use Rattle.md_registry.specs.Flow.{containers_after_transition, existing_after_transition};
-ghost use Rattle.md_registry.specs.Flow.{behind_all, existing_before_transition, flow_end_transition};
-ghost use Rattle.md_registry.specs.Flow.{inside_transition, new_after_transition};
+ghost use Rattle.md_registry.specs.Flow.{behind_all};
 ghost use Rattle.md_registry.specs.Flow.{new_before_transition};
 ghost use Rattle.proof_frame.specs.EndingName.{ending_name};
 ghost use Rattle.md_registry.specs.LineFlags.{asking, begun_line, ended_on, next_container, kept_containers};
 ghost use Rattle.md_registry.specs.Registry.{bars_containers};
 ghost use Rattle.md_engine.specs.declared.resolve.name.Name.{Name as ResolveName};
 ghost use Rattle.proof_frame.specs.HeldLeaf.{lazy_of, takes_lazy};
-ghost use Rattle.md_registry.specs.Document.{before_frontmatter_transition, document_own_transition};
 ghost use Rattle.md_registry.specs.Document.{none_opens_transition};
-ghost use Rattle.md_registry.specs.Document.{document_table_scheme, document_transition, start_transition};
+ghost use Rattle.md_registry.specs.Document.{document_table_scheme, document_transition};
 ghost use Rattle.md_events.specs.Transition.{IsAt, NeedsNothing, taken};
 ghost use Rattle.md_registry.specs.Flow.{opener_transition};
-ghost use Rattle.md_registry.specs.FlowRule.{DocumentMeans, HasOpen};
+ghost use Rattle.md_registry.specs.FlowRule.{DocumentMeans, IsDocumentState, IsSureDocumentState};
 ghost use Rattle.md_registry.specs.Registry.{opener_at};
 
 use crate::resolve;
@@ -65,11 +62,7 @@ use md_registry::choices;
 #[tactic(auto, using(md_registry::proofs::FlowSteps::document_rule))]
 pub fn start(tokenizer: &mut Tokenizer) -> State
     requires { IsAt NeedsNothing (StateName.Document DocumentState.Start) (world tokenizer.old) }
-    ensures to { result ≢ State.Error → result ≡ (start_transition (world tokenizer.old)).to }
-    ensures world { result ≢ State.Error → world tokenizer.new ≡ (start_transition (world tokenizer.old)).world }
-    ensures rule { result ≢ State.Error →
-        DocumentMeans DocumentState.Start (world tokenizer.old) result (world tokenizer.new) }
-    ensures full { OnError result (IsFull tokenizer.new) }
+    ensures { IsDocumentState DocumentState.Start (world tokenizer.old) result tokenizer.new }
 {
     or_error!(tokenizer.attempt(
         State::Next(StateName::Document(DocumentState::BeforeFrontmatter)),
@@ -89,12 +82,7 @@ pub fn start(tokenizer: &mut Tokenizer) -> State
 #[tactic(auto, using(md_registry::proofs::FlowSteps::document_rule))]
 pub fn before_frontmatter(tokenizer: &mut Tokenizer) -> State
     requires { IsAt NeedsNothing (StateName.Document DocumentState.BeforeFrontmatter) (world tokenizer.old) }
-    ensures to { result ≢ State.Error → result ≡ (before_frontmatter_transition (world tokenizer.old)).to }
-    ensures world { result ≢ State.Error →
-        world tokenizer.new ≡ (before_frontmatter_transition (world tokenizer.old)).world }
-    ensures rule { result ≢ State.Error →
-        DocumentMeans DocumentState.BeforeFrontmatter (world tokenizer.old) result (world tokenizer.new) }
-    ensures full { OnError result (IsFull tokenizer.new) }
+    ensures { IsDocumentState DocumentState.BeforeFrontmatter (world tokenizer.old) result tokenizer.new }
 {
     or_error!(tokenizer.attempt(State::Ok, State::Ok));
     State::Retry(StateName::Frontmatter(FrontState::Start))
@@ -149,12 +137,7 @@ fn behind_all(tokenizer: &Tokenizer) -> DocumentState
 #[tactic(auto, using(md_registry::proofs::FlowSteps::document_rule), unfolding(md_events::specs::Look::looks_behind))]
 pub fn container_existing_before(tokenizer: &mut Tokenizer) -> State
     requires { IsAt NeedsNothing (StateName.Document DocumentState.ContainerExistingBefore) (world tokenizer.old) }
-    ensures to { result ≢ State.Error → result ≡ (existing_before_transition (world tokenizer.old)).to }
-    ensures world { result ≢ State.Error →
-        world tokenizer.new ≡ (existing_before_transition (world tokenizer.old)).world }
-    ensures rule { result ≢ State.Error →
-        DocumentMeans DocumentState.ContainerExistingBefore (world tokenizer.old) result (world tokenizer.new) }
-    ensures full { OnError result (IsFull tokenizer.new) }
+    ensures { IsDocumentState DocumentState.ContainerExistingBefore (world tokenizer.old) result tokenizer.new }
 {
     if ends_line(tokenizer.current) {
         pass_over(tokenizer);
@@ -186,9 +169,7 @@ pub fn container_existing_before(tokenizer: &mut Tokenizer) -> State
 #[tactic(auto, using(md_registry::proofs::FlowSteps::document_rule))]
 pub fn container_existing_after(tokenizer: &mut Tokenizer) -> State
     requires { IsAt NeedsNothing (StateName.Document DocumentState.ContainerExistingAfter) (world tokenizer.old) }
-    ensures to { result ≡ (existing_after_transition (world tokenizer.old)).to }
-    ensures world { world tokenizer.new ≡ (existing_after_transition (world tokenizer.old)).world }
-    ensures rule { DocumentMeans DocumentState.ContainerExistingAfter (world tokenizer.old) result (world tokenizer.new) }
+    ensures { IsSureDocumentState DocumentState.ContainerExistingAfter (world tokenizer.old) result tokenizer.new }
 {
     let Flags {
         asked,
@@ -212,13 +193,7 @@ pub fn container_existing_after(tokenizer: &mut Tokenizer) -> State
 #[tactic(auto, using(md_registry::proofs::FlowSteps::document_rule))]
 pub fn container_new_before(tokenizer: &mut Tokenizer) -> State
     requires { IsAt NeedsNothing (StateName.Document DocumentState.ContainerNewBefore) (world tokenizer.old) }
-    ensures to { result ≢ State.Error →
-        result ≡ (new_before_transition ContainerKind.BlockQuote (world tokenizer.old)).to }
-    ensures world { result ≢ State.Error →
-        world tokenizer.new ≡ (new_before_transition ContainerKind.BlockQuote (world tokenizer.old)).world }
-    ensures rule { result ≢ State.Error →
-        DocumentMeans DocumentState.ContainerNewBefore (world tokenizer.old) result (world tokenizer.new) }
-    ensures full { OnError result (IsFull tokenizer.new) }
+    ensures { IsDocumentState DocumentState.ContainerNewBefore (world tokenizer.old) result tokenizer.new }
 {
     try_new(tokenizer, ContainerKind::BlockQuote)
 }
@@ -234,13 +209,7 @@ pub fn container_new_before(tokenizer: &mut Tokenizer) -> State
 pub fn container_new_before_not_block_quote(tokenizer: &mut Tokenizer) -> State
     requires { IsAt NeedsNothing (StateName.Document DocumentState.ContainerNewBeforeNotBlockQuote)
         (world tokenizer.old) }
-    ensures to { result ≢ State.Error →
-        result ≡ (new_before_transition ContainerKind.ListItem (world tokenizer.old)).to }
-    ensures world { result ≢ State.Error →
-        world tokenizer.new ≡ (new_before_transition ContainerKind.ListItem (world tokenizer.old)).world }
-    ensures rule { result ≢ State.Error →
-        DocumentMeans DocumentState.ContainerNewBeforeNotBlockQuote (world tokenizer.old) result (world tokenizer.new) }
-    ensures full { OnError result (IsFull tokenizer.new) }
+    ensures { IsDocumentState DocumentState.ContainerNewBeforeNotBlockQuote (world tokenizer.old) result tokenizer.new }
 {
     try_new(tokenizer, ContainerKind::ListItem)
 }
@@ -255,13 +224,7 @@ pub fn container_new_before_not_block_quote(tokenizer: &mut Tokenizer) -> State
 #[tactic(auto, using(md_registry::proofs::FlowSteps::document_rule))]
 pub fn container_new_before_not_list(tokenizer: &mut Tokenizer) -> State
     requires { IsAt NeedsNothing (StateName.Document DocumentState.ContainerNewBeforeNotList) (world tokenizer.old) }
-    ensures to { result ≢ State.Error →
-        result ≡ (new_before_transition ContainerKind.GfmFootnoteDefinition (world tokenizer.old)).to }
-    ensures world { result ≢ State.Error →
-        world tokenizer.new ≡ (new_before_transition ContainerKind.GfmFootnoteDefinition (world tokenizer.old)).world }
-    ensures rule { result ≢ State.Error →
-        DocumentMeans DocumentState.ContainerNewBeforeNotList (world tokenizer.old) result (world tokenizer.new) }
-    ensures full { OnError result (IsFull tokenizer.new) }
+    ensures { IsDocumentState DocumentState.ContainerNewBeforeNotList (world tokenizer.old) result tokenizer.new }
 {
     try_new(tokenizer, ContainerKind::GfmFootnoteDefinition)
 }
@@ -332,11 +295,7 @@ pub(crate) fn try_new(tokenizer: &mut Tokenizer, kind: ContainerKind) -> State
 #[tactic(auto, using(md_registry::proofs::FlowSteps::document_rule))]
 pub fn container_new_after(tokenizer: &mut Tokenizer) -> State
     requires { IsAt NeedsNothing (StateName.Document DocumentState.ContainerNewAfter) (world tokenizer.old) }
-    ensures to { result ≢ State.Error → result ≡ (new_after_transition (world tokenizer.old)).to }
-    ensures world { result ≢ State.Error → world tokenizer.new ≡ (new_after_transition (world tokenizer.old)).world }
-    ensures rule { result ≢ State.Error →
-        DocumentMeans DocumentState.ContainerNewAfter (world tokenizer.old) result (world tokenizer.new) }
-    ensures full { OnError result (IsFull tokenizer.new ⊎ HasOpen (world tokenizer.old)) }
+    ensures { IsDocumentState DocumentState.ContainerNewAfter (world tokenizer.old) result tokenizer.new }
 {
     let Flags {
         asked,
@@ -361,9 +320,7 @@ pub fn container_new_after(tokenizer: &mut Tokenizer) -> State
 #[tactic(auto, using(md_registry::proofs::FlowSteps::document_rule))]
 pub fn containers_after(tokenizer: &mut Tokenizer) -> State
     requires { IsAt NeedsNothing (StateName.Document DocumentState.ContainersAfter) (world tokenizer.old) }
-    ensures to { result ≡ (containers_after_transition (world tokenizer.old)).to }
-    ensures world { world tokenizer.new ≡ (containers_after_transition (world tokenizer.old)).world }
-    ensures rule { DocumentMeans DocumentState.ContainersAfter (world tokenizer.old) result (world tokenizer.new) }
+    ensures { IsSureDocumentState DocumentState.ContainersAfter (world tokenizer.old) result tokenizer.new }
 {
     begin_line(tokenizer);
     if choices::goes_inside(tokenizer.flags.leaf) {
@@ -384,11 +341,7 @@ pub fn containers_after(tokenizer: &mut Tokenizer) -> State
 #[tactic(auto, using(md_registry::proofs::FlowSteps::document_rule))]
 pub fn flow_inside(tokenizer: &mut Tokenizer) -> State
     requires { IsAt NeedsNothing (StateName.Document DocumentState.FlowInside) (world tokenizer.old) }
-    ensures to { result ≢ State.Error → result ≡ (inside_transition (world tokenizer.old)).to }
-    ensures world { result ≢ State.Error → world tokenizer.new ≡ (inside_transition (world tokenizer.old)).world }
-    ensures rule { result ≢ State.Error →
-        DocumentMeans DocumentState.FlowInside (world tokenizer.old) result (world tokenizer.new) }
-    ensures full { OnError result (IsFull tokenizer.new) }
+    ensures { IsDocumentState DocumentState.FlowInside (world tokenizer.old) result tokenizer.new }
 {
     match choices::inside_start(tokenizer.flags.leaf) {
         None => State::Retry(StateName::Flow(FlowState::Start)),
@@ -493,11 +446,7 @@ fn take_ending(tokenizer: &mut Tokenizer)
 #[tactic(auto, using(md_registry::proofs::FlowSteps::document_rule))]
 pub fn flow_end(tokenizer: &mut Tokenizer) -> State
     requires { IsAt NeedsNothing (StateName.Document DocumentState.FlowEnd) (world tokenizer.old) }
-    ensures to { result ≢ State.Error → result ≡ (flow_end_transition (world tokenizer.old)).to }
-    ensures world { result ≢ State.Error → world tokenizer.new ≡ (flow_end_transition (world tokenizer.old)).world }
-    ensures rule { result ≢ State.Error →
-        DocumentMeans DocumentState.FlowEnd (world tokenizer.old) result (world tokenizer.new) }
-    ensures full { OnError result (IsFull tokenizer.new ⊎ HasOpen (world tokenizer.old)) }
+    ensures { IsDocumentState DocumentState.FlowEnd (world tokenizer.old) result tokenizer.new }
 {
     let keep = kept_containers(tokenizer);
     let line_end = tokenizer.flags.line_end;
@@ -528,11 +477,7 @@ pub fn flow_end(tokenizer: &mut Tokenizer) -> State
 #[tactic(auto, using(md_registry::proofs::FlowSteps::document_rule))]
 pub fn call(tokenizer: &mut Tokenizer, state: DocumentState) -> State
     requires { IsAt NeedsNothing (StateName.Document state) (world tokenizer.old) }
-    ensures to { result ≢ State.Error → result ≡ (document_own_transition state (world tokenizer.old)).to }
-    ensures world { result ≢ State.Error →
-        world tokenizer.new ≡ (document_own_transition state (world tokenizer.old)).world }
-    ensures rule { result ≢ State.Error → DocumentMeans state (world tokenizer.old) result (world tokenizer.new) }
-    ensures full { OnError result (IsFull tokenizer.new ⊎ HasOpen (world tokenizer.old)) }
+    ensures { IsDocumentState state (world tokenizer.old) result tokenizer.new }
 {
     match state {
         DocumentState::Start => start(tokenizer),

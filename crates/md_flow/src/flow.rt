@@ -17,13 +17,10 @@ ghost use Rattle.md_engine.specs.World.{world};
 ghost use Rattle.md_engine.specs.declared.state.Name.{Name as StateName};
 ghost use Rattle.md_engine.specs.declared.state.State.{State};
 ghost use Rattle.md_engine.specs.declared.state.flow.State.{State as FlowState};
-ghost use Rattle.md_registry.specs.FlowRule.{FlowMeans};
-ghost use Rattle.md_registry.specs.Flow.{after_transition, before_content_transition};
-ghost use Rattle.md_registry.specs.Flow.{blank_line_after_transition, blank_line_before_transition};
-ghost use Rattle.md_registry.specs.Flow.{flow_own_transition, leaf_after_transition, start_transition};
+ghost use Rattle.md_registry.specs.FlowRule.{FlowMeans, IsFlowState, IsSureFlowState};
+ghost use Rattle.md_registry.specs.Flow.{after_transition};
 ghost use Rattle.md_events.specs.Transition.{IsAt, NeedsNothing};
-ghost use Rattle.md_registry.specs.Flow.{before_transition, leaf_transition, trial_code};
-ghost use Rattle.proof_frame.specs.LeafName.{LeafName};
+ghost use Rattle.md_registry.specs.Flow.{leaf_transition, trial_code};
 ghost use Rattle.md_registry.specs.Registry.{tried_at};
 
 use md_engine::class::is_white;
@@ -48,14 +45,9 @@ use md_registry::choices::{self, FirstLeaf};
 #[tactic(auto, using(md_registry::proofs::FlowSteps::flow_rule))]
 pub fn start(tokenizer: &mut Tokenizer) -> State
     requires { IsAt NeedsNothing (StateName.Flow FlowState.Start) (world tokenizer.old) }
-    ensures to { result ≢ State.Error → result ≡ (start_transition (world tokenizer.old)).to }
-    ensures world { result ≢ State.Error →
-        world tokenizer.new ≡ (start_transition (world tokenizer.old)).world }
-    ensures rule { result ≢ State.Error →
-        FlowMeans FlowState.Start (world tokenizer.old) result (world tokenizer.new) }
+    ensures state { IsFlowState FlowState.Start (world tokenizer.old) result tokenizer.new }
     ensures outside { (options : ParseOptions) (column byte : ℕ) (bytes : List ℕ) → is_white byte ≡ false →
         IsOutsideRow options column byte bytes }
-    ensures full { OnError result (IsFull tokenizer.new) }
 {
     match tokenizer.current {
         None => State::Retry(StateName::Flow(FlowState::BlankLineBefore)),
@@ -78,12 +70,7 @@ pub fn start(tokenizer: &mut Tokenizer) -> State
 #[tactic(auto, using(md_registry::proofs::FlowSteps::flow_rule))]
 pub fn blank_line_before(tokenizer: &mut Tokenizer) -> State
     requires { IsAt NeedsNothing (StateName.Flow FlowState.BlankLineBefore) (world tokenizer.old) }
-    ensures to { result ≢ State.Error → result ≡ (blank_line_before_transition (world tokenizer.old)).to }
-    ensures world { result ≢ State.Error →
-        world tokenizer.new ≡ (blank_line_before_transition (world tokenizer.old)).world }
-    ensures rule { result ≢ State.Error →
-        FlowMeans FlowState.BlankLineBefore (world tokenizer.old) result (world tokenizer.new) }
-    ensures full { OnError result (IsFull tokenizer.new) }
+    ensures { IsFlowState FlowState.BlankLineBefore (world tokenizer.old) result tokenizer.new }
 {
     if blank_line::ends_line(tokenizer.current) {
         return State::Retry(StateName::Flow(FlowState::BlankLineAfter));
@@ -107,12 +94,7 @@ pub fn blank_line_before(tokenizer: &mut Tokenizer) -> State
 #[tactic(auto, using(md_registry::proofs::FlowSteps::flow_rule))]
 pub fn before_code_indented(tokenizer: &mut Tokenizer) -> State
     requires { IsAt NeedsNothing (StateName.Flow FlowState.BeforeCodeIndented) (world tokenizer.old) }
-    ensures to { result ≢ State.Error → result ≡ (before_transition LeafName.CodeIndented (world tokenizer.old)).to }
-    ensures world { result ≢ State.Error →
-        world tokenizer.new ≡ (before_transition LeafName.CodeIndented (world tokenizer.old)).world }
-    ensures rule { result ≢ State.Error →
-        FlowMeans FlowState.BeforeCodeIndented (world tokenizer.old) result (world tokenizer.new) }
-    ensures full { OnError result (IsFull tokenizer.new) }
+    ensures { IsFlowState FlowState.BeforeCodeIndented (world tokenizer.old) result tokenizer.new }
 {
     try_leaf(tokenizer, FlowState::BeforeCodeIndented)
 }
@@ -128,12 +110,7 @@ pub fn before_code_indented(tokenizer: &mut Tokenizer) -> State
 #[tactic(auto, using(md_registry::proofs::FlowSteps::flow_rule))]
 pub fn before_raw(tokenizer: &mut Tokenizer) -> State
     requires { IsAt NeedsNothing (StateName.Flow FlowState.BeforeRaw) (world tokenizer.old) }
-    ensures to { result ≢ State.Error → result ≡ (before_transition LeafName.Fence (world tokenizer.old)).to }
-    ensures world { result ≢ State.Error →
-        world tokenizer.new ≡ (before_transition LeafName.Fence (world tokenizer.old)).world }
-    ensures rule { result ≢ State.Error →
-        FlowMeans FlowState.BeforeRaw (world tokenizer.old) result (world tokenizer.new) }
-    ensures full { OnError result (IsFull tokenizer.new) }
+    ensures { IsFlowState FlowState.BeforeRaw (world tokenizer.old) result tokenizer.new }
 {
     try_leaf(tokenizer, FlowState::BeforeRaw)
 }
@@ -147,12 +124,7 @@ pub fn before_raw(tokenizer: &mut Tokenizer) -> State
 #[tactic(auto, using(md_registry::proofs::FlowSteps::flow_rule))]
 pub fn before_html(tokenizer: &mut Tokenizer) -> State
     requires { IsAt NeedsNothing (StateName.Flow FlowState.BeforeHtml) (world tokenizer.old) }
-    ensures to { result ≢ State.Error → result ≡ (before_transition LeafName.HtmlFlow (world tokenizer.old)).to }
-    ensures world { result ≢ State.Error →
-        world tokenizer.new ≡ (before_transition LeafName.HtmlFlow (world tokenizer.old)).world }
-    ensures rule { result ≢ State.Error →
-        FlowMeans FlowState.BeforeHtml (world tokenizer.old) result (world tokenizer.new) }
-    ensures full { OnError result (IsFull tokenizer.new) }
+    ensures { IsFlowState FlowState.BeforeHtml (world tokenizer.old) result tokenizer.new }
 {
     try_leaf(tokenizer, FlowState::BeforeHtml)
 }
@@ -166,12 +138,7 @@ pub fn before_html(tokenizer: &mut Tokenizer) -> State
 #[tactic(auto, using(md_registry::proofs::FlowSteps::flow_rule))]
 pub fn before_heading_atx(tokenizer: &mut Tokenizer) -> State
     requires { IsAt NeedsNothing (StateName.Flow FlowState.BeforeHeadingAtx) (world tokenizer.old) }
-    ensures to { result ≢ State.Error → result ≡ (before_transition LeafName.HeadingAtx (world tokenizer.old)).to }
-    ensures world { result ≢ State.Error →
-        world tokenizer.new ≡ (before_transition LeafName.HeadingAtx (world tokenizer.old)).world }
-    ensures rule { result ≢ State.Error →
-        FlowMeans FlowState.BeforeHeadingAtx (world tokenizer.old) result (world tokenizer.new) }
-    ensures full { OnError result (IsFull tokenizer.new) }
+    ensures { IsFlowState FlowState.BeforeHeadingAtx (world tokenizer.old) result tokenizer.new }
 {
     try_leaf(tokenizer, FlowState::BeforeHeadingAtx)
 }
@@ -186,12 +153,7 @@ pub fn before_heading_atx(tokenizer: &mut Tokenizer) -> State
 #[tactic(auto, using(md_registry::proofs::FlowSteps::flow_rule))]
 pub fn before_heading_setext(tokenizer: &mut Tokenizer) -> State
     requires { IsAt NeedsNothing (StateName.Flow FlowState.BeforeHeadingSetext) (world tokenizer.old) }
-    ensures to { result ≢ State.Error → result ≡ (before_transition LeafName.HeadingSetext (world tokenizer.old)).to }
-    ensures world { result ≢ State.Error →
-        world tokenizer.new ≡ (before_transition LeafName.HeadingSetext (world tokenizer.old)).world }
-    ensures rule { result ≢ State.Error →
-        FlowMeans FlowState.BeforeHeadingSetext (world tokenizer.old) result (world tokenizer.new) }
-    ensures full { OnError result (IsFull tokenizer.new) }
+    ensures { IsFlowState FlowState.BeforeHeadingSetext (world tokenizer.old) result tokenizer.new }
 {
     try_leaf(tokenizer, FlowState::BeforeHeadingSetext)
 }
@@ -205,12 +167,7 @@ pub fn before_heading_setext(tokenizer: &mut Tokenizer) -> State
 #[tactic(auto, using(md_registry::proofs::FlowSteps::flow_rule))]
 pub fn before_thematic_break(tokenizer: &mut Tokenizer) -> State
     requires { IsAt NeedsNothing (StateName.Flow FlowState.BeforeThematicBreak) (world tokenizer.old) }
-    ensures to { result ≢ State.Error → result ≡ (before_transition LeafName.ThematicBreak (world tokenizer.old)).to }
-    ensures world { result ≢ State.Error →
-        world tokenizer.new ≡ (before_transition LeafName.ThematicBreak (world tokenizer.old)).world }
-    ensures rule { result ≢ State.Error →
-        FlowMeans FlowState.BeforeThematicBreak (world tokenizer.old) result (world tokenizer.new) }
-    ensures full { OnError result (IsFull tokenizer.new) }
+    ensures { IsFlowState FlowState.BeforeThematicBreak (world tokenizer.old) result tokenizer.new }
 {
     try_leaf(tokenizer, FlowState::BeforeThematicBreak)
 }
@@ -227,12 +184,7 @@ pub fn before_thematic_break(tokenizer: &mut Tokenizer) -> State
 #[tactic(auto, using(md_registry::proofs::FlowSteps::flow_rule))]
 pub fn before_gfm_table(tokenizer: &mut Tokenizer) -> State
     requires { IsAt NeedsNothing (StateName.Flow FlowState.BeforeGfmTable) (world tokenizer.old) }
-    ensures to { result ≢ State.Error → result ≡ (before_transition LeafName.GfmTable (world tokenizer.old)).to }
-    ensures world { result ≢ State.Error →
-        world tokenizer.new ≡ (before_transition LeafName.GfmTable (world tokenizer.old)).world }
-    ensures rule { result ≢ State.Error →
-        FlowMeans FlowState.BeforeGfmTable (world tokenizer.old) result (world tokenizer.new) }
-    ensures full { OnError result (IsFull tokenizer.new) }
+    ensures { IsFlowState FlowState.BeforeGfmTable (world tokenizer.old) result tokenizer.new }
 {
     try_leaf(tokenizer, FlowState::BeforeGfmTable)
 }
@@ -283,12 +235,7 @@ fn try_start(tokenizer: &mut Tokenizer, first: FirstLeaf) -> State
 #[tactic(auto, using(md_registry::proofs::FlowSteps::flow_rule))]
 pub fn before_content(tokenizer: &mut Tokenizer) -> State
     requires { IsAt NeedsNothing (StateName.Flow FlowState.BeforeContent) (world tokenizer.old) }
-    ensures to { result ≢ State.Error → result ≡ (before_content_transition (world tokenizer.old)).to }
-    ensures world { result ≢ State.Error →
-        world tokenizer.new ≡ (before_content_transition (world tokenizer.old)).world }
-    ensures rule { result ≢ State.Error →
-        FlowMeans FlowState.BeforeContent (world tokenizer.old) result (world tokenizer.new) }
-    ensures full { OnError result (IsFull tokenizer.new) }
+    ensures { IsFlowState FlowState.BeforeContent (world tokenizer.old) result tokenizer.new }
 {
     or_error!(tokenizer.attempt(State::Next(StateName::Flow(FlowState::After)), State::Nok));
     State::Retry(StateName::Content(ContentState::ChunkStart))
@@ -303,9 +250,7 @@ pub fn before_content(tokenizer: &mut Tokenizer) -> State
 #[tactic(auto, using(md_registry::proofs::FlowSteps::flow_rule))]
 pub fn blank_line_after(tokenizer: &mut Tokenizer) -> State
     requires { IsAt NeedsNothing (StateName.Flow FlowState.BlankLineAfter) (world tokenizer.old) }
-    ensures to { result ≡ (blank_line_after_transition (world tokenizer.old)).to }
-    ensures world { world tokenizer.new ≡ (blank_line_after_transition (world tokenizer.old)).world }
-    ensures rule { FlowMeans FlowState.BlankLineAfter (world tokenizer.old) result (world tokenizer.new) }
+    ensures { IsSureFlowState FlowState.BlankLineAfter (world tokenizer.old) result tokenizer.new }
 {
     tokenizer.flags.blank = true;
     leaf_after(tokenizer)
@@ -320,9 +265,7 @@ pub fn blank_line_after(tokenizer: &mut Tokenizer) -> State
 #[tactic(auto, using(md_registry::proofs::FlowSteps::flow_rule))]
 pub fn leaf_after(tokenizer: &mut Tokenizer) -> State
     requires { IsAt NeedsNothing (StateName.Flow FlowState.LeafAfter) (world tokenizer.old) }
-    ensures to { result ≡ (leaf_after_transition (world tokenizer.old)).to }
-    ensures world { world tokenizer.new ≡ (leaf_after_transition (world tokenizer.old)).world }
-    ensures rule { FlowMeans FlowState.LeafAfter (world tokenizer.old) result (world tokenizer.new) }
+    ensures { IsSureFlowState FlowState.LeafAfter (world tokenizer.old) result tokenizer.new }
 {
     tokenizer.flags.leaf = HeldLeaf::None;
     State::Retry(StateName::Document(DocumentState::FlowEnd))
@@ -348,11 +291,7 @@ pub fn after(_tokenizer: &mut Tokenizer) -> State
 #[tactic(auto, using(md_registry::proofs::FlowSteps::flow_rule))]
 pub fn call(tokenizer: &mut Tokenizer, state: FlowState) -> State
     requires { IsAt NeedsNothing (StateName.Flow state) (world tokenizer.old) }
-    ensures to { result ≢ State.Error → result ≡ (flow_own_transition state (world tokenizer.old)).to }
-    ensures world { result ≢ State.Error →
-        world tokenizer.new ≡ (flow_own_transition state (world tokenizer.old)).world }
-    ensures rule { result ≢ State.Error → FlowMeans state (world tokenizer.old) result (world tokenizer.new) }
-    ensures full { OnError result (IsFull tokenizer.new) }
+    ensures { IsFlowState state (world tokenizer.old) result tokenizer.new }
 {
     match state {
         FlowState::Start => start(tokenizer),

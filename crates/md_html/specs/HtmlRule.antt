@@ -20,10 +20,13 @@ use Rattle.md_meaning.specs.Html.{html_ends, html_kind, is_attribute_byte, is_va
 use Rattle.md_meaning.specs.Lines.{begins_with}
 use Rattle.md_meaning.specs.Rest.{is_blank, trim_start}
 use Rattle.md_leaves.specs.Further.{further_link}
-use Rattle.md_html.specs.Html.{HtmlInvariant, cleared, ends_in_front, is_open_text, name_text, stop_of}
+use Rattle.md_html.specs.Html.{HtmlInvariant, cleared, ends_in_front, is_open_text, name_text, stop_of, html_transition}
 use Rattle.md_events.specs.Ahead.{from_ending, line_bytes, line_end, white_rest}
 use Rattle.md_events.specs.Events.Nested.{enter, enter_link, exit}
 use Rattle.md_events.specs.Spaces.{small_indent}
+use Rattle.md_events.specs.States.{IsState, IsSureState}
+use Rattle.md_engine.specs.declared.tokenizer.Tokenizer.{Tokenizer}
+use Rattle.md_engine.specs.Full.{IsFull}
 
 -- where the text of a line begins
 abbrev pub entering : Here → Here
@@ -205,3 +208,11 @@ unfoldable pub HtmlMeans : HtmlState → World → State → World → Type 0
 HtmlMeans state old to new =
     HtmlInvariant (n.HtmlFlow state) (position old) → old.current ≡ looks old →
     IsStep (λ B. HasHtml B old.setting.bytes old.setting.options) (n.HtmlFlow state) to old new
+
+-- what a state of HTML promises
+abbrev pub IsHtmlState : HtmlState → World → State → Tokenizer → Type 0
+IsHtmlState state old answer new = IsState (html_transition state old) (HtmlMeans state old) (IsFull new) answer new
+
+-- the same of a state that wants no memory
+abbrev pub IsSureHtmlState : HtmlState → World → State → Tokenizer → Type 0
+IsSureHtmlState state old answer new = IsSureState (html_transition state old) (HtmlMeans state old) answer new

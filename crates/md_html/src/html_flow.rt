@@ -26,24 +26,16 @@
 // A resolver makes one block of them.
 
 ghost use Rattle.std.specs.Prelude.{◌≡◌, ◌≢◌, ◌<◌, IfSome, false, length};
-ghost use Rattle.md_html.specs.HtmlRule.{HtmlMeans};
-ghost use Rattle.md_engine.specs.Full.{IsFull, OnError};
+ghost use Rattle.md_html.specs.HtmlRule.{HtmlMeans, IsHtmlState, IsSureHtmlState};
 ghost use Rattle.md_engine.specs.World.{looks, world};
 ghost use Rattle.md_engine.specs.declared.state.Name.{Name as StateName};
 ghost use Rattle.md_engine.specs.declared.state.State.{State};
 ghost use Rattle.md_engine.specs.declared.state.html_flow.State.{State as HtmlState};
-ghost use Rattle.md_html.specs.Html.{HtmlNeeds, basic_name_code, basic_self_closing_transition, before_transition};
-ghost use Rattle.md_html.specs.Html.{complete_name_code, name_move, stop_move, blank_line_before_transition};
-ghost use Rattle.md_html.specs.Html.{cdata_open_inside_transition, comment_open_inside_transition};
-ghost use Rattle.md_html.specs.Html.{continuation_after_transition, continuation_before_transition};
-ghost use Rattle.md_html.specs.Html.{continuation_close_transition, continuation_start_non_lazy_transition};
-ghost use Rattle.md_html.specs.Html.{continuation_start_transition};
-ghost use Rattle.md_html.specs.Html.{continuation_cdata_inside_transition, continuation_comment_inside_transition};
-ghost use Rattle.md_html.specs.Html.{continuation_transition, continuation_declaration_inside_transition};
-ghost use Rattle.md_html.specs.Html.{continuation_raw_end_tag_transition, continuation_raw_tag_open_transition};
-ghost use Rattle.md_html.specs.Html.{declaration_open_transition, html_transition, indent_transition, is_html};
-ghost use Rattle.md_html.specs.Html.{is_open_text, may_begin, moved, open_transition, start_transition};
-ghost use Rattle.md_html.specs.Html.{tag_close_start_transition, tag_name_transition};
+ghost use Rattle.md_html.specs.Html.{HtmlNeeds, basic_name_code};
+ghost use Rattle.md_html.specs.Html.{complete_name_code, name_move, stop_move};
+ghost use Rattle.md_html.specs.Html.{continuation_start_non_lazy_transition};
+ghost use Rattle.md_html.specs.Html.{html_transition, is_html};
+ghost use Rattle.md_html.specs.Html.{is_open_text, may_begin, moved};
 ghost use Rattle.md_events.specs.Spaces.{ends_line, is_current};
 ghost use Rattle.md_events.specs.Look.{may_with};
 ghost use Rattle.md_events.specs.Stays.{TakesEach};
@@ -96,10 +88,7 @@ pub fn may_begin(first: Option<u8>) -> bool
 #[tactic(auto, using(crate::proofs::HtmlMeaning::html_rule))]
 pub fn start(tokenizer: &mut Tokenizer) -> State
     requires { IsAt HtmlNeeds (StateName.HtmlFlow HtmlState.Start) (world tokenizer.old) }
-    ensures to { result ≢ State.Error → result ≡ (start_transition (world tokenizer.old)).to }
-    ensures world { result ≢ State.Error → world tokenizer.new ≡ (start_transition (world tokenizer.old)).world }
-    ensures rule { result ≢ State.Error → HtmlMeans HtmlState.Start (world tokenizer.old) result (world tokenizer.new) }
-    ensures full { OnError result (IsFull tokenizer.new) }
+    ensures { IsHtmlState HtmlState.Start (world tokenizer.old) result tokenizer.new }
 {
     if !tokenizer.options.constructs.html_flow {
         return State::Nok;
@@ -118,9 +107,7 @@ pub fn start(tokenizer: &mut Tokenizer) -> State
 #[tactic(auto, using(crate::proofs::HtmlMeaning::html_rule))]
 pub fn indent(tokenizer: &mut Tokenizer) -> State
     requires { IsAt HtmlNeeds (StateName.HtmlFlow HtmlState.Indent) (world tokenizer.old) }
-    ensures to { result ≡ (indent_transition (world tokenizer.old)).to }
-    ensures world { world tokenizer.new ≡ (indent_transition (world tokenizer.old)).world }
-    ensures rule { HtmlMeans HtmlState.Indent (world tokenizer.old) result (world tokenizer.new) }
+    ensures { IsSureHtmlState HtmlState.Indent (world tokenizer.old) result tokenizer.new }
 {
     if is_space_or_tab(tokenizer.current) && tokenizer.scratch.size < small_indent(tokenizer) {
         tokenizer.consume();
@@ -141,9 +128,7 @@ pub fn indent(tokenizer: &mut Tokenizer) -> State
 #[tactic(auto, using(crate::proofs::HtmlMeaning::html_rule))]
 pub fn before(tokenizer: &mut Tokenizer) -> State
     requires { IsAt HtmlNeeds (StateName.HtmlFlow HtmlState.Before) (world tokenizer.old) }
-    ensures to { result ≡ (before_transition (world tokenizer.old)).to }
-    ensures world { world tokenizer.new ≡ (before_transition (world tokenizer.old)).world }
-    ensures rule { HtmlMeans HtmlState.Before (world tokenizer.old) result (world tokenizer.new) }
+    ensures { IsSureHtmlState HtmlState.Before (world tokenizer.old) result tokenizer.new }
 {
     if tokenizer.current == Some(b'<') {
         tokenizer.consume();
@@ -167,9 +152,7 @@ pub fn before(tokenizer: &mut Tokenizer) -> State
 #[tactic(auto, using(crate::proofs::HtmlMeaning::html_rule))]
 pub fn open(tokenizer: &mut Tokenizer) -> State
     requires { IsAt HtmlNeeds (StateName.HtmlFlow HtmlState.Open) (world tokenizer.old) }
-    ensures to { result ≡ (open_transition (world tokenizer.old)).to }
-    ensures world { world tokenizer.new ≡ (open_transition (world tokenizer.old)).world }
-    ensures rule { HtmlMeans HtmlState.Open (world tokenizer.old) result (world tokenizer.new) }
+    ensures { IsSureHtmlState HtmlState.Open (world tokenizer.old) result tokenizer.new }
 {
     match tokenizer.current {
         Some(b'!') => {
@@ -208,9 +191,7 @@ pub fn open(tokenizer: &mut Tokenizer) -> State
 #[tactic(auto, using(crate::proofs::HtmlMeaning::html_rule))]
 pub fn declaration_open(tokenizer: &mut Tokenizer) -> State
     requires { IsAt HtmlNeeds (StateName.HtmlFlow HtmlState.DeclarationOpen) (world tokenizer.old) }
-    ensures to { result ≡ (declaration_open_transition (world tokenizer.old)).to }
-    ensures world { world tokenizer.new ≡ (declaration_open_transition (world tokenizer.old)).world }
-    ensures rule { HtmlMeans HtmlState.DeclarationOpen (world tokenizer.old) result (world tokenizer.new) }
+    ensures { IsSureHtmlState HtmlState.DeclarationOpen (world tokenizer.old) result tokenizer.new }
 {
     match tokenizer.current {
         Some(b'-') => {
@@ -240,9 +221,7 @@ pub fn declaration_open(tokenizer: &mut Tokenizer) -> State
 #[tactic(auto, using(crate::proofs::HtmlMeaning::html_rule))]
 pub fn comment_open_inside(tokenizer: &mut Tokenizer) -> State
     requires { IsAt HtmlNeeds (StateName.HtmlFlow HtmlState.CommentOpenInside) (world tokenizer.old) }
-    ensures to { result ≡ (comment_open_inside_transition (world tokenizer.old)).to }
-    ensures world { world tokenizer.new ≡ (comment_open_inside_transition (world tokenizer.old)).world }
-    ensures rule { HtmlMeans HtmlState.CommentOpenInside (world tokenizer.old) result (world tokenizer.new) }
+    ensures { IsSureHtmlState HtmlState.CommentOpenInside (world tokenizer.old) result tokenizer.new }
 {
     if tokenizer.current == Some(b'-') {
         begin_behind(
@@ -264,9 +243,7 @@ pub fn comment_open_inside(tokenizer: &mut Tokenizer) -> State
 #[tactic(auto, using(crate::proofs::HtmlMeaning::html_rule))]
 pub fn cdata_open_inside(tokenizer: &mut Tokenizer) -> State
     requires { IsAt HtmlNeeds (StateName.HtmlFlow HtmlState.CdataOpenInside) (world tokenizer.old) }
-    ensures to { result ≡ (cdata_open_inside_transition (world tokenizer.old)).to }
-    ensures world { world tokenizer.new ≡ (cdata_open_inside_transition (world tokenizer.old)).world }
-    ensures rule { HtmlMeans HtmlState.CdataOpenInside (world tokenizer.old) result (world tokenizer.new) }
+    ensures { IsSureHtmlState HtmlState.CdataOpenInside (world tokenizer.old) result tokenizer.new }
 {
     if tokenizer.current != Some(cdata_byte(tokenizer.scratch.size)) {
         refuse(tokenizer)
@@ -288,9 +265,7 @@ pub fn cdata_open_inside(tokenizer: &mut Tokenizer) -> State
 #[tactic(auto, using(crate::proofs::HtmlMeaning::html_rule))]
 pub fn tag_close_start(tokenizer: &mut Tokenizer) -> State
     requires { IsAt HtmlNeeds (StateName.HtmlFlow HtmlState.TagCloseStart) (world tokenizer.old) }
-    ensures to { result ≡ (tag_close_start_transition (world tokenizer.old)).to }
-    ensures world { world tokenizer.new ≡ (tag_close_start_transition (world tokenizer.old)).world }
-    ensures rule { HtmlMeans HtmlState.TagCloseStart (world tokenizer.old) result (world tokenizer.new) }
+    ensures { IsSureHtmlState HtmlState.TagCloseStart (world tokenizer.old) result tokenizer.new }
 {
     if sees_letter(tokenizer.current) {
         tokenizer.scratch = Scratch {
@@ -375,9 +350,7 @@ fn name_ended(tokenizer: &mut Tokenizer) -> State
 #[tactic(auto, using(crate::proofs::HtmlMeaning::html_rule))]
 pub fn tag_name(tokenizer: &mut Tokenizer) -> State
     requires { IsAt HtmlNeeds (StateName.HtmlFlow HtmlState.TagName) (world tokenizer.old) }
-    ensures to { result ≡ (tag_name_transition (world tokenizer.old)).to }
-    ensures world { world tokenizer.new ≡ (tag_name_transition (world tokenizer.old)).world }
-    ensures rule { HtmlMeans HtmlState.TagName (world tokenizer.old) result (world tokenizer.new) }
+    ensures { IsSureHtmlState HtmlState.TagName (world tokenizer.old) result tokenizer.new }
 {
     if sees_tag_byte(tokenizer.current) {
         tokenizer.consume();
@@ -398,9 +371,7 @@ pub fn tag_name(tokenizer: &mut Tokenizer) -> State
 #[tactic(auto, using(crate::proofs::HtmlMeaning::html_rule))]
 pub fn basic_self_closing(tokenizer: &mut Tokenizer) -> State
     requires { IsAt HtmlNeeds (StateName.HtmlFlow HtmlState.BasicSelfClosing) (world tokenizer.old) }
-    ensures to { result ≡ (basic_self_closing_transition (world tokenizer.old)).to }
-    ensures world { world tokenizer.new ≡ (basic_self_closing_transition (world tokenizer.old)).world }
-    ensures rule { HtmlMeans HtmlState.BasicSelfClosing (world tokenizer.old) result (world tokenizer.new) }
+    ensures { IsSureHtmlState HtmlState.BasicSelfClosing (world tokenizer.old) result tokenizer.new }
 {
     if tokenizer.current == Some(b'>') {
         tokenizer.consume();
@@ -443,11 +414,7 @@ fn at_stop(tokenizer: &mut Tokenizer) -> State
 #[tactic(auto, using(crate::proofs::HtmlMeaning::html_rule))]
 pub fn continuation(tokenizer: &mut Tokenizer) -> State
     requires { IsAt HtmlNeeds (StateName.HtmlFlow HtmlState.Continuation) (world tokenizer.old) }
-    ensures to { result ≢ State.Error → result ≡ (continuation_transition (world tokenizer.old)).to }
-    ensures world { result ≢ State.Error → world tokenizer.new ≡ (continuation_transition (world tokenizer.old)).world }
-    ensures rule { result ≢ State.Error →
-        HtmlMeans HtmlState.Continuation (world tokenizer.old) result (world tokenizer.new) }
-    ensures full { OnError result (IsFull tokenizer.new) }
+    ensures { IsHtmlState HtmlState.Continuation (world tokenizer.old) result tokenizer.new }
 {
     match tokenizer.current {
         None | Some(b'\n') => end_data(tokenizer),
@@ -473,12 +440,7 @@ pub fn continuation(tokenizer: &mut Tokenizer) -> State
 #[tactic(auto, using(crate::proofs::HtmlMeaning::html_rule))]
 pub fn continuation_start(tokenizer: &mut Tokenizer) -> State
     requires { IsAt HtmlNeeds (StateName.HtmlFlow HtmlState.ContinuationStart) (world tokenizer.old) }
-    ensures to { result ≢ State.Error → result ≡ (continuation_start_transition (world tokenizer.old)).to }
-    ensures world { result ≢ State.Error →
-        world tokenizer.new ≡ (continuation_start_transition (world tokenizer.old)).world }
-    ensures rule { result ≢ State.Error →
-        HtmlMeans HtmlState.ContinuationStart (world tokenizer.old) result (world tokenizer.new) }
-    ensures full { OnError result (IsFull tokenizer.new) }
+    ensures { IsHtmlState HtmlState.ContinuationStart (world tokenizer.old) result tokenizer.new }
 {
     or_error!(tokenizer.enter_link(Name::HtmlFlow, FURTHER));
     if ends_in_front(tokenizer.flags.leaf) {
@@ -517,12 +479,7 @@ pub fn continuation_start_non_lazy(_tokenizer: &mut Tokenizer) -> State
 #[tactic(auto, using(crate::proofs::HtmlMeaning::html_rule))]
 pub fn continuation_before(tokenizer: &mut Tokenizer) -> State
     requires { IsAt HtmlNeeds (StateName.HtmlFlow HtmlState.ContinuationBefore) (world tokenizer.old) }
-    ensures to { result ≢ State.Error → result ≡ (continuation_before_transition (world tokenizer.old)).to }
-    ensures world { result ≢ State.Error →
-        world tokenizer.new ≡ (continuation_before_transition (world tokenizer.old)).world }
-    ensures rule { result ≢ State.Error →
-        HtmlMeans HtmlState.ContinuationBefore (world tokenizer.old) result (world tokenizer.new) }
-    ensures full { OnError result (IsFull tokenizer.new) }
+    ensures { IsHtmlState HtmlState.ContinuationBefore (world tokenizer.old) result tokenizer.new }
 {
     match tokenizer.current {
         None | Some(b'\n') => State::Retry(StateName::HtmlFlow(HtmlState::ContinuationAfter)),
@@ -543,9 +500,7 @@ pub fn continuation_before(tokenizer: &mut Tokenizer) -> State
 #[tactic(auto, using(crate::proofs::HtmlMeaning::html_rule))]
 pub fn continuation_comment_inside(tokenizer: &mut Tokenizer) -> State
     requires { IsAt HtmlNeeds (StateName.HtmlFlow HtmlState.ContinuationCommentInside) (world tokenizer.old) }
-    ensures to { result ≡ (continuation_comment_inside_transition (world tokenizer.old)).to }
-    ensures world { world tokenizer.new ≡ (continuation_comment_inside_transition (world tokenizer.old)).world }
-    ensures rule { HtmlMeans HtmlState.ContinuationCommentInside (world tokenizer.old) result (world tokenizer.new) }
+    ensures { IsSureHtmlState HtmlState.ContinuationCommentInside (world tokenizer.old) result tokenizer.new }
 {
     if tokenizer.current == Some(b'-') {
         tokenizer.consume();
@@ -564,9 +519,7 @@ pub fn continuation_comment_inside(tokenizer: &mut Tokenizer) -> State
 #[tactic(auto, using(crate::proofs::HtmlMeaning::html_rule))]
 pub fn continuation_raw_tag_open(tokenizer: &mut Tokenizer) -> State
     requires { IsAt HtmlNeeds (StateName.HtmlFlow HtmlState.ContinuationRawTagOpen) (world tokenizer.old) }
-    ensures to { result ≡ (continuation_raw_tag_open_transition (world tokenizer.old)).to }
-    ensures world { world tokenizer.new ≡ (continuation_raw_tag_open_transition (world tokenizer.old)).world }
-    ensures rule { HtmlMeans HtmlState.ContinuationRawTagOpen (world tokenizer.old) result (world tokenizer.new) }
+    ensures { IsSureHtmlState HtmlState.ContinuationRawTagOpen (world tokenizer.old) result tokenizer.new }
 {
     if tokenizer.current == Some(b'/') {
         tokenizer.consume();
@@ -586,9 +539,7 @@ pub fn continuation_raw_tag_open(tokenizer: &mut Tokenizer) -> State
 #[tactic(auto, using(crate::proofs::HtmlMeaning::html_rule))]
 pub fn continuation_raw_end_tag(tokenizer: &mut Tokenizer) -> State
     requires { IsAt HtmlNeeds (StateName.HtmlFlow HtmlState.ContinuationRawEndTag) (world tokenizer.old) }
-    ensures to { result ≡ (continuation_raw_end_tag_transition (world tokenizer.old)).to }
-    ensures world { world tokenizer.new ≡ (continuation_raw_end_tag_transition (world tokenizer.old)).world }
-    ensures rule { HtmlMeans HtmlState.ContinuationRawEndTag (world tokenizer.old) result (world tokenizer.new) }
+    ensures { IsSureHtmlState HtmlState.ContinuationRawEndTag (world tokenizer.old) result tokenizer.new }
 {
     if sees_letter(tokenizer.current) {
         tokenizer.consume();
@@ -610,9 +561,7 @@ pub fn continuation_raw_end_tag(tokenizer: &mut Tokenizer) -> State
 #[tactic(auto, using(crate::proofs::HtmlMeaning::html_rule))]
 pub fn continuation_cdata_inside(tokenizer: &mut Tokenizer) -> State
     requires { IsAt HtmlNeeds (StateName.HtmlFlow HtmlState.ContinuationCdataInside) (world tokenizer.old) }
-    ensures to { result ≡ (continuation_cdata_inside_transition (world tokenizer.old)).to }
-    ensures world { world tokenizer.new ≡ (continuation_cdata_inside_transition (world tokenizer.old)).world }
-    ensures rule { HtmlMeans HtmlState.ContinuationCdataInside (world tokenizer.old) result (world tokenizer.new) }
+    ensures { IsSureHtmlState HtmlState.ContinuationCdataInside (world tokenizer.old) result tokenizer.new }
 {
     if tokenizer.current == Some(b']') {
         tokenizer.consume();
@@ -633,10 +582,7 @@ pub fn continuation_cdata_inside(tokenizer: &mut Tokenizer) -> State
 #[tactic(auto, using(crate::proofs::HtmlMeaning::html_rule))]
 pub fn continuation_declaration_inside(tokenizer: &mut Tokenizer) -> State
     requires { IsAt HtmlNeeds (StateName.HtmlFlow HtmlState.ContinuationDeclarationInside) (world tokenizer.old) }
-    ensures to { result ≡ (continuation_declaration_inside_transition (world tokenizer.old)).to }
-    ensures world { world tokenizer.new ≡ (continuation_declaration_inside_transition (world tokenizer.old)).world }
-    ensures rule { HtmlMeans HtmlState.ContinuationDeclarationInside (world tokenizer.old) result
-        (world tokenizer.new) }
+    ensures { IsSureHtmlState HtmlState.ContinuationDeclarationInside (world tokenizer.old) result tokenizer.new }
 {
     if tokenizer.current == Some(b'>') {
         shut(tokenizer)
@@ -657,13 +603,8 @@ pub fn continuation_declaration_inside(tokenizer: &mut Tokenizer) -> State
 #[tactic(auto, using(crate::proofs::HtmlMeaning::html_rule))]
 pub fn continuation_close(tokenizer: &mut Tokenizer) -> State
     requires { IsAt HtmlNeeds (StateName.HtmlFlow HtmlState.ContinuationClose) (world tokenizer.old) }
-    ensures to { result ≢ State.Error → result ≡ (continuation_close_transition (world tokenizer.old)).to }
-    ensures world { result ≢ State.Error →
-        world tokenizer.new ≡ (continuation_close_transition (world tokenizer.old)).world }
+    ensures state { IsHtmlState HtmlState.ContinuationClose (world tokenizer.old) result tokenizer.new }
     ensures in_line { ends_line (world tokenizer.old).current ≡ false → result ≢ State.Error }
-    ensures rule { result ≢ State.Error →
-        HtmlMeans HtmlState.ContinuationClose (world tokenizer.old) result (world tokenizer.new) }
-    ensures full { OnError result (IsFull tokenizer.new) }
 {
     match tokenizer.current {
         None | Some(b'\n') => end_data(tokenizer),
@@ -683,12 +624,7 @@ pub fn continuation_close(tokenizer: &mut Tokenizer) -> State
 #[tactic(auto, using(crate::proofs::HtmlMeaning::html_rule))]
 pub fn continuation_after(tokenizer: &mut Tokenizer) -> State
     requires { IsAt HtmlNeeds (StateName.HtmlFlow HtmlState.ContinuationAfter) (world tokenizer.old) }
-    ensures to { result ≢ State.Error → result ≡ (continuation_after_transition (world tokenizer.old)).to }
-    ensures world { result ≢ State.Error →
-        world tokenizer.new ≡ (continuation_after_transition (world tokenizer.old)).world }
-    ensures rule { result ≢ State.Error →
-        HtmlMeans HtmlState.ContinuationAfter (world tokenizer.old) result (world tokenizer.new) }
-    ensures full { OnError result (IsFull tokenizer.new) }
+    ensures { IsHtmlState HtmlState.ContinuationAfter (world tokenizer.old) result tokenizer.new }
 {
     or_error!(tokenizer.exit(Name::HtmlFlow));
     tokenizer.scratch = cleared(tokenizer.scratch);
@@ -705,9 +641,7 @@ pub fn continuation_after(tokenizer: &mut Tokenizer) -> State
 #[tactic(auto, using(crate::proofs::HtmlMeaning::html_rule))]
 pub fn blank_line_before(tokenizer: &mut Tokenizer) -> State
     requires { IsAt HtmlNeeds (StateName.HtmlFlow HtmlState.BlankLineBefore) (world tokenizer.old) }
-    ensures to { result ≡ (blank_line_before_transition (world tokenizer.old)).to }
-    ensures world { world tokenizer.new ≡ (blank_line_before_transition (world tokenizer.old)).world }
-    ensures rule { HtmlMeans HtmlState.BlankLineBefore (world tokenizer.old) result (world tokenizer.new) }
+    ensures { IsSureHtmlState HtmlState.BlankLineBefore (world tokenizer.old) result tokenizer.new }
 {
     match tokenizer.current {
         None | Some(b'\n') => refuse(tokenizer),
@@ -735,10 +669,7 @@ pub fn takes_at_once(state: HtmlState) -> Option<Stay>
 #[tactic(auto, using(crate::proofs::HtmlMeaning::html_rule))]
 pub fn call(tokenizer: &mut Tokenizer, state: HtmlState) -> State
     requires { IsAt HtmlNeeds (StateName.HtmlFlow state) (world tokenizer.old) }
-    ensures to { result ≢ State.Error → result ≡ (html_transition state (world tokenizer.old)).to }
-    ensures world { result ≢ State.Error → world tokenizer.new ≡ (html_transition state (world tokenizer.old)).world }
-    ensures rule { result ≢ State.Error → HtmlMeans state (world tokenizer.old) result (world tokenizer.new) }
-    ensures full { OnError result (IsFull tokenizer.new) }
+    ensures { IsHtmlState state (world tokenizer.old) result tokenizer.new }
 {
     match state {
         HtmlState::Start => start(tokenizer),

@@ -15,6 +15,10 @@ use Rattle.md_events.specs.Ahead.{HasWhite, begins_white, from_ending, line_byte
 use Rattle.md_meaning.specs.Bytes.{is_end}
 use Rattle.md_events.specs.Events.Nested.{pair}
 use Rattle.md_meaning.specs.Rest.{is_blank}
+use Rattle.md_leaves.specs.Blank.{blank_transition}
+use Rattle.md_events.specs.States.{IsState, IsSureState}
+use Rattle.md_engine.specs.declared.tokenizer.Tokenizer.{Tokenizer}
+use Rattle.md_engine.specs.Full.{IsFull}
 
 -- after the whitespace: the line ends
 unfoldable pub after_blank : List Cell → Here → Outcome
@@ -45,3 +49,11 @@ pub record HasBlank (B : Behaviour) : Type 0 where
 -- what a state of a blank line means: at rest, its call is one step of the rule
 unfoldable pub BlankMeans : BlankState → World → State → World → Type 0
 BlankMeans state old to new = IsRest old.scratch → IsStep HasBlank (n.BlankLine state) to old new
+
+-- what a state of a blank line promises
+abbrev pub IsBlankState : BlankState → World → State → Tokenizer → Type 0
+IsBlankState state old answer new = IsState (blank_transition state old) (BlankMeans state old) (IsFull new) answer new
+
+-- the same of a state that wants no memory
+abbrev pub IsSureBlankState : BlankState → World → State → Tokenizer → Type 0
+IsSureBlankState state old answer new = IsSureState (blank_transition state old) (BlankMeans state old) answer new

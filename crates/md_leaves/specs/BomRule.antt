@@ -10,10 +10,13 @@ use Rattle.md_engine.specs.declared.state.Name.TheVariants as n
 use Rattle.md_engine.specs.declared.state.bom.State.{State as BomState}
 use Rattle.md_engine.specs.declared.state.bom.State.TheVariants as its
 use Rattle.md_engine.specs.Meaning.{Accepts, Behaviour, Cell, Here, Outcome, Refuses}
-use Rattle.md_leaves.specs.Bom.{BomInvariant, mark}
+use Rattle.md_leaves.specs.Bom.{BomInvariant, mark, bom_transition}
 use Rattle.md_leaves.specs.Heading.{without_size}
 use Rattle.md_events.specs.Ahead.{point_after}
 use Rattle.md_events.specs.Events.Nested.{exit, pair}
+use Rattle.md_events.specs.States.{IsState}
+use Rattle.md_engine.specs.declared.tokenizer.Tokenizer.{Tokenizer}
+use Rattle.md_engine.specs.Full.{IsFull}
 
 -- whether the first cells are these bytes
 abbrev pub are_next : List ℕ → List Cell → Bool
@@ -53,3 +56,7 @@ unfoldable pub BomMeans : BomState → World → State → World → Type 0
 BomMeans state old to new =
     BomInvariant (n.Bom state) (position old) →
     IsStep HasBom (n.Bom state) to old new
+
+-- what a state of a byte order mark promises
+abbrev pub IsBomState : BomState → World → State → Tokenizer → Type 0
+IsBomState state old answer new = IsState (bom_transition state old) (BomMeans state old) (IsFull new) answer new

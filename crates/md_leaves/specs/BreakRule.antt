@@ -14,7 +14,7 @@ use Rattle.md_engine.specs.Scheme.{position}
 use Rattle.md_engine.specs.Sees.{IsStep}
 use Rattle.md_engine.specs.World.{World}
 use Rattle.md_leaves.specs.LeafStart.{start_at}
-use Rattle.md_leaves.specs.Break.{BreakInvariant, without_marker}
+use Rattle.md_leaves.specs.Break.{BreakInvariant, without_marker, break_transition}
 use Rattle.md_leaves.specs.HeadingSetext.{turns_nothing}
 use Rattle.md_leaves.specs.HeadingSetextRule.{is_run, is_underline}
 pub use Rattle.md_leaves.specs.MarkRuns.{Apart, Marks, Run, White}
@@ -25,6 +25,9 @@ use Rattle.md_events.specs.Events.Nested.{exit}
 use Rattle.md_meaning.specs.Rest.{is_white}
 use Rattle.md_events.specs.Look.{first_seen}
 use Rattle.md_events.specs.Spaces.{ends_line}
+use Rattle.md_events.specs.States.{IsState, IsSureState}
+use Rattle.md_engine.specs.declared.tokenizer.Tokenizer.{Tokenizer}
+use Rattle.md_engine.specs.Full.{IsFull}
 
 -- the runs of markers and of whitespace that are left of a line
 abbrev pub runs : Run → ℕ → List Cell → Point → List Event
@@ -103,3 +106,11 @@ unfoldable pub BreakMeans : BreakState → World → State → World → Type 0
 BreakMeans state old to new =
     BreakInvariant (n.ThematicBreak state) (position old) →
     IsStep (λ B. HasBreak B old.setting.options) (n.ThematicBreak state) to old new
+
+-- what a state of a thematic break promises
+abbrev pub IsBreakState : BreakState → World → State → Tokenizer → Type 0
+IsBreakState state old answer new = IsState (break_transition state old) (BreakMeans state old) (IsFull new) answer new
+
+-- the same of a state that wants no memory
+abbrev pub IsSureBreakState : BreakState → World → State → Tokenizer → Type 0
+IsSureBreakState state old answer new = IsSureState (break_transition state old) (BreakMeans state old) answer new

@@ -15,11 +15,15 @@ use Rattle.md_engine.specs.declared.tokenizer.TheConstants.Scratch.{REST}
 use Rattle.md_engine.specs.Meaning.{Accepts, Behaviour, Cell, Here, Outcome, Refuses}
 use Rattle.md_leaves.specs.LeafStart.{start_at}
 use Rattle.md_leaves.specs.Heading.{HeadingInvariant, text_begun, text_behind, text_ended, text_from, without_size}
+use Rattle.md_leaves.specs.Heading.{heading_transition}
 use Rattle.md_events.specs.Ahead.{HasWhite, begins_white, from_ending, line_bytes, line_end, white_end, white_rest}
 use Rattle.md_events.specs.Events.Nested.{enter, exit, pair}
 use Rattle.md_meaning.specs.Rest.{is_parted, run_len}
 use Rattle.md_events.specs.Spaces.{any_size, calmed, small_indent}
 use Rattle.md_events.specs.WholeLine.{line_taken, whole_line}
+use Rattle.md_events.specs.States.{IsState}
+use Rattle.md_engine.specs.declared.tokenizer.Tokenizer.{Tokenizer}
+use Rattle.md_engine.specs.Full.{IsFull}
 
 -- the rest of a line from its text on, after these bytes of that
 unfoldable pub in_text : List ℕ → List Cell → Here → Outcome
@@ -131,3 +135,8 @@ heading_inside options cells p =
     let rest = white_rest room cells in
     let q = white_end room cells p in
     (if begins_white cells then pair SpaceOrTab p q else []) ++ enter HeadingAtxSequence q ∷ hashes_inside rest q
+
+-- what a state of an ATX heading promises
+abbrev pub IsHeadingState : HeadingState → World → State → Tokenizer → Type 0
+IsHeadingState state old answer new =
+    IsState (heading_transition state old) (HeadingMeans state old) (IsFull new) answer new

@@ -14,7 +14,7 @@ use Rattle.md_engine.specs.declared.state.heading_setext.State.{State as SetextS
 use Rattle.md_engine.specs.declared.state.heading_setext.State.TheVariants as its
 use Rattle.md_engine.specs.declared.tokenizer.held_leaf.HeldLeaf.TheVariants as held_leaf
 use Rattle.md_engine.specs.Meaning.{Accepts, Behaviour, Cell, Here, Outcome, Refuses}
-use Rattle.md_leaves.specs.HeadingSetext.{SetextInvariant, is_marker, may_turn, without_marker}
+use Rattle.md_leaves.specs.HeadingSetext.{SetextInvariant, is_marker, may_turn, without_marker, setext_transition}
 use Rattle.md_leaves.specs.LeafStart.{start_at}
 use Rattle.md_leaves.specs.MarkRuns.{Apart, Marks, Run, mark_runs}
 use Rattle.md_events.specs.Ahead.{HasWhite, begins_white, from_ending, line_bytes, line_cells, line_end, white_end}
@@ -23,6 +23,9 @@ use Rattle.md_events.specs.Events.Nested.{exit, pair}
 use Rattle.md_events.specs.Look.{first_seen}
 use Rattle.md_events.specs.Spaces.{ends_line, small_indent}
 use Rattle.md_meaning.specs.Rest.{is_blank, run_len}
+use Rattle.md_events.specs.States.{IsState}
+use Rattle.md_engine.specs.declared.tokenizer.Tokenizer.{Tokenizer}
+use Rattle.md_engine.specs.Full.{IsFull}
 
 -- the run of the marker, and the whitespace after it
 abbrev pub runs : Run → ℕ → List Cell → Point → List Event
@@ -117,3 +120,8 @@ underline_inside options cells p =
     let rest = white_rest room cells in
     let q = white_end room cells p in
     (if begins_white cells then pair SpaceOrTab p q else []) ++ runs Apart (first_cell rest) (line_cells rest) q
+
+-- what a state of an underline promises
+abbrev pub IsSetextState : SetextState → World → State → Tokenizer → Type 0
+IsSetextState state old answer new =
+    IsState (setext_transition state old) (SetextMeans state old) (IsFull new) answer new

@@ -11,6 +11,10 @@ use Rattle.md_engine.specs.declared.state.non_lazy_continuation.State.TheVariant
 use Rattle.md_engine.specs.declared.tokenizer.Line.{Line}
 use Rattle.md_engine.specs.Meaning.{Steps, Feed, Accepts, Behaviour, Cell, Here, Outcome, Refuses, line_of}
 use Rattle.md_events.specs.Events.Nested.{pair}
+use Rattle.md_leaves.specs.NonLazy.{non_lazy_transition}
+use Rattle.md_events.specs.States.{IsState, IsSureState}
+use Rattle.md_engine.specs.declared.tokenizer.Tokenizer.{Tokenizer}
+use Rattle.md_engine.specs.Full.{IsFull}
 
 -- whether the line of these cells is lazy; where no cell is left, it is what the parent says of the end
 abbrev pub is_lazy : Line → List Cell → Bool
@@ -43,3 +47,13 @@ unfoldable pub NonLazyMeans : NonLazyState → World → State → World → Typ
 NonLazyMeans state old to new =
     (none : Line) (B : Behaviour) (feed : Feed) → HasNonLazy B none → Sees feed old →
     line_of none (feed old.point) ≡ old.setting.line → Steps B feed (Next (n.NonLazyContinuation state)) old to new
+
+-- what a state of a line that is not lazy promises
+abbrev pub IsNonLazyState : NonLazyState → World → State → Tokenizer → Type 0
+IsNonLazyState state old answer new =
+    IsState (non_lazy_transition state old) (NonLazyMeans state old) (IsFull new) answer new
+
+-- the same of a state that wants no memory
+abbrev pub IsSureNonLazyState : NonLazyState → World → State → Tokenizer → Type 0
+IsSureNonLazyState state old answer new =
+    IsSureState (non_lazy_transition state old) (NonLazyMeans state old) answer new

@@ -4,14 +4,13 @@
 //
 // It adds the `SpaceOrTab` of its whitespace, if there is any. The line's ending is not a part of it.
 
-ghost use Rattle.std.specs.Prelude.{◌≡◌, ◌≢◌};
-ghost use Rattle.md_leaves.specs.BlankRule.{BlankMeans};
-ghost use Rattle.md_engine.specs.Full.{IsFull, OnError};
+ghost use Rattle.std.specs.Prelude.{◌≡◌};
+ghost use Rattle.md_leaves.specs.BlankRule.{IsBlankState, IsSureBlankState};
 ghost use Rattle.md_engine.specs.World.{world};
 ghost use Rattle.md_engine.specs.declared.state.Name.{Name as StateName};
 ghost use Rattle.md_engine.specs.declared.state.State.{State};
 ghost use Rattle.md_engine.specs.declared.state.blank_line.State.{State as BlankState};
-ghost use Rattle.md_leaves.specs.Blank.{after_transition, blank_transition, may_begin, start_transition};
+ghost use Rattle.md_leaves.specs.Blank.{may_begin};
 ghost use Rattle.md_events.specs.Look.{may_with};
 ghost use Rattle.md_events.specs.Spaces.{ends_line};
 ghost use Rattle.md_events.specs.Transition.{IsAt, NeedsNothing};
@@ -44,11 +43,7 @@ pub fn may_begin(first: Option<u8>) -> bool
 #[tactic(auto, using(crate::proofs::BlankMeaning::blank_rule))]
 pub fn start(tokenizer: &mut Tokenizer) -> State
     requires { IsAt NeedsNothing (StateName.BlankLine BlankState.Start) (world tokenizer.old) }
-    ensures to { result ≢ State.Error → result ≡ (start_transition (world tokenizer.old)).to }
-    ensures world { result ≢ State.Error → world tokenizer.new ≡ (start_transition (world tokenizer.old)).world }
-    ensures rule { result ≢ State.Error →
-        BlankMeans BlankState.Start (world tokenizer.old) result (world tokenizer.new) }
-    ensures full { OnError result (IsFull tokenizer.new) }
+    ensures { IsBlankState BlankState.Start (world tokenizer.old) result tokenizer.new }
 {
     if is_space_or_tab(tokenizer.current) {
         space_or_tab(
@@ -70,9 +65,7 @@ pub fn start(tokenizer: &mut Tokenizer) -> State
 #[tactic(auto, using(crate::proofs::BlankMeaning::blank_rule))]
 pub fn after(tokenizer: &mut Tokenizer) -> State
     requires { IsAt NeedsNothing (StateName.BlankLine BlankState.After) (world tokenizer.old) }
-    ensures to { result ≡ (after_transition (world tokenizer.old)).to }
-    ensures world { world tokenizer.new ≡ (after_transition (world tokenizer.old)).world }
-    ensures rule { BlankMeans BlankState.After (world tokenizer.old) result (world tokenizer.new) }
+    ensures { IsSureBlankState BlankState.After (world tokenizer.old) result tokenizer.new }
 {
     match tokenizer.current {
         None | Some(b'\n') => State::Ok,
@@ -84,10 +77,7 @@ pub fn after(tokenizer: &mut Tokenizer) -> State
 #[tactic(auto, using(crate::proofs::BlankMeaning::blank_rule))]
 pub fn call(tokenizer: &mut Tokenizer, state: BlankState) -> State
     requires { IsAt NeedsNothing (StateName.BlankLine state) (world tokenizer.old) }
-    ensures to { result ≢ State.Error → result ≡ (blank_transition state (world tokenizer.old)).to }
-    ensures world { result ≢ State.Error → world tokenizer.new ≡ (blank_transition state (world tokenizer.old)).world }
-    ensures rule { result ≢ State.Error → BlankMeans state (world tokenizer.old) result (world tokenizer.new) }
-    ensures full { OnError result (IsFull tokenizer.new) }
+    ensures { IsBlankState state (world tokenizer.old) result tokenizer.new }
 {
     match state {
         BlankState::Start => start(tokenizer),

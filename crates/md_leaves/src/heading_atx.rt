@@ -9,21 +9,20 @@
 
 ghost use Rattle.std.specs.Prelude.{◌≡◌, ◌≢◌, IfSome};
 ghost use Rattle.md_engine.specs.Full.{IsFull, OnError};
-ghost use Rattle.md_engine.specs.Going.{SeesOn};
-ghost use Rattle.md_engine.specs.Run.{RunsHere};
 ghost use Rattle.md_engine.specs.World.{world};
 ghost use Rattle.md_engine.specs.declared.state.Name.{Name as StateName};
 ghost use Rattle.md_engine.specs.declared.state.State.{State};
 ghost use Rattle.md_engine.specs.declared.state.heading_atx.State.{State as HeadingState};
-ghost use Rattle.md_leaves.specs.Heading.{at_break_transition, before_transition, behind_part, data_transition};
-ghost use Rattle.md_leaves.specs.Heading.{heading_transition, may_begin, sequence_further_transition};
-ghost use Rattle.md_leaves.specs.Heading.{sequence_open_transition, start_transition, text_begun};
+ghost use Rattle.md_leaves.specs.Heading.{behind_part};
+ghost use Rattle.md_leaves.specs.Heading.{heading_transition, may_begin};
+ghost use Rattle.md_leaves.specs.Heading.{text_begun};
 ghost use Rattle.md_leaves.specs.HeadingCalls.{HeadingStep, begins_text};
-ghost use Rattle.md_leaves.specs.HeadingRule.{HeadingMeans};
+ghost use Rattle.md_leaves.specs.HeadingRule.{IsHeadingState};
 ghost use Rattle.md_events.specs.Look.{may_with};
 ghost use Rattle.md_events.specs.Spaces.{is_current, sees_white};
 ghost use Rattle.md_events.specs.Stays.{TakesEach};
 ghost use Rattle.md_events.specs.Transition.{IsAt, NeedsNothing};
+ghost use Rattle.md_events.specs.States.{IsRun};
 
 use crate::blank_line::ends_line;
 use crate::heading_text::add_text;
@@ -57,11 +56,7 @@ pub fn may_begin(first: Option<u8>) -> bool
 #[tactic(auto, using(crate::proofs::HeadingMeaning::heading_rule))]
 pub fn start(tokenizer: &mut Tokenizer) -> State
     requires { IsAt NeedsNothing (StateName.HeadingAtx HeadingState.Start) (world tokenizer.old) }
-    ensures to { result ≢ State.Error → result ≡ (start_transition (world tokenizer.old)).to }
-    ensures world { result ≢ State.Error → world tokenizer.new ≡ (start_transition (world tokenizer.old)).world }
-    ensures rule { result ≢ State.Error →
-        HeadingMeans HeadingState.Start (world tokenizer.old) result (world tokenizer.new) }
-    ensures full { OnError result (IsFull tokenizer.new) }
+    ensures { IsHeadingState HeadingState.Start (world tokenizer.old) result tokenizer.new }
 {
     let is_on = tokenizer.options.constructs.heading_atx;
     start_leaf(
@@ -81,11 +76,7 @@ pub fn start(tokenizer: &mut Tokenizer) -> State
 #[tactic(auto, using(crate::proofs::HeadingMeaning::heading_rule))]
 pub fn before(tokenizer: &mut Tokenizer) -> State
     requires { IsAt NeedsNothing (StateName.HeadingAtx HeadingState.Before) (world tokenizer.old) }
-    ensures to { result ≢ State.Error → result ≡ (before_transition (world tokenizer.old)).to }
-    ensures world { result ≢ State.Error → world tokenizer.new ≡ (before_transition (world tokenizer.old)).world }
-    ensures rule { result ≢ State.Error →
-        HeadingMeans HeadingState.Before (world tokenizer.old) result (world tokenizer.new) }
-    ensures full { OnError result (IsFull tokenizer.new) }
+    ensures { IsHeadingState HeadingState.Before (world tokenizer.old) result tokenizer.new }
 {
     if tokenizer.current == Some(b'#') {
         or_error!(tokenizer.enter(Name::HeadingAtxSequence));
@@ -123,12 +114,7 @@ fn go_on(tokenizer: &mut Tokenizer) -> State
 #[tactic(auto, using(crate::proofs::HeadingMeaning::heading_rule))]
 pub fn sequence_open(tokenizer: &mut Tokenizer) -> State
     requires { IsAt NeedsNothing (StateName.HeadingAtx HeadingState.SequenceOpen) (world tokenizer.old) }
-    ensures to { result ≢ State.Error → result ≡ (sequence_open_transition (world tokenizer.old)).to }
-    ensures world { result ≢ State.Error →
-        world tokenizer.new ≡ (sequence_open_transition (world tokenizer.old)).world }
-    ensures rule { result ≢ State.Error →
-        HeadingMeans HeadingState.SequenceOpen (world tokenizer.old) result (world tokenizer.new) }
-    ensures full { OnError result (IsFull tokenizer.new) }
+    ensures { IsHeadingState HeadingState.SequenceOpen (world tokenizer.old) result tokenizer.new }
 {
     if tokenizer.current == Some(b'#') && tokenizer.scratch.size < OPENING {
         tokenizer.consume();
@@ -163,17 +149,7 @@ fn begin_text(tokenizer: &mut Tokenizer)
 #[tactic(auto, using(crate::proofs::HeadingMeaning::heading_rule))]
 pub fn at_break(tokenizer: &mut Tokenizer) -> State
     requires { IsAt NeedsNothing (StateName.HeadingAtx HeadingState.AtBreak) (world tokenizer.old) }
-    ensures to { result ≢ State.Error →
-        result ≡
-        (at_break_transition
-        (world tokenizer.old)).to }
-    ensures world { result ≢ State.Error →
-        world tokenizer.new ≡
-        (at_break_transition
-        (world tokenizer.old)).world }
-    ensures rule { result ≢ State.Error →
-        HeadingMeans HeadingState.AtBreak (world tokenizer.old) result (world tokenizer.new) }
-    ensures full { OnError result (IsFull tokenizer.new) }
+    ensures { IsHeadingState HeadingState.AtBreak (world tokenizer.old) result tokenizer.new }
 {
     match tokenizer.current {
         None | Some(b'\n') => {
@@ -203,12 +179,7 @@ pub fn at_break(tokenizer: &mut Tokenizer) -> State
 #[tactic(auto, using(crate::proofs::HeadingMeaning::heading_rule))]
 pub fn sequence_further(tokenizer: &mut Tokenizer) -> State
     requires { IsAt NeedsNothing (StateName.HeadingAtx HeadingState.SequenceFurther) (world tokenizer.old) }
-    ensures to { result ≢ State.Error → result ≡ (sequence_further_transition (world tokenizer.old)).to }
-    ensures world { result ≢ State.Error →
-        world tokenizer.new ≡ (sequence_further_transition (world tokenizer.old)).world }
-    ensures rule { result ≢ State.Error →
-        HeadingMeans HeadingState.SequenceFurther (world tokenizer.old) result (world tokenizer.new) }
-    ensures full { OnError result (IsFull tokenizer.new) }
+    ensures { IsHeadingState HeadingState.SequenceFurther (world tokenizer.old) result tokenizer.new }
 {
     if tokenizer.current == Some(b'#') {
         tokenizer.consume();
@@ -227,11 +198,7 @@ pub fn sequence_further(tokenizer: &mut Tokenizer) -> State
 #[tactic(auto, using(crate::proofs::HeadingMeaning::heading_rule))]
 pub fn data(tokenizer: &mut Tokenizer) -> State
     requires { IsAt NeedsNothing (StateName.HeadingAtx HeadingState.Data) (world tokenizer.old) }
-    ensures to { result ≢ State.Error → result ≡ (data_transition (world tokenizer.old)).to }
-    ensures world { result ≢ State.Error → world tokenizer.new ≡ (data_transition (world tokenizer.old)).world }
-    ensures rule { result ≢ State.Error →
-        HeadingMeans HeadingState.Data (world tokenizer.old) result (world tokenizer.new) }
-    ensures full { OnError result (IsFull tokenizer.new) }
+    ensures { IsHeadingState HeadingState.Data (world tokenizer.old) result tokenizer.new }
 {
     if ends_line(tokenizer.current) {
         or_error!(add_text(tokenizer));
@@ -264,11 +231,8 @@ fn begins_text(current: Option<u8>) -> bool
 #[inline(always)]
 pub fn text(tokenizer: &mut Tokenizer) -> State
     requires { IsAt NeedsNothing (StateName.HeadingAtx HeadingState.AtBreak) (world tokenizer.old) }
-    ensures runs { result ≢ State.Error →
-        RunsHere HeadingStep
-        (StateName.HeadingAtx HeadingState.AtBreak) (world tokenizer.old) result (world tokenizer.new) }
-    ensures sees { result ≢ State.Error → SeesOn result (world tokenizer.old) (world tokenizer.new) }
-    ensures full { OnError result (IsFull tokenizer.new) }
+    ensures { IsRun HeadingStep (StateName.HeadingAtx HeadingState.AtBreak)
+        (world tokenizer.old) (IsFull tokenizer.new) result tokenizer.new }
 {
     if !begins_text(tokenizer.current) {
         return at_break(tokenizer);
@@ -291,11 +255,8 @@ pub fn text(tokenizer: &mut Tokenizer) -> State
 #[inline(always)]
 pub fn opens(tokenizer: &mut Tokenizer) -> State
     requires { IsAt NeedsNothing (StateName.HeadingAtx HeadingState.SequenceOpen) (world tokenizer.old) }
-    ensures runs { result ≢ State.Error →
-        RunsHere HeadingStep
-        (StateName.HeadingAtx HeadingState.SequenceOpen) (world tokenizer.old) result (world tokenizer.new) }
-    ensures sees { result ≢ State.Error → SeesOn result (world tokenizer.old) (world tokenizer.new) }
-    ensures full { OnError result (IsFull tokenizer.new) }
+    ensures { IsRun HeadingStep (StateName.HeadingAtx HeadingState.SequenceOpen)
+        (world tokenizer.old) (IsFull tokenizer.new) result tokenizer.new }
 {
     if is_one_space(tokenizer) {
         tokenizer.scratch.size = 0;
@@ -323,11 +284,8 @@ fn begins_sequence(current: Option<u8>) -> bool
 /// ```
 pub fn opening(tokenizer: &mut Tokenizer) -> State
     requires { IsAt NeedsNothing (StateName.HeadingAtx HeadingState.Before) (world tokenizer.old) }
-    ensures runs { result ≢ State.Error →
-        RunsHere HeadingStep
-        (StateName.HeadingAtx HeadingState.Before) (world tokenizer.old) result (world tokenizer.new) }
-    ensures sees { result ≢ State.Error → SeesOn result (world tokenizer.old) (world tokenizer.new) }
-    ensures full { OnError result (IsFull tokenizer.new) }
+    ensures { IsRun HeadingStep (StateName.HeadingAtx HeadingState.Before)
+        (world tokenizer.old) (IsFull tokenizer.new) result tokenizer.new }
 {
     if !begins_sequence(tokenizer.current) {
         return before(tokenizer);
@@ -345,16 +303,7 @@ pub fn opening(tokenizer: &mut Tokenizer) -> State
 #[tactic(auto, using(crate::proofs::HeadingMeaning::heading_rule))]
 pub fn call(tokenizer: &mut Tokenizer, state: HeadingState) -> State
     requires { IsAt NeedsNothing (StateName.HeadingAtx state) (world tokenizer.old) }
-    ensures to { result ≢ State.Error →
-        result ≡
-        (heading_transition state
-        (world tokenizer.old)).to }
-    ensures world { result ≢ State.Error →
-        world tokenizer.new ≡
-        (heading_transition state
-        (world tokenizer.old)).world }
-    ensures rule { result ≢ State.Error → HeadingMeans state (world tokenizer.old) result (world tokenizer.new) }
-    ensures full { OnError result (IsFull tokenizer.new) }
+    ensures { IsHeadingState state (world tokenizer.old) result tokenizer.new }
 {
     match state {
         HeadingState::Start => start(tokenizer),

@@ -8,16 +8,15 @@
 // run, `HeadingSetextUnderlineSequence`, and `SpaceOrTab`. When all of the text is read, a resolver puts
 // `HeadingSetext` around that and the paragraph in front, which becomes `HeadingSetextText`.
 
-ghost use Rattle.std.specs.Prelude.{◌≡◌, ◌≢◌, ◌&&◌, IfSome};
-ghost use Rattle.md_leaves.specs.HeadingSetextRule.{SetextMeans};
-ghost use Rattle.md_engine.specs.Full.{IsFull, OnError};
+ghost use Rattle.std.specs.Prelude.{◌≡◌, ◌&&◌, IfSome};
+ghost use Rattle.md_leaves.specs.HeadingSetextRule.{IsSetextState};
 ghost use Rattle.md_engine.specs.Progress.{is_whole};
 ghost use Rattle.md_engine.specs.World.{world};
 ghost use Rattle.md_engine.specs.declared.state.Name.{Name as StateName};
 ghost use Rattle.md_engine.specs.declared.state.State.{State};
 ghost use Rattle.md_engine.specs.declared.state.heading_setext.State.{State as SetextState};
-ghost use Rattle.md_leaves.specs.HeadingSetext.{SetextNeeds, after_transition, before_transition, inside_transition};
-ghost use Rattle.md_leaves.specs.HeadingSetext.{is_marker, may_begin, may_turn, setext_transition, start_transition};
+ghost use Rattle.md_leaves.specs.HeadingSetext.{SetextNeeds};
+ghost use Rattle.md_leaves.specs.HeadingSetext.{is_marker, may_begin, may_turn, setext_transition};
 ghost use Rattle.md_leaves.specs.HeadingSetext.{turns_nothing};
 ghost use Rattle.md_events.specs.Look.{may_with};
 ghost use Rattle.md_events.specs.Stays.{TakesEach};
@@ -93,11 +92,7 @@ pub fn may_begin(first: Option<u8>) -> bool
 #[tactic(auto, using(crate::proofs::SetextMeaning::setext_rule))]
 pub fn start(tokenizer: &mut Tokenizer) -> State
     requires { IsAt SetextNeeds (StateName.HeadingSetext SetextState.Start) (world tokenizer.old) }
-    ensures to { result ≢ State.Error → result ≡ (start_transition (world tokenizer.old)).to }
-    ensures world { result ≢ State.Error → world tokenizer.new ≡ (start_transition (world tokenizer.old)).world }
-    ensures rule { result ≢ State.Error →
-        SetextMeans SetextState.Start (world tokenizer.old) result (world tokenizer.new) }
-    ensures full { OnError result (IsFull tokenizer.new) }
+    ensures { IsSetextState SetextState.Start (world tokenizer.old) result tokenizer.new }
 {
     let is_on = tokenizer.options.constructs.heading_setext
         && may_turn(tokenizer.options, tokenizer.flags.leaf);
@@ -119,11 +114,7 @@ pub fn start(tokenizer: &mut Tokenizer) -> State
 #[tactic(auto, using(crate::proofs::SetextMeaning::setext_rule))]
 pub fn before(tokenizer: &mut Tokenizer) -> State
     requires { IsAt SetextNeeds (StateName.HeadingSetext SetextState.Before) (world tokenizer.old) }
-    ensures to { result ≢ State.Error → result ≡ (before_transition (world tokenizer.old)).to }
-    ensures world { result ≢ State.Error → world tokenizer.new ≡ (before_transition (world tokenizer.old)).world }
-    ensures rule { result ≢ State.Error →
-        SetextMeans SetextState.Before (world tokenizer.old) result (world tokenizer.new) }
-    ensures full { OnError result (IsFull tokenizer.new) }
+    ensures { IsSetextState SetextState.Before (world tokenizer.old) result tokenizer.new }
 {
     match tokenizer.current {
         Some(byte) if is_marker(byte) => {
@@ -145,11 +136,7 @@ pub fn before(tokenizer: &mut Tokenizer) -> State
 #[tactic(auto, using(crate::proofs::SetextMeaning::setext_rule))]
 pub fn inside(tokenizer: &mut Tokenizer) -> State
     requires { IsAt SetextNeeds (StateName.HeadingSetext SetextState.Inside) (world tokenizer.old) }
-    ensures to { result ≢ State.Error → result ≡ (inside_transition (world tokenizer.old)).to }
-    ensures world { result ≢ State.Error → world tokenizer.new ≡ (inside_transition (world tokenizer.old)).world }
-    ensures rule { result ≢ State.Error →
-        SetextMeans SetextState.Inside (world tokenizer.old) result (world tokenizer.new) }
-    ensures full { OnError result (IsFull tokenizer.new) }
+    ensures { IsSetextState SetextState.Inside (world tokenizer.old) result tokenizer.new }
 {
     if tokenizer.current == Some(tokenizer.scratch.marker) {
         tokenizer.consume();
@@ -182,11 +169,7 @@ pub fn inside(tokenizer: &mut Tokenizer) -> State
 #[tactic(auto, using(crate::proofs::SetextMeaning::setext_rule))]
 pub fn after(tokenizer: &mut Tokenizer) -> State
     requires { IsAt SetextNeeds (StateName.HeadingSetext SetextState.After) (world tokenizer.old) }
-    ensures to { result ≢ State.Error → result ≡ (after_transition (world tokenizer.old)).to }
-    ensures world { result ≢ State.Error → world tokenizer.new ≡ (after_transition (world tokenizer.old)).world }
-    ensures rule { result ≢ State.Error →
-        SetextMeans SetextState.After (world tokenizer.old) result (world tokenizer.new) }
-    ensures full { OnError result (IsFull tokenizer.new) }
+    ensures { IsSetextState SetextState.After (world tokenizer.old) result tokenizer.new }
 {
     match tokenizer.current {
         None | Some(b'\n') => {
@@ -212,10 +195,7 @@ pub fn takes_at_once(state: SetextState) -> Option<Stay>
 #[tactic(auto, using(crate::proofs::SetextMeaning::setext_rule))]
 pub fn call(tokenizer: &mut Tokenizer, state: SetextState) -> State
     requires { IsAt SetextNeeds (StateName.HeadingSetext state) (world tokenizer.old) }
-    ensures to { result ≢ State.Error → result ≡ (setext_transition state (world tokenizer.old)).to }
-    ensures world { result ≢ State.Error → world tokenizer.new ≡ (setext_transition state (world tokenizer.old)).world }
-    ensures rule { result ≢ State.Error → SetextMeans state (world tokenizer.old) result (world tokenizer.new) }
-    ensures full { OnError result (IsFull tokenizer.new) }
+    ensures { IsSetextState state (world tokenizer.old) result tokenizer.new }
 {
     match state {
         SetextState::Start => start(tokenizer),

@@ -6,7 +6,7 @@
 ghost use Rattle.std.specs.Prelude.{◌≡◌, ◌^◌, ◌<◌, ◌≤◌, ◌++◌, ◌==◌, ◌&&◌, None, OnOk, Some, if◌then◌else◌, is_err, length};
 ghost use Rattle.std.specs.Prelude.{true};
 ghost use Rattle.std.specs.List.{list_any, prefix_len};
-ghost use Rattle.md_engine.specs.Full.{IsFull};
+ghost use Rattle.md_engine.specs.Full.{Grown, IsFullList};
 ghost use Rattle.md_engine.specs.Place.{IsPlaced, first_point};
 ghost use Rattle.md_engine.specs.World.{world};
 ghost use Rattle.md_engine.specs.declared.event.Name.{Name};
@@ -110,7 +110,7 @@ fn add_runs(tokenizer: &mut Tokenizer, piece: &[u8], from: Point) -> Result<(), 
     ensures world { OnOk result
         (world tokenizer.new ≡
         record (world tokenizer.old) { events = (world tokenizer.old).events ++ line_runs Apart piece.now from }) }
-    ensures full { is_err result ≡ true → IsFull tokenizer.new }
+    ensures full { is_err result ≡ true → IsFullList Grown.Events tokenizer.new }
 {
     let mut rest = piece;
     let mut point = from;
@@ -199,7 +199,7 @@ fn add_data(tokenizer: &mut Tokenizer, text: &[u8], from: Point, end: Point) -> 
         record (world tokenizer.old) {
           events = (world tokenizer.old).events ++ linked_data (chunk_unless_empty (length text.now) from end);
         }) }
-    ensures full { is_err result ≡ true → IsFull tokenizer.new }
+    ensures full { is_err result ≡ true → IsFullList Grown.Events tokenizer.new }
 {
     if text.is_empty() {
         return Ok(());
@@ -210,7 +210,7 @@ fn add_data(tokenizer: &mut Tokenizer, text: &[u8], from: Point, end: Point) -> 
 /// Adds the text of the heading, whose line ends here, and what is after it.
 pub(crate) fn add_text(tokenizer: &mut Tokenizer) -> Result<(), Message>
     ensures world { OnOk result (world tokenizer.new ≡ text_added (world tokenizer.old)) }
-    ensures full { is_err result ≡ true → IsFull tokenizer.new }
+    ensures full { is_err result ≡ true → IsFullList Grown.Events tokenizer.new }
 {
     let Some(from) = text_begin(tokenizer) else {
         return Ok(());

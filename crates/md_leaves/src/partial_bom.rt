@@ -4,14 +4,12 @@
 //
 // It adds `ByteOrderMark`.
 
-ghost use Rattle.std.specs.Prelude.{◌≡◌, ◌≢◌};
-ghost use Rattle.md_leaves.specs.BomRule.{BomMeans};
-ghost use Rattle.md_engine.specs.Full.{IsFull, OnError};
+ghost use Rattle.md_leaves.specs.BomRule.{IsBomState};
 ghost use Rattle.md_engine.specs.World.{world};
 ghost use Rattle.md_engine.specs.declared.state.Name.{Name as StateName};
 ghost use Rattle.md_engine.specs.declared.state.State.{State};
 ghost use Rattle.md_engine.specs.declared.state.bom.State.{State as BomState};
-ghost use Rattle.md_leaves.specs.Bom.{BomNeeds, bom_transition, inside_transition, start_transition};
+ghost use Rattle.md_leaves.specs.Bom.{BomNeeds};
 ghost use Rattle.md_events.specs.Transition.{IsAt};
 
 use md_engine::event::Name;
@@ -32,10 +30,7 @@ const MARK: [u8; 3] = [0xEF, 0xBB, 0xBF];
 #[tactic(auto, using(crate::proofs::BomMeaning::bom_rule))]
 pub fn start(tokenizer: &mut Tokenizer) -> State
     requires { IsAt BomNeeds (StateName.Bom BomState.Start) (world tokenizer.old) }
-    ensures to { result ≢ State.Error → result ≡ (start_transition (world tokenizer.old)).to }
-    ensures world { result ≢ State.Error → world tokenizer.new ≡ (start_transition (world tokenizer.old)).world }
-    ensures rule { result ≢ State.Error → BomMeans BomState.Start (world tokenizer.old) result (world tokenizer.new) }
-    ensures full { OnError result (IsFull tokenizer.new) }
+    ensures { IsBomState BomState.Start (world tokenizer.old) result tokenizer.new }
 {
     if tokenizer.current == Some(MARK[0]) {
         or_error!(tokenizer.enter(Name::ByteOrderMark));
@@ -54,10 +49,7 @@ pub fn start(tokenizer: &mut Tokenizer) -> State
 #[tactic(auto, using(crate::proofs::BomMeaning::bom_rule))]
 pub fn inside(tokenizer: &mut Tokenizer) -> State
     requires { IsAt BomNeeds (StateName.Bom BomState.Inside) (world tokenizer.old) }
-    ensures to { result ≢ State.Error → result ≡ (inside_transition (world tokenizer.old)).to }
-    ensures world { result ≢ State.Error → world tokenizer.new ≡ (inside_transition (world tokenizer.old)).world }
-    ensures rule { result ≢ State.Error → BomMeans BomState.Inside (world tokenizer.old) result (world tokenizer.new) }
-    ensures full { OnError result (IsFull tokenizer.new) }
+    ensures { IsBomState BomState.Inside (world tokenizer.old) result tokenizer.new }
 {
     let size = tokenizer.scratch.size;
     if tokenizer.current != Some(MARK[size]) {
@@ -78,10 +70,7 @@ pub fn inside(tokenizer: &mut Tokenizer) -> State
 #[tactic(auto, using(crate::proofs::BomMeaning::bom_rule))]
 pub fn call(tokenizer: &mut Tokenizer, state: BomState) -> State
     requires { IsAt BomNeeds (StateName.Bom state) (world tokenizer.old) }
-    ensures to { result ≢ State.Error → result ≡ (bom_transition state (world tokenizer.old)).to }
-    ensures world { result ≢ State.Error → world tokenizer.new ≡ (bom_transition state (world tokenizer.old)).world }
-    ensures rule { result ≢ State.Error → BomMeans state (world tokenizer.old) result (world tokenizer.new) }
-    ensures full { OnError result (IsFull tokenizer.new) }
+    ensures { IsBomState state (world tokenizer.old) result tokenizer.new }
 {
     match state {
         BomState::Start => start(tokenizer),

@@ -4,14 +4,11 @@
 //
 // A line is lazy where not all containers continued, and none opened. It adds the `LineEnding` between the lines.
 
-ghost use Rattle.std.specs.Prelude.{◌≡◌, ◌≢◌};
-ghost use Rattle.md_leaves.specs.NonLazyRule.{NonLazyMeans};
-ghost use Rattle.md_engine.specs.Full.{IsFull, OnError};
+ghost use Rattle.md_leaves.specs.NonLazyRule.{IsNonLazyState, IsSureNonLazyState};
 ghost use Rattle.md_engine.specs.World.{world};
 ghost use Rattle.md_engine.specs.declared.state.Name.{Name as StateName};
 ghost use Rattle.md_engine.specs.declared.state.State.{State};
 ghost use Rattle.md_engine.specs.declared.state.non_lazy_continuation.State.{State as NonLazyState};
-ghost use Rattle.md_leaves.specs.NonLazy.{after_transition, non_lazy_transition, start_transition};
 ghost use Rattle.md_events.specs.Transition.{IsAt, NeedsNothing};
 
 use md_engine::event::Name;
@@ -30,11 +27,7 @@ use md_engine::tokenizer::Tokenizer;
 #[tactic(auto, using(crate::proofs::NonLazyMeaning::non_lazy_rule))]
 pub fn start(tokenizer: &mut Tokenizer) -> State
     requires { IsAt NeedsNothing (StateName.NonLazyContinuation NonLazyState.Start) (world tokenizer.old) }
-    ensures to { result ≢ State.Error → result ≡ (start_transition (world tokenizer.old)).to }
-    ensures world { result ≢ State.Error → world tokenizer.new ≡ (start_transition (world tokenizer.old)).world }
-    ensures rule { result ≢ State.Error →
-        NonLazyMeans NonLazyState.Start (world tokenizer.old) result (world tokenizer.new) }
-    ensures full { OnError result (IsFull tokenizer.new) }
+    ensures { IsNonLazyState NonLazyState.Start (world tokenizer.old) result tokenizer.new }
 {
     if tokenizer.current == Some(b'\n') {
         or_error!(tokenizer.enter(Name::LineEnding));
@@ -56,9 +49,7 @@ pub fn start(tokenizer: &mut Tokenizer) -> State
 #[tactic(auto, using(crate::proofs::NonLazyMeaning::non_lazy_rule))]
 pub fn after(tokenizer: &mut Tokenizer) -> State
     requires { IsAt NeedsNothing (StateName.NonLazyContinuation NonLazyState.After) (world tokenizer.old) }
-    ensures to { result ≡ (after_transition (world tokenizer.old)).to }
-    ensures world { world tokenizer.new ≡ (after_transition (world tokenizer.old)).world }
-    ensures rule { NonLazyMeans NonLazyState.After (world tokenizer.old) result (world tokenizer.new) }
+    ensures { IsSureNonLazyState NonLazyState.After (world tokenizer.old) result tokenizer.new }
 {
     if tokenizer.line.lazy {
         State::Nok
@@ -71,11 +62,7 @@ pub fn after(tokenizer: &mut Tokenizer) -> State
 #[tactic(auto, using(crate::proofs::NonLazyMeaning::non_lazy_rule))]
 pub fn call(tokenizer: &mut Tokenizer, state: NonLazyState) -> State
     requires { IsAt NeedsNothing (StateName.NonLazyContinuation state) (world tokenizer.old) }
-    ensures to { result ≢ State.Error → result ≡ (non_lazy_transition state (world tokenizer.old)).to }
-    ensures world { result ≢ State.Error →
-        world tokenizer.new ≡ (non_lazy_transition state (world tokenizer.old)).world }
-    ensures rule { result ≢ State.Error → NonLazyMeans state (world tokenizer.old) result (world tokenizer.new) }
-    ensures full { OnError result (IsFull tokenizer.new) }
+    ensures { IsNonLazyState state (world tokenizer.old) result tokenizer.new }
 {
     match state {
         NonLazyState::Start => start(tokenizer),

@@ -6,16 +6,14 @@
 // All markers of a break are one byte. It adds `ThematicBreak` around `ThematicBreakSequence`, one for each run of
 // markers, and `SpaceOrTab`. A line that is an underline with nothing to turn is a line of the text, and no break.
 
-ghost use Rattle.std.specs.Prelude.{◌≡◌, ◌≢◌, IfSome};
-ghost use Rattle.md_leaves.specs.BreakRule.{BreakMeans};
-ghost use Rattle.md_engine.specs.Full.{IsFull, OnError};
+ghost use Rattle.std.specs.Prelude.{◌≡◌, IfSome};
+ghost use Rattle.md_leaves.specs.BreakRule.{IsBreakState, IsSureBreakState};
 ghost use Rattle.md_engine.specs.World.{world};
 ghost use Rattle.md_engine.specs.declared.state.Name.{Name as StateName};
 ghost use Rattle.md_engine.specs.declared.state.State.{State};
 ghost use Rattle.md_engine.specs.declared.state.thematic_break.State.{State as BreakState};
-ghost use Rattle.md_leaves.specs.Break.{BreakNeeds, at_break_transition, before_transition, break_transition};
-ghost use Rattle.md_leaves.specs.Break.{is_marker, may_begin, one_run_after_transition, one_run_transition};
-ghost use Rattle.md_leaves.specs.Break.{sequence_transition, start_transition};
+ghost use Rattle.md_leaves.specs.Break.{BreakNeeds, break_transition};
+ghost use Rattle.md_leaves.specs.Break.{is_marker, may_begin};
 ghost use Rattle.md_events.specs.Look.{may_with};
 ghost use Rattle.md_events.specs.Stays.{TakesEach};
 ghost use Rattle.md_events.specs.Transition.{IsAt};
@@ -59,11 +57,7 @@ pub fn may_begin(first: Option<u8>) -> bool
 #[tactic(auto, using(crate::proofs::BreakMeaning::break_rule))]
 pub fn start(tokenizer: &mut Tokenizer) -> State
     requires { IsAt BreakNeeds (StateName.ThematicBreak BreakState.Start) (world tokenizer.old) }
-    ensures to { result ≢ State.Error → result ≡ (start_transition (world tokenizer.old)).to }
-    ensures world { result ≢ State.Error → world tokenizer.new ≡ (start_transition (world tokenizer.old)).world }
-    ensures rule { result ≢ State.Error →
-        BreakMeans BreakState.Start (world tokenizer.old) result (world tokenizer.new) }
-    ensures full { OnError result (IsFull tokenizer.new) }
+    ensures { IsBreakState BreakState.Start (world tokenizer.old) result tokenizer.new }
 {
     let is_on = tokenizer.options.constructs.thematic_break;
     start_leaf(
@@ -83,11 +77,7 @@ pub fn start(tokenizer: &mut Tokenizer) -> State
 #[tactic(auto, using(crate::proofs::BreakMeaning::break_rule))]
 pub fn before(tokenizer: &mut Tokenizer) -> State
     requires { IsAt BreakNeeds (StateName.ThematicBreak BreakState.Before) (world tokenizer.old) }
-    ensures to { result ≢ State.Error → result ≡ (before_transition (world tokenizer.old)).to }
-    ensures world { result ≢ State.Error → world tokenizer.new ≡ (before_transition (world tokenizer.old)).world }
-    ensures rule { result ≢ State.Error →
-        BreakMeans BreakState.Before (world tokenizer.old) result (world tokenizer.new) }
-    ensures full { OnError result (IsFull tokenizer.new) }
+    ensures { IsBreakState BreakState.Before (world tokenizer.old) result tokenizer.new }
 {
     match tokenizer.current {
         Some(byte) if is_marker(byte) => {
@@ -112,11 +102,7 @@ pub fn before(tokenizer: &mut Tokenizer) -> State
 #[tactic(auto, using(crate::proofs::BreakMeaning::break_rule))]
 pub fn at_break(tokenizer: &mut Tokenizer) -> State
     requires { IsAt BreakNeeds (StateName.ThematicBreak BreakState.AtBreak) (world tokenizer.old) }
-    ensures to { result ≢ State.Error → result ≡ (at_break_transition (world tokenizer.old)).to }
-    ensures world { result ≢ State.Error → world tokenizer.new ≡ (at_break_transition (world tokenizer.old)).world }
-    ensures rule { result ≢ State.Error →
-        BreakMeans BreakState.AtBreak (world tokenizer.old) result (world tokenizer.new) }
-    ensures full { OnError result (IsFull tokenizer.new) }
+    ensures { IsBreakState BreakState.AtBreak (world tokenizer.old) result tokenizer.new }
 {
     if tokenizer.current == Some(tokenizer.scratch.marker) {
         or_error!(tokenizer.enter(Name::ThematicBreakSequence));
@@ -145,11 +131,7 @@ pub fn at_break(tokenizer: &mut Tokenizer) -> State
 #[tactic(auto, using(crate::proofs::BreakMeaning::break_rule))]
 pub fn sequence(tokenizer: &mut Tokenizer) -> State
     requires { IsAt BreakNeeds (StateName.ThematicBreak BreakState.Sequence) (world tokenizer.old) }
-    ensures to { result ≢ State.Error → result ≡ (sequence_transition (world tokenizer.old)).to }
-    ensures world { result ≢ State.Error → world tokenizer.new ≡ (sequence_transition (world tokenizer.old)).world }
-    ensures rule { result ≢ State.Error →
-        BreakMeans BreakState.Sequence (world tokenizer.old) result (world tokenizer.new) }
-    ensures full { OnError result (IsFull tokenizer.new) }
+    ensures { IsBreakState BreakState.Sequence (world tokenizer.old) result tokenizer.new }
 {
     if tokenizer.current == Some(tokenizer.scratch.marker) {
         tokenizer.consume();
@@ -180,11 +162,7 @@ pub fn sequence(tokenizer: &mut Tokenizer) -> State
 #[tactic(auto, using(crate::proofs::BreakMeaning::break_rule))]
 pub fn one_run(tokenizer: &mut Tokenizer) -> State
     requires { IsAt BreakNeeds (StateName.ThematicBreak BreakState.OneRun) (world tokenizer.old) }
-    ensures to { result ≢ State.Error → result ≡ (one_run_transition (world tokenizer.old)).to }
-    ensures world { result ≢ State.Error → world tokenizer.new ≡ (one_run_transition (world tokenizer.old)).world }
-    ensures rule { result ≢ State.Error →
-        BreakMeans BreakState.OneRun (world tokenizer.old) result (world tokenizer.new) }
-    ensures full { OnError result (IsFull tokenizer.new) }
+    ensures { IsBreakState BreakState.OneRun (world tokenizer.old) result tokenizer.new }
 {
     if tokenizer.current == Some(tokenizer.scratch.marker) {
         tokenizer.consume();
@@ -215,9 +193,7 @@ pub fn one_run(tokenizer: &mut Tokenizer) -> State
 #[tactic(auto, using(crate::proofs::BreakMeaning::break_rule))]
 pub fn one_run_after(tokenizer: &mut Tokenizer) -> State
     requires { IsAt BreakNeeds (StateName.ThematicBreak BreakState.OneRunAfter) (world tokenizer.old) }
-    ensures to { result ≡ (one_run_after_transition (world tokenizer.old)).to }
-    ensures world { world tokenizer.new ≡ (one_run_after_transition (world tokenizer.old)).world }
-    ensures rule { BreakMeans BreakState.OneRunAfter (world tokenizer.old) result (world tokenizer.new) }
+    ensures { IsSureBreakState BreakState.OneRunAfter (world tokenizer.old) result tokenizer.new }
 {
     match tokenizer.current {
         None | Some(b'\n') => {
@@ -244,10 +220,7 @@ pub fn takes_at_once(state: BreakState) -> Option<Stay>
 #[tactic(auto, using(crate::proofs::BreakMeaning::break_rule))]
 pub fn call(tokenizer: &mut Tokenizer, state: BreakState) -> State
     requires { IsAt BreakNeeds (StateName.ThematicBreak state) (world tokenizer.old) }
-    ensures to { result ≢ State.Error → result ≡ (break_transition state (world tokenizer.old)).to }
-    ensures world { result ≢ State.Error → world tokenizer.new ≡ (break_transition state (world tokenizer.old)).world }
-    ensures rule { result ≢ State.Error → BreakMeans state (world tokenizer.old) result (world tokenizer.new) }
-    ensures full { OnError result (IsFull tokenizer.new) }
+    ensures { IsBreakState state (world tokenizer.old) result tokenizer.new }
 {
     match state {
         BreakState::Start => start(tokenizer),

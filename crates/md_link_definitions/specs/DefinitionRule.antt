@@ -23,6 +23,10 @@ use Rattle.md_events.specs.Ahead.{line_bytes, white_end, white_rest}
 use Rattle.md_events.specs.Events.Nested.{around, enter, exit, pair}
 use Rattle.md_events.specs.Look.{first_seen}
 use Rattle.md_events.specs.Spaces.{IsRest, any_size, ends_line}
+use Rattle.md_link_definitions.specs.Definition.{definition_transition}
+use Rattle.md_events.specs.States.{IsState, IsSureState}
+use Rattle.md_engine.specs.declared.tokenizer.Tokenizer.{Tokenizer}
+use Rattle.md_engine.specs.Full.{IsFull}
 
 -- continues by what a trial became: after what it took, or here
 abbrev pub tried : Outcome → (List Cell → Here → Outcome) → (Scratch → Flags → Outcome) → Outcome
@@ -236,3 +240,13 @@ unfoldable pub DefinitionMeans : DefinitionState → World → State → World �
 DefinitionMeans state old to new =
     IsRest old.scratch →
     IsStep (λ B. HasDefinition B old.setting.options) (n.Definition state) to old new
+
+-- what a state of a definition promises
+abbrev pub IsDefinitionState : DefinitionState → World → State → Tokenizer → Type 0
+IsDefinitionState state old answer new =
+    IsState (definition_transition state old) (DefinitionMeans state old) (IsFull new) answer new
+
+-- the same of a state that wants no memory
+abbrev pub IsSureDefinitionState : DefinitionState → World → State → Tokenizer → Type 0
+IsSureDefinitionState state old answer new =
+    IsSureState (definition_transition state old) (DefinitionMeans state old) answer new

@@ -19,9 +19,12 @@ use Rattle.md_engine.specs.Scheme.{position}
 use Rattle.md_engine.specs.Sees.{IsStep}
 use Rattle.md_engine.specs.World.{World}
 use Rattle.md_link_definitions.specs.Chunks.{string_link}
-use Rattle.md_link_definitions.specs.Destination.{DestinationInvariant, without_size}
+use Rattle.md_link_definitions.specs.Destination.{DestinationInvariant, without_size, destination_transition}
 use Rattle.md_events.specs.Ahead.{line_bytes, point_after}
 use Rattle.md_events.specs.Events.Nested.{enter, enter_link, exit, pair}
+use Rattle.md_events.specs.States.{IsState, IsSureState}
+use Rattle.md_engine.specs.declared.tokenizer.Tokenizer.{Tokenizer}
+use Rattle.md_engine.specs.Full.{IsFull}
 
 -- where the text begins, and ends
 abbrev pub text_begin : Point → List Event
@@ -173,3 +176,13 @@ unfoldable pub DestinationMeans : DestinationState → World → State → World
 DestinationMeans state old to new =
     DestinationInvariant (n.Destination state) (position old) →
     IsStep HasDestination (n.Destination state) to old new
+
+-- what a state of a destination promises
+abbrev pub IsDestinationState : DestinationState → World → State → Tokenizer → Type 0
+IsDestinationState state old answer new =
+    IsState (destination_transition state old) (DestinationMeans state old) (IsFull new) answer new
+
+-- the same of a state that wants no memory
+abbrev pub IsSureDestinationState : DestinationState → World → State → Tokenizer → Type 0
+IsSureDestinationState state old answer new =
+    IsSureState (destination_transition state old) (DestinationMeans state old) answer new

@@ -11,10 +11,13 @@ use Rattle.md_engine.specs.Meaning.{Accepts, Behaviour, Cell, Here, Outcome, Ref
 use Rattle.md_engine.specs.Scheme.{position}
 use Rattle.md_engine.specs.Sees.{IsStep}
 use Rattle.md_engine.specs.World.{World}
-use Rattle.md_link_definitions.specs.Gap.{GapInvariant, with_seen, without_seen}
+use Rattle.md_link_definitions.specs.Gap.{GapInvariant, with_seen, without_seen, gap_transition}
 use Rattle.md_events.specs.Ahead.{HasWhite, begins_white, white_end, white_rest}
 use Rattle.md_events.specs.Events.Nested.{enter, exit, pair}
 use Rattle.md_events.specs.Spaces.{any_size}
+use Rattle.md_events.specs.States.{IsState, IsSureState}
+use Rattle.md_engine.specs.declared.tokenizer.Tokenizer.{Tokenizer}
+use Rattle.md_engine.specs.Full.{IsFull}
 
 -- all whitespace that comes first is one part, if there is some
 abbrev pub white_part : List Cell → Point → List Event
@@ -110,3 +113,11 @@ unfoldable pub GapMeans : GapState → World → State → World → Type 0
 GapMeans state old to new =
     GapInvariant (n.SpaceOrTabEol state) (position old) →
     IsStep HasGap (n.SpaceOrTabEol state) to old new
+
+-- what a state of whitespace with at most one line ending promises
+abbrev pub IsGapState : GapState → World → State → Tokenizer → Type 0
+IsGapState state old answer new = IsState (gap_transition state old) (GapMeans state old) (IsFull new) answer new
+
+-- the same of a state that wants no memory
+abbrev pub IsSureGapState : GapState → World → State → Tokenizer → Type 0
+IsSureGapState state old answer new = IsSureState (gap_transition state old) (GapMeans state old) answer new

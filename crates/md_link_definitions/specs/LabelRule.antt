@@ -16,9 +16,12 @@ use Rattle.md_engine.specs.Scheme.{position}
 use Rattle.md_engine.specs.Sees.{IsStep}
 use Rattle.md_engine.specs.World.{World}
 use Rattle.md_link_definitions.specs.Chunks.{before_mark, chunks, from_mark}
-use Rattle.md_link_definitions.specs.Label.{LabelInvariant, is_bracket, most, unlabelled}
+use Rattle.md_link_definitions.specs.Label.{LabelInvariant, is_bracket, most, unlabelled, label_transition}
 use Rattle.md_events.specs.Ahead.{point_after}
 use Rattle.md_events.specs.Events.Nested.{around, enter, exit, pair}
+use Rattle.md_events.specs.States.{IsState, IsSureState}
+use Rattle.md_engine.specs.declared.tokenizer.Tokenizer.{Tokenizer}
+use Rattle.md_engine.specs.Full.{IsFull}
 
 -- whether something else than whitespace and line endings is among these cells
 abbrev pub has_text : List Cell → Bool
@@ -132,3 +135,11 @@ unfoldable pub LabelMeans : LabelState → World → State → World → Type 0
 LabelMeans state old to new =
     LabelInvariant (n.Label state) (position old) →
     IsStep HasLabel (n.Label state) to old new
+
+-- what a state of a label promises
+abbrev pub IsLabelState : LabelState → World → State → Tokenizer → Type 0
+IsLabelState state old answer new = IsState (label_transition state old) (LabelMeans state old) (IsFull new) answer new
+
+-- the same of a state that wants no memory
+abbrev pub IsSureLabelState : LabelState → World → State → Tokenizer → Type 0
+IsSureLabelState state old answer new = IsSureState (label_transition state old) (LabelMeans state old) answer new

@@ -14,9 +14,12 @@ use Rattle.md_engine.specs.Scheme.{position}
 use Rattle.md_engine.specs.Sees.{IsStep}
 use Rattle.md_engine.specs.World.{World}
 use Rattle.md_link_definitions.specs.Chunks.{before_mark, chunks, from_mark}
-use Rattle.md_link_definitions.specs.Title.{TitleInvariant, is_mark, marked, unmarked}
+use Rattle.md_link_definitions.specs.Title.{TitleInvariant, is_mark, marked, unmarked, title_transition}
 use Rattle.md_events.specs.Ahead.{point_after}
 use Rattle.md_events.specs.Events.Nested.{around, enter, exit, pair}
+use Rattle.md_events.specs.States.{IsState, IsSureState}
+use Rattle.md_engine.specs.declared.tokenizer.Tokenizer.{Tokenizer}
+use Rattle.md_engine.specs.Full.{IsFull}
 
 -- what is left of the text part, of which a line has begun or not
 abbrev pub text_left : Bool → List Cell → Point → List Event
@@ -131,3 +134,11 @@ unfoldable pub TitleMeans : TitleState → World → State → World → Type 0
 TitleMeans state old to new =
     TitleInvariant (n.Title state) (position old) →
     IsStep HasTitle (n.Title state) to old new
+
+-- what a state of a title promises
+abbrev pub IsTitleState : TitleState → World → State → Tokenizer → Type 0
+IsTitleState state old answer new = IsState (title_transition state old) (TitleMeans state old) (IsFull new) answer new
+
+-- the same of a state that wants no memory
+abbrev pub IsSureTitleState : TitleState → World → State → Tokenizer → Type 0
+IsSureTitleState state old answer new = IsSureState (title_transition state old) (TitleMeans state old) answer new

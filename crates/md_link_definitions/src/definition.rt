@@ -9,19 +9,14 @@
 // them; its indent is before it. That it may not interrupt a paragraph, the caller knows.
 
 ghost use Rattle.std.specs.Prelude.{◌≡◌, ◌≢◌};
-ghost use Rattle.md_link_definitions.specs.DefinitionRule.{DefinitionMeans};
+ghost use Rattle.md_link_definitions.specs.DefinitionRule.{IsDefinitionState, IsSureDefinitionState};
 ghost use Rattle.md_engine.specs.Full.{IsFull, OnError};
 ghost use Rattle.md_engine.specs.World.{world};
 ghost use Rattle.md_engine.specs.declared.state.Name.{Name as StateName};
 ghost use Rattle.md_engine.specs.declared.state.State.{State};
 ghost use Rattle.md_engine.specs.declared.state.definition.State.{State as DefinitionState};
-ghost use Rattle.md_link_definitions.specs.Definition.{after_transition, after_whitespace_transition, before_transition};
-ghost use Rattle.md_link_definitions.specs.Definition.{behind_white, definition_transition, destination_after_transition};
-ghost use Rattle.md_link_definitions.specs.Definition.{destination_before_transition, destination_missing_transition};
-ghost use Rattle.md_link_definitions.specs.Definition.{label_after_transition, label_nok_transition};
-ghost use Rattle.md_link_definitions.specs.Definition.{marker_after_transition, start_transition, title_after_transition};
-ghost use Rattle.md_link_definitions.specs.Definition.{title_before_marker_transition, title_before_transition};
-ghost use Rattle.md_link_definitions.specs.Definition.{title_after_optional_whitespace_transition, tries_part};
+ghost use Rattle.md_link_definitions.specs.Definition.{behind_white};
+ghost use Rattle.md_link_definitions.specs.Definition.{tries_part};
 ghost use Rattle.md_events.specs.Spaces.{ends_line, sees_white};
 ghost use Rattle.md_events.specs.Transition.{IsAt, NeedsNothing};
 
@@ -83,11 +78,7 @@ fn behind_white(tokenizer: &mut Tokenizer, next: DefinitionState) -> State
 #[tactic(auto, using(crate::proofs::DefinitionMeaning::definition_rule))]
 pub fn start(tokenizer: &mut Tokenizer) -> State
     requires { IsAt NeedsNothing (StateName.Definition DefinitionState.Start) (world tokenizer.old) }
-    ensures to { result ≢ State.Error → result ≡ (start_transition (world tokenizer.old)).to }
-    ensures world { result ≢ State.Error → world tokenizer.new ≡ (start_transition (world tokenizer.old)).world }
-    ensures rule { result ≢ State.Error →
-        DefinitionMeans DefinitionState.Start (world tokenizer.old) result (world tokenizer.new) }
-    ensures full { OnError result (IsFull tokenizer.new) }
+    ensures { IsDefinitionState DefinitionState.Start (world tokenizer.old) result tokenizer.new }
 {
     if tokenizer.options.constructs.definition {
         behind_white(tokenizer, DefinitionState::Before)
@@ -105,11 +96,7 @@ pub fn start(tokenizer: &mut Tokenizer) -> State
 #[tactic(auto, using(crate::proofs::DefinitionMeaning::definition_rule))]
 pub fn before(tokenizer: &mut Tokenizer) -> State
     requires { IsAt NeedsNothing (StateName.Definition DefinitionState.Before) (world tokenizer.old) }
-    ensures to { result ≢ State.Error → result ≡ (before_transition (world tokenizer.old)).to }
-    ensures world { result ≢ State.Error → world tokenizer.new ≡ (before_transition (world tokenizer.old)).world }
-    ensures rule { result ≢ State.Error →
-        DefinitionMeans DefinitionState.Before (world tokenizer.old) result (world tokenizer.new) }
-    ensures full { OnError result (IsFull tokenizer.new) }
+    ensures { IsDefinitionState DefinitionState.Before (world tokenizer.old) result tokenizer.new }
 {
     if tokenizer.current != Some(b'[') {
         return State::Nok;
@@ -132,11 +119,7 @@ pub fn before(tokenizer: &mut Tokenizer) -> State
 #[tactic(auto, using(crate::proofs::DefinitionMeaning::definition_rule))]
 pub fn label_after(tokenizer: &mut Tokenizer) -> State
     requires { IsAt NeedsNothing (StateName.Definition DefinitionState.LabelAfter) (world tokenizer.old) }
-    ensures to { result ≢ State.Error → result ≡ (label_after_transition (world tokenizer.old)).to }
-    ensures world { result ≢ State.Error → world tokenizer.new ≡ (label_after_transition (world tokenizer.old)).world }
-    ensures rule { result ≢ State.Error →
-        DefinitionMeans DefinitionState.LabelAfter (world tokenizer.old) result (world tokenizer.new) }
-    ensures full { OnError result (IsFull tokenizer.new) }
+    ensures { IsDefinitionState DefinitionState.LabelAfter (world tokenizer.old) result tokenizer.new }
 {
     if tokenizer.current != Some(b':') {
         return State::Nok;
@@ -156,9 +139,7 @@ pub fn label_after(tokenizer: &mut Tokenizer) -> State
 #[tactic(auto, using(crate::proofs::DefinitionMeaning::definition_rule))]
 pub fn label_nok(tokenizer: &mut Tokenizer) -> State
     requires { IsAt NeedsNothing (StateName.Definition DefinitionState.LabelNok) (world tokenizer.old) }
-    ensures to { result ≡ (label_nok_transition (world tokenizer.old)).to }
-    ensures world { world tokenizer.new ≡ (label_nok_transition (world tokenizer.old)).world }
-    ensures rule { DefinitionMeans DefinitionState.LabelNok (world tokenizer.old) result (world tokenizer.new) }
+    ensures { IsSureDefinitionState DefinitionState.LabelNok (world tokenizer.old) result tokenizer.new }
 {
     State::Nok
 }
@@ -172,12 +153,7 @@ pub fn label_nok(tokenizer: &mut Tokenizer) -> State
 #[tactic(auto, using(crate::proofs::DefinitionMeaning::definition_rule))]
 pub fn marker_after(tokenizer: &mut Tokenizer) -> State
     requires { IsAt NeedsNothing (StateName.Definition DefinitionState.MarkerAfter) (world tokenizer.old) }
-    ensures to { result ≢ State.Error → result ≡ (marker_after_transition (world tokenizer.old)).to }
-    ensures world { result ≢ State.Error →
-        world tokenizer.new ≡ (marker_after_transition (world tokenizer.old)).world }
-    ensures rule { result ≢ State.Error →
-        DefinitionMeans DefinitionState.MarkerAfter (world tokenizer.old) result (world tokenizer.new) }
-    ensures full { OnError result (IsFull tokenizer.new) }
+    ensures { IsDefinitionState DefinitionState.MarkerAfter (world tokenizer.old) result tokenizer.new }
 {
     try_part(
         tokenizer,
@@ -196,12 +172,7 @@ pub fn marker_after(tokenizer: &mut Tokenizer) -> State
 #[tactic(auto, using(crate::proofs::DefinitionMeaning::definition_rule))]
 pub fn destination_before(tokenizer: &mut Tokenizer) -> State
     requires { IsAt NeedsNothing (StateName.Definition DefinitionState.DestinationBefore) (world tokenizer.old) }
-    ensures to { result ≢ State.Error → result ≡ (destination_before_transition (world tokenizer.old)).to }
-    ensures world { result ≢ State.Error →
-        world tokenizer.new ≡ (destination_before_transition (world tokenizer.old)).world }
-    ensures rule { result ≢ State.Error →
-        DefinitionMeans DefinitionState.DestinationBefore (world tokenizer.old) result (world tokenizer.new) }
-    ensures full { OnError result (IsFull tokenizer.new) }
+    ensures { IsDefinitionState DefinitionState.DestinationBefore (world tokenizer.old) result tokenizer.new }
 {
     try_part(
         tokenizer,
@@ -220,12 +191,7 @@ pub fn destination_before(tokenizer: &mut Tokenizer) -> State
 #[tactic(auto, using(crate::proofs::DefinitionMeaning::definition_rule))]
 pub fn destination_after(tokenizer: &mut Tokenizer) -> State
     requires { IsAt NeedsNothing (StateName.Definition DefinitionState.DestinationAfter) (world tokenizer.old) }
-    ensures to { result ≢ State.Error → result ≡ (destination_after_transition (world tokenizer.old)).to }
-    ensures world { result ≢ State.Error →
-        world tokenizer.new ≡ (destination_after_transition (world tokenizer.old)).world }
-    ensures rule { result ≢ State.Error →
-        DefinitionMeans DefinitionState.DestinationAfter (world tokenizer.old) result (world tokenizer.new) }
-    ensures full { OnError result (IsFull tokenizer.new) }
+    ensures { IsDefinitionState DefinitionState.DestinationAfter (world tokenizer.old) result tokenizer.new }
 {
     try_part(
         tokenizer,
@@ -244,9 +210,7 @@ pub fn destination_after(tokenizer: &mut Tokenizer) -> State
 #[tactic(auto, using(crate::proofs::DefinitionMeaning::definition_rule))]
 pub fn destination_missing(tokenizer: &mut Tokenizer) -> State
     requires { IsAt NeedsNothing (StateName.Definition DefinitionState.DestinationMissing) (world tokenizer.old) }
-    ensures to { result ≡ (destination_missing_transition (world tokenizer.old)).to }
-    ensures world { world tokenizer.new ≡ (destination_missing_transition (world tokenizer.old)).world }
-    ensures rule { DefinitionMeans DefinitionState.DestinationMissing (world tokenizer.old) result (world tokenizer.new) }
+    ensures { IsSureDefinitionState DefinitionState.DestinationMissing (world tokenizer.old) result tokenizer.new }
 {
     State::Nok
 }
@@ -260,12 +224,7 @@ pub fn destination_missing(tokenizer: &mut Tokenizer) -> State
 #[tactic(auto, using(crate::proofs::DefinitionMeaning::definition_rule))]
 pub fn title_before(tokenizer: &mut Tokenizer) -> State
     requires { IsAt NeedsNothing (StateName.Definition DefinitionState.TitleBefore) (world tokenizer.old) }
-    ensures to { result ≢ State.Error → result ≡ (title_before_transition (world tokenizer.old)).to }
-    ensures world { result ≢ State.Error →
-        world tokenizer.new ≡ (title_before_transition (world tokenizer.old)).world }
-    ensures rule { result ≢ State.Error →
-        DefinitionMeans DefinitionState.TitleBefore (world tokenizer.old) result (world tokenizer.new) }
-    ensures full { OnError result (IsFull tokenizer.new) }
+    ensures { IsDefinitionState DefinitionState.TitleBefore (world tokenizer.old) result tokenizer.new }
 {
     if is_space_or_tab(tokenizer.current) || tokenizer.current == Some(b'\n') {
         try_part(
@@ -288,12 +247,7 @@ pub fn title_before(tokenizer: &mut Tokenizer) -> State
 #[tactic(auto, using(crate::proofs::DefinitionMeaning::definition_rule))]
 pub fn title_before_marker(tokenizer: &mut Tokenizer) -> State
     requires { IsAt NeedsNothing (StateName.Definition DefinitionState.TitleBeforeMarker) (world tokenizer.old) }
-    ensures to { result ≢ State.Error → result ≡ (title_before_marker_transition (world tokenizer.old)).to }
-    ensures world { result ≢ State.Error →
-        world tokenizer.new ≡ (title_before_marker_transition (world tokenizer.old)).world }
-    ensures rule { result ≢ State.Error →
-        DefinitionMeans DefinitionState.TitleBeforeMarker (world tokenizer.old) result (world tokenizer.new) }
-    ensures full { OnError result (IsFull tokenizer.new) }
+    ensures { IsDefinitionState DefinitionState.TitleBeforeMarker (world tokenizer.old) result tokenizer.new }
 {
     try_part(
         tokenizer,
@@ -312,11 +266,7 @@ pub fn title_before_marker(tokenizer: &mut Tokenizer) -> State
 #[tactic(auto, using(crate::proofs::DefinitionMeaning::definition_rule))]
 pub fn title_after(tokenizer: &mut Tokenizer) -> State
     requires { IsAt NeedsNothing (StateName.Definition DefinitionState.TitleAfter) (world tokenizer.old) }
-    ensures to { result ≢ State.Error → result ≡ (title_after_transition (world tokenizer.old)).to }
-    ensures world { result ≢ State.Error → world tokenizer.new ≡ (title_after_transition (world tokenizer.old)).world }
-    ensures rule { result ≢ State.Error →
-        DefinitionMeans DefinitionState.TitleAfter (world tokenizer.old) result (world tokenizer.new) }
-    ensures full { OnError result (IsFull tokenizer.new) }
+    ensures { IsDefinitionState DefinitionState.TitleAfter (world tokenizer.old) result tokenizer.new }
 {
     behind_white(tokenizer, DefinitionState::TitleAfterOptionalWhitespace)
 }
@@ -331,9 +281,7 @@ pub fn title_after(tokenizer: &mut Tokenizer) -> State
 pub fn title_after_optional_whitespace(tokenizer: &mut Tokenizer) -> State
     requires { IsAt NeedsNothing
         (StateName.Definition DefinitionState.TitleAfterOptionalWhitespace) (world tokenizer.old) }
-    ensures to { result ≡ (title_after_optional_whitespace_transition (world tokenizer.old)).to }
-    ensures world { world tokenizer.new ≡ (title_after_optional_whitespace_transition (world tokenizer.old)).world }
-    ensures rule { DefinitionMeans DefinitionState.TitleAfterOptionalWhitespace (world tokenizer.old) result (world tokenizer.new) }
+    ensures { IsSureDefinitionState DefinitionState.TitleAfterOptionalWhitespace (world tokenizer.old) result tokenizer.new }
 {
     if ends_line(tokenizer.current) {
         State::Ok
@@ -353,11 +301,7 @@ pub fn title_after_optional_whitespace(tokenizer: &mut Tokenizer) -> State
 #[tactic(auto, using(crate::proofs::DefinitionMeaning::definition_rule))]
 pub fn after(tokenizer: &mut Tokenizer) -> State
     requires { IsAt NeedsNothing (StateName.Definition DefinitionState.After) (world tokenizer.old) }
-    ensures to { result ≢ State.Error → result ≡ (after_transition (world tokenizer.old)).to }
-    ensures world { result ≢ State.Error → world tokenizer.new ≡ (after_transition (world tokenizer.old)).world }
-    ensures rule { result ≢ State.Error →
-        DefinitionMeans DefinitionState.After (world tokenizer.old) result (world tokenizer.new) }
-    ensures full { OnError result (IsFull tokenizer.new) }
+    ensures { IsDefinitionState DefinitionState.After (world tokenizer.old) result tokenizer.new }
 {
     behind_white(tokenizer, DefinitionState::AfterWhitespace)
 }
@@ -373,12 +317,7 @@ pub fn after(tokenizer: &mut Tokenizer) -> State
 #[tactic(auto, using(crate::proofs::DefinitionMeaning::definition_rule))]
 pub fn after_whitespace(tokenizer: &mut Tokenizer) -> State
     requires { IsAt NeedsNothing (StateName.Definition DefinitionState.AfterWhitespace) (world tokenizer.old) }
-    ensures to { result ≢ State.Error → result ≡ (after_whitespace_transition (world tokenizer.old)).to }
-    ensures world { result ≢ State.Error →
-        world tokenizer.new ≡ (after_whitespace_transition (world tokenizer.old)).world }
-    ensures rule { result ≢ State.Error →
-        DefinitionMeans DefinitionState.AfterWhitespace (world tokenizer.old) result (world tokenizer.new) }
-    ensures full { OnError result (IsFull tokenizer.new) }
+    ensures { IsDefinitionState DefinitionState.AfterWhitespace (world tokenizer.old) result tokenizer.new }
 {
     if !ends_line(tokenizer.current) {
         return State::Nok;
@@ -391,11 +330,7 @@ pub fn after_whitespace(tokenizer: &mut Tokenizer) -> State
 #[tactic(auto, using(crate::proofs::DefinitionMeaning::definition_rule))]
 pub fn call(tokenizer: &mut Tokenizer, state: DefinitionState) -> State
     requires { IsAt NeedsNothing (StateName.Definition state) (world tokenizer.old) }
-    ensures to { result ≢ State.Error → result ≡ (definition_transition state (world tokenizer.old)).to }
-    ensures world { result ≢ State.Error →
-        world tokenizer.new ≡ (definition_transition state (world tokenizer.old)).world }
-    ensures rule { result ≢ State.Error → DefinitionMeans state (world tokenizer.old) result (world tokenizer.new) }
-    ensures full { OnError result (IsFull tokenizer.new) }
+    ensures { IsDefinitionState state (world tokenizer.old) result tokenizer.new }
 {
     match state {
         DefinitionState::Start => start(tokenizer),

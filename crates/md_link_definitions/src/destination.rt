@@ -11,17 +11,14 @@
 // `DefinitionDestinationRaw`. The text is `DefinitionDestinationString` around `Data`, which is read later; between
 // angle brackets there may be none.
 
-ghost use Rattle.std.specs.Prelude.{◌≡◌, ◌≢◌, IfSome};
-ghost use Rattle.md_link_definitions.specs.DestinationRule.{DestinationMeans};
-ghost use Rattle.md_engine.specs.Full.{IsFull, OnError};
+ghost use Rattle.std.specs.Prelude.{◌≡◌, IfSome};
+ghost use Rattle.md_link_definitions.specs.DestinationRule.{IsDestinationState, IsSureDestinationState};
 ghost use Rattle.md_engine.specs.World.{world};
 ghost use Rattle.md_engine.specs.declared.state.Name.{Name as StateName};
 ghost use Rattle.md_engine.specs.declared.state.State.{State};
 ghost use Rattle.md_engine.specs.declared.state.destination.State.{State as DestinationState};
 ghost use Rattle.md_meaning.specs.Definition.{is_raw_byte};
-ghost use Rattle.md_link_definitions.specs.Destination.{DestinationNeeds, destination_transition, enclosed_before_transition};
-ghost use Rattle.md_link_definitions.specs.Destination.{enclosed_escape_transition, enclosed_transition, raw_escape_transition};
-ghost use Rattle.md_link_definitions.specs.Destination.{raw_transition, start_transition};
+ghost use Rattle.md_link_definitions.specs.Destination.{DestinationNeeds, destination_transition};
 ghost use Rattle.md_events.specs.Stays.{TakesEach};
 ghost use Rattle.md_events.specs.Transition.{IsAt};
 
@@ -57,11 +54,7 @@ fn is_raw(byte: u8) -> bool
 #[tactic(auto, using(crate::proofs::DestinationMeaning::destination_rule))]
 pub fn start(tokenizer: &mut Tokenizer) -> State
     requires { IsAt DestinationNeeds (StateName.Destination DestinationState.Start) (world tokenizer.old) }
-    ensures to { result ≢ State.Error → result ≡ (start_transition (world tokenizer.old)).to }
-    ensures world { result ≢ State.Error → world tokenizer.new ≡ (start_transition (world tokenizer.old)).world }
-    ensures rule { result ≢ State.Error →
-        DestinationMeans DestinationState.Start (world tokenizer.old) result (world tokenizer.new) }
-    ensures full { OnError result (IsFull tokenizer.new) }
+    ensures { IsDestinationState DestinationState.Start (world tokenizer.old) result tokenizer.new }
 {
     match tokenizer.current {
         Some(b'<') => {
@@ -92,12 +85,7 @@ pub fn start(tokenizer: &mut Tokenizer) -> State
 #[tactic(auto, using(crate::proofs::DestinationMeaning::destination_rule))]
 pub fn enclosed_before(tokenizer: &mut Tokenizer) -> State
     requires { IsAt DestinationNeeds (StateName.Destination DestinationState.EnclosedBefore) (world tokenizer.old) }
-    ensures to { result ≢ State.Error → result ≡ (enclosed_before_transition (world tokenizer.old)).to }
-    ensures world { result ≢ State.Error →
-        world tokenizer.new ≡ (enclosed_before_transition (world tokenizer.old)).world }
-    ensures rule { result ≢ State.Error →
-        DestinationMeans DestinationState.EnclosedBefore (world tokenizer.old) result (world tokenizer.new) }
-    ensures full { OnError result (IsFull tokenizer.new) }
+    ensures { IsDestinationState DestinationState.EnclosedBefore (world tokenizer.old) result tokenizer.new }
 {
     if tokenizer.current == Some(b'>') {
         or_error!(tokenizer.enter(Name::DefinitionDestinationLiteralMarker));
@@ -121,11 +109,7 @@ pub fn enclosed_before(tokenizer: &mut Tokenizer) -> State
 #[tactic(auto, using(crate::proofs::DestinationMeaning::destination_rule))]
 pub fn enclosed(tokenizer: &mut Tokenizer) -> State
     requires { IsAt DestinationNeeds (StateName.Destination DestinationState.Enclosed) (world tokenizer.old) }
-    ensures to { result ≢ State.Error → result ≡ (enclosed_transition (world tokenizer.old)).to }
-    ensures world { result ≢ State.Error → world tokenizer.new ≡ (enclosed_transition (world tokenizer.old)).world }
-    ensures rule { result ≢ State.Error →
-        DestinationMeans DestinationState.Enclosed (world tokenizer.old) result (world tokenizer.new) }
-    ensures full { OnError result (IsFull tokenizer.new) }
+    ensures { IsDestinationState DestinationState.Enclosed (world tokenizer.old) result tokenizer.new }
 {
     match tokenizer.current {
         None | Some(b'\n' | b'<') => State::Nok,
@@ -154,9 +138,7 @@ pub fn enclosed(tokenizer: &mut Tokenizer) -> State
 #[tactic(auto, using(crate::proofs::DestinationMeaning::destination_rule))]
 pub fn enclosed_escape(tokenizer: &mut Tokenizer) -> State
     requires { IsAt DestinationNeeds (StateName.Destination DestinationState.EnclosedEscape) (world tokenizer.old) }
-    ensures to { result ≡ (enclosed_escape_transition (world tokenizer.old)).to }
-    ensures world { world tokenizer.new ≡ (enclosed_escape_transition (world tokenizer.old)).world }
-    ensures rule { DestinationMeans DestinationState.EnclosedEscape (world tokenizer.old) result (world tokenizer.new) }
+    ensures { IsSureDestinationState DestinationState.EnclosedEscape (world tokenizer.old) result tokenizer.new }
 {
     match tokenizer.current {
         Some(b'<' | b'>' | b'\\') => {
@@ -176,11 +158,7 @@ pub fn enclosed_escape(tokenizer: &mut Tokenizer) -> State
 #[tactic(auto, using(crate::proofs::DestinationMeaning::destination_rule))]
 pub fn raw(tokenizer: &mut Tokenizer) -> State
     requires { IsAt DestinationNeeds (StateName.Destination DestinationState.Raw) (world tokenizer.old) }
-    ensures to { result ≢ State.Error → result ≡ (raw_transition (world tokenizer.old)).to }
-    ensures world { result ≢ State.Error → world tokenizer.new ≡ (raw_transition (world tokenizer.old)).world }
-    ensures rule { result ≢ State.Error →
-        DestinationMeans DestinationState.Raw (world tokenizer.old) result (world tokenizer.new) }
-    ensures full { OnError result (IsFull tokenizer.new) }
+    ensures { IsDestinationState DestinationState.Raw (world tokenizer.old) result tokenizer.new }
 {
     match tokenizer.current {
         Some(b'(') => {
@@ -227,9 +205,7 @@ pub fn raw(tokenizer: &mut Tokenizer) -> State
 #[tactic(auto, using(crate::proofs::DestinationMeaning::destination_rule))]
 pub fn raw_escape(tokenizer: &mut Tokenizer) -> State
     requires { IsAt DestinationNeeds (StateName.Destination DestinationState.RawEscape) (world tokenizer.old) }
-    ensures to { result ≡ (raw_escape_transition (world tokenizer.old)).to }
-    ensures world { world tokenizer.new ≡ (raw_escape_transition (world tokenizer.old)).world }
-    ensures rule { DestinationMeans DestinationState.RawEscape (world tokenizer.old) result (world tokenizer.new) }
+    ensures { IsSureDestinationState DestinationState.RawEscape (world tokenizer.old) result tokenizer.new }
 {
     match tokenizer.current {
         Some(b'(' | b')' | b'\\') => {
@@ -255,11 +231,7 @@ pub fn takes_at_once(state: DestinationState) -> Option<Stay>
 #[tactic(auto, using(crate::proofs::DestinationMeaning::destination_rule))]
 pub fn call(tokenizer: &mut Tokenizer, state: DestinationState) -> State
     requires { IsAt DestinationNeeds (StateName.Destination state) (world tokenizer.old) }
-    ensures to { result ≢ State.Error → result ≡ (destination_transition state (world tokenizer.old)).to }
-    ensures world { result ≢ State.Error →
-        world tokenizer.new ≡ (destination_transition state (world tokenizer.old)).world }
-    ensures rule { result ≢ State.Error → DestinationMeans state (world tokenizer.old) result (world tokenizer.new) }
-    ensures full { OnError result (IsFull tokenizer.new) }
+    ensures { IsDestinationState state (world tokenizer.old) result tokenizer.new }
 {
     match state {
         DestinationState::Start => start(tokenizer),

@@ -11,15 +11,15 @@
 // last line if `]` comes first on it.
 
 ghost use Rattle.std.specs.Prelude.{◌≡◌, ◌≢◌, ◌<◌, IfSome, false, length};
-ghost use Rattle.md_link_definitions.specs.LabelRule.{LabelMeans};
+ghost use Rattle.md_link_definitions.specs.LabelRule.{IsLabelState, IsSureLabelState};
 ghost use Rattle.md_engine.specs.Full.{IsFull, OnError};
 ghost use Rattle.md_engine.specs.World.{world};
 ghost use Rattle.md_engine.specs.declared.state.Name.{Name as StateName};
 ghost use Rattle.md_engine.specs.declared.state.State.{State};
 ghost use Rattle.md_engine.specs.declared.state.label.State.{State as LabelState};
-ghost use Rattle.md_link_definitions.specs.Label.{at_break_transition, close_code, counted, eol_after_transition};
-ghost use Rattle.md_link_definitions.specs.Label.{escape_transition, inside_transition, is_full, label_transition};
-ghost use Rattle.md_link_definitions.specs.Label.{start_transition, taken_as, unlabelled};
+ghost use Rattle.md_link_definitions.specs.Label.{close_code, counted};
+ghost use Rattle.md_link_definitions.specs.Label.{is_full, label_transition};
+ghost use Rattle.md_link_definitions.specs.Label.{taken_as, unlabelled};
 ghost use Rattle.md_events.specs.Stays.{TakesEach};
 ghost use Rattle.md_events.specs.Transition.{IsAt, NeedsNothing};
 
@@ -119,11 +119,7 @@ fn close(tokenizer: &mut Tokenizer) -> State
 #[tactic(auto, using(crate::proofs::LabelMeaning::label_rule))]
 pub fn start(tokenizer: &mut Tokenizer) -> State
     requires { IsAt NeedsNothing (StateName.Label LabelState.Start) (world tokenizer.old) }
-    ensures to { result ≢ State.Error → result ≡ (start_transition (world tokenizer.old)).to }
-    ensures world { result ≢ State.Error → world tokenizer.new ≡ (start_transition (world tokenizer.old)).world }
-    ensures rule { result ≢ State.Error →
-        LabelMeans LabelState.Start (world tokenizer.old) result (world tokenizer.new) }
-    ensures full { OnError result (IsFull tokenizer.new) }
+    ensures { IsLabelState LabelState.Start (world tokenizer.old) result tokenizer.new }
 {
     if tokenizer.current != Some(b'[') {
         return State::Nok;
@@ -147,11 +143,7 @@ pub fn start(tokenizer: &mut Tokenizer) -> State
 #[tactic(auto, using(crate::proofs::LabelMeaning::label_rule))]
 pub fn at_break(tokenizer: &mut Tokenizer) -> State
     requires { IsAt NeedsNothing (StateName.Label LabelState.AtBreak) (world tokenizer.old) }
-    ensures to { result ≢ State.Error → result ≡ (at_break_transition (world tokenizer.old)).to }
-    ensures world { result ≢ State.Error → world tokenizer.new ≡ (at_break_transition (world tokenizer.old)).world }
-    ensures rule { result ≢ State.Error →
-        LabelMeans LabelState.AtBreak (world tokenizer.old) result (world tokenizer.new) }
-    ensures full { OnError result (IsFull tokenizer.new) }
+    ensures { IsLabelState LabelState.AtBreak (world tokenizer.old) result tokenizer.new }
 {
     match tokenizer.current {
         Some(b']') => close(tokenizer),
@@ -182,9 +174,7 @@ pub fn at_break(tokenizer: &mut Tokenizer) -> State
 #[tactic(auto, using(crate::proofs::LabelMeaning::label_rule))]
 pub fn eol_after(tokenizer: &mut Tokenizer) -> State
     requires { IsAt NeedsNothing (StateName.Label LabelState.EolAfter) (world tokenizer.old) }
-    ensures to { result ≡ (eol_after_transition (world tokenizer.old)).to }
-    ensures world { world tokenizer.new ≡ (eol_after_transition (world tokenizer.old)).world }
-    ensures rule { LabelMeans LabelState.EolAfter (world tokenizer.old) result (world tokenizer.new) }
+    ensures { IsSureLabelState LabelState.EolAfter (world tokenizer.old) result tokenizer.new }
 {
     if is_space_or_tab(tokenizer.current) {
         tokenizer.consume();
@@ -203,11 +193,7 @@ pub fn eol_after(tokenizer: &mut Tokenizer) -> State
 #[tactic(auto, using(crate::proofs::LabelMeaning::label_rule))]
 pub fn inside(tokenizer: &mut Tokenizer) -> State
     requires { IsAt NeedsNothing (StateName.Label LabelState.Inside) (world tokenizer.old) }
-    ensures to { result ≢ State.Error → result ≡ (inside_transition (world tokenizer.old)).to }
-    ensures world { result ≢ State.Error → world tokenizer.new ≡ (inside_transition (world tokenizer.old)).world }
-    ensures rule { result ≢ State.Error →
-        LabelMeans LabelState.Inside (world tokenizer.old) result (world tokenizer.new) }
-    ensures full { OnError result (IsFull tokenizer.new) }
+    ensures { IsLabelState LabelState.Inside (world tokenizer.old) result tokenizer.new }
 {
     match tokenizer.current {
         None | Some(b'[') => refuse(tokenizer),
@@ -235,9 +221,7 @@ pub fn inside(tokenizer: &mut Tokenizer) -> State
 #[tactic(auto, using(crate::proofs::LabelMeaning::label_rule))]
 pub fn escape(tokenizer: &mut Tokenizer) -> State
     requires { IsAt NeedsNothing (StateName.Label LabelState.Escape) (world tokenizer.old) }
-    ensures to { result ≡ (escape_transition (world tokenizer.old)).to }
-    ensures world { world tokenizer.new ≡ (escape_transition (world tokenizer.old)).world }
-    ensures rule { LabelMeans LabelState.Escape (world tokenizer.old) result (world tokenizer.new) }
+    ensures { IsSureLabelState LabelState.Escape (world tokenizer.old) result tokenizer.new }
 {
     match tokenizer.current {
         Some(byte) if byte == b'[' || byte == b']' || byte == b'\\' => {
@@ -261,10 +245,7 @@ pub fn takes_at_once(state: LabelState) -> Option<Stay>
 #[tactic(auto, using(crate::proofs::LabelMeaning::label_rule))]
 pub fn call(tokenizer: &mut Tokenizer, state: LabelState) -> State
     requires { IsAt NeedsNothing (StateName.Label state) (world tokenizer.old) }
-    ensures to { result ≢ State.Error → result ≡ (label_transition state (world tokenizer.old)).to }
-    ensures world { result ≢ State.Error → world tokenizer.new ≡ (label_transition state (world tokenizer.old)).world }
-    ensures rule { result ≢ State.Error → LabelMeans state (world tokenizer.old) result (world tokenizer.new) }
-    ensures full { OnError result (IsFull tokenizer.new) }
+    ensures { IsLabelState state (world tokenizer.old) result tokenizer.new }
 {
     match state {
         LabelState::Start => start(tokenizer),

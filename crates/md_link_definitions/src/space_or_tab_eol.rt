@@ -4,15 +4,11 @@
 //
 // It adds `SpaceOrTab`, `LineEnding` and `SpaceOrTab`, each where it is, and holds only where something does.
 
-ghost use Rattle.std.specs.Prelude.{◌≡◌, ◌≢◌};
-ghost use Rattle.md_link_definitions.specs.GapRule.{GapMeans};
-ghost use Rattle.md_engine.specs.Full.{IsFull, OnError};
+ghost use Rattle.md_link_definitions.specs.GapRule.{IsGapState, IsSureGapState};
 ghost use Rattle.md_engine.specs.World.{world};
 ghost use Rattle.md_engine.specs.declared.state.Name.{Name as StateName};
 ghost use Rattle.md_engine.specs.declared.state.State.{State};
 ghost use Rattle.md_engine.specs.declared.state.space_or_tab_eol.State.{State as GapState};
-ghost use Rattle.md_link_definitions.specs.Gap.{after_eol_transition, after_first_transition, after_more_transition};
-ghost use Rattle.md_link_definitions.specs.Gap.{at_eol_transition, gap_transition, start_transition};
 ghost use Rattle.md_events.specs.Transition.{IsAt, NeedsNothing};
 
 use md_engine::event::Name;
@@ -34,10 +30,7 @@ use md_events::space_or_tab::{is_space_or_tab, space_or_tab};
 #[tactic(auto, using(crate::proofs::GapMeaning::gap_rule))]
 pub fn start(tokenizer: &mut Tokenizer) -> State
     requires { IsAt NeedsNothing (StateName.SpaceOrTabEol GapState.Start) (world tokenizer.old) }
-    ensures to { result ≢ State.Error → result ≡ (start_transition (world tokenizer.old)).to }
-    ensures world { result ≢ State.Error → world tokenizer.new ≡ (start_transition (world tokenizer.old)).world }
-    ensures rule { result ≢ State.Error → GapMeans GapState.Start (world tokenizer.old) result (world tokenizer.new) }
-    ensures full { OnError result (IsFull tokenizer.new) }
+    ensures { IsGapState GapState.Start (world tokenizer.old) result tokenizer.new }
 {
     if is_space_or_tab(tokenizer.current) {
         space_or_tab(
@@ -59,9 +52,7 @@ pub fn start(tokenizer: &mut Tokenizer) -> State
 #[tactic(auto, using(crate::proofs::GapMeaning::gap_rule))]
 pub fn after_first(tokenizer: &mut Tokenizer) -> State
     requires { IsAt NeedsNothing (StateName.SpaceOrTabEol GapState.AfterFirst) (world tokenizer.old) }
-    ensures to { result ≡ (after_first_transition (world tokenizer.old)).to }
-    ensures world { world tokenizer.new ≡ (after_first_transition (world tokenizer.old)).world }
-    ensures rule { GapMeans GapState.AfterFirst (world tokenizer.old) result (world tokenizer.new) }
+    ensures { IsSureGapState GapState.AfterFirst (world tokenizer.old) result tokenizer.new }
 {
     tokenizer.scratch.seen = true;
     State::Retry(StateName::SpaceOrTabEol(GapState::AtEol))
@@ -77,10 +68,7 @@ pub fn after_first(tokenizer: &mut Tokenizer) -> State
 #[tactic(auto, using(crate::proofs::GapMeaning::gap_rule))]
 pub fn at_eol(tokenizer: &mut Tokenizer) -> State
     requires { IsAt NeedsNothing (StateName.SpaceOrTabEol GapState.AtEol) (world tokenizer.old) }
-    ensures to { result ≢ State.Error → result ≡ (at_eol_transition (world tokenizer.old)).to }
-    ensures world { result ≢ State.Error → world tokenizer.new ≡ (at_eol_transition (world tokenizer.old)).world }
-    ensures rule { result ≢ State.Error → GapMeans GapState.AtEol (world tokenizer.old) result (world tokenizer.new) }
-    ensures full { OnError result (IsFull tokenizer.new) }
+    ensures { IsGapState GapState.AtEol (world tokenizer.old) result tokenizer.new }
 {
     let has_some = tokenizer.scratch.seen;
     tokenizer.scratch.seen = false;
@@ -102,11 +90,7 @@ pub fn at_eol(tokenizer: &mut Tokenizer) -> State
 #[tactic(auto, using(crate::proofs::GapMeaning::gap_rule))]
 pub fn after_eol(tokenizer: &mut Tokenizer) -> State
     requires { IsAt NeedsNothing (StateName.SpaceOrTabEol GapState.AfterEol) (world tokenizer.old) }
-    ensures to { result ≢ State.Error → result ≡ (after_eol_transition (world tokenizer.old)).to }
-    ensures world { result ≢ State.Error → world tokenizer.new ≡ (after_eol_transition (world tokenizer.old)).world }
-    ensures rule { result ≢ State.Error →
-        GapMeans GapState.AfterEol (world tokenizer.old) result (world tokenizer.new) }
-    ensures full { OnError result (IsFull tokenizer.new) }
+    ensures { IsGapState GapState.AfterEol (world tokenizer.old) result tokenizer.new }
 {
     or_error!(tokenizer.exit(Name::LineEnding));
     if is_space_or_tab(tokenizer.current) {
@@ -130,9 +114,7 @@ pub fn after_eol(tokenizer: &mut Tokenizer) -> State
 #[tactic(auto, using(crate::proofs::GapMeaning::gap_rule))]
 pub fn after_more(tokenizer: &mut Tokenizer) -> State
     requires { IsAt NeedsNothing (StateName.SpaceOrTabEol GapState.AfterMore) (world tokenizer.old) }
-    ensures to { result ≡ (after_more_transition (world tokenizer.old)).to }
-    ensures world { world tokenizer.new ≡ (after_more_transition (world tokenizer.old)).world }
-    ensures rule { GapMeans GapState.AfterMore (world tokenizer.old) result (world tokenizer.new) }
+    ensures { IsSureGapState GapState.AfterMore (world tokenizer.old) result tokenizer.new }
 {
     State::Ok
 }
@@ -141,10 +123,7 @@ pub fn after_more(tokenizer: &mut Tokenizer) -> State
 #[tactic(auto, using(crate::proofs::GapMeaning::gap_rule))]
 pub fn call(tokenizer: &mut Tokenizer, state: GapState) -> State
     requires { IsAt NeedsNothing (StateName.SpaceOrTabEol state) (world tokenizer.old) }
-    ensures to { result ≢ State.Error → result ≡ (gap_transition state (world tokenizer.old)).to }
-    ensures world { result ≢ State.Error → world tokenizer.new ≡ (gap_transition state (world tokenizer.old)).world }
-    ensures rule { result ≢ State.Error → GapMeans state (world tokenizer.old) result (world tokenizer.new) }
-    ensures full { OnError result (IsFull tokenizer.new) }
+    ensures { IsGapState state (world tokenizer.old) result tokenizer.new }
 {
     match state {
         GapState::Start => start(tokenizer),

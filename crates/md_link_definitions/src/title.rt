@@ -10,15 +10,14 @@
 // on it, and no `DefinitionTitleString` if nothing is between the marks.
 
 ghost use Rattle.std.specs.Prelude.{◌≡◌, ◌≢◌, Some};
-ghost use Rattle.md_link_definitions.specs.TitleRule.{TitleMeans};
+ghost use Rattle.md_link_definitions.specs.TitleRule.{IsSureTitleState, IsTitleState};
 ghost use Rattle.md_engine.specs.Full.{IsFull, OnError};
 ghost use Rattle.md_engine.specs.World.{looks, world};
 ghost use Rattle.md_engine.specs.declared.state.Name.{Name as StateName};
 ghost use Rattle.md_engine.specs.declared.state.State.{State};
 ghost use Rattle.md_engine.specs.declared.state.title.State.{State as TitleState};
-ghost use Rattle.md_link_definitions.specs.Title.{after_eol_transition, at_break_transition, begin_transition, closed};
-ghost use Rattle.md_link_definitions.specs.Title.{escape_transition, inside_transition, is_escaped, refused, start_transition};
-ghost use Rattle.md_link_definitions.specs.Title.{title_transition};
+ghost use Rattle.md_link_definitions.specs.Title.{closed};
+ghost use Rattle.md_link_definitions.specs.Title.{is_escaped, refused};
 ghost use Rattle.md_events.specs.Transition.{IsAt, NeedsNothing};
 
 use md_engine::event::{Content, Link, Name};
@@ -74,11 +73,7 @@ fn is_escaped(scratch: &Scratch, current: Option<u8>) -> bool
 #[tactic(auto, using(crate::proofs::TitleMeaning::title_rule))]
 pub fn start(tokenizer: &mut Tokenizer) -> State
     requires { IsAt NeedsNothing (StateName.Title TitleState.Start) (world tokenizer.old) }
-    ensures to { result ≢ State.Error → result ≡ (start_transition (world tokenizer.old)).to }
-    ensures world { result ≢ State.Error → world tokenizer.new ≡ (start_transition (world tokenizer.old)).world }
-    ensures rule { result ≢ State.Error →
-        TitleMeans TitleState.Start (world tokenizer.old) result (world tokenizer.new) }
-    ensures full { OnError result (IsFull tokenizer.new) }
+    ensures { IsTitleState TitleState.Start (world tokenizer.old) result tokenizer.new }
 {
     let Some(byte) = tokenizer.current else {
         return State::Nok;
@@ -104,11 +99,7 @@ pub fn start(tokenizer: &mut Tokenizer) -> State
 #[tactic(auto, using(crate::proofs::TitleMeaning::title_rule))]
 pub fn begin(tokenizer: &mut Tokenizer) -> State
     requires { IsAt NeedsNothing (StateName.Title TitleState.Begin) (world tokenizer.old) }
-    ensures to { result ≢ State.Error → result ≡ (begin_transition (world tokenizer.old)).to }
-    ensures world { result ≢ State.Error → world tokenizer.new ≡ (begin_transition (world tokenizer.old)).world }
-    ensures rule { result ≢ State.Error →
-        TitleMeans TitleState.Begin (world tokenizer.old) result (world tokenizer.new) }
-    ensures full { OnError result (IsFull tokenizer.new) }
+    ensures { IsTitleState TitleState.Begin (world tokenizer.old) result tokenizer.new }
 {
     if tokenizer.current == Some(tokenizer.scratch.marker) {
         return close(tokenizer);
@@ -127,11 +118,7 @@ pub fn begin(tokenizer: &mut Tokenizer) -> State
 #[tactic(auto, using(crate::proofs::TitleMeaning::title_rule))]
 pub fn after_eol(tokenizer: &mut Tokenizer) -> State
     requires { IsAt NeedsNothing (StateName.Title TitleState.AfterEol) (world tokenizer.old) }
-    ensures to { result ≢ State.Error → result ≡ (after_eol_transition (world tokenizer.old)).to }
-    ensures world { result ≢ State.Error → world tokenizer.new ≡ (after_eol_transition (world tokenizer.old)).world }
-    ensures rule { result ≢ State.Error →
-        TitleMeans TitleState.AfterEol (world tokenizer.old) result (world tokenizer.new) }
-    ensures full { OnError result (IsFull tokenizer.new) }
+    ensures { IsTitleState TitleState.AfterEol (world tokenizer.old) result tokenizer.new }
 {
     or_error!(tokenizer.exit(Name::Data));
     State::Retry(StateName::Title(TitleState::AtBreak))
@@ -148,11 +135,7 @@ pub fn after_eol(tokenizer: &mut Tokenizer) -> State
 #[tactic(auto, using(crate::proofs::TitleMeaning::title_rule))]
 pub fn at_break(tokenizer: &mut Tokenizer) -> State
     requires { IsAt NeedsNothing (StateName.Title TitleState.AtBreak) (world tokenizer.old) }
-    ensures to { result ≢ State.Error → result ≡ (at_break_transition (world tokenizer.old)).to }
-    ensures world { result ≢ State.Error → world tokenizer.new ≡ (at_break_transition (world tokenizer.old)).world }
-    ensures rule { result ≢ State.Error →
-        TitleMeans TitleState.AtBreak (world tokenizer.old) result (world tokenizer.new) }
-    ensures full { OnError result (IsFull tokenizer.new) }
+    ensures { IsTitleState TitleState.AtBreak (world tokenizer.old) result tokenizer.new }
 {
     if tokenizer.current == Some(tokenizer.scratch.marker) {
         or_error!(tokenizer.exit(Name::DefinitionTitleString));
@@ -176,11 +159,7 @@ pub fn at_break(tokenizer: &mut Tokenizer) -> State
 #[tactic(auto, using(crate::proofs::TitleMeaning::title_rule))]
 pub fn inside(tokenizer: &mut Tokenizer) -> State
     requires { IsAt NeedsNothing (StateName.Title TitleState.Inside) (world tokenizer.old) }
-    ensures to { result ≢ State.Error → result ≡ (inside_transition (world tokenizer.old)).to }
-    ensures world { result ≢ State.Error → world tokenizer.new ≡ (inside_transition (world tokenizer.old)).world }
-    ensures rule { result ≢ State.Error →
-        TitleMeans TitleState.Inside (world tokenizer.old) result (world tokenizer.new) }
-    ensures full { OnError result (IsFull tokenizer.new) }
+    ensures { IsTitleState TitleState.Inside (world tokenizer.old) result tokenizer.new }
 {
     let Some(byte) = tokenizer.current else {
         return refuse(tokenizer);
@@ -210,9 +189,7 @@ pub fn inside(tokenizer: &mut Tokenizer) -> State
 #[tactic(auto, using(crate::proofs::TitleMeaning::title_rule))]
 pub fn escape(tokenizer: &mut Tokenizer) -> State
     requires { IsAt NeedsNothing (StateName.Title TitleState.Escape) (world tokenizer.old) }
-    ensures to { result ≡ (escape_transition (world tokenizer.old)).to }
-    ensures world { world tokenizer.new ≡ (escape_transition (world tokenizer.old)).world }
-    ensures rule { TitleMeans TitleState.Escape (world tokenizer.old) result (world tokenizer.new) }
+    ensures { IsSureTitleState TitleState.Escape (world tokenizer.old) result tokenizer.new }
 {
     if is_escaped(&tokenizer.scratch, tokenizer.current) {
         tokenizer.consume();
@@ -226,10 +203,7 @@ pub fn escape(tokenizer: &mut Tokenizer) -> State
 #[tactic(auto, using(crate::proofs::TitleMeaning::title_rule))]
 pub fn call(tokenizer: &mut Tokenizer, state: TitleState) -> State
     requires { IsAt NeedsNothing (StateName.Title state) (world tokenizer.old) }
-    ensures to { result ≢ State.Error → result ≡ (title_transition state (world tokenizer.old)).to }
-    ensures world { result ≢ State.Error → world tokenizer.new ≡ (title_transition state (world tokenizer.old)).world }
-    ensures rule { result ≢ State.Error → TitleMeans state (world tokenizer.old) result (world tokenizer.new) }
-    ensures full { OnError result (IsFull tokenizer.new) }
+    ensures { IsTitleState state (world tokenizer.old) result tokenizer.new }
 {
     match state {
         TitleState::Start => start(tokenizer),

@@ -30,6 +30,12 @@ use Rattle.proof_frame.specs.EndingName.{ending_name}
 use Rattle.md_registry.specs.LineFlags.{asks, begun_line, blanked, next_container, next_line, kept_containers}
 use Rattle.md_registry.specs.LineFlags.{blank_here, ended_on, nothing_stands, shut_leaf, went_on, with_container}
 use Rattle.proof_frame.specs.Rule.{Rule, tried}
+use Rattle.md_registry.specs.Document.{document_own_transition}
+use Rattle.md_events.specs.States.{IsState, IsSureState}
+use Rattle.md_engine.specs.declared.tokenizer.Tokenizer.{Tokenizer}
+use Rattle.md_engine.specs.Full.{IsFullOf, IsFull}
+use Rattle.md_engine.specs.Full.Grown.{Events, Frames, Containers}
+use Rattle.md_registry.specs.Flow.{flow_own_transition}
 
 -- the containers after so many end, before the event at an index
 abbrev pub ended_to : ℕ → ℕ → Here → Here
@@ -281,3 +287,22 @@ DocumentMeans state old to new = ContainersMean state old to new
 -- containers are open, whose ends are put in a list of their own before they are events
 abbrev pub HasOpen : World → Type 0
 HasOpen w = 0 < length w.flags.containers
+
+-- what a state of the document promises
+abbrev pub IsDocumentState : DocumentState → World → State → Tokenizer → Type 0
+IsDocumentState state old answer new =
+    IsState (document_own_transition state old) (DocumentMeans state old)
+    (IsFullOf (Containers ∷ Events ∷ Frames ∷ []) new ⊎ HasOpen old) answer new
+
+-- the same of a state that wants no memory
+abbrev pub IsSureDocumentState : DocumentState → World → State → Tokenizer → Type 0
+IsSureDocumentState state old answer new =
+    IsSureState (document_own_transition state old) (DocumentMeans state old) answer new
+
+-- what a state of flow promises
+abbrev pub IsFlowState : FlowState → World → State → Tokenizer → Type 0
+IsFlowState state old answer new = IsState (flow_own_transition state old) (FlowMeans state old) (IsFull new) answer new
+
+-- the same of a state that wants no memory
+abbrev pub IsSureFlowState : FlowState → World → State → Tokenizer → Type 0
+IsSureFlowState state old answer new = IsSureState (flow_own_transition state old) (FlowMeans state old) answer new

@@ -14,10 +14,13 @@ use Rattle.md_engine.specs.Sees.{IsStep}
 use Rattle.md_engine.specs.World.{World}
 use Rattle.md_events.specs.Ahead.{HasWhite}
 use Rattle.md_tables.specs.DelimiterRule.{delimiter_at, delimiter_behaves}
-use Rattle.md_tables.specs.GfmTable.{TableInvariant, asking_columns, may_head}
+use Rattle.md_tables.specs.GfmTable.{TableInvariant, asking_columns, may_head, table_transition}
 use Rattle.md_tables.specs.RowRule.{row_behaves}
 use Rattle.md_tables.specs.declared.row.Place.TheVariants as place
 use Rattle.md_tables.specs.declared.row.Row.TheVariants.{Head, Body}
+use Rattle.md_events.specs.States.{IsState, IsSureState}
+use Rattle.md_engine.specs.declared.tokenizer.Tokenizer.{Tokenizer}
+use Rattle.md_engine.specs.Full.{IsFull}
 
 -- a delimiter row, where the last line of the text may be a head
 abbrev pub head_at : ParseOptions → OpenText → Bool → List Cell → Here → Outcome
@@ -61,3 +64,11 @@ unfoldable pub TableMeans : TableState → World → State → World → Type 0
 TableMeans state old to new =
     TableInvariant (n.GfmTable state) (position old) →
     IsStep (λ B. HasTable B old.setting.options) (n.GfmTable state) to old new
+
+-- what a state of a table promises
+abbrev pub IsTableState : TableState → World → State → Tokenizer → Type 0
+IsTableState state old answer new = IsState (table_transition state old) (TableMeans state old) (IsFull new) answer new
+
+-- the same of a state that wants no memory
+abbrev pub IsSureTableState : TableState → World → State → Tokenizer → Type 0
+IsSureTableState state old answer new = IsSureState (table_transition state old) (TableMeans state old) answer new

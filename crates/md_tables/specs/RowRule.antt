@@ -15,11 +15,14 @@ use Rattle.md_leaves.specs.Further.{further_link}
 use Rattle.md_events.specs.Ahead.{HasWhite, begins_white, from_ending, line_cells, line_end}
 use Rattle.md_events.specs.Events.Nested.{enter, exit}
 use Rattle.md_events.specs.Spaces.{IsRest}
-use Rattle.md_tables.specs.Row.{name_at, text_link}
+use Rattle.md_tables.specs.Row.{name_at, text_link, row_transition}
 use Rattle.md_tables.specs.declared.row.Place.{Place}
 use Rattle.md_tables.specs.declared.row.Place.TheVariants as place
 use Rattle.md_tables.specs.declared.row.Row.{Row}
 use Rattle.md_tables.specs.declared.row.Row.TheVariants.{Head, Body}
+use Rattle.md_events.specs.States.{IsState, IsSureState}
+use Rattle.md_engine.specs.declared.tokenizer.Tokenizer.{Tokenizer}
+use Rattle.md_engine.specs.Full.{IsFull}
 
 -- in which run of a line a place lies
 pub data Run : Type 0 where
@@ -116,3 +119,12 @@ pub record HasRow (B : Behaviour) (r : Row) : Type 0 where
 -- what a state of a row means: at rest, its call is one step of the rule
 unfoldable pub RowMeans : Row → Place → World → State → World → Type 0
 RowMeans r p old to new = IsRest old.scratch → IsStep (λ B. HasRow B r) (name_at r p) to old new
+
+-- what a state of a row of a table promises
+abbrev pub IsRowState : Row → Place → World → State → Tokenizer → Type 0
+IsRowState row place old answer new =
+    IsState (row_transition row place old) (RowMeans row place old) (IsFull new) answer new
+
+-- the same of a state that wants no memory
+abbrev pub IsSureRowState : Row → Place → World → State → Tokenizer → Type 0
+IsSureRowState row place old answer new = IsSureState (row_transition row place old) (RowMeans row place old) answer new

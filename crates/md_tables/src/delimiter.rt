@@ -17,11 +17,11 @@ ghost use Rattle.md_engine.specs.declared.state.gfm_table.State.{State as TableS
 ghost use Rattle.md_events.specs.Spaces.{sees_white};
 ghost use Rattle.md_events.specs.Stays.{TakesEach};
 ghost use Rattle.md_events.specs.Transition.{IsAt};
-ghost use Rattle.md_tables.specs.Delimiter.{DelimiterNeeds, before_transition, cell_after_transition};
-ghost use Rattle.md_tables.specs.Delimiter.{cell_before_transition, delimiter_transition, filler_transition};
-ghost use Rattle.md_tables.specs.Delimiter.{left_after_transition, marked, refused, right_after_transition};
-ghost use Rattle.md_tables.specs.Delimiter.{start_transition, uncounted, value_before_transition, white_on};
-ghost use Rattle.md_tables.specs.GfmTableRule.{TableMeans};
+ghost use Rattle.md_tables.specs.Delimiter.{DelimiterNeeds};
+ghost use Rattle.md_tables.specs.Delimiter.{delimiter_transition};
+ghost use Rattle.md_tables.specs.Delimiter.{marked};
+ghost use Rattle.md_tables.specs.Delimiter.{uncounted, white_on};
+ghost use Rattle.md_tables.specs.GfmTableRule.{IsSureTableState, IsTableState};
 
 use md_engine::event::Name;
 use md_engine::or_error;
@@ -87,11 +87,7 @@ fn take_mark(tokenizer: &mut Tokenizer, name: Name, next: TableState) -> State
 #[tactic(auto, using(crate::proofs::GfmTableMeaning::table_rule))]
 pub fn head_delimiter_start(tokenizer: &mut Tokenizer) -> State
     requires { IsAt DelimiterNeeds (StateName.GfmTable TableState.HeadDelimiterStart) (world tokenizer.old) }
-    ensures to { result ≢ State.Error → result ≡ (start_transition (world tokenizer.old)).to }
-    ensures world { result ≢ State.Error → world tokenizer.new ≡ (start_transition (world tokenizer.old)).world }
-    ensures rule { result ≢ State.Error →
-        TableMeans TableState.HeadDelimiterStart (world tokenizer.old) result (world tokenizer.new) }
-    ensures full { OnError result (IsFull tokenizer.new) }
+    ensures { IsTableState TableState.HeadDelimiterStart (world tokenizer.old) result tokenizer.new }
 {
     or_error!(tokenizer.enter_link(Name::GfmTable, FURTHER));
     or_error!(tokenizer.enter(Name::GfmTableDelimiterRow));
@@ -110,11 +106,7 @@ pub fn head_delimiter_start(tokenizer: &mut Tokenizer) -> State
 #[tactic(auto, using(crate::proofs::GfmTableMeaning::table_rule))]
 pub fn head_delimiter_before(tokenizer: &mut Tokenizer) -> State
     requires { IsAt DelimiterNeeds (StateName.GfmTable TableState.HeadDelimiterBefore) (world tokenizer.old) }
-    ensures to { result ≢ State.Error → result ≡ (before_transition (world tokenizer.old)).to }
-    ensures world { result ≢ State.Error → world tokenizer.new ≡ (before_transition (world tokenizer.old)).world }
-    ensures rule { result ≢ State.Error →
-        TableMeans TableState.HeadDelimiterBefore (world tokenizer.old) result (world tokenizer.new) }
-    ensures full { OnError result (IsFull tokenizer.new) }
+    ensures { IsTableState TableState.HeadDelimiterBefore (world tokenizer.old) result tokenizer.new }
 {
     match tokenizer.current {
         Some(b'-' | b':') => {
@@ -140,12 +132,7 @@ pub fn head_delimiter_before(tokenizer: &mut Tokenizer) -> State
 #[tactic(auto, using(crate::proofs::GfmTableMeaning::table_rule))]
 pub fn head_delimiter_cell_before(tokenizer: &mut Tokenizer) -> State
     requires { IsAt DelimiterNeeds (StateName.GfmTable TableState.HeadDelimiterCellBefore) (world tokenizer.old) }
-    ensures to { result ≢ State.Error → result ≡ (cell_before_transition (world tokenizer.old)).to }
-    ensures world { result ≢ State.Error →
-        world tokenizer.new ≡ (cell_before_transition (world tokenizer.old)).world }
-    ensures rule { result ≢ State.Error →
-        TableMeans TableState.HeadDelimiterCellBefore (world tokenizer.old) result (world tokenizer.new) }
-    ensures full { OnError result (IsFull tokenizer.new) }
+    ensures { IsTableState TableState.HeadDelimiterCellBefore (world tokenizer.old) result tokenizer.new }
 {
     behind_white(tokenizer, usize::MAX, TableState::HeadDelimiterValueBefore)
 }
@@ -161,12 +148,7 @@ pub fn head_delimiter_cell_before(tokenizer: &mut Tokenizer) -> State
 #[tactic(auto, using(crate::proofs::GfmTableMeaning::table_rule))]
 pub fn head_delimiter_value_before(tokenizer: &mut Tokenizer) -> State
     requires { IsAt DelimiterNeeds (StateName.GfmTable TableState.HeadDelimiterValueBefore) (world tokenizer.old) }
-    ensures to { result ≢ State.Error → result ≡ (value_before_transition (world tokenizer.old)).to }
-    ensures world { result ≢ State.Error →
-        world tokenizer.new ≡ (value_before_transition (world tokenizer.old)).world }
-    ensures rule { result ≢ State.Error →
-        TableMeans TableState.HeadDelimiterValueBefore (world tokenizer.old) result (world tokenizer.new) }
-    ensures full { OnError result (IsFull tokenizer.new) }
+    ensures { IsTableState TableState.HeadDelimiterValueBefore (world tokenizer.old) result tokenizer.new }
 {
     match tokenizer.current {
         None | Some(b'\n') => State::Retry(StateName::GfmTable(TableState::HeadDelimiterCellAfter)),
@@ -194,11 +176,7 @@ pub fn head_delimiter_value_before(tokenizer: &mut Tokenizer) -> State
 pub fn head_delimiter_left_alignment_after(tokenizer: &mut Tokenizer) -> State
     requires { IsAt DelimiterNeeds (StateName.GfmTable TableState.HeadDelimiterLeftAlignmentAfter)
         (world tokenizer.old) }
-    ensures to { result ≢ State.Error → result ≡ (left_after_transition (world tokenizer.old)).to }
-    ensures world { result ≢ State.Error → world tokenizer.new ≡ (left_after_transition (world tokenizer.old)).world }
-    ensures rule { result ≢ State.Error →
-        TableMeans TableState.HeadDelimiterLeftAlignmentAfter (world tokenizer.old) result (world tokenizer.new) }
-    ensures full { OnError result (IsFull tokenizer.new) }
+    ensures { IsTableState TableState.HeadDelimiterLeftAlignmentAfter (world tokenizer.old) result tokenizer.new }
 {
     if tokenizer.current == Some(b'-') {
         or_error!(tokenizer.enter(Name::GfmTableDelimiterFiller));
@@ -221,11 +199,7 @@ pub fn head_delimiter_left_alignment_after(tokenizer: &mut Tokenizer) -> State
 #[tactic(auto, using(crate::proofs::GfmTableMeaning::table_rule))]
 pub fn head_delimiter_filler(tokenizer: &mut Tokenizer) -> State
     requires { IsAt DelimiterNeeds (StateName.GfmTable TableState.HeadDelimiterFiller) (world tokenizer.old) }
-    ensures to { result ≢ State.Error → result ≡ (filler_transition (world tokenizer.old)).to }
-    ensures world { result ≢ State.Error → world tokenizer.new ≡ (filler_transition (world tokenizer.old)).world }
-    ensures rule { result ≢ State.Error →
-        TableMeans TableState.HeadDelimiterFiller (world tokenizer.old) result (world tokenizer.new) }
-    ensures full { OnError result (IsFull tokenizer.new) }
+    ensures { IsTableState TableState.HeadDelimiterFiller (world tokenizer.old) result tokenizer.new }
 {
     match tokenizer.current {
         Some(b'-') => {
@@ -259,11 +233,7 @@ pub fn head_delimiter_filler(tokenizer: &mut Tokenizer) -> State
 pub fn head_delimiter_right_alignment_after(tokenizer: &mut Tokenizer) -> State
     requires { IsAt DelimiterNeeds (StateName.GfmTable TableState.HeadDelimiterRightAlignmentAfter)
         (world tokenizer.old) }
-    ensures to { result ≢ State.Error → result ≡ (right_after_transition (world tokenizer.old)).to }
-    ensures world { result ≢ State.Error → world tokenizer.new ≡ (right_after_transition (world tokenizer.old)).world }
-    ensures rule { result ≢ State.Error →
-        TableMeans TableState.HeadDelimiterRightAlignmentAfter (world tokenizer.old) result (world tokenizer.new) }
-    ensures full { OnError result (IsFull tokenizer.new) }
+    ensures { IsTableState TableState.HeadDelimiterRightAlignmentAfter (world tokenizer.old) result tokenizer.new }
 {
     behind_white(tokenizer, usize::MAX, TableState::HeadDelimiterCellAfter)
 }
@@ -279,11 +249,7 @@ pub fn head_delimiter_right_alignment_after(tokenizer: &mut Tokenizer) -> State
 #[tactic(auto, using(crate::proofs::GfmTableMeaning::table_rule))]
 pub fn head_delimiter_cell_after(tokenizer: &mut Tokenizer) -> State
     requires { IsAt DelimiterNeeds (StateName.GfmTable TableState.HeadDelimiterCellAfter) (world tokenizer.old) }
-    ensures to { result ≢ State.Error → result ≡ (cell_after_transition (world tokenizer.old)).to }
-    ensures world { result ≢ State.Error → world tokenizer.new ≡ (cell_after_transition (world tokenizer.old)).world }
-    ensures rule { result ≢ State.Error →
-        TableMeans TableState.HeadDelimiterCellAfter (world tokenizer.old) result (world tokenizer.new) }
-    ensures full { OnError result (IsFull tokenizer.new) }
+    ensures { IsTableState TableState.HeadDelimiterCellAfter (world tokenizer.old) result tokenizer.new }
 {
     let scratch = tokenizer.scratch;
     match tokenizer.current {
@@ -313,9 +279,7 @@ pub fn head_delimiter_cell_after(tokenizer: &mut Tokenizer) -> State
 #[tactic(auto, using(crate::proofs::GfmTableMeaning::table_rule))]
 pub fn head_delimiter_nok(tokenizer: &mut Tokenizer) -> State
     requires { IsAt DelimiterNeeds (StateName.GfmTable TableState.HeadDelimiterNok) (world tokenizer.old) }
-    ensures to { result ≡ (refused (world tokenizer.old)).to }
-    ensures world { world tokenizer.new ≡ (refused (world tokenizer.old)).world }
-    ensures rule { TableMeans TableState.HeadDelimiterNok (world tokenizer.old) result (world tokenizer.new) }
+    ensures { IsSureTableState TableState.HeadDelimiterNok (world tokenizer.old) result tokenizer.new }
 {
     tokenizer.scratch = uncounted(tokenizer.scratch);
     State::Nok

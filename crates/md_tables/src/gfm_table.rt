@@ -6,8 +6,7 @@
 // So a line that meets text is tried as a delimiter row, and one that meets a table as a row of the body. The head
 // itself is read again, once all lines are known.
 
-ghost use Rattle.std.specs.Prelude.{◌≡◌, ◌≢◌, IfSome, None};
-ghost use Rattle.md_engine.specs.Full.{IsFull, OnError};
+ghost use Rattle.std.specs.Prelude.{◌≡◌, IfSome, None};
 ghost use Rattle.md_engine.specs.World.{world};
 ghost use Rattle.md_engine.specs.declared.state.Name.{Name as StateName};
 ghost use Rattle.md_engine.specs.declared.state.State.{State};
@@ -15,10 +14,9 @@ ghost use Rattle.md_engine.specs.declared.state.gfm_table.State.{State as TableS
 ghost use Rattle.md_events.specs.Stays.{TakesEach};
 ghost use Rattle.md_events.specs.Transition.{IsAt};
 ghost use Rattle.md_events.specs.Look.{may_with};
-ghost use Rattle.md_tables.specs.GfmTable.{AnswersWith, TableNeeds, head_row_start_transition, may_begin, may_head};
-ghost use Rattle.md_tables.specs.GfmTable.{start_transition, table_transition};
-ghost use Rattle.md_tables.specs.GfmTableRule.{TableMeans};
-ghost use Rattle.md_tables.specs.Row.{row_transition};
+ghost use Rattle.md_tables.specs.GfmTable.{AnswersWith, TableNeeds, may_begin, may_head};
+ghost use Rattle.md_tables.specs.GfmTable.{table_transition};
+ghost use Rattle.md_tables.specs.GfmTableRule.{IsSureTableState, IsTableState};
 ghost use Rattle.md_tables.specs.declared.row.Place.{Place};
 ghost use Rattle.md_tables.specs.declared.row.Row.{Row};
 
@@ -71,9 +69,7 @@ pub fn may_begin(leaf: HeldLeaf, first: Option<u8>) -> bool
 #[tactic(auto, using(crate::proofs::GfmTableMeaning::table_rule))]
 pub fn start(tokenizer: &mut Tokenizer) -> State
     requires { IsAt TableNeeds (StateName.GfmTable TableState.Start) (world tokenizer.old) }
-    ensures to { result ≡ (start_transition (world tokenizer.old)).to }
-    ensures world { world tokenizer.new ≡ (start_transition (world tokenizer.old)).world }
-    ensures rule { TableMeans TableState.Start (world tokenizer.old) result (world tokenizer.new) }
+    ensures { IsSureTableState TableState.Start (world tokenizer.old) result tokenizer.new }
 {
     let first = look_behind(tokenizer);
     if !may_begin(tokenizer.flags.leaf, first) {
@@ -103,12 +99,7 @@ pub fn start(tokenizer: &mut Tokenizer) -> State
 #[tactic(auto, using(crate::proofs::GfmTableMeaning::table_rule))]
 pub fn head_row_before(tokenizer: &mut Tokenizer) -> State
     requires { IsAt TableNeeds (StateName.GfmTable TableState.HeadRowBefore) (world tokenizer.old) }
-    ensures to { result ≢ State.Error → result ≡ (row_transition Row.Head Place.Start (world tokenizer.old)).to }
-    ensures world { result ≢ State.Error →
-        world tokenizer.new ≡ (row_transition Row.Head Place.Start (world tokenizer.old)).world }
-    ensures rule { result ≢ State.Error →
-        TableMeans TableState.HeadRowBefore (world tokenizer.old) result (world tokenizer.new) }
-    ensures full { OnError result (IsFull tokenizer.new) }
+    ensures { IsTableState TableState.HeadRowBefore (world tokenizer.old) result tokenizer.new }
 {
     row::start(tokenizer, Row::Head)
 }
@@ -123,9 +114,7 @@ pub fn head_row_before(tokenizer: &mut Tokenizer) -> State
 #[tactic(auto, using(crate::proofs::GfmTableMeaning::table_rule))]
 pub fn head_row_start(tokenizer: &mut Tokenizer) -> State
     requires { IsAt TableNeeds (StateName.GfmTable TableState.HeadRowStart) (world tokenizer.old) }
-    ensures to { result ≡ (head_row_start_transition (world tokenizer.old)).to }
-    ensures world { world tokenizer.new ≡ (head_row_start_transition (world tokenizer.old)).world }
-    ensures rule { TableMeans TableState.HeadRowStart (world tokenizer.old) result (world tokenizer.new) }
+    ensures { IsSureTableState TableState.HeadRowStart (world tokenizer.old) result tokenizer.new }
 {
     State::Retry(StateName::GfmTable(TableState::HeadRowBreak))
 }
@@ -140,12 +129,7 @@ pub fn head_row_start(tokenizer: &mut Tokenizer) -> State
 #[tactic(auto, using(crate::proofs::GfmTableMeaning::table_rule))]
 pub fn head_row_break(tokenizer: &mut Tokenizer) -> State
     requires { IsAt TableNeeds (StateName.GfmTable TableState.HeadRowBreak) (world tokenizer.old) }
-    ensures to { result ≢ State.Error → result ≡ (row_transition Row.Head Place.Break (world tokenizer.old)).to }
-    ensures world { result ≢ State.Error →
-        world tokenizer.new ≡ (row_transition Row.Head Place.Break (world tokenizer.old)).world }
-    ensures rule { result ≢ State.Error →
-        TableMeans TableState.HeadRowBreak (world tokenizer.old) result (world tokenizer.new) }
-    ensures full { OnError result (IsFull tokenizer.new) }
+    ensures { IsTableState TableState.HeadRowBreak (world tokenizer.old) result tokenizer.new }
 {
     row::at_break(tokenizer, Row::Head)
 }
@@ -160,12 +144,7 @@ pub fn head_row_break(tokenizer: &mut Tokenizer) -> State
 #[tactic(auto, using(crate::proofs::GfmTableMeaning::table_rule))]
 pub fn head_row_data(tokenizer: &mut Tokenizer) -> State
     requires { IsAt TableNeeds (StateName.GfmTable TableState.HeadRowData) (world tokenizer.old) }
-    ensures to { result ≢ State.Error → result ≡ (row_transition Row.Head Place.Data (world tokenizer.old)).to }
-    ensures world { result ≢ State.Error →
-        world tokenizer.new ≡ (row_transition Row.Head Place.Data (world tokenizer.old)).world }
-    ensures rule { result ≢ State.Error →
-        TableMeans TableState.HeadRowData (world tokenizer.old) result (world tokenizer.new) }
-    ensures full { OnError result (IsFull tokenizer.new) }
+    ensures { IsTableState TableState.HeadRowData (world tokenizer.old) result tokenizer.new }
 {
     row::data(tokenizer, Row::Head)
 }
@@ -180,9 +159,7 @@ pub fn head_row_data(tokenizer: &mut Tokenizer) -> State
 #[tactic(auto, using(crate::proofs::GfmTableMeaning::table_rule))]
 pub fn head_row_escape(tokenizer: &mut Tokenizer) -> State
     requires { IsAt TableNeeds (StateName.GfmTable TableState.HeadRowEscape) (world tokenizer.old) }
-    ensures to { result ≡ (row_transition Row.Head Place.Escape (world tokenizer.old)).to }
-    ensures world { world tokenizer.new ≡ (row_transition Row.Head Place.Escape (world tokenizer.old)).world }
-    ensures rule { TableMeans TableState.HeadRowEscape (world tokenizer.old) result (world tokenizer.new) }
+    ensures { IsSureTableState TableState.HeadRowEscape (world tokenizer.old) result tokenizer.new }
 {
     row::escape(tokenizer, Row::Head)
 }
@@ -197,12 +174,7 @@ pub fn head_row_escape(tokenizer: &mut Tokenizer) -> State
 #[tactic(auto, using(crate::proofs::GfmTableMeaning::table_rule))]
 pub fn head_row_cell_before(tokenizer: &mut Tokenizer) -> State
     requires { IsAt TableNeeds (StateName.GfmTable TableState.HeadRowCellBefore) (world tokenizer.old) }
-    ensures to { result ≢ State.Error → result ≡ (row_transition Row.Head Place.CellBefore (world tokenizer.old)).to }
-    ensures world { result ≢ State.Error →
-        world tokenizer.new ≡ (row_transition Row.Head Place.CellBefore (world tokenizer.old)).world }
-    ensures rule { result ≢ State.Error →
-        TableMeans TableState.HeadRowCellBefore (world tokenizer.old) result (world tokenizer.new) }
-    ensures full { OnError result (IsFull tokenizer.new) }
+    ensures { IsTableState TableState.HeadRowCellBefore (world tokenizer.old) result tokenizer.new }
 {
     row::cell_before(tokenizer, Row::Head)
 }
@@ -218,12 +190,7 @@ pub fn head_row_cell_before(tokenizer: &mut Tokenizer) -> State
 #[tactic(auto, using(crate::proofs::GfmTableMeaning::table_rule))]
 pub fn body_row_start(tokenizer: &mut Tokenizer) -> State
     requires { IsAt TableNeeds (StateName.GfmTable TableState.BodyRowStart) (world tokenizer.old) }
-    ensures to { result ≢ State.Error → result ≡ (row_transition Row.Body Place.Start (world tokenizer.old)).to }
-    ensures world { result ≢ State.Error →
-        world tokenizer.new ≡ (row_transition Row.Body Place.Start (world tokenizer.old)).world }
-    ensures rule { result ≢ State.Error →
-        TableMeans TableState.BodyRowStart (world tokenizer.old) result (world tokenizer.new) }
-    ensures full { OnError result (IsFull tokenizer.new) }
+    ensures { IsTableState TableState.BodyRowStart (world tokenizer.old) result tokenizer.new }
 {
     row::start(tokenizer, Row::Body)
 }
@@ -239,12 +206,7 @@ pub fn body_row_start(tokenizer: &mut Tokenizer) -> State
 #[tactic(auto, using(crate::proofs::GfmTableMeaning::table_rule))]
 pub fn body_row_break(tokenizer: &mut Tokenizer) -> State
     requires { IsAt TableNeeds (StateName.GfmTable TableState.BodyRowBreak) (world tokenizer.old) }
-    ensures to { result ≢ State.Error → result ≡ (row_transition Row.Body Place.Break (world tokenizer.old)).to }
-    ensures world { result ≢ State.Error →
-        world tokenizer.new ≡ (row_transition Row.Body Place.Break (world tokenizer.old)).world }
-    ensures rule { result ≢ State.Error →
-        TableMeans TableState.BodyRowBreak (world tokenizer.old) result (world tokenizer.new) }
-    ensures full { OnError result (IsFull tokenizer.new) }
+    ensures { IsTableState TableState.BodyRowBreak (world tokenizer.old) result tokenizer.new }
 {
     row::at_break(tokenizer, Row::Body)
 }
@@ -260,12 +222,7 @@ pub fn body_row_break(tokenizer: &mut Tokenizer) -> State
 #[tactic(auto, using(crate::proofs::GfmTableMeaning::table_rule))]
 pub fn body_row_data(tokenizer: &mut Tokenizer) -> State
     requires { IsAt TableNeeds (StateName.GfmTable TableState.BodyRowData) (world tokenizer.old) }
-    ensures to { result ≢ State.Error → result ≡ (row_transition Row.Body Place.Data (world tokenizer.old)).to }
-    ensures world { result ≢ State.Error →
-        world tokenizer.new ≡ (row_transition Row.Body Place.Data (world tokenizer.old)).world }
-    ensures rule { result ≢ State.Error →
-        TableMeans TableState.BodyRowData (world tokenizer.old) result (world tokenizer.new) }
-    ensures full { OnError result (IsFull tokenizer.new) }
+    ensures { IsTableState TableState.BodyRowData (world tokenizer.old) result tokenizer.new }
 {
     row::data(tokenizer, Row::Body)
 }
@@ -281,9 +238,7 @@ pub fn body_row_data(tokenizer: &mut Tokenizer) -> State
 #[tactic(auto, using(crate::proofs::GfmTableMeaning::table_rule))]
 pub fn body_row_escape(tokenizer: &mut Tokenizer) -> State
     requires { IsAt TableNeeds (StateName.GfmTable TableState.BodyRowEscape) (world tokenizer.old) }
-    ensures to { result ≡ (row_transition Row.Body Place.Escape (world tokenizer.old)).to }
-    ensures world { world tokenizer.new ≡ (row_transition Row.Body Place.Escape (world tokenizer.old)).world }
-    ensures rule { TableMeans TableState.BodyRowEscape (world tokenizer.old) result (world tokenizer.new) }
+    ensures { IsSureTableState TableState.BodyRowEscape (world tokenizer.old) result tokenizer.new }
 {
     row::escape(tokenizer, Row::Body)
 }
@@ -299,12 +254,7 @@ pub fn body_row_escape(tokenizer: &mut Tokenizer) -> State
 #[tactic(auto, using(crate::proofs::GfmTableMeaning::table_rule))]
 pub fn body_row_cell_before(tokenizer: &mut Tokenizer) -> State
     requires { IsAt TableNeeds (StateName.GfmTable TableState.BodyRowCellBefore) (world tokenizer.old) }
-    ensures to { result ≢ State.Error → result ≡ (row_transition Row.Body Place.CellBefore (world tokenizer.old)).to }
-    ensures world { result ≢ State.Error →
-        world tokenizer.new ≡ (row_transition Row.Body Place.CellBefore (world tokenizer.old)).world }
-    ensures rule { result ≢ State.Error →
-        TableMeans TableState.BodyRowCellBefore (world tokenizer.old) result (world tokenizer.new) }
-    ensures full { OnError result (IsFull tokenizer.new) }
+    ensures { IsTableState TableState.BodyRowCellBefore (world tokenizer.old) result tokenizer.new }
 {
     row::cell_before(tokenizer, Row::Body)
 }
@@ -326,10 +276,7 @@ pub fn takes_at_once(state: TableState) -> Option<Stay>
 #[tactic(auto, using(crate::proofs::GfmTableMeaning::table_rule))]
 pub fn call(tokenizer: &mut Tokenizer, state: TableState) -> State
     requires { IsAt TableNeeds (StateName.GfmTable state) (world tokenizer.old) }
-    ensures to { result ≢ State.Error → result ≡ (table_transition state (world tokenizer.old)).to }
-    ensures world { result ≢ State.Error → world tokenizer.new ≡ (table_transition state (world tokenizer.old)).world }
-    ensures rule { result ≢ State.Error → TableMeans state (world tokenizer.old) result (world tokenizer.new) }
-    ensures full { OnError result (IsFull tokenizer.new) }
+    ensures { IsTableState state (world tokenizer.old) result tokenizer.new }
 {
     match state {
         TableState::Start => start(tokenizer),

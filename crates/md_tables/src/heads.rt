@@ -4,14 +4,12 @@
 // head row. The walk begins just before the first delimiter row; a text without one is only searched for it. It tests
 // each event as it passes it, and else at most once from the line of text before it. So it is linear.
 
-ghost use Rattle.std.specs.Prelude.{◌≡◌, ◌≢◌, ℕ, ◌≤◌, ◌<◌, ◌++◌, IfOk, IfSome, List, None, OnOk, [], drop, false};
+ghost use Rattle.std.specs.Prelude.{◌≡◌, ℕ, ◌≤◌, ◌<◌, ◌++◌, IfOk, IfSome, List, None, OnOk, [], drop, false};
 ghost use Rattle.std.specs.Prelude.{length, not, take};
 ghost use Rattle.std.specs.List.{prefix_len};
 ghost use Rattle.std.specs.Option.{option_map};
 ghost use Rattle.md_engine.specs.Found.{found_in};
-ghost use Rattle.md_engine.specs.Full.{IsFull, OnError};
-ghost use Rattle.md_engine.specs.Going.{SeesOn};
-ghost use Rattle.md_engine.specs.Run.{RunsHere};
+ghost use Rattle.md_engine.specs.Full.{IsFull};
 ghost use Rattle.md_engine.specs.Place.{IsPlaced};
 ghost use Rattle.md_engine.specs.Scheme.{stands};
 ghost use Rattle.md_engine.specs.World.{looks, world};
@@ -23,6 +21,7 @@ ghost use Rattle.md_events.specs.Stays.{TakesEach};
 ghost use Rattle.md_tables.specs.HeadStates.{HeadStep, head_scheme, head_transition};
 ghost use Rattle.md_tables.specs.Heads.{begins_chunk, begins_further_row, head_line, headed, is_head};
 ghost use Rattle.md_tables.specs.Heads.{meets_table, stops_look};
+ghost use Rattle.md_events.specs.States.{IsRun};
 
 use crate::row::{self, Place, Row, place_of};
 use crate::row_words;
@@ -48,10 +47,7 @@ use std::mem;
 fn call_state(tokenizer: &mut Tokenizer, name: StateName) -> State
     requires current { (world tokenizer.old).current ≡ looks (world tokenizer.old) }
     requires stands { stands head_scheme (world tokenizer.old) (State.Next name) }
-    ensures runs { result ≢ State.Error →
-        RunsHere HeadStep name (world tokenizer.old) result (world tokenizer.new) }
-    ensures sees { result ≢ State.Error → SeesOn result (world tokenizer.old) (world tokenizer.new) }
-    ensures full { OnError result (IsFull tokenizer.new) }
+    ensures { IsRun HeadStep name (world tokenizer.old) (IsFull tokenizer.new) result tokenizer.new }
 {
     match name {
         StateName::GfmTable(state) => match place_of(Row::Head, state) {

@@ -10,16 +10,16 @@
 // line before, as each further line of a leaf of several lines is.
 
 ghost use Rattle.std.specs.Prelude.{◌≡◌, ◌≢◌, IfSome, OnOk, is_err, true};
-ghost use Rattle.md_engine.specs.Full.{IsFull, OnError};
+ghost use Rattle.md_engine.specs.Full.{Grown, IsFull, IsFullList, OnError};
 ghost use Rattle.md_engine.specs.World.{world};
 ghost use Rattle.md_engine.specs.declared.state.Name.{Name as StateName};
 ghost use Rattle.md_engine.specs.declared.state.State.{State};
 ghost use Rattle.md_events.specs.Spaces.{sees_white};
 ghost use Rattle.md_events.specs.Stays.{TakesEach};
 ghost use Rattle.md_events.specs.Transition.{IsAt, NeedsNothing};
-ghost use Rattle.md_tables.specs.Row.{at_break_transition, begun, behind_part, cell_before_transition, data_transition};
-ghost use Rattle.md_tables.specs.Row.{escape_transition, place_of, row_transition, start_transition, state_at};
-ghost use Rattle.md_tables.specs.RowRule.{RowMeans};
+ghost use Rattle.md_tables.specs.Row.{begun, behind_part};
+ghost use Rattle.md_tables.specs.Row.{place_of, row_transition, state_at};
+ghost use Rattle.md_tables.specs.RowRule.{IsRowState, IsSureRowState};
 
 use md_engine::event::{Content, Link, Name};
 use md_engine::message::Message;
@@ -129,7 +129,7 @@ pub(crate) fn behind_part(tokenizer: &mut Tokenizer, row: Row) -> State
 #[inline(always)]
 pub(crate) fn begin_row(tokenizer: &mut Tokenizer, row: Row) -> Result<(), Message>
     ensures world { OnOk result (world tokenizer.new ≡ begun row (world tokenizer.old)) }
-    ensures full { is_err result ≡ true → IsFull tokenizer.new }
+    ensures full { is_err result ≡ true → IsFullList Grown.Events tokenizer.new }
 {
     if matches!(row, Row::Body) {
         tokenizer.enter_link(Name::GfmTable, FURTHER)?;
@@ -148,10 +148,7 @@ pub(crate) fn begin_row(tokenizer: &mut Tokenizer, row: Row) -> Result<(), Messa
 #[tactic(auto, using(crate::proofs::RowMeaning::row_rule))]
 pub fn start(tokenizer: &mut Tokenizer, row: Row) -> State
     requires { IsAt NeedsNothing (StateName.GfmTable (state_at row Place.Start)) (world tokenizer.old) }
-    ensures to { result ≢ State.Error → result ≡ (start_transition row (world tokenizer.old)).to }
-    ensures world { result ≢ State.Error → world tokenizer.new ≡ (start_transition row (world tokenizer.old)).world }
-    ensures rule { result ≢ State.Error → RowMeans row Place.Start (world tokenizer.old) result (world tokenizer.new) }
-    ensures full { OnError result (IsFull tokenizer.new) }
+    ensures { IsRowState row Place.Start (world tokenizer.old) result tokenizer.new }
 {
     or_error!(begin_row(tokenizer, row));
     behind_part(tokenizer, row)
@@ -169,10 +166,7 @@ pub fn start(tokenizer: &mut Tokenizer, row: Row) -> State
 #[tactic(auto, using(crate::proofs::RowMeaning::row_rule))]
 pub fn at_break(tokenizer: &mut Tokenizer, row: Row) -> State
     requires { IsAt NeedsNothing (StateName.GfmTable (state_at row Place.Break)) (world tokenizer.old) }
-    ensures to { result ≢ State.Error → result ≡ (at_break_transition row (world tokenizer.old)).to }
-    ensures world { result ≢ State.Error → world tokenizer.new ≡ (at_break_transition row (world tokenizer.old)).world }
-    ensures rule { result ≢ State.Error → RowMeans row Place.Break (world tokenizer.old) result (world tokenizer.new) }
-    ensures full { OnError result (IsFull tokenizer.new) }
+    ensures { IsRowState row Place.Break (world tokenizer.old) result tokenizer.new }
 {
     match tokenizer.current {
         None | Some(b'\n') => {
@@ -208,10 +202,7 @@ pub fn at_break(tokenizer: &mut Tokenizer, row: Row) -> State
 #[tactic(auto, using(crate::proofs::RowMeaning::row_rule))]
 pub fn data(tokenizer: &mut Tokenizer, row: Row) -> State
     requires { IsAt NeedsNothing (StateName.GfmTable (state_at row Place.Data)) (world tokenizer.old) }
-    ensures to { result ≢ State.Error → result ≡ (data_transition row (world tokenizer.old)).to }
-    ensures world { result ≢ State.Error → world tokenizer.new ≡ (data_transition row (world tokenizer.old)).world }
-    ensures rule { result ≢ State.Error → RowMeans row Place.Data (world tokenizer.old) result (world tokenizer.new) }
-    ensures full { OnError result (IsFull tokenizer.new) }
+    ensures { IsRowState row Place.Data (world tokenizer.old) result tokenizer.new }
 {
     match tokenizer.current {
         None | Some(b'\n' | b' ' | b'\t' | b'|') => {
@@ -242,9 +233,7 @@ pub fn data(tokenizer: &mut Tokenizer, row: Row) -> State
 #[tactic(auto, using(crate::proofs::RowMeaning::row_rule))]
 pub fn escape(tokenizer: &mut Tokenizer, row: Row) -> State
     requires { IsAt NeedsNothing (StateName.GfmTable (state_at row Place.Escape)) (world tokenizer.old) }
-    ensures to { result ≡ (escape_transition row (world tokenizer.old)).to }
-    ensures world { world tokenizer.new ≡ (escape_transition row (world tokenizer.old)).world }
-    ensures rule { RowMeans row Place.Escape (world tokenizer.old) result (world tokenizer.new) }
+    ensures { IsSureRowState row Place.Escape (world tokenizer.old) result tokenizer.new }
 {
     let next = name_at(row, Place::Data);
     match tokenizer.current {
@@ -267,12 +256,7 @@ pub fn escape(tokenizer: &mut Tokenizer, row: Row) -> State
 #[tactic(auto, using(crate::proofs::RowMeaning::row_rule))]
 pub fn cell_before(tokenizer: &mut Tokenizer, row: Row) -> State
     requires { IsAt NeedsNothing (StateName.GfmTable (state_at row Place.CellBefore)) (world tokenizer.old) }
-    ensures to { result ≢ State.Error → result ≡ (cell_before_transition row (world tokenizer.old)).to }
-    ensures world { result ≢ State.Error →
-        world tokenizer.new ≡ (cell_before_transition row (world tokenizer.old)).world }
-    ensures rule { result ≢ State.Error →
-        RowMeans row Place.CellBefore (world tokenizer.old) result (world tokenizer.new) }
-    ensures full { OnError result (IsFull tokenizer.new) }
+    ensures { IsRowState row Place.CellBefore (world tokenizer.old) result tokenizer.new }
 {
     behind_part(tokenizer, row)
 }

@@ -6,9 +6,7 @@
 // single spaces is done here in one call. It becomes the same.
 
 ghost use Rattle.std.specs.Prelude.{◌≡◌, ◌≢◌, ◌<◌, ◌≤◌, ◌⊎◌, IfSome, None, OnOk, Some, false, is_err, true};
-ghost use Rattle.md_engine.specs.Full.{IsFull, OnError};
-ghost use Rattle.md_engine.specs.Going.{SeesOn};
-ghost use Rattle.md_engine.specs.Run.{RunsHere};
+ghost use Rattle.md_engine.specs.Full.{Grown, IsFull, IsFullList, OnError};
 ghost use Rattle.md_engine.specs.Scheme.{cells_left};
 ghost use Rattle.md_engine.specs.Staying.{SeesSome};
 ghost use Rattle.md_engine.specs.World.{looks, world};
@@ -19,6 +17,7 @@ ghost use Rattle.md_events.specs.Spaces.{sees_white};
 ghost use Rattle.md_events.specs.Transition.{IsAt, NeedsNothing};
 ghost use Rattle.md_tables.specs.Row.{behind_part, is_escaped, is_text, name_at, piece};
 ghost use Rattle.md_tables.specs.RowWords.{Goes, GoesTo, IsGap, RowStep, TakesTo, divided, is_backslash};
+ghost use Rattle.md_events.specs.States.{IsRun};
 
 use crate::row::{Place, Row, TEXT_LINK, at_break, begin_row, behind_part, name_at};
 use md_engine::class::Class;
@@ -69,7 +68,7 @@ fn take_pipe(tokenizer: &mut Tokenizer) -> Result<(), Message>
     requires current { (world tokenizer.old).current ≡ looks (world tokenizer.old) }
     requires pipe { (world tokenizer.old).current ≡ Some pipe }
     ensures world { OnOk result (world tokenizer.new ≡ divided (world tokenizer.old)) }
-    ensures full { is_err result ≡ true → IsFull tokenizer.new }
+    ensures full { is_err result ≡ true → IsFullList Grown.Events tokenizer.new }
 {
     tokenizer.enter(Name::GfmTableCellDivider)?;
     tokenizer.consume();
@@ -351,10 +350,8 @@ fn pass_part(tokenizer: &mut Tokenizer, row: Row) -> Option<State>
 #[inline(always)]
 fn parts(tokenizer: &mut Tokenizer, row: Row) -> State
     requires { IsAt NeedsNothing (name_at row Place.Break) (world tokenizer.old) }
-    ensures runs { result ≢ State.Error →
-        RunsHere (RowStep row) (name_at row Place.Break) (world tokenizer.old) result (world tokenizer.new) }
-    ensures sees { result ≢ State.Error → SeesOn result (world tokenizer.old) (world tokenizer.new) }
-    ensures full { OnError result (IsFull tokenizer.new) }
+    ensures { IsRun (RowStep row) (name_at row Place.Break)
+        (world tokenizer.old) (IsFull tokenizer.new) result tokenizer.new }
 {
     loop {
         if let Some(state) = pass_part(tokenizer, row) {
@@ -440,10 +437,7 @@ fn reach(tokenizer: &mut Tokenizer, row: Row, place: Place) -> Option<State>
 #[inline(always)]
 pub fn call(tokenizer: &mut Tokenizer, row: Row, place: Place) -> State
     requires { IsAt NeedsNothing (name_at row place) (world tokenizer.old) }
-    ensures runs { result ≢ State.Error →
-        RunsHere (RowStep row) (name_at row place) (world tokenizer.old) result (world tokenizer.new) }
-    ensures sees { result ≢ State.Error → SeesOn result (world tokenizer.old) (world tokenizer.new) }
-    ensures full { OnError result (IsFull tokenizer.new) }
+    ensures { IsRun (RowStep row) (name_at row place) (world tokenizer.old) (IsFull tokenizer.new) result tokenizer.new }
 {
     match reach(tokenizer, row, place) {
         Some(state) => state,

@@ -1,17 +1,10 @@
 // The rest of a complete tag (CommonMark 6.6), after its name: its attributes, its end, and nothing but whitespace.
 
-ghost use Rattle.std.specs.Prelude.{◌≡◌};
-ghost use Rattle.md_html.specs.HtmlRule.{HtmlMeans};
+ghost use Rattle.md_html.specs.HtmlRule.{IsSureHtmlState};
 ghost use Rattle.md_engine.specs.World.{world};
 ghost use Rattle.md_engine.specs.declared.state.Name.{Name as StateName};
 ghost use Rattle.md_engine.specs.declared.state.html_flow.State.{State as HtmlState};
-ghost use Rattle.md_html.specs.Html.{HtmlNeeds, complete_after_transition, complete_attribute_name_after_transition};
-ghost use Rattle.md_html.specs.Html.{complete_attribute_name_transition, complete_attribute_name_before_transition};
-ghost use Rattle.md_html.specs.Html.{complete_end_transition, complete_attribute_value_before_transition};
-ghost use Rattle.md_html.specs.Html.{complete_attribute_value_quoted_after_transition};
-ghost use Rattle.md_html.specs.Html.{complete_attribute_value_quoted_transition};
-ghost use Rattle.md_html.specs.Html.{complete_attribute_value_unquoted_transition};
-ghost use Rattle.md_html.specs.Html.{complete_closing_tag_after_transition};
+ghost use Rattle.md_html.specs.Html.{HtmlNeeds};
 ghost use Rattle.md_events.specs.Transition.{IsAt};
 
 use crate::html_flow::parts::{
@@ -32,9 +25,7 @@ use md_events::space_or_tab::is_space_or_tab;
 #[tactic(auto, using(crate::proofs::HtmlMeaning::html_rule))]
 pub fn complete_closing_tag_after(tokenizer: &mut Tokenizer) -> State
     requires { IsAt HtmlNeeds (StateName.HtmlFlow HtmlState.CompleteClosingTagAfter) (world tokenizer.old) }
-    ensures to { result ≡ (complete_closing_tag_after_transition (world tokenizer.old)).to }
-    ensures world { world tokenizer.new ≡ (complete_closing_tag_after_transition (world tokenizer.old)).world }
-    ensures rule { HtmlMeans HtmlState.CompleteClosingTagAfter (world tokenizer.old) result (world tokenizer.new) }
+    ensures { IsSureHtmlState HtmlState.CompleteClosingTagAfter (world tokenizer.old) result tokenizer.new }
 {
     if is_space_or_tab(tokenizer.current) {
         tokenizer.consume();
@@ -55,9 +46,7 @@ pub fn complete_closing_tag_after(tokenizer: &mut Tokenizer) -> State
 #[tactic(auto, using(crate::proofs::HtmlMeaning::html_rule))]
 pub fn complete_attribute_name_before(tokenizer: &mut Tokenizer) -> State
     requires { IsAt HtmlNeeds (StateName.HtmlFlow HtmlState.CompleteAttributeNameBefore) (world tokenizer.old) }
-    ensures to { result ≡ (complete_attribute_name_before_transition (world tokenizer.old)).to }
-    ensures world { world tokenizer.new ≡ (complete_attribute_name_before_transition (world tokenizer.old)).world }
-    ensures rule { HtmlMeans HtmlState.CompleteAttributeNameBefore (world tokenizer.old) result (world tokenizer.new) }
+    ensures { IsSureHtmlState HtmlState.CompleteAttributeNameBefore (world tokenizer.old) result tokenizer.new }
 {
     match tokenizer.current {
         Some(b'\t' | b' ') => {
@@ -82,9 +71,7 @@ pub fn complete_attribute_name_before(tokenizer: &mut Tokenizer) -> State
 #[tactic(auto, using(crate::proofs::HtmlMeaning::html_rule))]
 pub fn complete_attribute_name(tokenizer: &mut Tokenizer) -> State
     requires { IsAt HtmlNeeds (StateName.HtmlFlow HtmlState.CompleteAttributeName) (world tokenizer.old) }
-    ensures to { result ≡ (complete_attribute_name_transition (world tokenizer.old)).to }
-    ensures world { world tokenizer.new ≡ (complete_attribute_name_transition (world tokenizer.old)).world }
-    ensures rule { HtmlMeans HtmlState.CompleteAttributeName (world tokenizer.old) result (world tokenizer.new) }
+    ensures { IsSureHtmlState HtmlState.CompleteAttributeName (world tokenizer.old) result tokenizer.new }
 {
     match tokenizer.current {
         Some(byte) if is_attribute_byte(byte) => {
@@ -104,9 +91,7 @@ pub fn complete_attribute_name(tokenizer: &mut Tokenizer) -> State
 #[tactic(auto, using(crate::proofs::HtmlMeaning::html_rule))]
 pub fn complete_attribute_name_after(tokenizer: &mut Tokenizer) -> State
     requires { IsAt HtmlNeeds (StateName.HtmlFlow HtmlState.CompleteAttributeNameAfter) (world tokenizer.old) }
-    ensures to { result ≡ (complete_attribute_name_after_transition (world tokenizer.old)).to }
-    ensures world { world tokenizer.new ≡ (complete_attribute_name_after_transition (world tokenizer.old)).world }
-    ensures rule { HtmlMeans HtmlState.CompleteAttributeNameAfter (world tokenizer.old) result (world tokenizer.new) }
+    ensures { IsSureHtmlState HtmlState.CompleteAttributeNameAfter (world tokenizer.old) result tokenizer.new }
 {
     match tokenizer.current {
         Some(b'\t' | b' ') => {
@@ -130,9 +115,7 @@ pub fn complete_attribute_name_after(tokenizer: &mut Tokenizer) -> State
 #[tactic(auto, using(crate::proofs::HtmlMeaning::html_rule))]
 pub fn complete_attribute_value_before(tokenizer: &mut Tokenizer) -> State
     requires { IsAt HtmlNeeds (StateName.HtmlFlow HtmlState.CompleteAttributeValueBefore) (world tokenizer.old) }
-    ensures to { result ≡ (complete_attribute_value_before_transition (world tokenizer.old)).to }
-    ensures world { world tokenizer.new ≡ (complete_attribute_value_before_transition (world tokenizer.old)).world }
-    ensures rule { HtmlMeans HtmlState.CompleteAttributeValueBefore (world tokenizer.old) result (world tokenizer.new) }
+    ensures { IsSureHtmlState HtmlState.CompleteAttributeValueBefore (world tokenizer.old) result tokenizer.new }
 {
     match tokenizer.current {
         None | Some(b'\n') => refuse(tokenizer),
@@ -164,9 +147,7 @@ pub fn complete_attribute_value_before(tokenizer: &mut Tokenizer) -> State
 #[tactic(auto, using(crate::proofs::HtmlMeaning::html_rule))]
 pub fn complete_attribute_value_quoted(tokenizer: &mut Tokenizer) -> State
     requires { IsAt HtmlNeeds (StateName.HtmlFlow HtmlState.CompleteAttributeValueQuoted) (world tokenizer.old) }
-    ensures to { result ≡ (complete_attribute_value_quoted_transition (world tokenizer.old)).to }
-    ensures world { world tokenizer.new ≡ (complete_attribute_value_quoted_transition (world tokenizer.old)).world }
-    ensures rule { HtmlMeans HtmlState.CompleteAttributeValueQuoted (world tokenizer.old) result (world tokenizer.new) }
+    ensures { IsSureHtmlState HtmlState.CompleteAttributeValueQuoted (world tokenizer.old) result tokenizer.new }
 {
     match tokenizer.current {
         None | Some(b'\n') => refuse(tokenizer),
@@ -190,10 +171,7 @@ pub fn complete_attribute_value_quoted(tokenizer: &mut Tokenizer) -> State
 #[tactic(auto, using(crate::proofs::HtmlMeaning::html_rule))]
 pub fn complete_attribute_value_unquoted(tokenizer: &mut Tokenizer) -> State
     requires { IsAt HtmlNeeds (StateName.HtmlFlow HtmlState.CompleteAttributeValueUnquoted) (world tokenizer.old) }
-    ensures to { result ≡ (complete_attribute_value_unquoted_transition (world tokenizer.old)).to }
-    ensures world { world tokenizer.new ≡ (complete_attribute_value_unquoted_transition (world tokenizer.old)).world }
-    ensures rule { HtmlMeans HtmlState.CompleteAttributeValueUnquoted (world tokenizer.old) result
-        (world tokenizer.new) }
+    ensures { IsSureHtmlState HtmlState.CompleteAttributeValueUnquoted (world tokenizer.old) result tokenizer.new }
 {
     match tokenizer.current {
         Some(byte) if byte != b'\n' && is_value_byte(byte) => {
@@ -213,11 +191,7 @@ pub fn complete_attribute_value_unquoted(tokenizer: &mut Tokenizer) -> State
 #[tactic(auto, using(crate::proofs::HtmlMeaning::html_rule))]
 pub fn complete_attribute_value_quoted_after(tokenizer: &mut Tokenizer) -> State
     requires { IsAt HtmlNeeds (StateName.HtmlFlow HtmlState.CompleteAttributeValueQuotedAfter) (world tokenizer.old) }
-    ensures to { result ≡ (complete_attribute_value_quoted_after_transition (world tokenizer.old)).to }
-    ensures world { world tokenizer.new ≡
-        (complete_attribute_value_quoted_after_transition (world tokenizer.old)).world }
-    ensures rule { HtmlMeans HtmlState.CompleteAttributeValueQuotedAfter (world tokenizer.old) result
-        (world tokenizer.new) }
+    ensures { IsSureHtmlState HtmlState.CompleteAttributeValueQuotedAfter (world tokenizer.old) result tokenizer.new }
 {
     clear_to(tokenizer, HtmlState::CompleteAttributeNameBefore)
 }
@@ -231,9 +205,7 @@ pub fn complete_attribute_value_quoted_after(tokenizer: &mut Tokenizer) -> State
 #[tactic(auto, using(crate::proofs::HtmlMeaning::html_rule))]
 pub fn complete_end(tokenizer: &mut Tokenizer) -> State
     requires { IsAt HtmlNeeds (StateName.HtmlFlow HtmlState.CompleteEnd) (world tokenizer.old) }
-    ensures to { result ≡ (complete_end_transition (world tokenizer.old)).to }
-    ensures world { world tokenizer.new ≡ (complete_end_transition (world tokenizer.old)).world }
-    ensures rule { HtmlMeans HtmlState.CompleteEnd (world tokenizer.old) result (world tokenizer.new) }
+    ensures { IsSureHtmlState HtmlState.CompleteEnd (world tokenizer.old) result tokenizer.new }
 {
     if tokenizer.current == Some(b'>') {
         tokenizer.consume();
@@ -252,9 +224,7 @@ pub fn complete_end(tokenizer: &mut Tokenizer) -> State
 #[tactic(auto, using(crate::proofs::HtmlMeaning::html_rule))]
 pub fn complete_after(tokenizer: &mut Tokenizer) -> State
     requires { IsAt HtmlNeeds (StateName.HtmlFlow HtmlState.CompleteAfter) (world tokenizer.old) }
-    ensures to { result ≡ (complete_after_transition (world tokenizer.old)).to }
-    ensures world { world tokenizer.new ≡ (complete_after_transition (world tokenizer.old)).world }
-    ensures rule { HtmlMeans HtmlState.CompleteAfter (world tokenizer.old) result (world tokenizer.new) }
+    ensures { IsSureHtmlState HtmlState.CompleteAfter (world tokenizer.old) result tokenizer.new }
 {
     match tokenizer.current {
         None | Some(b'\n') => begin_here(

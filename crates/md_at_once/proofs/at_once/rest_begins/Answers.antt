@@ -46,7 +46,7 @@ blank_line_before-requires c = record {
   current =
       still-seen (n.Flow flow.BlankLineBefore) (world c.args.tokenizer.now) (world c.start-state.new.tokenizer)
       c.start-state.result c.requires.current (within-world c.args.tokenizer.now)
-      (c.may_be_blank.ensures c.if-may_be_blank.true) c.start-state.ensures.to c.start-state.ensures.world;
+      (c.may_be_blank.ensures c.if-may_be_blank.true) c.start-state.ensures.state.to c.start-state.ensures.state.world;
   has = tt;
 }
 
@@ -55,7 +55,7 @@ heading_begins-to-requires c = record {
   current =
       still-seen (n.HeadingAtx heading.Start) (world c.args.tokenizer.now) (world c.start-state.new.tokenizer)
       c.start-state.result c.requires.current (within-world c.args.tokenizer.now)
-      (c.is_heading.ensures c.if-is_heading.true) c.start-state.ensures.to c.start-state.ensures.world;
+      (c.is_heading.ensures c.if-is_heading.true) c.start-state.ensures.state.to c.start-state.ensures.state.world;
   has = tt;
 }
 
@@ -66,8 +66,8 @@ returns-then-may_be_blank c =
     let all = λ (fine : c.blank_line_before.result ≢ Error).
     goes-through (n.Flow flow.Start) (n.Flow flow.BlankLineBefore) w u c.start-state.result c.blank_line_before.result
     (world c.blank_line_before.new.tokenizer) c.requires.current (c.may_be_blank.ensures c.if-may_be_blank.true)
-    (starts w _ u c.requires.current (within-world c.args.tokenizer.now) c.start-state.ensures.to
-    c.start-state.ensures.world)
+    (starts w _ u c.requires.current (within-world c.args.tokenizer.now) c.start-state.ensures.state.to
+    c.start-state.ensures.state.world)
     (λ saw. leaves-once (n.Flow flow.BlankLineBefore) u c.blank_line_before.result
     (world c.blank_line_before.new.tokenizer) (blank-leaves u) (c.blank_line_before.ensures.to fine)
     (c.blank_line_before.ensures.world fine) fine saw (within-world c.start-state.new.tokenizer)) in
@@ -82,13 +82,13 @@ returns-then-is_heading c =
     c.end.ensures.goes_on fine (n.Flow flow.Start) w c.requires.current
     (goes-through (n.Flow flow.Start) (n.HeadingAtx heading.Start) w u c.start-state.result c.heading_begins-to.result
     (world c.heading_begins-to.new.tokenizer) c.requires.current (c.is_heading.ensures c.if-is_heading.true)
-    (starts w _ u c.requires.current (within-world c.args.tokenizer.now) c.start-state.ensures.to
-    c.start-state.ensures.world)
+    (starts w _ u c.requires.current (within-world c.args.tokenizer.now) c.start-state.ensures.state.to
+    c.start-state.ensures.state.world)
     (λ saw. (c.heading_begins-to.ensures.runs begins, c.heading_begins-to.ensures.sees begins))) in
     record { runs = λ fine. (all fine).0; sees = λ fine. (all fine).1 }
 
 pub returns : goal.returns
 returns c =
     let all = starts (world c.args.tokenizer.now) c.start-state.result (world c.start-state.new.tokenizer)
-    c.requires.current (within-world c.args.tokenizer.now) c.start-state.ensures.to c.start-state.ensures.world in
+    c.requires.current (within-world c.args.tokenizer.now) c.start-state.ensures.state.to c.start-state.ensures.state.world in
     record { runs = λ fine. (all fine).0; sees = λ fine. (all fine).1 }

@@ -1,4 +1,4 @@
-use Rattle.std.proofs.Common.{◌≡◌, ◌≢◌, ◌<◌, ◌∙◌, inr, refl, subst, sym}
+use Rattle.std.proofs.Common.{◌≡◌, ◌≢◌, ◌<◌, ◌∙◌, inr, refl, subst, sym, rules}
 use Rattle.md_engine.specs.Run.{RunsHere}
 use Rattle.md_engine.specs.World.{World, looks, world}
 use Rattle.md_engine.specs.declared.state.html_flow.State.TheVariants as its
@@ -20,18 +20,22 @@ returns-then-ends_line c =
     let w = world c.args.tokenizer.now in
     let all = λ (fine : c.continuation_close.result ≢ Error).
     leaves-once (n.HtmlFlow its.ContinuationClose) w c.continuation_close.result (world c.continuation_close.new.tokenizer)
-    (close-leaves w (ends_line w.current)) (c.continuation_close.ensures.to fine) (c.continuation_close.ensures.world fine) fine
+    (close-leaves w (ends_line w.current)) (c.continuation_close.ensures.state.to fine) (c.continuation_close.ensures.state.world fine) fine
     c.requires.current (within-world c.args.tokenizer.now) in
     record { runs = λ fine. (all fine).0; sees = λ fine. (all fine).1 }
 
-pub returns-then-see_or_wait-clause-runs : goal.returns-then-see_or_wait-clause-runs
-returns-then-see_or_wait-clause-runs c = λ fine.
-    let name = n.HtmlFlow its.ContinuationClose in
-    let w = world c.args.tokenizer.now in
-    subst (λ (x : World). RunsHere FlowStep name w (Next name) x) (sym (c.if-see_or_wait.ensures.same refl))
-    (line-waits name w (world c.see_line.new.self) close-takes c.requires.current (within-world c.args.tokenizer.now)
-    c.see_line.ensures (inside-line w c.requires.current (sym c.ends_line.ensures ∙ c.if-ends_line.false))
-    (c.if-see_or_wait.ensures.waits refl).1)
+pub returns-then-see_or_wait : goal.returns-then-see_or_wait
+returns-then-see_or_wait c = record {
+  runs = λ fine.
+      let name = n.HtmlFlow its.ContinuationClose in
+      let w = world c.args.tokenizer.now in
+      subst (λ (x : World). RunsHere FlowStep name w (Next name) x) (sym (c.if-see_or_wait.ensures.same refl))
+      (line-waits name w (world c.see_line.new.self) close-takes c.requires.current (within-world c.args.tokenizer.now)
+      c.see_line.ensures (inside-line w c.requires.current (sym c.ends_line.ensures ∙ c.if-ends_line.false))
+      (c.if-see_or_wait.ensures.waits refl).1);
+  sees = search rules;
+  full = search rules;
+}
 
 pub returns : goal.returns
 returns c =
@@ -47,7 +51,7 @@ returns c =
     let all = λ (fine : c.continuation_close-2.result ≢ Error).
     ends-behind name name w v c.continuation_close-2.result
     (world c.continuation_close-2.new.tokenizer) came (close-leaves v (ends_line v.current))
-    (c.continuation_close-2.ensures.to fine) (c.continuation_close-2.ensures.world fine) fine
+    (c.continuation_close-2.ensures.state.to fine) (c.continuation_close-2.ensures.state.world fine) fine
     (subst (λ (x : World). x.current ≡ looks x) (sym sees) refl) (within-world c.see_or_wait.new.self)
     (inr (subst (λ (x : World). x.point.index < x.setting.limit) (sym sees) lt)) in
     record { runs = λ fine. (all fine).0; sees = λ fine. (all fine).1 }

@@ -3,8 +3,18 @@ use Rattle.md_engine.specs.declared.state.raw_flow.State.TheVariants as its
 use Rattle.md_code.proofs.FenceMeaning.{fence_rule}
 use Rattle.md_code.proofs.raw_flow.meta.Goals as goal
 
-pub returns-then-is_refused-clause-rule : goal.returns-then-is_refused-clause-rule
-returns-then-is_refused-clause-rule c fine = fence_rule its.Meta _ _ _ (search rules) (search rules)
+pub returns-then-is_refused : goal.returns-then-is_refused
+returns-then-is_refused c = record {
+  to = search rules;
+  world = search rules;
+  rule = λ fine. fence_rule its.Meta _ _ _ (search rules) (search rules);
+  full = search rules;
+}
 
-pub returns-else-is_refused-clause-rule : goal.returns-else-is_refused-clause-rule
-returns-else-is_refused-clause-rule c fine = fence_rule its.Meta _ _ _ (search rules) (search rules)
+pub returns-else-is_refused : goal.returns-else-is_refused
+returns-else-is_refused c = record {
+  to = search rules;
+  world = search rules;
+  rule = λ fine. fence_rule its.Meta _ _ _ (search rules) (search rules);
+  full = search rules;
+}

@@ -1,4 +1,4 @@
-use Rattle.std.proofs.Common.{◌≡◌, ℕ, zero, suc, ◌<◌, Bool, true, cond, refl, sym, ◌∙◌, ap, arith}
+use Rattle.std.proofs.Common.{◌≡◌, ℕ, zero, suc, ◌<◌, Bool, true, cond, refl, sym, ◌∙◌, ap, arith, rules}
 use Rattle.md_engine.specs.World.{World, world}
 use Rattle.md_engine.specs.declared.state.list_item.State.TheVariants as its
 use Rattle.md_containers.specs.Item.{cont_blank_code, indent_code, inside_transition, refused}
@@ -6,6 +6,7 @@ use Rattle.md_events.specs.Spaces.{sees_white}
 use Rattle.md_events.specs.Transition.{Transition}
 use Rattle.md_containers.proofs.ItemMeaning.{item_rule}
 use Rattle.md_containers.proofs.list_item.cont_blank.Goals as goal
+use Rattle.md_events.proofs.StatesLemmas.{state-is}
 
 -- an item that started blank is refused before its indent
 started-blank : (w : World) (max : ℕ) → max ≡ 0 → w.flags.asked.starts_blank ≡ true → refused w ≡ cont_blank_code w max
@@ -18,30 +19,22 @@ gone-on : (w : World) (max : ℕ) → 0 < max → inside_transition its.ContBlan
 gone-on w zero lt = absurd (omega (arith, lt))
 gone-on w (suc more) lt = refl
 
-pub returns-then-tokenizer-gt0-clause-world : goal.returns-then-tokenizer-gt0-clause-world
-returns-then-tokenizer-gt0-clause-world c fine =
+pub returns-then-tokenizer-gt0 : goal.returns-then-tokenizer-gt0
+returns-then-tokenizer-gt0 c =
+    state-is _ _ _ _ _ (item_rule its.ContBlank (world c.args.tokenizer.now) _ _) (λ fine. (c.go_on_indent.ensures.to fine
+    ∙ ap (λ (t : Transition). t.to)
+    (gone-on (world c.args.tokenizer.now) c.args.tokenizer.now.scratch.whitespace.max c.if-tokenizer-gt0.true)))
+    (λ fine.
     c.go_on_indent.ensures.world fine
     ∙ ap (λ (t : Transition). t.world)
-    (gone-on (world c.args.tokenizer.now) c.args.tokenizer.now.scratch.whitespace.max c.if-tokenizer-gt0.true)
+    (gone-on (world c.args.tokenizer.now) c.args.tokenizer.now.scratch.whitespace.max c.if-tokenizer-gt0.true)) (search rules)
 
-pub returns-then-tokenizer-gt0-clause-rule : goal.returns-then-tokenizer-gt0-clause-rule
-returns-then-tokenizer-gt0-clause-rule c fine =
-    item_rule its.ContBlank (world c.args.tokenizer.now) _ _
-    (c.go_on_indent.ensures.to fine
-    ∙ ap (λ (t : Transition). t.to)
-    (gone-on (world c.args.tokenizer.now) c.args.tokenizer.now.scratch.whitespace.max c.if-tokenizer-gt0.true))
-    (returns-then-tokenizer-gt0-clause-world c fine)
-
-pub returns-then-tokenizer-clause-world : goal.returns-then-tokenizer-clause-world
-returns-then-tokenizer-clause-world c fine =
+pub returns-then-tokenizer : goal.returns-then-tokenizer
+returns-then-tokenizer c =
+    state-is _ _ _ _ _ (item_rule its.ContBlank (world c.args.tokenizer.now) _ _) (λ fine. (ap (λ (t : Transition). t.to)
+    (started-blank (world c.args.tokenizer.now) c.args.tokenizer.now.scratch.whitespace.max
+    (omega (arith, c.if-tokenizer-gt0.false)) c.if-tokenizer.true)))
+    (λ fine.
     ap (λ (t : Transition). t.world)
     (started-blank (world c.args.tokenizer.now) c.args.tokenizer.now.scratch.whitespace.max
-    (omega (arith, c.if-tokenizer-gt0.false)) c.if-tokenizer.true)
-
-pub returns-then-tokenizer-clause-rule : goal.returns-then-tokenizer-clause-rule
-returns-then-tokenizer-clause-rule c fine =
-    item_rule its.ContBlank (world c.args.tokenizer.now) _ _
-    (ap (λ (t : Transition). t.to)
-    (started-blank (world c.args.tokenizer.now) c.args.tokenizer.now.scratch.whitespace.max
-    (omega (arith, c.if-tokenizer-gt0.false)) c.if-tokenizer.true))
-    (returns-then-tokenizer-clause-world c fine)
+    (omega (arith, c.if-tokenizer-gt0.false)) c.if-tokenizer.true)) (search rules)

@@ -1,10 +1,15 @@
-use Rattle.std.proofs.Common.{◌≡◌, ◌++◌, ◌∷◌, [], ◌∙◌, ap, arith, is_ok, length, true, ℕ}
+use Rattle.std.proofs.Common.{◌≡◌, ◌++◌, ◌∷◌, [], ◌∙◌, ap, arith, is_ok, length, true, ℕ, rules}
 use Rattle.md_engine.specs.declared.tokenizer.held_leaf.HeldLeaf.TheVariants as held_leaf
 use Rattle.md_engine.specs.World.{World, closed, world}
+use Rattle.md_engine.specs.declared.state.document.State.TheVariants as document
+use Rattle.md_events.proofs.StatesLemmas.{state-is}
+use Rattle.md_registry.proofs.FlowSteps.{document_rule}
 use Rattle.md_flow.proofs.document.container_new_after.Goals as goal
 
-pub returns-3-clause-world : goal.returns-3-clause-world
-returns-3-clause-world c = λ _.
+pub returns-3 : goal.returns-3
+returns-3 c =
+    state-is _ _ _ _ _ (document_rule document.ContainerNewAfter (world c.args.tokenizer.now) _ _) (search rules)
+    (λ _.
     let w = world c.args.tokenizer.now in
     let with_asked : World → World = λ v. record v {
       flags = record v.flags { containers = v.flags.containers ++ w.flags.asked ∷ [] };
@@ -20,4 +25,5 @@ returns-3-clause-world c = λ _.
     let len_is : c.len-tokenizer.result ≡ length (world c.open.new.self).flags.containers =
     omega (arith, c.len-tokenizer.ensures) in
     ap (begun c.len-tokenizer.result) opened
-    ∙ ap (λ len. begun len behind) (len_is ∙ ap (λ (v : World). length v.flags.containers) opened)
+    ∙ ap (λ len. begun len behind) (len_is ∙ ap (λ (v : World). length v.flags.containers) opened))
+    (search rules)

@@ -13,6 +13,7 @@ use Rattle.md_registry.specs.LineFlags.{next_line}
 use Rattle.md_registry.proofs.FlowSteps.{document_rule}
 use Rattle.md_tables.proofs.RowWords.{on-ok}
 use Rattle.md_flow.proofs.document.flow_end.Goals as goal
+use Rattle.md_events.proofs.StatesLemmas.{state-is}
 
 pub add_part-requires-clause-from : goal.add_part-requires-clause-from
 add_part-requires-clause-from c =
@@ -20,11 +21,10 @@ add_part-requires-clause-from c =
     ap (λ (x : World). x.setting) c.take_ending.ensures in
     subst (λ (x : Setting). IsPlaced x.bytes c.close.new.self.point) (sym same) c.close.new.self.sound.placed
 
-pub returns-in-Some-eq10-2-clause-to : goal.returns-in-Some-eq10-2-clause-to
-returns-in-Some-eq10-2-clause-to c = search rules
-
-pub returns-in-Some-eq10-2-clause-world : goal.returns-in-Some-eq10-2-clause-world
-returns-in-Some-eq10-2-clause-world c = λ _.
+pub returns-in-Some-eq10-2 : goal.returns-in-Some-eq10-2
+returns-in-Some-eq10-2 c =
+    state-is _ _ _ _ _ (document_rule document.FlowEnd (world c.args.tokenizer.now) _ _) (search rules)
+    (λ _.
     let w = world c.args.tokenizer.now in
     let v = world c.close.new.self in
     let u = world c.take_ending.new.tokenizer in
@@ -49,28 +49,14 @@ returns-in-Some-eq10-2-clause-world c = λ _.
     ∙ ap (next (ending_name v.flags.blank)) len_is
     ∙ ap (λ o. (flow_end_code v o).world) (sym (here ∙ ap Some ten))
     ∙ ap (λ (x : World). (flow_end_code x x.current).world)
-    ((rw has_closed at c.close.ensures.world) ∙ ap (λ n. closed w n w.flags.line_end) c.kept_containers-keep.ensures)
+    ((rw has_closed at c.close.ensures.world) ∙ ap (λ n. closed w n w.flags.line_end) c.kept_containers-keep.ensures)) (search rules)
 
-pub returns-in-None-2-clause-to : goal.returns-in-None-2-clause-to
-returns-in-None-2-clause-to c = search rules
+pub returns-in-None-2 : goal.returns-in-None-2
+returns-in-None-2 c =
+    state-is _ _ _ _ _ (document_rule document.FlowEnd (world c.args.tokenizer.now) _ _) (search rules)
+    (search rules) (search rules)
 
-pub returns-in-None-2-clause-world : goal.returns-in-None-2-clause-world
-returns-in-None-2-clause-world c = search rules
-
-pub returns-in_default-clause-to : goal.returns-in_default-clause-to
-returns-in_default-clause-to c = search rules
-
-pub returns-in_default-clause-world : goal.returns-in_default-clause-world
-returns-in_default-clause-world c = search rules
-
-pub returns-in-None-2-clause-rule : goal.returns-in-None-2-clause-rule
-returns-in-None-2-clause-rule c = λ ok.
-    document_rule document.FlowEnd (world c.args.tokenizer.now) _ _ (returns-in-None-2-clause-to c ok) (returns-in-None-2-clause-world c ok)
-
-pub returns-in_default-clause-rule : goal.returns-in_default-clause-rule
-returns-in_default-clause-rule c = λ ok.
-    document_rule document.FlowEnd (world c.args.tokenizer.now) _ _ (returns-in_default-clause-to c ok) (returns-in_default-clause-world c ok)
-
-pub returns-in-Some-eq10-2-clause-rule : goal.returns-in-Some-eq10-2-clause-rule
-returns-in-Some-eq10-2-clause-rule c = λ ok.
-    document_rule document.FlowEnd (world c.args.tokenizer.now) _ _ (returns-in-Some-eq10-2-clause-to c ok) (returns-in-Some-eq10-2-clause-world c ok)
+pub returns-in_default : goal.returns-in_default
+returns-in_default c =
+    state-is _ _ _ _ _ (document_rule document.FlowEnd (world c.args.tokenizer.now) _ _) (search rules)
+    (search rules) (search rules)

@@ -4,6 +4,9 @@ use Rattle.md_engine.specs.declared.state.html_flow.State.TheVariants as its
 use Rattle.md_html.proofs.HtmlMeaning.{html_rule}
 use Rattle.md_html.proofs.html_flow.cdata_open_inside.Goals as goal
 
-pub returns-then-tokenizer-lt5-clause-rule : goal.returns-then-tokenizer-lt5-clause-rule
-returns-then-tokenizer-lt5-clause-rule c =
-    html_rule its.CdataOpenInside _ _ _ (grind (arith, common_steps)) (search rules)
+pub returns-then-tokenizer-lt5 : goal.returns-then-tokenizer-lt5
+returns-then-tokenizer-lt5 c = record {
+  to = search rules;
+  world = search rules;
+  rule = html_rule its.CdataOpenInside _ _ _ (grind (arith, common_steps)) (search rules);
+}

@@ -23,28 +23,31 @@ stop-rule w new to b e k m is done =
     html_rule its.Continuation w new to (is ∙ sym (ap (λ (t : Transition). t.to) same))
     (done ∙ sym (ap (λ (t : Transition). t.world) same))
 
-pub returns-then-byte-tokenizer-clause-to : goal.returns-then-byte-tokenizer-clause-to
-returns-then-byte-tokenizer-clause-to c fine =
-    let line : nat_eq c.in-Some.byte 10 ≡ false = search rules in
-    c.at_stop.ensures.to
-    ∙ sym
-    (ap (λ (t : Transition). t.to)
-    (at-stop (world c.args.tokenizer.now) c.in-Some.byte c.in-Some.is line c.if-byte-tokenizer.true))
+pub returns-then-byte-tokenizer : goal.returns-then-byte-tokenizer
+returns-then-byte-tokenizer c = record {
+  to = λ fine.
+      let line : nat_eq c.in-Some.byte 10 ≡ false = search rules in
+      c.at_stop.ensures.to
+      ∙ sym
+      (ap (λ (t : Transition). t.to)
+      (at-stop (world c.args.tokenizer.now) c.in-Some.byte c.in-Some.is line c.if-byte-tokenizer.true));
+  world = λ fine.
+      let line : nat_eq c.in-Some.byte 10 ≡ false = search rules in
+      c.at_stop.ensures.world
+      ∙ sym
+      (ap (λ (t : Transition). t.world)
+      (at-stop (world c.args.tokenizer.now) c.in-Some.byte c.in-Some.is line c.if-byte-tokenizer.true));
+  rule = λ fine.
+      let line : nat_eq c.in-Some.byte 10 ≡ false = search rules in
+      stop-rule (world c.args.tokenizer.now) _ _ c.in-Some.byte c.in-Some.is line c.if-byte-tokenizer.true
+      c.at_stop.ensures.to c.at_stop.ensures.world;
+  full = search rules;
+}
 
-pub returns-then-byte-tokenizer-clause-world : goal.returns-then-byte-tokenizer-clause-world
-returns-then-byte-tokenizer-clause-world c fine =
-    let line : nat_eq c.in-Some.byte 10 ≡ false = search rules in
-    c.at_stop.ensures.world
-    ∙ sym
-    (ap (λ (t : Transition). t.world)
-    (at-stop (world c.args.tokenizer.now) c.in-Some.byte c.in-Some.is line c.if-byte-tokenizer.true))
-
-pub returns-then-byte-tokenizer-clause-rule : goal.returns-then-byte-tokenizer-clause-rule
-returns-then-byte-tokenizer-clause-rule c fine =
-    let line : nat_eq c.in-Some.byte 10 ≡ false = search rules in
-    stop-rule (world c.args.tokenizer.now) _ _ c.in-Some.byte c.in-Some.is line c.if-byte-tokenizer.true
-    c.at_stop.ensures.to c.at_stop.ensures.world
-
-pub returns-else-byte-tokenizer-clause-rule : goal.returns-else-byte-tokenizer-clause-rule
-returns-else-byte-tokenizer-clause-rule c fine =
-    html_rule its.Continuation _ _ _ (search rules) (search rules)
+pub returns-else-byte-tokenizer : goal.returns-else-byte-tokenizer
+returns-else-byte-tokenizer c = record {
+  to = search rules;
+  world = search rules;
+  rule = λ fine. html_rule its.Continuation _ _ _ (search rules) (search rules);
+  full = search rules;
+}

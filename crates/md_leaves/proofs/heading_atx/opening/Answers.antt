@@ -1,4 +1,4 @@
-use Rattle.std.proofs.Common.{◌≡◌, ◌<◌, ◌∙◌, true, ap, inl, inr, is_ok, refl, subst, sym}
+use Rattle.std.proofs.Common.{◌≡◌, ◌<◌, ◌∙◌, true, ap, inl, inr, is_ok, refl, subst, sym, rules}
 use Rattle.md_engine.specs.declared.event.Name.TheVariants.{HeadingAtxSequence}
 use Rattle.md_engine.specs.declared.state.heading_atx.State.TheVariants as its
 use Rattle.md_engine.specs.declared.state.Name.TheVariants as n
@@ -16,24 +16,25 @@ use Rattle.md_events.specs.Spaces.{is_current}
 use Rattle.md_events.specs.Transition.{entered}
 use Rattle.md_leaves.proofs.heading_atx.opening.Goals as goal
 
-pub returns-then-not-begins_sequence-clause-runs : goal.returns-then-not-begins_sequence-clause-runs
-returns-then-not-begins_sequence-clause-runs c = λ fine.
-    let w = world c.args.tokenizer.now in
-    let called = c.before-then-not-begins_sequence in
-    call-runs HeadingStep (n.HeadingAtx its.Before) w called.result (world called.new.tokenizer)
-    (called.ensures.to fine, called.ensures.world fine) fine
-    (ap (λ (x : World). x.setting) (called.ensures.world fine) ∙ (before-remains w (is_current 35 w.current)).1)
-    (within-world c.args.tokenizer.now)
-
-pub returns-then-not-begins_sequence-clause-sees : goal.returns-then-not-begins_sequence-clause-sees
-returns-then-not-begins_sequence-clause-sees c = λ fine.
-    let w = world c.args.tokenizer.now in
-    let called = c.before-then-not-begins_sequence in
-    let d = before-remains w (is_current 35 w.current) in
-    call-sees called.result w (world called.new.tokenizer)
-    (remains-of (before_transition w) called.result w (world called.new.tokenizer) (called.ensures.to fine)
-    (called.ensures.world fine) d.0)
-    (ap (λ (x : World). x.setting) (called.ensures.world fine) ∙ d.1) c.requires.current
+pub returns-then-not-begins_sequence : goal.returns-then-not-begins_sequence
+returns-then-not-begins_sequence c = record {
+  runs = λ fine.
+      let w = world c.args.tokenizer.now in
+      let called = c.before-then-not-begins_sequence in
+      call-runs HeadingStep (n.HeadingAtx its.Before) w called.result (world called.new.tokenizer)
+      (called.ensures.to fine, called.ensures.world fine) fine
+      (ap (λ (x : World). x.setting) (called.ensures.world fine) ∙ (before-remains w (is_current 35 w.current)).1)
+      (within-world c.args.tokenizer.now);
+  sees = λ fine.
+      let w = world c.args.tokenizer.now in
+      let called = c.before-then-not-begins_sequence in
+      let d = before-remains w (is_current 35 w.current) in
+      call-sees called.result w (world called.new.tokenizer)
+      (remains-of (before_transition w) called.result w (world called.new.tokenizer) (called.ensures.to fine)
+      (called.ensures.world fine) d.0)
+      (ap (λ (x : World). x.setting) (called.ensures.world fine) ∙ d.1) c.requires.current;
+  full = search rules;
+}
 
 pub opens-requires : goal.opens-requires
 opens-requires c = record {
@@ -41,67 +42,72 @@ opens-requires c = record {
   has = tt;
 }
 
-pub returns-then-see_or_wait-clause-runs : goal.returns-then-see_or_wait-clause-runs
-returns-then-see_or_wait-clause-runs c = λ fine is_end s v named from may.
-    let T = HeadingStep in
-    let sequence = n.HeadingAtx its.SequenceOpen in
-    let w = world c.args.tokenizer.now in
-    let w1 = world c.enter.new.self in
-    let u = world c.see_while.new.self in
-    let has_entered : is_ok c.enter.result ≡ true = c.if-or_error.ensures.negation in
-    let e : w1 ≡ entered w HeadingAtxSequence = rw has_entered at c.enter.ensures.world in
-    let is : is_current 35 w.current ≡ true = sym c.begins_sequence.ensures ∙ c.if-not-begins_sequence.false in
-    let seen : w1.current ≡ looks w1 =
-    subst (λ (x : World). x.current ≡ looks x) (sym e) c.requires.current in
-    let inside : w1.point.index < w1.setting.limit =
-    subst (λ (x : World). x.point.index < x.setting.limit) (sym e) (sequence-inside w c.requires.current is) in
-    let begun : CameTo T is_end s v sequence w1 =
-    subst (λ (x : World). CameTo T is_end s v sequence x) (sym e)
-    (sequence-begins is_end s v w (came-first T (n.HeadingAtx its.Before) w is_end s v named from may) is
-    c.requires.current (within-world c.args.tokenizer.now)) in
-    subst (λ (x : World). Runs T is_end s v (Next sequence) x) (sym (c.if-see_or_wait.ensures.same refl))
-    (sequence-waits is_end s v w1 u begun seen (within-world c.enter.new.self) c.see_while.ensures.some inside
-    (c.if-see_or_wait.ensures.waits refl).1)
+pub returns-then-see_or_wait : goal.returns-then-see_or_wait
+returns-then-see_or_wait c = record {
+  runs = λ fine is_end s v named from may.
+      let T = HeadingStep in
+      let sequence = n.HeadingAtx its.SequenceOpen in
+      let w = world c.args.tokenizer.now in
+      let w1 = world c.enter.new.self in
+      let u = world c.see_while.new.self in
+      let has_entered : is_ok c.enter.result ≡ true = c.if-or_error.ensures.negation in
+      let e : w1 ≡ entered w HeadingAtxSequence = rw has_entered at c.enter.ensures.world in
+      let is : is_current 35 w.current ≡ true = sym c.begins_sequence.ensures ∙ c.if-not-begins_sequence.false in
+      let seen : w1.current ≡ looks w1 =
+      subst (λ (x : World). x.current ≡ looks x) (sym e) c.requires.current in
+      let inside : w1.point.index < w1.setting.limit =
+      subst (λ (x : World). x.point.index < x.setting.limit) (sym e) (sequence-inside w c.requires.current is) in
+      let begun : CameTo T is_end s v sequence w1 =
+      subst (λ (x : World). CameTo T is_end s v sequence x) (sym e)
+      (sequence-begins is_end s v w (came-first T (n.HeadingAtx its.Before) w is_end s v named from may) is
+      c.requires.current (within-world c.args.tokenizer.now)) in
+      subst (λ (x : World). Runs T is_end s v (Next sequence) x) (sym (c.if-see_or_wait.ensures.same refl))
+      (sequence-waits is_end s v w1 u begun seen (within-world c.enter.new.self) c.see_while.ensures.some inside
+      (c.if-see_or_wait.ensures.waits refl).1);
+  sees = search rules;
+  full = search rules;
+}
 
-pub returns-2-clause-runs : goal.returns-2-clause-runs
-returns-2-clause-runs c = λ fine is_end s v named from may.
-    let T = HeadingStep in
-    let first = n.HeadingAtx its.Before in
-    let sequence = n.HeadingAtx its.SequenceOpen in
-    let w = world c.args.tokenizer.now in
-    let w1 = world c.enter.new.self in
-    let u = world c.see_while.new.self in
-    let w3 = world c.see_or_wait.new.self in
-    let has_entered : is_ok c.enter.result ≡ true = c.if-or_error.ensures.negation in
-    let e : w1 ≡ entered w HeadingAtxSequence = rw has_entered at c.enter.ensures.world in
-    let is : is_current 35 w.current ≡ true = sym c.begins_sequence.ensures ∙ c.if-not-begins_sequence.false in
-    let seen : w1.current ≡ looks w1 =
-    subst (λ (x : World). x.current ≡ looks x) (sym e) c.requires.current in
-    let sees : w3 ≡ reading u = c.if-see_or_wait.ensures.sees refl in
-    let came : Came T is_end first w sequence w3 = λ t y called saw here.
-    let begun : CameTo T is_end t y sequence w1 =
-    subst (λ (x : World). CameTo T is_end t y sequence x) (sym e)
-    (sequence-begins is_end t y w (came-first T first w is_end t y called saw here) is c.requires.current
-    (within-world c.args.tokenizer.now)) in
-    subst (λ (x : World). CameTo T is_end t y sequence x) (sym sees)
-    (sequence-taken is_end t y w1 u begun seen (within-world c.enter.new.self) c.see_while.ensures.some
-    (ahead (c.if-see_or_wait.ensures.goes_on refl))) in
-    came-runs T is_end first sequence w w3 c.opens.result (world c.opens.new.tokenizer) came
-    (c.opens.ensures.runs fine is_end) s v named from may
-
-pub returns-2-clause-sees : goal.returns-2-clause-sees
-returns-2-clause-sees c = λ fine.
-    let T = HeadingStep in
-    let sequence = n.HeadingAtx its.SequenceOpen in
-    let u = world c.see_while.new.self in
-    let w3 = world c.see_or_wait.new.self in
-    let w4 = world c.opens.new.tokenizer in
-    let sees : w3 ≡ reading u = c.if-see_or_wait.ensures.sees refl in
-    let seen : w3.current ≡ looks w3 = subst (λ (x : World). x.current ≡ looks x) (sym sees) refl in
-    let inside : w3.point.index < w3.setting.limit =
-    subst (λ (x : World). x.point.index < x.setting.limit) (sym sees)
-    (ahead (c.if-see_or_wait.ensures.goes_on refl)) in
-    let same : w4.setting ≡ w3.setting =
-    runs-setting T true (Next sequence) w3 c.opens.result w4
-    (c.opens.ensures.runs fine true (Next sequence) w3 refl (reading-same w3 seen) (inl refl)) in
-    sees-from c.opens.result (world c.args.tokenizer.now) w3 w4 (c.opens.ensures.sees fine) same (inr inside)
+pub returns-2 : goal.returns-2
+returns-2 c = record {
+  runs = λ fine is_end s v named from may.
+      let T = HeadingStep in
+      let first = n.HeadingAtx its.Before in
+      let sequence = n.HeadingAtx its.SequenceOpen in
+      let w = world c.args.tokenizer.now in
+      let w1 = world c.enter.new.self in
+      let u = world c.see_while.new.self in
+      let w3 = world c.see_or_wait.new.self in
+      let has_entered : is_ok c.enter.result ≡ true = c.if-or_error.ensures.negation in
+      let e : w1 ≡ entered w HeadingAtxSequence = rw has_entered at c.enter.ensures.world in
+      let is : is_current 35 w.current ≡ true = sym c.begins_sequence.ensures ∙ c.if-not-begins_sequence.false in
+      let seen : w1.current ≡ looks w1 =
+      subst (λ (x : World). x.current ≡ looks x) (sym e) c.requires.current in
+      let sees : w3 ≡ reading u = c.if-see_or_wait.ensures.sees refl in
+      let came : Came T is_end first w sequence w3 = λ t y called saw here.
+      let begun : CameTo T is_end t y sequence w1 =
+      subst (λ (x : World). CameTo T is_end t y sequence x) (sym e)
+      (sequence-begins is_end t y w (came-first T first w is_end t y called saw here) is c.requires.current
+      (within-world c.args.tokenizer.now)) in
+      subst (λ (x : World). CameTo T is_end t y sequence x) (sym sees)
+      (sequence-taken is_end t y w1 u begun seen (within-world c.enter.new.self) c.see_while.ensures.some
+      (ahead (c.if-see_or_wait.ensures.goes_on refl))) in
+      came-runs T is_end first sequence w w3 c.opens.result (world c.opens.new.tokenizer) came
+      (c.opens.ensures.runs fine is_end) s v named from may;
+  sees = λ fine.
+      let T = HeadingStep in
+      let sequence = n.HeadingAtx its.SequenceOpen in
+      let u = world c.see_while.new.self in
+      let w3 = world c.see_or_wait.new.self in
+      let w4 = world c.opens.new.tokenizer in
+      let sees : w3 ≡ reading u = c.if-see_or_wait.ensures.sees refl in
+      let seen : w3.current ≡ looks w3 = subst (λ (x : World). x.current ≡ looks x) (sym sees) refl in
+      let inside : w3.point.index < w3.setting.limit =
+      subst (λ (x : World). x.point.index < x.setting.limit) (sym sees)
+      (ahead (c.if-see_or_wait.ensures.goes_on refl)) in
+      let same : w4.setting ≡ w3.setting =
+      runs-setting T true (Next sequence) w3 c.opens.result w4
+      (c.opens.ensures.runs fine true (Next sequence) w3 refl (reading-same w3 seen) (inl refl)) in
+      sees-from c.opens.result (world c.args.tokenizer.now) w3 w4 (c.opens.ensures.sees fine) same (inr inside);
+  full = search rules;
+}

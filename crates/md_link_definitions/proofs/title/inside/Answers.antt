@@ -21,43 +21,52 @@ inside-refuses w b e k l =
     let opener : nat_eq b w.scratch.marker_b ≡ true = grind (arith, nat_tests) in
     rw (e, closer, opener) refl
 
-pub returns-then-byte-tokenizer-3-clause-rule : goal.returns-then-byte-tokenizer-3-clause-rule
-returns-then-byte-tokenizer-3-clause-rule c fine =
-    let w : World = world c.args.tokenizer.now in
-    let same = inside-closes w c.in-Some.byte c.in-Some.is c.if-byte-tokenizer.true in
-    let has_text : is_ok c.exit.result ≡ true = c.if-or_error.ensures.negation in
-    let has_string : is_ok c.exit-then-byte-tokenizer.result ≡ true = c.if-or_error-2.ensures.negation in
-    let text : world c.exit.new.self ≡ exited w Data = rw has_text at c.exit.ensures.world in
-    let string : world c.exit-then-byte-tokenizer.new.self ≡ exited (exited w Data) DefinitionTitleString =
-    (rw has_string at c.exit-then-byte-tokenizer.ensures.world)
-    ∙ ap (λ (v : World). exited v DefinitionTitleString) text in
-    title_rule its.Inside w (world c.close.new.tokenizer) c.close.result
-    (c.close.ensures.to fine ∙ ap (λ (t : Transition). t.to) (sym same))
-    (c.close.ensures.world fine ∙ ap (λ (v : World). (closed v).world) string
-    ∙ ap (λ (t : Transition). t.world) (sym same))
+pub returns-then-byte-tokenizer-3 : goal.returns-then-byte-tokenizer-3
+returns-then-byte-tokenizer-3 c = record {
+  to = search rules;
+  world = search rules;
+  rule = λ fine.
+      let w : World = world c.args.tokenizer.now in
+      let same = inside-closes w c.in-Some.byte c.in-Some.is c.if-byte-tokenizer.true in
+      let has_text : is_ok c.exit.result ≡ true = c.if-or_error.ensures.negation in
+      let has_string : is_ok c.exit-then-byte-tokenizer.result ≡ true = c.if-or_error-2.ensures.negation in
+      let text : world c.exit.new.self ≡ exited w Data = rw has_text at c.exit.ensures.world in
+      let string : world c.exit-then-byte-tokenizer.new.self ≡ exited (exited w Data) DefinitionTitleString =
+      (rw has_string at c.exit-then-byte-tokenizer.ensures.world)
+      ∙ ap (λ (v : World). exited v DefinitionTitleString) text in
+      title_rule its.Inside w (world c.close.new.tokenizer) c.close.result
+      (c.close.ensures.to fine ∙ ap (λ (t : Transition). t.to) (sym same))
+      (c.close.ensures.world fine ∙ ap (λ (v : World). (closed v).world) string
+      ∙ ap (λ (t : Transition). t.world) (sym same));
+  full = search rules;
+}
 
-pub returns-then-byte-tokenizer-2-2-clause-to : goal.returns-then-byte-tokenizer-2-2-clause-to
-returns-then-byte-tokenizer-2-2-clause-to c fine =
-    c.refuse-then-byte-tokenizer-2.ensures.to
-    ∙ ap (λ (t : Transition). t.to)
-    (sym
-    (inside-refuses (world c.args.tokenizer.now) c.in-Some.byte c.in-Some.is c.if-byte-tokenizer.false
-    c.if-byte-tokenizer-2.true))
+pub returns-then-byte-tokenizer-2-2 : goal.returns-then-byte-tokenizer-2-2
+returns-then-byte-tokenizer-2-2 c = record {
+  to = λ fine.
+      c.refuse-then-byte-tokenizer-2.ensures.to
+      ∙ ap (λ (t : Transition). t.to)
+      (sym
+      (inside-refuses (world c.args.tokenizer.now) c.in-Some.byte c.in-Some.is c.if-byte-tokenizer.false
+      c.if-byte-tokenizer-2.true));
+  world = λ fine.
+      c.refuse-then-byte-tokenizer-2.ensures.world
+      ∙ ap (λ (t : Transition). t.world)
+      (sym
+      (inside-refuses (world c.args.tokenizer.now) c.in-Some.byte c.in-Some.is c.if-byte-tokenizer.false
+      c.if-byte-tokenizer-2.true));
+  rule = λ fine.
+      let same = inside-refuses (world c.args.tokenizer.now) c.in-Some.byte c.in-Some.is c.if-byte-tokenizer.false
+      c.if-byte-tokenizer-2.true in
+      title_rule its.Inside _ _ _ (c.refuse-then-byte-tokenizer-2.ensures.to ∙ ap (λ (t : Transition). t.to) (sym same))
+      (c.refuse-then-byte-tokenizer-2.ensures.world ∙ ap (λ (t : Transition). t.world) (sym same));
+  full = search rules;
+}
 
-pub returns-then-byte-tokenizer-2-2-clause-world : goal.returns-then-byte-tokenizer-2-2-clause-world
-returns-then-byte-tokenizer-2-2-clause-world c fine =
-    c.refuse-then-byte-tokenizer-2.ensures.world
-    ∙ ap (λ (t : Transition). t.world)
-    (sym
-    (inside-refuses (world c.args.tokenizer.now) c.in-Some.byte c.in-Some.is c.if-byte-tokenizer.false
-    c.if-byte-tokenizer-2.true))
-
-pub returns-then-byte-tokenizer-2-2-clause-rule : goal.returns-then-byte-tokenizer-2-2-clause-rule
-returns-then-byte-tokenizer-2-2-clause-rule c fine =
-    let same = inside-refuses (world c.args.tokenizer.now) c.in-Some.byte c.in-Some.is c.if-byte-tokenizer.false
-    c.if-byte-tokenizer-2.true in
-    title_rule its.Inside _ _ _ (c.refuse-then-byte-tokenizer-2.ensures.to ∙ ap (λ (t : Transition). t.to) (sym same))
-    (c.refuse-then-byte-tokenizer-2.ensures.world ∙ ap (λ (t : Transition). t.world) (sym same))
-
-pub returns-in_default-byte-clause-rule : goal.returns-in_default-byte-clause-rule
-returns-in_default-byte-clause-rule c fine = title_rule its.Inside _ _ _ (search rules) (search rules)
+pub returns-in_default-byte : goal.returns-in_default-byte
+returns-in_default-byte c = record {
+  to = search rules;
+  world = search rules;
+  rule = λ fine. title_rule its.Inside _ _ _ (search rules) (search rules);
+  full = search rules;
+}

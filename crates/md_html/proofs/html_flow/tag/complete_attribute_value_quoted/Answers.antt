@@ -4,10 +4,16 @@ use Rattle.md_engine.specs.declared.state.html_flow.State.TheVariants as its
 use Rattle.md_html.proofs.HtmlMeaning.{html_rule}
 use Rattle.md_html.proofs.html_flow.tag.complete_attribute_value_quoted.Goals as goal
 
-pub returns-then-byte-tokenizer-clause-rule : goal.returns-then-byte-tokenizer-clause-rule
-returns-then-byte-tokenizer-clause-rule c =
-    html_rule its.CompleteAttributeValueQuoted _ _ _ (grind (arith, common_steps)) (grind (arith, common_steps))
+pub returns-then-byte-tokenizer : goal.returns-then-byte-tokenizer
+returns-then-byte-tokenizer c = record {
+  to = search rules;
+  world = search rules;
+  rule = html_rule its.CompleteAttributeValueQuoted _ _ _ (grind (arith, common_steps)) (grind (arith, common_steps));
+}
 
-pub returns-else-byte-tokenizer-clause-rule : goal.returns-else-byte-tokenizer-clause-rule
-returns-else-byte-tokenizer-clause-rule c =
-    html_rule its.CompleteAttributeValueQuoted _ _ _ (search rules) (search rules)
+pub returns-else-byte-tokenizer : goal.returns-else-byte-tokenizer
+returns-else-byte-tokenizer c = record {
+  to = search rules;
+  world = search rules;
+  rule = html_rule its.CompleteAttributeValueQuoted _ _ _ (search rules) (search rules);
+}
