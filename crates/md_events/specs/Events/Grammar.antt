@@ -2,7 +2,7 @@
 --
 -- The names that are directly in a part make a word, and `inside` says which words each name allows, as the table of
 -- names has it: regular expressions over names. Pieces of the text hold nothing.
-use Rattle.std.specs.Prelude.{Bool, true, false, if◌then◌else◌, List, [], ◌∷◌}
+use Rattle.std.specs.Prelude.{Bool, false, if◌then◌else◌, List, [], ◌∷◌}
 use Rattle.std.specs.List.{list_any}
 use Rattle.md_engine.specs.declared.event.Event.{Event}
 use Rattle.md_engine.specs.declared.event.Kind.{Kind}
