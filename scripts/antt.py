@@ -282,7 +282,7 @@ class Library:
 
 
 def joined(lines):
-    """Lines, with those that go on an item in one with it."""
+    """Lines, with those that continue an item in one with it."""
     items = []
     for line in lines:
         if line[0] in " })]":

@@ -30,7 +30,7 @@ def header():
     texts = "".join(f'        "{name}",\n' for name in every)
     return f"""/* The events of the blocks of a Markdown text. Made by scripts/c_header.py.
  *
- * Link with libhoxalgurre_c.a, which `rt lib` makes in crates/hoxalgurre_c/out, and behind it with liblibc_c.a from the
+ * Link with libhoxalgurre_c.a, which `rt lib` makes in crates/hoxalgurre_c/out, and after it with liblibc_c.a from the
  * folder `c` of the kit, which has the library's heap over malloc, realloc and free. */
 #ifndef HOXALGURRE_H
 #define HOXALGURRE_H
@@ -75,7 +75,7 @@ struct hoxalgurre_answer {{
 }};
 
 /* Writes the events of the `len` bytes at `text` to `out`, as many as `room` allows, and answers how many there are. Where
- * `count` is larger than `room`, call again with more room. `text` is UTF-8 without a NUL behind it. It is only read,
+ * `count` is larger than `room`, call again with more room. `text` is UTF-8 without a NUL after it. It is only read,
  * nothing is kept, and any number of threads may call at once. Neither pointer is NULL, not even where its length is 0. */
 struct hoxalgurre_answer hoxalgurre_events(const uint8_t *text, size_t len, uint32_t set,
                                            struct hoxalgurre_event *out, size_t room);

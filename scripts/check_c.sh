@@ -3,7 +3,7 @@
 # they print with what the program `events` prints. The header must have the names and numbers of the enum, and a call that
 # does not meet what the header asks for must be answered.
 #
-# The heap of the library calls `malloc` through `liblibc_c.a` of the kit, which is linked behind it.
+# The heap of the library calls `malloc` through `liblibc_c.a` of the kit, which is linked after it.
 #
 # It takes what `rt ci` has built, or a library LIBRARY and the programs of the folder PROGRAMS, where these are set. Where
 # the library for C cannot be built over that, `rt ci` makes those below it in a copy of the crates, of what it has kept.

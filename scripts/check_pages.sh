@@ -2,11 +2,11 @@
 # Compares what the pages show with what the programs print that `rt ci` or `rt run` has built (crates/NAME/out/NAME; where
 # PROGRAMS is set, that folder has them under their names).
 #
-# - A line `<!-- run -->` stands in front of a code block: a command, an empty line, and what the command prints. The
+# - A line `<!-- run -->` is before a code block: a command, an empty line, and what the command prints. The
 #   command is `(cd crates/NAME && rt try -- ARGUMENTS)`, with `printf '..' |` in front of it or `< stdin` at its end. Where
 #   the block has the command alone, it prints what the file `stdout` of the crate has. A code block that begins with such
 #   a command and has no such line is refused.
-# - A line `<!-- text -->` stands in front of a fenced block with one line, which `printf '%b'` makes the text of, and a line
+# - A line `<!-- text -->` is before a fenced block with one line, which `printf '%b'` makes the text of, and a line
 #   `<!-- events SET -->` in front of a fenced block: what `events SET` prints of that text.
 # - A text in quotes, its set, an arrow and blocks, each but the set between backticks, as in `"> a\nb"` (gfm) → `quote (paragraph)`:
 #   the outline of the text, each word with what is one deeper in parentheses. Lines of text are left out, unless one is
@@ -79,7 +79,7 @@ def blocks(outline, has_texts):
 
 
 def block(page, lines, at):
-    """The lines of the code block that begins here, and the line behind it."""
+    """The lines of the code block that begins here, and the line after it."""
     fence = re.fullmatch(r"(```+)\w*", lines[at]) if at < len(lines) else None
     if fence:
         if fence[1] not in lines[at + 1:]:
@@ -140,7 +140,7 @@ def check(page):
             text, at = block(page, lines, at + 1)
             told = re.fullmatch(rf"<!-- events ({SETS}) -->", lines[at])
             if len(text) != 1 or not told:
-                sys.exit(f"{place}: a text is one line, and a line `<!-- events SET -->` stands behind it")
+                sys.exit(f"{place}: a text is one line, and a line `<!-- events SET -->` is after it")
             shown, at = block(page, lines, at + 1)
             compare(place, run("events", [told[1]], escaped(text[0])), (0, "".join(line + "\n" for line in shown)))
         elif mark:

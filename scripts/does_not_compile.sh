@@ -2,7 +2,7 @@
 # Tries that a program which drops the text and then uses a line of its outline does not compile: these lines are lent
 # from the text. No must-fail edit can say so, since what the borrow checker refuses does not reach the prover.
 #
-# Two copies of `crates/examples_api` keep the text in a `String` of their own. One drops it behind the last use of a line, and
+# Two copies of `crates/examples_api` keep the text in a `String` of their own. One drops it after the last use of a line, and
 # prints what `crates/examples_api` does. The other drops it in front of that, which the borrow checker must refuse.
 set -euo pipefail
 cd "$(dirname "$0")/.."
@@ -30,7 +30,7 @@ edits = [
 text = open(source, encoding="utf-8").read()
 for old, new in edits:
     if text.count(old) != 1:
-        sys.exit(f"does not compile: `{old.strip()}` stands {text.count(old)} times in {source}")
+        sys.exit(f"does not compile: `{old.strip()}` is {text.count(old)} times in {source}")
     text = text.replace(old, new)
 open(target, "w", encoding="utf-8").write(text)
 PYTHON
@@ -44,7 +44,7 @@ try() {
 write late
 try
 if ! cmp -s "$work/said" crates/examples_api/stdout; then
-    echo "does not compile: the text is dropped behind the last use of a line, and the program prints something else:"
+    echo "does not compile: the text is dropped after the last use of a line, and the program prints something else:"
     head -n 20 "$work/said" "$work/errors"
     exit 1
 fi

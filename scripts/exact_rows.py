@@ -17,15 +17,15 @@ CONSTRUCTS = """block_quote code_fenced code_indented definition frontmatter gfm
 heading_setext html_flow list_item math_flow thematic_break""".split()
 ROWS = "Leaf Text Container List Nested Meeting Alert".split()
 
-# what it does, its file, what stands there, and what is put in its place
+# what it does, its file, what is there, and what is put in its place
 WRONG = [
     ("a blank line ends a list", "Rows",
      "else is_blank_role row.role && list_goes_on depth marker rows", "else false"),
-    ("a list goes on with any container", "Rows", "then begin_with_item marker (drop depth row.held)", "then true"),
+    ("a list continues with any container", "Rows", "then begin_with_item marker (drop depth row.held)", "then true"),
     ("the outermost container ends first", "Rows",
      "ends_from (suc depth) cs p below ++ exit (container_name c) p ∷ list_ends depth c p below",
      "exit (container_name c) p ∷ list_ends depth c p below ++ ends_from (suc depth) cs p below"),
-    ("a blank line behind code belongs to it", "Rows",
+    ("a blank line after code belongs to it", "Rows",
      "if is_blank r.bytes then BehindCode else Further (OpenCode lines)", "Further (OpenCode lines)"),
     ("a lazy line ends containers", "Rows", "stays = if lazy then length (containers p) else length on;",
      "stays = length on;"),
@@ -33,7 +33,7 @@ WRONG = [
     ("no line is a head", "Rows", "role_before Delimiter r role = Head", "role_before Delimiter r role = role"),
     ("no virtual spaces", "Places", "vs = r.column - columns_from line.column (take before line.bytes);", "vs = 0;"),
     ("columns count from 0", "Places", "column = r.column + 1;", "column = r.column;"),
-    ("no line behind the last ending", "Places", "if is_end line.ending then [] else lines_from",
+    ("no line after the last ending", "Places", "if is_end line.ending then [] else lines_from",
      "if is_end line.ending then [] else if length more == 0 then [] else lines_from"),
     ("items take no indent of further lines", "Prefixes", "further_prefix line container r s = white line r s",
      "further_prefix line container r s = []"),
@@ -43,7 +43,7 @@ WRONG = [
      "else opened options false"),
     ("the marker of an alert is whitespace", "Prefixes", "++ piece line n.BlockQuoteMarker bracket after",
      "++ white line bracket after"),
-    ("no whitespace behind the marker of an alert", "Prefixes", "bracket after ++ white line after s",
+    ("no whitespace after the marker of an alert", "Prefixes", "bracket after ++ white line after s",
      "bracket after"),
     ("a further line of an alert has its marker", "Prefixes",
      "further_prefix line (InQuote kind) r s = quote_prefix line None r s",
@@ -56,7 +56,7 @@ WRONG = [
     ("the last pipe is outside of its cell", "Leaves", "++ piece line n.GfmTableCellDivider bar end)", "++ [])"),
     ("no pipe is the last", "Leaves", "let is_last = is_blank after.bytes in", "let is_last = is_blank bar.bytes in"),
     ("a table has no body", "Leaves", "++ leaf n.GfmTableBody text_row body)", "++ joined text_row body)"),
-    ("whitespace behind a definition is outside", "Texts", "    ++ gap end (first_end end))", "    )"),
+    ("whitespace after a definition is outside", "Texts", "    ++ gap end (first_end end))", "    )"),
     ("chunks have no endings", "Texts", "else chunk c (start (row ∷ rows)) (next_line row.line) ++",
      "else chunk c (start (row ∷ rows)) (start (first_end (row ∷ rows))) ++"),
     ("definitions have no indent", "Texts", "then gap rows first ++ definition first", "then definition first"),
@@ -64,7 +64,7 @@ WRONG = [
      "is_blank_role row.role"),
     ("each line is a paragraph", "Blocks", "goes_on FurtherText = true", "goes_on FurtherText = false"),
     ("no mark", "Blocks", "    mark_events source\n", "    []\n"),
-    ("whitespace behind code in one piece", "Blocks", "rows = joined (content_line n.SpaceOrTab 4) rows",
+    ("whitespace after code in one piece", "Blocks", "rows = joined (content_line n.SpaceOrTab 4) rows",
      "rows = joined (content_line n.SpaceOrTab 0) rows"),
 ]
 

@@ -101,7 +101,7 @@ def draw_source(picture, source, top):
 
 
 def draw_part(picture, top, name, first, last, is_whole, is_piece):
-    """The columns that a part has on a line. The border is dashed where it goes on from or to another line."""
+    """The columns that a part has on a line. The border is dashed where it continues from or to another line."""
     x, width = LEFT + first * CELL, (last - first) * CELL
     picture.box(x, top, width, ROW, FILLS[kind(name)] if is_piece else "#ffffff", dash="" if is_whole else DASHED)
     picture.text(x + width / 2, top + 14, name, round(min(11, (width - 4) / (0.62 * len(name))), 1))

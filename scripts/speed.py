@@ -133,9 +133,9 @@ PARTS = {
 }
 
 
-def deep(quotes: int, behind: str, lines: int, groups: int = 1) -> str:
-    """So many quotes on a line, and lines behind it, in so many groups."""
-    return (">" * quotes + " a\n" + behind * lines) * groups
+def deep(quotes: int, after: str, lines: int, groups: int = 1) -> str:
+    """So many quotes on a line, and lines after it, in so many groups."""
+    return (">" * quotes + " a\n" + after * lines) * groups
 
 
 def steps(items: int) -> str:
@@ -154,13 +154,13 @@ def fences(count: int, first: str = "", further: str = "") -> str:
 
 
 def table(rows: int, columns: int) -> str:
-    """A table of so many columns, with so many rows behind its head."""
+    """A table of so many columns, with so many rows after its head."""
     return "\n".join(part * columns for part in ["|a", "|-", *["|b"] * rows]) + "\n"
 
 
-def code(blank: int, behind: str, first: str = "", empty: str = "", further: str = "") -> str:
+def code(blank: int, after: str, first: str = "", empty: str = "", further: str = "") -> str:
     """A line of indented code, so many blank lines and one line more, in containers with these prefixes."""
-    return f"{first}    a\n" + f"{empty}\n" * blank + f"{further}{behind}\n"
+    return f"{first}    a\n" + f"{empty}\n" * blank + f"{further}{after}\n"
 
 
 # Texts that grow in another way, where they are once or twice as large.
@@ -191,9 +191,9 @@ GROWING: dict[str, Callable[[int], str]] = {
     "100,000 blank lines in code": lambda n: code(100_000 * n, "    b"),
     "100,000 blank lines in code in a quote": lambda n: code(100_000 * n, "    b", "> ", ">", "> "),
     "100,000 blank lines in code in an item": lambda n: code(100_000 * n, "    b", "- ", "", "  "),
-    "100,000 blank lines behind code": lambda n: code(100_000 * n, "b"),
-    "100,000 blank lines behind code in a quote": lambda n: code(100_000 * n, "b", "> ", ">", "> "),
-    "100,000 blank lines behind code in an item": lambda n: code(100_000 * n, "b", "- ", "", "  "),
+    "100,000 blank lines after code": lambda n: code(100_000 * n, "b"),
+    "100,000 blank lines after code in a quote": lambda n: code(100_000 * n, "b", "> ", ">", "> "),
+    "100,000 blank lines after code in an item": lambda n: code(100_000 * n, "b", "- ", "", "  "),
     "100,000 lines of code with as many blank ones": lambda n: "    a\n\n" * 100_000 * n,
     "a comment of 8 MB that is not closed": lambda n: "<!--\n" + f"{LINE}\n" * 101_000 * n,
     "300,000 of `<!-` in a comment": lambda n: "<!--\n" + "<!-" * 300_000 * n,
@@ -206,14 +206,14 @@ GROWING: dict[str, Callable[[int], str]] = {
     "100,000 setext headings": lambda n: "a\n-\n" * 100_000 * n,
     "a setext heading of 100,000 lines": lambda n: "a\n" * 100_000 * n + "=\n",
     "such a heading in a quote": lambda n: "> a\n" * 100_000 * n + "> =\n",
-    "100,000 underlines behind a line": lambda n: "a\n" + "=\n" * 100_000 * n,
+    "100,000 underlines after a line": lambda n: "a\n" + "=\n" * 100_000 * n,
     "100,000 lines of HTML in a quote": lambda n: "> <div>\n" + "> a\n" * 100_000 * n,
     "100,000 definitions": lambda n: "[a]: b\n" * 100_000 * n,
     "100,000 definitions in a quote": lambda n: "> [a]: b\n" * 100_000 * n,
     "a paragraph of 100,000 lines that begin with `[`": lambda n: "[a\n[\n" * 50_000 * n,
     "100,000 lines in a label that is not closed": lambda n: "[\n" + "a\n" * 100_000 * n,
-    "`[a]: b` with 100,000 underlines behind it": lambda n: "[a]: b\n" + "=\n" * 100_000 * n,
-    "`[a]: b` with 100,000 lines behind it": lambda n: "[a]: b\n" + "c\n" * 100_000 * n,
+    "`[a]: b` with 100,000 underlines after it": lambda n: "[a]: b\n" + "=\n" * 100_000 * n,
+    "`[a]: b` with 100,000 lines after it": lambda n: "[a]: b\n" + "c\n" * 100_000 * n,
     "100,000 parentheses in a destination": lambda n: "[a]: " + "(" * 50_000 * n + ")" * 50_000 * n + "\n",
     "a title of 100,000 lines that is not closed": lambda n: '[a]: b\n"' + "c\n" * 100_000 * n,
 }
@@ -230,16 +230,16 @@ TABLES: dict[str, Callable[[int], str]] = {
     "a cell of 100,000 pairs": lambda n: "a\n:-\n" + "\\|" * 100_000 * n + "\n",
     "100,000 tables without a body": lambda n: "a\n:-\n\n" * 100_000 * n,
     "100,000 lines of text with a pipe": lambda n: "|a\n" * 100_000 * n,
-    "a table behind 100,000 lines of text": lambda n: "a\n" * 100_000 * n + ":-\n",
+    "a table after 100,000 lines of text": lambda n: "a\n" * 100_000 * n + ":-\n",
     "100,000 delimiter rows of one cell too many": lambda n: "a|b\n-|-|-\n" * 100_000 * n,
     "100,000 lines, each a head that the next one refuses": lambda n: "-|-|-\n-|-\n" * 50_000 * n,
     "a head of 100,000 cells and a delimiter row of one fewer": lambda n: "|a" * 100_000 * n + "\n" + "|-" * (100_000 * n - 1) + "\n",
 }
 
 
-def front(lines: int, line: str, behind: str) -> str:
-    """A text that begins as frontmatter does, with so many lines and with this behind them."""
-    return "---\n" + f"{line}\n" * lines + behind
+def front(lines: int, line: str, after: str) -> str:
+    """A text that begins as frontmatter does, with so many lines and with this after them."""
+    return "---\n" + f"{line}\n" * lines + after
 
 
 def in_notes(notes: int) -> str:
@@ -268,7 +268,7 @@ EXTENSIONS: dict[str, Callable[[int], str]] = {
     "100,000 blank lines, and nothing that closes it": lambda n: front(100_000 * n, "", ""),
 }
 
-# What is timed: a part, and how many times it stands.
+# What is timed: a part, and how often it is repeated.
 TIMED: list[tuple[str, str, list[int]]] = [
     ("MB of paragraphs", PARTS["paragraphs of long lines"] * 8 + "* * *\n\n", [1, 2, 4, 8]),
     ("MB of quotes", f"> {LINE}\n> and *ends* here\nor on a lazy line.\n>\n> > # a\n> > b\n\n", [1, 2, 4, 8]),
@@ -283,7 +283,7 @@ OTHERS = ["cmark --to xml", "cmark-gfm --extension table --to xml", "md2html --f
 
 
 def arguments(name: str) -> list[str]:
-    """What the program is told of the text of this name: to read tables, or all, where it is about them."""
+    """The arguments of the program for the text of this name: to read tables, or all, where it is about them."""
     if name in EXTENSIONS:
         return ["all"]
     return ["gfm"] if name in TABLES or name == "tables" else []

@@ -2,7 +2,7 @@
 """Tries whether a parse has become dearer, in numbers that are the same on each machine, without proof.
 
 `rt try` runs the program `test_cost` by an interpreter too, which counts steps. Of each text, so many parts must be
-read within STEPS steps, and so many within REQUESTS requests for memory. All stand in one build. With `--measure` it
+read within STEPS steps, and so many within REQUESTS requests for memory. All are in one build. With `--measure` it
 prints how many parts there can be now, in steps of a twentieth.
 """
 

@@ -1,7 +1,7 @@
 #!/usr/bin/env bash
 # Copies the library into another repository: vendor.sh FOLDER.
 #
-# FOLDER gets, below `crates`, `markdown_blocks` and each crate of this repository that it stands on, and their lines in
+# FOLDER gets, below `crates`, `markdown_blocks` and each crate of this repository that it depends on, and their lines in
 # `crates.txt`, which is made where it is not there. The pages and the licence are in `FOLDER/docs/hoxalgurre`, and there
 # `VENDORED` says from which commit the copy is, and which crates it has.
 #

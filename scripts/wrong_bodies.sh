@@ -28,7 +28,7 @@ if len(edits) >= 256:
 def replaced(name, old, new, why):
     text = open(f"{work}/{name}").read()
     if text.count(old) != 1:
-        sys.exit(f"{why}: `{old}` stands {text.count(old)} times in {name}")
+        sys.exit(f"{why}: `{old}` is {text.count(old)} times in {name}")
     open(f"{work}/{name}", "w").write(text.replace(old, new))
 
 
