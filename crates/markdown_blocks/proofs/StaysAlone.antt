@@ -3,7 +3,7 @@
 use Rattle.std.proofs.Common.{◌≡◌, ℕ, zero, suc, drop, Bool, true, false, cond, not, ◌+◌, ◌≤◌, List, [], ◌∷◌}
 use Rattle.std.proofs.Common.{◌∙◌, ap, arith, length, refl}
 use Rattle.std.specs.List.{prefix_len}
-use Rattle.std.proofs.lemmas.Bool.{and_parts, or_from}
+use Rattle.std.proofs.lemmas.Bool.{and_parts, and_right, or_from}
 use Rattle.md_engine.specs.declared.configuration.ParseOptions.{ParseOptions}
 use Rattle.md_engine.specs.declared.event.Event.{Event}
 use Rattle.md_engine.specs.declared.event.Name.{Name}
@@ -18,7 +18,7 @@ use Rattle.md_order.specs.InOrder.{every, in_order}
 use Rattle.md_order.specs.Left.{is_same}
 use Rattle.md_order.proofs.Names.{tableless}
 use Rattle.md_resolve.proofs.Same.{in_order-same, weaker}
-use Rattle.md_resolve.proofs.Unset.{off-right, same-by}
+use Rattle.md_resolve.proofs.Unset.{same-by}
 use Rattle.md_events.specs.Events.Nested.{is_enter}
 use Rattle.md_events.specs.Events.Spelled.{role}
 use Rattle.md_tables.specs.Heads.{is_table}
@@ -79,7 +79,7 @@ named-alone e h =
 named-same : (e : Event) → stays_by_name e ≡ true → is_same every e ≡ true
 named-same e h =
     let no = off (may_change e.name) h in
-    same-by every e (no-item e.name no) (off-right (is_enter e.kind) (is_heading e.name) (no-heading e.name no))
+    same-by every e (no-item e.name no) (and_right (is_enter e.kind) (is_heading e.name) (no-heading e.name no))
     (no-underline e.name no) (tableless e.kind e.name (no-table e.name no))
 
 passes-on : (e : Event) → passes_alone e ≡ true → passes_on Outside e ≡ true

@@ -2,6 +2,7 @@
 -- added as by an attempt that is begun and left; else an attempt is begun when the rest of the line has been seen.
 use Rattle.std.proofs.Common.{◌≡◌, ◌<◌, ◌≤◌, ◌∙◌, ◌++◌, ◌&&◌, ◌||◌, ℕ, Bool, true, false, cond, List, [], ◌∷◌, ap, ap₂}
 use Rattle.std.proofs.Common.{Some, append_assoc, arith, length, nat_eq, nat_lt, refl, subst, sym}
+use Rattle.std.proofs.lemmas.Bool.{and_right}
 use Rattle.md_code.specs.Fence.{at_non_lazy_break_code, before_chunk_code, block_name, chunk_code, chunk_name, cleared}
 use Rattle.md_code.specs.Fence.{content_start_code, held_indent, held_marker, line_entered}
 use Rattle.md_engine.specs.declared.event.Event.{Event}
@@ -38,7 +39,6 @@ use Rattle.md_at_once.proofs.LineEnds.{line-waits, takes-so}
 use Rattle.md_at_once.proofs.NoClose.{closes-none}
 use Rattle.md_at_once.proofs.TakenBack.{stepped-as}
 use Rattle.md_events.proofs.SpacesTermination.{inside-line}
-use Rattle.md_resolve.proofs.Unset.{off-right}
 
 -- Such a line has begun, and what is on it, and an attempt at it;
 abbrev begins_in : World → World → World
@@ -58,7 +58,7 @@ kept w h = go (sees_white w.current) refl
     go : (y : Bool) → sees_white w.current ≡ y →
         (nat_lt 0 (held_indent w.flags.leaf) && sees_white w.current) ≡ false
     go true e = ap₂ (λ (k : ℕ) (z : Bool). nat_lt 0 k && z) (h.white e).1 e
-    go false e = off-right (nat_lt 0 (held_indent w.flags.leaf)) (sees_white w.current) e
+    go false e = and_right (nat_lt 0 (held_indent w.flags.leaf)) (sees_white w.current) e
 
 -- it closes nothing where the attempt has begun either
 no-close : (w : World) (g : Flags) (fs : List Frame) → g.leaf ≡ w.flags.leaf → IsNoClose w →

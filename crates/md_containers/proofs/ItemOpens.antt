@@ -6,6 +6,7 @@ use Rattle.std.specs.Prelude.{◌==◌, nat_le}
 use Rattle.std.specs.List.{list_all, take_while}
 use Rattle.std.proofs.lemmas.Bool.Decides.{nat_tests}
 use Rattle.std.proofs.lemmas.List.Sums.{take_while-cons}
+use Rattle.std.proofs.lemmas.Bool.{and_right}
 use Rattle.md_engine.specs.declared.configuration.ParseOptions.{ParseOptions}
 use Rattle.md_engine.specs.declared.event.Event.{Event}
 use Rattle.md_engine.specs.declared.event.Name.TheVariants as n
@@ -427,10 +428,6 @@ late-digits options before from b ds (m ∷ ms) e plain = go (ends_value m)
     go true = refused-by options before from after (record { digits = b ∷ ds; byte = m }) plain (speaks ds)
     go false = refl
 
-and-none : (x y : Bool) → y ≡ false → (x && y) ≡ false
-and-none true y e = e
-and-none false y e = refl
-
 behind-agrees : (options : ParseOptions) (interrupting : Bool) (line : Line) (text past : List ℕ) (column : ℕ)
     (bytes : List ℕ) (q : Point) (stop : List Cell) (p : Point) (before : ℕ) (front : List Event) →
     RestAt text past (rest column bytes) q → Bare 0 bytes → NoEnding bytes → Stops stop →
@@ -501,7 +498,7 @@ behind-agrees options interrupting line text past column (b ∷ bs) q stop p bef
         (sym (spread-one line b bs q stop dark))
 
     plain : is_digit b ≡ true → breaks && is_rule (b ∷ bs) ≡ false
-    plain e = and-none breaks (is_rule (b ∷ bs)) (rw (digit-no_rule b e) refl)
+    plain e = and_right breaks (is_rule (b ∷ bs)) (rw (digit-no_rule b e) refl)
 
     digits-are : (x : Bool) → is_digit b ≡ x → ds ≡ cond x (b ∷ take_while is_digit bs) []
     digits-are x e =

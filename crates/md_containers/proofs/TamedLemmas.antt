@@ -3,7 +3,7 @@
 use Rattle.std.proofs.Common.{◌≡◌, Bool, true, false, cond, ◌&&◌, ◌||◌, not, List, []}
 use Rattle.std.proofs.Common.{◌∷◌, refl, ap, sym, ◌∙◌, ◌⊎◌, inl, inr}
 use Rattle.std.specs.List.{list_any}
-use Rattle.std.proofs.lemmas.Bool.{and_from, and_parts}
+use Rattle.std.proofs.lemmas.Bool.{and_from, and_parts, or_from}
 use Rattle.md_engine.specs.declared.event.Name.{Name}
 use Rattle.md_engine.specs.declared.event.Name.TheVariants as n
 use Rattle.md_containers.specs.Unlisted.{in_place}
@@ -153,16 +153,12 @@ or-parts : (a b : Bool) → not (a || b) ≡ true → (a ≡ false) × (not b �
 or-parts true b h = absurd (cc)
 or-parts false b h = (refl, h)
 
-or-both : (a b : Bool) → a ≡ false → b ≡ false → (a || b) ≡ false
-or-both true b h k = h
-or-both false b h k = k
-
 listing-any : (l : Name) → IsListing l → (names : List Name) → not (list_any is_listing names) ≡ true →
     list_any (same_name l) names ≡ false
 listing-any l is [] h = refl
 listing-any l is (name ∷ names) h =
     let two = or-parts (is_listing name) (list_any is_listing names) h in
-    or-both (same_name l name) (list_any (same_name l) names) (go l is (no-listing name two.0))
+    or_from (same_name l name) (list_any (same_name l) names) (go l is (no-listing name two.0))
     (listing-any l is names two.1)
   where
     go : (l : Name) → IsListing l →

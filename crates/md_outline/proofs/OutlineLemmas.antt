@@ -4,7 +4,7 @@ use Rattle.std.proofs.Common.{slice_range, Result, Ok, Err, append-nil, refl, sy
 use Rattle.std.specs.Prelude.{Option, Some, None, option_map, OnOk}
 use Rattle.std.specs.List.{list_all}
 use Rattle.std.specs.Str.{IsUtf8}
-use Rattle.std.proofs.lemmas.Bool.{and_from, and_parts}
+use Rattle.std.proofs.lemmas.Bool.{and_from, and_parts, or_right}
 use Rattle.std.proofs.lemmas.List.{at_drop_all, at_drop_more}
 use Rattle.std.proofs.lemmas.List.Elements.{All-get_or}
 use Rattle.std.proofs.lemmas.List.Sums.{AllPass-from_list_all}
@@ -224,10 +224,6 @@ lines-none : (w : Option Word) (depth : ℕ) (lines : List Entry) → piece_show
 lines-none None depth lines = append-nil (lines ++ []) ∙ append-nil lines
 lines-none (Some w) depth lines = append-nil lines
 
-or-last : (x y : Bool) → y ≡ true → (x || y) ≡ true
-or-last true y h = refl
-or-last false y h = h
-
 pub piece-none : (bytes : List ℕ) (span : TextSpan) (end : ℕ) (s : OutlineState) → s.text ≡ Some span →
     span.is_parted ≡ true → end ≤ span.from → s ≡ parted_at bytes end s.text s
 piece-none bytes span end s is parted le =
@@ -242,7 +238,7 @@ piece-none bytes span end s is parted le =
     (sym
     (ap (λ piece. piece_shown w begun span.is_parted s.depth piece s.lines) (range-none bytes span.from end le)
     ∙ ap (λ x. piece_shown w begun x s.depth [] s.lines) parted
-    ∙ ap (λ x. piece_shown w x true s.depth [] s.lines) (or-last (is_titled s.lined) span.is_parted parted)
+    ∙ ap (λ x. piece_shown w x true s.depth [] s.lines) (or_right (is_titled s.lined) span.is_parted parted)
     ∙ lines-none w s.depth s.lines))
     ∙ sym (ap (λ t. parted_at bytes end t s) is)
 

@@ -1,10 +1,10 @@
 -- Leaves of several lines: what the lines of HTML, of fenced code and math, and of indented code have in them, and what
 -- follows the last of them.
-use Rattle.std.proofs.Common.{◌≡◌, ◌⊎◌, inl, inr, ℕ, zero, suc, ◌≤◌, Bool, true, false, cond, ◌||◌, List, [], ◌∷◌, ◌++◌}
+use Rattle.std.proofs.Common.{◌≡◌, ◌⊎◌, inl, inr, ℕ, zero, suc, ◌≤◌, Bool, true, false, cond, List, [], ◌∷◌, ◌++◌}
 use Rattle.std.proofs.Common.{refl, sym, ap, ap₂, ◌∙◌, append_assoc, append-nil, arith, map, subst}
 use Rattle.std.specs.Prelude.{◌==◌, nat_le, not, Option, Some, None}
 use Rattle.std.specs.Option.{is_some}
-use Rattle.std.proofs.lemmas.Bool.{or_left}
+use Rattle.std.proofs.lemmas.Bool.{or_left, or_parts}
 use Rattle.std.proofs.lemmas.Bool.Decides.{nat_tests}
 use Rattle.md_engine.specs.declared.configuration.ParseOptions.{ParseOptions}
 use Rattle.md_engine.specs.declared.event.Event.{Event}
@@ -314,10 +314,6 @@ code-ends options bytes x r (y ∷ ys) (next ∷ rs) kind pairs framed e =
 code-ends options bytes x r [] (next ∷ rs) kind pairs framed e = absurd pairs
 code-ends options bytes x r (y ∷ ys) [] kind pairs framed e = absurd pairs
 
-or-parts : (x y : Bool) → (x || y) ≡ false → (x ≡ false) × (y ≡ false)
-or-parts true y e = absurd (cc)
-or-parts false y e = (refl, e)
-
 -- Blank lines after it, before what is after them: each is alone.
 pub behind-same : (options : ParseOptions) (bytes : List ℕ) (x : Row) (r : FrameRow) (more : List FrameRow)
     (More : List (List Row) → Type 0) (events : List Event) →
@@ -349,7 +345,7 @@ behind-same options bytes x r (next ∷ more) More events same ((y ∷ []) ∷ e
     fits = takes.0.0
 
     parts : (is_framed next.inside ≡ false) × (any_framed own more ≡ false)
-    parts = or-parts (is_framed next.inside) (any_framed own more) none
+    parts = or_parts (is_framed next.inside) (any_framed own more) none
 
     role : y.role ≡ BehindCode
     role = code-alone options bytes y next fits are.0 are.2 put.0

@@ -1,5 +1,6 @@
 use Rattle.std.proofs.lemmas.List.Sums.{prefix_len-le-length}
-use Rattle.std.proofs.Common.{ℕ, ◌≡◌, ◌∙◌, ◌++◌, ◌||◌, Bool, List, ap, arith, drop, false, refl, subst, sym, take, true}
+use Rattle.std.proofs.Common.{ℕ, ◌≡◌, ◌∙◌, ◌++◌, List, ap, arith, drop, false, subst, sym, take}
+use Rattle.std.proofs.lemmas.Bool.{or_parts}
 use Rattle.md_engine.specs.declared.event.Event.{Event}
 use Rattle.md_leaves.specs.declared.spans.Place.TheVariants.{Outside}
 use Rattle.md_leaves.specs.declared.spans.Walk.{Walk}
@@ -43,11 +44,6 @@ loop-event-init c =
           (plain-passed Outside (rest_of begun) (passing begun) (omega arith)));
     }
 
--- neither of two
-either : (x y : Bool) → (x || y) ≡ false → (x ≡ false) × (y ≡ false)
-either false y h = (refl, h)
-either true y h = cc
-
 pub loop-event-preserved : goal.loop-event-preserved
 loop-event-preserved c =
     let old = c.loop-event.walk in
@@ -66,7 +62,7 @@ loop-event-preserved c =
           c.loop-event.invariant.whole);
       plain = λ none.
           let both : (old.underlines ≡ false) × (is_underline c.in-Some.event.name ≡ false) =
-          either old.underlines (is_underline c.in-Some.event.name)
+          or_parts old.underlines (is_underline c.in-Some.event.name)
           (sym c.in_ok-step.ensures.underlines ∙ sym c.pass-in-Some.ensures.underlines ∙ none) in
           subst HoldNoUnderline (sym c.pass-in-Some.ensures.given)
           (plain-append (given_of new) (take (passing new) (rest_of new))

@@ -1,9 +1,10 @@
 use Rattle.std.proofs.Common.{◌≡◌, ◌<◌, arith, length, List, false, true, not}
 use Rattle.std.proofs.Common.{refl, sym, subst, ap, ◌∙◌, ◌∷◌, []}
+use Rattle.std.proofs.lemmas.Bool.{and_left, and_right}
 use Rattle.md_engine.specs.declared.event.Event.{Event}
 use Rattle.md_order.specs.Left.{MayStay, heading_len, is_passed, table_len}
 use Rattle.md_order.proofs.Stay.{stay-drop}
-use Rattle.md_resolve.proofs.Unset.{off, off-right, passed-by}
+use Rattle.md_resolve.proofs.Unset.{passed-by}
 use Rattle.md_resolve.proofs.PassLaws.{Now, held-given, item-whole, now_of, one-whole, rest_of, table-whole, text-whole}
 use Rattle.md_resolve.proofs.PassLaws.{heading-fewer, heading-whole}
 use Rattle.md_resolve.proofs.pass.Walk.step.Goals as goal
@@ -70,24 +71,24 @@ is-passed : (c : goal.After-hold) → is_passed c.args.wanted c.args.event ≡ t
 is-passed c =
     passed-by c.args.wanted c.args.event
     (elim c.else-wanted.branch [
-      | else-wanted-via-then-wanted+else-is_item w ↦ off-right c.args.wanted.items _
+      | else-wanted-via-then-wanted+else-is_item w ↦ and_right c.args.wanted.items _
           (sym w.is_item.ensures ∙ w.if-is_item.false)
-      | else-wanted-via-else-wanted w ↦ off c.args.wanted.items _ w.if-wanted.false
+      | else-wanted-via-else-wanted w ↦ and_left c.args.wanted.items _ w.if-wanted.false
     ])
     (elim c.else-wanted-2.branch [
-      | else-wanted-2-via-then-wanted-2+else-begins_heading w ↦ off-right c.args.wanted.atx _
+      | else-wanted-2-via-then-wanted-2+else-begins_heading w ↦ and_right c.args.wanted.atx _
           (sym w.begins_heading.ensures ∙ w.if-begins_heading.false)
-      | else-wanted-2-via-else-wanted-2 w ↦ off c.args.wanted.atx _ w.if-wanted-2.false
+      | else-wanted-2-via-else-wanted-2 w ↦ and_left c.args.wanted.atx _ w.if-wanted-2.false
     ])
     (elim c.else-wanted-3.branch [
-      | else-wanted-3-via-then-wanted-3+else-not-passes w ↦ off-right c.args.wanted.setext _
+      | else-wanted-3-via-then-wanted-3+else-not-passes w ↦ and_right c.args.wanted.setext _
           (ap not (sym w.passes.ensures ∙ w.if-not-passes.false))
-      | else-wanted-3-via-else-wanted-3 w ↦ off c.args.wanted.setext _ w.if-wanted-3.false
+      | else-wanted-3-via-else-wanted-3 w ↦ and_left c.args.wanted.setext _ w.if-wanted-3.false
     ])
     (elim c.else-wanted-4.branch [
-      | else-wanted-4-via-then-wanted-4+else-begins_table w ↦ off-right c.args.wanted.tables _
+      | else-wanted-4-via-then-wanted-4+else-begins_table w ↦ and_right c.args.wanted.tables _
           (sym w.begins_table.ensures ∙ w.if-begins_table.false)
-      | else-wanted-4-via-else-wanted-4 w ↦ off c.args.wanted.tables _ w.if-wanted-4.false
+      | else-wanted-4-via-else-wanted-4 w ↦ and_left c.args.wanted.tables _ w.if-wanted-4.false
     ])
 
 pub returns-clause-whole : goal.returns-clause-whole
