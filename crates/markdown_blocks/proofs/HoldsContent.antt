@@ -4,8 +4,7 @@ use Rattle.std.proofs.Common.{◌≡◌, ℕ, suc, ◌+◌, ◌≤◌, Bool, tru
 use Rattle.std.proofs.Common.{◌-◌, get_or, inl, inr, refl, sym, ◌∙◌, ap, subst, arith}
 use Rattle.std.specs.List.{prefix_len}
 use Rattle.std.proofs.lemmas.Bool.{and_parts, or_parts}
-use Rattle.std.specs.Prelude.{take}
-use Rattle.std.proofs.lemmas.List.{drop_more, length-drop, take_all}
+use Rattle.std.proofs.lemmas.List.{drop_more}
 use Rattle.std.proofs.lemmas.List.Folds.{list_any-append}
 use Rattle.md_engine.specs.declared.event.Content.{Content}
 use Rattle.md_engine.specs.declared.event.Event.{Event}
@@ -16,6 +15,7 @@ use Rattle.md_leaves.specs.declared.spans.Place.TheVariants.{Outside}
 use Rattle.md_leaves.specs.Spanned.{passes_on}
 use Rattle.markdown_blocks.specs.Alone.{passes_alone}
 use Rattle.markdown_blocks.specs.ContentRead.{AreSideBySide, holds_content, side_by_side}
+use Rattle.md_events.proofs.SubstitutedLemmas.{to-end}
 
 -- none is in either of two lists if none is in both
 pub held-parts : (xs ys : List Event) → holds_content (xs ++ ys) ≡ false →
@@ -34,7 +34,7 @@ quiet-side wants (e ∷ xs) ys h =
 two-passed : (e f : Event) (es : List Event) → is_content e.name ≡ false → AreSideBySide (e ∷ f ∷ es) →
     AreSideBySide es × (holds_content (e ∷ f ∷ es) ≡ holds_content es)
 two-passed e f es other side =
-    let found = behind (is_content f.name) (begun side) in
+    let found = to-end (is_content f.name) (begun side) in
     (found.0, ap (λ (x : Bool). x || (is_content f.name || holds_content es)) other ∙ found.1)
   where
     begun : AreSideBySide (e ∷ f ∷ es) → side_by_side (is_content f.name) es ≡ true
@@ -47,9 +47,9 @@ two-passed e f es other side =
     ends (g ∷ gs) h =
         ap (λ (x : Bool). x || holds_content gs) (and_parts (is_content g.name) (side_by_side false gs) h).0
 
-    behind : (x : Bool) → side_by_side x es ≡ true → AreSideBySide es × ((x || holds_content es) ≡ holds_content es)
-    behind false h = (inl h, refl)
-    behind true h = (inr h, sym (ends es h))
+    to-end : (x : Bool) → side_by_side x es ≡ true → AreSideBySide es × ((x || holds_content es) ≡ holds_content es)
+    to-end false h = (inl h, refl)
+    to-end true h = (inr h, sym (ends es h))
 
 -- also where they are after others
 pub passed-other : (es : List Event) (at : ℕ) (none : Event) → at + 2 ≤ length es →
@@ -66,10 +66,6 @@ passed-other es at none within other side =
       subst (λ (n : ℕ). AreSideBySide (drop n es)) two passed.0,
       ap holds_content whole ∙ passed.1 ∙ ap (λ (n : ℕ). holds_content (drop n es)) two,
     )
-
--- what is after so many events, to the end
-pub behind : (es : List Event) (n : ℕ) → take (length es - n) (drop n es) ≡ drop n es
-behind es n = take_all (length es - n) (drop n es) (omega (arith, length-drop n es))
 
 -- Events before the first that is of a line of text, or may not pass as it is where lines are joined, show nothing.
 pub alone-passed : (es : List Event) → AreSideBySide es →
@@ -96,10 +92,10 @@ alone-passed (e ∷ es) side = by (passes_alone e) refl (λ other. alone-passed 
     by : (x : Bool) → passes_alone e ≡ x →
         (is_content e.name ≡ false → AreSideBySide (drop run es) × (holds_content (drop run es) ≡ holds_content es)) →
         Passed (cond (passes_alone e) (1 + run) 0)
-    by false here behind = subst (λ (x : Bool). Passed (cond x (1 + run) 0)) (sym here) (side, refl)
-    by true here behind =
+    by false here to-end = subst (λ (x : Bool). Passed (cond x (1 + run) 0)) (sym here) (side, refl)
+    by true here to-end =
         let other = off (is_content e.name) (and_parts (not (is_content e.name)) (passes_on Outside e) here).0 in
-        let rest = behind other in
+        let rest = to-end other in
         let more : suc run ≡ 1 + run = omega arith in
         subst (λ (x : Bool). Passed (cond x (1 + run) 0)) (sym here)
         (subst Passed more

@@ -20,6 +20,7 @@ use Rattle.md_events.specs.Look.{first_seen}
 use Rattle.md_events.specs.Spaces.{any_size, is_current}
 use Rattle.md_events.proofs.FeedLines.{Stops, byte-one, cell, columns_more, spread, tab_cells}
 use Rattle.md_events.proofs.RestLines.{blank-spread, count-none, count-one}
+use Rattle.md_events.proofs.AheadLemmas.{white-no_ending}
 
 -- The end of a line.
 
@@ -38,9 +39,6 @@ line-run t goes (c ∷ cs) p = go (t c.byte) refl (line-run t goes cs c.after)
     go true e next = record { end = rw (goes c.byte e) next.end; from = rw (goes c.byte e) next.from }
     go false e next = record { end = refl; from = refl }
 
-white-goes : (b : ℕ) → is_white b ≡ true → nat_eq b 10 ≡ false
-white-goes b e = grind (arith, nat_tests)
-
 pub line-white : (room : ℕ) (cells : List Cell) (p : Point) →
     SameLine cells (white_rest room cells) p (white_end room cells p)
 line-white room [] p = record { end = refl; from = refl }
@@ -49,7 +47,7 @@ line-white (suc room) (c ∷ cs) p = go (is_white c.byte) refl (line-white room 
   where
     go : (x : Bool) → is_white c.byte ≡ x → SameLine cs (white_rest room cs) c.after (white_end room cs c.after) →
         SameLine (c ∷ cs) (cond x (white_rest room cs) (c ∷ cs)) p (cond x (white_end room cs c.after) p)
-    go true e next = record { end = rw (white-goes c.byte e) next.end; from = rw (white-goes c.byte e) next.from }
+    go true e next = record { end = rw (white-no_ending c.byte e) next.end; from = rw (white-no_ending c.byte e) next.from }
     go false e next = record { end = refl; from = refl }
 
 -- where it ends here
@@ -150,7 +148,7 @@ end-blank (suc room) (c ∷ cs) le = go (is_white c.byte) refl (end-blank room c
 
     go : (x : Bool) → is_white c.byte ≡ x → is_end (white_rest room cs) ≡ is_blank (line_bytes cs) →
         is_end (cond x (white_rest room cs) (c ∷ cs)) ≡ is_blank (line_bytes (c ∷ cs))
-    go true e next = rw (white-goes c.byte e, e) next
+    go true e next = rw (white-no_ending c.byte e, e) next
     go false e next = dark (c.byte == 10) e refl
 
 -- Closing fences.

@@ -1,5 +1,5 @@
 -- The prefix of a quote is refused, or takes a cell at least.
-use Rattle.std.proofs.Common.{ℕ, ◌<◌, ◌≤◌, cond, not, nat_eq, List, [], ◌∷◌, drop, length, arith}
+use Rattle.std.proofs.Common.{ℕ, ◌<◌, ◌≤◌, not, nat_eq, List, [], ◌∷◌, drop, length, arith}
 use Rattle.std.specs.Char.{to_ascii_lowercase}
 use Rattle.md_engine.specs.declared.configuration.ParseOptions.{ParseOptions}
 use Rattle.md_engine.specs.Meaning.{Accepts, Cell, Fails, Here, Outcome, Refuses}

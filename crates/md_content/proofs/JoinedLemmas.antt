@@ -1,9 +1,8 @@
 -- Lines of content are joined one event after another.
 use Rattle.std.proofs.Common.{◌≡◌, ℕ, ◌+◌, ◌<◌, ◌≤◌, Bool, true, false, ◌&&◌, List, [], ◌∷◌, length, length-drop}
-use Rattle.std.proofs.Common.{get_or, take, drop, refl, sym, ◌∙◌, ap, arith, ◌-◌}
+use Rattle.std.proofs.Common.{get_or, drop, refl, sym, ◌∙◌, ap, arith, ◌-◌}
 use Rattle.std.proofs.Common.{subst, cond, suc}
 use Rattle.std.proofs.lemmas.List.{get_or-drop}
-use Rattle.std.proofs.lemmas.List.{take_all}
 use Rattle.std.proofs.lemmas.List.Elements.{All-cons, All-head, All-tail}
 use Rattle.md_engine.specs.declared.event.Event.{Event}
 use Rattle.md_engine.specs.Place.{IsPlaced}
@@ -29,10 +28,6 @@ joined-head (e ∷ f ∷ g ∷ es) j d d' lt is = go (is_exit e.kind && is_conte
         record e { point = (get_or (e ∷ f ∷ g ∷ es) j d').point } ∷ joined (drop (j + 1) (e ∷ f ∷ g ∷ es))
     go true k = rw (is, k) refl
     go false k = rw (is, k) refl
-
--- a slice to the end
-pub to-end : (events : List Event) (n : ℕ) → take (length events - n) (drop n events) ≡ drop n events
-to-end events n = take_all _ _ (omega (arith, length-drop n events))
 
 -- what passes first after a place
 pub first-there : (p : Event → Bool) (events : List Event) (at n : ℕ) (d : Event) →

@@ -19,6 +19,7 @@ use Rattle.md_events.specs.Look.{as_seen, behind_code, first_behind, first_other
 use Rattle.md_events.specs.Spaces.{sees_white}
 use Rattle.md_events.proofs.LookLemmas.{Along, IsWhiteAt, dark-at, left_at, none-left, white-at}
 use Rattle.md_events.proofs.PlainSteps.{range-next, range-none}
+use Rattle.md_events.proofs.AheadLemmas.{white-no_ending}
 
 -- where a run ends is the first other byte, as far as the text may be read
 pub first-other : (bytes : List ℕ) (marker d from limit n : ℕ) → limit ≤ length bytes → from + d ≡ n →
@@ -157,9 +158,6 @@ are_spread marker bytes = list_all (λ (b : ℕ). nat_eq b marker || is_white b)
 line-next : (marker : ℕ) (c : Cell) (cs : List Cell) → nat_eq c.byte 10 ≡ false →
     are_spread marker (line_bytes (c ∷ cs)) ≡ is_of_run marker c.byte && are_spread marker (line_bytes cs)
 line-next marker c cs e = rw e refl
-
-white-no_ending : (b : ℕ) → is_white b ≡ true → nat_eq b 10 ≡ false
-white-no_ending b e = grind (arith, nat_tests)
 
 ending-no_line : (b : ℕ) → is_ending b ≡ false → nat_eq b 10 ≡ false
 ending-no_line b e = grind (arith, nat_tests)

@@ -20,7 +20,8 @@ use Rattle.md_meaning.specs.Html.{raw_ends, starts_in_any_case}
 use Rattle.md_meaning.specs.Lines.{begins_with}
 use Rattle.md_meaning.specs.Rest.{is_blank, is_parted, is_white, trim_start}
 use Rattle.md_meaning.proofs.HtmlLemmas.{after_attributes-some, length-after_attribute}
-use Rattle.md_events.proofs.RestLines.{count-none, count-one}
+use Rattle.md_events.proofs.RestLines.{count-none}
+use Rattle.md_html.proofs.HtmlKinds.{after-more}
 
 -- the same bytes, but that runs of whitespace may be longer in the second list
 pub data Wide : List ℕ → List ℕ → Type 0 where
@@ -80,10 +81,6 @@ wide-blank (wider a b bs cs p q h) = wide-blank h ∙ ap (λ (t : Bool). t && is
 
 -- What follows.
 
--- bytes at the front that pass are passed over
-after-one : (t : ℕ → Bool) (b : ℕ) (bs : List ℕ) → t b ≡ true → after t (b ∷ bs) ≡ after t bs
-after-one t b bs e = ap (λ (n : ℕ). drop n (b ∷ bs)) (count-one t b bs e)
-
 after-none : (t : ℕ → Bool) (b : ℕ) (bs : List ℕ) → t b ≡ false → after t (b ∷ bs) ≡ b ∷ bs
 after-none t b bs e = ap (λ (n : ℕ). drop n (b ∷ bs)) (count-none t b bs e)
 
@@ -93,14 +90,14 @@ wide-after t x e ended = ended
 wide-after t x e (byte b bs cs d h) = go (t b) refl (wide-after t x e h)
   where
     go : (y : Bool) → t b ≡ y → Wide (after t bs) (after t cs) → Wide (after t (b ∷ bs)) (after t (b ∷ cs))
-    go true f next = wide-by _ _ _ _ (after-one t b bs f) (after-one t b cs f) next
+    go true f next = wide-by _ _ _ _ (after-more t b bs f) (after-more t b cs f) next
     go false f next = wide-by _ _ _ _ (after-none t b bs f) (after-none t b cs f) (byte b bs cs d h)
 wide-after t true e (white a b bs cs p q h) =
-    wide-by _ _ _ _ (after-one t a bs (e a p)) (after-one t b cs (e b q)) (wide-after t true e h)
+    wide-by _ _ _ _ (after-more t a bs (e a p)) (after-more t b cs (e b q)) (wide-after t true e h)
 wide-after t false e (white a b bs cs p q h) =
     wide-by _ _ _ _ (after-none t a bs (e a p)) (after-none t b cs (e b q)) (white a b bs cs p q h)
 wide-after t true e (wider a b bs cs p q h) =
-    wide-by _ _ _ _ refl (after-one t b cs (e b q)) (wide-after t true e h)
+    wide-by _ _ _ _ refl (after-more t b cs (e b q)) (wide-after t true e h)
 wide-after t false e (wider a b bs cs p q h) =
     wide-by _ _ _ _ (after-none t a bs (e a p)) (after-none t b cs (e b q)) (wider a b bs cs p q h)
 
@@ -377,7 +374,7 @@ blind-trim f k [] = refl
 blind-trim f k (b ∷ bs) = go (is_white b) refl (blind-trim f k bs)
   where
     go : (x : Bool) → is_white b ≡ x → f (trim_start bs) ≡ f bs → f (trim_start (b ∷ bs)) ≡ f (b ∷ bs)
-    go true w next = ap f (after-one is_white b bs w) ∙ next ∙ sym (k.skips b bs w)
+    go true w next = ap f (after-more is_white b bs w) ∙ next ∙ sym (k.skips b bs w)
     go false w next = ap f (after-none is_white b bs w)
 
 -- what passes from some byte on, where that is none of whitespace

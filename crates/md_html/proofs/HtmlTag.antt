@@ -23,10 +23,11 @@ use Rattle.md_html.proofs.HtmlKinds.{after-more, after-same}
 use Rattle.md_html.proofs.HtmlMoves.{MovesBy, begins-line, comes, by-moves, line-done, line-more, not-ending, tag-same}
 use Rattle.md_html.proofs.HtmlMoves.{tag-taken, with-line}
 use Rattle.md_html.proofs.HtmlTags.{assignment-more, assignment-none, assignment-sign, closes-none, opening-attribute}
-use Rattle.md_html.proofs.HtmlTags.{opening-last, opening-more, opening-slash, optional-none, trim-none, trim-white}
+use Rattle.md_html.proofs.HtmlTags.{opening-last, opening-more, opening-slash, optional-none, trim-none}
 use Rattle.md_html.proofs.HtmlTags.{value-bare, value-empty, value-none, value-quoted}
 use Rattle.md_events.specs.Ahead.{line_bytes}
 use Rattle.md_events.specs.Spaces.{ends_line, is_current, sees_white}
+use Rattle.md_events.proofs.RestLines.{trim-white}
 
 -- What is left of a tag, by whether it is one.
 

@@ -11,11 +11,9 @@ use Rattle.md_meaning.specs.Rest.{is_blank, is_white, trim_start}
 use Rattle.md_meaning.proofs.HtmlLemmas.{after_attributes-some}
 use Rattle.md_html.specs.HtmlRule.{behind_white, then_opening}
 use Rattle.md_html.proofs.HtmlKinds.{after-more, after-same}
+use Rattle.md_events.proofs.RestLines.{trim-white}
 
 -- Whitespace.
-
-pub trim-white : (b : ℕ) (bs : List ℕ) → is_white b ≡ true → trim_start (b ∷ bs) ≡ trim_start bs
-trim-white b bs e = after-more is_white b bs e
 
 pub trim-none : (bytes : List ℕ) → begins is_white bytes ≡ false → trim_start bytes ≡ bytes
 trim-none bytes e = after-same is_white bytes e

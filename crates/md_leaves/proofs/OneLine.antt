@@ -23,6 +23,7 @@ use Rattle.md_events.proofs.InlineLemmas.{past-index, past_text-append}
 use Rattle.md_events.proofs.LineTaken.{taken-slice}
 use Rattle.md_events.proofs.PointOrder.{Before, placed-same, walk-before}
 use Rattle.md_events.proofs.ReachedLemmas.{same-behind}
+use Rattle.md_events.proofs.FeedLines.{past_text-whole}
 
 -- Lines never go back.
 line-next : (bytes : List ℕ) (p : Point) → p.line ≤ (next_point bytes p).line
@@ -124,10 +125,6 @@ line-whole (b ∷ bs) h =
 
 -- After bytes without a tab a point is so many bytes and columns further.
 
-past-whole : (l : List ℕ) (p : Point) → p.vs ≡ 0 → (past_text l p).vs ≡ 0
-past-whole [] p e = e
-past-whole (b ∷ bs) p e = past-whole bs (past_byte b p) refl
-
 abbrev pub further : ℕ → Point → Point
 further n p = record { line = p.line; column = p.column + n; index = p.index + n; vs = 0 }
 
@@ -176,12 +173,12 @@ pub end-back : (bytes xs ys : List ℕ) (p q : Point) → IsOnLine bytes (xs ++ 
 end-back bytes xs ys p q on e k f at none =
     let z = past_text xs p in
     let all = past_text (xs ++ ys) p in
-    let whole : z.vs ≡ 0 = past-whole xs p e in
+    let whole : z.vs ≡ 0 = past_text-whole xs p e in
     let placed : IsPlaced bytes all =
     (on-behind bytes (xs ++ ys) [] p (subst (λ (l : List ℕ). IsOnLine bytes l p) (sym (append-nil (xs ++ ys))) on)).placed in
     let same : all ≡ q =
     placed-same bytes all q placed k
-    (omega (arith, past-index (xs ++ ys) p, at, length-append xs ys)) (past-whole (xs ++ ys) p e ∙ sym f) in
+    (omega (arith, past-index (xs ++ ys) p, at, length-append xs ys)) (past_text-whole (xs ++ ys) p e ∙ sym f) in
     let plain : past_text ys z ≡ further (length ys) z =
     past-plain ys z whole (column-some bytes z (on-behind bytes xs ys p on).placed) none in
     back-further (length ys) z q whole (sym plain ∙ sym (past_text-append xs ys p) ∙ same)

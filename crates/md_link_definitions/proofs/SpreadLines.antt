@@ -18,6 +18,7 @@ use Rattle.md_events.proofs.FeedLines.{Stops, behind_last, byte-end, byte_cells,
 use Rattle.md_events.proofs.FeedLines.{past_text-whole, spread, spread-end, tab-end, tab_cells, tab_end}
 use Rattle.md_events.proofs.RestCells.{Cut, cells_by, past_cut, past_rest, rest-end, rest_cells}
 use Rattle.md_events.proofs.RestLines.{trim-white}
+use Rattle.md_link_definitions.proofs.GapLines.{whole-first}
 
 -- One piece after another.
 
@@ -212,10 +213,6 @@ rest-led line r p more none cut one stops = go r.spaces cut
 onto-empty : (bytes : List ℕ) (lines : List (List ℕ)) → onto bytes ([] ∷ lines) ≡ bytes ∷ lines
 onto-empty bytes lines = onto-line bytes [] lines ∙ ap (λ (x : List ℕ). x ∷ lines) (append-nil bytes)
 
--- the ending of a line after a byte
-ending-whole : (q : Point) (c : Cell) (cs : List Cell) → q.vs ≡ 0 → whole_cells q (c ∷ cs) ≡ c ∷ whole_cells c.after cs
-ending-whole q c cs at = let first : nat_eq q.vs 0 ≡ true = rw at refl in rw first refl
-
 -- and the lines before it
 ending-next : (bytes : List ℕ) (c : Cell) (cs : List Cell) → nat_eq c.byte 10 ≡ true →
     onto bytes (cell_lines false (c ∷ cs)) ≡ bytes ∷ cell_lines true cs
@@ -241,7 +238,7 @@ spread-next line bytes p c cs none at one ending =
     (whole_cells-append here (c ∷ cs) p
     ∙ ap (λ (x : List Cell). whole_cells p here ++ x)
     (ap (λ (q : Point). whole_cells q (c ∷ cs)) (spread-end line bytes p one)
-    ∙ ending-whole (past_text bytes p) c cs (past_text-whole bytes p at)))
+    ∙ whole-first (past_text bytes p) c cs (past_text-whole bytes p at)))
     ∙ spread-on line bytes p (c ∷ whole_cells c.after cs) none at one
     ∙ ending-next bytes c (whole_cells c.after cs) ending
 
@@ -264,7 +261,7 @@ rest-next line r p c cs none cut one ending =
     (whole_cells-append here (c ∷ cs) p
     ∙ ap (λ (x : List Cell). whole_cells p here ++ x)
     (ap (λ (q : Point). whole_cells q (c ∷ cs)) (rest-end line r p one)
-    ∙ ending-whole (past_rest r p) c cs (past_text-whole r.bytes (past_cut r.spaces p) (whole r.spaces cut))))
+    ∙ whole-first (past_rest r p) c cs (past_text-whole r.bytes (past_cut r.spaces p) (whole r.spaces cut))))
     ∙ rest-led line r p (c ∷ whole_cells c.after cs) none cut one ending
     ∙ ending-next (trim_start r.bytes) c (whole_cells c.after cs) ending
   where

@@ -1,13 +1,12 @@
 -- What the plain layer reads in a text of a cell is `Data` over it.
-use Rattle.std.proofs.Common.{◌≡◌, ℕ, Bool, false, List, [], ◌∷◌, ◌++◌, refl, sym, ◌∙◌, ap}
+use Rattle.std.proofs.Common.{◌≡◌, ℕ, Bool, false, List, [], ◌∷◌, ◌++◌, sym, ◌∙◌, ap}
 use Rattle.std.proofs.Common.{append-nil, subst, ap₂, arith, cond, length, suc, slice_range, ◌+◌, ◌&&◌}
 use Rattle.std.proofs.lemmas.Bool.Decides.{nat_tests}
-use Rattle.std.proofs.lemmas.List.Sums.{take_while-cons}
-use Rattle.std.specs.Prelude.{◌==◌, not}
+use Rattle.std.specs.Prelude.{◌==◌}
 use Rattle.md_engine.specs.declared.event.Event.{Event}
 use Rattle.md_engine.specs.declared.event.Name.TheVariants as n
 use Rattle.md_engine.specs.declared.event.Point.{Point}
-use Rattle.md_meaning.specs.Lines.{is_ending, without_ending}
+use Rattle.md_meaning.specs.Lines.{without_ending}
 use Rattle.md_meaning.proofs.TextsLemmas.{NoEnding}
 use Rattle.md_events.specs.Events.Inline.{pair_unless_empty}
 use Rattle.md_events.specs.Events.Nested.{pair}
@@ -15,13 +14,7 @@ use Rattle.md_events.specs.Events.Places.{past_text, same_place}
 use Rattle.md_events.proofs.InlineLemmas.{past-index, same-refl}
 use Rattle.md_tables.specs.RowCells.{read_text}
 use Rattle.md_tables.proofs.RowBytes.{Stands, stands-first}
-
-without-none : (line : List ℕ) → NoEnding line → without_ending line ≡ line
-without-none [] h = refl
-without-none (b ∷ line) h =
-    take_while-cons (λ (b : ℕ). not (is_ending b)) b line
-    ∙ ap (λ (x : Bool). cond (not x) (b ∷ without_ending line) []) h.0
-    ∙ ap (λ (l : List ℕ). b ∷ l) (without-none line h.1)
+use Rattle.md_leaves.proofs.OneLine.{line-whole}
 
 -- a text that is not empty ends elsewhere than it begins
 apart : (b : ℕ) (bs : List ℕ) (p : Point) → same_place p (past_text (b ∷ bs) p) ≡ false
@@ -35,7 +28,7 @@ pub data-read : (bytes : List ℕ) (b : ℕ) (bs : List ℕ) (p : Point) → Sta
     read_text bytes p (past_text (b ∷ bs) p) ≡ pair n.Data p (past_text (b ∷ bs) p)
 data-read bytes b bs p is none =
     ap (λ (t : List ℕ). said (past_text (without_ending t) p)) text
-    ∙ ap (λ (t : List ℕ). said (past_text t p)) (without-none (b ∷ bs) none)
+    ∙ ap (λ (t : List ℕ). said (past_text t p)) (line-whole (b ∷ bs) none)
     ∙ ap₂ (λ (x y : Bool). (cond x [] (pair n.Data p q) ++ cond y [] (pair n.LineEnding q q)) ++ []) (apart b bs p)
     (same-refl q)
   where

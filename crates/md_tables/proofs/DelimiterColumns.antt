@@ -10,6 +10,7 @@ use Rattle.md_meaning.specs.Bytes.{after_optional, begins, is_end}
 use Rattle.md_meaning.specs.Rest.{is_blank, is_white, trim, trim_end, trim_start}
 use Rattle.md_meaning.specs.Table.{delimiter_columns, is_delimiter, pieces, row_cells}
 use Rattle.md_leaves.proofs.TitleTexts.{tail}
+use Rattle.md_leaves.proofs.BreakLemmas.{white-apart}
 use Rattle.md_link_definitions.proofs.Pieces.{Parted, onto-parted, pieces-parted}
 use Rattle.md_tables.specs.Delimiter.{Aligns, Dash, Divides, Mark, Other, Stops, White, mark_of}
 use Rattle.md_tables.specs.DelimiterRule.{Behind, Counts, Dashes, Fails, Front, Goes, Left, Marks, Move}
@@ -18,7 +19,6 @@ use Rattle.md_tables.specs.GfmTableLine.{are_columns}
 use Rattle.md_tables.proofs.CellLemmas.{cell-is, dark-next, dark-rest, ends_cell, ends_dark, tail-blank, trimmed-begins}
 use Rattle.md_tables.proofs.CellLemmas.{trimmed-dark, trimmed-whole}
 use Rattle.md_tables.proofs.DelimiterLemmas.{told-as, white-mark}
-use Rattle.md_tables.proofs.RowMeaning.{white-apart}
 use Rattle.md_tables.proofs.WhiteEnds.{blank-light}
 
 -- The pieces of a row.

@@ -6,6 +6,7 @@ use Rattle.md_engine.specs.declared.event.Name.TheVariants.{SpaceOrTab}
 use Rattle.md_engine.specs.Meaning.{Cell, Here, Outcome, Refuses}
 use Rattle.md_meaning.specs.Rest.{is_white}
 use Rattle.md_leaves.proofs.LeafSteps.{TakesWhite}
+use Rattle.md_leaves.proofs.BreakLemmas.{white-apart}
 use Rattle.md_events.specs.Ahead.{begins_white}
 use Rattle.md_events.specs.Events.Nested.{enter, exit}
 use Rattle.md_events.proofs.AheadLemmas.{white-no_ending}
@@ -13,7 +14,6 @@ use Rattle.md_tables.specs.Delimiter.{Aligns, Dash, Divides, Mark, Stops, White,
 use Rattle.md_tables.specs.DelimiterRule.{Apart, Behind, Counts, Dashes, Fails, Goes, Marks, Move, Open}
 use Rattle.md_tables.specs.DelimiterRule.{Place, Run, Space, begun, behind_white, closes, counted}
 use Rattle.md_tables.specs.DelimiterRule.{goes_on, in_row, met, move, opens}
-use Rattle.md_tables.proofs.RowMeaning.{white-apart}
 
 -- What a mark says of its byte.
 abbrev pub is_stop : Mark → Bool

@@ -27,12 +27,12 @@ use Rattle.md_tables.proofs.RowBytes.{front-whole}
 use Rattle.md_tables.proofs.DelimiterColumns.{colon-slash, dash-slash}
 use Rattle.md_tables.proofs.RowCellLemmas.{cells-none, cells-pipe, cells-plain, cells-begin, first-behind, first-onto}
 use Rattle.md_tables.proofs.RowCellLemmas.{first_cell, white-blank, white-ends, white-first, white-more, white_left}
-use Rattle.md_tables.proofs.RowMeaning.{white-apart}
 use Rattle.md_tables.proofs.WhiteEnds.{blank-first}
 use Rattle.md_tables.proofs.DelimiterRuns.{space-opens, space-on, space-ends, blank-runs, piped, pipe-opens, value-pipe}
 use Rattle.md_tables.proofs.DelimiterRuns.{value_left, value-first, value-more, value-turns, value-ends, behind}
 use Rattle.md_tables.proofs.DelimiterRuns.{cells_left, left_in_space, left_in_value, onto-by, pipe-by, row_end}
 use Rattle.md_tables.proofs.DelimiterRuns.{last-pipe}
+use Rattle.md_leaves.proofs.BreakLemmas.{white-apart}
 
 -- The walk.
 

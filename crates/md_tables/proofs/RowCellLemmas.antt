@@ -14,8 +14,8 @@ use Rattle.md_tables.specs.RowCells.{Cells, Divides, Ends, Shut, behind_pipe, ce
 use Rattle.md_tables.specs.RowCells.{first_pipe}
 use Rattle.md_tables.specs.RowCells.{onto, past_pipe, pipe_part, text_part, unread_text}
 use Rattle.md_tables.specs.RowCells.{white_back, white_front, white_part}
-use Rattle.md_tables.proofs.RowMeaning.{white-apart}
 use Rattle.md_tables.proofs.WhiteEnds.{blank-first, dark-first, end-blank, end-more, front-none, front-one, start-none}
+use Rattle.md_leaves.proofs.BreakLemmas.{white-apart}
 
 -- The bytes of a cell.
 

@@ -15,6 +15,7 @@ use Rattle.md_engine.specs.Sees.{Sees, ahead, cell_here}
 use Rattle.md_engine.proofs.StepOf.{begins, moves, passes, steps-as}
 use Rattle.md_meaning.specs.Rest.{is_white}
 use Rattle.md_leaves.proofs.LeafSteps.{behind-joined, sees-one, white-run, white_frame}
+use Rattle.md_leaves.proofs.BreakLemmas.{white-apart}
 use Rattle.md_events.specs.Ahead.{white_rest}
 use Rattle.md_events.specs.Events.Nested.{enter, exit}
 use Rattle.md_events.specs.Spaces.{IsRest, any_size, calmed, sees_white}
@@ -130,14 +131,6 @@ record Told (b : ℕ) (x : Piece) : Type 0 where
   pub white : is_white b ≡ is_space x
   pub pipe : nat_eq b 124 ≡ is_pipe x
   pub slash : nat_eq b 92 ≡ is_slash x
-
--- whitespace is no other byte
-pub white-apart : (b m : ℕ) → is_white b ≡ true → is_white m ≡ false → nat_eq b m ≡ false
-white-apart b m h k = go (nat_eq b m) refl
-  where
-    go : (x : Bool) → nat_eq b m ≡ x → nat_eq b m ≡ false
-    go false e = e
-    go true e = let not_both : true ≡ false = sym h ∙ ap is_white (eqb-true b m e) ∙ k in cc
 
 told : (b : ℕ) → Told b (piece (Some b))
 told b = go (nat_eq b 10) (is_white b) (nat_eq b 124) (nat_eq b 92) refl refl refl refl

@@ -8,9 +8,9 @@ use Rattle.md_meaning.specs.Table.{pieces, row_cells}
 use Rattle.md_events.proofs.RestLines.{trim-white}
 use Rattle.md_tables.specs.RowCells.{Cells, Divides, Ends, Shut, behind_pipe, cells_of, line_cells, onto, white_back}
 use Rattle.md_tables.proofs.CellLemmas.{dark-next, ends_dark, trimmed-dark}
-use Rattle.md_tables.proofs.RowMeaning.{white-apart}
 use Rattle.md_tables.proofs.WhiteEnds.{back-blank, blank-both, blank-light, end-behind}
 use Rattle.md_tables.proofs.WhiteEnds.{end-blank, end-whole, start-none}
+use Rattle.md_leaves.proofs.BreakLemmas.{white-apart}
 
 -- what each cell holds
 abbrev pub held_in : Cells → List (List ℕ)

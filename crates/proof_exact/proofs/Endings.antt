@@ -1,12 +1,11 @@
 -- The name of the ending of a line after which a leaf ends: that of a blank line, or that of any other.
 use Rattle.std.proofs.Common.{◌≡◌, ◌⊎◌, inl, inr, ℕ, zero, suc, ◌+◌, ◌-◌, ◌%◌, ◌≤◌, Bool, true, false, cond, ◌&&◌, ◌||◌}
 use Rattle.std.proofs.Common.{List, [], ◌∷◌, ◌++◌, length, refl, sym, ap, ap₂, ◌∙◌, arith}
-use Rattle.std.specs.Prelude.{◌==◌, not, Option, Some, None}
+use Rattle.std.specs.Prelude.{◌==◌, not, Some, None}
 use Rattle.std.proofs.lemmas.Bool.Decides.{nat_tests}
 use Rattle.md_engine.specs.declared.configuration.ParseOptions.{ParseOptions}
 use Rattle.md_engine.specs.declared.event.Name.TheVariants as n
 use Rattle.md_engine.specs.declared.event.Point.{Point}
-use Rattle.md_engine.specs.declared.tokenizer.held_leaf.HeldLeaf.{HeldLeaf}
 use Rattle.md_engine.specs.declared.tokenizer.held_leaf.HeldLeaf.TheVariants as held_leaf
 use Rattle.proof_literal_laws.specs.Leaf.CodeIndented.{is_code}
 use Rattle.proof_literal_laws.proofs.CodeIndented.Rows.{in-framed, row-in}
@@ -29,11 +28,12 @@ use Rattle.proof_frame.specs.Row.{is_empty_row, is_framed}
 use Rattle.proof_frame.proofs.LeafLines.Rest.{row_unread}
 use Rattle.md_registry.specs.Registry.{asked_first, leaf}
 use Rattle.md_registry.proofs.Registry.{insider-none, laws}
-use Rattle.proof_rows.specs.Rows.{kind_of, stays_blank}
+use Rattle.proof_rows.specs.Rows.{stays_blank}
 use Rattle.proof_rows.proofs.KindLemmas.{kind-filled, kind-starts}
 use Rattle.proof_rows.proofs.RowFacts.{IsRow}
 use Rattle.proof_rows.proofs.RowLeaf.{row-as}
 use Rattle.proof_rows.proofs.Text.Parted.{text-nonblank}
+use Rattle.proof_rows.proofs.ContainedLemmas.{lines-open}
 use Rattle.proof_exact.proofs.GroupsMatch.{code-held}
 use Rattle.proof_exact.proofs.KindRoles.{further_role, leaf_role}
 use Rattle.proof_exact.proofs.RowRoles.{IsCode, behind_code, code-further, code-is, further_rows, is_headed}
@@ -105,16 +105,6 @@ filled-row : (options : ParseOptions) (bytes own : List ℕ) (row : Row) → (is
 filled-row options bytes own row is dark =
     row-empty options bytes own row is ∙ rest-filled is.rest dark
 
--- a leaf that continues is one on which a line may go
-lines-may : (on : HeldLeaf) → has_lines on ≡ true → may_go_on on ≡ true
-lines-may held_leaf.None e = cc
-lines-may (held_leaf.Text at) e = refl
-lines-may (held_leaf.LazyText at) e = cc
-lines-may held_leaf.Code e = refl
-lines-may (held_leaf.Fence marker size indent) e = refl
-lines-may (held_leaf.Html kind) e = refl
-lines-may held_leaf.Table e = refl
-
 -- What is known of a line of the exact list, which begins where its row does.
 pub record IsNamed (options : ParseOptions) (bytes : List ℕ) (x : exact.Row) (r : Row) : Type 0 where
   pub own : List ℕ
@@ -143,7 +133,7 @@ nothing-stands options bytes x r is l kind = go (has_lines r.on) refl
         none : asked_first r.on ≡ Some l → ⊥
         none asked = let bad : None ≡ Some l = sym (insider-none r.on e) ∙ asked in cc
     go true e =
-        empty-line x.line is.is.rest r.first is.at (is.first (lines-may r.on e))
+        empty-line x.line is.is.rest r.first is.at (is.first (lines-open r.on e))
         ∙ ap (λ (t : Bool). t && (r.first.column == 1)) (sym (row-empty options bytes is.own r is.is))
 
 -- Which lines are blank, though a leaf takes them: those after code.

@@ -21,7 +21,7 @@ use Rattle.md_events.proofs.FeedLines.{Stops, begun-none, cell, drop-past, endin
 use Rattle.md_events.proofs.FeedLines.{front-within, line-feed, past_ending, spread}
 use Rattle.md_events.proofs.InlineLemmas.{past-index}
 use Rattle.md_events.proofs.PlacesLemmas.{Placed, placed-text}
-use Rattle.proof_leaf_laws.proofs.FullLines.{IsLines, LastLine, NextLine, NoLines, ending-is, last-ending, last-is}
+use Rattle.proof_leaf_laws.proofs.FullLines.{IsLines, LastLine, NextLine, NoLines, ending-is, last-ending}
 use Rattle.md_exact.specs.Places.{TextLine, line_at, line_end, lines_from, next_line, place, whole}
 use Rattle.md_exact.proofs.OnLine.{LineIn, whole-on}
 use Rattle.md_exact.proofs.PlaceLemmas.{line_start}
@@ -38,6 +38,7 @@ use Rattle.proof_rows.specs.WithoutMdx.{IsWithoutMdx}
 use Rattle.proof_rows.proofs.FrontRows.{held-is}
 use Rattle.proof_exact.proofs.Fed.{AreFed, IsFed}
 use Rattle.proof_exact.proofs.RowFronts.{line_cells}
+use Rattle.md_leaves.proofs.OneLine.{line-whole}
 
 -- One line.
 
@@ -144,7 +145,7 @@ last-line options n x open_before still number index column full built is read p
     line = line_at number index column full
 
     own : line.bytes ≡ full
-    own = last-is full none
+    own = line-whole full none
 
     small : x.limit < 2 ^ 61
     small = let limit = is.limit in let size = is.small in omega (arith, limit, size)

@@ -39,11 +39,6 @@ use Rattle.proof_exact_lines.proofs.StepLast.{opened-enough}
 use Rattle.proof_exact.proofs.FrontSame.{IsFront, continued-same, opened-same}
 use Rattle.proof_exact.proofs.Opened.{all-same, text-same}
 
--- Containers that open: a bound on them that is not below the bytes does not matter.
-
-abbrev opened_by : ParseOptions → ℕ → Option Taken → List Taken
-opened_by options n o = elim o [ Some t ↦ t ∷ opened options false n t.rest | None ↦ [] ]
-
 -- There are at least as many cells as bytes.
 
 tab-long : (said : Line) (n byte : ℕ) (p : Point) → 1 ≤ length (tab_cells said n byte p)

@@ -21,7 +21,6 @@ use Rattle.md_events.proofs.PlacesLemmas.{Placed, placed-text}
 use Rattle.md_events.proofs.ReachedLemmas.{placed-next}
 use Rattle.proof_leaf_laws.specs.Front.{body_point, ending_of}
 use Rattle.proof_leaf_laws.proofs.FullLines.{IsLines, LastLine, NextLine, NoLines, ending-is, full-lines, last-ending}
-use Rattle.proof_leaf_laws.proofs.FullLines.{last-is}
 use Rattle.md_exact.specs.Blocks.{front_size, text_lines}
 use Rattle.md_exact.specs.Places.{TextLine, line_at, lines_from}
 use Rattle.md_exact.proofs.OnLine.{past-line}
@@ -29,6 +28,7 @@ use Rattle.proof_exact_lines.proofs.Front.{begin}
 use Rattle.proof_exact_lines.proofs.FrontBody.{Body, Ends, Goes, front-body}
 use Rattle.proof_exact.proofs.RowsMet.{HaveBytes}
 use Rattle.proof_frame.proofs.LineTexts.{without-one}
+use Rattle.md_leaves.proofs.OneLine.{line-whole}
 
 pub some-ending : (ending : Ending) → is_end (ending_bytes ending) ≡ false
 some-ending LineFeed = refl
@@ -43,7 +43,7 @@ have-bytes number index column text fulls (LastLine b line h) =
     subst (λ (owns : List (List ℕ)). HaveBytes column (lines (is_end (ending_of full))) owns)
     (sym (split-line full h))
     (subst (λ (x : Bool). HaveBytes column (lines x) (full ∷ [])) (sym (ap is_end (last-ending full h)))
-    (last-is full h, refl, tt))
+    (line-whole full h, refl, tt))
   where
     full : List ℕ
     full = b ∷ line

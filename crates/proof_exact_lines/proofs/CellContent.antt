@@ -8,6 +8,7 @@ use Rattle.md_engine.specs.declared.event.Event.{Event}
 use Rattle.md_engine.specs.declared.event.Name.TheVariants as n
 use Rattle.md_engine.specs.declared.event.Point.{Point}
 use Rattle.md_leaves.proofs.TitleTexts.{front-passes, front-stops}
+use Rattle.md_leaves.proofs.BreakLemmas.{white-apart}
 use Rattle.md_meaning.specs.Bytes.{begins, is_end}
 use Rattle.md_meaning.specs.Rest.{Rest, behind_indent, cut_tab, is_blank, is_white, trim, trim_end, trim_start}
 use Rattle.md_events.specs.Events.Places.{past_text}
@@ -16,7 +17,6 @@ use Rattle.md_events.proofs.RestLines.{trim-white}
 use Rattle.md_tables.specs.RowCells.{cell_by, white_back, white_front, white_part}
 use Rattle.md_tables.proofs.CellLemmas.{ends_dark, trimmed-dark}
 use Rattle.md_tables.proofs.RowBytes.{cell-whole, front-whole}
-use Rattle.md_tables.proofs.RowMeaning.{white-apart}
 use Rattle.md_tables.proofs.WhiteEnds.{back-blank, blank-first, dark-first, end-is, end-more, end-whole, start-none}
 use Rattle.proof_frame.specs.LineColumns.{part_over}
 use Rattle.md_exact.specs.Leaves.{Inner, cell_content}

@@ -13,6 +13,7 @@ use Rattle.md_events.specs.Events.Nested.{pair}
 use Rattle.md_events.specs.Events.Places.{columns_from, past_text}
 use Rattle.md_events.proofs.FeedLines.{columns_more}
 use Rattle.md_events.proofs.RestCells.{bare-same, without_first}
+use Rattle.md_events.proofs.LostColumns.{lose-bare}
 use Rattle.proof_frame.specs.LineColumns.{columns_part, lost_line, next_point, part_over, past_columns}
 use Rattle.md_exact.specs.Leaves.{content_line}
 use Rattle.md_exact.specs.Places.{TextLine, is_same, line_end, place, white}
@@ -131,10 +132,6 @@ begins-column line r p = go r.column r.spaces r.bytes
 
 -- After so many columns, or as many as there are.
 
-lose-none : (n : ℕ) (r : Rest) → indent r ≡ 0 → lose n r ≡ r
-lose-none zero r e = refl
-lose-none (suc n) r e = ap (lose n) (bare-same r e) ∙ lose-none n r e
-
 pub begins-lost : (n : ℕ) (line : TextLine) (r : Rest) (p : Point) → BeginsAt line r p →
     BeginsAt line (lose n r) (past_columns n r p)
 begins-lost zero line r p at = at
@@ -149,7 +146,7 @@ begins-lost (suc n) line r p at =
         BeginsAt line (lose n left) (cond t p (past_columns n left (next_point left p)))
     go true e more =
         let none : indent r ≡ 0 = eqb-true (indent r) 0 e in
-        subst (λ (s : Rest). BeginsAt line s p) (sym (ap (lose n) (bare-same r none) ∙ lose-none n r none)) at
+        subst (λ (s : Rest). BeginsAt line s p) (sym (ap (lose n) (bare-same r none) ∙ lose-bare n r none)) at
     go false e more = more (begins-column line r p at (grind (arith, nat_tests)))
 
 -- Where columns are lost, the rest that is left begins elsewhere.
@@ -230,7 +227,7 @@ lost-apart (suc n) r = go (nat_lt 0 (indent r)) refl
         ∙ sym (ap (λ (t : Bool). not (t && true)) some)
     go false e =
         let none : indent r ≡ 0 = grind (arith, nat_tests) in
-        ap (is_same r) (lose-none (suc n) r none) ∙ same-refl r
+        ap (is_same r) (lose-bare (suc n) r none) ∙ same-refl r
         ∙ sym (ap (λ (t : Bool). not (t && false)) some)
 
 -- The events of such a line.

@@ -39,9 +39,9 @@ use Rattle.proof_leaf_laws.specs.Front as front
 use Rattle.proof_leaf_laws.specs.Front.{FrontRead, behind_these, ending_of, ending_part, fence_part, front_from}
 use Rattle.proof_leaf_laws.specs.Front.{front_read, line_part, lines_read}
 use Rattle.proof_leaf_laws.proofs.FullLines.{IsLines, LastLine, NextLine, NoLines, ending-is, full-lines, last-ending}
-use Rattle.proof_leaf_laws.proofs.FullLines.{last-is}
 use Rattle.proof_leaf_laws.proofs.Frontmatter.Taken.{around_fence, fence-is, fence_done, not-fence, one-line}
 use Rattle.proof_frame.proofs.LineTexts.{without-one}
+use Rattle.md_leaves.proofs.OneLine.{line-whole}
 
 -- All lines.
 
@@ -199,7 +199,7 @@ lines-agree x _ _ (LastLine b rest bare) h is at inside =
     ap (λ (l : List Cell). at_line l h) cells
     ∙ one-line x.line line [] h inside.marks inside.size inside.calm bare tt at.column short
     ∙ go (is_front_fence m line)
-    ∙ ap₂ (λ (l e : List ℕ). outcome x h (lines_from m l e [] h.point)) (sym (last-is line bare))
+    ∙ ap₂ (λ (l e : List ℕ). outcome x h (lines_from m l e [] h.point)) (sym (line-whole line bare))
     (sym (last-ending line bare))
   where
     line : List ℕ

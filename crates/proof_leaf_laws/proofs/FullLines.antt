@@ -5,7 +5,7 @@ use Rattle.std.specs.Prelude.{◌==◌, not}
 use Rattle.std.specs.List.{onto_first}
 use Rattle.std.proofs.Math.Seq.{drop-append_seam, drop-length}
 use Rattle.std.proofs.lemmas.Bool.{eqb-true}
-use Rattle.md_meaning.specs.Lines.{begins_with, full_lines_of, is_ending, without_ending}
+use Rattle.md_meaning.specs.Lines.{begins_with, full_lines_of, is_ending}
 use Rattle.md_meaning.proofs.TextsLemmas.{Both, Ending, EndsBefore, LineFeed, NoEnding, Return, ending_bytes}
 use Rattle.proof_leaf_laws.specs.Front.{ending_of}
 use Rattle.proof_frame.proofs.LineTexts.{without-none, without-one}
@@ -66,19 +66,11 @@ full-lines (b ∷ bs) = go (b == 10) (b == 13) (begins_with 10 bs) refl refl ref
 
 -- A line and its ending, distinguished from both.
 
-without-first : (ending : Ending) → without_ending (ending_bytes ending) ≡ []
-without-first LineFeed = refl
-without-first Return = refl
-without-first Both = refl
-
 pub ending-is : (line : List ℕ) (ending : Ending) → NoEnding line →
     ending_of (line ++ ending_bytes ending) ≡ ending_bytes ending
 ending-is line ending h =
     ap (λ (l : List ℕ). drop (length l) (line ++ ending_bytes ending)) (without-one line ending h)
     ∙ drop-append_seam line (ending_bytes ending)
-
-pub last-is : (line : List ℕ) → NoEnding line → without_ending line ≡ line
-last-is line h = without-none line h
 
 pub last-ending : (line : List ℕ) → NoEnding line → ending_of line ≡ []
 last-ending line h =

@@ -2,7 +2,6 @@
 use Rattle.std.proofs.Common.{◌≡◌, ℕ, ◌-◌, ◌+◌, ◌<◌, ◌≤◌, Bool, true, false, cond, List, [], ◌∷◌, ◌++◌, length, drop}
 use Rattle.std.proofs.Common.{take, Option, Some, None, refl, sym, ◌∙◌, ap, subst, arith, append-nil}
 use Rattle.std.proofs.lemmas.List.{length-append, length-drop}
-use Rattle.std.specs.Prelude.{IsTrue}
 use Rattle.md_engine.specs.declared.configuration.ParseOptions.{ParseOptions}
 use Rattle.md_engine.specs.declared.event.Event.{Event}
 use Rattle.md_engine.specs.declared.event.Name.TheVariants as n
@@ -18,10 +17,9 @@ use Rattle.md_outline.specs.Between.{is_between}
 use Rattle.md_outline.specs.HeadingDepths.{are_shallow}
 use Rattle.md_outline.specs.Outlined.{IsUnlisted, has_unlisted_name, tells_between}
 use Rattle.md_events.specs.Events.Nested.{Balanced, Forward, Nested, around, last_point}
-use Rattle.md_events.specs.Events.Places.{at_or_before}
 use Rattle.md_events.specs.Events.Spelled.{Reading, read, spelled, unread}
 use Rattle.md_events.proofs.FeedLines.{past_text-column}
-use Rattle.md_events.proofs.NestedLemmas.{at_or_before-trans, balanced-append, forward-append}
+use Rattle.md_events.proofs.NestedLemmas.{balanced-append, forward-append, forward-from}
 use Rattle.md_events.proofs.PlacesLemmas.{all-append}
 use Rattle.md_events.proofs.SpelledLemmas.{read-from}
 use Rattle.md_events.proofs.InlineLemmas.{past-index}
@@ -197,10 +195,6 @@ begun options bytes =
     (front-means bytes options (without_mark bytes) (mark_point bytes) (here-mark bytes))
 
 -- Its events before others.
-
-forward-from : (p q : Point) (es : List Event) → IsTrue (at_or_before p q) → Forward q es → Forward p es
-forward-from p q [] h f = tt
-forward-from p q (e ∷ es) h f = (at_or_before-trans p q e.point h f.0, f.1)
 
 pub front-nested : (p : Point) (front es : List Event) → Nested_in first_point p front → Balanced es → Forward p es →
     Nested (front ++ es)

@@ -59,6 +59,7 @@ use Rattle.proof_rows.proofs.TextProgress.{IsShut}
 use Rattle.proof_rows.proofs.Turned.Cut.{IsCutHeading, heading-cut, left-remains, IsCutHeading as cut_heading}
 use Rattle.proof_rows.proofs.Turned.Under.{under-is}
 use Rattle.proof_rows.proofs.ContentCut.{last-split}
+use Rattle.proof_rows.proofs.SpanJoined.{apart}
 
 -- Events that pass.
 
@@ -286,10 +287,6 @@ text-turned options bytes row rows es are front none =
     ∙ sym (append_assoc row.front text (tail ++ turned es))
     ∙ sym (append_assoc (row.front ++ text) tail (turned es))
 
--- events one after the other
-in_line : (a b c d e : List Event) → (a ++ b ++ c ++ d) ++ e ≡ a ++ (b ++ (c ++ (d ++ e)))
-in_line a b c d e = simp append_assoc
-
 -- a text, its ending, what is before its underline, the underline, and what follows it
 laid : (text ending before under tail es : List Event) →
     text ++ (ending ++ ((before ++ under ++ tail) ++ es)) ≡ text ++ ((ending ++ before) ++ (under ++ (tail ++ es)))
@@ -380,7 +377,7 @@ heading-turned options bytes row rows under es are is left front =
     let ending : List Event = tail_events n.LineEnding (last_row row rows) in
     let heading : List Event = turned_unread options bytes row rows under in
     let tail : List Event = tail_events (ending_of under.kind under) under in
-    ap turned (in_line row.front text ending (row_events under) es)
+    ap turned (apart row.front text ending (row_events under) es)
     ∙ passed row.front (text ++ (ending ++ (row_events under ++ es))) (front-unturned bytes row front)
     ∙ ap (λ (l : List Event). row.front ++ l)
     (cut-headed options bytes under row rows text heading (turned_done options bytes row rows under) es

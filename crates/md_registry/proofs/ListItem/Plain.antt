@@ -1,28 +1,19 @@
 -- The indent of an item, taken at once, is what its states take.
-use Rattle.std.proofs.Common.{◌≡◌, ℕ, zero, suc, false, refl, sym, ◌∙◌, ap, arith, nat_eq, Option, subst}
-use Rattle.std.proofs.lemmas.Bool.Decides.{nat_tests}
+use Rattle.std.proofs.Common.{ℕ, refl, sym, ◌∙◌, ap, arith, Option, subst}
 use Rattle.md_engine.specs.declared.state.Name.TheVariants as n
 use Rattle.md_engine.specs.declared.state.document.State.TheVariants as document
-use Rattle.md_engine.specs.declared.tokenizer.container.Container.{Container}
 use Rattle.md_engine.specs.Staying.{along}
 use Rattle.md_engine.proofs.Loops.{CameTo}
-use Rattle.md_containers.specs.Item.{at_least_one, least_width}
+use Rattle.md_containers.specs.Item.{least_width}
 use Rattle.md_containers.specs.PlainItem.{IsPlainIndent, indented}
 use Rattle.md_containers.proofs.PlainItem.{HasItem, indent-run, space-seen, spaces-fall, spaces-index}
+use Rattle.md_containers.proofs.ItemTermination.{least-some}
 use Rattle.md_events.specs.Look.{looks_behind, may_with}
 use Rattle.md_events.specs.Spaces.{ends_line}
 use Rattle.md_events.specs.Transition.{Transition}
 use Rattle.proof_container_laws.specs.Containers.ListItem.{item_rules}
 use Rattle.md_registry.specs.States.{FlowStep}
 use Rattle.md_registry.proofs.PlainLaws.{PlainLaws, others}
-
--- an item is a column wide at least
-wide : (c : Container) → (m : ℕ) × (least_width c ≡ suc m)
-wide c = go c.width
-  where
-    go : (size : ℕ) → (m : ℕ) × (at_least_one size ≡ suc m)
-    go zero = (0, refl)
-    go (suc m) = let some : nat_eq (suc m) 0 ≡ false = grind (arith, nat_tests) in (m, rw some refl)
 
 pub has-item : HasItem FlowStep
 has-item state w to new e = record {
@@ -43,10 +34,10 @@ item-plain = record {
   };
   may = λ w c is seen. ap (λ (o : Option ℕ). may_with item_rules.may_go_on o) is.behind;
   not_end = λ w c is seen.
-      let size = (wide c).1 in
+      let size = (least-some c).1 in
       ap ends_line (seen ∙ space-seen w (least_width c) 0 is.spaces is.inside (omega (arith, size)));
   took = λ w c is.
-      let size = (wide c).1 in
+      let size = (least-some c).1 in
       let at = spaces-index w (least_width c) is.spaces in
       let low = is.inside in
       let fall = spaces-fall w (least_width c) is.spaces is.inside in
@@ -54,7 +45,7 @@ item-plain = record {
   runs = λ is_end s v a c came seen within is asks.
       let T = FlowStep in
       let next = n.Document document.ContainerExistingAfter in
-      let size = wide c in
+      let size = least-some c in
       subst (λ (m : ℕ). CameTo T is_end s v next (indented m a)) (sym size.1)
       (indent-run T is_end s v next others a size.0 has-item came seen within (ap least_width asks ∙ size.1)
       (subst (λ (m : ℕ). IsPlainIndent m a) size.1 is));

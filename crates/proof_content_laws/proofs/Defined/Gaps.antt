@@ -3,7 +3,6 @@ use Rattle.std.proofs.Common.{◌≡◌, ◌≢◌, inl, inr, ℕ, zero, suc, �
 use Rattle.std.proofs.Common.{◌∷◌, ◌++◌, length, refl, sym, ap, ◌∙◌, subst, arith, append_assoc, append-nil}
 use Rattle.std.specs.Prelude.{◌&&◌}
 use Rattle.std.specs.List.{list_all}
-use Rattle.std.proofs.lemmas.Bool.{eq-eqb}
 use Rattle.md_engine.specs.declared.event.Event.{Event}
 use Rattle.md_engine.specs.declared.event.Name.TheVariants as n
 use Rattle.md_engine.specs.declared.event.Point.{Point}
@@ -20,6 +19,7 @@ use Rattle.md_events.proofs.AheadLemmas.{none-end, white-all, white-no_ending}
 use Rattle.md_events.proofs.FeedLines.{NoFeed, all-spread, bytes_of, spread, tab_cells, tab_end}
 use Rattle.md_events.proofs.PlacesLemmas.{apart-later}
 use Rattle.md_events.proofs.RestCells.{cells_by}
+use Rattle.md_events.proofs.InlineLemmas.{same-refl}
 use Rattle.proof_content_laws.proofs.Defined.Along.{Turn, no_line}
 use Rattle.proof_content_laws.proofs.Defined.Form.{Gap, IsBreak, IsGap, IsRun, IsWhite, OnLine, OverLine, gap_events}
 use Rattle.proof_content_laws.proofs.Defined.Runs.{RunOf, is-run, run-of, run_text}
@@ -93,9 +93,6 @@ pub record WhiteOf (bytes : List ℕ) (last p : Point) (cells : List Cell) (turn
   pub is : IsWhite bytes p (white_end any_size cells p)
   pub dark : begins_white (white_rest any_size cells) ≡ false
 
-same-here : (p : Point) → same_place p p ≡ true
-same-here p = rw (eq-eqb p.index p.index refl, eq-eqb p.vs p.vs refl) refl
-
 pub white-of : (bytes : List ℕ) (last p : Point) (cells : List Cell) (turns : List Turn) →
     Walk bytes last p cells turns → WhiteOf bytes last p cells turns
 white-of bytes last p cells turns walk = by (begins_white cells) refl
@@ -146,7 +143,7 @@ white-of bytes last p cells turns walk = by (begins_white cells) refl
               (subst (λ (fs : List Event). Takes bytes last p turns q rest turns [] fs)
               (sym
               (ap (λ (x : Bool). cond x [] (pair n.SpaceOrTab p q))
-              (ap (λ (r : Point). same_place p r) same ∙ same-here p)))
+              (ap (λ (r : Point). same_place p r) same ∙ same-refl p)))
               bare);
           is = inl (sym same);
           dark = dark;

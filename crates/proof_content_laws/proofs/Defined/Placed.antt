@@ -15,13 +15,14 @@ use Rattle.md_events.specs.Events.Nested.{Forward, last_point}
 use Rattle.md_events.specs.Events.Pieces.{piece_stands}
 use Rattle.md_events.specs.Events.Places.{at_or_before, same_place}
 use Rattle.md_events.specs.Substituted.{belongs, belongs_by}
-use Rattle.md_events.proofs.NestedLemmas.{at_or_before-refl, at_or_before-trans, forward-last}
+use Rattle.md_events.proofs.NestedLemmas.{at_or_before-trans, forward-last}
 use Rattle.proof_frame.specs.Laid.{LineBreak}
 use Rattle.proof_frame.proofs.FrontFacts.{Begins, Behind, Goes, LinePrefix}
 use Rattle.proof_frame.proofs.FrontPlaces.{fronts-grow}
 use Rattle.proof_frame.proofs.PiecesLemmas as tiles
 use Rattle.proof_frame.proofs.PiecesLemmas.{Ends}
-use Rattle.proof_frame.proofs.SpanLemmas.{Spans, order-grows}
+use Rattle.proof_frame.proofs.SpanLemmas.{order-grows}
+use Rattle.proof_frame.proofs.FrontLemmas.{fronts-order}
 
 -- Where cells are.
 
@@ -161,12 +162,6 @@ placed-break b bs q (e ∷ es) fits le before bare = go (belongs b.after.index e
 
 -- What is before a line.
 
--- after events that go forward
-spans-then : (p q r : Point) (es : List Event) → Spans p q es → IsTrue (at_or_before q r) → IsTrue (at_or_before p r)
-spans-then p q r es span more =
-    at_or_before-trans p q r
-    (at_or_before-trans p (last_point p es) q (forward-last p es span.0) span.1) more
-
 order-whole : (p q : Point) → IsTrue (at_or_before p q) → q.vs ≡ 0 → q.index ≡ p.index → p.vs ≡ 0
 order-whole p q h whole same = grind (arith, nat_tests)
 
@@ -208,15 +203,6 @@ forward-flat p q (e ∷ es) f h whole same first =
     let end : q.index ≡ e.point.index = omega (arith, same, at) in
     let vs = order-whole e.point q last whole end in
     (at, vs, subst (λ (i : ℕ). Flat i es) at (forward-flat e.point q es f.1 h whole end vs))
-
--- what is before a line goes forward
-fronts-order : (bytes : List ℕ) (opens : List Container) (p q : Point) (es : List Event) →
-    LinePrefix bytes opens p q es → IsTrue (at_or_before p q)
-fronts-order bytes opens p q es (Behind at) = at_or_before-refl at
-fronts-order bytes opens p q es (Goes same first mid last xs ys is more) =
-    spans-then first mid last xs is.common.nested.1 (fronts-order bytes same mid last ys more)
-fronts-order bytes opens p q es (Begins c below first mid last xs ys is more) =
-    spans-then first mid last xs is.common.nested.1 (fronts-order bytes below mid last ys more)
 
 -- where no byte is, nothing does
 pub bare-front : (bytes : List ℕ) (opens : List Container) (p q : Point) (es : List Event) →

@@ -24,10 +24,10 @@ use Rattle.proof_leaf_laws.proofs.FrontAgrees as agrees
 use Rattle.proof_leaf_laws.proofs.FrontAgrees.{from-by, last-none, lines_from, marked, marker_by, off-none, part-same}
 use Rattle.proof_leaf_laws.proofs.FrontAgrees.{past-same, some-same}
 use Rattle.proof_leaf_laws.proofs.FullLines.{IsLines, LastLine, NextLine, NoLines, ending-is, full-lines, last-ending}
-use Rattle.proof_leaf_laws.proofs.FullLines.{last-is}
 use Rattle.proof_leaf_laws.proofs.Frontmatter.Lines.{Closes, IsFront, IsRest, More}
 use Rattle.proof_leaf_laws.proofs.Frontmatter.Parts.{HasText, fence_over, has-fence}
 use Rattle.proof_frame.proofs.LineTexts.{without-one}
+use Rattle.md_leaves.proofs.OneLine.{line-whole}
 
 -- Lists, up to the first that passes a test.
 
@@ -198,11 +198,11 @@ last-means bytes m line p marks bare at = go (is_front_fence m line) refl
         (cond x (Some (record { events = fence_part line p ++ exit n.Frontmatter q ∷ []; point = q })) None)
     go true e =
         closes-mean bytes m p line line []
-        (record { events = fence_part line p ++ exit n.Frontmatter q ∷ []; point = q }) [] marks (last-is line bare)
+        (record { events = fence_part line p ++ exit n.Frontmatter q ∷ []; point = q }) [] marks (line-whole line bare)
         (last-text bytes line p at bare).0 e (AtEnd (last-text bytes line p at bare).1) refl
         (ap lines_of (sym (last-text bytes line p at bare).1))
     go false e =
-        ap (λ (t : Bool). t || false) (ap (is_front_fence m) (last-is line bare) ∙ e)
+        ap (λ (t : Bool). t || false) (ap (is_front_fence m) (line-whole line bare) ∙ e)
 
 -- and one with an ending.
 next-means : (bytes : List ℕ) (m : ℕ) (line : List ℕ) (ending : Ending) (rest : List ℕ) (more : List (List ℕ))
@@ -251,7 +251,7 @@ lines-mean : (bytes : List ℕ) (m : ℕ) → is_marker m ≡ true → (text : L
     IsLines text lines → (p : Point) → Here bytes text p → RestMeans bytes m p lines (lines_read m lines p)
 lines-mean bytes m marks _ _ NoLines p at = refl
 lines-mean bytes m marks _ _ (LastLine b line bare) p at =
-    subst₂ (λ (l e : List ℕ). Means bytes m p ((b ∷ line) ∷ []) l e []) (sym (last-is (b ∷ line) bare))
+    subst₂ (λ (l e : List ℕ). Means bytes m p ((b ∷ line) ∷ []) l e []) (sym (line-whole (b ∷ line) bare))
     (sym (last-ending (b ∷ line) bare)) (last-means bytes m (b ∷ line) p marks bare at)
 lines-mean bytes m marks _ _ (NextLine line ending rest more bare before lines same) p at =
     let goes = next-text bytes line ending rest p at bare before in

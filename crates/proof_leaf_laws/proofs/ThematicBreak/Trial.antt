@@ -17,11 +17,12 @@ use Rattle.md_leaves.specs.HeadingSetext.{turns_nothing}
 use Rattle.md_leaves.specs.HeadingSetextRule.{is_underline}
 use Rattle.md_leaves.specs.LeafStart.{entered_here}
 use Rattle.md_leaves.proofs.LeafStart.{at-none, at-off, at-white, indented-none, indented-white, rule-refused}
+use Rattle.md_leaves.proofs.BreakTermination.{rest-marker, rest-white}
 use Rattle.md_events.specs.Ahead.{begins_white, from_ending, line_bytes, line_cells, line_end, white_end, white_rest}
 use Rattle.md_events.specs.Look.{seen_behind}
 use Rattle.md_meaning.specs.Leaves.{is_rule}
 use Rattle.md_events.specs.Events.Nested.{around, enter, exit}
-use Rattle.md_events.specs.Spaces.{IsRest, calmed, small_indent}
+use Rattle.md_events.specs.Spaces.{IsRest, small_indent}
 use Rattle.md_events.proofs.AheadLemmas.{none-rest, white-ending, white-line_end}
 use Rattle.md_events.proofs.WhiteMeaning.{behind_white}
 use Rattle.proof_leaf_laws.specs.Leaf.ThematicBreak.{break_inside, first_cell, is_break, break_leaf, is_lost}
@@ -63,13 +64,6 @@ regroup-white : (es rs : List Event) (a b c d : Event) →
     (es ++ a ∷ []) ++ b ∷ c ∷ [] ++ rs ++ d ∷ [] ≡ es ++ (a ∷ b ∷ c ∷ rs ++ d ∷ [])
 regroup-white es rs a b c d =
     ap (λ (xs : List Event). xs ++ d ∷ []) (append_assoc (es ++ a ∷ []) (b ∷ c ∷ []) rs) ∙ regroup es (b ∷ c ∷ rs) a d
-
--- a trial at rest ends at rest
-rest-marker : (s : Scratch) → IsRest s → without_marker s ≡ s
-rest-marker s e = ap without_marker e ∙ sym e
-
-rest-white : (s : Scratch) → IsRest s → without_marker (calmed s) ≡ s
-rest-white s e = ap (λ (t : Scratch). without_marker (calmed t)) e ∙ sym e
 
 -- A line where another byte than a marker is first after whitespace is no break.
 pub break-looked : (options : ParseOptions) (on : HeldLeaf) (cells : List Cell) (b : ℕ) →

@@ -26,6 +26,7 @@ use Rattle.proof_frame.proofs.EventNames.{is_told}
 use Rattle.proof_frame.proofs.EachEvent.{each-append}
 use Rattle.proof_literal_laws.proofs.IndentRemoved.Names.{AreInside, More, either-part, inside-lined, inside-no_content}
 use Rattle.proof_frame.proofs.LinedFacts.{AreLined, IsLined}
+use Rattle.proof_frame.proofs.SpanLemmas.{either}
 
 -- On a blank line whitespace is, and a part of a leaf.
 blank-inside : (cells : List Cell) (p : Point) → AreInside (blank_adds cells p)
@@ -39,11 +40,6 @@ blank-inside cells p = λ P none more.
     chunk P none more false =
         more Enter n.CodeFlowChunk (white_end 4 cells p) _ refl
         (more Exit n.CodeFlowChunk (line_end cells p) [] refl none)
-
--- A further line is blank, or not.
-either : (P : List Event → Type 0) (blank : Bool) (xs ys : List Event) → P xs → P ys → P (cond blank xs ys)
-either P true xs ys a b = a
-either P false xs ys a b = b
 
 -- No part of it is rewritten.
 

@@ -5,7 +5,7 @@ use Rattle.md_engine.specs.declared.event.Event.{Event}
 use Rattle.md_content.specs.Labels.{labels_in}
 use Rattle.md_content.specs.Resolves.{has_neither, is_all_read}
 use Rattle.md_content.proofs.FoundLemmas.{found-behind}
-use Rattle.md_content.proofs.JoinedLemmas.{to-end}
+use Rattle.md_events.proofs.SubstitutedLemmas.{to-end}
 use Rattle.md_content.proofs.content.found_among.Goals as goal
 
 pub returns : goal.returns

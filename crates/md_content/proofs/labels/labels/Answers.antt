@@ -5,8 +5,9 @@ use Rattle.md_engine.specs.declared.event.Event.{Event}
 use Rattle.md_engine.specs.declared.event.Kind.TheVariants.{Enter}
 use Rattle.md_engine.specs.declared.event.Name.TheVariants.{Frontmatter}
 use Rattle.md_content.specs.Labels.{begins_label}
-use Rattle.md_content.proofs.JoinedLemmas.{first-there, to-end}
+use Rattle.md_content.proofs.JoinedLemmas.{first-there}
 use Rattle.md_content.proofs.LabelWalks.{label-found, labels-passed}
+use Rattle.md_events.proofs.SubstitutedLemmas.{to-end}
 use Rattle.md_content.proofs.labels.labels.Goals as goal
 
 -- what indexing gives past the end of a list

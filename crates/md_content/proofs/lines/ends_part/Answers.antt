@@ -5,8 +5,8 @@ use Rattle.md_engine.specs.declared.event.Event.{Event}
 use Rattle.md_engine.specs.declared.event.Kind.TheVariants.{Enter}
 use Rattle.md_engine.specs.declared.event.Name.TheVariants.{Frontmatter}
 use Rattle.md_content.specs.Lines.{begins_chunk}
-use Rattle.md_content.proofs.JoinedLemmas.{to-end}
 use Rattle.md_content.proofs.LinesLemmas.{lines-stop}
+use Rattle.md_events.proofs.SubstitutedLemmas.{to-end}
 use Rattle.md_content.proofs.lines.ends_part.Goals as goal
 
 -- what indexing gives past the end of a list

@@ -9,9 +9,9 @@ use Rattle.md_content.specs.Joined.{joined_with}
 use Rattle.md_content.specs.LabelLook.{may_define_in}
 use Rattle.md_content.specs.Lines.{begins_chunk, lines_from}
 use Rattle.md_content.specs.WholeLines.{is_followed, is_within_line}
-use Rattle.md_content.proofs.JoinedLemmas.{to-end}
 use Rattle.md_content.proofs.ParagraphLines.{counts-more, ended-lines, last-below, last-none, last-some, lines-last}
 use Rattle.md_content.proofs.ParagraphLines.{paragraph-found, two-first, whole-last, whole-more}
+use Rattle.md_events.proofs.SubstitutedLemmas.{to-end}
 use Rattle.md_content.proofs.lines.further_lines.Goals as goal
 use Rattle.md_content.proofs.lines.further_lines.Goals.{else-more-gt0, then-more-gt0}
 use Rattle.md_events.specs.declared.inline.Chunk.{Chunk}

@@ -6,7 +6,8 @@ use Rattle.md_engine.specs.declared.event.Event.{Event}
 use Rattle.md_engine.specs.declared.event.Kind.TheVariants.{Enter}
 use Rattle.md_engine.specs.declared.event.Name.TheVariants.{Frontmatter}
 use Rattle.md_content.specs.Joined.{is_of_prefix}
-use Rattle.md_content.proofs.JoinedLemmas.{goes-none, goes-some, to-end}
+use Rattle.md_content.proofs.JoinedLemmas.{goes-none, goes-some}
+use Rattle.md_events.proofs.SubstitutedLemmas.{to-end}
 use Rattle.md_content.proofs.lines.goes_on.Goals as goal
 use Rattle.md_events.specs.Events.Inline.{is_line_ending}
 

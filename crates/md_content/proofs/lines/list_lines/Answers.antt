@@ -6,8 +6,8 @@ use Rattle.md_engine.specs.declared.event.Kind.TheVariants.{Enter}
 use Rattle.md_engine.specs.declared.event.Name.TheVariants.{Frontmatter}
 use Rattle.md_content.specs.Joined.{joined_with}
 use Rattle.md_content.specs.Lines.{begins_chunk}
-use Rattle.md_content.proofs.JoinedLemmas.{to-end}
 use Rattle.md_content.proofs.LinesLemmas.{lines-end, lines-more, lines-past, lines-stop}
+use Rattle.md_events.proofs.SubstitutedLemmas.{to-end}
 use Rattle.md_content.proofs.lines.list_lines.Goals as goal
 use Rattle.md_events.specs.declared.inline.Chunk.{Chunk}
 

@@ -5,8 +5,8 @@ use Rattle.md_engine.specs.declared.event.Event.{Event}
 use Rattle.md_engine.specs.declared.event.Kind.TheVariants.{Enter}
 use Rattle.md_engine.specs.declared.event.Name.TheVariants.{Frontmatter}
 use Rattle.md_content.specs.Joined.{ends_content}
-use Rattle.md_content.proofs.JoinedLemmas.{to-end}
 use Rattle.md_content.proofs.ParagraphLines.{joins-two}
+use Rattle.md_events.proofs.SubstitutedLemmas.{to-end}
 use Rattle.md_content.proofs.lines.next_line.Goals as goal
 use Rattle.md_events.specs.Events.Inline.{is_line_ending}
 use Rattle.md_events.specs.Substituted.{is_plain_prefix}

@@ -1,7 +1,5 @@
 -- The prefix of an alert, part by part.
-use Rattle.std.proofs.Common.{◌≡◌, ℕ, ◌-◌, ◌<◌, true, List, [], ◌∷◌, ◌++◌, slice_range, Some, refl, sym, subst, arith}
-use Rattle.std.specs.Prelude.{IsTrue}
-use Rattle.std.proofs.lemmas.Bool.Decides.{nat_tests}
+use Rattle.std.proofs.Common.{◌≡◌, ℕ, ◌-◌, true, List, [], ◌∷◌, ◌++◌, slice_range, Some, refl, sym, subst, arith}
 use Rattle.md_engine.specs.declared.event.Event.{Event}
 use Rattle.md_engine.specs.declared.event.Name.TheVariants as n
 use Rattle.md_engine.specs.declared.event.Point.{Point}
@@ -9,16 +7,12 @@ use Rattle.md_containers.proofs.OpeningLines.{IsMarker, IsOpening}
 use Rattle.md_meaning.specs.declared.alert.AlertKind.{AlertKind}
 use Rattle.md_outline.specs.Between.{is_between}
 use Rattle.md_events.specs.Events.Nested.{exit}
-use Rattle.md_events.specs.Events.Places.{at_or_before}
 use Rattle.proof_frame.proofs.BetweenFacts.{between-behind, low-at}
 use Rattle.proof_container_laws.proofs.BlockQuote.Alert.Events.{alert-is, inside_list}
 use Rattle.proof_container_laws.proofs.BlockQuote.Alert.Pieces.{bytes-stand, marker-low}
 use Rattle.proof_container_laws.proofs.BlockQuote.Prefix.{mark-part}
 use Rattle.proof_container_laws.proofs.FrontParts.{FrontPart, part-append, part-around, part-pair, part-white}
-
--- bytes further comes no earlier
-later : (p q : Point) → p.index < q.index → IsTrue (at_or_before p q)
-later p q less = grind (arith, nat_tests)
+use Rattle.md_events.proofs.FeedLines.{before-byte}
 
 -- the marker, with the whitespace around it
 marker-part : (bytes : List ℕ) (kind : AlertKind) (p q : Point) (es : List Event) → IsMarker bytes kind p q es →
@@ -35,7 +29,7 @@ marker-part bytes kind p q es m =
     (part-append (part-white p m.opens m.indent m.white_before)
     (part-append
     (part-pair n.BlockQuoteMarker m.opens m.closes (refl, refl, refl, refl) (λ ys h. h) refl refl
-    (later m.opens m.closes some) (bytes-stand bytes kind p q es m) (λ from. right))
+    (before-byte m.opens m.closes some) (bytes-stand bytes kind p q es m) (λ from. right))
     (part-white m.closes q m.column m.white_behind)))
 
 -- all of the prefix

@@ -12,12 +12,12 @@ use Rattle.md_events.specs.Events.Inline.{line_end, pair_unless_empty}
 use Rattle.md_events.specs.Events.Nested.{pair}
 use Rattle.md_events.specs.Events.Places.{at_or_before, past_text, same_place}
 use Rattle.md_events.proofs.FeedLines.{ending-some, slice-split, IsEnding}
-use Rattle.md_events.proofs.InlineLemmas.{before-text, same-refl}
+use Rattle.md_events.proofs.InlineLemmas.{same-refl}
 use Rattle.md_events.proofs.NestedLemmas.{at_or_before-trans}
 use Rattle.md_events.proofs.PlacesLemmas.{apart-later}
 use Rattle.proof_frame.proofs.ChunkFacts.{Chunked, chunked-alone, chunked-ended, ending-order, ending-stands, line-ending}
 use Rattle.proof_content_laws.proofs.Defined.Form.{IsBreak, IsRun, IsStrand, LastLine, NoLine, OneLine, Strand}
-use Rattle.proof_content_laws.proofs.Defined.Known.Marks.{some-long}
+use Rattle.proof_content_laws.proofs.Defined.Known.Marks.{run-order, some-long}
 use Rattle.proof_frame.proofs.LineTexts.{one-next, without-none, without-one}
 use Rattle.proof_frame.proofs.PieceFacts.{Starts, PiecesValid, chunk-stands, stood-append, stood-unless_empty}
 
@@ -57,9 +57,6 @@ strand-lines bytes p q (OneLine a e b r text front (OneLine c f d x line next s)
     (strand-lines bytes r q (OneLine c f d x line next s) is.4)
 
 -- A run.
-
-pub run-order : (bytes text : List ℕ) (p q : Point) → IsRun bytes text p q → IsTrue (at_or_before p q)
-run-order bytes text p q run = subst (λ (x : Point). IsTrue (at_or_before p x)) (sym run.end) (before-text text p)
 
 -- it ends its chunk, if that has no ending
 pub run-end : (bytes text : List ℕ) (p q : Point) → IsRun bytes text p q →

@@ -14,7 +14,6 @@ use Rattle.md_events.proofs.NestedLemmas.{at_or_before-refl}
 use Rattle.md_events.proofs.PartsLemmas.{order-from}
 use Rattle.proof_content_laws.proofs.Defined.Form.{Strand, strand_chunks, strand_done, strand_unread}
 use Rattle.proof_content_laws.proofs.Defined.Strings.Lines.{AreLines, Last, More, NoneLeft, ended-order, ended-slice}
-use Rattle.proof_content_laws.proofs.Defined.Strings.Lines.{run-order}
 use Rattle.proof_content_laws.proofs.Defined.Strings.Places.{HasLine}
 use Rattle.proof_frame.proofs.FrontLemmas.{fronts-order}
 use Rattle.proof_frame.proofs.LineTexts.{one-last, one-next}
@@ -22,7 +21,7 @@ use Rattle.md_events.specs.declared.inline.PartKind.TheVariants.{String}
 use Rattle.proof_frame.proofs.BetweenFacts.{ending-before, ending-behind}
 use Rattle.proof_frame.proofs.TextInside.{TextInside, text-line, text-more, text-none}
 use Rattle.proof_content_laws.proofs.Defined.Strings.Lines.{ended-end, run-alone, run-end, run-ended}
-use Rattle.proof_content_laws.proofs.Defined.Known.Marks.{some-long}
+use Rattle.proof_content_laws.proofs.Defined.Known.Marks.{run-order, some-long}
 
 -- what is known of them
 pub strand-inside : (bytes : List ℕ) (p q : Point) (s : Strand) → AreLines bytes p q s →

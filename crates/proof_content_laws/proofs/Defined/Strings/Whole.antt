@@ -1,13 +1,12 @@
 -- All that is asked of the texts of a definition.
-use Rattle.std.proofs.Common.{◌≡◌, ◌≢◌, ℕ, true, List, [], ◌∷◌, ◌++◌, ◌||◌, refl, ap, sym, ◌∙◌, subst}
-use Rattle.std.specs.Prelude.{◌==◌, not, Option, Some, option_map}
+use Rattle.std.proofs.Common.{◌≡◌, ◌≢◌, ℕ, true, List, [], ◌∷◌, ◌++◌, refl, ap, sym, ◌∙◌, subst}
+use Rattle.std.specs.Prelude.{not, Option, Some, option_map}
 use Rattle.std.proofs.lemmas.Bool.{and_from, or_right}
 use Rattle.md_engine.specs.declared.event.Event.{Event}
 use Rattle.md_engine.specs.declared.event.Name.{Name}
 use Rattle.md_engine.specs.declared.event.Name.TheVariants as n
 use Rattle.md_engine.specs.declared.event.Point.{Point}
 use Rattle.md_containers.specs.ItemsStand.{IsPart}
-use Rattle.md_outline.specs.Between.{is_between}
 use Rattle.md_outline.specs.Roles.{is_told, is_unlisted}
 use Rattle.md_link_definitions.specs.Chunks.{string_link}
 use Rattle.md_events.specs.Events.Endings.{on_line}
@@ -16,7 +15,7 @@ use Rattle.md_events.specs.Events.Inline.{plain_chunk}
 use Rattle.md_events.specs.Events.Nested.{around, enter, enter_link, exit}
 use Rattle.md_meaning.specs.Tree.{Line}
 use Rattle.md_events.specs.Events.Spelled.{AsDestination, AsLabel, AsTitle, DefinitionLeaf, DefinitionSoFar, OpenLeaf}
-use Rattle.md_events.specs.Events.Spelled.{Purpose, Text, begun, byte_at, noted, role, text_to, first_told, with_title}
+use Rattle.md_events.specs.Events.Spelled.{Purpose, Text, begun, noted, role, text_to, first_told, with_title}
 use Rattle.md_events.proofs.BlocksLemmas.{read-told}
 use Rattle.md_events.proofs.EndingsLemmas.{AreOthers, Stays, is_other, stays-append, stays-others}
 use Rattle.md_events.proofs.GrammarLemmas.{IsWord, leads-around}
@@ -36,15 +35,13 @@ use Rattle.proof_frame.proofs.PartedFacts.{PrefixesAtLineStart, clear}
 use Rattle.proof_frame.proofs.PlainFacts.{known-around}
 use Rattle.proof_frame.proofs.PartsFacts.{ReadsLeaf}
 use Rattle.proof_frame.proofs.TextInside.{stretch-part}
+use Rattle.proof_frame.proofs.IndentRemoved.Shown.{whole-clear}
 
 -- it ends in no tab
 end-whole : (bytes : List ℕ) (p q : Point) (s : Strand) → AreLines bytes p q s → q.vs ≡ 0
 end-whole bytes q _ _ (NoneLeft _ whole) = whole
 end-whole bytes p q _ (Last _ _ text some run) = run.whole
 end-whole bytes p q _ (More _ e b r _ text front s run break more) = end-whole bytes r q s more
-
-whole-clear : (bytes : List ℕ) (p : Point) → p.vs ≡ 0 → clear bytes p ≡ true
-whole-clear bytes p e = ap (λ (v : ℕ). (v == 0) || is_between bytes (byte_at p)) e
 
 -- Around them.
 
