@@ -53,28 +53,28 @@ turns-pair names name p q = record {
   still = balanced-open names (pair_unless_empty name p q) (balanced-pair name p q);
 }
 
-turns-byte : {names next : List Name} {b : ℕ} {role : Role} (from at behind : Point) → Fit names b role next →
-    Turns names next (byte_events role from at behind)
-turns-byte from at behind stays = record { matches = tt; still = refl }
-turns-byte from at behind (opens h) =
-    turns-append [] [] (n.LabelText ∷ n.Link ∷ []) (pair_unless_empty n.Data from at) (opened at behind)
+turns-byte : {names next : List Name} {b : ℕ} {role : Role} (from at following : Point) → Fit names b role next →
+    Turns names next (byte_events role from at following)
+turns-byte from at following stays = record { matches = tt; still = refl }
+turns-byte from at following (opens h) =
+    turns-append [] [] (n.LabelText ∷ n.Link ∷ []) (pair_unless_empty n.Data from at) (opened at following)
     (turns-pair [] n.Data from at) (record { matches = (tt, (tt, (refl, (tt, tt)))); still = refl })
-turns-byte from at behind last =
+turns-byte from at following last =
     turns-append (n.LabelText ∷ n.Link ∷ []) (n.LabelText ∷ n.Link ∷ []) (n.Link ∷ [])
-    (pair_unless_empty n.Data from behind) (exit n.LabelText behind ∷ [])
-    (turns-pair (n.LabelText ∷ n.Link ∷ []) n.Data from behind) (record { matches = (refl, tt); still = refl })
-turns-byte from at behind (closes h) =
-    turns-append (n.Link ∷ []) (n.Link ∷ []) [] (pair_unless_empty n.Data from at) (closed at behind)
+    (pair_unless_empty n.Data from following) (exit n.LabelText following ∷ [])
+    (turns-pair (n.LabelText ∷ n.Link ∷ []) n.Data from following) (record { matches = (refl, tt); still = refl })
+turns-byte from at following (closes h) =
+    turns-append (n.Link ∷ []) (n.Link ∷ []) [] (pair_unless_empty n.Data from at) (closed at following)
     (turns-pair (n.Link ∷ []) n.Data from at) (record { matches = (tt, (refl, (refl, tt))); still = refl })
 
 pub turns-line : {names end : List Name} {line : List ℕ} {roles : List Role} (from at : Point) →
     Runs names line roles end → Turns names end (line_events line roles from at)
 turns-line {names} from at none = turns-pair names n.Data from at
 turns-line {names} {end} from at (more {next} {b} {bs} {role} {roles} fit runs) =
-    let behind : Point = past_byte b at in
-    turns-append names next end (byte_events role from at behind)
-    (line_events bs roles (text_from role from behind) behind)
-    (turns-byte from at behind fit) (turns-line (text_from role from behind) behind runs)
+    let following : Point = past_byte b at in
+    turns-append names next end (byte_events role from at following)
+    (line_events bs roles (text_from role from following) following)
+    (turns-byte from at following fit) (turns-line (text_from role from following) following runs)
 
 -- After a line are endings.
 
@@ -143,9 +143,9 @@ enclosed-closed opener closer true (b ∷ bs) text rest h =
         b ∷ bs ≡ text ++ closer ∷ rest
     go (Closed t r) h further =
         let front : b ∷ t ≡ text = cc in
-        let behind : r ≡ rest = cc in
+        let following : r ≡ rest = cc in
         ap (λ (l : List ℕ). b ∷ l) (further t r refl) ∙ ap (λ (l : List ℕ). l ++ closer ∷ r) front
-        ∙ ap (λ (l : List ℕ). text ++ closer ∷ l) behind
+        ∙ ap (λ (l : List ℕ). text ++ closer ∷ l) following
     go Open h further = cc
     go Broken h further = cc
 enclosed-closed opener closer false (b ∷ bs) text rest h =
@@ -158,21 +158,21 @@ enclosed-closed opener closer false (b ∷ bs) text rest h =
         b ∷ bs ≡ text ++ closer ∷ rest
     go true is y e h further =
         let front : [] ≡ text = cc in
-        let behind : bs ≡ rest = cc in
+        let following : bs ≡ rest = cc in
         ap (λ (c : ℕ). c ∷ bs) (eqb-true b closer is) ∙ ap (λ (l : List ℕ). l ++ closer ∷ bs) front
-        ∙ ap (λ (l : List ℕ). text ++ closer ∷ l) behind
+        ∙ ap (λ (l : List ℕ). text ++ closer ∷ l) following
     go false is true e h further = cc
     go false is false (Closed t r) h further =
         let front : b ∷ t ≡ text = cc in
-        let behind : r ≡ rest = cc in
+        let following : r ≡ rest = cc in
         ap (λ (l : List ℕ). b ∷ l) (further t r refl) ∙ ap (λ (l : List ℕ). l ++ closer ∷ r) front
-        ∙ ap (λ (l : List ℕ). text ++ closer ∷ l) behind
+        ∙ ap (λ (l : List ℕ). text ++ closer ∷ l) following
     go false is false Open h further = cc
     go false is false Broken h further = cc
 
-closing-at : (label behind : List ℕ) → Closing (length label) (label ++ right_bracket ∷ behind)
-closing-at [] behind = refl
-closing-at (b ∷ label) behind = closing-at label behind
+closing-at : (label following : List ℕ) → Closing (length label) (label ++ right_bracket ∷ following)
+closing-at [] following = refl
+closing-at (b ∷ label) following = closing-at label following
 
 -- a label that is defined has bytes, and a bracket after it
 label-closes : (document : Document) (bs : List ℕ) (len : ℕ) → label_len document bs ≡ Some len →
@@ -180,28 +180,28 @@ label-closes : (document : Document) (bs : List ℕ) (len : ℕ) → label_len d
 label-closes document bs len h =
     go (enclosed left_bracket right_bracket false bs) h (enclosed-closed left_bracket right_bracket false bs)
   where
-    sized : (label behind : List ℕ) → is_defined document label ≡ true → Some (length label) ≡ Some len →
-        bs ≡ label ++ right_bracket ∷ behind → (left : ℕ) × (len ≡ suc left) × Closing len bs
-    sized [] behind is same whole = let none : false ≡ true = is in cc
-    sized (b ∷ label) behind is same whole =
+    sized : (label following : List ℕ) → is_defined document label ≡ true → Some (length label) ≡ Some len →
+        bs ≡ label ++ right_bracket ∷ following → (left : ℕ) × (len ≡ suc left) × Closing len bs
+    sized [] following is same whole = let none : false ≡ true = is in cc
+    sized (b ∷ label) following is same whole =
         let size : len ≡ suc (length label) = cc in (
           length label,
           size,
           subst (λ (k : ℕ). Closing k bs) (sym size)
-              (subst (Closing (suc (length label))) (sym whole) (closing-at (b ∷ label) behind)),
+              (subst (Closing (suc (length label))) (sym whole) (closing-at (b ∷ label) following)),
         )
 
-    defined : (label behind : List ℕ) (x : Bool) → is_defined document label ≡ x →
-        cond x (Some (length label)) None ≡ Some len → bs ≡ label ++ right_bracket ∷ behind →
+    defined : (label following : List ℕ) (x : Bool) → is_defined document label ≡ x →
+        cond x (Some (length label)) None ≡ Some len → bs ≡ label ++ right_bracket ∷ following →
         (left : ℕ) × (len ≡ suc left) × Closing len bs
-    defined label behind true is same whole = sized label behind is same whole
-    defined label behind false is same whole = cc
+    defined label following true is same whole = sized label following is same whole
+    defined label following false is same whole = cc
 
     go : (e : Enclosed) → defined_len document e ≡ Some len →
         ((text rest : List ℕ) → e ≡ Closed text rest → bs ≡ text ++ right_bracket ∷ rest) →
         (left : ℕ) × (len ≡ suc left) × Closing len bs
-    go (Closed label behind) same whole =
-        defined label behind (is_defined document label) refl same (whole label behind refl)
+    go (Closed label following) same whole =
+        defined label following (is_defined document label) refl same (whole label following refl)
     go Open same whole = cc
     go Broken same whole = cc
 

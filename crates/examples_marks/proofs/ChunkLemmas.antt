@@ -32,8 +32,8 @@ use Rattle.examples_marks.specs.declared.roles.Role.{Role}
 use Rattle.examples_marks.proofs.BalanceLemmas.{AreEndings, Runs, Turns, runs-split}
 use Rattle.examples_marks.proofs.BalanceLemmas.{turns-append, turns-ending, turns-line}
 use Rattle.examples_marks.proofs.FrontLemmas.{covers-chunk}
-use Rattle.examples_marks.proofs.LineLemmas.{Along, Goes, Mark, all-line, along-unit, goes-append}
-use Rattle.examples_marks.proofs.LineLemmas.{goes-line, goes-pair, line-endings}
+use Rattle.examples_marks.proofs.LineLemmas.{Along, Proceeds, Mark, all-line, along-unit, proceeds-append}
+use Rattle.examples_marks.proofs.LineLemmas.{proceeds-line, proceeds-pair, line-endings}
 use Rattle.examples_marks.proofs.LineLemmas.{on_bracket, on_label, on_link, on_text}
 
 -- A chunk of a part: one line of the text, between two of its points.
@@ -109,23 +109,23 @@ label-apart bytes chunk roles w ends = go (cases_lt (length line) (length text))
 
 -- Points.
 
-pub chunk-goes : (bytes : List ℕ) (chunk : Chunk) (roles : List Role) → Whole bytes chunk →
-    Goes chunk.first chunk.after (read_chunk bytes chunk roles)
-chunk-goes bytes chunk roles w =
+pub chunk-proceeds : (bytes : List ℕ) (chunk : Chunk) (roles : List Role) → Whole bytes chunk →
+    Proceeds chunk.first chunk.after (read_chunk bytes chunk roles)
+chunk-proceeds bytes chunk roles w =
     let text : List ℕ = chunk_text bytes chunk in
     let line : List ℕ = without_ending text in
     let end : Point = line_end bytes chunk in
     let here : List Role = take (length text) roles in
     let ends : Bool = ends_label (drop (length line) here) in
     let before : IsTrue (at_or_before end chunk.after) = end-before bytes chunk w.forward in
-    goes-append chunk.first end chunk.after
+    proceeds-append chunk.first end chunk.after
     (line_events line (take (length line) here) chunk.first chunk.first) (ending_events end chunk.after ends) before
-    (goes-line line (take (length line) here) chunk.first chunk.first (at_or_before-refl chunk.first))
-    (goes-append end chunk.after chunk.after (pair_unless_empty n.LineEnding end chunk.after)
+    (proceeds-line line (take (length line) here) chunk.first chunk.first (at_or_before-refl chunk.first))
+    (proceeds-append end chunk.after chunk.after (pair_unless_empty n.LineEnding end chunk.after)
     (cond ends (exit n.LabelText chunk.after ∷ []) []) (at_or_before-refl chunk.after)
-    (goes-pair n.LineEnding end chunk.after before) (label ends))
+    (proceeds-pair n.LineEnding end chunk.after before) (label ends))
   where
-    label : (x : Bool) → Goes chunk.after chunk.after (cond x (exit n.LabelText chunk.after ∷ []) [])
+    label : (x : Bool) → Proceeds chunk.after chunk.after (cond x (exit n.LabelText chunk.after ∷ []) [])
     label true = record { forward = (at_or_before-refl chunk.after, tt); last = at_or_before-refl chunk.after }
     label false = record { forward = tt; last = at_or_before-refl chunk.after }
 
@@ -160,16 +160,17 @@ chunk-placed bytes chunk roles w =
     let here : List Role = take (length text) roles in
     let ends : Bool = ends_label (drop (length line) here) in
     let size : ℕ = chunk.after.index - chunk.first.index in
-    let behind : List ℕ = drop size (drop chunk.first.index bytes) in
-    let next : drop chunk.first.index bytes ≡ line ++ (drop (length line) text ++ behind) = sym
-    (sym (append_assoc line (drop (length line) text) behind) ∙ ap (λ (l : List ℕ). l ++ behind) (line-and-rest text)
+    let following : List ℕ = drop size (drop chunk.first.index bytes) in
+    let next : drop chunk.first.index bytes ≡ line ++ (drop (length line) text ++ following) = sym
+    (sym (append_assoc line (drop (length line) text) following)
+    ∙ ap (λ (l : List ℕ). l ++ following) (line-and-rest text)
     ∙ take-append-drop size (drop chunk.first.index bytes)) in
     let test : Event → Bool = λ e. is_placed bytes e.point in
     all-append test (line_events line (take (length line) here) chunk.first chunk.first)
     (ending_events end chunk.after ends)
     (all-line test (λ p. is_placed bytes p ≡ true) (mark-placed bytes) line (take (length line) here) chunk.first
     chunk.first w.first
-    (along-placed bytes line (drop (length line) text ++ behind) chunk.first (placed-facts bytes chunk.first w.first)
+    (along-placed bytes line (drop (length line) text ++ following) chunk.first (placed-facts bytes chunk.first w.first)
     next (line-no_ending text)))
     (all-append test (pair_unless_empty n.LineEnding end chunk.after)
     (cond ends (exit n.LabelText chunk.after ∷ []) [])
@@ -271,9 +272,9 @@ chunk-belongs bytes chunk roles w lt =
 
 -- Brackets.
 
-endings-behind : (bytes : List ℕ) (chunk : Chunk) → Whole bytes chunk →
+endings-following : (bytes : List ℕ) (chunk : Chunk) → Whole bytes chunk →
     AreEndings (drop (length (without_ending (chunk_text bytes chunk))) (chunk_text bytes chunk))
-endings-behind bytes chunk w = go (cases_lt (length line) (length text))
+endings-following bytes chunk w = go (cases_lt (length line) (length text))
   where
     text : List ℕ
     text = chunk_text bytes chunk
@@ -314,12 +315,12 @@ chunk-turns {names} {next} bytes chunk roles w runs =
     (subst (λ (l : List ℕ). Runs names l here next) (sym (line-and-rest text)) runs) in
     turns-append names cut.0 next (line_events line (take (length line) here) chunk.first chunk.first)
     (ending_events end chunk.after (ends_label (drop (length line) here)))
-    (turns-line chunk.first chunk.first cut.1) (turns-ending end chunk.after cut.2 (endings-behind bytes chunk w))
+    (turns-line chunk.first chunk.first cut.1) (turns-ending end chunk.after cut.2 (endings-following bytes chunk w))
 
 -- A line that must have an ending has one.
-pub goes-on : (text : List ℕ) → IsTrue (is_one_line (split_lines text) false) →
+pub proceeds-on : (text : List ℕ) → IsTrue (is_one_line (split_lines text) false) →
     length (without_ending text) < length text
-goes-on text h = go (cases_lt (length (without_ending text)) (length text))
+proceeds-on text h = go (cases_lt (length (without_ending text)) (length text))
   where
     none-left : (n : ℕ) (bs : List ℕ) → length bs ≤ n → drop n bs ≡ []
     none-left zero [] h = refl

@@ -22,7 +22,7 @@ use Rattle.md_events.specs.Events.Places.{are_placed, at_or_before, first_point,
 use Rattle.md_events.specs.Substituted.{belongs}
 use Rattle.md_events.specs.TextPart.{Document}
 use Rattle.md_events.proofs.CutLemmas.{cut-front, cut-last}
-use Rattle.md_events.proofs.InlineLemmas.{end-behind, endings-append, plain-framed}
+use Rattle.md_events.proofs.InlineLemmas.{end-following, endings-append, plain-framed}
 use Rattle.md_events.proofs.PlacesLemmas.{all-append}
 use Rattle.md_events.proofs.PlainSteps.{lines-each}
 use Rattle.examples_marks.specs.References.{chunks_events, ending_events, ends_label, line_events, part_text}
@@ -30,9 +30,9 @@ use Rattle.examples_marks.specs.References.{reference_events, events_of_kind, ro
 use Rattle.examples_marks.specs.declared.roles.Place.TheVariants.{Outside}
 use Rattle.examples_marks.specs.declared.roles.Role.{Role}
 use Rattle.examples_marks.proofs.BalanceLemmas.{Runs, Turns, none, runs-roles, runs-split, turns-append}
-use Rattle.examples_marks.proofs.ChunkLemmas.{Whole, chunk-belongs, chunk-covers, chunk-endings, chunk-goes}
+use Rattle.examples_marks.proofs.ChunkLemmas.{Whole, chunk-belongs, chunk-covers, chunk-endings, chunk-proceeds}
 use Rattle.examples_marks.proofs.ChunkLemmas.{chunk-inline, chunk-placed, chunk-turns}
-use Rattle.examples_marks.proofs.ChunkLemmas.{goes-on, label-apart, read_chunk}
+use Rattle.examples_marks.proofs.ChunkLemmas.{proceeds-on, label-apart, read_chunk}
 use Rattle.examples_marks.proofs.FrontLemmas.{front-line}
 
 -- The chunks of a part.
@@ -52,25 +52,25 @@ wholes bytes p (chunk ∷ chunks) order placed lines ends =
     let inner : (at_or_before p chunk.first ≡ true) ×
     (at_or_before chunk.first chunk.after ≡ true) = and_parts (at_or_before p chunk.first)
     (at_or_before chunk.first chunk.after) outer.0 in
-    let stand : (chunk_placed bytes chunk ≡ true) ×
+    let are_valid : (chunk_placed bytes chunk ≡ true) ×
     (list_all (chunk_placed bytes) chunks ≡ true) = and_parts (chunk_placed bytes chunk)
     (list_all (chunk_placed bytes) chunks) placed in
     let both : (is_placed bytes chunk.first ≡ true) ×
     (is_placed bytes chunk.after ≡ true) = and_parts (is_placed bytes chunk.first)
-    (is_placed bytes chunk.after) stand.0 in
+    (is_placed bytes chunk.after) are_valid.0 in
     let line : (is_line bytes chunk ≡ true) ×
     (list_all (is_line bytes) chunks ≡ true) = and_parts (is_line bytes chunk) (list_all (is_line bytes) chunks)
     lines in
     let whole : (ends_whole chunk ≡ true) ×
     (list_all ends_whole chunks ≡ true) = and_parts (ends_whole chunk) (list_all ends_whole chunks) ends in (
       record { forward = inner.1; first = both.0; after = both.1; line = line.0; ends = whole.0 },
-      wholes bytes chunk.after chunks outer.1 stand.1 line.1 whole.1,
+      wholes bytes chunk.after chunks outer.1 are_valid.1 line.1 whole.1,
     )
 
 -- Chunk by chunk.
 
-abbrev roles_behind : List ℕ → Chunk → List Role → List Role
-roles_behind bytes chunk roles = drop (length (chunk_text bytes chunk)) roles
+abbrev roles_after : List ℕ → Chunk → List Role → List Role
+roles_after bytes chunk roles = drop (length (chunk_text bytes chunk)) roles
 
 chunks-turn : (bytes : List ℕ) (chunks : List Chunk) (names next : List Name) (here : List Role) → Wholes bytes chunks →
     Runs names (part_text bytes chunks) here next → Turns names next (together (chunks_events bytes chunks here))
@@ -78,45 +78,45 @@ chunks-turn bytes [] names _ _ ws none = record { matches = tt; still = refl }
 chunks-turn bytes (chunk ∷ chunks) names next here ws runs =
     let cut = runs-split (chunk_text bytes chunk) (part_text bytes chunks) runs in
     turns-append names cut.0 next (read_chunk bytes chunk here)
-    (together (chunks_events bytes chunks (roles_behind bytes chunk here)))
+    (together (chunks_events bytes chunks (roles_after bytes chunk here)))
     (chunk-turns bytes chunk here ws.0 cut.1)
-    (chunks-turn bytes chunks cut.0 next (roles_behind bytes chunk here) ws.1 cut.2)
+    (chunks-turn bytes chunks cut.0 next (roles_after bytes chunk here) ws.1 cut.2)
 
 chunks-placed : (bytes : List ℕ) (chunks : List Chunk) (roles : List Role) → Wholes bytes chunks →
     are_placed bytes (together (chunks_events bytes chunks roles)) ≡ true
 chunks-placed bytes [] roles ws = refl
 chunks-placed bytes (chunk ∷ chunks) roles ws =
     all-append (λ (e : Event). is_placed bytes e.point) (read_chunk bytes chunk roles)
-    (together (chunks_events bytes chunks (roles_behind bytes chunk roles)))
-    (chunk-placed bytes chunk roles ws.0) (chunks-placed bytes chunks (roles_behind bytes chunk roles) ws.1)
+    (together (chunks_events bytes chunks (roles_after bytes chunk roles)))
+    (chunk-placed bytes chunk roles ws.0) (chunks-placed bytes chunks (roles_after bytes chunk roles) ws.1)
 
 chunks-inline : (bytes : List ℕ) (chunks : List Chunk) (roles : List Role) →
     list_all (λ (e : Event). is_inline e.name) (together (chunks_events bytes chunks roles)) ≡ true
 chunks-inline bytes [] roles = refl
 chunks-inline bytes (chunk ∷ chunks) roles =
     all-append (λ (e : Event). is_inline e.name) (read_chunk bytes chunk roles)
-    (together (chunks_events bytes chunks (roles_behind bytes chunk roles)))
-    (chunk-inline bytes chunk roles) (chunks-inline bytes chunks (roles_behind bytes chunk roles))
+    (together (chunks_events bytes chunks (roles_after bytes chunk roles)))
+    (chunk-inline bytes chunk roles) (chunks-inline bytes chunks (roles_after bytes chunk roles))
 
 chunks-endings : (bytes : List ℕ) (chunks : List Chunk) (roles : List Role) →
     line_endings (together (chunks_events bytes chunks roles)) ≡ endings_of bytes chunks
 chunks-endings bytes [] roles = refl
 chunks-endings bytes (chunk ∷ chunks) roles =
-    let rest : List Event = together (chunks_events bytes chunks (roles_behind bytes chunk roles)) in
+    let rest : List Event = together (chunks_events bytes chunks (roles_after bytes chunk roles)) in
     let ending : List Event = pair_unless_empty n.LineEnding (line_end bytes chunk) chunk.after in
     endings-append (read_chunk bytes chunk roles) rest
     ∙ ap (λ (l : List Event). l ++ line_endings rest) (chunk-endings bytes chunk roles)
-    ∙ ap (λ (l : List Event). ending ++ l) (chunks-endings bytes chunks (roles_behind bytes chunk roles))
+    ∙ ap (λ (l : List Event). ending ++ l) (chunks-endings bytes chunks (roles_after bytes chunk roles))
 
 chunks-fill : (bytes : List ℕ) (chunks : List Chunk) (roles : List Role) → Wholes bytes chunks →
     Fills chunks (chunks_events bytes chunks roles)
 chunks-fill bytes [] roles ws = tt
 chunks-fill bytes (chunk ∷ chunks) roles ws =
-    let goes = chunk-goes bytes chunk roles ws.0 in (
-      goes.forward,
-      goes.last,
+    let proceeds = chunk-proceeds bytes chunk roles ws.0 in (
+      proceeds.forward,
+      proceeds.last,
       chunk-covers bytes chunk roles ws.0,
-      chunks-fill bytes chunks (roles_behind bytes chunk roles) ws.1,
+      chunks-fill bytes chunks (roles_after bytes chunk roles) ws.1,
     )
 
 -- What is in the place of each chunk.
@@ -160,9 +160,9 @@ chunks-late bytes end p (chunk ∷ chunks) roles ws h order =
     let here : List Role = take (length text) roles in
     let ends : Bool = ends_label (drop (length line) here) in
     let first : p.index ≤ chunk.first.index = index-before p chunk.first inner.0 in
-    let last : chunk.first.index ≤ to.index = index-before chunk.first to (end-behind bytes chunk) in
+    let last : chunk.first.index ≤ to.index = index-before chunk.first to (end-following bytes chunk) in
     let after : chunk.first.index ≤ chunk.after.index = index-before chunk.first chunk.after inner.1 in
-    let rest : List Event = together (chunks_events bytes chunks (roles_behind bytes chunk roles)) in
+    let rest : List Event = together (chunks_events bytes chunks (roles_after bytes chunk roles)) in
     subst (Late end)
     (sym
     (append_assoc (line_events line (take (length line) here) chunk.first chunk.first)
@@ -170,7 +170,7 @@ chunks-late bytes end p (chunk ∷ chunks) roles ws h order =
     (front-line (Late end) end (late-enter end) line (take (length line) here) chunk.first chunk.first
     (ending_events to chunk.after ends ++ rest) (omega (arith, h, first)) (omega arith)
     (late-ending end to chunk.after ends rest (omega (arith, h, first, last)) (label-apart bytes chunk roles ws.0)
-    (chunks-late bytes end chunk.after chunks (roles_behind bytes chunk roles) ws.1 (omega (arith, h, first, after))
+    (chunks-late bytes end chunk.after chunks (roles_after bytes chunk roles) ws.1 (omega (arith, h, first, after))
     outer.1)))
 
 chunks-cut : (bytes : List ℕ) (p end : Point) (chunks : List Chunk) (roles : List Role) → Wholes bytes chunks →
@@ -185,9 +185,9 @@ chunks-cut bytes p end (chunk ∷ next ∷ chunks) roles ws order lines =
     let line : (is_one_line (split_lines (chunk_text bytes chunk)) false ≡ true) ×
     (are_lines bytes end (next ∷ chunks) ≡ true) = and_parts (is_one_line (split_lines (chunk_text bytes chunk)) false)
     (are_lines bytes end (next ∷ chunks)) lines in
-    let others : List Role = roles_behind bytes chunk roles in
+    let others : List Role = roles_after bytes chunk roles in
     cut-front chunk next chunks (read_chunk bytes chunk roles) (together (chunks_events bytes (next ∷ chunks) others))
-    (chunk-belongs bytes chunk roles ws.0 (goes-on (chunk_text bytes chunk) line.0))
+    (chunk-belongs bytes chunk roles ws.0 (proceeds-on (chunk_text bytes chunk) line.0))
     (chunks-late bytes chunk.after.index chunk.after (next ∷ chunks) others ws.1 (omega arith) outer.1)
     ∙ ap (λ (l : List (List Event)). read_chunk bytes chunk roles ∷ l)
     (chunks-cut bytes chunk.after end (next ∷ chunks) others ws.1 outer.1 line.1)

@@ -36,32 +36,34 @@ module _ (P : List Event → Type 0) (index : ℕ)
       front-line line roles from (past_byte b at) es h (omega arith) rest
   front-line (b ∷ line) (Opens ∷ roles) from at es h k rest = go (same_place from at)
     where
-      behind : Point
-      behind = past_byte b at
+      following : Point
+      following = past_byte b at
 
       go : (x : Bool) →
-          P (((cond x [] (pair n.Data from at) ++ opened at behind) ++ line_events line roles behind behind) ++ es)
+          P (((cond x [] (pair n.Data from at) ++ opened at following)
+          ++ line_events line roles following following) ++ es)
       go true = entered n.Link at _ (omega arith)
       go false = entered n.Data from _ h
   front-line (b ∷ line) (Last ∷ roles) from at es h k rest =
-      go (same_place from behind) (apart-later from behind (omega arith))
+      go (same_place from following) (apart-later from following (omega arith))
     where
-      behind : Point
-      behind = past_byte b at
+      following : Point
+      following = past_byte b at
 
       go : (x : Bool) → x ≡ false →
-          P (((cond x [] (pair n.Data from behind) ++ exit n.LabelText behind ∷ [])
-          ++ line_events line roles behind behind)
+          P (((cond x [] (pair n.Data from following) ++ exit n.LabelText following ∷ [])
+          ++ line_events line roles following following)
           ++ es)
       go true e = cc
       go false e = entered n.Data from _ h
   front-line (b ∷ line) (Closes ∷ roles) from at es h k rest = go (same_place from at)
     where
-      behind : Point
-      behind = past_byte b at
+      following : Point
+      following = past_byte b at
 
       go : (x : Bool) →
-          P (((cond x [] (pair n.Data from at) ++ closed at behind) ++ line_events line roles behind behind) ++ es)
+          P (((cond x [] (pair n.Data from at) ++ closed at following)
+          ++ line_events line roles following following) ++ es)
       go true = entered n.LabelMarker at _ (omega arith)
       go false = entered n.Data from _ h
 
@@ -110,38 +112,44 @@ covers-line (b ∷ line) [] from at r es h opening rest =
 covers-line (b ∷ line) (Text ∷ roles) from at r es h opening rest =
     covers-line line roles from (past_byte b at) r es (omega arith) opening rest
 covers-line (b ∷ line) (Opens ∷ roles) from at r es h opening rest =
-    let behind : Point = past_byte b at in
-    let more : List Event = line_events line roles behind behind in
-    let next : Covers behind (pieces (more ++ es)) r = covers-line line roles behind behind r es (omega arith) opening
+    let following : Point = past_byte b at in
+    let more : List Event = line_events line roles following following in
+    let next : Covers following (pieces (more ++ es)) r = covers-line line roles following following r es
+    (omega arith) opening
     rest in
     subst (λ (l : List Event). Covers from (pieces l) r)
-    (sym (assoc (pair_unless_empty n.Data from at) (opened at behind) more es))
-    (covers-pair n.Data from at r (opened at behind ++ (more ++ es)) (
+    (sym (assoc (pair_unless_empty n.Data from at) (opened at following) more es))
+    (covers-pair n.Data from at r (opened at following ++ (more ++ es)) (
       same-refl at,
-      subst (λ (ps : List Piece). Covers behind ps r)
+      subst (λ (ps : List Piece). Covers following ps r)
           (sym
-          (pieces-enter n.LabelText behind (more ++ es)
-          (opening-line line roles behind behind es (omega arith) opening)))
+          (pieces-enter n.LabelText following (more ++ es)
+          (opening-line line roles following following es (omega arith) opening)))
           next,
     ))
 covers-line (b ∷ line) (Last ∷ roles) from at r es h opening rest =
-    let behind : Point = past_byte b at in
-    let more : List Event = line_events line roles behind behind in
-    let next : Covers behind (pieces (more ++ es)) r = covers-line line roles behind behind r es (omega arith) opening
+    let following : Point = past_byte b at in
+    let more : List Event = line_events line roles following following in
+    let next : Covers following (pieces (more ++ es)) r = covers-line line roles following following r es
+    (omega arith) opening
     rest in
     subst (λ (l : List Event). Covers from (pieces l) r)
-    (sym (assoc (pair_unless_empty n.Data from behind) (exit n.LabelText behind ∷ []) more es))
-    (covers-pair n.Data from behind r (exit n.LabelText behind ∷ (more ++ es))
-    (subst (λ (ps : List Piece). Covers behind ps r) (sym (pieces-exit n.LabelText behind (more ++ es))) next))
+    (sym (assoc (pair_unless_empty n.Data from following) (exit n.LabelText following ∷ []) more es))
+    (covers-pair n.Data from following r (exit n.LabelText following ∷ (more ++ es))
+    (subst (λ (ps : List Piece). Covers following ps r) (sym (pieces-exit n.LabelText following (more ++ es))) next))
 covers-line (b ∷ line) (Closes ∷ roles) from at r es h opening rest =
-    let behind : Point = past_byte b at in
-    let more : List Event = line_events line roles behind behind in
-    let next : Covers behind (pieces (more ++ es)) r = covers-line line roles behind behind r es (omega arith) opening
+    let following : Point = past_byte b at in
+    let more : List Event = line_events line roles following following in
+    let next : Covers following (pieces (more ++ es)) r = covers-line line roles following following r es
+    (omega arith) opening
     rest in
     subst (λ (l : List Event). Covers from (pieces l) r)
-    (sym (assoc (pair_unless_empty n.Data from at) (closed at behind) more es))
-    (covers-pair n.Data from at r (closed at behind ++ (more ++ es))
-    (same-refl at, subst (λ (ps : List Piece). Covers behind ps r) (sym (pieces-exit n.Link behind (more ++ es))) next))
+    (sym (assoc (pair_unless_empty n.Data from at) (closed at following) more es))
+    (covers-pair n.Data from at r (closed at following ++ (more ++ es)) (
+      same-refl at,
+      subst (λ (ps : List Piece). Covers following ps r)
+          (sym (pieces-exit n.Link following (more ++ es))) next,
+    ))
 
 -- with what follows it
 pub covers-chunk : (line : List ℕ) (roles : List Role) (first after : Point) (ends : Bool) →

@@ -52,49 +52,51 @@ module _ (test : Event → Bool) (P : Point → Type 0)
           and_from (test (enter name p)) (test (exit name q) && true) (holds Enter name p m h)
           (and_from (test (exit name q)) true (holds Exit name q m k) refl)
 
-  all-byte : (role : Role) (from at behind : Point) → P from → P at → P behind →
-      list_all test (byte_events role from at behind) ≡ true
-  all-byte Text from at behind f a b = refl
-  all-byte Opens from at behind f a b =
-      all-append test (pair_unless_empty n.Data from at) (opened at behind) (all-pair n.Data from at on_text f a)
+  all-byte : (role : Role) (from at following : Point) → P from → P at → P following →
+      list_all test (byte_events role from at following) ≡ true
+  all-byte Text from at following f a b = refl
+  all-byte Opens from at following f a b =
+      all-append test (pair_unless_empty n.Data from at) (opened at following) (all-pair n.Data from at on_text f a)
       (and_from (test (enter n.Link at))
-      (test (enter n.LabelMarker at) && (test (exit n.LabelMarker behind) && (test (enter n.LabelText behind) && true)))
+      (test (enter n.LabelMarker at) && (test (exit n.LabelMarker following)
+      && (test (enter n.LabelText following) && true)))
       (holds Enter n.Link at on_link a)
       (and_from (test (enter n.LabelMarker at))
-      (test (exit n.LabelMarker behind) && (test (enter n.LabelText behind) && true))
+      (test (exit n.LabelMarker following) && (test (enter n.LabelText following) && true))
       (holds Enter n.LabelMarker at on_bracket a)
-      (and_from (test (exit n.LabelMarker behind)) (test (enter n.LabelText behind) && true)
-      (holds Exit n.LabelMarker behind on_bracket b)
-      (and_from (test (enter n.LabelText behind)) true (holds Enter n.LabelText behind on_label b) refl))))
-  all-byte Last from at behind f a b =
-      all-append test (pair_unless_empty n.Data from behind) (exit n.LabelText behind ∷ [])
-      (all-pair n.Data from behind on_text f b)
-      (and_from (test (exit n.LabelText behind)) true (holds Exit n.LabelText behind on_label b) refl)
-  all-byte Closes from at behind f a b =
-      all-append test (pair_unless_empty n.Data from at) (closed at behind) (all-pair n.Data from at on_text f a)
+      (and_from (test (exit n.LabelMarker following)) (test (enter n.LabelText following) && true)
+      (holds Exit n.LabelMarker following on_bracket b)
+      (and_from (test (enter n.LabelText following)) true (holds Enter n.LabelText following on_label b) refl))))
+  all-byte Last from at following f a b =
+      all-append test (pair_unless_empty n.Data from following) (exit n.LabelText following ∷ [])
+      (all-pair n.Data from following on_text f b)
+      (and_from (test (exit n.LabelText following)) true (holds Exit n.LabelText following on_label b) refl)
+  all-byte Closes from at following f a b =
+      all-append test (pair_unless_empty n.Data from at) (closed at following) (all-pair n.Data from at on_text f a)
       (and_from (test (enter n.LabelMarker at))
-      (test (exit n.LabelMarker behind) && (test (exit n.Link behind) && true))
+      (test (exit n.LabelMarker following) && (test (exit n.Link following) && true))
       (holds Enter n.LabelMarker at on_bracket a)
-      (and_from (test (exit n.LabelMarker behind)) (test (exit n.Link behind) && true)
-      (holds Exit n.LabelMarker behind on_bracket b)
-      (and_from (test (exit n.Link behind)) true (holds Exit n.Link behind on_link b) refl)))
+      (and_from (test (exit n.LabelMarker following)) (test (exit n.Link following) && true)
+      (holds Exit n.LabelMarker following on_bracket b)
+      (and_from (test (exit n.Link following)) true (holds Exit n.Link following on_link b) refl)))
 
-  all-from : (role : Role) (from behind : Point) → P from → P behind → P (text_from role from behind)
-  all-from Text from behind f b = f
-  all-from Opens from behind f b = b
-  all-from Last from behind f b = b
-  all-from Closes from behind f b = b
+  all-from : (role : Role) (from following : Point) → P from → P following → P (text_from role from following)
+  all-from Text from following f b = f
+  all-from Opens from following f b = b
+  all-from Last from following f b = b
+  all-from Closes from following f b = b
 
   pub all-line : (line : List ℕ) (roles : List Role) (from at : Point) → P from → Along P line at →
       list_all test (line_events line roles from at) ≡ true
   all-line [] roles from at f along = all-pair n.Data from at on_text f along
   all-line (b ∷ line) [] from at f along = all-line line [] from (past_byte b at) f along.1
   all-line (b ∷ line) (role ∷ roles) from at f along =
-      let behind : Point = past_byte b at in
-      let next : P behind = along-first P line behind along.1 in
-      all-append test (byte_events role from at behind) (line_events line roles (text_from role from behind) behind)
-      (all-byte role from at behind f along.0 next)
-      (all-line line roles (text_from role from behind) behind (all-from role from behind f next) along.1)
+      let following : Point = past_byte b at in
+      let next : P following = along-first P line following along.1 in
+      all-append test (byte_events role from at following)
+      (line_events line roles (text_from role from following) following)
+      (all-byte role from at following f along.0 next)
+      (all-line line roles (text_from role from following) following (all-from role from following f next) along.1)
 
 -- No `LineEnding` is in a line.
 
@@ -128,7 +130,7 @@ line-endings line roles from at =
     (along-unit line at))
 
 -- Events that go from one point to another.
-pub record Goes (p q : Point) (es : List Event) : Type 0 where
+pub record Proceeds (p q : Point) (es : List Event) : Type 0 where
   pub forward : Forward p es
   pub last : IsTrue (at_or_before (last_point p es) q)
 
@@ -137,58 +139,70 @@ last-later : (o q r : Point) (es : List Event) → IsTrue (at_or_before o q) →
 last-later o q r [] h k last = at_or_before-trans o q r h k
 last-later o q r (e ∷ es) h k last = last
 
-pub goes-append : (p q r : Point) (xs ys : List Event) → IsTrue (at_or_before q r) → Goes p q xs → Goes q r ys →
-    Goes p r (xs ++ ys)
-goes-append p q r xs ys h g k = record {
+pub proceeds-append : (p q r : Point) (xs ys : List Event) → IsTrue (at_or_before q r) → Proceeds p q xs →
+    Proceeds q r ys →
+    Proceeds p r (xs ++ ys)
+proceeds-append p q r xs ys h g k = record {
   forward = forward-append p xs ys g.forward (forward-from (last_point p xs) q ys g.last k.forward);
   last =
       subst (λ (l : Point). IsTrue (at_or_before l r)) (sym (last_point-append p xs ys))
       (last-later (last_point p xs) q r ys g.last h k.last);
 }
 
-pub goes-pair : (name : Name) (p q : Point) → IsTrue (at_or_before p q) → Goes p q (pair_unless_empty name p q)
-goes-pair name p q h = go (same_place p q)
+pub proceeds-pair : (name : Name) (p q : Point) → IsTrue (at_or_before p q) → Proceeds p q (pair_unless_empty name p q)
+proceeds-pair name p q h = go (same_place p q)
   where
-    go : (x : Bool) → Goes p q (cond x [] (pair name p q))
+    go : (x : Bool) → Proceeds p q (cond x [] (pair name p q))
     go true = record { forward = tt; last = h }
     go false = record { forward = (at_or_before-refl p, (h, tt)); last = at_or_before-refl q }
 
-goes-byte : (role : Role) (from at behind : Point) → IsTrue (at_or_before from at) → IsTrue (at_or_before at behind) →
-    Goes from (text_from role from behind) (byte_events role from at behind)
-goes-byte Text from at behind h k = record { forward = tt; last = at_or_before-refl from }
-goes-byte Opens from at behind h k =
-    goes-append from at behind (pair_unless_empty n.Data from at) (opened at behind) k (goes-pair n.Data from at h)
+proceeds-byte : (role : Role) (from at following : Point) → IsTrue (at_or_before from at) →
+    IsTrue (at_or_before at following) →
+    Proceeds from (text_from role from following) (byte_events role from at following)
+proceeds-byte Text from at following h k = record { forward = tt; last = at_or_before-refl from }
+proceeds-byte Opens from at following h k =
+    proceeds-append from at following (pair_unless_empty n.Data from at) (opened at following) k
+    (proceeds-pair n.Data from at h)
     (record {
-      forward = (at_or_before-refl at, (at_or_before-refl at, (k, (at_or_before-refl behind, tt))));
-      last = at_or_before-refl behind;
+      forward = (at_or_before-refl at, (at_or_before-refl at, (k, (at_or_before-refl following, tt))));
+      last = at_or_before-refl following;
     })
-goes-byte Last from at behind h k =
-    let before : IsTrue (at_or_before from behind) = at_or_before-trans from at behind h k in
-    goes-append from behind behind (pair_unless_empty n.Data from behind) (exit n.LabelText behind ∷ [])
-    (at_or_before-refl behind) (goes-pair n.Data from behind before)
-    (record { forward = (at_or_before-refl behind, tt); last = at_or_before-refl behind })
-goes-byte Closes from at behind h k =
-    goes-append from at behind (pair_unless_empty n.Data from at) (closed at behind) k (goes-pair n.Data from at h)
-    (record { forward = (at_or_before-refl at, (k, (at_or_before-refl behind, tt))); last = at_or_before-refl behind })
+proceeds-byte Last from at following h k =
+    let before : IsTrue (at_or_before from following) = at_or_before-trans from at following h k in
+    proceeds-append from following following (pair_unless_empty n.Data from following) (exit n.LabelText following ∷ [])
+    (at_or_before-refl following) (proceeds-pair n.Data from following before)
+    (record { forward = (at_or_before-refl following, tt); last = at_or_before-refl following })
+proceeds-byte Closes from at following h k =
+    proceeds-append from at following (pair_unless_empty n.Data from at) (closed at following) k
+    (proceeds-pair n.Data from at h)
+    (record {
+      forward = (at_or_before-refl at, (k, (at_or_before-refl following, tt)));
+      last =
+          at_or_before-refl following;
+    })
 
-from-before : (role : Role) (from at behind : Point) → IsTrue (at_or_before from at) → IsTrue (at_or_before at behind) →
-    IsTrue (at_or_before (text_from role from behind) behind)
-from-before Text from at behind h k = at_or_before-trans from at behind h k
-from-before Opens from at behind h k = at_or_before-refl behind
-from-before Last from at behind h k = at_or_before-refl behind
-from-before Closes from at behind h k = at_or_before-refl behind
+from-before : (role : Role) (from at following : Point) → IsTrue (at_or_before from at) →
+    IsTrue (at_or_before at following) →
+    IsTrue (at_or_before (text_from role from following) following)
+from-before Text from at following h k = at_or_before-trans from at following h k
+from-before Opens from at following h k = at_or_before-refl following
+from-before Last from at following h k = at_or_before-refl following
+from-before Closes from at following h k = at_or_before-refl following
 
-pub goes-line : (line : List ℕ) (roles : List Role) (from at : Point) → IsTrue (at_or_before from at) →
-    Goes from (past_text line at) (line_events line roles from at)
-goes-line [] roles from at h = goes-pair n.Data from at h
-goes-line (b ∷ line) [] from at h =
-    goes-line line [] from (past_byte b at) (at_or_before-trans from at (past_byte b at) h (before-text (b ∷ []) at))
-goes-line (b ∷ line) (role ∷ roles) from at h =
-    let behind : Point = past_byte b at in
-    let step : IsTrue (at_or_before at behind) = before-text (b ∷ []) at in
-    let begun : IsTrue (at_or_before (text_from role from behind) behind) = from-before role from at behind h step in
-    goes-append from (text_from role from behind) (past_text line behind) (byte_events role from at behind)
-    (line_events line roles (text_from role from behind) behind)
-    (at_or_before-trans (text_from role from behind) behind (past_text line behind) begun (before-text line behind))
-    (goes-byte role from at behind h step)
-    (goes-line line roles (text_from role from behind) behind begun)
+pub proceeds-line : (line : List ℕ) (roles : List Role) (from at : Point) → IsTrue (at_or_before from at) →
+    Proceeds from (past_text line at) (line_events line roles from at)
+proceeds-line [] roles from at h = proceeds-pair n.Data from at h
+proceeds-line (b ∷ line) [] from at h =
+    proceeds-line line [] from (past_byte b at)
+    (at_or_before-trans from at (past_byte b at) h (before-text (b ∷ []) at))
+proceeds-line (b ∷ line) (role ∷ roles) from at h =
+    let following : Point = past_byte b at in
+    let step : IsTrue (at_or_before at following) = before-text (b ∷ []) at in
+    let begun : IsTrue (at_or_before (text_from role from following) following) =
+    from-before role from at following h step in
+    proceeds-append from (text_from role from following) (past_text line following) (byte_events role from at following)
+    (line_events line roles (text_from role from following) following)
+    (at_or_before-trans (text_from role from following) following (past_text line following) begun
+    (before-text line following))
+    (proceeds-byte role from at following h step)
+    (proceeds-line line roles (text_from role from following) following begun)

@@ -51,7 +51,7 @@ is_defined document text =
     is_label text && is_listed document.definitions (normal_form (on_one_line text ∷ []))
 
 abbrev pub defined_len : Document → Enclosed → Option ℕ
-defined_len document (Closed label behind) = if is_defined document label then Some (length label) else None
+defined_len document (Closed label following) = if is_defined document label then Some (length label) else None
 defined_len document Open = None
 defined_len document Broken = None
 
@@ -69,48 +69,48 @@ bracket_role (Some len) = (Opens, Inside len)
 bracket_role None = (Text, Outside)
 
 abbrev pub outside_role : Document → ℕ → List ℕ → Role × Place
-outside_role document byte behind =
+outside_role document byte following =
     if byte == backslash then (Text, Taken)
-    else if byte == left_bracket then bracket_role (label_len document behind)
+    else if byte == left_bracket then bracket_role (label_len document following)
     else (Text, Outside)
 
 -- the role of a byte at a place, and the place of the byte after it
 abbrev pub role_at : Document → Place → ℕ → List ℕ → Role × Place
-role_at document Outside byte behind = outside_role document byte behind
-role_at document Taken byte behind = (Text, Outside)
-role_at document (Inside zero) byte behind = (Closes, Outside)
-role_at document (Inside (suc zero)) byte behind = (Last, Inside zero)
-role_at document (Inside (suc (suc left))) byte behind = (Text, Inside (suc left))
+role_at document Outside byte following = outside_role document byte following
+role_at document Taken byte following = (Text, Outside)
+role_at document (Inside zero) byte following = (Closes, Outside)
+role_at document (Inside (suc zero)) byte following = (Last, Inside zero)
+role_at document (Inside (suc (suc left))) byte following = (Text, Inside (suc left))
 
 -- the roles of the bytes of a text
 abbrev pub roles : Document → Place → List ℕ → List Role
 roles document place [] = []
-roles document place (byte ∷ behind) =
-    (role_at document place byte behind).0 ∷ roles document (role_at document place byte behind).1 behind
+roles document place (byte ∷ following) =
+    (role_at document place byte following).0 ∷ roles document (role_at document place byte following).1 following
 
 -- Events.
 
 -- around a label, and its brackets
 abbrev pub opened : Point → Point → List Event
-opened at behind =
-    enter n.Link at ∷ enter n.LabelMarker at ∷ exit n.LabelMarker behind ∷ enter n.LabelText behind ∷ []
+opened at following =
+    enter n.Link at ∷ enter n.LabelMarker at ∷ exit n.LabelMarker following ∷ enter n.LabelText following ∷ []
 
 abbrev pub closed : Point → Point → List Event
-closed at behind = enter n.LabelMarker at ∷ exit n.LabelMarker behind ∷ exit n.Link behind ∷ []
+closed at following = enter n.LabelMarker at ∷ exit n.LabelMarker following ∷ exit n.Link following ∷ []
 
 -- What a byte between two points brings, where the text before it began at `from`. Text waits for what ends it.
 abbrev pub byte_events : Role → Point → Point → Point → List Event
-byte_events Text from at behind = []
-byte_events Opens from at behind = pair_unless_empty n.Data from at ++ opened at behind
-byte_events Last from at behind = pair_unless_empty n.Data from behind ++ exit n.LabelText behind ∷ []
-byte_events Closes from at behind = pair_unless_empty n.Data from at ++ closed at behind
+byte_events Text from at following = []
+byte_events Opens from at following = pair_unless_empty n.Data from at ++ opened at following
+byte_events Last from at following = pair_unless_empty n.Data from following ++ exit n.LabelText following ∷ []
+byte_events Closes from at following = pair_unless_empty n.Data from at ++ closed at following
 
 -- where the text that waits begins, after such a byte
 abbrev pub text_from : Role → Point → Point → Point
-text_from Text from behind = from
-text_from Opens from behind = behind
-text_from Last from behind = behind
-text_from Closes from behind = behind
+text_from Text from following = from
+text_from Opens from following = following
+text_from Last from following = following
+text_from Closes from following = following
 
 -- the events of a line, from a point on
 abbrev pub line_events : List ℕ → List Role → Point → Point → List Event

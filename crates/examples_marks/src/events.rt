@@ -84,30 +84,30 @@ fn push_byte(
     role: Role,
     from: Point,
     at: Point,
-    behind: Point,
+    following: Point,
 ) -> Result<Point, Message>
-    ensures events { OnOk result (events.new.items ≡ events.old.items ++ spec.byte_events role from at behind) }
-    ensures from { IfOk result (λ point. point ≡ spec.text_from role from behind) }
+    ensures events { OnOk result (events.new.items ≡ events.old.items ++ spec.byte_events role from at following) }
+    ensures from { IfOk result (λ point. point ≡ spec.text_from role from following) }
 {
     match role {
         Role::Text => return Ok(from),
         Role::Opens => {
             push_unless_empty(events, Name::Data, from, at)?;
             push_event(events, Kind::Enter, Name::Link, at)?;
-            push_pair(events, Name::LabelMarker, at, behind)?;
-            push_event(events, Kind::Enter, Name::LabelText, behind)?;
+            push_pair(events, Name::LabelMarker, at, following)?;
+            push_event(events, Kind::Enter, Name::LabelText, following)?;
         }
         Role::Last => {
-            push_unless_empty(events, Name::Data, from, behind)?;
-            push_event(events, Kind::Exit, Name::LabelText, behind)?;
+            push_unless_empty(events, Name::Data, from, following)?;
+            push_event(events, Kind::Exit, Name::LabelText, following)?;
         }
         Role::Closes => {
             push_unless_empty(events, Name::Data, from, at)?;
-            push_pair(events, Name::LabelMarker, at, behind)?;
-            push_event(events, Kind::Exit, Name::Link, behind)?;
+            push_pair(events, Name::LabelMarker, at, following)?;
+            push_event(events, Kind::Exit, Name::Link, following)?;
         }
     }
-    Ok(behind)
+    Ok(following)
 }
 
 /// Adds the events of a line that begins at a point, and says where it ends.
@@ -128,9 +128,9 @@ fn push_line(
     let mut from = first;
     let mut at = first;
     for (index, byte) in line.iter().enumerate() {
-        let behind = past_byte(*byte, at);
-        from = push_byte(events, roles[index], from, at, behind)?;
-        at = behind;
+        let following = past_byte(*byte, at);
+        from = push_byte(events, roles[index], from, at, following)?;
+        at = following;
     }
     push_unless_empty(events, Name::Data, from, at)?;
     Ok(at)
@@ -167,10 +167,10 @@ pub fn push_chunk(
         (events.new.items ≡ events.old.items ++ spec.chunk_events chunk.now text.now roles.now) }
 {
     let (line, _) = text.split_at(line_len(text));
-    let (here, behind) = roles.split_at(line.len());
+    let (here, following) = roles.split_at(line.len());
     let end = push_line(events, line, here, chunk.first)?;
     push_unless_empty(events, Name::LineEnding, end, chunk.after)?;
-    if ends_label(behind) {
+    if ends_label(following) {
         push_event(events, Kind::Exit, Name::LabelText, chunk.after)?;
     }
     Ok(())

@@ -53,9 +53,9 @@ pub fn read(alloc: Global, chunks: &[Chunk], state: &ParseState) -> Result<Vec<E
     let mut left: &[Role] = &roles;
     for chunk in chunks {
         let here = chunk_text(state.bytes, chunk);
-        let (first, behind) = left.split_at(here.len());
+        let (first, following) = left.split_at(here.len());
         push_chunk(&mut events, chunk, here, first)?;
-        left = behind;
+        left = following;
     }
     Ok(events)
 }

@@ -42,9 +42,9 @@ fn role_at(
     state: &ParseState,
     place: Place,
     byte: u8,
-    behind: &[u8],
+    following: &[u8],
 ) -> Result<(Role, Place), Message>
-    ensures { IfOk result (λ found. found ≡ spec.role_at (document_of state.now) place byte behind.now) }
+    ensures { IfOk result (λ found. found ≡ spec.role_at (document_of state.now) place byte following.now) }
 {
     let outside = Ok((Role::Text, Place::Outside));
     match place {
@@ -54,7 +54,7 @@ fn role_at(
         Place::Taken => outside,
         Place::Outside => match byte {
             b'\\' => Ok((Role::Text, Place::Taken)),
-            b'[' => match label_len(alloc, state, behind)? {
+            b'[' => match label_len(alloc, state, following)? {
                 Some(len) => Ok((Role::Opens, Place::Inside(len))),
                 None => outside,
             },
@@ -72,11 +72,11 @@ pub fn roles_of(alloc: Global, state: &ParseState, text: &[u8]) -> Result<Vec<Ro
     let mut roles = Vec::new(alloc);
     let mut place = Place::Outside;
     let mut rest = text;
-    while let Some((byte, behind)) = rest.split_first() {
-        let (role, next) = role_at(alloc, state, place, *byte, behind)?;
+    while let Some((byte, following)) = rest.split_first() {
+        let (role, next) = role_at(alloc, state, place, *byte, following)?;
         push(&mut roles, role)?;
         place = next;
-        rest = behind;
+        rest = following;
     }
     Ok(roles)
 }

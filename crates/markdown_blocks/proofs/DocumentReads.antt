@@ -18,15 +18,15 @@ use Rattle.md_engine.specs.declared.state.State.{State}
 use Rattle.md_engine.specs.declared.state.State.TheVariants.{Error, Ok, Nok, Next, Retry}
 use Rattle.md_engine.specs.declared.tokenizer.Scratch.{Scratch}
 use Rattle.md_engine.specs.Found.{Found}
-use Rattle.md_engine.specs.Meaning.{Accepts, Cell, Follows, Here, Outcome, Refuses, comes_to, goes, here}
+use Rattle.md_engine.specs.Meaning.{Accepts, Cell, Follows, Here, Outcome, Refuses, whole_outcome, proceeds, here}
 use Rattle.md_engine.specs.Place.{first_point, seen_at}
 use Rattle.md_engine.specs.Run.{Flushes, IsEnd, Resolution, Runs, plain}
-use Rattle.md_engine.specs.Scheme.{stands}
-use Rattle.md_engine.specs.Standing.{MeansAt}
+use Rattle.md_engine.specs.Scheme.{valid}
+use Rattle.md_engine.specs.Situation.{MeansAt}
 use Rattle.md_engine.specs.TextFeed.{text_feed}
 use Rattle.md_engine.specs.World.{Setting, World, after, fresh, reads_to}
 use Rattle.md_engine.proofs.Keeps.{runs-setting}
-use Rattle.md_engine.proofs.Standing.{runs-mean}
+use Rattle.md_engine.proofs.Situation.{runs-mean}
 use Rattle.md_engine.proofs.TextFeed.{flush-means, text-follows}
 use Rattle.md_containers.specs.Frontmatter.{cleared}
 use Rattle.md_meaning.specs.Lines.{full_lines_of}
@@ -39,11 +39,11 @@ use Rattle.md_events.specs.Spaces.{IsRest}
 use Rattle.md_registry.specs.Document.{DocumentStep, ReadsFront, document_table_scheme}
 use Rattle.proof_leaf_laws.specs.Front.{FrontRead, body_point, events_of, front_events, front_read, mark_end, point_or}
 use Rattle.proof_leaf_laws.specs.Front.{text_front}
-use Rattle.proof_leaf_laws.specs.DocumentRule.{behind_front, document_at, document_behaves}
+use Rattle.proof_leaf_laws.specs.DocumentRule.{after_front, document_at, document_behaves}
 use Rattle.proof_rows.specs.TextRows.{text_cells, text_setting}
 use Rattle.proof_frame.specs.Rule.{tried}
-use Rattle.proof_leaf_laws.proofs.FrontAgrees.{Begins, IsWhole, comes, front-agrees}
-use Rattle.md_registry.proofs.DocumentMeans.{document_table_means, document_stands}
+use Rattle.proof_leaf_laws.proofs.FrontAgrees.{Begins, IsWhole, becomes, front-agrees}
+use Rattle.md_registry.proofs.DocumentMeans.{document_table_means, document_keeps_valid}
 use Rattle.md_events.proofs.FeedLines.{feed-next, feed-none, line-feed, past-next}
 use Rattle.md_events.proofs.PlacesLemmas.{at-next}
 use Rattle.md_meaning.proofs.PreambleLemmas.{mark-bytes, mark-length}
@@ -51,11 +51,11 @@ use Rattle.md_meaning.proofs.PreambleLemmas.{mark-bytes, mark-length}
 -- The mark among the cells.
 
 -- after a byte that is neither an ending nor a tab
-abbrev behind : Point → Point
-behind p = record p { column = p.column + 1; index = p.index + 1; vs = 0 }
+abbrev following : Point → Point
+following p = record p { column = p.column + 1; index = p.index + 1; vs = 0 }
 
-byte-behind : (x : Setting) (p : Point) (b : ℕ) → slice_index x.bytes p.index ≡ b → 13 < b → after x p ≡ behind p
-byte-behind x p b is lt =
+byte-following : (x : Setting) (p : Point) (b : ℕ) → slice_index x.bytes p.index ≡ b → 13 < b → after x p ≡ following p
+byte-following x p b is lt =
     let feed : (b == 10) ≡ false = grind (arith, nat_tests) in
     let return : (b == 13) ≡ false = grind (arith, nat_tests) in
     let tab : (b == 9) ≡ false = grind (arith, nat_tests) in
@@ -91,11 +91,11 @@ are-ahead (b ∷ front) x p all small vs high =
     let parts : (nat_lt 13 b ≡ true) ×
     (list_all (nat_lt 13) front ≡ true) = and_parts (nat_lt 13 b) (list_all (nat_lt 13) front) high in
     go (drop p.index x.bytes) refl (let lt = parts.0 in grind (arith, nat_tests))
-    (are-ahead front x (behind p) all small refl parts.1)
+    (are-ahead front x (following p) all small refl parts.1)
   where
     Same : Type 0
     Same =
-        are_next front (text_feed x (behind p)) ≡
+        are_next front (text_feed x (following p)) ≡
         pointwise nat_eq front (take (length front) (drop (p.index + 1) x.bytes))
 
     go : (rest : List ℕ) → drop p.index x.bytes ≡ rest → 13 < b → Same →
@@ -121,7 +121,7 @@ are-ahead (b ∷ front) x p all small vs high =
             let here' : slice_index x.bytes p.index ≡ b = is ∙ one in
             ap (are_next (b ∷ front)) (feed-next x p small inside)
             ∙ ap (λ (d : ℕ). (d == b) && are_next front (text_feed x (after x p))) (byte-seen x.bytes p b here' above)
-            ∙ ap (λ (q : Point). (b == b) && are_next front (text_feed x q)) (byte-behind x p b here' above)
+            ∙ ap (λ (q : Point). (b == b) && are_next front (text_feed x q)) (byte-following x p b here' above)
             ∙ ap (λ (t : Bool). (b == b) && t) same
             ∙ ap (λ (l : List ℕ). (b == b) && pointwise nat_eq front (take (length front) l))
             (past-next p.index x.bytes c rest e)
@@ -170,9 +170,9 @@ abbrev begun : List ℕ → ParseOptions → Here
 begun bytes options = here (fresh bytes options first_point)
 
 -- what is left after a mark
-behind-mark : (bytes : List ℕ) (options : ParseOptions) → length bytes < 2 ^ 61 → has_mark bytes ≡ true →
+following-mark : (bytes : List ℕ) (options : ParseOptions) → length bytes < 2 ^ 61 → has_mark bytes ≡ true →
     drop 3 (text_cells bytes options first_point) ≡ text_feed (text_setting bytes options first_point) mark_end
-behind-mark bytes options small h =
+following-mark bytes options small h =
     let x = text_setting bytes options first_point in
     let most = mark-length bytes h in
     ap (λ (cells : List Cell). drop 3 cells)
@@ -189,7 +189,7 @@ behind-mark bytes options small h =
 -- after the frontmatter, or where none is
 ends-front : (x : Setting) (k : Here) (cells : List Cell) (o : Option FrontRead) →
     (s : Scratch) × (rest : List Cell) ×
-    (tried (comes x k o) (λ l h. Accepts h l) (λ t g. Accepts (record k { scratch = t; flags = g }) cells) ≡
+    (tried (becomes x k o) (λ l h. Accepts h l) (λ t g. Accepts (record k { scratch = t; flags = g }) cells) ≡
     Accepts (record k { events = k.events ++ events_of o; point = point_or k.point o; scratch = s }) rest)
 ends-front x k cells None = (
   k.scratch,
@@ -201,7 +201,7 @@ ends-front x k cells (Some f) = (cleared k.scratch, text_feed x f.point, refl)
 front-ends : (bytes : List ℕ) (options : ParseOptions) (text : List ℕ) (k : Here) → length bytes < 2 ^ 61 →
     Begins (text_setting bytes options first_point) text k.point → IsRest k.scratch →
     (s : Scratch) × (rest : List Cell) ×
-    (behind_front options (text_feed (text_setting bytes options first_point) k.point) k ≡
+    (after_front options (text_feed (text_setting bytes options first_point) k.point) k ≡
     Accepts
     (record k {
       events = k.events ++ events_of (front_read options (full_lines_of text) k.point);
@@ -239,8 +239,8 @@ document-accepts bytes options small = go (has_mark bytes) refl
 
     onward : Outcome → Outcome
     onward o =
-        tried o (λ rest k. behind_front options rest k)
-        (λ s g. behind_front options cells (record (begun bytes options) { scratch = s; flags = g }))
+        tried o (λ rest k. after_front options rest k)
+        (λ s g. after_front options cells (record (begun bytes options) { scratch = s; flags = g }))
 
     marked : Here
     marked = record (begun bytes options) { events = pair ByteOrderMark first_point mark_end; point = mark_end }
@@ -260,18 +260,18 @@ document-accepts bytes options small = go (has_mark bytes) refl
     go true e =
         let most = mark-length bytes e in
         let ends = front-ends bytes options (drop 3 bytes) marked small
-        (record { stands = refl; index = most; whole = refl; column = omega arith }) refl in (
+        (record { valid = refl; index = most; whole = refl; column = omega arith }) refl in (
           ends.0,
           ends.1,
           ap onward
               (bom-there cells (begun bytes options) mark_end (text-marked bytes options small ∙ e)
               (mark-cells bytes options small e))
-              ∙ ap (λ (l : List Cell). behind_front options l marked) (behind-mark bytes options small e)
+              ∙ ap (λ (l : List Cell). after_front options l marked) (following-mark bytes options small e)
               ∙ ends.2,
         )
     go false e =
         let ends = front-ends bytes options bytes (begun bytes options) small
-        (record { stands = refl; index = omega arith; whole = refl; column = omega arith }) refl in (
+        (record { valid = refl; index = omega arith; whole = refl; column = omega arith }) refl in (
           ends.0,
           ends.1,
           ap onward (bom-none cells (begun bytes options) (text-marked bytes options small ∙ e)) ∙ ends.2,
@@ -281,7 +281,7 @@ document-accepts bytes options small = go (has_mark bytes) refl
 
 -- a whole run that accepts ends in what is accepted
 accepted : (options : ParseOptions) (e : State) (h k : Here) (rest cells : List Cell) → IsEnd e →
-    Accepts h rest ≡ goes (document_behaves options) e cells k → h ≡ k
+    Accepts h rest ≡ proceeds (document_behaves options) e cells k → h ≡ k
 accepted options Ok h k rest cells t is = cc
 accepted options Nok h k rest cells t is = cc
 accepted options Error h k rest cells t is = absurd t
@@ -309,28 +309,28 @@ document-reads R bytes options end at found new small run f =
     w0 : World
     w0 = reads_to (fresh bytes options first_point) (length bytes)
 
-    stood : stands document_table_scheme w0 (Next (s.Document document.Start))
-    stood = (refl, record { ok = λ s q t is up way. tt; nok = λ s q t is up. tt })
+    is_valid : valid document_table_scheme w0 (Next (s.Document document.Start))
+    is_valid = (refl, record { ok = λ s q t is up way. tt; nok = λ s q t is up. tt })
 
-    pushed : (comes_to (document_behaves options) (text_feed x) (Next (s.Document document.Start)) w0 ≡
-        comes_to (document_behaves options) (text_feed x) end at) ×
-        stands document_table_scheme at (plain end)
+    pushed : (whole_outcome (document_behaves options) (text_feed x) (Next (s.Document document.Start)) w0 ≡
+        whole_outcome (document_behaves options) (text_feed x) end at) ×
+        valid document_table_scheme at (plain end)
     pushed =
         runs-mean DocumentStep document_table_scheme (document_behaves options) false (text_feed x)
-        (Next (s.Document document.Start)) w0 (document_table_means w0.setting false) document_stands
-        (text-follows x (length bytes) false small (omega arith) (λ e. cc)) stood end at run
+        (Next (s.Document document.Start)) w0 (document_table_means w0.setting false) document_keeps_valid
+        (text-follows x (length bytes) false small (omega arith) (λ e. cc)) is_valid end at run
 
     kept : at.setting ≡ x
     kept = runs-setting DocumentStep false (Next (s.Document document.Start)) w0 end at run
 
-    flushed : comes_to (document_behaves options) (text_feed x) end at ≡
-        goes (document_behaves options) f.end (text_feed x f.at.point) (here f.at)
+    flushed : whole_outcome (document_behaves options) (text_feed x) end at ≡
+        proceeds (document_behaves options) f.end (text_feed x f.at.point) (here f.at)
     flushed =
         let P : Setting → Type 0 = λ y. Follows (text_feed x) y true in
         let Q : Setting → Type 0 =
         λ y. MeansAt DocumentStep document_table_scheme at.setting (document_behaves y.options) true in
         flush-means DocumentStep R document_table_scheme (document_behaves options) (text_feed x) end at false found new
-        (subst Q kept (document_table_means at.setting true)) document_stands
+        (subst Q kept (document_table_means at.setting true)) document_keeps_valid
         (subst P (sym kept) (text-follows x x.limit true small (omega arith) (λ e. refl))) pushed.1 f
 
     ended : record (begun bytes options) {

@@ -1,6 +1,6 @@
 -- Each state of flow takes one step of what flow means.
-use Rattle.md_registry.proofs.FlowSteps.{behind_ending, containers_means, ending_left, leaves_means}
-use Rattle.md_registry.specs.FlowRule.{FlowInvariant, GoesOn, feeds, HasFlow, flow_at, line_ended}
+use Rattle.md_registry.proofs.FlowSteps.{following_ending, containers_means, ending_left, leaves_means}
+use Rattle.md_registry.specs.FlowRule.{FlowInvariant, IsContinued, feeds, HasFlow, flow_at, line_ended}
 use Rattle.std.proofs.Common.{◌≡◌, inl, inr, ℕ, Bool, List, [], Some, refl, sym, ◌∙◌, ap, subst}
 use Rattle.md_engine.specs.declared.configuration.ParseOptions.{ParseOptions}
 use Rattle.md_engine.specs.declared.state.Name.{Name as StateName}
@@ -11,17 +11,17 @@ use Rattle.md_engine.specs.declared.state.flow.State.{State as FlowState}
 use Rattle.md_engine.specs.declared.state.flow.State.TheVariants as flow
 use Rattle.md_engine.specs.declared.state.State.{State}
 use Rattle.md_engine.specs.declared.state.State.TheVariants.{Next}
-use Rattle.md_engine.specs.Meaning.{Behaviour, Cell, Feed, Steps, goes, here}
+use Rattle.md_engine.specs.Meaning.{Behaviour, Cell, Feed, Steps, proceeds, here}
 use Rattle.md_engine.specs.Run.{reading}
-use Rattle.md_engine.specs.Scheme.{stands}
-use Rattle.md_engine.specs.Standing.{MeansAt, StandsOn}
+use Rattle.md_engine.specs.Scheme.{valid}
+use Rattle.md_engine.specs.Situation.{MeansAt, KeepsValid}
 use Rattle.md_engine.specs.World.{Setting, World, closed, looks}
 use Rattle.md_engine.specs.Sees.{Sees, ahead}
 use Rattle.md_engine.proofs.StepOf.{outermost-frames, sees, steps-as}
 use Rattle.md_content.proofs.ContentMeaning.{chunk_means}
 use Rattle.md_leaves.proofs.BlankMeaning.{blank_means}
 use Rattle.md_events.specs.Transition.{Transition}
-use Rattle.md_events.proofs.SpacesTermination.{does-stands}
+use Rattle.md_events.proofs.SpacesTermination.{does-valid}
 use Rattle.md_events.proofs.WhiteMeaning.{white_means}
 use Rattle.md_registry.specs.Document.{document_own_transition}
 use Rattle.md_registry.specs.Flow.{flow_end_code}
@@ -39,13 +39,13 @@ flow_has bytes options next = record {
   chunk = λ _ _. refl;
   starts = λ l. (leaf-states l).starts bytes options next;
   opens = λ k. (container-states k).begins_is bytes options next;
-  goes_on = λ k. (container-states k).goes_on_is bytes options next;
+  is_continued = λ k. (container-states k).continued_is bytes options next;
   containers = λ _ _ _. refl;
   leaves = λ _ _ _. refl;
 }
 
 -- where the table is at a state, the state has what it needs
-flow-needs : (state : FlowState) (w : World) → stands flow_table_scheme w (Next (n.Flow state)) → FlowInvariant state w
+flow-needs : (state : FlowState) (w : World) → valid flow_table_scheme w (Next (n.Flow state)) → FlowInvariant state w
 flow-needs flow.Start w at = at.0.0
 flow-needs flow.BlankLineBefore w at = tt
 flow-needs flow.BeforeContent w at = tt
@@ -62,8 +62,8 @@ flow-needs flow.BeforeGfmTable w at = at.0.0
 
 containers_at : (feed : Feed) (next : Rule) (state : DocumentState) (w : World) →
     HasFlow (flow_behaves_by w.setting.bytes w.setting.options next) w.setting.options next → Sees feed w →
-    stands flow_table_scheme w (Next (n.Document state)) →
-    GoesOn (flow_behaves_by w.setting.bytes w.setting.options next) next (feeds (n.Document state) w.current) →
+    valid flow_table_scheme w (Next (n.Document state)) →
+    IsContinued (flow_behaves_by w.setting.bytes w.setting.options next) next (feeds (n.Document state) w.current) →
     Steps (flow_behaves_by w.setting.bytes w.setting.options next) feed (Next (n.Document state)) w
     (document_own_transition state w).to (document_own_transition state w).world
 containers_at feed next state w has s at on = go state at on
@@ -71,8 +71,8 @@ containers_at feed next state w has s at on = go state at on
     B : Behaviour
     B = flow_behaves_by w.setting.bytes w.setting.options next
 
-    go : (state : DocumentState) → stands flow_table_scheme w (Next (n.Document state)) →
-        GoesOn B next (feeds (n.Document state) w.current) →
+    go : (state : DocumentState) → valid flow_table_scheme w (Next (n.Document state)) →
+        IsContinued B next (feeds (n.Document state) w.current) →
         Steps B feed (Next (n.Document state)) w (document_own_transition state w).to
         (document_own_transition state w).world
     go document.Start at on = absurd at
@@ -101,8 +101,8 @@ containers_at feed next state w has s at on = go state at on
 
 -- each state takes one step of what it means
 each_means : (feed : Feed) (next : Rule) (name : StateName) (w : World) →
-    Sees feed w → w.current ≡ looks w → stands flow_table_scheme w (Next name) →
-    GoesOn (flow_behaves_by w.setting.bytes w.setting.options next) next (feeds name w.current) →
+    Sees feed w → w.current ≡ looks w → valid flow_table_scheme w (Next name) →
+    IsContinued (flow_behaves_by w.setting.bytes w.setting.options next) next (feeds name w.current) →
     Steps (flow_behaves_by w.setting.bytes w.setting.options next) feed (Next name) w
     (flow_transition name w).to
     (flow_transition name w).world
@@ -114,7 +114,7 @@ each_means feed next name w s c at on = go name at on
     has : HasFlow B w.setting.options next
     has = flow_has w.setting.bytes w.setting.options next
 
-    go : (name : StateName) → stands flow_table_scheme w (Next name) → GoesOn B next (feeds name w.current) →
+    go : (name : StateName) → valid flow_table_scheme w (Next name) → IsContinued B next (feeds name w.current) →
         Steps B feed (Next name) w (flow_transition name w).to (flow_transition name w).world
     go (n.BlankLine state) at on = blank_means B feed state w has.blank s at.0
     go (n.Content state) at on =
@@ -127,7 +127,7 @@ each_means feed next name w s c at on = go name at on
 -- whatever follows after the line, a call that takes no ending is one step of what flow means
 pub flow-steps-by : (feed : Feed) (next : Rule) (name : StateName)
     (w : World) →
-    Sees feed w → w.current ≡ looks w → stands flow_table_scheme w (Next name) → feeds name w.current ≡ 0 →
+    Sees feed w → w.current ≡ looks w → valid flow_table_scheme w (Next name) → feeds name w.current ≡ 0 →
     Steps (flow_behaves_by w.setting.bytes w.setting.options next) feed (Next name) w
     (flow_transition name w).to
     (flow_transition name w).world
@@ -138,12 +138,13 @@ pub record Takes (next : Rule) (feed : Feed) (w : World) (to : State) (new : Wor
   pub frames : w.frames ≡ []
   pub to_is : to ≡ Next (n.Document document.ContainerExistingBefore)
   pub still : new.frames ≡ []
-  pub goes_on : goes (flow_behaves_by w.setting.bytes w.setting.options next) (Next (n.Document document.FlowEnd))
+  pub is_continued : proceeds (flow_behaves_by w.setting.bytes w.setting.options next)
+      (Next (n.Document document.FlowEnd))
       (feed w.point) (here w) ≡
       next (feed new.point) (here new)
 
 pub ending-taken : (feed : Feed) (next : Rule) (w : World) → Sees feed w →
-    stands flow_table_scheme w (Next (n.Document document.FlowEnd)) → w.current ≡ Some 10 →
+    valid flow_table_scheme w (Next (n.Document document.FlowEnd)) → w.current ≡ Some 10 →
     Takes next feed w (flow_transition (n.Document document.FlowEnd) w).to
     (flow_transition (n.Document document.FlowEnd) w).world
 ending-taken feed next w s at is = subst P (sym (ap (flow_end_code v) is)) taken_here
@@ -157,12 +158,12 @@ ending-taken feed next w s at is = subst P (sym (ap (flow_end_code v) is)) taken
     none : w.frames ≡ []
     none = outermost-frames flow_table_scheme w.frames at.1
 
-    taken_here : Takes next feed w (Next (n.Document document.ContainerExistingBefore)) (behind_ending v)
+    taken_here : Takes next feed w (Next (n.Document document.ContainerExistingBefore)) (following_ending v)
     taken_here = record {
       frames = none;
       to_is = refl;
       still = none;
-      goes_on =
+      is_continued =
           ap (λ (x : List Cell). line_ended next x (here w)) (s.next ∙ ap (ahead feed w) is)
           ∙ ending_left feed v next 10 refl;
     }
@@ -174,11 +175,11 @@ flow_table_means under is_end feed name w to new f called step =
     steps-as (flow_behaves under.bytes under.options) feed (Next name) _ to (reading w) _ new step.to_is step.new_is
     (rw (sym called.setting)
     (each_means feed (flow_at w.setting.options) name (reading w)
-    (sees feed w is_end f called.may) refl called.stands (inr (flow_by_line w.setting.options))))
+    (sees feed w is_end f called.may) refl called.valid (inr (flow_by_line w.setting.options))))
 
 -- and reaches where the table is
-pub flow_stands : StandsOn FlowStep flow_table_scheme
-flow_stands name w to new at step =
-    does-stands flow_table_scheme name (reading w)
+pub flow_keeps_valid : KeepsValid FlowStep flow_table_scheme
+flow_keeps_valid name w to new at step =
+    does-valid flow_table_scheme name (reading w)
     (flow_transition name (reading w)) to new step.to_is step.new_is
     (flow_terminates name (reading w) refl at)

@@ -12,9 +12,9 @@ use Rattle.md_engine.specs.declared.state.document.State.TheVariants as document
 use Rattle.md_engine.specs.declared.state.State.{State}
 use Rattle.md_engine.specs.declared.state.State.TheVariants.{Error, Ok, Nok, Next, Retry}
 use Rattle.md_engine.specs.Found.{Found, nothing}
-use Rattle.md_engine.specs.Meaning.{Accepts, comes_to, goes, here}
+use Rattle.md_engine.specs.Meaning.{Accepts, whole_outcome, proceeds, here}
 use Rattle.md_engine.specs.Run.{Flushes, IsEnd, Resolution, Runs, Step, plain}
-use Rattle.md_engine.specs.Scheme.{stands}
+use Rattle.md_engine.specs.Scheme.{valid}
 use Rattle.md_engine.specs.TextFeed.{text_feed}
 use Rattle.md_engine.specs.World.{Setting, World, fresh, reads_to}
 use Rattle.md_engine.proofs.Keeps.{runs-append, runs-at_end, runs-setting}
@@ -49,7 +49,7 @@ use Rattle.markdown_blocks.proofs.FlowSteps.{IsFramed, content-same, rows-no_con
 use Rattle.proof_table_laws.proofs.HeadsRead.{heads-none}
 use Rattle.proof_rows.proofs.JoinedLemmas.{EachNoContent, HasNoContent, events-no_content, front-no_content}
 use Rattle.proof_rows.proofs.JoinedLemmas.{rows_at-no_content, tail-no_content}
-use Rattle.markdown_blocks.proofs.StandsLemmas.{flow-ran}
+use Rattle.markdown_blocks.proofs.ValidLemmas.{flow-ran}
 use Rattle.markdown_blocks.proofs.LinesFed.{text-follows_it}
 use Rattle.md_events.specs.Spaces.{any_size}
 
@@ -204,14 +204,14 @@ flow-pushed : (bytes : List ℕ) (options : ParseOptions) (p : Point) (end : Sta
 flow-pushed bytes options p end at found items small run f =
     record { ran = ran; events = events; setting = setting }
   where
-    begun : stands flow_table_scheme (reads_to (fresh bytes options p) (length bytes))
+    begun : valid flow_table_scheme (reads_to (fresh bytes options p) (length bytes))
         (Next (s.Document document.ContainerExistingBefore))
     begun = ((refl, record { ok = λ s q t is up way. tt; nok = λ s q t is up. tt }), tt)
 
-    pushed : (comes_to (flow_behaves bytes options) (text_feed (text_setting bytes options p))
+    pushed : (whole_outcome (flow_behaves bytes options) (text_feed (text_setting bytes options p))
         (Next (s.Document document.ContainerExistingBefore)) (fresh bytes options p) ≡
-        comes_to (flow_behaves bytes options) (text_feed (text_setting bytes options p)) end at) ×
-        stands flow_table_scheme at (plain end)
+        whole_outcome (flow_behaves bytes options) (text_feed (text_setting bytes options p)) end at) ×
+        valid flow_table_scheme at (plain end)
     pushed =
         flow_push (Next (s.Document document.ContainerExistingBefore)) end (fresh bytes options p) at
         (length bytes) (length bytes) small (omega arith) begun run
@@ -224,11 +224,11 @@ flow-pushed bytes options p end at found items small run f =
     limit : at.setting.limit < 2 ^ 61
     limit = let P : Setting → Type 0 = λ y. y.limit < 2 ^ 61 in subst P (sym kept) small
 
-    means : comes_to (flow_behaves at.setting.bytes at.setting.options) (text_feed at.setting) end at ≡
+    means : whole_outcome (flow_behaves at.setting.bytes at.setting.options) (text_feed at.setting) end at ≡
         flow_at at.setting.options (text_cells bytes options p) (here (fresh bytes options p))
     means =
         let P : Setting →
-        Type 0 = λ y. comes_to (flow_behaves y.bytes y.options) (text_feed y) end at ≡
+        Type 0 = λ y. whole_outcome (flow_behaves y.bytes y.options) (text_feed y) end at ≡
         flow_at y.options (text_cells bytes options p) (here (fresh bytes options p)) in
         subst P (sym kept)
         (sym pushed.0 ∙ sym (flow_by_line options (text_cells bytes options p) (here (fresh bytes options p))))
@@ -244,7 +244,7 @@ flow-pushed bytes options p end at found items small run f =
 
     -- the run of a push and a flush, which ends with the text
     ends : (e : State) → IsEnd e →
-        goes (flow_behaves at.setting.bytes at.setting.options) e (text_feed at.setting f.at.point) (here f.at) ≡
+        proceeds (flow_behaves at.setting.bytes at.setting.options) e (text_feed at.setting f.at.point) (here f.at) ≡
         Accepts (here f.at) [] →
         (e ≡ Ok) × (text_feed at.setting f.at.point ≡ [])
     ends Ok t e = (refl, cc)
@@ -256,14 +256,16 @@ flow-pushed bytes options p end at found items small run f =
     ran : FlowRan bytes options p f.end f.at
     ran =
         let same : flow_at at.setting.options (text_cells bytes options p) (here (fresh bytes options p)) ≡
-        goes (flow_behaves at.setting.bytes at.setting.options) f.end (text_feed at.setting f.at.point) (here f.at) =
+        proceeds (flow_behaves at.setting.bytes at.setting.options) f.end
+        (text_feed at.setting f.at.point) (here f.at) =
         sym means ∙ flow_flush resolved_as end at false found items limit pushed.1 f in
-        let comes : goes (flow_behaves at.setting.bytes at.setting.options) f.end (text_feed at.setting f.at.point)
+        let becomes : proceeds (flow_behaves at.setting.bytes at.setting.options) f.end
+        (text_feed at.setting f.at.point)
         (here f.at) ≡ Accepts (here f.at) [] =
         sym same
         ∙ flow_outcome resolved_as end at false found items (text_cells bytes options p)
         (here (fresh bytes options p)) limit pushed.1 means f in
-        let done = ends f.end f.ends comes in
+        let done = ends f.end f.ends becomes in
         flow-ran bytes options p f.end f.at small
         (runs-append FlowStep true (Next (s.Document document.ContainerExistingBefore))
         (reads_to (fresh bytes options p) (length bytes)) end at f.end f.at

@@ -2,8 +2,9 @@
 -- not matter whether it ran.
 use Rattle.md_engine.specs.declared.tokenizer.held_leaf.HeldLeaf.{HeldLeaf}
 use Rattle.std.proofs.Common.{◌≡◌, ◌≢◌, ℕ, zero, suc, Bool, true, false, cond, List, [], ◌∷◌, length}
-use Rattle.proof_rows.specs.Rows.{is_inside, new_behind, behind_held, Front, Held, held_at, in_front, is_text}
-use Rattle.proof_rows.specs.Rows.{opened_prefixes, no_front, row_events, rows_at, rows_by, rows_events, continued_prefixes}
+use Rattle.proof_rows.specs.Rows.{is_inside, new_after, after_held, Front, Held, held_at, in_front, is_text}
+use Rattle.proof_rows.specs.Rows.{opened_prefixes, no_front, row_events, rows_at, rows_by, rows_events}
+use Rattle.proof_rows.specs.Rows.{continued_prefixes}
 use Rattle.std.proofs.Common.{refl, ap, sym, ◌∙◌, subst, append-nil}
 use Rattle.std.specs.Prelude.{Option, Some, None}
 use Rattle.std.proofs.lemmas.Bool.{or_parts}
@@ -17,18 +18,19 @@ use Rattle.md_content.specs.Joined.{joined}
 use Rattle.md_events.specs.Ahead.{from_ending}
 use Rattle.md_meaning.specs.State.{Container}
 use Rattle.md_events.specs.Substituted.{Readings, Substituted}
-use Rattle.proof_frame.specs.Change.{interrupts, open_behind, others_of}
+use Rattle.proof_frame.specs.Change.{interrupts, open_following, others_of}
 use Rattle.markdown_blocks.specs.FlowReads.{has_text}
 use Rattle.proof_frame.specs.Row.{BlankRow, Row, RowKind, TextRow, LeafRow}
 use Rattle.proof_frame.proofs.EachEvent.{each-append}
 use Rattle.proof_rows.proofs.EachRow.{EachRow}
-use Rattle.md_registry.specs.Registry.{goes_at, opens_at}
+use Rattle.md_registry.specs.Registry.{proceeds_at, opens_at}
 use Rattle.proof_rows.proofs.JoinedLemmas.{EachNoContent, events-no_content, front-no_content, joined-passes}
 use Rattle.proof_frame.proofs.SubstitutedLemmas.{keeps}
-use Rattle.proof_frame.proofs.ContentFacts.{NoContent, WantsContent, content-alone, no_content-append, no_content-unwanted, nothing, nothing-wanted}
+use Rattle.proof_frame.proofs.ContentFacts.{NoContent, WantsContent, content-alone, no_content-append}
+use Rattle.proof_frame.proofs.ContentFacts.{no_content-unwanted, nothing, nothing-wanted}
 use Rattle.proof_frame.proofs.PrefixNames.{AreFront, IsFrontEvent}
 use Rattle.proof_frame.specs.Passed.{Passed}
-use Rattle.md_registry.proofs.RegistryContainers.{goes-front, opens-front}
+use Rattle.md_registry.proofs.RegistryContainers.{proceeds-front, opens-front}
 
 -- What is before a line that flow reads.
 
@@ -44,12 +46,13 @@ more-front f none below h None k = h
 more-front f none below h (Some t) k = each-append IsFrontEvent t.events (f t).events (k t refl) (below t)
 
 -- all that continue
-went-are : (options : ParseOptions) (cs : List Container) (cells : List Cell) (p : Point) →
+proceeded-are : (options : ParseOptions) (cs : List Container) (cells : List Cell) (p : Point) →
     AreFront (continued_prefixes options cs cells p).events
-went-are options [] cells p = tt
-went-are options (c ∷ cs) cells p =
+proceeded-are options [] cells p = tt
+proceeded-are options (c ∷ cs) cells p =
     more-front (λ (t : Passed). continued_prefixes options cs t.cells t.point) (no_front cells p)
-    (λ t. went-are options cs t.cells t.point) tt (goes_at options c cells p) (goes-front options c cells p)
+    (λ t. proceeded-are options cs t.cells t.point) tt (proceeds_at options c cells p)
+    (proceeds-front options c cells p)
 
 -- all that open
 new-are : (options : ParseOptions) (interrupting : Bool) (size : ℕ) (cells : List Cell) (p : Point) →
@@ -60,26 +63,27 @@ new-are options interrupting (suc size) cells p =
     (λ t. new-are options false size t.cells t.point) tt
     (opens_at options interrupting cells p) (opens-front options interrupting cells p)
 
-behind-are : (options : ParseOptions) (still : HeldLeaf) (others : List Container) (went : Front) →
-    AreFront (new_behind options still others went).events
-behind-are options still others went = go (is_inside still others)
+following-are : (options : ParseOptions) (still : HeldLeaf) (others : List Container) (proceeded : Front) →
+    AreFront (new_after options still others proceeded).events
+following-are options still others proceeded = go (is_inside still others)
   where
     go : (x : Bool) →
         AreFront
-        (cond x (no_front went.cells went.point)
-        (opened_prefixes options (interrupts still others) (length went.cells) went.cells went.point)).events
+        (cond x (no_front proceeded.cells proceeded.point)
+        (opened_prefixes options (interrupts still others) (length proceeded.cells) proceeded.cells
+        proceeded.point)).events
     go true = tt
-    go false = new-are options (interrupts still others) (length went.cells) went.cells went.point
+    go false = new-are options (interrupts still others) (length proceeded.cells) proceeded.cells proceeded.point
 
 -- all of it
 held-are : (options : ParseOptions) (cs : List Container) (still : HeldLeaf) (cells : List Cell) (p : Point) →
     AreFront (held_at options cs still cells p).front
 unfolding held_at
 held-are options cs still cells p =
-    let went : Front = continued_prefixes options cs cells p in
-    let new : Front = new_behind options still (others_of cs went.containers) went in
-    each-append IsFrontEvent went.events new.events (went-are options cs cells p)
-    (behind-are options still (others_of cs went.containers) went)
+    let proceeded : Front = continued_prefixes options cs cells p in
+    let new : Front = new_after options still (others_of cs proceeded.containers) proceeded in
+    each-append IsFrontEvent proceeded.events new.events (proceeded-are options cs cells p)
+    (following-are options still (others_of cs proceeded.containers) proceeded)
 
 -- Lines.
 
@@ -100,12 +104,12 @@ rows_by-framed options h further front each = (
 )
   where
     still : HeldLeaf
-    still = behind_held options h
+    still = after_held options h
 
     go : (rest : List Cell) →
-        EachRow IsFramed (elim rest [ [] ↦ [] | c ∷ cs ↦ further (open_behind h.change) still cs c.after ])
+        EachRow IsFramed (elim rest [ [] ↦ [] | c ∷ cs ↦ further (open_following h.change) still cs c.after ])
     go [] = tt
-    go (c ∷ cs) = each (open_behind h.change) still cs c.after
+    go (c ∷ cs) = each (open_following h.change) still cs c.after
 
 -- however many there are
 pub rows_at-framed : (options : ParseOptions) (size : ℕ) (open_before : List Container) (still : HeldLeaf)

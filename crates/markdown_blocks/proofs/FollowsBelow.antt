@@ -3,11 +3,11 @@ use Rattle.md_engine.specs.declared.tokenizer.held_leaf.HeldLeaf.{HeldLeaf}
 use Rattle.std.proofs.Common.{◌≡◌, ℕ, Bool, true, false, cond, ◌&&◌, List, [], ◌∷◌, length, refl, ap, ap₂, sym}
 use Rattle.std.proofs.Common.{◌∙◌, subst, inl, inr}
 use Rattle.std.specs.Prelude.{None, Option, Some}
-use Rattle.proof_frame.specs.HeldLeaf.{may_go_on, takes_lazy}
+use Rattle.proof_frame.specs.HeldLeaf.{may_continue, takes_lazy}
 use Rattle.proof_rows.specs.Rows.{is_further, is_last, onto_span, Headed, LeafLines, Turned, onto_leaf, takes_head}
-use Rattle.proof_rows.specs.Rows.{line_behind, Group, Lines, Single, groups_events, is_lazy, is_text, line_kind}
+use Rattle.proof_rows.specs.Rows.{line_following, Group, Lines, Single, groups_events, is_lazy, is_text, line_kind}
 use Rattle.proof_rows.specs.Rows.{onto_groups}
-use Rattle.proof_rows.proofs.StepBehind.{GoesOn, goes-on}
+use Rattle.proof_rows.proofs.StepAfter.{IsContinued, proceeds-on}
 use Rattle.md_registry.specs.Registry.{leaf}
 use Rattle.proof_rows.proofs.TextGroups.{lines-first, text-onto, text_group}
 use Rattle.std.proofs.lemmas.Bool.{and_parts}
@@ -20,10 +20,10 @@ use Rattle.proof_frame.specs.Closed.{close_containers}
 use Rattle.proof_rows.specs.Fronted.{Contained, rest_from}
 use Rattle.proof_rows.specs.WithoutMdx.{IsWithoutMdx}
 use Rattle.proof_frame.specs.Row.{BlankRow, LeafRow, Row, RowKind, TextRow}
-use Rattle.proof_rows.specs.Stands.{IsPlain, containers_of, still_of, reading}
+use Rattle.proof_rows.specs.Valid.{IsPlain, containers_of, still_of, reading}
 use Rattle.proof_rows.proofs.ContainedLemmas.{lazy-opens}
 use Rattle.proof_frame.proofs.FrontFacts.{LinePrefix}
-use Rattle.proof_rows.proofs.LineSteps.{contained-lazy, contained_at, goes_lazy}
+use Rattle.proof_rows.proofs.LineSteps.{contained-lazy, contained_at, continues_lazy}
 use Rattle.md_registry.proofs.Registry.{laws}
 use Rattle.proof_rows.proofs.RowFacts as f
 use Rattle.proof_frame.proofs.PrefixFacts.{begins}
@@ -77,7 +77,8 @@ leaf-begins false row below (Headed next more rows ∷ gs) e = span-begins row b
 leaf-begins false row below (LeafLines next rows ∷ gs) e = go (is_further next.kind next.on)
   where
     go : (x : Bool) →
-        onto_groups row TextRow (cond x (LeafLines below (next ∷ rows) ∷ gs) (LeafLines below [] ∷ LeafLines next rows ∷ gs)) ≡
+        onto_groups row TextRow (cond x (LeafLines below (next ∷ rows) ∷ gs)
+        (LeafLines below [] ∷ LeafLines next rows ∷ gs)) ≡
         Lines row [] ∷ cond x (LeafLines below (next ∷ rows) ∷ gs) (LeafLines below [] ∷ LeafLines next rows ∷ gs)
     go true = span-begins row below (next ∷ rows) gs e
     go false = span-begins row below [] (LeafLines next rows ∷ gs) e
@@ -102,11 +103,11 @@ not-joined row below gs lazy begins = go below.kind lazy
         (λ next more rest spans heads. refl)
 
 -- after a line another may continue lazily if it is text
-pub behind-lazy : (options : ParseOptions) (bytes line : List ℕ) (row : Row) → f.IsRow options bytes line row →
-    takes_lazy row.behind ≡ is_text row.kind
-behind-lazy options bytes line row is = ap takes_lazy is.behind ∙ go row.kind
+pub following-lazy : (options : ParseOptions) (bytes line : List ℕ) (row : Row) → f.IsRow options bytes line row →
+    takes_lazy row.following ≡ is_text row.kind
+following-lazy options bytes line row is = ap takes_lazy is.following ∙ go row.kind
   where
-    go : (kind : RowKind) → takes_lazy (line_behind options row.on is.rest kind) ≡ is_text kind
+    go : (kind : RowKind) → takes_lazy (line_following options row.on is.rest kind) ≡ is_text kind
     go BlankRow = refl
     go (LeafRow l) = ((laws l).not_lazy options row.on).1 is.rest
     go TextRow = refl
@@ -119,7 +120,8 @@ not-spanned row below gs begins = go below.kind
     apart : (rows : List Row) (more : List Group) →
         onto_span row (LeafLines below rows ∷ more) ≡ LeafLines row [] ∷ LeafLines below rows ∷ more
     apart rows more =
-        ap (λ (x : Bool). cond x (LeafLines row (below ∷ rows) ∷ more) (LeafLines row [] ∷ LeafLines below rows ∷ more)) begins
+        ap (λ (x : Bool). cond x (LeafLines row (below ∷ rows) ∷ more)
+        (LeafLines row [] ∷ LeafLines below rows ∷ more)) begins
 
     spans : (gs : List Group) → onto_span row (onto_span below gs) ≡ LeafLines row [] ∷ onto_span below gs
     spans [] = apart [] []
@@ -130,8 +132,10 @@ not-spanned row below gs begins = go below.kind
     spans (LeafLines next rows ∷ more) = join (is_further next.kind next.on)
       where
         join : (x : Bool) →
-            onto_span row (cond x (LeafLines below (next ∷ rows) ∷ more) (LeafLines below [] ∷ LeafLines next rows ∷ more)) ≡
-            LeafLines row [] ∷ cond x (LeafLines below (next ∷ rows) ∷ more) (LeafLines below [] ∷ LeafLines next rows ∷ more)
+            onto_span row (cond x (LeafLines below (next ∷ rows) ∷ more)
+            (LeafLines below [] ∷ LeafLines next rows ∷ more)) ≡
+            LeafLines row [] ∷ cond x (LeafLines below (next ∷ rows) ∷ more)
+            (LeafLines below [] ∷ LeafLines next rows ∷ more)
         join true = apart (next ∷ rows) more
         join false = apart [] (LeafLines next rows ∷ more)
 
@@ -154,7 +158,7 @@ not-spanned row below gs begins = go below.kind
 -- what follows a line, by what is read of the lines below
 pub follows-below : (options : ParseOptions) (bytes : List ℕ) (p : Path) (row below : Row) (gs : List Group) (q : Point)
     (line : List ℕ) (last : Reading) →
-    IsWithoutMdx options → IsPlain p → takes_lazy row.behind ≡ is_text row.kind → still_of p ≡ row.behind →
+    IsWithoutMdx options → IsPlain p → takes_lazy row.following ≡ is_text row.kind → still_of p ≡ row.following →
     row.closed_after ≡ below.change.closes → row.after ≡ Some q → f.IsEnding bytes row.end q →
     f.IsLine options bytes (containers_of p) (still_of p) q line below →
     (x y : Bool) → is_lazy (still_of p) below.change.opens below.kind ≡ x → is_further below.kind below.on ≡ y →
@@ -169,8 +173,8 @@ follows-below options bytes p row below gs q line last built plain lazily still 
     kind_is : below.kind ≡ line_kind options c.on c.rest
     kind_is = line-is options bytes (containers_of p) (still_of p) q line below is
 
-    goes : goes_lazy options p c ≡ true
-    goes =
+    proceeds : continues_lazy options p c ≡ true
+    proceeds =
         ap (is_lazy (still_of p) c.change.opens) (sym kind_is)
         ∙ ap (λ (x : Change). is_lazy (still_of p) x.opens below.kind) (sym is.change) ∙ lazy
 
@@ -184,7 +188,7 @@ follows-below options bytes p row below gs q line last built plain lazily still 
         (and_parts (takes_lazy (still_of p) && is_none below.change.opens) (is_text below.kind) lazy).0).0
 
     no_leaves : row.closed_after ≡ []
-    no_leaves = leaves ∙ ap (λ (x : Change). x.closes) is.change ∙ contained-lazy options p (rest_from q line) goes
+    no_leaves = leaves ∙ ap (λ (x : Change). x.closes) is.change ∙ contained-lazy options p (rest_from q line) proceeds
 
     fronts : LinePrefix bytes [] q below.first below.front
     fronts = subst (λ (cs : List Container). LinePrefix bytes cs q below.first below.front) none is.front
@@ -214,24 +218,24 @@ follows-below options bytes p row below gs q line last built plain lazily still 
     far means =
     let c : Contained = contained_at options p (rest_from q line) in
     let kind_is = line-is options bytes (containers_of p) (still_of p) q line below is in
-    let goes : GoesOn options p c = goes-on options p (rest_from q line) plain
+    let proceeds : IsContinued options p c = proceeds-on options p (rest_from q line) plain
     (sym (ap₂ is_further kind_is is.on) ∙ far) in
-    let none : below.change.opens ≡ [] = ap (λ (x : Change). x.opens) is.change ∙ goes.opens in
+    let none : below.change.opens ≡ [] = ap (λ (x : Change). x.opens) is.change ∙ proceeds.opens in
     inr
     (inr
     (inl
     (record {
       name = means.0;
       next = below;
-      closed_after = leaves ∙ ap (λ (x : Change). x.closes) is.change ∙ goes.closes;
+      closed_after = leaves ∙ ap (λ (x : Change). x.closes) is.change ∙ proceeds.closes;
       after = q;
       after_is = after;
       ending = ending;
       fronts = subst (λ (cs : List Container). LinePrefix bytes cs q below.first below.front) none is.front;
-      on = is.on ∙ goes.on ∙ still;
+      on = is.on ∙ proceeds.on ∙ still;
       further = far;
       still = still;
-      may = ap may_go_on (sym still) ∙ goes.is.may;
+      may = ap may_continue (sym still) ∙ proceeds.is.may;
       starts = means.1;
     })))
 follows-below options bytes p row below gs q line last built plain lazily still leaves after ending is false false lazy

@@ -1,7 +1,7 @@
 -- Of events in which the begin and the end of each line of text lie side by side, every other one shows whether a line
 -- of text is among them.
-use Rattle.std.proofs.Common.{◌≡◌, ℕ, suc, ◌+◌, ◌≤◌, Bool, true, false, cond, not, ◌||◌, List, [], ◌∷◌, ◌++◌, length, drop}
-use Rattle.std.proofs.Common.{◌-◌, get_or, inl, inr, refl, sym, ◌∙◌, ap, subst, arith}
+use Rattle.std.proofs.Common.{◌≡◌, ℕ, suc, ◌+◌, ◌≤◌, Bool, true, false, cond, not, ◌||◌, List, [], ◌∷◌, ◌++◌, length}
+use Rattle.std.proofs.Common.{drop, ◌-◌, get_or, inl, inr, refl, sym, ◌∙◌, ap, subst, arith}
 use Rattle.std.specs.List.{prefix_len}
 use Rattle.std.proofs.lemmas.Bool.{and_parts, or_parts}
 use Rattle.std.proofs.lemmas.List.{drop_more}
@@ -10,7 +10,7 @@ use Rattle.md_engine.specs.declared.event.Content.{Content}
 use Rattle.md_engine.specs.declared.event.Event.{Event}
 use Rattle.md_content.specs.Joined.{is_content}
 use Rattle.proof_frame.proofs.ContentFacts.{NoContent}
-use Rattle.proof_frame.proofs.EventNames.{told-content}
+use Rattle.proof_frame.proofs.EventNames.{recorded-content}
 use Rattle.md_leaves.specs.declared.spans.Place.TheVariants.{Outside}
 use Rattle.md_leaves.specs.Spanned.{passes_on}
 use Rattle.markdown_blocks.specs.Alone.{passes_alone}
@@ -28,7 +28,7 @@ pub quiet-side : (wants : Content → Bool) (xs ys : List Event) → NoContent w
     side_by_side false (xs ++ ys) ≡ side_by_side false ys
 quiet-side wants [] ys h = refl
 quiet-side wants (e ∷ xs) ys h =
-    ap (λ (x : Bool). side_by_side x (xs ++ ys)) (told-content e.name h.1) ∙ quiet-side wants xs ys h.2
+    ap (λ (x : Bool). side_by_side x (xs ++ ys)) (recorded-content e.name h.1) ∙ quiet-side wants xs ys h.2
 
 -- Two events of which the first is of no line of text are passed,
 two-passed : (e f : Event) (es : List Event) → is_content e.name ≡ false → AreSideBySide (e ∷ f ∷ es) →

@@ -13,7 +13,7 @@ pub mod SpelledGroups
 pub mod RowMeans
 pub mod FollowsBelow
 pub mod SpelledRows
-pub mod StandsLemmas
+pub mod ValidLemmas
 pub mod TreeRows
 pub mod Parses
 pub mod ContentAre

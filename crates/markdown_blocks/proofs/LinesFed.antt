@@ -17,14 +17,14 @@ use Rattle.md_engine.specs.declared.state.document.State.TheVariants as document
 use Rattle.md_engine.specs.declared.state.State.{State}
 use Rattle.md_engine.specs.declared.state.State.TheVariants.{Next, Ok}
 use Rattle.md_engine.specs.declared.tokenizer.Frame.{Frame}
-use Rattle.md_engine.specs.Meaning.{Accepts, Behaviour, Cell, Feed, Follows, Here, Outcome, Refuses, Steps, comes_to}
-use Rattle.md_engine.specs.Meaning.{goes, here, resume_all}
+use Rattle.md_engine.specs.Meaning.{Accepts, Behaviour, Cell, Feed, Follows, Here, Outcome, Refuses, Steps}
+use Rattle.md_engine.specs.Meaning.{whole_outcome, proceeds, here, resume_all}
 use Rattle.md_engine.specs.Run.{Calls, Leaves, Runs, plain, reading}
 use Rattle.md_engine.specs.Run.Runs.{Stays, ThenCalls, ThenLeaves}
-use Rattle.md_engine.specs.Scheme.{stands}
+use Rattle.md_engine.specs.Scheme.{valid}
 use Rattle.md_engine.specs.TextFeed.{text_feed}
 use Rattle.md_engine.specs.World.{Setting, World, looks}
-use Rattle.md_engine.proofs.Falls.{leaves_stands}
+use Rattle.md_engine.proofs.Falls.{leaves_valid}
 use Rattle.md_engine.proofs.Keeps.{leaves-keep, plain-same, runs-setting, steps-keep}
 use Rattle.md_engine.proofs.StepOf.{sees, steps-as}
 use Rattle.md_engine.proofs.TextFeed.{text-follows}
@@ -33,18 +33,18 @@ use Rattle.md_events.specs.Ahead.{from_ending, line_end}
 use Rattle.md_events.specs.Events.Nested.{pair}
 use Rattle.md_meaning.specs.State.{Container}
 use Rattle.md_events.proofs.FeedLines.{Stops}
-use Rattle.proof_frame.specs.Change.{ends_of, open_behind}
+use Rattle.proof_frame.specs.Change.{ends_of, open_following}
 use Rattle.md_registry.specs.FlowRule.{feeds, ended, line_then}
-use Rattle.markdown_blocks.specs.Fed.{fed, flow_begins, line_begins, not_left, place_behind}
+use Rattle.markdown_blocks.specs.Fed.{fed, flow_begins, line_begins, not_left, place_following}
 use Rattle.proof_frame.specs.Rule.{Rule}
 use Rattle.proof_frame.specs.EndingName.{ending_name}
-use Rattle.proof_frame.specs.Row.{Row, behind_row}
-use Rattle.proof_rows.specs.Rows.{behind_held, Held, after_ending, closes_before, held_at}
+use Rattle.proof_frame.specs.Row.{Row, after_row}
+use Rattle.proof_rows.specs.Rows.{after_held, Held, after_ending, closes_before, held_at}
 use Rattle.proof_rows.specs.Rows.{onto_rows, row_events, row_of, rows_at, rows_events}
-use Rattle.proof_rows.specs.Stands.{AreOpen}
+use Rattle.proof_rows.specs.Valid.{AreOpen}
 use Rattle.md_registry.specs.States.{FlowStep, flow_behaves_by, flow_table_scheme, flow_transition}
 use Rattle.proof_rows.specs.TextRows.{text_cells, text_rows, text_setting}
-use Rattle.markdown_blocks.proofs.FlowMeans.{Takes, ending-taken, flow-steps-by, flow_stands}
+use Rattle.markdown_blocks.proofs.FlowMeans.{Takes, ending-taken, flow-steps-by, flow_keeps_valid}
 use Rattle.proof_rows.proofs.FlowLine.{Begins, Done, line-done}
 use Rattle.proof_rows.proofs.FlowRows.{held-shorter, leaving, next-begins, next_here}
 use Rattle.proof_rows.proofs.FlowRows.{no-closes, row-adds, rows_below, text-begins}
@@ -56,27 +56,27 @@ use Rattle.md_link_definitions.proofs.LineCells.{line-stops}
 -- which containers are open,
 abbrev pub open_after : List Container → List Row → List Container
 open_after cs [] = cs
-open_after cs (row ∷ rows) = open_after (open_behind row.change) rows
+open_after cs (row ∷ rows) = open_after (open_following row.change) rows
 
 -- and the leaf that is open after them
 abbrev pub leaf_after : HeldLeaf → List Row → HeldLeaf
 leaf_after still [] = still
-leaf_after still (row ∷ rows) = leaf_after row.behind rows
+leaf_after still (row ∷ rows) = leaf_after row.following rows
 
 -- the last of them says these, and where the next begins
 open-last : (cs : List Container) (rows : List Row) (row : Row) →
-    open_after cs (rows ++ row ∷ []) ≡ open_behind row.change
+    open_after cs (rows ++ row ∷ []) ≡ open_following row.change
 open-last cs [] row = refl
-open-last cs (first ∷ rows) row = open-last (open_behind first.change) rows row
+open-last cs (first ∷ rows) row = open-last (open_following first.change) rows row
 
 leaf-last : (still : HeldLeaf) (rows : List Row) (row : Row) →
-    leaf_after still (rows ++ row ∷ []) ≡ row.behind
+    leaf_after still (rows ++ row ∷ []) ≡ row.following
 leaf-last still [] row = refl
-leaf-last still (first ∷ rows) row = leaf-last first.behind rows row
+leaf-last still (first ∷ rows) row = leaf-last first.following rows row
 
-place-last : (p : Point) (rows : List Row) (row : Row) → place_behind p (rows ++ row ∷ []) ≡ behind_row row
+place-last : (p : Point) (rows : List Row) (row : Row) → place_following p (rows ++ row ∷ []) ≡ after_row row
 place-last p [] row = refl
-place-last p (first ∷ rows) row = place-last (behind_row first) rows row
+place-last p (first ∷ rows) row = place-last (after_row first) rows row
 
 -- no container has ended after it yet
 not_left-last : (rows : List Row) (row : Row) → not_left (rows ++ row ∷ []) ≡ rows ++ leaving [] row ∷ []
@@ -138,7 +138,7 @@ record LineAt (options : ParseOptions) (from : Point) (all : List Row) (n : ℕ)
   read : front ++ (ends_of (closes_before containers (drop n all)) point ++ tail) ≡ rows_events (take n all)
   events : h.events ≡ rows_events (not_left (take n all))
   -- where the last of them has ended, and what they leave open
-  place : h.point ≡ place_behind from (take n all)
+  place : h.point ≡ place_following from (take n all)
   containers_are : containers ≡ open_after [] (take n all)
   still_is : still ≡ leaf_after held_leaf.None (take n all)
 
@@ -158,11 +158,11 @@ line-next options from all n left h l rest new is = by l.size l.fits l.rows
         (line_then options line_stop left h)
     d = line-done options line_stop l.front l.tail l.point l.containers l.still left h l.few l.begins
 
-    behind : List Container
-    behind = open_behind (held_at options l.containers l.still left h.point).change
+    following : List Container
+    following = open_following (held_at options l.containers l.still left h.point).change
 
     text : HeldLeaf
-    text = behind_held options (held_at options l.containers l.still left h.point)
+    text = after_held options (held_at options l.containers l.still left h.point)
 
     -- after the line, with the ends of these containers
     added : (c : Cell) (xs : List Cell) (below : List Row) (ls : List Container) → from_ending x.cells ≡ c ∷ xs →
@@ -190,7 +190,7 @@ line-next options from all n left h l rest new is = by l.size l.fits l.rows
         (omega (arith, ending-shorter x.cells, held-shorter options l.containers l.still left h.point)) rows
       where
         go : (ls : List Cell) → from_ending x.cells ≡ ls → Stops ls → length ls < suc m →
-            drop n all ≡ onto_rows options x (rows_below options m behind text ls) →
+            drop n all ≡ onto_rows options x (rows_below options m following text ls) →
             LineAt options from all (suc n) rest new
         go [] e stops short rows =
             let none : line_stop rest new ≡ ended line_stop [] d.new = sym is ∙ d.is
@@ -202,7 +202,7 @@ line-next options from all n left h l rest new is = by l.size l.fits l.rows
             omega
             (arith, same, l.few, ending-shorter x.cells, held-shorter options l.containers l.still left h.point)
             in
-            let below : List Row = rows_at options m behind text xs c.after in
+            let below : List Row = rows_at options m following text xs c.after in
             let row : Row = row_of options x below in
             let taken : take (suc n) all ≡ take n all ++ row ∷ [] = take-next n all row below rows in
             let dropped : drop (suc n) all ≡ below = drop-next n all row below rows in
@@ -216,24 +216,25 @@ line-next options from all n left h l rest new is = by l.size l.fits l.rows
               front = d.new.events;
               tail = tail;
               point = d.new.point;
-              containers = behind;
+              containers = following;
               still = text;
-              begins = next-begins behind text c d.new d.rest d.leaf d.containers;
+              begins = next-begins following text c d.new d.rest d.leaf d.containers;
               size = m;
               fits = omega arith;
               few = omega (arith, fewer);
               rows = dropped;
               read =
                   ap
-                  (λ (rs : List Row). d.new.events ++ (ends_of (closes_before behind rs) d.new.point ++ tail)) dropped
-                  ∙ added c xs below (closes_before behind below) e rows ∙ ap rows_events (sym taken);
+                  (λ (rs : List Row). d.new.events ++ (ends_of (closes_before following rs) d.new.point ++ tail))
+                  dropped
+                  ∙ added c xs below (closes_before following below) e rows ∙ ap rows_events (sym taken);
               events =
                   added c xs below [] e rows ∙ ap rows_events (sym (not_left-last (take n all) row))
                   ∙ ap (λ (rs : List Row). rows_events (not_left rs)) (sym taken);
               place =
                   ap (λ (ls : List Cell). elim (after_ending ls) [ None ↦ line_end x.cells x.point | Some q ↦ q ])
                   (sym e)
-                  ∙ sym (ap (place_behind from) taken ∙ place-last from (take n all) row);
+                  ∙ sym (ap (place_following from) taken ∙ place-last from (take n all) row);
               containers_are = sym (ap (open_after []) taken ∙ open-last [] (take n all) row);
               still_is = sym (ap (leaf_after held_leaf.None) taken ∙ leaf-last held_leaf.None (take n all) row);
             })
@@ -269,14 +270,14 @@ line_behaves x = flow_behaves_by x.bytes x.options line_stop
 -- So many of all lines were fed; the tokenizer becomes what is left of the line that it reads.
 record Within (under : Setting) (feed : Feed) (from : Point) (all : List Row) (n : ℕ) (t : State)
     (v : World) : Type 0 where
-  at : stands flow_table_scheme v (plain t)
+  at : valid flow_table_scheme v (plain t)
   left : List Cell
   begin : Here
   line : LineAt under.options from all n left begin
-  comes : comes_to (line_behaves under) feed t v ≡ line_then under.options line_stop left begin
+  becomes : whole_outcome (line_behaves under) feed t v ≡ line_then under.options line_stop left begin
 
 -- a line was fed: no attempt is around, and the next begins
-record Behind (under : Setting) (feed : Feed) (from : Point) (all : List Row) (n : ℕ) (t : State)
+record Following (under : Setting) (feed : Feed) (from : Point) (all : List Row) (n : ℕ) (t : State)
     (v : World) : Type 0 where
   to : t ≡ Next (s.Document document.ContainerExistingBefore)
   frames : v.frames ≡ []
@@ -287,21 +288,21 @@ within-leaves : (under : Setting) (feed : Feed) (from : Point) (all : List Row) 
     (t' : State) (v' : World) →
     Within under feed from all n t v → Leaves t v t' v' → Within under feed from all n t' v'
 within-leaves under feed from all n t v t' v' w l = record {
-  at = leaves_stands flow_table_scheme v v' t t' l w.at;
+  at = leaves_valid flow_table_scheme v v' t t' l w.at;
   left = w.left;
   begin = w.begin;
   line = w.line;
-  comes = sym (leaves-keep (line_behaves under) feed t t' v v' l) ∙ w.comes;
+  becomes = sym (leaves-keep (line_behaves under) feed t t' v v' l) ∙ w.becomes;
 }
 
 -- where a state is called
-comes-called : (under : Setting) (feed : Feed) (from : Point) (all : List Row) (n : ℕ) (t : State) (v : World)
+becomes-called : (under : Setting) (feed : Feed) (from : Point) (all : List Row) (n : ℕ) (t : State) (v : World)
     (name : StateName) →
     plain t ≡ Next name → (w : Within under feed from all n t v) →
-    comes_to (line_behaves under) feed (Next name) v ≡ line_then under.options line_stop w.left w.begin
-comes-called under feed from all n t v name names w =
+    whole_outcome (line_behaves under) feed (Next name) v ≡ line_then under.options line_stop w.left w.begin
+becomes-called under feed from all n t v name names w =
     let B = line_behaves under in
-    ap (λ (x : State). comes_to B feed x v) (sym names) ∙ plain-same B feed v t ∙ w.comes
+    ap (λ (x : State). whole_outcome B feed x v) (sym names) ∙ plain-same B feed v t ∙ w.becomes
 
 -- a call that feeds no line
 within-calls : (under : Setting) (feed : Feed) (from : Point)
@@ -309,21 +310,21 @@ within-calls : (under : Setting) (feed : Feed) (from : Point)
     Follows feed v.setting true → v.setting ≡ under → Within under feed from all n t v →
     (c : Calls FlowStep true t v t' v') → feeds c.name (looks v) ≡ 0 → Within under feed from all n t' v'
 within-calls under feed from all n t v t' v' f o w c none = record {
-  at = flow_stands c.name v t' v' stood c.step;
+  at = flow_keeps_valid c.name v t' v' is_valid c.step;
   left = w.left;
   begin = w.begin;
   line = w.line;
-  comes =
+  becomes =
       sym
       (steps-keep (line_behaves under) feed (Next c.name) t' (reading v) v' c.within (subst P o steps))
-      ∙ comes-called under feed from all n t v c.name c.names w;
+      ∙ becomes-called under feed from all n t v c.name c.names w;
 }
   where
     Q : State → Type 0
-    Q x = stands flow_table_scheme v x
+    Q x = valid flow_table_scheme v x
 
-    stood : stands flow_table_scheme v (Next c.name)
-    stood = subst Q c.names w.at
+    is_valid : valid flow_table_scheme v (Next c.name)
+    is_valid = subst Q c.names w.at
 
     P : Setting → Type 0
     P x = Steps (line_behaves x) feed (Next c.name) (reading v) t' v'
@@ -333,23 +334,23 @@ within-calls under feed from all n t v t' v' f o w c none = record {
         steps-as (line_behaves v.setting) feed (Next c.name)
         (flow_transition c.name (reading v)).to t' (reading v)
         (flow_transition c.name (reading v)).world v' c.step.to_is c.step.new_is
-        (flow-steps-by feed line_stop c.name (reading v) (sees feed v true f c.may) refl stood none)
+        (flow-steps-by feed line_stop c.name (reading v) (sees feed v true f c.may) refl is_valid none)
 
 -- the call that takes an ending
-behind-calls : (under : Setting) (feed : Feed) (from : Point)
+following-calls : (under : Setting) (feed : Feed) (from : Point)
     (all : List Row) (n : ℕ) (t : State) (v : World) (t' : State) (v' : World) →
     Follows feed v.setting true → v.setting ≡ under → Within under feed from all n t v →
     Calls FlowStep true t v t' v' → plain t ≡ Next (s.Document document.FlowEnd) →
     FlowStep (s.Document document.FlowEnd) (reading v) t' v' → looks v ≡ Some 10 →
-    Behind under feed from all (suc n) t' v'
-behind-calls under feed from all n t v t' v' f o w c names step ten = record {
+    Following under feed from all (suc n) t' v'
+following-calls under feed from all n t v t' v' f o w c names step ten = record {
   to = step.to_is ∙ taken.to_is;
   frames = ap (λ (x : World). x.frames) step.new_is ∙ taken.still;
   line = line-next under.options from all n w.left w.begin w.line (feed v'.point) (here v') ended;
 }
   where
     Q : State → Type 0
-    Q x = stands flow_table_scheme v x
+    Q x = valid flow_table_scheme v x
 
     taken : Takes line_stop feed (reading v) (flow_transition (s.Document document.FlowEnd) (reading v)).to
         (flow_transition (s.Document document.FlowEnd) (reading v)).world
@@ -357,39 +358,39 @@ behind-calls under feed from all n t v t' v' f o w c names step ten = record {
 
     ended : line_then under.options line_stop w.left w.begin ≡ line_stop (feed v'.point) (here v')
     ended =
-        sym (comes-called under feed from all n t v (s.Document document.FlowEnd) names w)
+        sym (becomes-called under feed from all n t v (s.Document document.FlowEnd) names w)
         ∙ ap
         (λ (fs : List Frame).
         resume_all (line_behaves under) feed v.events fs
-        (goes (line_behaves under) (Next (s.Document document.FlowEnd)) (feed v.point) (here v)))
+        (proceeds (line_behaves under) (Next (s.Document document.FlowEnd)) (feed v.point) (here v)))
         taken.frames
         ∙ ap
         (λ (x : Setting).
-        goes (line_behaves x) (Next (s.Document document.FlowEnd)) (feed v.point) (here v))
+        proceeds (line_behaves x) (Next (s.Document document.FlowEnd)) (feed v.point) (here v))
         (sym o)
-        ∙ taken.goes_on
+        ∙ taken.is_continued
         ∙ ap (λ (x : World). line_stop (feed x.point) (here x)) (sym step.new_is)
 
 -- by the state that is called
-behind-feed : (under : Setting) (feed : Feed) (from : Point)
+following-feed : (under : Setting) (feed : Feed) (from : Point)
     (all : List Row) (n : ℕ) (t : State) (v : World) (t' : State) (v' : World) →
     Follows feed v.setting true → v.setting ≡ under → Within under feed from all n t v →
     (c : Calls FlowStep true t v t' v') → c.name ≡ s.Document document.FlowEnd → looks v ≡ Some 10 →
-    Behind under feed from all (suc n) t' v'
-behind-feed under feed from all n t v t' v' f o w c e ten =
+    Following under feed from all (suc n) t' v'
+following-feed under feed from all n t v t' v' f o w c e ten =
     let P : StateName → Type 0 = λ x. FlowStep x (reading v) t' v' in
-    behind-calls under feed from all n t v t' v' f o w c (c.names ∙ ap (λ (x : StateName). Next x) e)
+    following-calls under feed from all n t v t' v' f o w c (c.names ∙ ap (λ (x : StateName). Next x) e)
     (subst P e c.step) ten
 
 -- there the tokenizer reads the next line
-behind-within : (under : Setting) (feed : Feed) (from : Point) (all : List Row) (n : ℕ) (t : State) (v : World) →
-    stands flow_table_scheme v (plain t) → Behind under feed from all n t v → Within under feed from all n t v
-behind-within under feed from all n t v at b = record {
+following-within : (under : Setting) (feed : Feed) (from : Point) (all : List Row) (n : ℕ) (t : State) (v : World) →
+    valid flow_table_scheme v (plain t) → Following under feed from all n t v → Within under feed from all n t v
+following-within under feed from all n t v at b = record {
   at = at;
   left = feed v.point;
   begin = here v;
   line = b.line;
-  comes = ap (λ (x : State). comes_to (line_behaves under) feed x v) b.to
+  becomes = ap (λ (x : State). whole_outcome (line_behaves under) feed x v) b.to
       ∙ ap
       (λ (fs : List Frame).
       resume_all (line_behaves under) feed v.events fs
@@ -407,10 +408,10 @@ within-next under feed from all n t v t' v' f o w c = go (none-or-ending c.name 
     P k = Within under feed from all k t' v'
 
     Q : State → Type 0
-    Q x = stands flow_table_scheme v x
+    Q x = valid flow_table_scheme v x
 
-    at : stands flow_table_scheme v' (plain t')
-    at = flow_stands c.name v t' v' (subst Q c.names w.at) c.step
+    at : valid flow_table_scheme v' (plain t')
+    at = flow_keeps_valid c.name v t' v' (subst Q c.names w.at) c.step
 
     go : (feeds c.name (looks v) ≡ 0) ⊎ ((c.name ≡ s.Document document.FlowEnd) × (looks v ≡ Some 10)) →
         Within under feed from all (feeds c.name (looks v) + n) t' v'
@@ -422,8 +423,8 @@ within-next under feed from all n t v t' v' f o w c = go (none-or-ending c.name 
         ∙ ap (λ (x : Option ℕ). feeds (s.Document document.FlowEnd) x) one.1 in
         let same : suc n ≡ feeds c.name (looks v) + n = omega (arith, lines) in
         subst P same
-        (behind-within under feed from all (suc n) t' v' at
-        (behind-feed under feed from all n t v t' v' f o w c one.0 one.1))
+        (following-within under feed from all (suc n) t' v' at
+        (following-feed under feed from all n t v t' v' f o w c one.0 one.1))
 
 -- and all of a run does
 within-run : (under : Setting) (feed : Feed) (from : Point)
@@ -448,7 +449,7 @@ within-run under feed from all begin w f o begun to new (ThenCalls t v t' v' run
 pub record LineFed (bytes : List ℕ) (options : ParseOptions) (p : Point) (n : ℕ) (w : World) : Type 0 where
   pub frames : w.frames ≡ []
   pub further : n < length (text_rows options bytes p)
-  pub point : w.point ≡ place_behind p (take n (text_rows options bytes p))
+  pub point : w.point ≡ place_following p (take n (text_rows options bytes p))
   pub containers : AreOpen w.flags.containers (open_after [] (take n (text_rows options bytes p)))
   pub leaf : w.flags.leaf ≡ leaf_after held_leaf.None (take n (text_rows options bytes p))
   pub events : w.events ≡ rows_events (not_left (take n (text_rows options bytes p)))
@@ -508,7 +509,7 @@ text-within bytes options p small t v run =
         containers_are = refl;
         still_is = refl;
       };
-      comes = refl;
+      becomes = refl;
     }
 
 -- whenever it has fed a line, it is at the begin of the next
@@ -541,10 +542,10 @@ line-fed bytes options p small t v t' v' run c one = record {
     ending : (c.name ≡ s.Document document.FlowEnd) × (looks v ≡ Some 10)
     ending = ending-fed c.name (looks v) one
 
-    b : Behind (text_setting bytes options p) (feed_of bytes options p) p (text_rows options bytes p) (suc n) t' v'
+    b : Following (text_setting bytes options p) (feed_of bytes options p) p (text_rows options bytes p) (suc n) t' v'
     b =
         let P : Setting → Type 0 = λ x. Follows (feed_of bytes options p) x true in
-        behind-feed (text_setting bytes options p) (feed_of bytes options p) p (text_rows options bytes p) n t v
+        following-feed (text_setting bytes options p) (feed_of bytes options p) p (text_rows options bytes p) n t v
         t' v'
         (subst P (sym kept) (text-follows_it bytes options p small)) kept
         (text-within bytes options p small t v run) c ending.0 ending.1
@@ -564,11 +565,11 @@ line-last options from all n left h l new is = by l.size l.fits l.rows
         (line_then options line_stop left h)
     d = line-done options line_stop l.front l.tail l.point l.containers l.still left h l.few l.begins
 
-    behind : List Container
-    behind = open_behind (held_at options l.containers l.still left h.point).change
+    following : List Container
+    following = open_following (held_at options l.containers l.still left h.point).change
 
     text : HeldLeaf
-    text = behind_held options (held_at options l.containers l.still left h.point)
+    text = after_held options (held_at options l.containers l.still left h.point)
 
     by : (size : ℕ) → length left < size → drop n all ≡ rows_at options size l.containers l.still left h.point →
         suc n ≡ length all
@@ -576,7 +577,7 @@ line-last options from all n left h l new is = by l.size l.fits l.rows
     by (suc m) fits rows = go (from_ending x.cells) refl (line-stops x.cells) rows
       where
         go : (ls : List Cell) → from_ending x.cells ≡ ls → Stops ls →
-            drop n all ≡ onto_rows options x (rows_below options m behind text ls) → suc n ≡ length all
+            drop n all ≡ onto_rows options x (rows_below options m following text ls) → suc n ≡ length all
         go [] e stops rows = let one = ap length rows in omega (arith, one, length-drop n all)
         go (c ∷ xs) e stops rows =
             let stopped : Accepts new [] ≡ line_stop xs (next_here c d.new) =
@@ -596,8 +597,8 @@ lines-fed bytes options p small end at run ok none done =
     line-last options p (text_rows options bytes p)
     (fed FlowStep true line_begins (flow_begins bytes options p) end at run) w.left w.begin w.line
     (here at)
-    (sym w.comes
-    ∙ ap (λ (x : State). comes_to B feed x at) ok
+    (sym w.becomes
+    ∙ ap (λ (x : State). whole_outcome B feed x at) ok
     ∙ ap (λ (fs : List Frame). resume_all B feed at.events fs (Accepts (here at) (feed at.point))) none
     ∙ ap (Accepts (here at)) done)
   where

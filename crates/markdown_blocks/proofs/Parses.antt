@@ -9,11 +9,11 @@ use Rattle.md_containers.specs.ItemsHeld.{ItemsHeld}
 use Rattle.md_containers.specs.Listed.{listed}
 use Rattle.md_containers.proofs.ListedGrammar.{listed-grammar}
 use Rattle.md_containers.proofs.ListedKept.{listed-endings, listed-pieces}
-use Rattle.md_events.specs.Events.Endings.{endings_stand}
+use Rattle.md_events.specs.Events.Endings.{endings_are_right}
 use Rattle.md_events.specs.Events.Grammar.{keeps_grammar, plain_text}
 use Rattle.md_events.specs.Events.Inline.{Piece, pieces}
 use Rattle.md_events.specs.Events.Nested.{Nested}
-use Rattle.md_events.specs.Events.Pieces.{pieces_stand}
+use Rattle.md_events.specs.Events.Pieces.{are_valid_pieces}
 use Rattle.md_events.specs.Events.Tiles.{IsBlockList, plain_read}
 use Rattle.md_events.specs.Substituted.{Substituted}
 use Rattle.md_events.specs.TextPart.{text_readings, wants_text}
@@ -42,8 +42,8 @@ use Rattle.proof_rows.proofs.TileReads.{end-read}
 -- What is known of the list of events that the plain layer reads.
 pub record ReadsPlain (options : ParseOptions) (bytes : List ℕ) : Type 0 where
   pub grammar : keeps_grammar plain_text (plain_read bytes (exact options bytes)) ≡ true
-  pub pieces_are : pieces_stand bytes (pieces (plain_read bytes (exact options bytes))) ≡ true
-  pub endings : endings_stand (plain_read bytes (exact options bytes)) ≡ true
+  pub pieces_are : are_valid_pieces bytes (pieces (plain_read bytes (exact options bytes))) ≡ true
+  pub endings : endings_are_right (plain_read bytes (exact options bytes)) ≡ true
 
 pub reads-plain : (options : ParseOptions) (bytes : List ℕ) → IsWithoutMdx options → length bytes < 2 ^ 61 →
     ReadsPlain options bytes
@@ -68,11 +68,11 @@ reads-plain options bytes built small =
           (events-grammar options bytes p front lines rows begins.fronted.leaves (end-read options bytes p small) are
           (text-quiet options bytes p)));
       pieces_are =
-          subst (λ (l : List Event). pieces_stand bytes (pieces l) ≡ true) same
-          (subst (λ (ps : List Piece). pieces_stand bytes ps ≡ true) (sym (listed-pieces bytes events))
+          subst (λ (l : List Event). are_valid_pieces bytes (pieces l) ≡ true) same
+          (subst (λ (ps : List Piece). are_valid_pieces bytes ps ≡ true) (sym (listed-pieces bytes events))
           (events-pieces options bytes p front lines rows part are));
       endings =
-          subst (λ (l : List Event). endings_stand l ≡ true) same
+          subst (λ (l : List Event). endings_are_right l ≡ true) same
           (listed-endings bytes events
           ∙ events-endings options bytes p front lines rows begins.fronted.leaves (end-read options bytes p small) are
           (text-quiet options bytes p));
@@ -98,6 +98,6 @@ plain-parsed text options events state built most read =
       read = read;
       events_are = same;
       grammar = subst (λ (l : List Event). keeps_grammar plain_text l ≡ true) (sym same) plain.grammar;
-      pieces_are = subst (λ (l : List Event). pieces_stand text (pieces l) ≡ true) (sym same) plain.pieces_are;
-      endings = subst (λ (l : List Event). endings_stand l ≡ true) (sym same) plain.endings;
+      pieces_are = subst (λ (l : List Event). are_valid_pieces text (pieces l) ≡ true) (sym same) plain.pieces_are;
+      endings = subst (λ (l : List Event). endings_are_right l ≡ true) (sym same) plain.endings;
     }

@@ -25,7 +25,7 @@ use Rattle.md_events.specs.Parts.{ArePlaced}
 use Rattle.md_events.specs.Substituted.{EachAsked, Substituted, stays}
 use Rattle.md_events.specs.TextPart.{AreBlocks, Document, IsTextPart, document_of, text_kind, text_readings, wants_text}
 use Rattle.md_events.specs.declared.inline.Chunk.{Chunk}
-use Rattle.md_events.proofs.AskedBlocks.{asked-behind, asked-blocks, substituted-behind}
+use Rattle.md_events.proofs.AskedBlocks.{asked-following, asked-blocks, substituted-following}
 use Rattle.md_events.proofs.HeldLemmas.{blocks-held}
 use Rattle.md_events.proofs.LayerTiles.{substituted-tiles, tiles-cover}
 use Rattle.md_events.proofs.NestsLemmas.{tiles-nested, tiles-placed}
@@ -100,7 +100,7 @@ module _ (state : ParseState) (start : Point) (found : Found) (new : World) (mar
   parts-asked =
       let asked : Content → List Chunk → Type 0 = λ content chunks.
       IsTextPart (document_of state) (record { kind = text_kind content; chunks = chunks }) in
-      asked-behind wants_text asked mark items
+      asked-following wants_text asked mark items
       (subst (λ (l : List Event). list_all (stays wants_text) l ≡ true) (sym ahead.marks)
       (front-stays wants_text state.options.now state.bytes.now))
       (subst (EachAsked wants_text asked 0) (sym blocks-are)
@@ -118,7 +118,7 @@ module _ (state : ParseState) (start : Point) (found : Found) (new : World) (mar
       subst (λ (l : List Event). Substituted wants_text (text_readings (reads (document_of state))) [] 0 l events)
       blocks-are
       (subst (Substituted wants_text (text_readings (reads (document_of state))) [] 0 (mark ++ items)) (sym is)
-      (substituted-behind wants_text (text_readings (reads (document_of state))) mark items body
+      (substituted-following wants_text (text_readings (reads (document_of state))) mark items body
       (subst (λ (l : List Event). list_all (stays wants_text) l ≡ true) (sym ahead.marks)
       (front-stays wants_text state.options.now bytes)) substituted)) in
       let none : bytes ≡ [] → events ≡ [] = λ empty.

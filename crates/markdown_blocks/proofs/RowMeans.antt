@@ -7,7 +7,7 @@ use Rattle.std.proofs.Common.{refl, ap, ap₂, sym, ◌∙◌, subst, append_ass
 use Rattle.std.specs.Prelude.{nat_lt, None, Option, Some}
 use Rattle.md_meaning.specs.Leaves.{Finished, Opened, LeafResult}
 use Rattle.markdown_blocks.proofs.SpelledGroups.{IsTurnLeft, Follows, IsTurned, Means, Reads, ReadsSpan, StartsSpan}
-use Rattle.markdown_blocks.proofs.SpelledGroups.{text_path, text_tail, first_come, reading-came, StartsText}
+use Rattle.markdown_blocks.proofs.SpelledGroups.{text_path, text_tail, first_becomes, reading-became, StartsText}
 use Rattle.markdown_blocks.proofs.SpelledGroups.{starts-alike}
 use Rattle.proof_frame.specs.HeldLeaf.{kind_of_leaf, takes_lazy}
 use Rattle.proof_frame.specs.Leaf.Paragraph.{open_lines}
@@ -16,13 +16,13 @@ use Rattle.md_registry.specs.Registry.{further_of, leaf, turn_leaf}
 use Rattle.proof_rows.specs.Rows.{front_done, group_done, is_further, onto_span, onto_leaf, takes_head, Group, Single}
 use Rattle.proof_rows.specs.Rows.{groups, groups_events, is_lazy, is_text, leaf_done, line_kind, onto_groups}
 use Rattle.proof_rows.proofs.GroupLines.{AreLines, kept-of, line-of}
-use Rattle.proof_rows.proofs.LineSteps.{come_by, renewed-spot, with_came, contained_at, goes_further, goes_lazy}
-use Rattle.proof_rows.proofs.LineSteps.{longer, path_by, renewed, spot_by, step-contained}
+use Rattle.proof_rows.proofs.LineSteps.{becomes_by, renewed-spot, with_result, contained_at, continues_further}
+use Rattle.proof_rows.proofs.LineSteps.{continues_lazy, longer, path_by, renewed, spot_by, step-contained}
 use Rattle.md_registry.proofs.OpenSpan.{TurnsText}
 use Rattle.md_registry.proofs.LeafStarts.{text-turns}
 use Rattle.proof_rows.proofs.RowLeaf.{EndsOnLine, block_of, row-facts}
 use Rattle.proof_frame.proofs.SpanLaws.{IsLineOf}
-use Rattle.proof_rows.proofs.StepBehind.{GoesOn, further-unlazy, goes-on, lazy-text}
+use Rattle.proof_rows.proofs.StepAfter.{IsContinued, further-unlazy, proceeds-on, lazy-text}
 use Rattle.markdown_blocks.proofs.SpelledHeads.{IsOfText, met-dark, none-of_text}
 use Rattle.proof_frame.specs.LeafName.{LeafName}
 use Rattle.proof_rows.proofs.TextGroups.{text_group}
@@ -34,7 +34,7 @@ use Rattle.md_meaning.specs.Rest.{Rest}
 use Rattle.md_events.specs.Events.Spelled.{Reading, read}
 use Rattle.md_meaning.specs.State.{At, Container, ParagraphLine, Leaf, NoLeaf, OpenParagraph, Path, Innermost, cut}
 use Rattle.md_meaning.specs.State.{kept, spot, texts}
-use Rattle.md_meaning.specs.Step.{came, step}
+use Rattle.md_meaning.specs.Step.{became, step}
 use Rattle.md_meaning.specs.Tree.{Block}
 use Rattle.md_events.proofs.SpelledLemmas.{read-from}
 use Rattle.proof_frame.specs.TextLines.{text_leaf}
@@ -44,7 +44,7 @@ use Rattle.proof_rows.specs.Fronted.{Contained, rest_from}
 use Rattle.proof_frame.specs.RestLine.{rest_line}
 use Rattle.proof_rows.specs.WithoutMdx.{IsWithoutMdx}
 use Rattle.proof_frame.specs.Row.{BlankRow, LeafRow, Row, RowKind, TextRow, ending_of, last_row, is_blank_row}
-use Rattle.proof_rows.specs.Stands.{IsPlain, containers_of, still_of, reading}
+use Rattle.proof_rows.specs.Valid.{IsPlain, containers_of, still_of, reading}
 use Rattle.proof_rows.proofs.ContainedLemmas.{contained-shapes}
 use Rattle.proof_frame.proofs.FrontFacts.{LinePrefix}
 use Rattle.markdown_blocks.proofs.LastLine.{step_over}
@@ -55,12 +55,13 @@ use Rattle.proof_frame.proofs.PrefixFacts.{begins}
 use Rattle.proof_rows.proofs.Turned.CutReads.{then_turned, turned-read}
 use Rattle.proof_rows.proofs.Turned.Under.{under-text}
 use Rattle.proof_frame.proofs.Enters.{enters}
-use Rattle.markdown_blocks.proofs.SpelledPaths.{AreShapes, close_containers-between, behind-behind, longer-with}
+use Rattle.markdown_blocks.proofs.SpelledPaths.{AreShapes, close_containers-between, following-following, longer-with}
 use Rattle.markdown_blocks.proofs.SpelledPaths.{new-path, open-none, open_path, reading-longer, reading-with, spot-with}
 use Rattle.markdown_blocks.proofs.SpelledPaths.{with_spot}
 use Rattle.markdown_blocks.proofs.SpelledLines.{ending-role, kind-name, line-is, no-joins, other-kind, read-fronts}
 use Rattle.markdown_blocks.proofs.SpelledLines.{read-open, shown-leaf, single-reads, text-kind}
-use Rattle.markdown_blocks.proofs.SpelledSpans.{starts-read, came-none, came-open, came-with, span-alike, span-rows}
+use Rattle.markdown_blocks.proofs.SpelledSpans.{starts-read, became-none, became-open, became-with, span-alike}
+use Rattle.markdown_blocks.proofs.SpelledSpans.{span-rows}
 use Rattle.markdown_blocks.proofs.SpelledTexts.{heads-read, line-inside, starts-lines}
 use Rattle.md_link_definitions.specs.Progress.{progress_of}
 
@@ -81,23 +82,25 @@ reading-turned : (options : ParseOptions) (o : Path) (lines : List ParagraphLine
     TurnsText l →
     (leaf l).heads ≡ false → (spot o).leaf ≡ NoLeaf →
     reading options
-    (with_came options (leaf l).heads (longer o lines) ((leaf l).comes options (spot (longer o lines)).leaf r)) ≡
+    (with_result options (leaf l).heads (longer o lines) ((leaf l).becomes options (spot (longer o lines)).leaf r)) ≡
     record (reading options o) { here = then_turned options (reading options o).here (texts lines) r }
 reading-turned options o lines r l turns heads none =
     ap
     (λ (x : Bool).
-    reading options (with_came options x (longer o lines)
-    ((leaf l).comes options (spot (longer o lines)).leaf r))) heads
-    ∙ ap (λ (x : Path). reading options (with_came options false x ((leaf l).comes options (spot x).leaf r)))
+    reading options (with_result options x (longer o lines)
+    ((leaf l).becomes options (spot (longer o lines)).leaf r))) heads
+    ∙ ap (λ (x : Path). reading options (with_result options false x ((leaf l).becomes options (spot x).leaf r)))
     (longer-with o lines none)
-    ∙ ap (λ (s : Innermost). reading options (with_came options false held ((leaf l).comes options s.leaf r))) open_text
-    ∙ ap (λ (come : LeafResult). reading options (with_came options false held come)) (turns.comes options lines r)
+    ∙ ap (λ (s : Innermost). reading options (with_result options false held ((leaf l).becomes options s.leaf r)))
+    open_text
+    ∙ ap (λ (become : LeafResult). reading options (with_result options false held become))
+    (turns.becomes options lines r)
     ∙ ap (reading options)
-    (came-with options false held (Finished block)
-    ∙ ap (λ (s : Innermost). with_spot held (λ bs. came (then_front options bs s.leaf) (Finished block))) open_text
-    ∙ behind-behind o (λ bs. At (record { here = bs; leaf = text_leaf.held lines }))
-    (λ bs. came (then_front options bs (text_leaf.held lines)) (Finished block)))
-    ∙ reading-with options o (λ bs. came (then_front options bs (text_leaf.held lines)) (Finished block)) none
+    (became-with options false held (Finished block)
+    ∙ ap (λ (s : Innermost). with_spot held (λ bs. became (then_front options bs s.leaf) (Finished block))) open_text
+    ∙ following-following o (λ bs. At (record { here = bs; leaf = text_leaf.held lines }))
+    (λ bs. became (then_front options bs (text_leaf.held lines)) (Finished block)))
+    ∙ reading-with options o (λ bs. became (then_front options bs (text_leaf.held lines)) (Finished block)) none
   where
     held : Path
     held = with_spot o (λ bs. record { here = bs; leaf = text_leaf.held lines })
@@ -156,10 +159,10 @@ module _ (options : ParseOptions) (bytes : List ℕ) (p : Path) (a : Point) (lin
   kind-is : row.kind ≡ line_kind options here.on here.rest
   kind-is = line-is options bytes (containers_of p) (still_of p) a line row is
 
-  further-same : is_further row.kind row.on ≡ goes_further options here
+  further-same : is_further row.kind row.on ≡ continues_further options here
   further-same = ap₂ is_further kind-is is.on
 
-  lazy-same : is_lazy (still_of p) row.change.opens row.kind ≡ goes_lazy options p here
+  lazy-same : is_lazy (still_of p) row.change.opens row.kind ≡ continues_lazy options p here
   lazy-same =
       ap (λ (x : Change). is_lazy (still_of p) x.opens row.kind) is.change
       ∙ ap (is_lazy (still_of p) here.change.opens) kind-is
@@ -194,7 +197,7 @@ module _ (options : ParseOptions) (bytes : List ℕ) (p : Path) (a : Point) (lin
       })
 
   -- where it continues no leaf of several lines, it is a line like any other, also after the end of the text
-  step-same : (over : Bool) → goes_further options here ≡ false →
+  step-same : (over : Bool) → continues_further options here ≡ false →
       step_over options over p (rest_from a line) ≡ step options p (rest_from a line)
   step-same over e =
       ap
@@ -258,31 +261,31 @@ module _ (options : ParseOptions) (bytes : List ℕ) (p : Path) (a : Point) (lin
       (read-fronts bytes row.change.opens a row.first (front_done bytes row) start is.front_read.is text.0 text.1)
       ∙ ap (λ (x : Reading). read bytes x whole) (read-open options p here row shapes-are is.change)
       ∙ text-whole options bytes opened row starts.rows starts.turn opened-none reads.are reads.turned reads.left)
-      ∙ reads.behind
+      ∙ reads.following
 
   -- one of a leaf of several is read with the lines that continue that
   span-means : (gs : List Group) (last : Reading) (l : LeafName) → row.kind ≡ LeafRow l → (leaf l).ends ≡ false →
-      goes_further options here ≡ false →
+      continues_further options here ≡ false →
       Follows options bytes (leads_to row.kind) row gs last →
       Reads options bytes p row.change.closes (onto_span row gs) last
   span-means gs last l e ends begins further =
-      let come : LeafResult = (leaf l).comes options NoLeaf is.is.rest in
+      let become : LeafResult = (leaf l).becomes options NoLeaf is.is.rest in
       let heads : Bool = (leaf (further_of l)).heads in
-      let on : leads_to row.kind ≡ with_came options heads opened come =
-      ap leads_to e ∙ sym (came-none options heads opened ((leaf l).comes options NoLeaf here.rest) opened-none)
-      ∙ ap (λ (r : Rest). with_came options heads opened ((leaf l).comes options NoLeaf r)) (sym is.rest_is) in
+      let on : leads_to row.kind ≡ with_result options heads opened become =
+      ap leads_to e ∙ sym (became-none options heads opened ((leaf l).becomes options NoLeaf here.rest) opened-none)
+      ∙ ap (λ (r : Rest). with_result options heads opened ((leaf l).becomes options NoLeaf r)) (sym is.rest_is) in
       starts-read options bytes l opened row (onto_span row gs) last ends (leaf-line l e ends)
       (sym (ap (λ (k : RowKind). is_further k row.on) e) ∙ further-same ∙ begins) opened-none a is.front_read.is
       (close_containers (length row.change.closes) (reading options p))
       (close_containers-between (length row.change.closes) (reading options p) refl refl).0
       (close_containers-between (length row.change.closes) (reading options p) refl refl).1
       (read-open options p here row shapes-are is.change)
-      (span-rows options bytes (further_of l) l opened come row gs last (ap is_text e) refl (leaf-line l e ends)
+      (span-rows options bytes (further_of l) l opened become row gs last (ap is_text e) refl (leaf-line l e ends)
       (subst (λ (x : Path). Follows options bytes x row gs last) on further))
 
   -- so a line of any kind that continues no leaf is read with what follows
   begun-means : (gs : List Group) (last : Reading) (kind : RowKind) → row.kind ≡ kind →
-      goes_further options here ≡ false →
+      continues_further options here ≡ false →
       Follows options bytes (leads_to row.kind) row gs last →
       Reads options bytes p row.change.closes (onto_groups row kind gs) last
   begun-means gs last BlankRow e begins further =
@@ -307,89 +310,91 @@ module _ (options : ParseOptions) (bytes : List ℕ) (p : Path) (a : Point) (lin
       (subst (λ (x : Path). Follows options bytes x row gs last) on further))
 
   -- after the end of the text no line turns one
-  still-over : nat_lt a.index (length bytes) ≡ false → (goes : GoesOn options p here) → (x : Bool) →
+  still-over : nat_lt a.index (length bytes) ≡ false → (proceeds : IsContinued options p here) → (x : Bool) →
       takes_lazy (still_of p) ≡ x → x ≡ false
-  still-over past goes false lazy = refl
-  still-over past goes true lazy =
+  still-over past proceeds false lazy = refl
+  still-over past proceeds true lazy =
       let text = lazy-open (spot p).leaf lazy in
-      let further : (leaf goes.is.name).further (held_leaf.Text text.0) ≡ true =
-      ap (leaf goes.is.name).further (sym text.1) ∙ goes.is.further in
+      let further : (leaf proceeds.is.name).further (held_leaf.Text text.0) ≡ true =
+      ap (leaf proceeds.is.name).further (sym text.1) ∙ proceeds.is.further in
       let front : LinePrefix bytes [] a row.first row.front =
       subst (λ (cs : List Container). LinePrefix bytes cs a row.first row.front)
-      (ap (λ (x : Change). x.opens) is.change ∙ goes.opens) is.front in
-      let inside : nat_lt a.index (length bytes) ≡ true = line-inside options bytes goes.is.name a row
-      (leaf-line goes.is.name (kind-is ∙ goes.kind) goes.is.ends)
-      (met-dark options bytes (rest_line here.rest) row goes.is.name text.0 is.is (kind-is ∙ goes.kind)
-      (is.on ∙ goes.on ∙ text.1)) front in
+      (ap (λ (x : Change). x.opens) is.change ∙ proceeds.opens) is.front in
+      let inside : nat_lt a.index (length bytes) ≡ true = line-inside options bytes proceeds.is.name a row
+      (leaf-line proceeds.is.name (kind-is ∙ proceeds.kind) proceeds.is.ends)
+      (met-dark options bytes (rest_line here.rest) row proceeds.is.name text.0 is.is (kind-is ∙ proceeds.kind)
+      (is.on ∙ proceeds.on ∙ text.1)) front in
       let bad : true ≡ false = sym inside ∙ past in
       cc
 
   -- so none takes a lazy line there
-  open-over : nat_lt a.index (length bytes) ≡ false → (goes : GoesOn options p here) →
+  open-over : nat_lt a.index (length bytes) ≡ false → (proceeds : IsContinued options p here) →
       takes_lazy (still_of (renewed here.change.stays p)) ≡ false
-  open-over past goes =
+  open-over past proceeds =
       ap (λ (s : Innermost). takes_lazy (kind_of_leaf s.leaf)) (renewed-spot here.change.stays p)
-      ∙ still-over past goes (takes_lazy (still_of p)) refl
+      ∙ still-over past proceeds (takes_lazy (still_of p)) refl
 
   -- what a line makes of the leaf of several lines that it continues
   further-step : (over : Bool) → IsWithoutMdx options → IsPlain p → nat_lt a.index (length bytes) ≡ not over →
-      goes_further options here ≡ true → (goes : GoesOn options p here) →
+      continues_further options here ≡ true → (proceeds : IsContinued options p here) →
       step_over options over p (rest_from a line) ≡
-      with_came options (leaf goes.is.name).heads (renewed here.change.stays p)
-      (first_come options bytes goes.is.name p a is.is.rest)
-  further-step true built plain in_text f goes =
+      with_result options (leaf proceeds.is.name).heads (renewed here.change.stays p)
+      (first_becomes options bytes proceeds.is.name p a is.is.rest)
+  further-step true built plain in_text f proceeds =
       ap (λ (x : Bool). cond x (renewed here.change.stays p) (step options p (rest_from a line))) f
-      ∙ sym (came-open options (leaf goes.is.name).heads (renewed here.change.stays p) (open-over in_text goes))
-      ∙ ap (λ (s : Innermost). with_came options (leaf goes.is.name).heads
+      ∙ sym (became-open options (leaf proceeds.is.name).heads (renewed here.change.stays p)
+      (open-over in_text proceeds))
+      ∙ ap (λ (s : Innermost). with_result options (leaf proceeds.is.name).heads
       (renewed here.change.stays p) (Opened s.leaf))
       (renewed-spot here.change.stays p)
       ∙ ap
       (λ (x : Bool).
-      with_came options (leaf goes.is.name).heads (renewed here.change.stays p)
-      (cond x ((leaf goes.is.name).comes options (spot p).leaf is.is.rest) (Opened (spot p).leaf)))
+      with_result options (leaf proceeds.is.name).heads (renewed here.change.stays p)
+      (cond x ((leaf proceeds.is.name).becomes options (spot p).leaf is.is.rest) (Opened (spot p).leaf)))
       (sym in_text)
-  further-step false built plain in_text f goes =
+  further-step false built plain in_text f proceeds =
       step-contained options p (rest_from a line) built plain
       ∙ ap₂ (path_by options p here)
       (further-unlazy (still_of p) here.on here.change.opens (line_kind options here.on here.rest) f) f
       ∙ ap
       (λ (k : RowKind).
-      with_came options (takes_head k) (renewed here.change.stays p) (come_by options (spot p).leaf here.rest k))
-      goes.kind
+      with_result options (takes_head k) (renewed here.change.stays p) (becomes_by options (spot p).leaf here.rest k))
+      proceeds.kind
       ∙ ap
       (λ (r : Rest).
-      with_came options (leaf goes.is.name).heads (renewed here.change.stays p)
-      ((leaf goes.is.name).comes options (spot p).leaf r))
+      with_result options (leaf proceeds.is.name).heads (renewed here.change.stays p)
+      ((leaf proceeds.is.name).becomes options (spot p).leaf r))
       (sym is.rest_is)
       ∙ ap
       (λ (x : Bool).
-      with_came options (leaf goes.is.name).heads (renewed here.change.stays p)
-      (cond x ((leaf goes.is.name).comes options (spot p).leaf is.is.rest) (Opened (spot p).leaf)))
+      with_result options (leaf proceeds.is.name).heads (renewed here.change.stays p)
+      (cond x ((leaf proceeds.is.name).becomes options (spot p).leaf is.is.rest) (Opened (spot p).leaf)))
       (sym in_text)
 
   -- one that continues the leaf of several lines that is open is read with what follows
   further-means : (gs : List Group) (last : Reading) (over : Bool) → IsWithoutMdx options → IsPlain p →
       nat_lt a.index (length bytes) ≡ not over →
       Follows options bytes (step_over options over p (rest_from a line)) row gs last →
-      goes_further options here ≡ true →
+      continues_further options here ≡ true →
       (l : LeafName) × StartsSpan options bytes l p a row (onto_groups row row.kind gs) last
   further-means gs last over built plain in_text follows f =
-      let goes : GoesOn options p here = goes-on options p (rest_from a line) plain f in
-      let l : LeafName = goes.is.name in
-      let e : row.kind ≡ LeafRow l = kind-is ∙ goes.kind in
-      let ends : (leaf l).ends ≡ false = goes.is.ends in
+      let proceeds : IsContinued options p here = proceeds-on options p (rest_from a line) plain f in
+      let l : LeafName = proceeds.is.name in
+      let e : row.kind ≡ LeafRow l = kind-is ∙ proceeds.kind in
+      let ends : (leaf l).ends ≡ false = proceeds.is.ends in
       let of : IsLineOf options bytes (leaf l) row = leaf-line l e ends in
-      let come : LeafResult = first_come options bytes l p a of.rest in
+      let become : LeafResult = first_becomes options bytes l p a of.rest in
       let base : Path = renewed here.change.stays p in
-      let stepped_to : step_over options over p (rest_from a line) ≡ with_came options (leaf l).heads base come =
-      further-step over built plain in_text f goes in
-      let spans : ReadsSpan options bytes l base come row (onto_span row gs) last =
-      span-rows options bytes l l base come
-      row gs last (ap is_text e) goes.is.same of
+      let stepped_to : step_over options over p (rest_from a line) ≡ with_result options (leaf l).heads base become =
+      further-step over built plain in_text f proceeds in
+      let spans : ReadsSpan options bytes l base become row (onto_span row gs) last =
+      span-rows options bytes l l base become
+      row gs last (ap is_text e) proceeds.is.same of
       (subst (λ (x : Path). Follows options bytes x row gs last) stepped_to follows) in
-      let whole : ReadsSpan options bytes l p come row (onto_span row gs) last = span-alike options bytes l base p come
+      let whole : ReadsSpan options bytes l p become row (onto_span row gs) last =
+      span-alike options bytes l base p become
       row (onto_span row gs) last
-      (λ d. reading-came options (leaf l).heads here.change.stays here.change.closes [] p d shapes-are) spans in (
+      (λ d. reading-became options (leaf l).heads here.change.stays here.change.closes [] p d shapes-are) spans in (
         l,
         subst (λ (k : RowKind). StartsSpan options bytes l p a row (onto_groups row k gs) last) (sym e)
             (subst (λ (x : Bool). StartsSpan options bytes l p a row (onto_leaf x row gs) last) (sym ends)
@@ -397,20 +402,20 @@ module _ (options : ParseOptions) (bytes : List ℕ) (p : Path) (a : Point) (lin
               line = rest_line here.rest;
               is = is.is;
               kind = e;
-              further = ap (leaf l).further (is.on ∙ goes.on) ∙ goes.is.further;
+              further = ap (leaf l).further (is.on ∙ proceeds.on) ∙ proceeds.is.further;
               reads = whole;
             })),
       )
 
   -- one that continues the text continues no other leaf
-  begins-text : goes_lazy options p here ≡ true → (y : Bool) → goes_further options here ≡ y → y ≡ false
+  begins-text : continues_lazy options p here ≡ true → (y : Bool) → continues_further options here ≡ y → y ≡ false
   begins-text e true f =
       let none = further-unlazy (still_of p) here.on here.change.opens (line_kind options here.on here.rest) f in cc
   begins-text e false f = refl
 
   -- what it means, by whether it continues the text or another leaf
-  means-by : (gs : List Group) (last : Reading) (x y : Bool) → goes_lazy options p here ≡ x →
-      goes_further options here ≡ y →
+  means-by : (gs : List Group) (last : Reading) (x y : Bool) → continues_lazy options p here ≡ x →
+      continues_further options here ≡ y →
       Means options bytes p a x y row (onto_groups row row.kind gs) last →
       MeansLine options bytes p a row (onto_groups row row.kind gs) last
   means-by gs last x y e f h =
@@ -423,7 +428,7 @@ module _ (options : ParseOptions) (bytes : List ℕ) (p : Path) (a : Point) (lin
   -- one that continues the text
   text_line-means : (gs : List Group) (last : Reading) (over : Bool) → IsWithoutMdx options → IsPlain p →
       Follows options bytes (step_over options over p (rest_from a line)) row gs last →
-      goes_lazy options p here ≡ true → goes_further options here ≡ false →
+      continues_lazy options p here ≡ true → continues_further options here ≡ false →
       StartsText options bytes p row (onto_groups row row.kind gs) last
   text_line-means gs last over built plain follows e begins =
       let text : is_text row.kind ≡ true = ap is_text kind-is
@@ -444,9 +449,9 @@ module _ (options : ParseOptions) (bytes : List ℕ) (p : Path) (a : Point) (lin
       Follows options bytes (step_over options over p (rest_from a line)) row gs last →
       MeansLine options bytes p a row (onto_groups row row.kind gs) last
   row-means gs last over built plain in_text follows =
-      go (goes_lazy options p here) (goes_further options here) refl refl
+      go (continues_lazy options p here) (continues_further options here) refl refl
     where
-      go : (x y : Bool) → goes_lazy options p here ≡ x → goes_further options here ≡ y →
+      go : (x y : Bool) → continues_lazy options p here ≡ x → continues_further options here ≡ y →
           MeansLine options bytes p a row (onto_groups row row.kind gs) last
       go true y e f =
           means-by gs last true y e f (text_line-means gs last over built plain follows e (f ∙ begins-text e y f))

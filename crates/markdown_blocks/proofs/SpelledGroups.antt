@@ -6,16 +6,16 @@ use Rattle.std.proofs.Common.{map, ◌≡◌, ℕ, Bool, true, false, cond, ◌&
 use Rattle.std.proofs.Common.{sym, ◌∙◌, inl, inr, ◌⊎◌}
 use Rattle.std.specs.Prelude.{nat_lt, None, Option, Some}
 use Rattle.md_meaning.specs.Leaves.{Opened, LeafResult}
-use Rattle.markdown_blocks.proofs.SpelledHeads.{AreDark, StartsHead, head_come, head_path, span_tail}
-use Rattle.proof_frame.specs.HeldLeaf.{kind_of_leaf, may_go_on}
+use Rattle.markdown_blocks.proofs.SpelledHeads.{AreDark, StartsHead, head_becomes, head_path, span_tail}
+use Rattle.proof_frame.specs.HeldLeaf.{kind_of_leaf, may_continue}
 use Rattle.proof_frame.specs.EndingName.{ending_name}
 use Rattle.proof_frame.specs.Row.{is_blank_row, LeafRow, Row, TextRow, last_row}
 use Rattle.proof_rows.specs.Rows.{is_further, onto_span, LeafLines, Group, Lines, groups_events, is_text, onto_groups}
 use Rattle.proof_rows.specs.Rows.{tail_events}
 use Rattle.proof_rows.proofs.GroupLines.{AreLines, IsUnder, kept-of}
-use Rattle.proof_rows.proofs.LineSteps.{with_came, longer, renewed, renewed-spot}
-use Rattle.proof_frame.proofs.SpanLaws.{AreBehind, come_behind}
-use Rattle.proof_rows.proofs.StepBehind.{containers-longer}
+use Rattle.proof_rows.proofs.LineSteps.{with_result, longer, renewed, renewed-spot}
+use Rattle.proof_frame.proofs.SpanLaws.{AreAfter, becomes_after}
+use Rattle.proof_rows.proofs.StepAfter.{containers-longer}
 use Rattle.proof_frame.specs.LeafName.{LeafName}
 use Rattle.md_registry.specs.Registry.{leaf}
 use Rattle.md_engine.specs.declared.configuration.ParseOptions.{ParseOptions}
@@ -29,7 +29,7 @@ use Rattle.proof_frame.specs.ContainerNames.{shape_of}
 use Rattle.proof_frame.specs.Change.{is_none}
 use Rattle.proof_frame.specs.Closed.{close_containers}
 use Rattle.proof_frame.specs.Around.{around_of}
-use Rattle.proof_rows.specs.Stands.{still_of, reading, reading_on}
+use Rattle.proof_rows.specs.Valid.{still_of, reading, reading_on}
 use Rattle.proof_frame.proofs.FrontFacts.{LinePrefix}
 use Rattle.proof_rows.proofs.TextGroups.{text-onto, text_group}
 use Rattle.proof_rows.proofs.RowFacts as f
@@ -53,7 +53,7 @@ abbrev pub text_path : (options : ParseOptions) (bytes : List ℕ) (last : Row) 
     IsTurned options bytes last turn → Path → Path
 text_path options bytes last None is p = p
 text_path options bytes last (Some under) is p =
-    with_came options (leaf is.name).heads p ((leaf is.name).comes options (spot p).leaf is.is.rest)
+    with_result options (leaf is.name).heads p ((leaf is.name).becomes options (spot p).leaf is.is.rest)
 
 -- where one turns them, definitions leave something of the text that is open with them
 abbrev pub IsTurnLeft : ParseOptions → Option Row → Path → Type 0
@@ -71,7 +71,7 @@ pub record ReadsLines (options : ParseOptions) (bytes : List ℕ) (p : Path) (ro
   pub are : AreLines options bytes row rows
   pub turned : IsTurned options bytes (last_row row rows) turn
   pub left : IsTurnLeft options turn (longer p (kept-of options bytes row rows are))
-  pub behind : read bytes
+  pub following : read bytes
       (reading options
       (text_path options bytes (last_row row rows) turn turned (longer p (kept-of options bytes row rows are))))
       (text_tail (last_row row rows) turn ++ groups_events options bytes gs) ≡
@@ -87,21 +87,23 @@ pub record StartsLines (options : ParseOptions) (bytes : List ℕ) (p : Path) (r
 
 -- What an open leaf of several lines becomes by a further line that begins at this point; one after the last ending
 -- of the text is no line of the definition.
-abbrev pub first_come : ParseOptions → List ℕ → LeafName → Path → Point → Rest → LeafResult
-first_come options bytes l p a r =
-    cond (nat_lt a.index (length bytes)) ((leaf l).comes options (spot p).leaf r) (Opened (spot p).leaf)
+abbrev pub first_becomes : ParseOptions → List ℕ → LeafName → Path → Point → Rest → LeafResult
+first_becomes options bytes l p a r =
+    cond (nat_lt a.index (length bytes)) ((leaf l).becomes options (spot p).leaf r) (Opened (spot p).leaf)
 
 -- A line of it and those that continue it are read with what follows as this, where this leaf takes the lines after
 -- it, and the open leaf became this by it.
-pub record ReadsSpan (options : ParseOptions) (bytes : List ℕ) (l : LeafName) (p : Path) (come : LeafResult) (row : Row)
+pub record ReadsSpan (options : ParseOptions) (bytes : List ℕ) (l : LeafName) (p : Path)
+    (become : LeafResult) (row : Row)
     (gs : List Group) (last : Reading) : Type 0 where
   pub rows : List Row
   pub below : List Group
   pub groups_are : gs ≡ LeafLines row rows ∷ below
-  pub are : AreBehind options bytes (leaf l) row rows
+  pub are : AreAfter options bytes (leaf l) row rows
   pub dark : AreDark options bytes l row rows are
-  pub behind : read bytes
-      (reading options (with_came options (leaf l).heads p (come_behind options bytes (leaf l) row rows are come)))
+  pub following : read bytes
+      (reading options (with_result options (leaf l).heads p
+      (becomes_after options bytes (leaf l) row rows are become)))
       (span_tail row rows ++ groups_events options bytes below) ≡
       last
 
@@ -112,7 +114,7 @@ pub record StartsSpan (options : ParseOptions) (bytes : List ℕ) (l : LeafName)
   pub is : f.IsRow options bytes line row
   pub kind : row.kind ≡ LeafRow l
   pub further : (leaf l).further row.on ≡ true
-  pub reads : ReadsSpan options bytes l p (first_come options bytes l p a is.rest) row gs last
+  pub reads : ReadsSpan options bytes l p (first_becomes options bytes l p a is.rest) row gs last
 
 -- a line of text is one of a text, or the head of a table
 abbrev pub StartsText : ParseOptions → List ℕ → Path → Row → List Group → Reading → Type 0
@@ -165,16 +167,17 @@ pub record JoinsSpan (options : ParseOptions) (bytes : List ℕ) (p : Path) (row
   pub after_is : row.after ≡ Some after
   pub ending : f.IsEnding bytes row.end after
   pub fronts : LinePrefix bytes [] after next.first next.front
-  pub on : next.on ≡ row.behind
+  pub on : next.on ≡ row.following
   pub further : is_further next.kind next.on ≡ true
-  pub still : still_of p ≡ row.behind
-  pub may : may_go_on row.behind ≡ true
+  pub still : still_of p ≡ row.following
+  pub may : may_continue row.following ≡ true
   pub starts : StartsSpan options bytes name p after next gs last
 
 abbrev pub Follows : ParseOptions → List ℕ → Path → Row → List Group → Reading → Type 0
 Follows options bytes p row gs last =
     Parts options bytes p row gs last
-    ⊎ (Joins options bytes p row gs last ⊎ (JoinsSpan options bytes p row gs last ⊎ JoinsHead options bytes p row gs last))
+    ⊎ (Joins options bytes p row gs last ⊎ (JoinsSpan options bytes p row gs last
+    ⊎ JoinsHead options bytes p row gs last))
 
 pub onto-joined : (row next : Row) (rows : List Row) (turn : Option Row) (gs : List Group) → row.closed_after ≡ [] →
     next.change.opens ≡ [] →
@@ -187,19 +190,20 @@ onto-joined row next rows turn gs e h =
     (Lines row [] ∷ text_group turn next rows ∷ gs)) e h
 
 -- The events do not say what a line changes of the containers that stay: not after what the innermost leaf became,
-pub reading-came : (options : ParseOptions) (heads : Bool) (stays closes : List Container) (outer : List OpenContainer) (p : Path)
+pub reading-became : (options : ParseOptions) (heads : Bool) (stays closes : List Container)
+    (outer : List OpenContainer) (p : Path)
     (c : LeafResult) →
     AreShapes stays closes p →
-    reading_on options outer (with_came options heads (renewed stays p) c) ≡
-    reading_on options outer (with_came options heads p c)
-reading-came options heads [] closes outer p c e = refl
-reading-came options heads (d ∷ stays) closes outer (At s) c e = refl
-reading-came options heads (d ∷ stays) closes outer (Within before container p) c e =
+    reading_on options outer (with_result options heads (renewed stays p) c) ≡
+    reading_on options outer (with_result options heads p c)
+reading-became options heads [] closes outer p c e = refl
+reading-became options heads (d ∷ stays) closes outer (At s) c e = refl
+reading-became options heads (d ∷ stays) closes outer (Within before container p) c e =
     let same : shape_of d ≡ shape_of container = cc in
     let more : AreShapes stays closes p = cc in
-    ap (λ (around : OpenContainer). reading_on options (around ∷ outer) (with_came options heads (renewed stays p) c))
+    ap (λ (around : OpenContainer). reading_on options (around ∷ outer) (with_result options heads (renewed stays p) c))
     (around-same d container before same)
-    ∙ reading-came options heads stays closes (around_of container before ∷ outer) p c more
+    ∙ reading-became options heads stays closes (around_of container before ∷ outer) p c more
 
 longer-renewed : (stays : List Container) (p : Path) (lines : List ParagraphLine) →
     longer (renewed stays p) lines ≡ renewed stays (longer p lines)
@@ -208,7 +212,8 @@ longer-renewed (c ∷ stays) (At s) lines = refl
 longer-renewed (c ∷ stays) (Within before container p) lines = ap (Within before c) (longer-renewed stays p lines)
 
 -- nor after lines of text, whether one turns them or none,
-reading-text : (options : ParseOptions) (bytes : List ℕ) (stays closes : List Container) (p : Path) (lines : List ParagraphLine)
+reading-text : (options : ParseOptions) (bytes : List ℕ) (stays closes : List Container) (p : Path)
+    (lines : List ParagraphLine)
     (last : Row) (turn : Option Row) (is : IsTurned options bytes last turn) →
     AreShapes stays closes p →
     reading options (text_path options bytes last turn is (longer (renewed stays p) lines)) ≡
@@ -217,16 +222,18 @@ reading-text options bytes stays closes p lines last None is shapes =
     reading-renewed options stays closes [] p lines shapes
 reading-text options bytes stays closes p lines last (Some under) is shapes =
     let q : Path = longer p lines in
-    let comes : Leaf → LeafResult = λ open_leaf. (leaf is.name).comes options open_leaf is.is.rest in
+    let becomes : Leaf → LeafResult = λ open_leaf. (leaf is.name).becomes options open_leaf is.is.rest in
     let heads : Bool = (leaf is.name).heads in
-    ap (λ (x : Path). reading options (with_came options heads x (comes (spot x).leaf))) (longer-renewed stays p lines)
-    ∙ ap (λ (s : Innermost). reading options (with_came options heads (renewed stays q) (comes s.leaf)))
+    ap (λ (x : Path). reading options (with_result options heads x (becomes (spot x).leaf)))
+    (longer-renewed stays p lines)
+    ∙ ap (λ (s : Innermost). reading options (with_result options heads (renewed stays q) (becomes s.leaf)))
     (renewed-spot stays q)
-    ∙ reading-came options heads stays closes [] q (comes (spot q).leaf)
+    ∙ reading-became options heads stays closes [] q (becomes (spot q).leaf)
     (shapes ∙ ap (map shape_of) (sym (containers-longer p lines)))
 
 -- what is held of a text does not change with them either
-left-alike : (options : ParseOptions) (turn : Option Row) (stays : List Container) (p : Path) (lines : List ParagraphLine) →
+left-alike : (options : ParseOptions) (turn : Option Row) (stays : List Container) (p : Path)
+    (lines : List ParagraphLine) →
     IsTurnLeft options turn (longer (renewed stays p) lines) → IsTurnLeft options turn (longer p lines)
 left-alike options None stays p lines left = tt
 left-alike options (Some under) stays p lines left =
@@ -252,11 +259,11 @@ head-alike options bytes stays closes p row gs last shapes starts = record {
   filled = starts.filled;
   at = starts.at;
   on = starts.on;
-  behind =
+  following =
       ap
       (λ (r : Reading). read bytes r (span_tail starts.next starts.rows ++ groups_events options bytes starts.below))
       (sym alike)
-      ∙ starts.behind;
+      ∙ starts.following;
 }
   where
     lines : List ParagraphLine
@@ -265,16 +272,18 @@ head-alike options bytes stays closes p row gs last shapes starts = record {
     q : Path
     q = longer p lines
 
-    comes : Leaf → LeafResult
-    comes = head_come options bytes row starts.next starts.rows starts.are
+    becomes : Leaf → LeafResult
+    becomes = head_becomes options bytes row starts.next starts.rows starts.are
 
-    alike : reading options (head_path options bytes row starts.next starts.rows starts.are (longer (renewed stays p) lines)) ≡
+    alike : reading options (head_path options bytes row starts.next starts.rows starts.are
+        (longer (renewed stays p) lines)) ≡
         reading options (head_path options bytes row starts.next starts.rows starts.are q)
     alike =
-        ap (λ (x : Path). reading options (with_came options true x (comes (spot x).leaf))) (longer-renewed stays p lines)
-        ∙ ap (λ (s : Innermost). reading options (with_came options true (renewed stays q) (comes s.leaf)))
+        ap (λ (x : Path). reading options (with_result options true x (becomes (spot x).leaf)))
+        (longer-renewed stays p lines)
+        ∙ ap (λ (s : Innermost). reading options (with_result options true (renewed stays q) (becomes s.leaf)))
         (renewed-spot stays q)
-        ∙ reading-came options true stays closes [] q (comes (spot q).leaf)
+        ∙ reading-became options true stays closes [] q (becomes (spot q).leaf)
         (shapes ∙ ap (map shape_of) (sym (containers-longer p lines)))
 
 lines-alike : (options : ParseOptions) (bytes : List ℕ) (stays closes : List Container) (p : Path) (row : Row)
@@ -294,14 +303,14 @@ lines-alike options bytes stays closes p row gs last shapes starts =
         turned = reads.turned;
         left =
             left-alike options starts.turn stays p (kept-of options bytes row starts.rows reads.are) reads.left;
-        behind =
+        following =
             ap
             (λ (r : Reading).
             read bytes r (text_tail final starts.turn ++ groups_events options bytes starts.below))
             (sym
             (reading-text options bytes stays closes p (kept-of options bytes row starts.rows reads.are) final
             starts.turn reads.turned shapes))
-            ∙ reads.behind;
+            ∙ reads.following;
       };
     }
 

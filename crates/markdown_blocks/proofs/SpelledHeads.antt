@@ -12,7 +12,7 @@ use Rattle.md_meaning.specs.Leaves.{LeafResult, Opened}
 use Rattle.md_meaning.specs.Rest.{is_blank, trim}
 use Rattle.md_meaning.specs.State.{At, ParagraphLine, Leaf, NoLeaf, OpenTable, Path, Within, kept, shut, shut_paragraph}
 use Rattle.md_meaning.specs.State.{spot, texts, then_definitions, then_leaf, then_paragraph}
-use Rattle.md_meaning.specs.Step.{came}
+use Rattle.md_meaning.specs.Step.{became}
 use Rattle.md_meaning.specs.Table.{row_cells}
 use Rattle.md_meaning.specs.Tree.{Blocks}
 use Rattle.md_events.specs.Events.Spelled.{OpenContainer, Reading, read}
@@ -26,15 +26,15 @@ use Rattle.proof_frame.specs.Row.{LeafRow, Row, TextRow, is_blank_row, last_row}
 use Rattle.proof_table_laws.specs.Headed.{headed_done}
 use Rattle.proof_rows.specs.Rows.{Group, Headed, groups_events, tail_events}
 use Rattle.proof_frame.specs.Around.{around_of}
-use Rattle.proof_rows.specs.Stands.{reading, reading_on}
+use Rattle.proof_rows.specs.Valid.{reading, reading_on}
 use Rattle.proof_table_laws.proofs.GfmTable.TableForm.{IsFilledLine}
 use Rattle.proof_table_laws.proofs.GfmTable.TableLaws.{AreFilled, cells-trimmed, table-facts, table-shuts}
 use Rattle.proof_rows.proofs.HeadedTable.{line-filled}
-use Rattle.proof_rows.proofs.LineSteps.{longer, with_came}
+use Rattle.proof_rows.proofs.LineSteps.{longer, with_result}
 use Rattle.md_registry.proofs.Registry.{text-laws}
 use Rattle.proof_rows.proofs.RowFacts as f
 use Rattle.proof_rows.proofs.RowLeaf.{leaf-at}
-use Rattle.proof_frame.proofs.SpanLaws.{AreBehind, come_behind}
+use Rattle.proof_frame.proofs.SpanLaws.{AreAfter, becomes_after}
 use Rattle.proof_rows.proofs.SpelledParagraphs.{text-filled}
 use Rattle.proof_rows.proofs.TextFound.{front-is}
 use Rattle.md_registry.proofs.UnderNames.{heads-table}
@@ -58,13 +58,13 @@ heads-dark options bytes line row l is kind further heads =
 
 -- the lines of a leaf after one: on those of a table something is
 abbrev pub AreDark : (options : ParseOptions) (bytes : List ℕ) (l : LeafName) (row : Row) (rows : List Row) →
-    AreBehind options bytes (leaf l) row rows → Type 0
+    AreAfter options bytes (leaf l) row rows → Type 0
 AreDark options bytes l row [] are = Unit {0}
 AreDark options bytes l row (next ∷ rows) are =
     ((leaf l).heads ≡ true → is_blank are.6.rest.bytes ≡ false) × AreDark options bytes l next rows are.7
 
 pub dark-filled : (options : ParseOptions) (bytes : List ℕ) (row : Row) (rows : List Row) →
-    (are : AreBehind options bytes table_leaf row rows) → AreDark options bytes GfmTable row rows are →
+    (are : AreAfter options bytes table_leaf row rows) → AreDark options bytes GfmTable row rows are →
     AreFilled options bytes row rows are
 dark-filled options bytes row [] are dark = tt
 dark-filled options bytes row (next ∷ rows) are dark =
@@ -73,16 +73,16 @@ dark-filled options bytes row (next ∷ rows) are dark =
 -- What the line definition becomes.
 
 -- with the lines of a table, after its head
-abbrev pub head_come : (options : ParseOptions) (bytes : List ℕ) (row next : Row) (rows : List Row) →
-    AreBehind options bytes table_leaf row (next ∷ rows) → Leaf → LeafResult
-head_come options bytes row next rows are open_leaf =
-    come_behind options bytes table_leaf next rows are.7 (table_leaf.comes options open_leaf are.6.rest)
+abbrev pub head_becomes : (options : ParseOptions) (bytes : List ℕ) (row next : Row) (rows : List Row) →
+    AreAfter options bytes table_leaf row (next ∷ rows) → Leaf → LeafResult
+head_becomes options bytes row next rows are open_leaf =
+    becomes_after options bytes table_leaf next rows are.7 (table_leaf.becomes options open_leaf are.6.rest)
 
 -- where this text, which continues the open one, is the head
 abbrev pub head_path : (options : ParseOptions) (bytes : List ℕ) (row next : Row) (rows : List Row) →
-    AreBehind options bytes table_leaf row (next ∷ rows) → Path → Path
+    AreAfter options bytes table_leaf row (next ∷ rows) → Path → Path
 head_path options bytes row next rows are q =
-    with_came options true q (head_come options bytes row next rows are (spot q).leaf)
+    with_result options true q (head_becomes options bytes row next rows are (spot q).leaf)
 
 -- what follows the last line of a leaf of several
 abbrev pub span_tail : Row → List Row → List Event
@@ -99,11 +99,11 @@ pub record StartsHead (options : ParseOptions) (bytes : List ℕ) (p : Path) (ro
   pub rows : List Row
   pub below : List Group
   pub groups_are : gs ≡ Headed row next rows ∷ below
-  pub are : AreBehind options bytes table_leaf row (next ∷ rows)
+  pub are : AreAfter options bytes table_leaf row (next ∷ rows)
   pub filled : AreFilled options bytes row (next ∷ rows) are
   pub at : OpenText
   pub on : next.on ≡ held_leaf.Text at
-  pub behind : read bytes
+  pub following : read bytes
       (reading options (head_path options bytes row next rows are (longer p (kept is.rest ∷ []))))
       (span_tail next rows ++ groups_events options bytes below) ≡
       last
@@ -111,7 +111,7 @@ pub record StartsHead (options : ParseOptions) (bytes : List ℕ) (p : Path) (ro
 -- a leaf that is shut as its lines of text: it is text, or none
 abbrev pub IsOfText : ParseOptions → Leaf → Type 0
 IsOfText options open_leaf =
-    (bs : Blocks) → then_leaf options bs open_leaf ≡ text_leaf.behind options bs (texts (held_of open_leaf))
+    (bs : Blocks) → then_leaf options bs open_leaf ≡ text_leaf.following options bs (texts (held_of open_leaf))
 
 -- no lines become nothing
 pub none-of_text : (options : ParseOptions) → IsOfText options NoLeaf
@@ -136,12 +136,12 @@ longer-spot (Within before container p) lines = longer-spot p lines
 -- what is read where the head has been turned: all before it is shut
 reading-head : (options : ParseOptions) (outer : List OpenContainer) (p : Path) (k : ParagraphLine) (c : LeafResult) →
     IsOfText options (spot p).leaf →
-    reading_on options outer (with_came options true (longer p (k ∷ [])) c) ≡
-    record (reading_on options outer p) { here = shut options (came (reading_on options outer p).here c) }
+    reading_on options outer (with_result options true (longer p (k ∷ [])) c) ≡
+    record (reading_on options outer p) { here = shut options (became (reading_on options outer p).here c) }
 reading-head options outer (At s) k c text =
     ap
-    (λ (bs : Blocks). record { outer = outer; here = shut options (came bs c); leaf = None; text = None })
-    (ap (λ (l : List ParagraphLine). text_leaf.behind options s.here (texts l)) (front-is (held_of s.leaf) k)
+    (λ (bs : Blocks). record { outer = outer; here = shut options (became bs c); leaf = None; text = None })
+    (ap (λ (l : List ParagraphLine). text_leaf.following options s.here (texts l)) (front-is (held_of s.leaf) k)
     ∙ sym (text s.here))
 reading-head options outer (Within before container p) k c text =
     reading-head options (around_of container before ∷ outer) p k c text
@@ -150,7 +150,7 @@ reading-head options outer (Within before container p) k c text =
 pub head-read : (options : ParseOptions) (bytes line : List ℕ) (p : Path) (row next : Row) (rows : List Row)
     (at : OpenText) →
     (is : f.IsRow options bytes line row) → row.kind ≡ TextRow →
-    (are : AreBehind options bytes table_leaf row (next ∷ rows)) → AreFilled options bytes row (next ∷ rows) are →
+    (are : AreAfter options bytes table_leaf row (next ∷ rows)) → AreFilled options bytes row (next ∷ rows) are →
     next.on ≡ held_leaf.Text at → IsOfText options (spot p).leaf →
     read bytes (reading options p) (headed_done bytes row next rows) ≡
     reading options (head_path options bytes row next rows are (longer p (kept is.rest ∷ [])))
@@ -158,9 +158,9 @@ head-read options bytes line p row next rows at is text are filled on of_text =
     (table-facts options bytes row next rows at head are filled on).reads s refl refl
     ∙ ap (λ (bs : Blocks). record s { here = bs })
     (sym (table-shuts options bytes row next rows (row_cells is.rest.bytes) s.here are filled))
-    ∙ ap (λ (c : LeafResult). record s { here = shut options (came s.here c) }) (sym comes)
+    ∙ ap (λ (c : LeafResult). record s { here = shut options (became s.here c) }) (sym becomes)
     ∙ sym
-    (reading-head options [] p (kept is.rest) (head_come options bytes row next rows are (spot q).leaf) of_text)
+    (reading-head options [] p (kept is.rest) (head_becomes options bytes row next rows are (spot q).leaf) of_text)
   where
     s : Reading
     s = reading options p
@@ -181,10 +181,10 @@ head-read options bytes line p row next rows at is text are filled on of_text =
 
     open_table : List (List ℕ) → LeafResult
     open_table cells =
-        come_behind options bytes table_leaf next rows are.7 (Opened (OpenTable (trim are.6.rest.bytes) (cells ∷ [])))
+        becomes_after options bytes table_leaf next rows are.7 (Opened (OpenTable (trim are.6.rest.bytes) (cells ∷ [])))
 
-    comes : head_come options bytes row next rows are (spot q).leaf ≡ open_table (row_cells is.rest.bytes)
-    comes =
-        ap (head_come options bytes row next rows are) (longer-spot p (kept is.rest ∷ []))
+    becomes : head_becomes options bytes row next rows are (spot q).leaf ≡ open_table (row_cells is.rest.bytes)
+    becomes =
+        ap (head_becomes options bytes row next rows are) (longer-spot p (kept is.rest ∷ []))
         ∙ ap open_table
         (ap first_cells (reverse-append held (kept is.rest ∷ [])) ∙ cells-trimmed is.rest.bytes)

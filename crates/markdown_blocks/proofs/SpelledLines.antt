@@ -4,13 +4,13 @@ use Rattle.md_engine.specs.declared.tokenizer.held_leaf.HeldLeaf.{HeldLeaf}
 use Rattle.std.proofs.Common.{◌≡◌, ◌≢◌, ℕ, Bool, true, false, List, [], ◌∷◌, ◌++◌, length, refl, ap, ap₂, sym, ◌∙◌, inl}
 use Rattle.std.proofs.Common.{inr}
 use Rattle.proof_frame.specs.EndingName.{ending_name}
-use Rattle.proof_rows.specs.Rows.{front_done, line_behind, Group, groups_events, is_text, line_kind, tail_events}
-use Rattle.proof_rows.proofs.LineBehind.{shut-behind}
+use Rattle.proof_rows.specs.Rows.{front_done, line_following, Group, groups_events, is_text, line_kind, tail_events}
+use Rattle.proof_rows.proofs.LineAfter.{shut-following}
 use Rattle.proof_rows.proofs.RowLeaf.{EndsOnLine, block_of}
 use Rattle.proof_frame.specs.LeafName.{LeafName}
 use Rattle.md_registry.specs.Registry.{leaf}
 use Rattle.md_meaning.specs.Leaves.{LeafResult}
-use Rattle.md_meaning.specs.Step.{came, step}
+use Rattle.md_meaning.specs.Step.{became, step}
 use Rattle.std.specs.Prelude.{None}
 use Rattle.md_engine.specs.declared.configuration.ParseOptions.{ParseOptions}
 use Rattle.md_engine.specs.declared.event.Event.{Event}
@@ -20,21 +20,22 @@ use Rattle.md_events.specs.Events.Nested.{enter, exit}
 use Rattle.md_meaning.specs.Rest.{Rest}
 use Rattle.md_events.specs.Events.Spelled.{Reading, read, role}
 use Rattle.md_meaning.specs.State.{Container, NoLeaf, Path, shut}
-use Rattle.md_events.proofs.SpelledLemmas.{Between, QuietOrEnding, QuietOrPrefix, read-between, read-from, read-prefixes}
+use Rattle.md_events.proofs.SpelledLemmas.{Between, QuietOrEnding, QuietOrPrefix, read-between, read-from}
+use Rattle.md_events.proofs.SpelledLemmas.{read-prefixes}
 use Rattle.proof_frame.specs.ContainerNames.{container_name}
 use Rattle.proof_frame.specs.Change.{Change, ends_of}
 use Rattle.proof_frame.specs.Closed.{close_containers}
 use Rattle.proof_rows.specs.Fronted.{Contained, contained, rest_from}
 use Rattle.proof_rows.specs.WithoutMdx.{IsWithoutMdx}
 use Rattle.proof_frame.specs.Row.{BlankRow, LeafRow, Row, RowKind, TextRow, ending_events}
-use Rattle.proof_rows.specs.Stands.{IsPlain, containers_of, still_of, reading}
-use Rattle.proof_frame.proofs.FrontFacts.{Behind, Begins, LinePrefix, Goes}
+use Rattle.proof_rows.specs.Valid.{IsPlain, containers_of, still_of, reading}
+use Rattle.proof_frame.proofs.FrontFacts.{Following, Begins, LinePrefix, Proceeds}
 use Rattle.proof_rows.proofs.LineSteps.{spot_by}
-use Rattle.proof_rows.proofs.StepBehind.{still-step}
+use Rattle.proof_rows.proofs.StepAfter.{still-step}
 use Rattle.md_registry.proofs.Registry.{laws}
 use Rattle.proof_rows.proofs.RowFacts as f
 use Rattle.proof_frame.proofs.LeafFacts.{shown}
-use Rattle.proof_frame.proofs.LeafStands.{ending-roles}
+use Rattle.proof_frame.proofs.LeafAllowed.{ending-roles}
 use Rattle.proof_frame.proofs.PrefixFacts.{begins}
 use Rattle.proof_frame.proofs.PrefixNames.{prefixes-roles}
 use Rattle.proof_frame.proofs.Unmarked.{inline-between, inline-unmarked}
@@ -68,8 +69,8 @@ read-tail bytes name row r h t l =
 -- of the events before a line only those of the containers that begin there are read
 pub read-fronts : (bytes : List ℕ) (opens : List Container) (p q : Point) (es : List Event) (r : Reading) →
     LinePrefix bytes opens p q es → r.text ≡ None → r.leaf ≡ None → read bytes r es ≡ enters opens r
-read-fronts bytes opens p q es r (Behind a) t l = refl
-read-fronts bytes opens p q es r (Goes many a b d xs ys further more) t l =
+read-fronts bytes opens p q es r (Following a) t l = refl
+read-fronts bytes opens p q es r (Proceeds many a b d xs ys further more) t l =
     read-from bytes r r xs ys
     (read-prefixes bytes r xs t (prefixes-roles QuietOrPrefix xs tt tt tt further.names) further.unmarked)
     ∙ read-fronts bytes many b d ys r more t l
@@ -108,7 +109,8 @@ single-reads options bytes p c row gs last new name leaf shapes change a fronts 
     let begin : Reading = enters row.change.opens start in
     let text = close_containers-between (length row.change.closes) (reading options p) refl refl in
     read-parts bytes start begin (reading options new)
-    (close_containers (length row.closed_after) (reading options new)) last (front_done bytes row) leaf (tail_events name row)
+    (close_containers (length row.closed_after) (reading options new)) last (front_done bytes row) leaf
+    (tail_events name row)
     (groups_events options bytes gs)
     (read-fronts bytes row.change.opens a row.first (front_done bytes row) start fronts text.0 text.1)
     (found begin (read-open options p c row shapes change))
@@ -128,31 +130,32 @@ other-kind (LeafRow l) other = refl
 other-kind TextRow other = absurd (other refl)
 
 -- the kind of a line, by what is left of it after its containers
-pub line-is : (options : ParseOptions) (bytes : List ℕ) (cs : List Container) (still : HeldLeaf) (p : Point) (line : List ℕ)
+pub line-is : (options : ParseOptions) (bytes : List ℕ) (cs : List Container) (still : HeldLeaf) (p : Point)
+    (line : List ℕ)
     (row : Row) →
     f.IsLine options bytes cs still p line row →
     let c = contained options cs still (rest_from p line) in row.kind ≡ line_kind options c.on c.rest
 line-is options bytes cs still p line row is = is.is.kind ∙ ap₂ (line_kind options) is.on is.rest_is
 
 -- and what is open after it
-pub line-behind : (options : ParseOptions) (bytes : List ℕ) (cs : List Container) (still : HeldLeaf) (p : Point)
+pub line-following : (options : ParseOptions) (bytes : List ℕ) (cs : List Container) (still : HeldLeaf) (p : Point)
     (line : List ℕ) (row : Row) →
     f.IsLine options bytes cs still p line row →
     let c = contained options cs still (rest_from p line) in
-    row.behind ≡ line_behind options c.on c.rest (line_kind options c.on c.rest)
-line-behind options bytes cs still p line row is =
-    is.is.behind
-    ∙ ap₂ (λ (on : HeldLeaf) (r : Rest). line_behind options on r row.kind) is.on is.rest_is
-    ∙ ap (line_behind options (contained options cs still (rest_from p line)).on
+    row.following ≡ line_following options c.on c.rest (line_kind options c.on c.rest)
+line-following options bytes cs still p line row is =
+    is.is.following
+    ∙ ap₂ (λ (on : HeldLeaf) (r : Rest). line_following options on r row.kind) is.on is.rest_is
+    ∙ ap (line_following options (contained options cs still (rest_from p line)).on
     (contained options cs still (rest_from p line)).rest) (line-is options bytes cs still p line row is)
 
 pub still-line : (options : ParseOptions) (bytes : List ℕ) (a : Path) (p : Point) (line : List ℕ) (row : Row) →
     IsWithoutMdx options →
     IsPlain a → f.IsLine options bytes (containers_of a) (still_of a) p line row →
-    still_of (step options a (rest_from p line)) ≡ row.behind
+    still_of (step options a (rest_from p line)) ≡ row.following
 still-line options bytes a p line row built plain is =
     still-step options a (rest_from p line) built plain
-    ∙ sym (line-behind options bytes (containers_of a) (still_of a) p line row is)
+    ∙ sym (line-following options bytes (containers_of a) (still_of a) p line row is)
 
 -- the ending of a line opens no line of a leaf
 pub ending-role : (blank : Bool) → QuietOrEnding (role (ending_name blank))
@@ -165,11 +168,12 @@ pub shown-leaf : (options : ParseOptions) (p : Path) (r : Rest) (kind : RowKind)
     record (reading options p) { here = shut options (spot_by options (reading options p).here [] r kind) }
 shown-leaf options p r BlankRow other ends = refl
 shown-leaf options p r (LeafRow l) other ends =
-    ap (λ (c : LeafResult). record (reading options p) { here = shut options (came (reading options p).here c) })
+    ap (λ (c : LeafResult). record (reading options p) { here = shut options (became (reading options p).here c) })
     (sym ((laws l).finishes (ends l refl) options NoLeaf r))
 shown-leaf options p r TextRow other ends = absurd (other refl)
 
-pub no-joins : (options : ParseOptions) (bytes line : List ℕ) (p : Path) (row : Row) (gs : List Group) (last : Reading) →
+pub no-joins : (options : ParseOptions) (bytes line : List ℕ) (p : Path) (row : Row) (gs : List Group)
+    (last : Reading) →
     f.IsRow options bytes line row → is_text row.kind ≡ false → EndsOnLine row.kind →
     Follows options bytes p row gs last → Reads options bytes p row.closed_after gs last
 no-joins options bytes line p row gs last is none ends (inl parts) = parts.reads
@@ -177,6 +181,6 @@ no-joins options bytes line p row gs last is none ends (inr (inl joins)) = let t
 no-joins options bytes line p row gs last is none ends (inr (inr (inr joins))) = let text = joins.text in cc
 no-joins options bytes line p row gs last is none ends (inr (inr (inl joins))) =
     let may = joins.may in
-    let shut = (shut-behind options bytes line row is ends
+    let shut = (shut-following options bytes line row is ends
     (λ (text : row.kind ≡ TextRow). let bad : true ≡ false = sym (ap is_text text) ∙ none in cc)).0 in
     cc

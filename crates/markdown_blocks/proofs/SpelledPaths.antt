@@ -5,8 +5,8 @@ use Rattle.std.specs.Prelude.{None}
 use Rattle.md_engine.specs.declared.configuration.ParseOptions.{ParseOptions}
 use Rattle.md_meaning.specs.Rest.{Rest}
 use Rattle.md_events.specs.Events.Spelled.{OpenContainer, Reading, Shape, left}
-use Rattle.md_meaning.specs.State.{At, Container, ParagraphLine, Leaf, NoLeaf, Path, Innermost, Within, closed, shut, spot, texts}
-use Rattle.md_meaning.specs.State.{then_block, then_leaf}
+use Rattle.md_meaning.specs.State.{At, Container, ParagraphLine, Leaf, NoLeaf, Path, Innermost, Within, closed, shut}
+use Rattle.md_meaning.specs.State.{spot, texts, then_block, then_leaf}
 use Rattle.md_meaning.specs.Step.{spot_of}
 use Rattle.md_meaning.specs.Tree.{Block, Blocks, End}
 use Rattle.proof_frame.specs.TextLines.{text_leaf}
@@ -16,8 +16,8 @@ use Rattle.proof_rows.specs.Fronted.{Contained}
 use Rattle.proof_frame.specs.Row.{RowKind}
 use Rattle.proof_rows.specs.Rows.{line_kind}
 use Rattle.proof_frame.specs.Around.{around_of}
-use Rattle.proof_rows.specs.Stands.{containers_of, final_on, outer_on, reading, reading_on}
-use Rattle.proof_rows.proofs.LineSteps.{behind_path, kept_to, longer, new_line, new_path, renewed, spot_by}
+use Rattle.proof_rows.specs.Valid.{containers_of, final_on, outer_on, reading, reading_on}
+use Rattle.proof_rows.proofs.LineSteps.{after_path, kept_to, longer, new_line, new_path, renewed, spot_by}
 use Rattle.proof_frame.specs.Leaf.Paragraph.{held_of}
 use Rattle.md_registry.proofs.Registry.{text-laws}
 use Rattle.proof_frame.proofs.ContainerNames.{container-facts}
@@ -63,11 +63,13 @@ shapes-length (c ∷ cs) (d ∷ ds) e =
     let more : map shape_of cs ≡ map shape_of ds = cc in ap (λ (n : ℕ). suc n) (shapes-length cs ds more)
 
 -- of the same shape, a container is read alike
-pub around-same : (c d : Container) (before : Blocks) → shape_of c ≡ shape_of d → around_of c before ≡ around_of d before
+pub around-same : (c d : Container) (before : Blocks) → shape_of c ≡ shape_of d → around_of c before ≡
+    around_of d before
 around-same c d before e = ap (λ (shape : Shape). record { shape = shape; before = before }) e
 
 -- where some end, the others are kept
-pub close_containers-kept : (options : ParseOptions) (stays closes : List Container) (outer : List OpenContainer) (p : Path) →
+pub close_containers-kept : (options : ParseOptions) (stays closes : List Container)
+    (outer : List OpenContainer) (p : Path) →
     AreShapes stays closes p →
     close_containers (length closes) (reading_on options outer p) ≡ reading_on options outer (kept_to options stays p)
 close_containers-kept options [] closes outer p e =
@@ -102,13 +104,13 @@ new_none (c ∷ cs) bs = Within bs c (new_none cs End)
 
 -- what is open after the containers of a line, where it does not continue a text
 abbrev pub open_path : ParseOptions → Path → Contained → Path
-open_path options p c = behind_path (kept_to options c.change.stays p) (new_none c.change.opens)
+open_path options p c = after_path (kept_to options c.change.stays p) (new_none c.change.opens)
 
-pub reading-behind : (options : ParseOptions) (outer : List OpenContainer) (p : Path) (f : Blocks → Path) →
-    reading_on options outer (behind_path p f) ≡ reading_on options (outer_on outer p) (f (spot p).here)
-reading-behind options outer (At s) f = refl
-reading-behind options outer (Within before container p) f =
-    reading-behind options (around_of container before ∷ outer) p f
+pub reading-following : (options : ParseOptions) (outer : List OpenContainer) (p : Path) (f : Blocks → Path) →
+    reading_on options outer (after_path p f) ≡ reading_on options (outer_on outer p) (f (spot p).here)
+reading-following options outer (At s) f = refl
+reading-following options outer (Within before container p) f =
+    reading-following options (around_of container before ∷ outer) p f
 
 pub kept-none : (options : ParseOptions) (stays : List Container) (p : Path) →
     (spot (kept_to options stays p)).leaf ≡ NoLeaf
@@ -131,7 +133,7 @@ pub reading-open : (options : ParseOptions) (p : Path) (c : Contained) → AreSh
     enters c.change.opens (close_containers (length c.change.closes) (reading options p))
 reading-open options p c shapes =
     let k : Path = kept_to options c.change.stays p in
-    reading-behind options [] k (new_none c.change.opens)
+    reading-following options [] k (new_none c.change.opens)
     ∙ reading-none options (outer_on [] k) c.change.opens (spot k).here
     ∙ ap
     (λ (bs : Blocks). enters c.change.opens (record { outer = outer_on [] k; here = bs; leaf = None; text = None }))
@@ -142,9 +144,10 @@ reading-open options p c shapes =
 
 -- a path whose innermost container has something else in it
 abbrev pub with_spot : Path → (Blocks → Innermost) → Path
-with_spot p s = behind_path p (λ bs. At (s bs))
+with_spot p s = after_path p (λ bs. At (s bs))
 
-pub outer-with : (outer : List OpenContainer) (p : Path) (s : Blocks → Innermost) → outer_on outer (with_spot p s) ≡ outer_on outer p
+pub outer-with : (outer : List OpenContainer) (p : Path) (s : Blocks → Innermost) → outer_on outer (with_spot p s) ≡
+    outer_on outer p
 outer-with outer (At x) s = refl
 outer-with outer (Within before container p) s = outer-with (around_of container before ∷ outer) p s
 
@@ -152,17 +155,18 @@ pub spot-with : (p : Path) (s : Blocks → Innermost) → spot (with_spot p s) �
 spot-with (At x) s = refl
 spot-with (Within before container p) s = spot-with p s
 
-pub behind-behind : (p : Path) (f : Blocks → Path) (s : Blocks → Innermost) →
-    with_spot (behind_path p f) s ≡ behind_path p (λ bs. with_spot (f bs) s)
-behind-behind (At x) f s = refl
-behind-behind (Within before container p) f s = ap (Within before container) (behind-behind p f s)
+pub following-following : (p : Path) (f : Blocks → Path) (s : Blocks → Innermost) →
+    with_spot (after_path p f) s ≡ after_path p (λ bs. with_spot (f bs) s)
+following-following (At x) f s = refl
+following-following (Within before container p) f s = ap (Within before container) (following-following p f s)
 
-pub behind-ap : (p : Path) (f g : Blocks → Path) → ((bs : Blocks) → f bs ≡ g bs) → behind_path p f ≡ behind_path p g
-behind-ap (At x) f g each = each x.here
-behind-ap (Within before container p) f g each = ap (Within before container) (behind-ap p f g each)
+pub following-ap : (p : Path) (f g : Blocks → Path) → ((bs : Blocks) → f bs ≡ g bs) → after_path p f ≡ after_path p g
+following-ap (At x) f g each = each x.here
+following-ap (Within before container p) f g each = ap (Within before container) (following-ap p f g each)
 
 pub new-with : (options : ParseOptions) (on : HeldLeaf) (opens : List Container) (r : Rest) (bs : Blocks) →
-    new_line options on opens r bs ≡ with_spot (new_none opens bs) (λ cs. spot_by options cs [] r (line_kind options on r))
+    new_line options on opens r bs ≡ with_spot (new_none opens bs)
+    (λ cs. spot_by options cs [] r (line_kind options on r))
 new-with options on [] r bs = refl
 new-with options on (c ∷ opens) r bs = ap (Within bs c) (new-with options on opens r End)
 
@@ -172,25 +176,25 @@ pub new-path : (options : ParseOptions) (p : Path) (c : Contained) (kind : RowKi
     new_path options p c ≡ with_spot (open_path options p c) (λ bs. spot_by options bs [] c.rest kind)
 new-path options p c kind e =
     let k : Path = kept_to options c.change.stays p in
-    behind-ap k (new_line options c.on c.change.opens c.rest)
+    following-ap k (new_line options c.on c.change.opens c.rest)
     (λ bs. with_spot (new_none c.change.opens bs) (λ cs. spot_by options cs [] c.rest kind))
     (λ bs.
     new-with options c.on c.change.opens c.rest bs
     ∙ ap (λ (x : RowKind). with_spot (new_none c.change.opens bs) (λ cs. spot_by options cs [] c.rest x)) e)
-    ∙ sym (behind-behind k (new_none c.change.opens) (λ bs. spot_by options bs [] c.rest kind))
+    ∙ sym (following-following k (new_none c.change.opens) (λ bs. spot_by options bs [] c.rest kind))
 
 pub none-none : (opens : List Container) (bs : Blocks) → (spot (new_none opens bs)).leaf ≡ NoLeaf
 none-none [] bs = refl
 none-none (c ∷ opens) bs = none-none opens End
 
-pub behind-leaf : (p : Path) (f : Blocks → Path) → ((bs : Blocks) → (spot (f bs)).leaf ≡ NoLeaf) →
-    (spot (behind_path p f)).leaf ≡ NoLeaf
-behind-leaf (At x) f each = each x.here
-behind-leaf (Within before container p) f each = behind-leaf p f each
+pub following-leaf : (p : Path) (f : Blocks → Path) → ((bs : Blocks) → (spot (f bs)).leaf ≡ NoLeaf) →
+    (spot (after_path p f)).leaf ≡ NoLeaf
+following-leaf (At x) f each = each x.here
+following-leaf (Within before container p) f each = following-leaf p f each
 
 pub open-none : (options : ParseOptions) (p : Path) (c : Contained) → (spot (open_path options p c)).leaf ≡ NoLeaf
 open-none options p c =
-    behind-leaf (kept_to options c.change.stays p) (new_none c.change.opens) (none-none c.change.opens)
+    following-leaf (kept_to options c.change.stays p) (new_none c.change.opens) (none-none c.change.opens)
 
 -- a leaf where nothing is open
 pub reading-with : (options : ParseOptions) (p : Path) (s : Blocks → Innermost) → (spot p).leaf ≡ NoLeaf →
@@ -214,12 +218,13 @@ longer-with (Within before container p) lines none = ap (Within before container
 
 pub longer-longer : (p : Path) (xs ys : List ParagraphLine) → longer (longer p xs) ys ≡ longer p (xs ++ ys)
 longer-longer (At s) xs ys =
-    ap (λ (l : List ParagraphLine). At (record { here = s.here; leaf = text_leaf.held l })) (append_assoc (held_of s.leaf) xs ys)
+    ap (λ (l : List ParagraphLine). At (record { here = s.here; leaf = text_leaf.held l }))
+    (append_assoc (held_of s.leaf) xs ys)
 longer-longer (Within before container p) xs ys = ap (Within before container) (longer-longer p xs ys)
 
 pub reading-longer : (options : ParseOptions) (p : Path) (lines : List ParagraphLine) → (spot p).leaf ≡ NoLeaf →
     reading options (longer p lines) ≡
-    record (reading options p) { here = text_leaf.behind options (reading options p).here (texts lines) }
+    record (reading options p) { here = text_leaf.following options (reading options p).here (texts lines) }
 reading-longer options p lines none =
     ap (reading options) (longer-with p lines none)
     ∙ reading-with options p (λ bs. record { here = bs; leaf = text_leaf.held lines }) none

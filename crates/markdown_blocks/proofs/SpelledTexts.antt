@@ -12,18 +12,18 @@ use Rattle.markdown_blocks.proofs.SpelledHeads.{IsOfText, StartsHead, dark-fille
 use Rattle.markdown_blocks.proofs.SpelledHeads.{longer-spot, met-dark, span_tail, text-of_text}
 use Rattle.proof_rows.proofs.TextProgress.{setext-may, turn-left}
 use Rattle.md_registry.proofs.UnderNames.{further-text, heads-table, under-shuts}
-use Rattle.proof_frame.specs.HeldLeaf.{may_go_on}
-use Rattle.proof_rows.specs.Rows.{front_done, Headed, is_further, is_last, takes_head, LeafLines, Turned, line_behind}
-use Rattle.proof_rows.specs.Rows.{Group, Lines, groups_events, onto_groups, tail_events}
+use Rattle.proof_frame.specs.HeldLeaf.{may_continue}
+use Rattle.proof_rows.specs.Rows.{front_done, Headed, is_further, is_last, takes_head, LeafLines, Turned}
+use Rattle.proof_rows.specs.Rows.{line_following, Group, Lines, groups_events, onto_groups, tail_events}
 use Rattle.proof_frame.specs.Row.{Row, TextRow, last_row}
 use Rattle.proof_table_laws.specs.Headed.{headed_done}
 use Rattle.proof_table_laws.specs.Leaf.GfmTable.{table_leaf}
 use Rattle.proof_frame.specs.Leaf.Paragraph.{held_of}
 use Rattle.proof_rows.proofs.GroupLines.{kept-of}
-use Rattle.proof_rows.proofs.LineSteps.{with_came, longer}
+use Rattle.proof_rows.proofs.LineSteps.{with_result, longer}
 use Rattle.md_registry.proofs.LeafStarts.{text-turns}
 use Rattle.proof_rows.proofs.RowLeaf.{row-as}
-use Rattle.proof_frame.proofs.SpanLaws.{AreBehind, IsLineOf, come_behind}
+use Rattle.proof_frame.proofs.SpanLaws.{AreAfter, IsLineOf, becomes_after}
 use Rattle.proof_frame.specs.LeafName.{GfmTable, LeafName}
 use Rattle.md_registry.specs.Registry.{leaf}
 use Rattle.md_meaning.specs.Rest.{trim_start, Rest, is_blank}
@@ -36,11 +36,11 @@ use Rattle.md_events.specs.Events.Spelled.{Reading, read}
 use Rattle.md_meaning.specs.State.{Container, Path, kept, spot}
 use Rattle.md_events.proofs.SpelledLemmas.{read-from}
 use Rattle.proof_frame.specs.Closed.{close_containers}
-use Rattle.proof_rows.specs.Stands.{still_of, reading}
+use Rattle.proof_rows.specs.Valid.{still_of, reading}
 use Rattle.proof_frame.proofs.FrontFacts.{LinePrefix}
 use Rattle.proof_frame.proofs.FrontNames.{fronts-done}
 use Rattle.proof_frame.proofs.FrontPlaces.{fronts-grow}
-use Rattle.proof_frame.proofs.LineTexts.{some-text, text-behind}
+use Rattle.proof_frame.proofs.LineTexts.{some-text, text-following}
 use Rattle.proof_rows.proofs.Underlines.{further-quiet}
 use Rattle.md_registry.proofs.Registry.{laws}
 use Rattle.proof_rows.proofs.RowFacts as f
@@ -51,17 +51,18 @@ use Rattle.md_link_definitions.specs.Progress.{progress_of, step as further}
 use Rattle.md_leaves.specs.HeadingSetext.{may_turn}
 use Rattle.markdown_blocks.proofs.SpelledLines.{read-fronts, read-tail}
 use Rattle.markdown_blocks.proofs.SpelledGroups.{Follows, IsTurnLeft, JoinsSpan, ReadsSpan, StartsLines, StartsSpan}
-use Rattle.markdown_blocks.proofs.SpelledGroups.{StartsText, first_come, onto-joined, text_path, text_tail}
+use Rattle.markdown_blocks.proofs.SpelledGroups.{StartsText, first_becomes, onto-joined, text_path, text_tail}
 
 -- after what turns a text no leaf is open, so no line continues it
 turn-alone : (options : ParseOptions) (bytes : List ℕ) (at : OpenText) (l : LeafName) (under : Row) (rows : List Row) →
     (leaf l).further (held_leaf.Text at) ≡ true → (leaf l).heads ≡ false → IsLineOf options bytes (leaf l) under →
-    AreBehind options bytes (leaf l) under rows → rows ≡ []
+    AreAfter options bytes (leaf l) under rows → rows ≡ []
 turn-alone options bytes at l under [] further heads is are = refl
 turn-alone options bytes at l under (next ∷ rows) further heads is are =
-    let left : next.on ≡ held_leaf.None = are.4 ∙ is.behind ∙ under-shuts at l further heads options under.on is.rest in
+    let left : next.on ≡ held_leaf.None = are.4 ∙ is.following
+    ∙ under-shuts at l further heads options under.on is.rest in
     let may = (laws l).meets options next.on are.6.rest are.6.starts are.5 in
-    let bad : true ≡ false = sym may ∙ ap may_go_on left in
+    let bad : true ≡ false = sym may ∙ ap may_continue left in
     absurd (cc)
 
 -- a line that is not empty is one of the text, not one after its end
@@ -69,7 +70,7 @@ pub line-inside : (options : ParseOptions) (bytes : List ℕ) (l : LeafName) (p 
     (is : IsLineOf options bytes (leaf l) row) → is_blank is.rest.bytes ≡ false →
     LinePrefix bytes [] p row.first row.front → nat_lt p.index (length bytes) ≡ true
 line-inside options bytes l p row is dark front =
-    let inside = text-behind bytes is.rest row.first row.end is.at (some-text is.rest dark) in
+    let inside = text-following bytes is.rest row.first row.end is.at (some-text is.rest dark) in
     let grow = fronts-grow bytes [] p row.first row.front front in
     let less : p.index < length bytes = omega (arith, inside, grow) in grind (arith, nat_tests)
 
@@ -80,7 +81,7 @@ turn-lines : (options : ParseOptions) (bytes line : List ℕ) (p : Path) (row : 
     StartsLines options bytes p row (onto_groups row TextRow gs) last
 turn-lines options bytes line p row gs last is text joins heads =
     go reads.rows (turn-alone options bytes at joins.name under reads.rows further heads of reads.are) reads.groups_are
-    reads.are reads.behind
+    reads.are reads.following
   where
     under : Row
     under = joins.next
@@ -95,7 +96,7 @@ turn-lines options bytes line p row gs last is text joins heads =
     of = row-as options bytes joins.starts.line under joins.starts.is joins.name joins.starts.kind
 
     first : LeafResult
-    first = first_come options bytes joins.name q joins.after rest
+    first = first_becomes options bytes joins.name q joins.after rest
 
     reads : ReadsSpan options bytes joins.name q first under gs last
     reads = joins.starts.reads
@@ -104,14 +105,14 @@ turn-lines options bytes line p row gs last is text joins heads =
     at = open_text (further (progress_of row.on) (trim_start is.rest.bytes)) (kept is.rest)
 
     on : under.on ≡ held_leaf.Text at
-    on = joins.on ∙ is.behind ∙ ap (line_behind options row.on is.rest) text
+    on = joins.on ∙ is.following ∙ ap (line_following options row.on is.rest) text
 
     further : (leaf joins.name).further (held_leaf.Text at) ≡ true
     further = ap (leaf joins.name).further (sym on) ∙ joins.starts.further
 
-    come : first ≡ (leaf joins.name).comes options (spot q).leaf rest
-    come =
-        ap (λ (x : Bool). cond x ((leaf joins.name).comes options (spot q).leaf rest) (Opened (spot q).leaf))
+    become : first ≡ (leaf joins.name).becomes options (spot q).leaf rest
+    become =
+        ap (λ (x : Bool). cond x ((leaf joins.name).becomes options (spot q).leaf rest) (Opened (spot q).leaf))
         (line-inside options bytes joins.name joins.after under of
         (met-dark options bytes joins.starts.line under joins.name at joins.starts.is
         joins.starts.kind on) joins.fronts)
@@ -128,16 +129,16 @@ turn-lines options bytes line p row gs last is text joins heads =
         ∙ turn-left options at (ap (may_turn options) (sym on) ∙ may) defines
 
     go : (rows : List Row) → rows ≡ [] → gs ≡ LeafLines under rows ∷ reads.below →
-        (are : AreBehind options bytes (leaf joins.name) under rows) →
+        (are : AreAfter options bytes (leaf joins.name) under rows) →
         read bytes
         (reading options
-        (with_came options (leaf joins.name).heads q
-        (come_behind options bytes (leaf joins.name) under rows are first)))
+        (with_result options (leaf joins.name).heads q
+        (becomes_after options bytes (leaf joins.name) under rows are first)))
         (span_tail under rows ++ groups_events options bytes reads.below) ≡
         last →
         StartsLines options bytes p row (onto_groups row TextRow gs) last
-    go (next ∷ rows) none e are behind = absurd (cc)
-    go [] none e are behind = record {
+    go (next ∷ rows) none e are following = absurd (cc)
+    go [] none e are following = record {
       rows = [];
       turn = Some under;
       below = reads.below;
@@ -169,13 +170,13 @@ turn-lines options bytes line p row gs last is text joins heads =
               joins.further (ap takes_head joins.starts.kind ∙ heads);
         };
         left = left;
-        behind =
+        following =
             ap
             (λ (c : LeafResult).
-            read bytes (reading options (with_came options (leaf joins.name).heads q c))
+            read bytes (reading options (with_result options (leaf joins.name).heads q c))
             (span_tail under [] ++ groups_events options bytes reads.below))
-            (sym come)
-            ∙ behind;
+            (sym become)
+            ∙ following;
       };
     }
 
@@ -211,15 +212,16 @@ head-lines options bytes line p row gs last is text joins name = record {
   );
   filled = (dark, dark-filled options bytes next reads.rows reads.are reads.dark);
   at = open_text (further (progress_of row.on) (trim_start is.rest.bytes)) (kept is.rest);
-  on = joins.on ∙ is.behind ∙ ap (line_behind options row.on is.rest) text;
-  behind =
+  on = joins.on ∙ is.following ∙ ap (line_following options row.on is.rest) text;
+  following =
       ap
       (λ (c : LeafResult).
       read bytes
-      (reading options (with_came options true q (come_behind options bytes table_leaf next reads.rows reads.are c)))
+      (reading options (with_result options true q
+      (becomes_after options bytes table_leaf next reads.rows reads.are c)))
       (span_tail next reads.rows ++ groups_events options bytes reads.below))
-      (sym come)
-      ∙ reads.behind;
+      (sym become)
+      ∙ reads.following;
 }
   where
     next : Row
@@ -232,7 +234,7 @@ head-lines options bytes line p row gs last is text joins name = record {
     starts = subst (λ (l : LeafName). StartsSpan options bytes l q joins.after next gs last) name joins.starts
 
     reads : ReadsSpan options bytes GfmTable q
-        (first_come options bytes GfmTable q joins.after starts.is.rest) next gs last
+        (first_becomes options bytes GfmTable q joins.after starts.is.rest) next gs last
     reads = starts.reads
 
     of : IsLineOf options bytes table_leaf next
@@ -241,10 +243,10 @@ head-lines options bytes line p row gs last is text joins name = record {
     dark : is_blank starts.is.rest.bytes ≡ false
     dark = heads-dark options bytes starts.line next GfmTable starts.is starts.kind starts.further refl
 
-    come : first_come options bytes GfmTable q joins.after starts.is.rest ≡
-        table_leaf.comes options (spot q).leaf starts.is.rest
-    come =
-        ap (λ (x : Bool). cond x (table_leaf.comes options (spot q).leaf starts.is.rest) (Opened (spot q).leaf))
+    become : first_becomes options bytes GfmTable q joins.after starts.is.rest ≡
+        table_leaf.becomes options (spot q).leaf starts.is.rest
+    become =
+        ap (λ (x : Bool). cond x (table_leaf.becomes options (spot q).leaf starts.is.rest) (Opened (spot q).leaf))
         (line-inside options bytes GfmTable joins.after next of dark joins.fronts)
 
 -- before a table another text ends
@@ -275,7 +277,7 @@ heads-read options bytes o row gs last starts of_text opens a front start text s
     ∙ read-from bytes (reading options o) new whole (tail ++ more)
     (head-read options bytes starts.line o row starts.next starts.rows starts.at starts.is starts.text starts.are
     starts.filled starts.on of_text)
-    ∙ starts.behind
+    ∙ starts.following
 
 -- a line of text, and what follows
 pub starts-lines : (options : ParseOptions) (bytes line : List ℕ) (p : Path) (row : Row) (gs : List Group)
@@ -292,7 +294,7 @@ starts-lines options bytes line p row gs last is text (inl parts) = inl (record 
     are = (line, is, text);
     turned = tt;
     left = tt;
-    behind =
+    following =
         let s : Reading = reading options (longer p (kept is.rest ∷ [])) in
         read-from bytes s (close_containers (length row.closed_after) s) (tail_events n.LineEnding row)
         (groups_events options bytes gs) (read-tail bytes n.LineEnding row s tt refl refl)
@@ -313,7 +315,7 @@ starts-lines options bytes line p row gs last is text (inr (inr (inr joins))) = 
     are = (line, is, text);
     turned = tt;
     left = tt;
-    behind =
+    following =
         let q : Path = longer p (kept is.rest ∷ []) in
         let s : Reading = reading options q in
         read-from bytes s s (tail_events n.LineEnding row) (groups_events options bytes gs)
@@ -342,13 +344,13 @@ starts-lines options bytes line p row gs last is text (inr (inl joins)) =
         left =
             subst (IsTurnLeft options below.turn)
             (longer-longer p (kept is.rest ∷ []) (kept-of options bytes joins.next below.rows reads.are)) reads.left;
-        behind =
+        following =
             subst
             (λ (x : Path).
             read bytes (reading options (text_path options bytes final below.turn reads.turned x))
             (text_tail final below.turn ++ groups_events options bytes below.below) ≡
             last)
             (longer-longer p (kept is.rest ∷ []) (kept-of options bytes joins.next below.rows reads.are))
-            reads.behind;
+            reads.following;
       };
     })

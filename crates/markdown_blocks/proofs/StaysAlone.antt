@@ -110,7 +110,8 @@ alone-from es zero le = omega arith
 alone-from [] (suc n) le = absurd (omega (arith, le))
 alone-from (e ∷ es) (suc n) le = by (passes_alone e) (alone-from es n) le
   where
-    by : (x : Bool) → (n ≤ prefix_len passes_alone es → n + prefix_len passes_alone (drop n es) ≡ prefix_len passes_alone es) →
+    by : (x : Bool) → (n ≤ prefix_len passes_alone es → n + prefix_len passes_alone (drop n es) ≡
+        prefix_len passes_alone es) →
         suc n ≤ cond x (1 + prefix_len passes_alone es) 0 →
         suc n + prefix_len passes_alone (drop n es) ≡ cond x (1 + prefix_len passes_alone es) 0
     by false rest le = absurd (omega (arith, le))

@@ -12,7 +12,7 @@ use Rattle.md_engine.specs.Found.{Found}
 use Rattle.md_engine.specs.Place.{first_point}
 use Rattle.md_engine.specs.World.{World}
 use Rattle.md_containers.specs.ItemsHeld.{ItemsHeld}
-use Rattle.md_containers.specs.ItemsStand.{ItemsStand, root}
+use Rattle.md_containers.specs.ItemsAllowed.{ItemsAllowed, root}
 use Rattle.md_containers.specs.Listed.{listed}
 use Rattle.md_registry.specs.Resolving.{lines_joined}
 use Rattle.md_containers.proofs.ListedBlocks.{IsUnlisted, listed-blocks, listed-covers}
@@ -48,10 +48,10 @@ use Rattle.proof_rows.proofs.BetweenRows.{rows-between}
 use Rattle.proof_rows.proofs.EndingRows.{blocks-endings}
 use Rattle.proof_rows.proofs.GrammarRows.{blocks-grammar}
 use Rattle.proof_rows.proofs.HeldRows.{blocks-held, events-held}
-use Rattle.proof_rows.proofs.StandRows.{events-stand, rows-stand}
+use Rattle.proof_rows.proofs.ValidRows.{events-are_valid, rows-are_valid}
 use Rattle.proof_rows.proofs.GroupsAre.{groups-are}
 use Rattle.markdown_blocks.proofs.Labels.Rows.{rows-labels}
-use Rattle.proof_content_laws.proofs.Labels.Footnotes.{stand-labels}
+use Rattle.proof_content_laws.proofs.Labels.Footnotes.{are_valid-labels}
 use Rattle.proof_content_laws.proofs.Labels.Kept.{listed-labels, read-labels}
 use Rattle.proof_content_laws.proofs.Labels.Off.{off-in}
 use Rattle.proof_content_laws.proofs.Labels.Trees.{defined_in, grouped-defined, grouped-noted, noted_in}
@@ -65,7 +65,7 @@ use Rattle.proof_container_laws.proofs.ListedOutlined.{listed-outlined}
 use Rattle.proof_rows.proofs.Begun.{begun, front-nested, front-spelled, front-unlisted, fronts-defined}
 use Rattle.proof_rows.proofs.Begun.{fronts-grouped, fronts-noted, fronts-shallow}
 use Rattle.proof_frame.proofs.FillFacts.{fill-same}
-use Rattle.proof_frame.proofs.PartsStand.{stands-outside}
+use Rattle.proof_frame.proofs.PartsValid.{valid-outside}
 use Rattle.proof_rows.proofs.NestedRows.{Nests, rows-nest}
 use Rattle.proof_rows.proofs.PieceRows.{blocks-pieces}
 use Rattle.proof_rows.proofs.PlainEvents.{groups-unlisted}
@@ -76,11 +76,11 @@ use Rattle.proof_rows.proofs.TextAre.{lines_of, rows_of, text-are}
 use Rattle.markdown_blocks.proofs.ContentAre.{content-are, part-of}
 use Rattle.markdown_blocks.proofs.FlowReads.{text-quiet}
 use Rattle.proof_rows.proofs.TileCovers.{blocks-cover}
-use Rattle.proof_rows.proofs.TileParts.{blocks-chunks, blocks-nested, blocks-stand}
+use Rattle.proof_rows.proofs.TileParts.{blocks-chunks, blocks-nested, blocks-are_valid}
 use Rattle.proof_rows.proofs.TileReads.{blocks-empty, end-unread, text-filled}
 use Rattle.proof_container_laws.proofs.ListedFront.{listed-front}
 use Rattle.markdown_blocks.proofs.TreeRows.{body-rows, body-shallow, body_of, tree-body}
-use Rattle.proof_frame.proofs.LeafStands.{roles-unlisted}
+use Rattle.proof_frame.proofs.LeafAllowed.{roles-unlisted}
 
 -- Then the lines of each leaf of several were joined, lists were put around items, and headings and tables were set.
 resolved-are : (options : ParseOptions) (bytes : List ℕ) → IsWithoutMdx options → length bytes < 2 ^ 61 →
@@ -139,11 +139,11 @@ footnotes-are options bytes built small found new flow =
     ∙ listed-labels bytes bytes blocks
     ∙ sym
     (read-labels bytes blocks
-    (blocks-chunks options bytes [] held_leaf.None p [] lines rows (stands-outside bytes [] tt tt) (refl, refl) are
+    (blocks-chunks options bytes [] held_leaf.None p [] lines rows (valid-outside bytes [] tt tt) (refl, refl) are
     (text-quiet options bytes p)))
     ∙ ap (footnote_labels_in bytes)
     (sym (text-filled options bytes p [] lines (fill-same bytes [] tt tt) are).read)
-    ∙ stand-labels bytes body (rows-stand options bytes p lines rows are) nests.balanced.matches
+    ∙ are_valid-labels bytes body (rows-are_valid options bytes p lines rows are) nests.balanced.matches
     (rows-parted options bytes p lines rows are) (rows-outer options bytes p lines rows built are)
     ∙ ap noted_in (body-rows options built bytes p rows are)
     ∙ sym (grouped-noted (body_of options bytes p))
@@ -199,7 +199,7 @@ blocks-unlisted options bytes built small placed =
       items = blocks-held options bytes p front lines rows part are;
       placed = placed;
       lines =
-          blocks-stand options bytes [] held_leaf.None p front lines rows part.stretch.parts (refl, refl) are
+          blocks-are_valid options bytes [] held_leaf.None p front lines rows part.stretch.parts (refl, refl) are
           (text-quiet options bytes p);
       chunks =
           blocks-chunks options bytes [] held_leaf.None p front lines rows part.stretch.parts (refl, refl) are
@@ -272,7 +272,7 @@ has-blocks options bytes built utf8 small placed =
     let are : AreRows options bytes [] held_leaf.None p lines rows = text-are options bytes built small in
     let nests : Nests options bytes p (groups rows) = rows-nest options bytes p lines rows are in
     let nested : Nested events = front-nested p front body part.stretch.nested nests.balanced nests.forward in
-    let stand : ItemsStand bytes root events = events-stand options bytes p front lines rows part are in
+    let are_valid : ItemsAllowed bytes root events = events-are_valid options bytes p front lines rows part are in
     let held : ItemsHeld [] events = events-held options bytes p front lines rows part are in
     let shows : spelled body bytes ≡ body_of options bytes p = body-rows options built bytes p rows are in
     let spells : spelled events bytes ≡ with_frontmatter begins.block (body_of options bytes p) =
@@ -294,7 +294,7 @@ has-blocks options bytes built utf8 small placed =
           (together (plain_lists bytes (parts (exact options bytes)))) list.chunks
           (plain-inline bytes (parts (exact options bytes))))
           ∙ ap (λ (l : List Event). spelled l bytes) (sym (read-is options bytes built small))
-          ∙ listed-spelled bytes events stand ∙ ap grouped spells
+          ∙ listed-spelled bytes events are_valid ∙ ap grouped spells
           ∙ fronts-grouped begins.block (body_of options bytes p) begins.kind
           ∙ sym (tree-body options bytes p front begins);
       outlined =
@@ -303,7 +303,7 @@ has-blocks options bytes built utf8 small placed =
           (front-unlisted bytes p front body part
           (groups-unlisted options bytes p lines rows are utf8
           (rows-between options bytes p lines rows begins.between are)))
-          stand nested held
+          are_valid nested held
           (ap are_shallow spells
           ∙ fronts-shallow begins.block (body_of options bytes p) begins.kind (body-shallow options bytes p built)));
       empty = λ none. sym same ∙ ap (listed bytes) (blocks-empty options bytes none);

@@ -8,8 +8,8 @@ use Rattle.md_meaning.specs.State.{OpenParagraph, spot, At, Container, Paragraph
 use Rattle.md_meaning.specs.State.{closed, container_block, kept, shut, texts, then_block, then_leaf}
 use Rattle.md_registry.proofs.Registry.{insider-none, text-laws}
 use Rattle.proof_rows.specs.Rows.{is_further, is_inside, takes_head, groups, groups_events, is_lazy, line_kind}
-use Rattle.proof_rows.specs.Fronted.{prefixes_behind, Contained, Prefixed, contained, no_prefix, one_more, prefixes_new}
-use Rattle.proof_rows.specs.Fronted.{prefixes_on, contained_behind, contained_of}
+use Rattle.proof_rows.specs.Fronted.{prefixes_after, Contained, Prefixed, contained, no_prefix, one_more, prefixes_new}
+use Rattle.proof_rows.specs.Fronted.{prefixes_on, contained_after, contained_of}
 use Rattle.proof_frame.specs.Change.{against, change_by, interrupts, others_of, Change}
 use Rattle.std.proofs.Common.{◌++◌, map, length, drop, take, refl, ap, sym, ◌∙◌, subst, inl, inr, ◌⊎◌}
 use Rattle.std.specs.Prelude.{Option, Some, None}
@@ -34,16 +34,16 @@ use Rattle.proof_rows.specs.WithoutMdx.{IsWithoutMdx}
 use Rattle.proof_frame.specs.TextLines.{text_leaf}
 use Rattle.proof_frame.specs.Row.{BlankRow, LeafRow, Row, RowKind, TextRow}
 use Rattle.md_registry.specs.OpenSpan.{IsBuiltLeaf, IsOpenSpan}
-use Rattle.proof_rows.specs.Stands.{IsPlain, containers_of, still_of}
+use Rattle.proof_rows.specs.Valid.{IsPlain, containers_of, still_of}
 use Rattle.proof_rows.proofs.ContainedLemmas.{contained-kinds, contained-still, lines-open}
 use Rattle.proof_rows.proofs.KindLemmas.{kind-plain}
-use Rattle.proof_rows.proofs.LineSteps.{behind_path, come_by, contained_at, further_path, goes_further, goes_lazy}
-use Rattle.proof_rows.proofs.LineSteps.{kept_to, longer, new_line, path_by, renewed, spot_by, step-contained}
-use Rattle.proof_rows.proofs.LineSteps.{with_came}
+use Rattle.proof_rows.proofs.LineSteps.{after_path, becomes_by, contained_at, further_path, continues_further}
+use Rattle.proof_rows.proofs.LineSteps.{continues_lazy, kept_to, longer, new_line, path_by, renewed, spot_by}
+use Rattle.proof_rows.proofs.LineSteps.{step-contained, with_result}
 use Rattle.proof_rows.proofs.FurtherSpan.{FurtherSpan, further-span, other_kind}
-use Rattle.md_registry.proofs.OpenSpan.{ComesShallow}
-use Rattle.markdown_blocks.proofs.LastLine.{no_bytes, no_rests, step_over, steps_over, told}
-use Rattle.proof_rows.proofs.StepBehind.{GoesOn, begun-leaf, further-unlazy, goes-on, plain-step, span-open}
+use Rattle.md_registry.proofs.OpenSpan.{BecomesShallow}
+use Rattle.markdown_blocks.proofs.LastLine.{no_bytes, no_rests, step_over, steps_over, recorded}
+use Rattle.proof_rows.proofs.StepAfter.{IsContinued, begun-leaf, further-unlazy, proceeds-on, plain-step, span-open}
 use Rattle.proof_frame.specs.HeldLeaf.{has_lines, takes_lazy}
 use Rattle.proof_rows.proofs.RowFacts as f
 use Rattle.markdown_blocks.proofs.SpelledRows.{spelled-rows}
@@ -94,7 +94,7 @@ read-open options cs still r built =
     interrupting = interrupts still (others_of cs on.containers)
 
     new : Prefixed
-    new = prefixes_behind options still (others_of cs on.containers) on
+    new = prefixes_after options still (others_of cs on.containers) on
 
     read : (x : Bool) →
         AreRead
@@ -155,10 +155,10 @@ shallow-longer : (p : Path) (lines : List ParagraphLine) → HoldsShallow p → 
 shallow-longer (At s) lines h = h
 shallow-longer (Within before container p) lines h = (h.0, h.1, shallow-longer p lines h.2)
 
-shallow-behind : (p : Path) (f : Blocks → Path) → HoldsShallow p →
-    ((bs : Blocks) → are_shallow bs ≡ true → HoldsShallow (f bs)) → HoldsShallow (behind_path p f)
-shallow-behind (At s) f h each = each s.here h
-shallow-behind (Within before container p) f h each = (h.0, h.1, shallow-behind p f h.2 each)
+shallow-following : (p : Path) (f : Blocks → Path) → HoldsShallow p →
+    ((bs : Blocks) → are_shallow bs ≡ true → HoldsShallow (f bs)) → HoldsShallow (after_path p f)
+shallow-following (At s) f h each = each s.here h
+shallow-following (Within before container p) f h each = (h.0, h.1, shallow-following p f h.2 each)
 
 shallow-before : (heads : Bool) (options : ParseOptions) (bs : Blocks) (open_leaf : Leaf) → are_shallow bs ≡ true →
     are_shallow (front_before heads options bs open_leaf) ≡ true
@@ -166,12 +166,13 @@ shallow-before true options bs (OpenParagraph lines) h = text-laws.shallow optio
 shallow-before true options bs _ h = h
 shallow-before false options bs open_leaf h = shallow-front options bs open_leaf h
 
-shallow-came : (options : ParseOptions) (heads : Bool) (p : Path) (c : LeafResult) → ComesShallow c → HoldsShallow p →
-    HoldsShallow (with_came options heads p c)
-shallow-came options heads (At s) c shallow h =
+shallow-became : (options : ParseOptions) (heads : Bool) (p : Path) (c : LeafResult) → BecomesShallow c →
+    HoldsShallow p →
+    HoldsShallow (with_result options heads p c)
+shallow-became options heads (At s) c shallow h =
     shallow (front_before heads options s.here s.leaf) (shallow-before heads options s.here s.leaf h)
-shallow-came options heads (Within before container p) c shallow h =
-    (h.0, h.1, shallow-came options heads p c shallow h.2)
+shallow-became options heads (Within before container p) c shallow h =
+    (h.0, h.1, shallow-became options heads p c shallow h.2)
 
 shallow-line : (options : ParseOptions) (on : HeldLeaf) (bs : Blocks) (r : Rest) →
     is_further (line_kind options on r) on ≡ false → are_shallow bs ≡ true →
@@ -190,19 +191,20 @@ shallow-new_line options on [] r bs begins read h = shallow-line options on bs r
 shallow-new_line options on (c ∷ cs) r bs begins read h =
     (h, read.0, shallow-new_line options on cs r End begins read.1 refl)
 
-shallow-further : (options : ParseOptions) (p : Path) (c : Contained) → GoesOn options p c → AreRead c.change.stays →
+shallow-further : (options : ParseOptions) (p : Path) (c : Contained) → IsContinued options p c →
+    AreRead c.change.stays →
     HoldsShallow p → HoldsShallow (further_path options p c)
-shallow-further options p c goes stay h =
-    shallow-came options (takes_head (line_kind options c.on c.rest)) (renewed c.change.stays p)
-    (come_by options (spot p).leaf c.rest (line_kind options c.on c.rest))
-    (subst (λ (kind : RowKind). ComesShallow (come_by options (spot p).leaf c.rest kind)) (sym goes.kind)
-    goes.is.shallow) (shallow-renewed c.change.stays p stay h)
+shallow-further options p c proceeds stay h =
+    shallow-became options (takes_head (line_kind options c.on c.rest)) (renewed c.change.stays p)
+    (becomes_by options (spot p).leaf c.rest (line_kind options c.on c.rest))
+    (subst (λ (kind : RowKind). BecomesShallow (becomes_by options (spot p).leaf c.rest kind)) (sym proceeds.kind)
+    proceeds.is.shallow) (shallow-renewed c.change.stays p stay h)
 
 shallow-step : (options : ParseOptions) (p : Path) (r : Rest) → IsWithoutMdx options → IsPlain p → HoldsShallow p →
     HoldsShallow (step options p r)
 shallow-step options p r built plain h =
     subst HoldsShallow (sym (step-contained options p r built plain))
-    (go (goes_lazy options p c) (goes_further options c) refl)
+    (go (continues_lazy options p c) (continues_further options c) refl)
   where
     c : Contained
     c = contained_at options p r
@@ -213,12 +215,12 @@ shallow-step options p r built plain h =
     open_new : AreRead c.change.opens
     open_new = read-open options (containers_of p) (still_of p) r built
 
-    go : (x y : Bool) → goes_further options c ≡ y → HoldsShallow (path_by options p c x y)
+    go : (x y : Bool) → continues_further options c ≡ y → HoldsShallow (path_by options p c x y)
     go true y e =
         shallow-longer (renewed c.change.stays p) (kept c.rest ∷ []) (shallow-renewed c.change.stays p stay h)
-    go false true e = shallow-further options p c (goes-on options p r plain e) stay h
+    go false true e = shallow-further options p c (proceeds-on options p r plain e) stay h
     go false false e =
-        shallow-behind (kept_to options c.change.stays p) (new_line options c.on c.change.opens c.rest)
+        shallow-following (kept_to options c.change.stays p) (new_line options c.on c.change.opens c.rest)
         (shallow-kept options c.change.stays p built plain stay h)
         (λ bs k. shallow-new_line options c.on c.change.opens c.rest bs e open_new k)
 
@@ -237,11 +239,12 @@ shallow-steps options p (r ∷ rs) built plain h =
     (shallow-step options p r built plain h)
 
 -- what the lines of a text become
-abbrev come : ParseOptions → List Rest → Blocks
-come options rs = closed options (steps options (At (spot_of End)) rs)
+abbrev become : ParseOptions → List Rest → Blocks
+become options rs = closed options (steps options (At (spot_of End)) rs)
 
-shallow-come : (options : ParseOptions) (rs : List Rest) → IsWithoutMdx options → are_shallow (come options rs) ≡ true
-shallow-come options rs built =
+shallow-become : (options : ParseOptions) (rs : List Rest) → IsWithoutMdx options →
+    are_shallow (become options rs) ≡ true
+shallow-become options rs built =
     shallow-closed options (steps options (At (spot_of End)) rs) built
     (plain-steps options (At (spot_of End)) rs built tt) (shallow-steps options (At (spot_of End)) rs built tt refl)
 
@@ -275,7 +278,7 @@ on-empty options (c ∷ cs) column read =
 -- after such a line all is as it was, once it is closed
 closed-empty : (options : ParseOptions) (n : ℕ) (p : Path) (column : ℕ) →
     closed options
-    (behind_path (kept_to options (take n (containers_of p)) p)
+    (after_path (kept_to options (take n (containers_of p)) p)
     (λ (bs : Blocks). At (spot_by options bs [] (rest_at column []) BlankRow))) ≡
     closed options p
 closed-empty options zero p column = refl
@@ -286,19 +289,19 @@ closed-empty options (suc n) (Within before c p) column =
 -- what an empty line does, where so many containers continue
 abbrev empty_contained : ParseOptions → Path → ℕ → ℕ → Contained
 empty_contained options p n column =
-    let went : Prefixed = record { containers = take n (containers_of p); rest = rest_at column [] } in
-    contained_of options (containers_of p) (still_of p) went (no_prefix (rest_at column []))
+    let proceeded : Prefixed = record { containers = take n (containers_of p); rest = rest_at column [] } in
+    contained_of options (containers_of p) (still_of p) proceeded (no_prefix (rest_at column []))
 
 empty-line : (options : ParseOptions) (p : Path) (column : ℕ) → AreRead (containers_of p) →
     (n : ℕ) × (contained_at options p (rest_at column []) ≡ empty_contained options p n column)
 unfolding contained
 empty-line options p column read =
     let on = on-empty options (containers_of p) column read in
-    let went : Prefixed = record { containers = take on.0 (containers_of p); rest = rest_at column [] } in
-    let others : List Container = others_of (containers_of p) went.containers in (
+    let proceeded : Prefixed = record { containers = take on.0 (containers_of p); rest = rest_at column [] } in
+    let others : List Container = others_of (containers_of p) proceeded.containers in (
       on.0,
-      ap (contained_behind options (containers_of p) (still_of p)) on.1
-          ∙ ap (contained_of options (containers_of p) (still_of p) went)
+      ap (contained_after options (containers_of p) (still_of p)) on.1
+          ∙ ap (contained_of options (containers_of p) (still_of p) proceeded)
           (none (interrupts (still_of p) others) (is_inside (still_of p) others)),
     )
   where
@@ -346,7 +349,7 @@ renewed-some (suc n) (Within before c p) = ap (Within before c) (renewed-some n 
 
 step-empty : (options : ParseOptions) (p : Path) (column : ℕ) → IsWithoutMdx options → IsPlain p →
     AreRead (containers_of p) → closed options (step_over options true p (rest_at column [])) ≡ closed options p
-step-empty options p column built plain read = go (goes_further options c) refl
+step-empty options p column built plain read = go (continues_further options c) refl
   where
     r : Rest
     r = rest_at column []
@@ -360,11 +363,11 @@ step-empty options p column built plain read = go (goes_further options c) refl
     n : ℕ
     n = line.0
 
-    went : List Container
-    went = take n (containers_of p)
+    proceeded : List Container
+    proceeded = take n (containers_of p)
 
     others : List Container
-    others = others_of (containers_of p) went
+    others = others_of (containers_of p) proceeded
 
     on : HeldLeaf
     on = against (still_of p) others []
@@ -374,44 +377,44 @@ step-empty options p column built plain read = go (goes_further options c) refl
 
     -- a line that continues a leaf leaves all as it was
     stays : Bool → Path
-    stays lazy = renewed (change_by lazy went others []).stays p
+    stays lazy = renewed (change_by lazy proceeded others []).stays p
 
     -- any other is blank, and ends some containers
     by : Bool → Path
     by lazy =
-        let change : Change = change_by lazy went others [] in
+        let change : Change = change_by lazy proceeded others [] in
         cond (is_lazy (still_of p) change.opens kind) (longer (renewed change.stays p) (kept r ∷ []))
-        (behind_path (kept_to options change.stays p) (new_line options on change.opens r))
+        (after_path (kept_to options change.stays p) (new_line options on change.opens r))
 
     ended : RowKind → Path
     ended k =
-        cond (is_lazy (still_of p) [] k) (longer (renewed went p) (kept r ∷ []))
-        (behind_path (kept_to options went p) (λ (bs : Blocks). At (spot_by options bs [] r k)))
+        cond (is_lazy (still_of p) [] k) (longer (renewed proceeded p) (kept r ∷ []))
+        (after_path (kept_to options proceeded p) (λ (bs : Blocks). At (spot_by options bs [] r k)))
 
-    go : (x : Bool) → goes_further options c ≡ x →
+    go : (x : Bool) → continues_further options c ≡ x →
         closed options (cond x (renewed c.change.stays p) (step options p r)) ≡ closed options p
     go true e =
         ap (λ (x : Contained). closed options (renewed x.change.stays p)) line.1
         ∙ ap (λ (x : Bool). closed options (stays x))
-        (further-unlazy (still_of p) on [] kind (ap (goes_further options) (sym line.1) ∙ e))
+        (further-unlazy (still_of p) on [] kind (ap (continues_further options) (sym line.1) ∙ e))
         ∙ ap (closed options) (renewed-some n p)
     go false e =
         let is_blank : kind ≡ BlankRow = empty-kind e in
         ap (closed options) (step-contained options p r built plain)
-        ∙ ap (λ (x : Bool). closed options (path_by options p c (goes_lazy options p c) x)) e
-        ∙ ap (λ (x : Contained). closed options (path_by options p x (goes_lazy options p x) false)) line.1
+        ∙ ap (λ (x : Bool). closed options (path_by options p c (continues_lazy options p c) x)) e
+        ∙ ap (λ (x : Contained). closed options (path_by options p x (continues_lazy options p x) false)) line.1
         ∙ ap (λ (x : Bool). closed options (by x))
         (ap (is_lazy (still_of p) []) is_blank ∙ none (takes_lazy (still_of p)))
         ∙ ap (λ (k : RowKind). closed options (ended k)) is_blank
         ∙ ap (closed options) (last (takes_lazy (still_of p)))
         ∙ closed-empty options n p column
       where
-        rest-same : goes_further options c ≡ false → is_further (line_kind options c.on r) c.on ≡ false
+        rest-same : continues_further options c ≡ false → is_further (line_kind options c.on r) c.on ≡ false
         rest-same e =
             subst (λ (x : Rest). is_further (line_kind options c.on x) c.on ≡ false)
             (ap (λ (x : Contained). x.rest) line.1) e
 
-        empty-kind : goes_further options c ≡ false → kind ≡ BlankRow
+        empty-kind : continues_further options c ≡ false → kind ≡ BlankRow
         empty-kind e =
             subst (λ (x : Contained). line_kind options x.on r ≡ BlankRow) line.1
             (empty-blank options p column plain (rest-same e))
@@ -421,40 +424,41 @@ step-empty options p column built plain read = go (goes_further options c) refl
         none false = refl
 
         last : (x : Bool) →
-            cond (x && true && false) (longer (renewed went p) (kept r ∷ []))
-            (behind_path (kept_to options went p) (λ (bs : Blocks). At (spot_by options bs [] r BlankRow))) ≡
-            behind_path (kept_to options went p) (λ (bs : Blocks). At (spot_by options bs [] r BlankRow))
+            cond (x && true && false) (longer (renewed proceeded p) (kept r ∷ []))
+            (after_path (kept_to options proceeded p) (λ (bs : Blocks). At (spot_by options bs [] r BlankRow))) ≡
+            after_path (kept_to options proceeded p) (λ (bs : Blocks). At (spot_by options bs [] r BlankRow))
         last true = refl
         last false = refl
 
 -- The lines of a text, with the empty one after its last ending.
 
-abbrev come_over : ParseOptions → List Rest → Blocks
-come_over options rs = closed options (steps_over options (At (spot_of End)) (told rs))
+abbrev becomes_over : ParseOptions → List Rest → Blocks
+becomes_over options rs = closed options (steps_over options (At (spot_of End)) (recorded rs))
 
-behind-empty : (options : ParseOptions) (column : ℕ) (p : Path) (rs : List Rest) → IsWithoutMdx options → IsPlain p →
+following-empty : (options : ParseOptions) (column : ℕ) (p : Path) (rs : List Rest) → IsWithoutMdx options → IsPlain p →
     HoldsShallow p →
-    closed options (steps_over options p (told (rs ++ rest_at column [] ∷ []))) ≡ closed options (steps options p rs)
-behind-empty options column p [] built plain h = step-empty options p column built plain (shallow-read p h)
-behind-empty options column p (r ∷ rs) built plain h =
+    closed options (steps_over options p (recorded (rs ++ rest_at column [] ∷ []))) ≡
+    closed options (steps options p rs)
+following-empty options column p [] built plain h = step-empty options p column built plain (shallow-read p h)
+following-empty options column p (r ∷ rs) built plain h =
     ap
     (λ (x : Bool).
     closed options
-    (steps_over options (step_over options (x && no_bytes r.bytes) p r) (told (rs ++ rest_at column [] ∷ []))))
+    (steps_over options (step_over options (x && no_bytes r.bytes) p r) (recorded (rs ++ rest_at column [] ∷ []))))
     (some rs)
-    ∙ behind-empty options column (step options p r) rs built (plain-step options p r built plain)
+    ∙ following-empty options column (step options p r) rs built (plain-step options p r built plain)
     (shallow-step options p r built plain h)
   where
     some : (xs : List Rest) → no_rests (xs ++ rest_at column [] ∷ []) ≡ false
     some [] = refl
     some (x ∷ xs) = refl
 
-come-empty : (options : ParseOptions) (column : ℕ) (lines : List (List ℕ)) → IsWithoutMdx options →
-    come_over options (rests_at column (lines ++ [] ∷ [])) ≡ come options (rests_at column lines)
-come-empty options column [] built = behind-empty options column (At (spot_of End)) [] built tt refl
-come-empty options column (line ∷ lines) built =
-    ap (λ (l : List Rest). come_over options (rest_at column line ∷ l)) (map-append (rest_at 0) lines ([] ∷ []))
-    ∙ behind-empty options 0 (At (spot_of End)) (rest_at column line ∷ map (rest_at 0) lines) built tt refl
+become-empty : (options : ParseOptions) (column : ℕ) (lines : List (List ℕ)) → IsWithoutMdx options →
+    becomes_over options (rests_at column (lines ++ [] ∷ [])) ≡ become options (rests_at column lines)
+become-empty options column [] built = following-empty options column (At (spot_of End)) [] built tt refl
+become-empty options column (line ∷ lines) built =
+    ap (λ (l : List Rest). becomes_over options (rest_at column line ∷ l)) (map-append (rest_at 0) lines ([] ∷ []))
+    ∙ following-empty options 0 (At (spot_of End)) (rest_at column line ∷ map (rest_at 0) lines) built tt refl
 
 -- the last of these lines is not empty
 abbrev FullLast : List (List ℕ) → Type 0
@@ -463,7 +467,7 @@ FullLast (line ∷ []) = no_bytes line ≡ false
 FullLast (line ∷ next ∷ lines) = FullLast (next ∷ lines)
 
 steps-full : (options : ParseOptions) (column : ℕ) (p : Path) (lines : List (List ℕ)) → FullLast lines →
-    steps_over options p (told (rests_at column lines)) ≡ steps options p (rests_at column lines)
+    steps_over options p (recorded (rests_at column lines)) ≡ steps options p (rests_at column lines)
 steps-full options column p [] full = absurd full
 steps-full options column p (line ∷ []) full =
     ap (λ (x : Bool). step_over options x p (rest_at column line)) full
@@ -540,19 +544,19 @@ split-or_empty (b ∷ bs) = go (ends_line b bs) (is_ending b) refl refl (split-o
         subst (IsOrEmpty (onto_first b (split_lines bs))) (sym (without_ending-onto b (full_lines_of bs) f))
         (or_empty-byte b (split_lines bs) (lines_of bs) s)
 
-come-split : (options : ParseOptions) (column : ℕ) (split lines : List (List ℕ)) → IsWithoutMdx options →
-    IsOrEmpty split lines → come_over options (rests_at column split) ≡ come options (rests_at column lines)
-come-split options column split lines built (inl e) =
+become-split : (options : ParseOptions) (column : ℕ) (split lines : List (List ℕ)) → IsWithoutMdx options →
+    IsOrEmpty split lines → becomes_over options (rests_at column split) ≡ become options (rests_at column lines)
+become-split options column split lines built (inl e) =
     ap (closed options) (steps-full options column (At (spot_of End)) split e.1)
-    ∙ ap (λ (l : List (List ℕ)). come options (rests_at column l)) e.0
-come-split options column split lines built (inr e) =
-    ap (λ (l : List (List ℕ)). come_over options (rests_at column l)) e ∙ come-empty options column lines built
+    ∙ ap (λ (l : List (List ℕ)). become options (rests_at column l)) e.0
+become-split options column split lines built (inr e) =
+    ap (λ (l : List (List ℕ)). becomes_over options (rests_at column l)) e ∙ become-empty options column lines built
 
 -- The tree of a text.
 
 -- what the lines of a body that begins at this point become; its tree has lists around their items
 abbrev pub body_of : ParseOptions → List ℕ → Point → Blocks
-body_of options bytes p = come options (rests_at (p.column - 1) (lines_of (drop p.index bytes)))
+body_of options bytes p = become options (rests_at (p.column - 1) (lines_of (drop p.index bytes)))
 
 -- the tree of a text has its frontmatter in front
 pub tree-body : (options : ParseOptions) (bytes : List ℕ) (p : Point) (front : List Event) →
@@ -567,7 +571,7 @@ tree-body options bytes p front begun =
 pub body-shallow : (options : ParseOptions) (bytes : List ℕ) (p : Point) → IsWithoutMdx options →
     are_shallow (body_of options bytes p) ≡ true
 body-shallow options bytes p built =
-    shallow-come options (rests_at (p.column - 1) (lines_of (drop p.index bytes))) built
+    shallow-become options (rests_at (p.column - 1) (lines_of (drop p.index bytes))) built
 
 rests-at : (p : Point) (lines : List (List ℕ)) → rests_from p lines ≡ rests_at (p.column - 1) lines
 rests-at p [] = refl
@@ -580,5 +584,5 @@ pub body-rows : (options : ParseOptions) → IsWithoutMdx options → (bytes : L
 body-rows options built bytes p rows are =
     let text : List ℕ = drop p.index bytes in
     spelled-rows options bytes p (split_lines text) rows built are
-    ∙ ap (come_over options) (rests-at p (split_lines text))
-    ∙ come-split options (p.column - 1) (split_lines text) (lines_of text) built (split-or_empty text)
+    ∙ ap (becomes_over options) (rests-at p (split_lines text))
+    ∙ become-split options (p.column - 1) (split_lines text) (lines_of text) built (split-or_empty text)

@@ -19,9 +19,9 @@ use Rattle.md_meaning.specs.Texts.{split_lines}
 use Rattle.md_meaning.specs.Tree.{End}
 use Rattle.proof_rows.specs.Fronted.{rest_from}
 use Rattle.proof_rows.specs.WithoutMdx.{IsWithoutMdx}
-use Rattle.proof_frame.specs.Row.{Row, behind_row}
+use Rattle.proof_frame.specs.Row.{Row, after_row}
 use Rattle.proof_rows.specs.Rows.{groups, groups_events, rows_events}
-use Rattle.proof_rows.specs.Stands.{StandsFor}
+use Rattle.proof_rows.specs.Valid.{Represents}
 use Rattle.md_registry.specs.FlowRule.{feeds}
 use Rattle.md_registry.specs.States.{FlowStep}
 use Rattle.proof_rows.specs.TextRows.{text_rows}
@@ -40,8 +40,8 @@ rests_from p [] = []
 rests_from p (line ∷ lines) = rest_from p line ∷ map (rest_at 0) lines
 
 -- what is open after so many lines of a text, from a point on
-abbrev pub path_behind : ParseOptions → List ℕ → Point → ℕ → Path
-path_behind options bytes p n =
+abbrev pub path_after : ParseOptions → List ℕ → Point → ℕ → Path
+path_after options bytes p n =
     steps options (At (spot_of End)) (take n (rests_from p (split_lines (drop p.index bytes))))
 
 -- the containers that end after the last of these lines
@@ -57,17 +57,17 @@ not_left (row ∷ []) = record row { closed_after = [] } ∷ []
 not_left (row ∷ next ∷ rows) = row ∷ not_left (next ∷ rows)
 
 -- where the line after these begins, of which the first began at this point
-abbrev pub place_behind : Point → List Row → Point
-place_behind p [] = p
-place_behind p (row ∷ rows) = place_behind (behind_row row) rows
+abbrev pub place_following : Point → List Row → Point
+place_following p [] = p
+place_following p (row ∷ rows) = place_following (after_row row) rows
 
 -- So many lines of a text were fed, from a point on, and a further one begins.
-pub record StandsBehind (bytes : List ℕ) (options : ParseOptions) (p : Point) (n : ℕ) (w : World) : Type 0 where
+pub record AfterLines (bytes : List ℕ) (options : ParseOptions) (p : Point) (n : ℕ) (w : World) : Type 0 where
   -- no attempt is around
   pub frames : w.frames ≡ []
   -- the tokenizer is after the last ending, where there is a further line, perhaps an empty one
   pub further : n < length (text_rows options bytes p)
-  pub point : w.point ≡ place_behind p (take n (text_rows options bytes p))
+  pub point : w.point ≡ place_following p (take n (text_rows options bytes p))
   -- the events of these lines were added, but for the ends of the containers that the next line closes
   pub events : w.events ≡ rows_events (not_left (take n (text_rows options bytes p)))
   -- these, with their parts read, are read as a tree that is not closed yet,
@@ -75,7 +75,7 @@ pub record StandsBehind (bytes : List ℕ) (options : ParseOptions) (p : Point) 
   pub reads : read bytes unread (groups_events options bytes (groups (take n (text_rows options bytes p)))) ≡
       close_containers (length (last_leaves (take n (text_rows options bytes p)))) reading
   -- and with the flags it represents what these lines become
-  pub stands : StandsFor options w.flags reading (path_behind options bytes p n)
+  pub valid : Represents options w.flags reading (path_after options bytes p n)
 
 -- where flow begins to read all of a text, from a point on
 abbrev pub flow_begins : List ℕ → ParseOptions → Point → World
@@ -92,10 +92,10 @@ pub record FlowRan (bytes : List ℕ) (options : ParseOptions) (p : Point) (end 
   pub lines : suc (fed FlowStep true line_begins (flow_begins bytes options p) end at run) ≡
       length (text_rows options bytes p)
   -- and whenever one had been fed, what the tokenizer held represented what is open after the lines so far
-  pub stands : IsWithoutMdx options → p.index ≤ length bytes → p.vs ≡ 0 → 1 ≤ p.column →
+  pub valid : IsWithoutMdx options → p.index ≤ length bytes → p.vs ≡ 0 → 1 ≤ p.column →
       (t : State) (v : World) (t' : State) (v' : World)
       (before : Runs FlowStep true line_begins (flow_begins bytes options p) t v)
       (call : Calls FlowStep true t v t' v') →
       feeds call.name (looks v) ≡ 1 →
-      StandsBehind bytes options p
+      AfterLines bytes options p
       (suc (fed FlowStep true line_begins (flow_begins bytes options p) t v before)) v'

@@ -4,14 +4,14 @@ use Rattle.std.specs.String.{string_bytes}
 use Rattle.md_engine.specs.declared.configuration.ParseOptions.{ParseOptions}
 use Rattle.md_engine.specs.declared.event.Event.{Event}
 use Rattle.md_engine.specs.declared.parse_state.ParseState.{ParseState}
-use Rattle.md_events.specs.Events.Endings.{endings_stand}
+use Rattle.md_events.specs.Events.Endings.{endings_are_right}
 use Rattle.md_events.specs.Events.Grammar.{keeps_grammar, plain_text}
 use Rattle.md_events.specs.Events.Held.{Holds}
 use Rattle.md_events.specs.Events.Inline.{Covers, Part, pieces}
 use Rattle.md_meaning.specs.Meaning.{tree}
 use Rattle.md_events.specs.Events.Nested.{Nested}
 use Rattle.md_events.specs.Events.On.{are_on}
-use Rattle.md_events.specs.Events.Pieces.{pieces_stand}
+use Rattle.md_events.specs.Events.Pieces.{are_valid_pieces}
 use Rattle.md_events.specs.Events.Places.{are_placed, first_point}
 use Rattle.md_events.specs.Events.Spelled.{spelled}
 use Rattle.md_events.specs.Events.Tiles.{Tiles, end_point, plain_read}
@@ -75,6 +75,6 @@ pub record IsParsed (text : List ℕ) (options : ParseOptions) (events : List Ev
   -- each part is where the grammar has it, with what it must hold
   pub grammar : keeps_grammar plain_text events ≡ true
   -- each piece is over what its name says, and no block is a piece
-  pub pieces_are : pieces_stand text (pieces events) ≡ true
+  pub pieces_are : are_valid_pieces text (pieces events) ≡ true
   -- endings of blank lines are distinguished from others
-  pub endings : endings_stand events ≡ true
+  pub endings : endings_are_right events ≡ true

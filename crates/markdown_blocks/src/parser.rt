@@ -434,7 +434,7 @@ fn footnotes_of(
 }
 
 /// The events of a text: those of its front, and after them all others.
-fn behind_front(mut front: Vec<Event>, mut body: Vec<Event>) -> Result<Vec<Event>, Message>
+fn after_front(mut front: Vec<Event>, mut body: Vec<Event>) -> Result<Vec<Event>, Message>
     ensures { IfOk result (λ events. events.items ≡ front.items ++ body.items) }
 {
     if front.is_empty() {
@@ -477,7 +477,7 @@ pub fn parse_with<'a, I: Inline>(
         state: &state,
     };
     let body = subtokenize(alloc, &reader, tokenizer.events)?;
-    let events = behind_front(front.events, body)?;
+    let events = after_front(front.events, body)?;
     Ok((events, state))
 }
 

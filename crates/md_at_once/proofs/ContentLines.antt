@@ -3,7 +3,7 @@
 use Rattle.std.proofs.Common.{◌≡◌, ◌<◌, ◌≤◌, ◌∙◌, ◌++◌, Bool, true, false, List, [], ◌∷◌, ap, append_assoc, arith}
 use Rattle.std.proofs.Common.{Some, length, nat_eq, not, refl, subst, sym}
 use Rattle.md_content.specs.Chunks.{begun, chunk_inside_code, chunk_start_transition, content_link, rest_taken, unbegun}
-use Rattle.md_events.proofs.LineTaken.{whole-behind}
+use Rattle.md_events.proofs.LineTaken.{whole-following}
 use Rattle.md_content.proofs.StaysLemmas.{chunk-takes, not-ending}
 use Rattle.md_engine.specs.declared.event.Event.{Event}
 use Rattle.md_engine.specs.declared.event.Kind.TheVariants.{Enter}
@@ -21,9 +21,9 @@ use Rattle.md_engine.specs.Run.{RunsFrom, RunsHere, reading}
 use Rattle.md_engine.specs.Staying.{Sees, SeesAll, SeesSome}
 use Rattle.md_engine.specs.Staying.SeesSome.{Nothing, OneMore}
 use Rattle.md_engine.specs.World.{World, looks}
-use Rattle.md_engine.proofs.Loops.{Came, CameHere, CameTo, came-first, came-runs}
+use Rattle.md_engine.proofs.Loops.{Arrived, ArrivedHere, ArrivedAt, arrived-first, arrived-runs}
 use Rattle.md_engine.proofs.Walks.{Within, then-holds, then-seen, then-stays, within-more, within-one}
-use Rattle.md_link_definitions.specs.OpenText.{text_behind}
+use Rattle.md_link_definitions.specs.OpenText.{text_following}
 use Rattle.md_events.specs.Events.Nested.{exit}
 use Rattle.md_events.specs.Lent.{whole_from}
 use Rattle.md_events.specs.Spaces.{ends_line}
@@ -61,7 +61,7 @@ pub some-order : (w u : World) → SeesSome Line w u → whole_from w.point ≤ 
 some-order w _ Nothing = omega arith
 some-order w _ (OneMore v some here) =
     let before = some-order w v some in
-    let step = whole-behind v.setting v.point here.0 (not-ending here.0 here.2) here.1 in omega (arith, before, step)
+    let step = whole-following v.setting v.point here.0 (not-ending here.0 here.2) here.1 in omega (arith, before, step)
 
 -- and there the line ends, where something is.
 pub line-over : (u : World) → u.point.index < u.setting.limit → ¬ Sees Line u → ends_line (looks u) ≡ true
@@ -84,7 +84,7 @@ begins_in w =
 
 -- to which one comes before it.
 begins : (w : World) → w.current ≡ looks w → Within w →
-    CameHere FlowStep (n.Flow flow.BeforeContent) w (n.Content content.ChunkInside) (begins_in w w)
+    ArrivedHere FlowStep (n.Flow flow.BeforeContent) w (n.Content content.ChunkInside) (begins_in w w)
 begins w seen within is_end s v named from may =
     let a : World = tried w (Next (n.Flow flow.After)) Nok in
     let inner : Within a =
@@ -92,7 +92,7 @@ begins w seen within is_end s v named from may =
     then-stays FlowStep is_end s v (n.Content content.ChunkStart) (n.Content content.ChunkInside) a
     (chunk_start_transition a).world
     (then-stays FlowStep is_end s v (n.Flow flow.BeforeContent) (n.Content content.ChunkStart) w a
-    (came-first FlowStep (n.Flow flow.BeforeContent) w is_end s v named from may)
+    (arrived-first FlowStep (n.Flow flow.BeforeContent) w is_end s v named from may)
     (record { to_is = refl; new_is = refl }) refl within refl seen)
     (record { to_is = refl; new_is = refl }) refl inner refl seen
 
@@ -109,11 +109,13 @@ pub content-waits : (w u x : World) → w.current ≡ looks w → Within w → w
     SeesAll Line w u → u.setting.limit ≤ u.point.index → x ≡ line_tried w.point u →
     RunsHere FlowStep (n.Flow flow.BeforeContent) w (Next (n.Content content.ChunkInside)) x
 content-waits w u x seen within lt all le new is_end =
-    subst (λ (y : World). RunsFrom FlowStep is_end (n.Flow flow.BeforeContent) w (Next (n.Content content.ChunkInside)) y)
+    subst (λ (y : World). RunsFrom FlowStep is_end (n.Flow flow.BeforeContent) w
+    (Next (n.Content content.ChunkInside)) y)
     (sym (new ∙ same))
-    (came-runs FlowStep is_end (n.Flow flow.BeforeContent) (n.Content content.ChunkInside) w (begins_in w w)
+    (arrived-runs FlowStep is_end (n.Flow flow.BeforeContent) (n.Content content.ChunkInside) w (begins_in w w)
     (Next (n.Content content.ChunkInside)) (begins_in w u) (begins w seen within is_end)
-    (line-waits (n.Content content.ChunkInside) (begins_in w w) (begins_in w u) chunk-takes seen (begins-within w within)
+    (line-waits (n.Content content.ChunkInside) (begins_in w w) (begins_in w u) chunk-takes seen
+    (begins-within w within)
     (all-seen w u all) lt le is_end))
   where
     keeps : Keeps w u
@@ -132,8 +134,8 @@ content-waits w u x seen within lt all le new is_end =
 pub content-ends : (w u x : World) (to : State) (new : World) → w.current ≡ looks w → Within w → SeesAll Line w u →
     u.point.index < u.setting.limit → x ≡ line_added w.point (reading u) →
     RunsHere FlowStep (n.Flow flow.After) x to new → RunsHere FlowStep (n.Flow flow.BeforeContent) w to new
-content-ends w u x to new seen within all lt behind runs is_end =
-    came-runs FlowStep is_end (n.Flow flow.BeforeContent) (n.Flow flow.After) w x to new came (runs is_end)
+content-ends w u x to new seen within all lt following runs is_end =
+    arrived-runs FlowStep is_end (n.Flow flow.BeforeContent) (n.Flow flow.After) w x to new arrived (runs is_end)
   where
     keeps : Keeps w u
     keeps = some-keeps w u all.some
@@ -147,7 +149,7 @@ content-ends w u x to new seen within all lt behind runs is_end =
     laid : List Event → List Frame → Scratch → World
     laid es fs s = record (with es fs (unbegun s) (line_added w.point (reading u))) {
       flags = record u.flags {
-        leaf = text_behind u.flags.leaf (rest_taken u.setting.bytes (begun w.point s) u.point);
+        leaf = text_following u.flags.leaf (rest_taken u.setting.bytes (begun w.point s) u.point);
       };
     }
 
@@ -159,17 +161,18 @@ content-ends w u x to new seen within all lt behind runs is_end =
         ap (λ (es : List Event). laid es w.frames w.scratch)
         (append_assoc w.events (first_event w ∷ []) (exit Content u.point ∷ []))
         ∙ sym
-        (behind ∙ ap (λ (es : List Event). laid (both es) u.frames u.scratch) keeps.events
+        (following ∙ ap (λ (es : List Event). laid (both es) u.frames u.scratch) keeps.events
         ∙ ap (λ (fs : List Frame). laid (both w.events) fs u.scratch) keeps.frames
         ∙ ap (λ (s : Scratch). laid (both w.events) w.frames s) keeps.scratch)
 
-    came : Came FlowStep is_end (n.Flow flow.BeforeContent) w (n.Flow flow.After) x
-    came s z named from may =
+    arrived : Arrived FlowStep is_end (n.Flow flow.BeforeContent) w (n.Flow flow.After) x
+    arrived s z named from may =
         let at_end = then-seen FlowStep is_end s z (n.Content content.ChunkInside) Line (begins_in w w) (begins_in w u)
         (takes-so (n.Content content.ChunkInside) chunk-takes) (begins w seen within is_end s z named from may) seen
         (begins-within w within) (all-seen w u all).some lt in
         let over = then-holds FlowStep is_end s z (n.Content content.ChunkInside) (n.Flow flow.After) inside taken
         (line_frame (length w.events) w.point) w.frames at_end
         (stepped-as (n.Content content.ChunkInside) inside (chunk_inside_code inside true)
-        (ap (chunk_inside_code inside) (line-over u lt all.ends))) refl (begins-within w within) refl refl refl within lt in
-        subst (λ (y : World). CameTo FlowStep is_end s z (n.Flow flow.After) y) left over
+        (ap (chunk_inside_code inside) (line-over u lt all.ends))) refl (begins-within w within) refl refl
+        refl within lt in
+        subst (λ (y : World). ArrivedAt FlowStep is_end s z (n.Flow flow.After) y) left over

@@ -14,7 +14,7 @@ use Rattle.md_engine.specs.Going.{SeesOn}
 use Rattle.md_engine.specs.World.{World, looks}
 use Rattle.md_engine.proofs.Loops.{not_error}
 use Rattle.md_engine.proofs.Walks.{Within}
-use Rattle.md_registry.proofs.LinesAtOnce.{Goes, Leaves, leaves-once}
+use Rattle.md_registry.proofs.LinesAtOnce.{Proceeds, Leaves, leaves-once}
 use Rattle.md_events.specs.Spaces.{ends_line, sees_white}
 use Rattle.md_events.specs.Stays.{TakesEach}
 
@@ -46,7 +46,7 @@ chunk-takes w b e h = ap (chunk_code w) (ap ends_line e ∙ not-ending b h)
 pub breaks : (w : World) (to : State) (new : World) → w.current ≡ looks w → Within w →
     (to ≢ Error → to ≡ (fence_transition its.AtNonLazyBreak w).to) →
     (to ≢ Error → new ≡ (fence_transition its.AtNonLazyBreak w).world) → to ≢ Error →
-    Goes (n.RawFlow its.AtNonLazyBreak) w to new
+    Proceeds (n.RawFlow its.AtNonLazyBreak) w to new
 breaks w to new seen within to_is new_is fine =
     leaves-once (n.RawFlow its.AtNonLazyBreak) w to new (break-leaves w (may_close w.flags.leaf w.current)) (to_is
     fine)
@@ -55,7 +55,7 @@ breaks w to new seen within to_is new_is fine =
 pub starts : (w : World) (to : State) (new : World) → w.current ≡ looks w → Within w →
     (to ≢ Error → to ≡ (fence_transition its.ContentStart w).to) →
     (to ≢ Error → new ≡ (fence_transition its.ContentStart w).world) → to ≢ Error →
-    Goes (n.RawFlow its.ContentStart) w to new
+    Proceeds (n.RawFlow its.ContentStart) w to new
 starts w to new seen within to_is new_is fine =
     leaves-once (n.RawFlow its.ContentStart) w to new
     (start-leaves w (nat_lt 0 (held_indent w.flags.leaf) && sees_white w.current)) (to_is fine) (new_is fine) fine
@@ -65,13 +65,13 @@ starts w to new seen within to_is new_is fine =
 pub befores : (w : World) (to : State) (new : World) → w.current ≡ looks w → Within w →
     (to ≢ Error → to ≡ (fence_transition its.BeforeContentChunk w).to) →
     (to ≢ Error → new ≡ (fence_transition its.BeforeContentChunk w).world) → to ≢ Error →
-    Goes (n.RawFlow its.BeforeContentChunk) w to new
+    Proceeds (n.RawFlow its.BeforeContentChunk) w to new
 befores w to new seen within to_is new_is fine =
     leaves-once (n.RawFlow its.BeforeContentChunk) w to new (before-leaves w (ends_line w.current)) (to_is fine)
     (new_is fine) fine seen within
 
 -- What is at the point is still seen where another state is called next.
 pub still-seen : (first next : StateName) (w u : World) (s : State) → s ≡ Retry next →
-    (s ≢ Error → Goes first w s u) → u.current ≡ looks u
-still-seen first next w u s is goes =
-    (subst (λ (x : State). SeesOn x w u) is (goes (λ e. not_error (Retry next) next refl (sym is ∙ e))).1).0
+    (s ≢ Error → Proceeds first w s u) → u.current ≡ looks u
+still-seen first next w u s is proceeds =
+    (subst (λ (x : State). SeesOn x w u) is (proceeds (λ e. not_error (Retry next) next refl (sym is ∙ e))).1).0

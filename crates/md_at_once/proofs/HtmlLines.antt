@@ -10,7 +10,7 @@ use Rattle.md_engine.specs.declared.state.State.{State}
 use Rattle.md_engine.specs.declared.state.State.TheVariants.{Error}
 use Rattle.md_engine.proofs.Walks.{Within}
 use Rattle.md_html.specs.Html.{blank_move, close_code, ends_in_front, further_code, html_transition, moved}
-use Rattle.md_registry.proofs.LinesAtOnce.{Goes, Leaves, leaves-once}
+use Rattle.md_registry.proofs.LinesAtOnce.{Proceeds, Leaves, leaves-once}
 use Rattle.md_events.specs.Spaces.{ends_line, sees_white}
 use Rattle.md_events.specs.Stays.{TakesEach}
 
@@ -36,14 +36,14 @@ blank-leaves w false false = ((refl, refl), refl)
 pub furthers : (w : World) (to : State) (new : World) → w.current ≡ looks w → Within w →
     (to ≢ Error → to ≡ (html_transition its.ContinuationStart w).to) →
     (to ≢ Error → new ≡ (html_transition its.ContinuationStart w).world) → to ≢ Error →
-    Goes (n.HtmlFlow its.ContinuationStart) w to new
+    Proceeds (n.HtmlFlow its.ContinuationStart) w to new
 furthers w to new seen within to_is new_is fine =
     leaves-once (n.HtmlFlow its.ContinuationStart) w to new (further-leaves w (ends_in_front w.flags.leaf)) (to_is fine)
     (new_is fine) fine seen within
 
 pub blanks : (w : World) (to : State) (new : World) → w.current ≡ looks w → Within w →
     to ≡ (html_transition its.BlankLineBefore w).to → new ≡ (html_transition its.BlankLineBefore w).world →
-    to ≢ Error → Goes (n.HtmlFlow its.BlankLineBefore) w to new
+    to ≢ Error → Proceeds (n.HtmlFlow its.BlankLineBefore) w to new
 blanks w to new seen within to_is new_is fine =
     leaves-once (n.HtmlFlow its.BlankLineBefore) w to new
     (blank-leaves w (ends_line w.current) (sees_white w.current)) to_is new_is fine seen within
@@ -51,6 +51,6 @@ blanks w to new seen within to_is new_is fine =
 pub overs : (w : World) (to : State) (new : World) → w.current ≡ looks w → Within w →
     (to ≢ Error → to ≡ (html_transition its.ContinuationAfter w).to) →
     (to ≢ Error → new ≡ (html_transition its.ContinuationAfter w).world) → to ≢ Error →
-    Goes (n.HtmlFlow its.ContinuationAfter) w to new
+    Proceeds (n.HtmlFlow its.ContinuationAfter) w to new
 overs w to new seen within to_is new_is fine =
     leaves-once (n.HtmlFlow its.ContinuationAfter) w to new (tt, refl) (to_is fine) (new_is fine) fine seen within

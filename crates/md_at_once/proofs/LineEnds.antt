@@ -17,7 +17,7 @@ use Rattle.md_engine.specs.declared.stay.Stay.TheVariants.{Line}
 use Rattle.md_engine.specs.declared.tokenizer.Frame.{Frame}
 use Rattle.md_engine.specs.declared.tokenizer.Tokenizer.{Tokenizer}
 use Rattle.md_engine.proofs.Keeps.{runs-append}
-use Rattle.md_engine.proofs.Loops.{CameHere, came-first, runs-then}
+use Rattle.md_engine.proofs.Loops.{ArrivedHere, arrived-first, runs-then}
 use Rattle.md_engine.proofs.Walks.{TakesSo, Within, then-seen, then-waits}
 use Rattle.md_events.specs.Stays.{TakesEach}
 use Rattle.md_events.specs.Transition.{Transition, entered, exited, taken}
@@ -25,7 +25,7 @@ use Rattle.proof_frame.specs.EndingName.{ending_name}
 use Rattle.md_registry.specs.Flow.{flow_end_code, flow_end_transition, leaf_end}
 use Rattle.md_registry.specs.LineFlags.{kept_containers, next_line}
 use Rattle.md_registry.specs.States.{FlowStep, flow_transition}
-use Rattle.md_at_once.specs.AtOnce.{GoesOn, IsTried}
+use Rattle.md_at_once.specs.AtOnce.{IsContinued, IsTried}
 
 -- After a leaf.
 
@@ -67,7 +67,8 @@ end-runs shuts w u v next to new h l seen lt runs is_end =
 -- whose end stays nowhere
 pub end-sees : (w : World) (to : State) → to ≡ (flow_end_transition w).to → (from new : World) → SeesOn to from new
 end-sees w to is from new =
-    subst (λ (s : State). SeesOn s from new) (sym is) (by (closed w (kept_containers w.flags) w.flags.line_end) w.current)
+    subst (λ (s : State). SeesOn s from new) (sym is)
+    (by (closed w (kept_containers w.flags) w.flags.line_end) w.current)
   where
     a : World → Bool → Transition
     a u x = cond x
@@ -102,17 +103,17 @@ pub line-waits : (name : StateName) (w u : World) → TakesEach Line name (flow_
     RunsHere FlowStep name w (Next name) u
 line-waits name w u each seen within all lt le is_end s v named from may =
     then-waits FlowStep is_end s v name Line w u (takes-so name each)
-    (came-first FlowStep name w is_end s v named from may) seen within all.some lt le
+    (arrived-first FlowStep name w is_end s v named from may) seen within all.some lt le
 
 -- or one reaches it again at the end
 pub line-taken : (name : StateName) (w u : World) → TakesEach Line name (flow_transition name) → w.current ≡ looks w →
-    Within w → SeesAll Line w u → u.point.index < u.setting.limit → CameHere FlowStep name w name (reading u)
+    Within w → SeesAll Line w u → u.point.index < u.setting.limit → ArrivedHere FlowStep name w name (reading u)
 line-taken name w u each seen within all lt is_end s v named from may =
     then-seen FlowStep is_end s v name Line w u (takes-so name each)
-    (came-first FlowStep name w is_end s v named from may) seen within all.some lt
+    (arrived-first FlowStep name w is_end s v named from may) seen within all.some lt
 
 -- an answer that accepts continues with what runs from there
 pub accepts-on : (w : World) (to : State) (new : World) → ((is_end : Bool) → Runs FlowStep is_end Ok w to new) →
-    ((from : World) → SeesOn to from new) → GoesOn Ok w to new
-accepts-on w to new runs sees first old seen goes =
-    (λ is_end. runs-then FlowStep is_end first old Ok w to new (goes.0 is_end) (runs is_end), sees old)
+    ((from : World) → SeesOn to from new) → IsContinued Ok w to new
+accepts-on w to new runs sees first old seen proceeds =
+    (λ is_end. runs-then FlowStep is_end first old Ok w to new (proceeds.0 is_end) (runs is_end), sees old)

@@ -16,13 +16,13 @@ use Rattle.md_engine.specs.declared.tokenizer.Frame.{Frame}
 use Rattle.md_engine.specs.Run.{reading}
 use Rattle.md_engine.specs.Scheme.{cells_left}
 use Rattle.md_engine.specs.World.{World, looks}
-use Rattle.md_engine.proofs.Loops.{CameTo}
+use Rattle.md_engine.proofs.Loops.{ArrivedAt}
 use Rattle.md_engine.proofs.Walks.{Within, then-holds, then-stays, within-more, within-one}
 use Rattle.md_code.specs.Fence.{at_non_lazy_break_code, before_close_code, cleared, close_start_code, held_marker}
 use Rattle.md_code.specs.Fence.{line_entered}
 use Rattle.md_meaning.specs.Rest.{is_white}
 use Rattle.md_events.specs.Events.Nested.{enter, exit}
-use Rattle.md_events.specs.Look.{behind_code, first_behind, looks_behind}
+use Rattle.md_events.specs.Look.{following_code, first_following, looks_after}
 use Rattle.md_events.specs.Spaces.{after_code, is_current, sees_white, small_indent}
 use Rattle.md_events.specs.Spaces.{start_code}
 use Rattle.md_events.specs.Transition.{exited}
@@ -34,13 +34,14 @@ use Rattle.md_at_once.proofs.TakenBack.{stepped-as, taken-back}
 use Rattle.md_at_once.proofs.WhiteEnds.{Ended, reached, white-ends}
 
 -- what is first after whitespace that is here
-found-behind : (w : World) (b : ℕ) → sees_white w.current ≡ true → looks_behind w ≡ Some b →
-    first_behind (left_at w.setting w.point) ≡ Some b
-unfolding looks_behind
-found-behind w b white e = go w.current white e
+found-following : (w : World) (b : ℕ) → sees_white w.current ≡ true → looks_after w ≡ Some b →
+    first_following (left_at w.setting w.point) ≡ Some b
+unfolding looks_after
+found-following w b white e = go w.current white e
   where
-    go : (o : Option ℕ) → sees_white o ≡ true → behind_code o (first_behind (left_at w.setting w.point)) ≡ Some b →
-        first_behind (left_at w.setting w.point) ≡ Some b
+    go : (o : Option ℕ) → sees_white o ≡ true → following_code o
+        (first_following (left_at w.setting w.point)) ≡ Some b →
+        first_following (left_at w.setting w.point) ≡ Some b
     go None k is = cc
     go (Some c) k is = rw k at is
 
@@ -56,9 +57,9 @@ no-marker byte b m (inl white) other dark = go (nat_eq byte m) refl
 
 -- So a closing fence refuses, and the line begins as one that closes nothing.
 pub closes-none : (is_end : Bool) (s : State) (v w : World) → IsNoClose w → w.current ≡ looks w → Within w →
-    CameTo FlowStep is_end s v (n.RawFlow its.AtNonLazyBreak) w →
-    CameTo FlowStep is_end s v (n.RawFlow its.ContentStart) (unclosed w)
-closes-none is_end s v w h seen within came =
+    ArrivedAt FlowStep is_end s v (n.RawFlow its.AtNonLazyBreak) w →
+    ArrivedAt FlowStep is_end s v (n.RawFlow its.ContentStart) (unclosed w)
+closes-none is_end s v w h seen within arrived =
     taken-back is_end s v (n.RawFlow its.BeforeSequenceClose) (n.RawFlow its.ContentStart) l g x f more at_close
     (stepped-as (n.RawFlow its.BeforeSequenceClose) g (record { to = Nok; world = x }) (ap (before_close_code g) other))
     refl in-g refl (simp append_assoc) refl refl refl refl in-l seen lt
@@ -111,13 +112,13 @@ closes-none is_end s v w h seen within came =
     in-wc : Within wc
     in-wc = within-more (f2 ∷ f ∷ w.frames) l.events (enter SpaceOrTab w.point ∷ []) in-wb
 
-    at_start : CameTo FlowStep is_end s v (n.RawFlow its.CloseStart) wa
+    at_start : ArrivedAt FlowStep is_end s v (n.RawFlow its.CloseStart) wa
     at_start =
-        then-stays FlowStep is_end s v (n.RawFlow its.AtNonLazyBreak) (n.RawFlow its.CloseStart) w wa came
+        then-stays FlowStep is_end s v (n.RawFlow its.AtNonLazyBreak) (n.RawFlow its.CloseStart) w wa arrived
         (stepped-as (n.RawFlow its.AtNonLazyBreak) w (at_non_lazy_break_code w true)
         (ap (λ (y : Bool). at_non_lazy_break_code w (y || is_current m w.current)) h.white)) refl within refl seen
 
-    at_white : CameTo FlowStep is_end s v (n.SpaceOrTab white.Start) wb
+    at_white : ArrivedAt FlowStep is_end s v (n.SpaceOrTab white.Start) wb
     at_white =
         then-stays FlowStep is_end s v (n.RawFlow its.CloseStart) (n.SpaceOrTab white.Start) wa wb at_start
         (stepped-as (n.RawFlow its.CloseStart) wa (close_start_code wa true) (ap (close_start_code wa) h.white)) refl
@@ -126,7 +127,7 @@ closes-none is_end s v w h seen within came =
     some : nat_lt 0 most ≡ true
     some = let one = small-some w.setting.options in grind (arith, nat_tests)
 
-    at_inside : CameTo FlowStep is_end s v (n.SpaceOrTab white.Inside) wc
+    at_inside : ArrivedAt FlowStep is_end s v (n.SpaceOrTab white.Inside) wc
     at_inside =
         then-stays FlowStep is_end s v (n.SpaceOrTab white.Start) (n.SpaceOrTab white.Inside) wb wc at_white
         (stepped-as (n.SpaceOrTab white.Start) wb (start_code wb true)
@@ -135,7 +136,7 @@ closes-none is_end s v w h seen within came =
     end : Ended is_end s v wc h.byte
     end =
         white-ends (cells_left w.setting.limit w.point) is_end s v wc h.byte (omega arith)
-        (found-behind w h.byte h.white h.behind) seen in-wc at_inside
+        (found-following w h.byte h.white h.following) seen in-wc at_inside
 
     y : World
     y = exited (reached wc end.point end.size) SpaceOrTab
@@ -160,10 +161,12 @@ closes-none is_end s v w h seen within came =
         within-more (f ∷ w.frames) wc.events (exit SpaceOrTab end.point ∷ [])
         (within-more (f ∷ w.frames) l.events (enter SpaceOrTab w.point ∷ []) in-wa)
 
-    at_close : CameTo FlowStep is_end s v (n.RawFlow its.BeforeSequenceClose) g
+    at_close : ArrivedAt FlowStep is_end s v (n.RawFlow its.BeforeSequenceClose) g
     at_close =
-        then-holds FlowStep is_end s v (n.SpaceOrTab white.After) (n.RawFlow its.BeforeSequenceClose) y z f2 (f ∷ w.frames)
-        end.came (stepped-as (n.SpaceOrTab white.After) y (after_code y true) (ap (after_code y) enough)) refl in-y refl refl refl in-wa
+        then-holds FlowStep is_end s v (n.SpaceOrTab white.After) (n.RawFlow its.BeforeSequenceClose) y z f2
+        (f ∷ w.frames)
+        end.arrived (stepped-as (n.SpaceOrTab white.After) y (after_code y true) (ap (after_code y) enough)) refl in-y
+        refl refl refl in-wa
         end.inside
 
     other : is_current m g.current ≡ false

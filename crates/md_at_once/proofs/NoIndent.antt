@@ -20,16 +20,17 @@ use Rattle.md_engine.specs.Place.{seen_at}
 use Rattle.md_engine.specs.Run.{Runs}
 use Rattle.md_engine.specs.Run.Runs.{ThenLeaves}
 use Rattle.md_engine.specs.World.{Flags, World, looks}
-use Rattle.md_engine.proofs.Loops.{CameTo}
+use Rattle.md_engine.proofs.Loops.{ArrivedAt}
 use Rattle.md_engine.proofs.Walks.{Within, then-run, then-stays, within-one}
-use Rattle.md_containers.specs.Item.{blank_code, cont_filled_code, cont_start_code, goes_to, indent_code, least_width}
-use Rattle.md_events.specs.Look.{looks_behind, may_with}
+use Rattle.md_containers.specs.Item.{blank_code, cont_filled_code, cont_start_code, proceeds_to, indent_code}
+use Rattle.md_containers.specs.Item.{least_width}
+use Rattle.md_events.specs.Look.{looks_after, may_with}
 use Rattle.md_events.specs.Spaces.{ends_line, sees_white}
 use Rattle.md_events.specs.Transition.{Transition, tried}
-use Rattle.md_registry.specs.AtOnce.{GoesAtOnce, asking_by, asking_next, prefix_taken}
+use Rattle.md_registry.specs.AtOnce.{ContinuesAtOnce, asking_by, asking_next, prefix_taken}
 use Rattle.md_registry.specs.Flow.{existing_before_code, existing_before_transition, trial_code}
-use Rattle.md_registry.specs.LineFlags.{asking, next_container, went_on}
-use Rattle.md_registry.specs.Registry.{goes_on_with, may_go_on, opener_front, openers}
+use Rattle.md_registry.specs.LineFlags.{asking, next_container, was_continued}
+use Rattle.md_registry.specs.Registry.{continues_with, may_continue, opener_front, openers}
 use Rattle.md_registry.specs.States.{FlowStep}
 use Rattle.md_registry.proofs.LinesAtOnce.{looks-dark}
 use Rattle.md_registry.proofs.PlainLaws.{after-it, others}
@@ -38,8 +39,8 @@ use Rattle.md_at_once.specs.AtOnce.{EndsAtOnce, SeesAhead}
 use Rattle.md_at_once.proofs.TakenBack.{stepped-as}
 
 -- such a container is tried, whatever is here
-always-tried : (k : ContainerKind) → goes_on_with k ≡ n.ListItem its.ContStart → (o : Option ℕ) →
-    may_with (may_go_on k) o ≡ true
+always-tried : (k : ContainerKind) → continues_with k ≡ n.ListItem its.ContStart → (o : Option ℕ) →
+    may_with (may_continue k) o ≡ true
 always-tried kind.BlockQuote e o = cc
 always-tried kind.ListItem e None = refl
 always-tried kind.ListItem e (Some b) = refl
@@ -48,9 +49,9 @@ always-tried kind.GfmFootnoteDefinition e (Some b) = refl
 
 -- So it is asked, and the first container that may open is next.
 pub container-ends : (is_end : Bool) (s : State) (v w : World) → EndsAtOnce w → w.current ≡ looks w → Within w →
-    CameTo FlowStep is_end s v (n.Document document.ContainerExistingBefore) w →
+    ArrivedAt FlowStep is_end s v (n.Document document.ContainerExistingBefore) w →
     Runs FlowStep is_end s v (Next (n.Document (opener_front openers))) (asking_next w)
-container-ends is_end s v w ends seen within came =
+container-ends is_end s v w ends seen within arrived =
     subst (λ (x : World). Runs FlowStep is_end s v others x) (sym asked)
     (ThenLeaves Nok begun others a
     (then-run FlowStep is_end s v (n.ListItem its.ContFilled) begun Nok begun at_filled
@@ -84,30 +85,32 @@ container-ends is_end s v w ends seen within came =
     not_end : ends_line w.current ≡ false
     not_end = ap ends_line ends.out.here ∙ ends.out.filled
 
-    tries : existing_before_transition w ≡ record { to = Retry (goes_on_with c.kind); world = begun }
+    tries : existing_before_transition w ≡ record { to = Retry (continues_with c.kind); world = begun }
     tries =
         ap (λ (x : Bool). existing_before_code w x (next_container w.flags)) not_end
         ∙ ap (existing_before_code w false) ends.next
         ∙ ap
-        (trial_code (goes_on_with c.kind) (n.Document document.ContainerExistingAfter)
-        (n.Document (opener_front openers)) a) (always-tried c.kind ends.indented (looks_behind w))
+        (trial_code (continues_with c.kind) (n.Document document.ContainerExistingAfter)
+        (n.Document (opener_front openers)) a) (always-tried c.kind ends.indented (looks_after w))
 
-    at_start : CameTo FlowStep is_end s v (n.ListItem its.ContStart) begun
+    at_start : ArrivedAt FlowStep is_end s v (n.ListItem its.ContStart) begun
     at_start =
-        subst (λ (x : StateName). CameTo FlowStep is_end s v x begun) ends.indented
-        (then-stays FlowStep is_end s v (n.Document document.ContainerExistingBefore) (goes_on_with c.kind) w begun came
+        subst (λ (x : StateName). ArrivedAt FlowStep is_end s v x begun) ends.indented
+        (then-stays FlowStep is_end s v (n.Document document.ContainerExistingBefore) (continues_with c.kind)
+        w begun arrived
         (stepped-as (n.Document document.ContainerExistingBefore) w _ tries) refl within refl seen)
 
-    behind : looks_behind begun ≡ Some ends.out.byte
-    behind = looks-dark begun ends.out.byte ends.out.here ends.out.dark
+    following : looks_after begun ≡ Some ends.out.byte
+    following = looks-dark begun ends.out.byte ends.out.here ends.out.dark
 
-    at_filled : CameTo FlowStep is_end s v (n.ListItem its.ContFilled) begun
+    at_filled : ArrivedAt FlowStep is_end s v (n.ListItem its.ContFilled) begun
     at_filled =
         then-stays FlowStep is_end s v (n.ListItem its.ContStart) (n.ListItem its.ContFilled) begun begun at_start
-        (stepped-as (n.ListItem its.ContStart) begun (goes_to its.ContFilled begun)
+        (stepped-as (n.ListItem its.ContStart) begun (proceeds_to its.ContFilled begun)
         (ap (λ (x : Bool). cont_start_code begun x c.starts_blank) not_end
-        ∙ ap (blank_code its.ContBlank its.ContFilled begun) behind
-        ∙ ap (λ (x : Bool). cond x (goes_to its.ContBlank begun) (goes_to its.ContFilled begun)) ends.out.filled)) refl
+        ∙ ap (blank_code its.ContBlank its.ContFilled begun) following
+        ∙ ap (λ (x : Bool). cond x (proceeds_to its.ContBlank begun) (proceeds_to its.ContFilled begun))
+        ends.out.filled)) refl
         in-begun refl seen
 
     refused : cont_filled_code begun begun.scratch.whitespace.max ≡ record { to = Nok; world = begun }
@@ -138,7 +141,7 @@ held-by kind.BlockQuote c w filled = (refl, refl)
 held-by kind.ListItem c w filled = (ap (λ (b : Bool). record c { starts_blank = b }) (sym filled), refl)
 held-by kind.GfmFootnoteDefinition c w filled = (ap (λ (b : Bool). record c { starts_blank = b }) (sym filled), refl)
 
-pub taken-held : (w : World) → GoesAtOnce w → (asking_next w).flags.asked.starts_blank ≡ false →
+pub taken-held : (w : World) → ContinuesAtOnce w → (asking_next w).flags.asked.starts_blank ≡ false →
     next_container (asked_taken (asking_next w)).flags ≡ Some (asked_taken (asking_next w)).flags.asked
 taken-held w at_once filled = subst P (sym (asked w at_once)) one filled
   where
@@ -153,10 +156,11 @@ taken-held w at_once filled = subst P (sym (asked w at_once)) one filled
 
 -- and then only one more has continued.
 pub held_on : (w : World) → next_container w.flags ≡ Some w.flags.asked →
-    record w { flags = record w.flags { continued = w.flags.continued + 1 } } ≡ record w { flags = went_on w.flags }
+    record w { flags = record w.flags { continued = w.flags.continued + 1 } } ≡
+    record w { flags = was_continued w.flags }
 held_on w next = ap (λ (g : Flags). record w { flags = g }) (same w.flags next)
   where
-    same : (g : Flags) → next_container g ≡ Some g.asked → record g { continued = g.continued + 1 } ≡ went_on g
+    same : (g : Flags) → next_container g ≡ Some g.asked → record g { continued = g.continued + 1 } ≡ was_continued g
     same g e =
         let lt : g.continued < length g.containers = slice_get_within g.containers g.continued g.asked e in
         let inside : nat_lt g.continued (length g.containers) ≡ true = grind (arith, nat_tests) in
@@ -179,10 +183,10 @@ code-stays : (w : World) (ends : Bool) (o : Option Container) (name : StateName)
     (existing_before_code w ends o).to ≢ Next name
 code-stays w true o name = λ e. cc
 code-stays w false None name = λ e. cc
-code-stays w false (Some c) name = go (may_with (may_go_on c.kind) (looks_behind w))
+code-stays w false (Some c) name = go (may_with (may_continue c.kind) (looks_after w))
   where
     a : Bool → Transition
-    a x = trial_code (goes_on_with c.kind) (n.Document document.ContainerExistingAfter)
+    a x = trial_code (continues_with c.kind) (n.Document document.ContainerExistingAfter)
         (n.Document (opener_front openers)) (asking c w) x
 
     go : (x : Bool) → (a x).to ≢ Next name

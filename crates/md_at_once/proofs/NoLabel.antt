@@ -23,7 +23,7 @@ use Rattle.md_engine.specs.declared.tokenizer.container.name.ContainerKind.TheVa
 use Rattle.md_engine.specs.Place.{is_ending, seen_at}
 use Rattle.md_engine.specs.Run.{reading}
 use Rattle.md_engine.specs.World.{Setting, World, after, container_of, looks, looks_at}
-use Rattle.md_engine.proofs.Loops.{CameTo}
+use Rattle.md_engine.proofs.Loops.{ArrivedAt}
 use Rattle.md_engine.proofs.Walks.{Within, then-stays, then-takes, within-more, within-one}
 use Rattle.md_containers.specs.Footnote.{label_at_marker_code, label_before_code}
 use Rattle.md_meaning.specs.Ascii.{caret, left_bracket}
@@ -48,15 +48,15 @@ use Rattle.md_at_once.proofs.TakenBack.{seen-other, stepped-as, taken-back}
 refuses : (is_end : Bool) (s : State) (v : World) (x : DocumentState) (k : ContainerKind) (w : World) →
     document_own_transition x w ≡ new_before_transition k w → may_open k left_bracket ≡ false →
     w.current ≡ Some left_bracket → w.current ≡ looks w → Within w →
-    CameTo FlowStep is_end s v (n.Document x) w →
-    CameTo FlowStep is_end s v (n.Document (next_opener k)) (asking (container_of k) w)
-refuses is_end s v x k w tries none here seen within came =
+    ArrivedAt FlowStep is_end s v (n.Document x) w →
+    ArrivedAt FlowStep is_end s v (n.Document (next_opener k)) (asking (container_of k) w)
+refuses is_end s v x k w tries none here seen within arrived =
     let a : World = asking (container_of k) w in
     let is : document_own_transition x w ≡ record { to = Retry (n.Document (next_opener k)); world = a } =
     tries
     ∙ ap (trial_code (opens_with k) (n.Document document.ContainerNewAfter) (n.Document (next_opener k)) a)
     (ap (may_with (may_open k)) (looks-dark w left_bracket here refl) ∙ none) in
-    then-stays FlowStep is_end s v (n.Document x) (n.Document (next_opener k)) w a came
+    then-stays FlowStep is_end s v (n.Document x) (n.Document (next_opener k)) w a arrived
     (stepped-as (n.Document x) w _ is) refl within refl seen
 
 -- the byte that is here is the bracket itself
@@ -81,9 +81,9 @@ bracket-byte w here seen = at (nat_lt w.point.index w.setting.limit) (sym here �
     at false e = cc
 
 -- after it the next byte is
-behind-bracket : (x : Setting) (p : Point) → slice_index x.bytes p.index ≡ left_bracket →
+following-bracket : (x : Setting) (p : Point) → slice_index x.bytes p.index ≡ left_bracket →
     (after x p).index ≡ p.index + 1
-behind-bracket x p e = rw e refl
+following-bracket x p e = rw e refl
 
 -- which is no caret
 no-caret : (w : World) (p : Point) → IsNoLabel w → p.index ≡ w.point.index + 1 →
@@ -97,12 +97,14 @@ no-caret w p h at =
 
 -- so a footnote definition refuses it,
 footnote-refuses : (is_end : Bool) (s : State) (v w : World) → IsNoLabel w → w.current ≡ looks w → Within w →
-    CameTo FlowStep is_end s v (n.Document document.ContainerNewBeforeNotList) w →
-    CameTo FlowStep is_end s v (n.Document document.ContainersAfter) (asking (container_of kind.GfmFootnoteDefinition) w)
-footnote-refuses is_end s v w h seen within came = go a.setting.options.constructs.gfm_footnote_definition refl
+    ArrivedAt FlowStep is_end s v (n.Document document.ContainerNewBeforeNotList) w →
+    ArrivedAt FlowStep is_end s v (n.Document document.ContainersAfter)
+    (asking (container_of kind.GfmFootnoteDefinition) w)
+footnote-refuses is_end s v w h seen within arrived = go a.setting.options.constructs.gfm_footnote_definition refl
   where
     T : Type 0
-    T = CameTo FlowStep is_end s v (n.Document document.ContainersAfter) (asking (container_of kind.GfmFootnoteDefinition) w)
+    T = ArrivedAt FlowStep is_end s v (n.Document document.ContainersAfter)
+        (asking (container_of kind.GfmFootnoteDefinition) w)
 
     a : World
     a = asking (container_of kind.GfmFootnoteDefinition) w
@@ -126,7 +128,7 @@ footnote-refuses is_end s v w h seen within came = go a.setting.options.construc
     byte = bracket-byte w h.bracket seen
 
     next : (after w.setting w.point).index ≡ w.point.index + 1
-    next = behind-bracket w.setting w.point byte
+    next = following-bracket w.setting w.point byte
 
     lt : w.point.index < w.setting.limit
     lt = omega (arith, h.inside)
@@ -139,10 +141,10 @@ footnote-refuses is_end s v w h seen within came = go a.setting.options.construc
         (n.Document document.ContainersAfter) a)
         (ap (may_with (may_open kind.GfmFootnoteDefinition)) (looks-dark w left_bracket h.bracket refl))
 
-    at_start : CameTo FlowStep is_end s v (n.GfmFootnoteDefinition its.Start) begun
+    at_start : ArrivedAt FlowStep is_end s v (n.GfmFootnoteDefinition its.Start) begun
     at_start =
         then-stays FlowStep is_end s v (n.Document document.ContainerNewBeforeNotList)
-        (n.GfmFootnoteDefinition its.Start) w begun came
+        (n.GfmFootnoteDefinition its.Start) w begun arrived
         (stepped-as (n.Document document.ContainerNewBeforeNotList) w _ tries) refl within refl seen
 
     opened : World
@@ -151,8 +153,8 @@ footnote-refuses is_end s v w h seen within came = go a.setting.options.construc
     in-opened : Within opened
     in-opened = within-more (f ∷ w.frames) w.events (enter GfmFootnoteDefinition w.point ∷ []) inner
 
-    behind : World
-    behind = (label_before_code opened true).world
+    following : World
+    following = (label_before_code opened true).world
 
     more : List Event
     more =
@@ -160,11 +162,11 @@ footnote-refuses is_end s v w h seen within came = go a.setting.options.construc
         ∷ enter GfmFootnoteDefinitionLabel w.point ∷ enter GfmFootnoteDefinitionLabelMarker w.point
         ∷ exit GfmFootnoteDefinitionLabelMarker (after w.setting w.point) ∷ []
 
-    all : behind.events ≡ w.events ++ more
+    all : following.events ≡ w.events ++ more
     all = simp append_assoc
 
-    in-behind : Within behind
-    in-behind =
+    in-following : Within following
+    in-following =
         subst (λ (es : List Event). All (λ (g : Frame). g.events_len ≤ length es) (f ∷ w.frames)) (sym all)
         (within-more (f ∷ w.frames) w.events more inner)
 
@@ -173,7 +175,8 @@ footnote-refuses is_end s v w h seen within came = go a.setting.options.construc
 
     go : (on : Bool) → a.setting.options.constructs.gfm_footnote_definition ≡ on → T
     go false e =
-        taken-back is_end s v (n.GfmFootnoteDefinition its.Start) (n.Document document.ContainersAfter) a begun begun f []
+        taken-back is_end s v (n.GfmFootnoteDefinition its.Start) (n.Document document.ContainersAfter) a
+        begun begun f []
         at_start
         (stepped-as (n.GfmFootnoteDefinition its.Start) begun (record { to = Nok; world = begun })
         (ap
@@ -190,36 +193,39 @@ footnote-refuses is_end s v w h seen within came = go a.setting.options.construc
         let at_label = then-stays FlowStep is_end s v (n.GfmFootnoteDefinition its.Start)
         (n.GfmFootnoteDefinition its.LabelBefore) begun opened at_start named refl inner refl seen in
         let at_marker = then-takes FlowStep is_end s v (n.GfmFootnoteDefinition its.LabelBefore)
-        (n.GfmFootnoteDefinition its.LabelAtMarker) opened behind at_label
+        (n.GfmFootnoteDefinition its.LabelAtMarker) opened following at_label
         (stepped-as (n.GfmFootnoteDefinition its.LabelBefore) opened
-        (record { to = Next (n.GfmFootnoteDefinition its.LabelAtMarker); world = behind })
+        (record { to = Next (n.GfmFootnoteDefinition its.LabelAtMarker); world = following })
         (ap (λ (o : Option ℕ). label_before_code opened (is_current left_bracket o)) h.bracket)) refl in-opened
         (omega (arith, next, h.inside)) in
-        let u = reading behind in
-        let no = no-caret w behind.point h next in
-        taken-back is_end s v (n.GfmFootnoteDefinition its.LabelAtMarker) (n.Document document.ContainersAfter) a u u f more
+        let u = reading following in
+        let no = no-caret w following.point h next in
+        taken-back is_end s v (n.GfmFootnoteDefinition its.LabelAtMarker)
+        (n.Document document.ContainersAfter) a u u f more
         at_marker
         (stepped-as (n.GfmFootnoteDefinition its.LabelAtMarker) u (record { to = Nok; world = u })
-        (ap (label_at_marker_code u) no)) refl in-behind refl all refl refl refl refl within seen lt
+        (ap (label_at_marker_code u) no)) refl in-following refl all refl refl refl refl within seen lt
 
 -- and no container opens with it.
 pub passes-label : (is_end : Bool) (s : State) (v w : World) → IsNoLabel w → w.current ≡ looks w → Within w →
-    CameTo FlowStep is_end s v (n.Document (opener_front openers)) w →
-    CameTo FlowStep is_end s v (n.Document document.ContainersAfter) (all_asked openers w)
-passes-label is_end s v w h seen within came =
+    ArrivedAt FlowStep is_end s v (n.Document (opener_front openers)) w →
+    ArrivedAt FlowStep is_end s v (n.Document document.ContainersAfter) (all_asked openers w)
+passes-label is_end s v w h seen within arrived =
     let a : World = asking (container_of kind.BlockQuote) w in
     let b : World = asking (container_of kind.ListItem) a in
-    let behind-quote = refuses is_end s v document.ContainerNewBefore kind.BlockQuote w refl refl h.bracket seen within
-    came in
-    let behind-item = refuses is_end s v document.ContainerNewBeforeNotBlockQuote kind.ListItem a refl refl h.bracket seen
-    within behind-quote in
+    let following-quote = refuses is_end s v document.ContainerNewBefore kind.BlockQuote w refl refl
+    h.bracket seen within
+    arrived in
+    let following-item = refuses is_end s v document.ContainerNewBeforeNotBlockQuote kind.ListItem a refl refl
+    h.bracket seen
+    within following-quote in
     footnote-refuses is_end s v b (record { bracket = h.bracket; inside = h.inside; other = h.other }) seen within
-    behind-item
+    following-item
 
 -- So where none opens one reaches the leaf that is asked first, or to the rest of the line.
 pub passes-to-front : (is_end : Bool) (s : State) (v w : World) → OpensNone w → w.current ≡ looks w → Within w →
-    CameTo FlowStep is_end s v (n.Document (opener_front openers)) w →
-    CameTo FlowStep is_end s v (leaf_front (is_some (asked_first (openers_passed w).flags.leaf))) (openers_passed w)
-passes-to-front is_end s v w (inl none) seen within came = passes-front is_end s v w none seen within came
-passes-to-front is_end s v w (inr h) seen within came =
-    line-front is_end s v (all_asked openers w) seen within (passes-label is_end s v w h seen within came)
+    ArrivedAt FlowStep is_end s v (n.Document (opener_front openers)) w →
+    ArrivedAt FlowStep is_end s v (leaf_front (is_some (asked_first (openers_passed w).flags.leaf))) (openers_passed w)
+passes-to-front is_end s v w (inl none) seen within arrived = passes-front is_end s v w none seen within arrived
+passes-to-front is_end s v w (inr h) seen within arrived =
+    line-front is_end s v (all_asked openers w) seen within (passes-label is_end s v w h seen within arrived)

@@ -15,7 +15,7 @@ use Rattle.md_engine.specs.Place.{is_ending, seen_at}
 use Rattle.md_engine.specs.Run.{reading}
 use Rattle.md_engine.specs.Run.Runs.{ThenLeaves}
 use Rattle.md_engine.specs.World.{Setting, World, looks, looks_at}
-use Rattle.md_engine.proofs.Loops.{CameTo}
+use Rattle.md_engine.proofs.Loops.{ArrivedAt}
 use Rattle.md_engine.proofs.Walks.{Within, then-run}
 use Rattle.md_meaning.specs.Rest.{is_white}
 use Rattle.md_events.proofs.LookLemmas.{dark-at, white-at}
@@ -23,7 +23,8 @@ use Rattle.md_events.specs.Transition.{Transition}
 use Rattle.md_registry.specs.States.{FlowStep, flow_transition}
 
 -- A step, by what the transition is.
-pub stepped-as : (name : StateName) (w : World) (a : Transition) → flow_transition name w ≡ a → FlowStep name w a.to a.world
+pub stepped-as : (name : StateName) (w : World) (a : Transition) → flow_transition name w ≡ a →
+    FlowStep name w a.to a.world
 stepped-as name w a is = record {
   to_is = sym (ap (λ (x : Transition). x.to) is);
   new_is = sym (ap (λ (x : Transition). x.world) is);
@@ -36,11 +37,11 @@ back_from w x = record x { events = w.events; frames = w.frames; point = w.point
 -- It refuses, and one continues where it began.
 pub taken-back : (is_end : Bool) (s : State) (v : World) (name next : StateName) (w u x : World) (f : Frame)
     (more : List Event) →
-    CameTo FlowStep is_end s v name u → FlowStep name u Nok x → x.setting ≡ u.setting → Within u →
+    ArrivedAt FlowStep is_end s v name u → FlowStep name u Nok x → x.setting ≡ u.setting → Within u →
     x.setting ≡ w.setting → x.events ≡ w.events ++ more → x.frames ≡ f ∷ w.frames → f.nok ≡ Next next →
     f.events_len ≡ length w.events → f.point ≡ w.point → Within w → w.current ≡ looks w →
-    w.point.index < w.setting.limit → CameTo FlowStep is_end s v next (back_from w x)
-taken-back is_end s v name next w u x f more came step kept inner text events frames nok long at within seen lt =
+    w.point.index < w.setting.limit → ArrivedAt FlowStep is_end s v next (back_from w x)
+taken-back is_end s v name next w u x f more arrived step kept inner text events frames nok long at within seen lt =
     record {
       state = Next next;
       at = back;
@@ -48,7 +49,7 @@ taken-back is_end s v name next w u x f more came step kept inner text events fr
       sees = sees;
       may = inr (subst (λ (y : Setting). w.point.index < y.limit) (sym text) lt);
       runs =
-          ThenLeaves Nok x (Next next) back (then-run FlowStep is_end s v name u Nok x came step fine kept inner)
+          ThenLeaves Nok x (Next next) back (then-run FlowStep is_end s v name u Nok x arrived step fine kept inner)
           (record {
             outer = w.frames;
             frame = f;

@@ -19,20 +19,21 @@ use Rattle.md_engine.specs.declared.tokenizer.held_leaf.HeldLeaf.{HeldLeaf}
 use Rattle.md_engine.specs.Run.{RunsFrom, RunsHere, reading}
 use Rattle.md_engine.specs.Staying.{SeesAll}
 use Rattle.md_engine.specs.World.{Flags, World, looks}
-use Rattle.md_engine.proofs.Loops.{Came, CameHere, CameTo, came-first, came-runs}
+use Rattle.md_engine.proofs.Loops.{Arrived, ArrivedHere, ArrivedAt, arrived-first, arrived-runs}
 use Rattle.md_engine.proofs.Walks.{Within, then-holds, then-seen, then-stays, within-more, within-one}
 use Rattle.proof_frame.specs.LeafName.{FenceFurther}
 use Rattle.md_meaning.specs.Rest.{is_white}
 use Rattle.md_events.specs.Events.Nested.{exit}
-use Rattle.md_events.specs.Look.{looks_behind}
+use Rattle.md_events.specs.Look.{looks_after}
 use Rattle.md_events.specs.Spaces.{calmed, ends_line, sees_white}
 use Rattle.md_events.specs.Transition.{tried}
 use Rattle.md_registry.specs.Flow.{inside_code, inside_transition}
-use Rattle.md_registry.specs.LineFlags.{blank_here, nothing_stands}
+use Rattle.md_registry.specs.LineFlags.{blank_here, nothing_is_here}
 use Rattle.md_registry.specs.Registry.{asked_first}
 use Rattle.md_registry.specs.States.{FlowStep}
 use Rattle.md_at_once.specs.AtOnce.{IsNoClose}
-use Rattle.md_at_once.specs.WholeLines.{IsWhole, chunk_event, line_event, settled, whole_added, whole_frame, whole_tried}
+use Rattle.md_at_once.specs.WholeLines.{IsWhole, chunk_event, line_event, settled, whole_added, whole_frame}
+use Rattle.md_at_once.specs.WholeLines.{whole_tried}
 use Rattle.md_at_once.proofs.ContentLines.{Keeps, line-over, some-keeps, some-with, with}
 use Rattle.md_at_once.proofs.FenceLines.{chunk-takes}
 use Rattle.md_at_once.proofs.LineEnds.{line-waits, takes-so}
@@ -63,25 +64,27 @@ kept w h = go (sees_white w.current) refl
 -- it closes nothing where the attempt has begun either
 no-close : (w : World) (g : Flags) (fs : List Frame) → g.leaf ≡ w.flags.leaf → IsNoClose w →
     IsNoClose (record w { flags = g; frames = fs })
-unfolding looks_behind
+unfolding looks_after
 no-close w g fs e h = record {
   white = h.white;
   byte = h.byte;
-  behind = h.behind;
+  following = h.following;
   other = ap (λ (l : HeldLeaf). nat_eq h.byte (held_marker l)) e ∙ h.other;
   dark = ap (λ (l : HeldLeaf). is_white (held_marker l)) e ∙ h.dark;
 }
 
 -- So one reaches what is on it.
 begins : (w : World) → IsWhole w → w.current ≡ looks w → Within w →
-    CameHere FlowStep (n.Document document.FlowInside) w (n.RawFlow its.ContentChunk) (begins_in (settled w) (settled w))
+    ArrivedHere FlowStep (n.Document document.FlowInside) w (n.RawFlow its.ContentChunk)
+    (begins_in (settled w) (settled w))
 begins w h seen within is_end s v named from may =
     then-stays FlowStep is_end s v (n.RawFlow its.BeforeContentChunk) (n.RawFlow its.ContentChunk) b
     (before_chunk_code b false).world
     (then-stays FlowStep is_end s v (n.RawFlow its.ContentStart) (n.RawFlow its.BeforeContentChunk) b b at_start
     (stepped-as (n.RawFlow its.ContentStart) b (content_start_code b false) (ap (content_start_code b) (kept w h))) refl
     in-b refl seen)
-    (stepped-as (n.RawFlow its.BeforeContentChunk) b (before_chunk_code b false) (ap (before_chunk_code b) h.inside)) refl
+    (stepped-as (n.RawFlow its.BeforeContentChunk) b (before_chunk_code b false)
+    (ap (before_chunk_code b) h.inside)) refl
     in-b refl seen
   where
     f : Frame
@@ -99,7 +102,7 @@ begins w h seen within is_end s v named from may =
     in-b : Within b
     in-b = within-more (f ∷ w.frames) w.events (line_event w.flags.leaf w.point ∷ []) in-a
 
-    nothing : nothing_stands w.current w.point ≡ false
+    nothing : nothing_is_here w.current w.point ≡ false
     nothing = ap (λ (x : Bool). x && nat_eq w.point.column 1) h.inside
 
     is : inside_transition w ≡ record { to = Retry (n.RawFlow its.AtNonLazyBreak); world = a }
@@ -113,18 +116,18 @@ begins w h seen within is_end s v named from may =
         })
         nothing
 
-    at_break : CameTo FlowStep is_end s v (n.RawFlow its.AtNonLazyBreak) a
+    at_break : ArrivedAt FlowStep is_end s v (n.RawFlow its.AtNonLazyBreak) a
     at_break =
         then-stays FlowStep is_end s v (n.Document document.FlowInside) (n.RawFlow its.AtNonLazyBreak) w a
-        (came-first FlowStep (n.Document document.FlowInside) w is_end s v named from may)
+        (arrived-first FlowStep (n.Document document.FlowInside) w is_end s v named from may)
         (stepped-as (n.Document document.FlowInside) w
         (record { to = Retry (n.RawFlow its.AtNonLazyBreak); world = a }) is) refl within refl seen
 
-    at_start : CameTo FlowStep is_end s v (n.RawFlow its.ContentStart) b
+    at_start : ArrivedAt FlowStep is_end s v (n.RawFlow its.ContentStart) b
     at_start = go (sees_white w.current) refl
       where
         go : (y : Bool) → sees_white w.current ≡ y →
-            CameTo FlowStep is_end s v (n.RawFlow its.ContentStart)
+            ArrivedAt FlowStep is_end s v (n.RawFlow its.ContentStart)
             (record (line_entered a) { scratch = cond y (calmed (cleared w.scratch)) w.scratch })
         go true e =
             closes-none is_end s v a (no-close w a.flags a.frames refl (h.white e).0) seen in-a at_break
@@ -153,7 +156,7 @@ whole-waits w u x h seen within all le new is_end =
     (λ (y : World).
     RunsFrom FlowStep is_end (n.Document document.FlowInside) w (Next (n.RawFlow its.ContentChunk)) y)
     (sym (new ∙ same))
-    (came-runs FlowStep is_end (n.Document document.FlowInside) (n.RawFlow its.ContentChunk) w (begins_in c c)
+    (arrived-runs FlowStep is_end (n.Document document.FlowInside) (n.RawFlow its.ContentChunk) w (begins_in c c)
     (Next (n.RawFlow its.ContentChunk)) (begins_in c u) (begins w h seen within is_end)
     (line-waits (n.RawFlow its.ContentChunk) (begins_in c c) (begins_in c u) chunk-takes seen (begins-within w within)
     (all-seen c u all) (inside-line w seen h.inside) le is_end))
@@ -189,8 +192,8 @@ four es a b c d =
 pub whole-ends : (w u x : World) (to : State) (new : World) → IsWhole w → w.current ≡ looks w → Within w →
     SeesAll Line (settled w) u → u.point.index < u.setting.limit → x ≡ whole_added w.point (reading u) →
     RunsHere FlowStep (n.Flow flow.After) x to new → RunsHere FlowStep (n.Document document.FlowInside) w to new
-whole-ends w u x to new h seen within all lt behind runs is_end =
-    came-runs FlowStep is_end (n.Document document.FlowInside) (n.Flow flow.After) w x to new came (runs is_end)
+whole-ends w u x to new h seen within all lt following runs is_end =
+    arrived-runs FlowStep is_end (n.Document document.FlowInside) (n.Flow flow.After) w x to new arrived (runs is_end)
   where
     c : World
     c = settled w
@@ -234,13 +237,13 @@ whole-ends w u x to new h seen within all lt behind runs is_end =
         (four w.events (line_event w.flags.leaf w.point) (chunk_event w.flags.leaf w.point)
         (exit (chunk_name (held_marker u.flags.leaf)) u.point) (exit (block_name (held_marker u.flags.leaf)) u.point))
         ∙ sym
-        (behind ∙ ap (λ (es : List Event). laid (four_of es u.flags.leaf) u.frames u.scratch) keeps.events
+        (following ∙ ap (λ (es : List Event). laid (four_of es u.flags.leaf) u.frames u.scratch) keeps.events
         ∙ ap (λ (fs : List Frame). laid (four_of w.events u.flags.leaf) fs u.scratch) keeps.frames
         ∙ ap (λ (s : Scratch). laid (four_of w.events u.flags.leaf) w.frames s) keeps.scratch
         ∙ ap (λ (g : Flags). laid (four_of w.events g.leaf) w.frames c.scratch) keeps.flags)
 
-    came : Came FlowStep is_end (n.Document document.FlowInside) w (n.Flow flow.After) x
-    came s v named from may =
+    arrived : Arrived FlowStep is_end (n.Document document.FlowInside) w (n.Flow flow.After) x
+    arrived s v named from may =
         let at_end = then-seen FlowStep is_end s v (n.RawFlow its.ContentChunk) Line (begins_in c c) (begins_in c u)
         (takes-so (n.RawFlow its.ContentChunk) chunk-takes) (begins w h seen within is_end s v named from may) seen
         (begins-within w within) (all-seen c u all).some lt in
@@ -250,6 +253,7 @@ whole-ends w u x to new h seen within all lt behind runs is_end =
         in-inside refl refl in
         let done = then-holds FlowStep is_end s v (n.RawFlow its.BeforeContentChunk) (n.Flow flow.After) y z f w.frames
         at_rest
-        (stepped-as (n.RawFlow its.BeforeContentChunk) y (before_chunk_code y true) (ap (before_chunk_code y) over)) refl
+        (stepped-as (n.RawFlow its.BeforeContentChunk) y (before_chunk_code y true)
+        (ap (before_chunk_code y) over)) refl
         in-y refl refl refl within lt in
-        subst (λ (q : World). CameTo FlowStep is_end s v (n.Flow flow.After) q) left done
+        subst (λ (q : World). ArrivedAt FlowStep is_end s v (n.Flow flow.After) q) left done

@@ -17,16 +17,16 @@ use Rattle.md_engine.specs.Going.{SeesOn}
 use Rattle.md_engine.specs.Run.{RunsHere}
 use Rattle.md_engine.specs.World.{World, looks, registered_before}
 use Rattle.md_content.specs.Chunks.{begun, content_link, rest_taken, unbegun}
-use Rattle.md_link_definitions.specs.OpenText.{text_behind}
+use Rattle.md_link_definitions.specs.OpenText.{text_following}
 use Rattle.md_code.specs.Fence.{cleared, held_marker, line_entered}
 use Rattle.md_meaning.specs.Ascii.{caret, left_bracket}
 use Rattle.md_meaning.specs.Rest.{is_white}
 use Rattle.md_events.specs.Events.Nested.{exit}
-use Rattle.md_events.specs.Look.{looks_behind}
+use Rattle.md_events.specs.Look.{looks_after}
 use Rattle.md_events.specs.Spaces.{calmed, sees_white}
 use Rattle.md_registry.specs.AtOnce.{opens_none}
 use Rattle.md_registry.specs.LineFlags.{next_container}
-use Rattle.md_registry.specs.Registry.{goes_on_with}
+use Rattle.md_registry.specs.Registry.{continues_with}
 use Rattle.md_registry.specs.Flow.{leaf_end}
 use Rattle.md_registry.specs.States.{FlowStep}
 use Rattle.md_engine.specs.declared.tokenizer.Tokenizer.{Tokenizer}
@@ -37,7 +37,7 @@ abbrev pub SeesAhead : World → Type 0
 SeesAhead w = (w.current ≡ looks w) × (w.point.index < w.setting.limit)
 
 -- something else than whitespace is here, which does not end the line
-pub record StandsOut (o : Option ℕ) : Type 0 where
+pub record IsVisible (o : Option ℕ) : Type 0 where
   pub byte : ℕ
   pub here : o ≡ Some byte
   pub dark : is_white byte ≡ false
@@ -48,8 +48,8 @@ pub record StandsOut (o : Option ℕ) : Type 0 where
 pub record EndsAtOnce (w : World) : Type 0 where
   pub held : Container
   pub next : next_container w.flags ≡ Some held
-  pub indented : goes_on_with held.kind ≡ n.ListItem its.ContStart
-  pub out : StandsOut w.current
+  pub indented : continues_with held.kind ≡ n.ListItem its.ContStart
+  pub out : IsVisible w.current
   pub rest : w.scratch.whitespace.max ≡ 0
 
 -- The innermost attempt is one at a leaf: where it holds, the line ends, and the leaf is shut or may be open after it.
@@ -88,17 +88,18 @@ line_added p w = record w {
   resolvers = registered_before w.resolvers ContentResolver;
   scratch = unbegun w.scratch;
   flags = record w.flags {
-    leaf = text_behind w.flags.leaf (rest_taken w.setting.bytes (begun p w.scratch) w.point);
+    leaf = text_following w.flags.leaf (rest_taken w.setting.bytes (begun p w.scratch) w.point);
   };
 }
 
 -- a run from a state to an answer, where it leaves the tokenizer so
-abbrev pub Goes : StateName → World → State → World → Type 0
-Goes name w to new = RunsHere FlowStep name w to new × SeesOn to w new
+abbrev pub Proceeds : StateName → World → State → World → Type 0
+Proceeds name w to new = RunsHere FlowStep name w to new × SeesOn to w new
 
 -- each run that becomes an answer continues to another
-abbrev pub GoesOn : State → World → State → World → Type 0
-GoesOn s w to new = (first : StateName) (old : World) → old.current ≡ looks old → Goes first old s w → Goes first old to new
+abbrev pub IsContinued : State → World → State → World → Type 0
+IsContinued s w to new = (first : StateName) (old : World) → old.current ≡ looks old → Proceeds first old s w →
+    Proceeds first old to new
 
 -- A bracket is here, and something else than a caret after it: no footnote definition opens.
 pub record IsNoLabel (w : World) : Type 0 where
@@ -115,7 +116,7 @@ OpensNone w = (opens_none w.current ≡ true) ⊎ IsNoLabel w
 pub record IsNoClose (w : World) : Type 0 where
   pub white : sees_white w.current ≡ true
   pub byte : ℕ
-  pub behind : looks_behind w ≡ Some byte
+  pub following : looks_after w ≡ Some byte
   pub other : (byte == held_marker w.flags.leaf) ≡ false
   pub dark : is_white (held_marker w.flags.leaf) ≡ false
 

@@ -11,14 +11,14 @@ ghost use Rattle.md_content.specs.Chunks.{begun};
 ghost use Rattle.md_events.specs.WholeLine.{line_taken};
 ghost use Rattle.md_engine.specs.Place.{IsPlaced};
 ghost use Rattle.md_engine.specs.Run.{RunsHere};
-ghost use Rattle.md_engine.specs.Scheme.{stands};
+ghost use Rattle.md_engine.specs.Scheme.{valid};
 ghost use Rattle.md_engine.specs.World.{looks, world};
 ghost use Rattle.md_engine.specs.declared.state.Name.{Name as StateName};
 ghost use Rattle.md_engine.specs.declared.state.State.{State};
 ghost use Rattle.md_engine.specs.declared.state.document.State.{State as DocumentState};
-ghost use Rattle.md_at_once.specs.AtOnce.{EndsAtOnce, IsNoLabel, OpensNone, SeesAhead, StandsOut};
+ghost use Rattle.md_at_once.specs.AtOnce.{EndsAtOnce, IsNoLabel, OpensNone, SeesAhead, IsVisible};
 ghost use Rattle.md_at_once.specs.AtOnce.{line_added, line_tried, IsFlowRun};
-ghost use Rattle.md_registry.specs.AtOnce.{GoesAtOnce, asking_next, openers_passed};
+ghost use Rattle.md_registry.specs.AtOnce.{ContinuesAtOnce, asking_next, openers_passed};
 ghost use Rattle.md_registry.specs.Flow.{existing_after_transition};
 ghost use Rattle.md_registry.specs.LineFlags.{next_container};
 ghost use Rattle.md_containers.specs.PlainBullet.{IsPlainBullet};
@@ -52,14 +52,14 @@ use md_events::slice::whole_from;
 use md_events::space_or_tab;
 use md_flow::{constructs, document, flow};
 use md_leaves::{blank_line, heading_atx};
-use md_link_definitions::open_text::text_behind;
+use md_link_definitions::open_text::text_following;
 use md_registry::choices;
 use md_tables::row::{Row, place_of};
 use md_tables::{gfm_table, row_words};
 
 /// Whether the next container continues, with a prefix that can be taken at once.
-fn goes_on_at_once(tokenizer: &mut Tokenizer) -> bool
-    ensures goes { result ≡ true → GoesAtOnce (world tokenizer.old) }
+fn continues_at_once(tokenizer: &mut Tokenizer) -> bool
+    ensures proceeds { result ≡ true → ContinuesAtOnce (world tokenizer.old) }
     ensures same { world tokenizer.new ≡ world tokenizer.old }
 {
     match document::next_container(tokenizer) {
@@ -80,7 +80,7 @@ fn ask_next(tokenizer: &mut Tokenizer)
 
 /// The container that was asked continues, and is held as it is after its prefix: as it was, unless it changes there.
 #[inline(always)]
-fn went_on(tokenizer: &mut Tokenizer, changes: bool)
+fn was_continued(tokenizer: &mut Tokenizer, changes: bool)
     requires current { (world tokenizer.old).current ≡ looks (world tokenizer.old) }
     requires kept { changes ≡ false →
         next_container (world tokenizer.old).flags ≡ Some (world tokenizer.old).flags.asked }
@@ -106,8 +106,8 @@ fn reads_indent(state: StateName) -> bool
 
 /// Whether something else than whitespace is here, which does not end the line.
 #[inline(always)]
-fn stands_out(current: Option<u8>) -> bool
-    ensures { result ≡ true → StandsOut current }
+fn is_visible(current: Option<u8>) -> bool
+    ensures { result ≡ true → IsVisible current }
 {
     match current {
         None => false,
@@ -123,8 +123,8 @@ fn has_no_indent(tokenizer: &Tokenizer) -> bool
     match document::next_container(tokenizer) {
         None => false,
         Some(container) => {
-            reads_indent(choices::goes_on_with(container.kind))
-                && stands_out(tokenizer.current)
+            reads_indent(choices::continues_with(container.kind))
+                && is_visible(tokenizer.current)
                 && tokenizer.scratch.whitespace.max == 0
         }
     }
@@ -139,11 +139,11 @@ pub fn containers_existing(tokenizer: &mut Tokenizer) -> State
         (world tokenizer.old) result tokenizer.new }
     ensures opens { (name : StateName) → result ≡ State.Next name → SeesAhead (world tokenizer.new) }
 {
-    while goes_on_at_once(tokenizer) {
+    while continues_at_once(tokenizer) {
         ask_next(tokenizer);
         let changes = tokenizer.flags.asked.starts_blank;
         or_error!(choices::take_plain_prefix(tokenizer));
-        went_on(tokenizer, changes);
+        was_continued(tokenizer, changes);
     }
     if has_no_indent(tokenizer) {
         ask_next(tokenizer);
@@ -235,7 +235,7 @@ fn content_added(tokenizer: &mut Tokenizer, from: Point) -> Result<(), Message>
     add_part(tokenizer, Name::Content, Some(CONTENT_LINK), from, to)?;
     tokenizer.register_resolver_before(ResolveName::Content)?;
     let column = from.column.saturating_sub(1);
-    tokenizer.flags.leaf = text_behind(tokenizer.flags.leaf, column, from.vs > 0, line);
+    tokenizer.flags.leaf = text_following(tokenizer.flags.leaf, column, from.vs > 0, line);
     tokenizer.scratch.start = 0;
     tokenizer.scratch.size = 0;
     tokenizer.scratch.seen = false;
@@ -345,7 +345,7 @@ fn containers_new(tokenizer: &mut Tokenizer) -> State
 {
     if opens_none(tokenizer) {
         pass_openers(tokenizer);
-        if choices::goes_inside(tokenizer.flags.leaf) {
+        if choices::continues_inside(tokenizer.flags.leaf) {
             fences::inside(tokenizer)
         } else {
             rest_begins(tokenizer)
@@ -359,12 +359,12 @@ fn containers_new(tokenizer: &mut Tokenizer) -> State
 
 /// After all containers of a line: where nothing is left of it, it ends at once, and else may be blank.
 #[inline(always)]
-fn behind_containers(tokenizer: &mut Tokenizer) -> State
+fn after_containers(tokenizer: &mut Tokenizer) -> State
     requires { IsAt NeedsNothing (StateName.Document DocumentState.ContainersAfter) (world tokenizer.old) }
     ensures { IsFlowRun (StateName.Document DocumentState.ContainersAfter) (world tokenizer.old) result tokenizer.new }
 {
     document::containers_after(tokenizer);
-    if choices::goes_inside(tokenizer.flags.leaf) {
+    if choices::continues_inside(tokenizer.flags.leaf) {
         fences::inside(tokenizer)
     } else if blank_line::ends_line(tokenizer.current) {
         flow::blank_line_after(tokenizer);
@@ -389,7 +389,7 @@ fn containers(tokenizer: &mut Tokenizer) -> State
             containers_new(tokenizer)
         }
         State::Retry(StateName::Document(DocumentState::ContainersAfter)) => {
-            behind_containers(tokenizer)
+            after_containers(tokenizer)
         }
         state => state,
     }
@@ -410,7 +410,7 @@ fn awaits_line(state: State) -> bool
 #[inline(always)]
 fn lines(tokenizer: &mut Tokenizer) -> State
     requires current { (world tokenizer.old).current ≡ looks (world tokenizer.old) }
-    requires stands { stands flow_table_scheme (world tokenizer.old)
+    requires valid { valid flow_table_scheme (world tokenizer.old)
         (State.Next (StateName.Document DocumentState.ContainerExistingBefore)) }
     ensures { IsFlowRun (StateName.Document DocumentState.ContainerExistingBefore)
         (world tokenizer.old) result tokenizer.new }
@@ -430,7 +430,7 @@ fn lines(tokenizer: &mut Tokenizer) -> State
 #[inline(always)]
 pub fn call_document(tokenizer: &mut Tokenizer, state: DocumentState) -> State
     requires current { (world tokenizer.old).current ≡ looks (world tokenizer.old) }
-    requires stands { stands flow_table_scheme (world tokenizer.old) (State.Next (StateName.Document state)) }
+    requires valid { valid flow_table_scheme (world tokenizer.old) (State.Next (StateName.Document state)) }
     ensures { IsFlowRun (StateName.Document state) (world tokenizer.old) result tokenizer.new }
 {
     match state {
@@ -444,7 +444,7 @@ pub fn call_document(tokenizer: &mut Tokenizer, state: DocumentState) -> State
 #[inline(always)]
 pub fn call_flow(tokenizer: &mut Tokenizer, state: FlowState) -> State
     requires current { (world tokenizer.old).current ≡ looks (world tokenizer.old) }
-    requires stands { stands flow_table_scheme (world tokenizer.old) (State.Next (StateName.Flow state)) }
+    requires valid { valid flow_table_scheme (world tokenizer.old) (State.Next (StateName.Flow state)) }
     ensures { IsFlowRun (StateName.Flow state) (world tokenizer.old) result tokenizer.new }
 {
     match state {
@@ -460,7 +460,7 @@ pub fn call_flow(tokenizer: &mut Tokenizer, state: FlowState) -> State
 #[inline(always)]
 pub fn call_white(tokenizer: &mut Tokenizer, state: WhiteState) -> State
     requires current { (world tokenizer.old).current ≡ looks (world tokenizer.old) }
-    requires stands { stands flow_table_scheme (world tokenizer.old) (State.Next (StateName.SpaceOrTab state)) }
+    requires valid { valid flow_table_scheme (world tokenizer.old) (State.Next (StateName.SpaceOrTab state)) }
     ensures { IsFlowRun (StateName.SpaceOrTab state) (world tokenizer.old) result tokenizer.new }
 {
     space_or_tab::call_at_once(tokenizer, state)
@@ -470,7 +470,7 @@ pub fn call_white(tokenizer: &mut Tokenizer, state: WhiteState) -> State
 #[inline(always)]
 fn call_heading(tokenizer: &mut Tokenizer, state: HeadingState) -> State
     requires current { (world tokenizer.old).current ≡ looks (world tokenizer.old) }
-    requires stands { stands flow_table_scheme (world tokenizer.old) (State.Next (StateName.HeadingAtx state)) }
+    requires valid { valid flow_table_scheme (world tokenizer.old) (State.Next (StateName.HeadingAtx state)) }
     ensures { IsFlowRun (StateName.HeadingAtx state) (world tokenizer.old) result tokenizer.new }
 {
     match state {
@@ -484,7 +484,7 @@ fn call_heading(tokenizer: &mut Tokenizer, state: HeadingState) -> State
 #[inline(always)]
 fn call_in_table(tokenizer: &mut Tokenizer, state: TableState) -> State
     requires current { (world tokenizer.old).current ≡ looks (world tokenizer.old) }
-    requires stands { stands flow_table_scheme (world tokenizer.old) (State.Next (StateName.GfmTable state)) }
+    requires valid { valid flow_table_scheme (world tokenizer.old) (State.Next (StateName.GfmTable state)) }
     ensures { IsFlowRun (StateName.GfmTable state) (world tokenizer.old) result tokenizer.new }
 {
     match place_of(Row::Body, state) {
@@ -497,7 +497,7 @@ fn call_in_table(tokenizer: &mut Tokenizer, state: TableState) -> State
 #[inline(always)]
 fn call_table(tokenizer: &mut Tokenizer, first: TableState) -> State
     requires current { (world tokenizer.old).current ≡ looks (world tokenizer.old) }
-    requires stands { stands flow_table_scheme (world tokenizer.old) (State.Next (StateName.GfmTable first)) }
+    requires valid { valid flow_table_scheme (world tokenizer.old) (State.Next (StateName.GfmTable first)) }
     ensures { IsFlowRun (StateName.GfmTable first) (world tokenizer.old) result tokenizer.new }
 {
     let mut state = first;
@@ -514,7 +514,7 @@ fn call_table(tokenizer: &mut Tokenizer, first: TableState) -> State
 #[inline(always)]
 pub fn call_at_once(tokenizer: &mut Tokenizer, name: StateName) -> State
     requires current { (world tokenizer.old).current ≡ looks (world tokenizer.old) }
-    requires stands { stands flow_table_scheme (world tokenizer.old) (State.Next name) }
+    requires valid { valid flow_table_scheme (world tokenizer.old) (State.Next name) }
     requires construct { is_flow_own name ≡ false }
     ensures { IsFlowRun name (world tokenizer.old) result tokenizer.new }
 {

@@ -31,7 +31,7 @@ use md_engine::state::flow::State as FlowState;
 use md_engine::state::raw_flow::State as RawState;
 use md_engine::state::{Name as StateName, State};
 use md_engine::tokenizer::{Frame, HeldLeaf, Tokenizer, Whitespace};
-use md_events::space_or_tab::{is_space_or_tab, look_behind};
+use md_events::space_or_tab::{is_space_or_tab, look_after_white};
 use md_flow::document;
 use md_leaves::blank_line;
 use md_leaves::further::FURTHER;
@@ -155,7 +155,7 @@ fn closes_none(tokenizer: &mut Tokenizer) -> bool
         return false;
     }
     let marker = held_marker(tokenizer.flags.leaf);
-    match look_behind(tokenizer) {
+    match look_after_white(tokenizer) {
         None => false,
         Some(byte) => byte != marker && !is_white(marker),
     }

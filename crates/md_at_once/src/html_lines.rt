@@ -6,7 +6,7 @@
 
 ghost use Rattle.std.specs.Prelude.{◌≡◌, IfSome, None, true};
 ghost use Rattle.md_engine.specs.Run.{RunsHere};
-ghost use Rattle.md_engine.specs.Scheme.{stands};
+ghost use Rattle.md_engine.specs.Scheme.{valid};
 ghost use Rattle.md_engine.specs.World.{looks, world};
 ghost use Rattle.md_engine.specs.declared.state.Name.{Name as StateName};
 ghost use Rattle.md_engine.specs.declared.state.State.{State};
@@ -128,7 +128,7 @@ fn further(tokenizer: &mut Tokenizer) -> State
 #[inline(always)]
 fn call_state(tokenizer: &mut Tokenizer, state: HtmlState) -> State
     requires current { (world tokenizer.old).current ≡ looks (world tokenizer.old) }
-    requires stands { stands flow_table_scheme (world tokenizer.old) (State.Next (StateName.HtmlFlow state)) }
+    requires valid { valid flow_table_scheme (world tokenizer.old) (State.Next (StateName.HtmlFlow state)) }
     ensures { IsFlowRun (StateName.HtmlFlow state) (world tokenizer.old) result tokenizer.new }
 {
     match state {
@@ -178,7 +178,7 @@ fn next(tokenizer: &mut Tokenizer, to: State) -> Option<HtmlState>
 #[inline(never)]
 pub fn call(tokenizer: &mut Tokenizer, first: HtmlState) -> State
     requires current { (world tokenizer.old).current ≡ looks (world tokenizer.old) }
-    requires stands { stands flow_table_scheme (world tokenizer.old) (State.Next (StateName.HtmlFlow first)) }
+    requires valid { valid flow_table_scheme (world tokenizer.old) (State.Next (StateName.HtmlFlow first)) }
     ensures { IsFlowRun (StateName.HtmlFlow first) (world tokenizer.old) result tokenizer.new }
 {
     let mut state = first;

@@ -1,7 +1,7 @@
 // How a line ends in the call that takes its leaf.
 //
-// A leaf has accepted its line, or content has been taken: the attempt at it is left, the state of flow after the leaf and
-// that of the document at the end of the line are called in the same call.
+// A leaf has accepted its line, or content has been taken: the attempt at it is left, the state of flow after the leaf
+// and that of the document at the end of the line are called in the same call.
 
 ghost use Rattle.std.specs.Prelude.{Bool, IfSome, Some, false, true, ◌≡◌, ◌≢◌, ◌<◌};
 ghost use Rattle.md_engine.specs.Going.{SeesOn};
@@ -9,7 +9,7 @@ ghost use Rattle.md_engine.specs.Run.{Runs, RunsHere};
 ghost use Rattle.md_engine.specs.World.{World, world};
 ghost use Rattle.md_engine.specs.declared.state.Name.{Name as StateName};
 ghost use Rattle.md_engine.specs.declared.state.State.{State};
-ghost use Rattle.md_at_once.specs.AtOnce.{GoesOn, IsTried};
+ghost use Rattle.md_at_once.specs.AtOnce.{IsContinued, IsTried};
 ghost use Rattle.md_registry.specs.Flow.{leaf_end};
 ghost use Rattle.md_registry.specs.States.{FlowStep};
 ghost use Rattle.md_events.specs.Transition.{IsAt, NeedsNothing};
@@ -64,7 +64,7 @@ fn line_ends(tokenizer: &mut Tokenizer, shuts: bool) -> State
 
 /// Whether a state is that after a leaf, and then whether the leaf is shut there.
 #[inline(always)]
-fn behind_leaf(state: State) -> Option<bool>
+fn following_leaf(state: State) -> Option<bool>
     ensures { IfSome result (λ shuts. state ≡ State.Next (StateName.Flow (leaf_end shuts))) }
 {
     match state {
@@ -85,7 +85,7 @@ fn tried_leaf(tokenizer: &Tokenizer) -> Option<bool>
             if frame.is_check {
                 None
             } else {
-                behind_leaf(frame.ok)
+                following_leaf(frame.ok)
             }
         }
     }
@@ -115,7 +115,7 @@ fn accepted(tokenizer: &mut Tokenizer, shuts: bool) -> State
 #[inline(always)]
 pub(crate) fn end(tokenizer: &mut Tokenizer, to: State) -> State
     ensures fine { result ≢ State.Error → to ≢ State.Error }
-    ensures goes_on { result ≢ State.Error → GoesOn to (world tokenizer.old) result (world tokenizer.new) }
+    ensures is_continued { result ≢ State.Error → IsContinued to (world tokenizer.old) result (world tokenizer.new) }
 {
     let State::Ok = to else {
         return to;

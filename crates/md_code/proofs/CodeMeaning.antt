@@ -16,8 +16,8 @@ use Rattle.md_engine.specs.declared.state.code_indented.State.TheVariants as its
 use Rattle.md_engine.specs.declared.state.space_or_tab.State.TheVariants as space_or_tab
 use Rattle.md_engine.specs.declared.tokenizer.Frame.{Frame}
 use Rattle.md_engine.specs.declared.tokenizer.Scratch.{Scratch}
-use Rattle.md_engine.specs.Meaning.{Accepts, Behaviour, Cell, Fails, Feed, Here, Outcome, Refuses, Steps, goes, here}
-use Rattle.md_engine.specs.Meaning.{restored, resume}
+use Rattle.md_engine.specs.Meaning.{Accepts, Behaviour, Cell, Fails, Feed, Here, Outcome, Refuses, Steps, proceeds}
+use Rattle.md_engine.specs.Meaning.{here, restored, resume}
 use Rattle.md_engine.specs.Scheme.{position}
 use Rattle.md_engine.specs.World.{World, after}
 use Rattle.md_engine.specs.Sees.{Sees, ahead, cell_here}
@@ -25,7 +25,7 @@ use Rattle.md_engine.proofs.StepOf.{begins, begins_only, moves, passes, steps-as
 use Rattle.md_code.specs.Code.{CodeInvariant, at_break_code, begun_code, blank_noted, chunk_begun, chunk_noted}
 use Rattle.md_code.specs.Code.{code_transition, further_after_code, further_begin_code, further_inside_code}
 use Rattle.md_code.specs.Code.{inside_blank_code, inside_code}
-use Rattle.md_code.specs.CodeRule.{CodeMeans, HasCode, at_break, behind_columns, blank_ends, chunk_at, code_ends}
+use Rattle.md_code.specs.CodeRule.{CodeMeans, HasCode, at_break, after_columns, blank_ends, chunk_at, code_ends}
 use Rattle.md_code.specs.CodeRule.{further_after, further_begin, further_inside, further_line, in_blank, in_text}
 use Rattle.md_code.specs.CodeRule.{is_indented, line_at, or_blank, then_here}
 use Rattle.md_leaves.specs.Further.{further_link}
@@ -44,14 +44,14 @@ use Rattle.md_events.proofs.WhiteMeaning.{begins-seen, white-tried}
 -- an attempt at so many columns takes them, if there are as many
 white-exact : (cells : List Cell) (h : Here) (size : ℕ) → 1 ≤ size →
     white_at cells (record h { scratch = asking size size 0 h.scratch }) ≡
-    cond (nat_le size (white_size size cells)) (Accepts (behind_columns size cells h) (white_rest size cells))
+    cond (nat_le size (white_size size cells)) (Accepts (after_columns size cells h) (white_rest size cells))
     (Refuses (calmed h.scratch) h.flags)
 unfolding white_at inside_white after_white
 white-exact cells h size some = go (begins_white cells) (nat_le size (white_size size cells)) refl refl
   where
     go : (x y : Bool) → begins_white cells ≡ x → nat_le size (white_size size cells) ≡ y →
         white_at cells (record h { scratch = asking size size 0 h.scratch }) ≡
-        cond (nat_le size (white_size size cells)) (Accepts (behind_columns size cells h) (white_rest size cells))
+        cond (nat_le size (white_size size cells)) (Accepts (after_columns size cells h) (white_rest size cells))
         (Refuses (calmed h.scratch) h.flags)
     go true y s e =
         let room : size - 0 ≡ size = omega arith in
@@ -70,7 +70,7 @@ white-exact cells h size some = go (begins_white cells) (nat_le size (white_size
             })
             (white_rest size cells))
             (Refuses (calmed h.scratch) h.flags) ≡
-            cond (nat_le size (white_size size cells)) (Accepts (behind_columns size cells h) (white_rest size cells))
+            cond (nat_le size (white_size size cells)) (Accepts (after_columns size cells h) (white_rest size cells))
             (Refuses (calmed h.scratch) h.flags)
         by true e = rw e (simp append_assoc)
         by false e = rw e refl
@@ -82,8 +82,8 @@ white-exact cells h size some = go (begins_white cells) (nat_le size (white_size
 white-asked : (B : Behaviour) (feed : Feed) (f : Frame) (events : List Event) (cells : List Cell) (h : Here)
     (size : ℕ) →
     HasWhite B → 1 ≤ size → f.is_check ≡ false →
-    cond (nat_le size (white_size size cells)) (goes B f.ok (white_rest size cells) (behind_columns size cells h))
-    (goes B f.nok (feed f.point) (restored events f (calmed h.scratch) h.flags)) ≡
+    cond (nat_le size (white_size size cells)) (proceeds B f.ok (white_rest size cells) (after_columns size cells h))
+    (proceeds B f.nok (feed f.point) (restored events f (calmed h.scratch) h.flags)) ≡
     resume B feed events f
     (B (n.SpaceOrTab space_or_tab.Start) cells (record h { scratch = asking size size 0 h.scratch }))
 white-asked B feed f events cells h size has some k =
@@ -91,10 +91,10 @@ white-asked B feed f events cells h size has some k =
     ∙ ap (resume B feed events f) (sym (has.each space_or_tab.Start _ _ ∙ white-exact cells h size some))
   where
     by : (x : Bool) →
-        cond x (goes B f.ok (white_rest size cells) (behind_columns size cells h))
-        (goes B f.nok (feed f.point) (restored events f (calmed h.scratch) h.flags)) ≡
+        cond x (proceeds B f.ok (white_rest size cells) (after_columns size cells h))
+        (proceeds B f.nok (feed f.point) (restored events f (calmed h.scratch) h.flags)) ≡
         resume B feed events f
-        (cond x (Accepts (behind_columns size cells h) (white_rest size cells)) (Refuses (calmed h.scratch) h.flags))
+        (cond x (Accepts (after_columns size cells h) (white_rest size cells)) (Refuses (calmed h.scratch) h.flags))
     by true = rw k refl
     by false = refl
 
@@ -118,7 +118,7 @@ line-none may begin cells h e =
 
 line-some : (may : Bool) (begin : Event) (cells : List Cell) (h : Here) → may ≡ true →
     line_at may begin cells h ≡
-    cond (is_indented cells) (at_break (white_rest 4 cells) (behind_columns 4 cells (then_here begin h)))
+    cond (is_indented cells) (at_break (white_rest 4 cells) (after_columns 4 cells (then_here begin h)))
     (Refuses h.scratch h.flags)
 unfolding line_at
 line-some may begin cells h e = rw e refl
@@ -142,7 +142,7 @@ begun_means B options feed state begin w may true has s r own e =
     ∙ ap₂ (λ (a b : Outcome). cond (is_indented (feed w.point)) a b)
     (sym
     (has.each its.AtBreak _ _
-    ∙ chunk-bare (white_rest 4 (feed w.point)) (behind_columns 4 (feed w.point) h)
+    ∙ chunk-bare (white_rest 4 (feed w.point)) (after_columns 4 (feed w.point) h)
     (ap (λ (t : Scratch). t.seen) r)))
     (ap (λ (t : Scratch). Refuses t w.flags) (sym (calm w.scratch r)))
     ∙ white-asked B feed frame h.events (feed w.point) h 4 has.white (omega arith) refl)
@@ -243,7 +243,7 @@ further_start_means B feed w has s =
         ∙ sym (has.each its.FurtherBegin _ _)
 
 begin-white : (cells : List Cell) (h : Here) → begins_white cells ≡ true →
-    further_begin cells h ≡ further_after (white_rest 4 cells) (behind_columns 4 cells h)
+    further_begin cells h ≡ further_after (white_rest 4 cells) (after_columns 4 cells h)
 unfolding further_begin
 begin-white cells h e = rw e refl
 

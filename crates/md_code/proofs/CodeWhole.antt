@@ -11,9 +11,10 @@ use Rattle.md_engine.specs.declared.tokenizer.held_leaf.HeldLeaf.{HeldLeaf}
 use Rattle.md_engine.specs.declared.tokenizer.held_leaf.HeldLeaf.TheVariants as held_leaf
 use Rattle.md_engine.specs.Meaning.{Cell, Here, Refuses}
 use Rattle.md_code.specs.Code.{may_open}
-use Rattle.md_code.specs.CodeRule.{at_break, behind_columns, blank_adds, blank_ends, code_adds, code_adds_on, code_at}
-use Rattle.md_code.specs.CodeRule.{code_begins, code_further, code_goes, further_after, further_begin, further_inside}
-use Rattle.md_code.specs.CodeRule.{in_blank, in_text, is_indented, line_adds, line_at, line_by, or_blank, then_here}
+use Rattle.md_code.specs.CodeRule.{at_break, after_columns, blank_adds, blank_ends, code_adds, code_adds_on, code_at}
+use Rattle.md_code.specs.CodeRule.{code_begins, code_further, code_continues, further_after, further_begin}
+use Rattle.md_code.specs.CodeRule.{further_inside, in_blank, in_text, is_indented, line_adds, line_at, line_by}
+use Rattle.md_code.specs.CodeRule.{or_blank, then_here}
 use Rattle.md_leaves.specs.Further.{further_link}
 use Rattle.md_leaves.proofs.LeafSteps.{ended}
 use Rattle.md_events.specs.Ahead.{begins_white, line_bytes, line_end, white_end, white_rest}
@@ -53,8 +54,8 @@ white-blank (suc room) (c ∷ cs) = go (is_white c.byte) refl (white-blank room 
     go false s ih = rw s refl
 
 -- a line with text does not end
-text-goes : (cells : List Cell) → is_blank (line_bytes cells) ≡ false → is_end (line_bytes cells) ≡ false
-text-goes cells e = go (is_end (line_bytes cells)) refl
+text-proceeds : (cells : List Cell) → is_blank (line_bytes cells) ≡ false → is_end (line_bytes cells) ≡ false
+text-proceeds cells e = go (is_end (line_bytes cells)) refl
   where
     go : (x : Bool) → is_end (line_bytes cells) ≡ x → x ≡ false
     go false k = refl
@@ -63,7 +64,7 @@ text-goes cells e = go (is_end (line_bytes cells)) refl
 -- a line that is taken after its columns is taken with them,
 columns-taken : (blank : Bool) (added : List Event) (cells : List Cell) (h : Here) (leaf : HeldLeaf) →
     calmed h.scratch ≡ h.scratch →
-    line_by blank added (white_rest 4 cells) (behind_columns 4 cells h) (Some leaf) ≡
+    line_by blank added (white_rest 4 cells) (after_columns 4 cells h) (Some leaf) ≡
     line_by blank (pair SpaceOrTab h.point (white_end 4 cells h.point) ++ added) cells h (Some leaf)
 columns-taken blank added cells h leaf calm =
     rw (white-ending 4 cells, white-line_end 4 cells h.point, calm) (simp append_assoc)
@@ -103,10 +104,10 @@ line-taken may begin cells h calm = go may (is_indented cells) (is_blank (line_b
     q = white_end 4 cells h.point
 
     taken : is_blank (line_bytes cells) ≡ false →
-        at_break (white_rest 4 cells) (behind_columns 4 cells (then_here begin h)) ≡
+        at_break (white_rest 4 cells) (after_columns 4 cells (then_here begin h)) ≡
         line_by false (line_adds begin cells h.point) cells h (Some held_leaf.Code)
     taken b =
-        text-break (white_rest 4 cells) (behind_columns 4 cells (then_here begin h)) (white-blank 4 cells ∙ b)
+        text-break (white_rest 4 cells) (after_columns 4 cells (then_here begin h)) (white-blank 4 cells ∙ b)
         ∙ columns-taken false (rest_events q (line_end (white_rest 4 cells) q)) cells (then_here begin h)
         held_leaf.Code calm
         ∙ begin-taken begin (pair SpaceOrTab h.point q ++ rest_events q (line_end (white_rest 4 cells) q)) cells h
@@ -124,7 +125,7 @@ line-taken may begin cells h calm = go may (is_indented cells) (is_blank (line_b
     go true false blank f k b = rw (f, k) refl
     go true true true f k b =
         rw (f, k, b)
-        (blank-break (white_rest 4 cells) (behind_columns 4 cells (then_here begin h)) (white-blank 4 cells ∙ b)
+        (blank-break (white_rest 4 cells) (after_columns 4 cells (then_here begin h)) (white-blank 4 cells ∙ b)
         ∙ ap (λ (t : Scratch). Refuses t h.flags) calm)
     go true true false f k b = rw (f, k, b) (taken b)
 
@@ -179,8 +180,8 @@ further-blank cells h true calm w b =
     let ends = is_end (line_bytes (white_rest 4 cells)) in
     ap
     (λ (x : Bool).
-    cond x (further_after (white_rest 4 cells) (behind_columns 4 cells h)) (further_after cells h)) w
-    ∙ after-blank (white_rest 4 cells) (behind_columns 4 cells h) ends (white-blank 4 cells ∙ b) refl
+    cond x (further_after (white_rest 4 cells) (after_columns 4 cells h)) (further_after cells h)) w
+    ∙ after-blank (white_rest 4 cells) (after_columns 4 cells h) ends (white-blank 4 cells ∙ b) refl
     ∙ columns-taken true (cond ends [] (pair CodeFlowChunk q (line_end (white_rest 4 cells) q))) cells h h.flags.leaf
     calm
     ∙ ap
@@ -193,7 +194,7 @@ further-blank cells h false calm w b =
     let end = dark-blank cells w ∙ b in
     ap
     (λ (x : Bool).
-    cond x (further_after (white_rest 4 cells) (behind_columns 4 cells h)) (further_after cells h)) w
+    cond x (further_after (white_rest 4 cells) (after_columns 4 cells h)) (further_after cells h)) w
     ∙ after-blank cells h true b end
     ∙ ap (λ (es : List Event). line_by true es cells h (Some h.flags.leaf)) (sym (blank-dark cells h.point w end))
 
@@ -201,7 +202,7 @@ further-blank cells h false calm w b =
 after-text : (cells : List Cell) (h : Here) → is_blank (line_bytes cells) ≡ false →
     further_after cells h ≡ Refuses h.scratch h.flags
 unfolding further_after further_inside
-after-text cells h b = rw (text-goes cells b, b) refl
+after-text cells h b = rw (text-proceeds cells b, b) refl
 
 further-text : (cells : List Cell) (h : Here) (w : Bool) → calmed h.scratch ≡ h.scratch → begins_white cells ≡ w →
     is_blank (line_bytes cells) ≡ false →
@@ -209,14 +210,14 @@ further-text : (cells : List Cell) (h : Here) (w : Bool) → calmed h.scratch �
 unfolding further_begin
 further-text cells h true calm w b =
     rw w
-    (after-text (white_rest 4 cells) (behind_columns 4 cells h) (white-blank 4 cells ∙ b)
+    (after-text (white_rest 4 cells) (after_columns 4 cells h) (white-blank 4 cells ∙ b)
     ∙ ap (λ (t : Scratch). Refuses t h.flags) calm)
 further-text cells h false calm w b = rw w (after-text cells h b)
 
 -- it is taken if it is a line of code or blank, and refused elsewhere
 pub code-on : (cells : List Cell) (h : Here) → calmed h.scratch ≡ h.scratch →
     code_further cells h ≡
-    line_by (is_blank (line_bytes cells)) (code_adds_on cells h.point) cells h (code_goes h.flags.leaf cells)
+    line_by (is_blank (line_bytes cells)) (code_adds_on cells h.point) cells h (code_continues h.flags.leaf cells)
 code-on cells h calm =
     ap (or_blank cells h) (line-taken true begin cells h calm)
     ∙ go (is_indented cells) (is_blank (line_bytes cells)) refl refl
@@ -226,7 +227,7 @@ code-on cells h calm =
 
     go : (indented blank : Bool) → is_indented cells ≡ indented → is_blank (line_bytes cells) ≡ blank →
         or_blank cells h (line_by false (line_adds begin cells h.point) cells h (line_keeps true cells)) ≡
-        line_by (is_blank (line_bytes cells)) (code_adds_on cells h.point) cells h (code_goes h.flags.leaf cells)
+        line_by (is_blank (line_bytes cells)) (code_adds_on cells h.point) cells h (code_continues h.flags.leaf cells)
     go true true k b = rw (k, b) (further-blank cells h (begins_white cells) calm refl b)
     go false true k b = rw (k, b) (further-blank cells h (begins_white cells) calm refl b)
     go true false k b = rw (k, b) refl

@@ -31,12 +31,12 @@ pub record SameLine (cells rest : List Cell) (p q : Point) : Type 0 where
 
 pub line-run : (t : ℕ → Bool) → ((b : ℕ) → t b ≡ true → nat_eq b 10 ≡ false) → (cells : List Cell) (p : Point) →
     SameLine cells (run_rest t cells) p (run_end t cells p)
-line-run t goes [] p = record { end = refl; from = refl }
-line-run t goes (c ∷ cs) p = go (t c.byte) refl (line-run t goes cs c.after)
+line-run t proceeds [] p = record { end = refl; from = refl }
+line-run t proceeds (c ∷ cs) p = go (t c.byte) refl (line-run t proceeds cs c.after)
   where
     go : (x : Bool) → t c.byte ≡ x → SameLine cs (run_rest t cs) c.after (run_end t cs c.after) →
         SameLine (c ∷ cs) (cond x (run_rest t cs) (c ∷ cs)) p (cond x (run_end t cs c.after) p)
-    go true e next = record { end = rw (goes c.byte e) next.end; from = rw (goes c.byte e) next.from }
+    go true e next = record { end = rw (proceeds c.byte e) next.end; from = rw (proceeds c.byte e) next.from }
     go false e next = record { end = refl; from = refl }
 
 pub line-white : (room : ℕ) (cells : List Cell) (p : Point) →
@@ -47,7 +47,11 @@ line-white (suc room) (c ∷ cs) p = go (is_white c.byte) refl (line-white room 
   where
     go : (x : Bool) → is_white c.byte ≡ x → SameLine cs (white_rest room cs) c.after (white_end room cs c.after) →
         SameLine (c ∷ cs) (cond x (white_rest room cs) (c ∷ cs)) p (cond x (white_end room cs c.after) p)
-    go true e next = record { end = rw (white-no_ending c.byte e) next.end; from = rw (white-no_ending c.byte e) next.from }
+    go true e next = record {
+      end = rw (white-no_ending c.byte e) next.end;
+      from =
+          rw (white-no_ending c.byte e) next.from;
+    }
     go false e next = record { end = refl; from = refl }
 
 -- where it ends here
@@ -156,8 +160,8 @@ end-blank (suc room) (c ∷ cs) le = go (is_white c.byte) refl (end-blank room c
 pub marker-dark : (m b : ℕ) → may_begin m ≡ true → nat_eq b m ≡ true → is_white b ≡ false
 marker-dark m b e f = grind (arith, nat_tests)
 
-pub marker-goes : (m b : ℕ) → may_begin m ≡ true → nat_eq b m ≡ true → nat_eq b 10 ≡ false
-marker-goes m b e f = grind (arith, nat_tests)
+pub marker-proceeds : (m b : ℕ) → may_begin m ≡ true → nat_eq b m ≡ true → nat_eq b 10 ≡ false
+marker-proceeds m b e f = grind (arith, nat_tests)
 
 pub marker-ten : (m : ℕ) → may_begin m ≡ true → nat_eq 10 m ≡ false
 marker-ten m e = grind (arith, nat_tests)
@@ -206,15 +210,15 @@ closing-spread m size line bytes q stop is some h k short =
     left : List ℕ
     left = drop (run_len m bytes) bytes
 
-    behind : Point
-    behind = past_text (take (run_len m bytes) bytes) q
+    following : Point
+    following = past_text (take (run_len m bytes) bytes) q
 
     ends : is_end (white_rest any_size (run_rest (λ b. b == m) cells)) ≡ is_blank left
     ends =
         let le = run-length (λ b. b == m) cells in
         end-blank any_size (run_rest (λ b. b == m) cells) (omega (arith, le, short))
         ∙ ap (λ (l : List Cell). is_blank (line_bytes l)) run.rest
-        ∙ blank-spread line left behind stop (no_ending-drop (run_len m bytes) bytes h) k
+        ∙ blank-spread line left following stop (no_ending-drop (run_len m bytes) bytes h) k
 
     Same : Option ℕ → ℕ → Bool → Type 0
     Same o n x = (is_current m o && nat_le size n && x) ≡ (nat_le size n && x)

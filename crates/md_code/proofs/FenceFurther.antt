@@ -14,17 +14,17 @@ use Rattle.md_engine.specs.declared.tokenizer.held_leaf.HeldLeaf.{HeldLeaf}
 use Rattle.md_engine.specs.declared.tokenizer.held_leaf.HeldLeaf.TheVariants as held_leaf
 use Rattle.md_engine.specs.Meaning.{Cell}
 use Rattle.md_meaning.specs.Leaves.{closes}
-use Rattle.md_meaning.specs.Rest.{Rest, behind_indent, has_small_indent, indent, is_blank, is_white, lose, run_len}
+use Rattle.md_meaning.specs.Rest.{Rest, after_indent, has_small_indent, indent, is_blank, is_white, lose, run_len}
 use Rattle.md_meaning.specs.Rest.{trim_start}
 use Rattle.md_meaning.specs.State.{Opening}
 use Rattle.md_meaning.proofs.TextsLemmas.{NoEnding, no_ending-drop}
 use Rattle.md_code.specs.Fence.{block_name, chunk_name, held_indent, held_marker, may_begin}
-use Rattle.md_code.specs.FenceLine.{chunk_events, closes_here, closing_end, fence_goes, further_end, further_events}
-use Rattle.md_code.specs.FenceLine.{further_inside, further_rest, is_closing, spaces}
+use Rattle.md_code.specs.FenceLine.{chunk_events, closes_here, closing_end, fence_continues, further_end}
+use Rattle.md_code.specs.FenceLine.{further_events, further_inside, further_rest, is_closing, spaces}
 use Rattle.md_code.specs.FenceRule.{is_end, is_line, run_end, run_rest, run_size}
 use Rattle.md_leaves.specs.Further.{further_link}
 use Rattle.md_code.proofs.FenceCells.{closing-spread, first-spread, line-all, line-done, line-run, line-white}
-use Rattle.md_code.proofs.FenceCells.{marker-dark, marker-goes}
+use Rattle.md_code.proofs.FenceCells.{marker-dark, marker-proceeds}
 use Rattle.md_events.specs.Ahead.{begins_white, from_ending, line_end, white_end, white_rest}
 use Rattle.md_events.specs.Events.Nested.{enter_link, exit, pair}
 use Rattle.md_events.specs.Look.{first_seen}
@@ -75,10 +75,10 @@ further-end options leaf cells p is = go (closes_here options leaf cells) refl
         (cond x last (run_rest is_line (white_rest lost cells)) ≡ from_ending cells)
     go true e =
         let first = line-white room cells p in
-        let run = line-run (λ b. b == m) (λ b. marker-goes m b is) rest q in
-        let behind = line-white any_size left (run_end (λ b. b == m) rest q) in
+        let run = line-run (λ b. b == m) (λ b. marker-proceeds m b is) rest q in
+        let following = line-white any_size left (run_end (λ b. b == m) rest q) in
         let done = line-done last (closing_end m rest q) (third (is_current m (first_seen rest)) _ (is_end last) e) in
-        (sym done.0 ∙ behind.end ∙ run.end ∙ first.end, sym done.1 ∙ behind.from ∙ run.from ∙ first.from)
+        (sym done.0 ∙ following.end ∙ run.end ∙ first.end, sym done.1 ∙ following.from ∙ run.from ∙ first.from)
     go false e =
         let first = line-white lost cells p in
         let all = line-all (white_rest lost cells) (white_end lost cells p) in
@@ -87,32 +87,32 @@ further-end options leaf cells p is = go (closes_here options leaf cells) refl
 -- The indent.
 
 -- the cells after a small indent are those of the bytes after it
-pub record Behind (options : ParseOptions) (line : Line) (text behind : List ℕ) (r : Rest) (p : Point)
+pub record Following (options : ParseOptions) (line : Line) (text following : List ℕ) (r : Rest) (p : Point)
     (stop : List Cell) : Type 0 where
   pub cells : white_rest (small_indent options) (rest_cells line r p ++ stop) ≡
       spread line (trim_start r.bytes) (white_end (small_indent options) (rest_cells line r p ++ stop) p) ++ stop
-  pub stands : RestAt text behind (behind_indent r) (white_end (small_indent options) (rest_cells line r p ++ stop) p)
-  pub ends : past_rest (behind_indent r) (white_end (small_indent options) (rest_cells line r p ++ stop) p) ≡
+  pub valid : RestAt text following (after_indent r) (white_end (small_indent options) (rest_cells line r p ++ stop) p)
+  pub ends : past_rest (after_indent r) (white_end (small_indent options) (rest_cells line r p ++ stop) p) ≡
       past_rest r p
-  pub none : indent (behind_indent r) ≡ 0
+  pub none : indent (after_indent r) ≡ 0
 
-pub small-behind : (options : ParseOptions) (line : Line) (text behind : List ℕ) (r : Rest) (p : Point)
+pub small-following : (options : ParseOptions) (line : Line) (text following : List ℕ) (r : Rest) (p : Point)
     (stop : List Cell) →
-    RestAt text behind r p → Stops stop → length (rest_cells line r p ++ stop) < 2 ^ 63 →
-    has_small_indent options r ≡ true → Behind options line text behind r p stop
-small-behind options line text behind r p stop is k short small =
-    let columns = indent-length line text behind r p is in
+    RestAt text following r p → Stops stop → length (rest_cells line r p ++ stop) < 2 ^ 63 →
+    has_small_indent options r ≡ true → Following options line text following r p stop
+small-following options line text following r p stop is k short small =
+    let columns = indent-length line text following r p is in
     let sum = length-append (rest_cells line r p) stop in
     let room = small-room options r (length (rest_cells line r p ++ stop)) small (omega (arith, columns, sum)) short in
-    let taken = indent-taken line text behind (small_indent options) r p stop is k room in
+    let taken = indent-taken line text following (small_indent options) r p stop is k room in
     let q = white_end (small_indent options) (rest_cells line r p ++ stop) p in
     record {
       cells =
           taken.cells
           ∙ ap (λ (l : List Cell). l ++ stop)
-          (bare-spread line (behind_indent r) q taken.none
+          (bare-spread line (after_indent r) q taken.none
           ∙ ap (λ (bytes : List ℕ). spread line bytes q) (indent-trims r taken.none));
-      stands = taken.stands;
+      valid = taken.valid;
       ends = taken.ends;
       none = taken.none;
     }
@@ -131,12 +131,13 @@ closing-white m size (c ∷ cs) is e = go (c.byte == m) refl
     go true f = let bad : true ≡ false = sym e ∙ marker-dark m c.byte is f in cc
     go false f = refl
 
-pub closes-agrees : (options : ParseOptions) (o : Opening) (line : Line) (text behind : List ℕ) (r : Rest) (p : Point)
+pub closes-agrees : (options : ParseOptions) (o : Opening) (line : Line) (text following : List ℕ)
+    (r : Rest) (p : Point)
     (stop : List Cell) →
-    may_begin o.marker ≡ true → 1 ≤ o.size → RestAt text behind r p → NoEnding r.bytes → Stops stop →
+    may_begin o.marker ≡ true → 1 ≤ o.size → RestAt text following r p → NoEnding r.bytes → Stops stop →
     length (rest_cells line r p ++ stop) < 2 ^ 63 →
     closes_here options (held_leaf.Fence o.marker o.size o.indent) (rest_cells line r p ++ stop) ≡ closes options o r
-closes-agrees options o line text behind r p stop marker some is h k short = go (has_small_indent options r) refl
+closes-agrees options o line text following r p stop marker some is h k short = go (has_small_indent options r) refl
   where
     cells : List Cell
     cells = rest_cells line r p ++ stop
@@ -146,7 +147,7 @@ closes-agrees options o line text behind r p stop marker some is h k short = go 
         (x && nat_le o.size (run_len o.marker (trim_start r.bytes))
         && is_blank (drop (run_len o.marker (trim_start r.bytes)) (trim_start r.bytes)))
     go true small =
-        let taken = small-behind options line text behind r p stop is k short small in
+        let taken = small-following options line text following r p stop is k short small in
         let le = white-length (small_indent options) cells in
         let same = ap length taken.cells in
         ap (is_closing o.marker o.size) taken.cells
@@ -154,7 +155,7 @@ closes-agrees options o line text behind r p stop marker some is h k short = go 
         (no_ending-drop (prefix_len is_white r.bytes) r.bytes h) k (omega (arith, le, same, short))
     go false large =
         closing-white o.marker o.size (white_rest (small_indent options) cells) marker
-        (indent-over line text behind (small_indent options) r p stop is (large-room options r large))
+        (indent-over line text following (small_indent options) r p stop is (large-room options r large))
 
 -- What the line has left.
 
@@ -194,10 +195,10 @@ nothing-end line r p stop h k = go r.spaces r.bytes h
     go zero [] e = stops stop k
     go zero (b ∷ bs) e = ap ends_line (first-spread line b bs p stop) ∙ dark b e.0
 
-pub chunk-agrees : (m : ℕ) (line : Line) (text behind : List ℕ) (r : Rest) (p : Point) (stop : List Cell) →
-    RestAt text behind r p → NoEnding r.bytes → Stops stop →
+pub chunk-agrees : (m : ℕ) (line : Line) (text following : List ℕ) (r : Rest) (p : Point) (stop : List Cell) →
+    RestAt text following r p → NoEnding r.bytes → Stops stop →
     chunk_events m (rest_cells line r p ++ stop) p ≡ left_part m r p
-chunk-agrees m line text behind r p stop is h k =
+chunk-agrees m line text following r p stop is h k =
     ap
     (λ (q : Point).
     cond (is_end (rest_cells line r p ++ stop)) [] (pair (chunk_name m) p q))
@@ -207,13 +208,13 @@ chunk-agrees m line text behind r p stop is h k =
 -- A further line: by its cells the block ends where the definition has a closing fence. All of the line is taken, and
 -- it adds one linked pair. In the pair of any other line is what is left of it there, and so much whitespace in front
 -- as it loses.
-pub record FurtherAgrees (options : ParseOptions) (o : Opening) (line : Line) (text behind : List ℕ) (r : Rest)
+pub record FurtherAgrees (options : ParseOptions) (o : Opening) (line : Line) (text following : List ℕ) (r : Rest)
     (p : Point) (stop : List Cell) : Type 0 where
-  pub goes : fence_goes options (held_leaf.Fence o.marker o.size o.indent) (rest_cells line r p ++ stop) ≡
+  pub proceeds : fence_continues options (held_leaf.Fence o.marker o.size o.indent) (rest_cells line r p ++ stop) ≡
       cond (closes options o r) held_leaf.None (held_leaf.Fence o.marker o.size o.indent)
   -- where what is left of the line begins
   pub at : Point
-  pub stands : RestAt text behind (lose o.indent r) at
+  pub valid : RestAt text following (lose o.indent r) at
   pub adds : further_events options (held_leaf.Fence o.marker o.size o.indent) (rest_cells line r p ++ stop) p ≡
       (enter_link (block_name o.marker) p further_link
       ∷ further_inside options (held_leaf.Fence o.marker o.size o.indent) (rest_cells line r p ++ stop) p
@@ -225,22 +226,23 @@ pub record FurtherAgrees (options : ParseOptions) (o : Opening) (line : Line) (t
       past_rest r p
   pub rest : further_rest options (held_leaf.Fence o.marker o.size o.indent) (rest_cells line r p ++ stop) ≡ stop
 
-pub further-agrees : (options : ParseOptions) (o : Opening) (line : Line) (text behind : List ℕ) (r : Rest) (p : Point)
+pub further-agrees : (options : ParseOptions) (o : Opening) (line : Line) (text following : List ℕ)
+    (r : Rest) (p : Point)
     (stop : List Cell) →
-    may_begin o.marker ≡ true → 1 ≤ o.size → RestAt text behind r p → NoEnding r.bytes → Stops stop →
-    length (rest_cells line r p ++ stop) < 2 ^ 63 → FurtherAgrees options o line text behind r p stop
-further-agrees options o line text behind r p stop marker some is h k short =
+    may_begin o.marker ≡ true → 1 ≤ o.size → RestAt text following r p → NoEnding r.bytes → Stops stop →
+    length (rest_cells line r p ++ stop) < 2 ^ 63 → FurtherAgrees options o line text following r p stop
+further-agrees options o line text following r p stop marker some is h k short =
     let cells : List Cell = rest_cells line r p ++ stop in
     let leaf : HeldLeaf = held_leaf.Fence o.marker o.size o.indent in
-    let closed = closes-agrees options o line text behind r p stop marker some is h k short in
-    let lost = lose-walk line text behind o.indent r p stop is k in
+    let closed = closes-agrees options o line text following r p stop marker some is h k short in
+    let lost = lose-walk line text following o.indent r p stop is k in
     let q = white_end o.indent cells p in
     let end = further-end options leaf cells p marker in
     let ends = end.0 ∙ rest-past line r p stop h k (omega (arith, is.column)) in
     record {
-      goes = ap (λ (x : Bool). cond x held_leaf.None leaf) closed;
+      proceeds = ap (λ (x : Bool). cond x held_leaf.None leaf) closed;
       at = q;
-      stands = lost.stands;
+      valid = lost.valid;
       adds =
           ap
           (λ (x : Point).
@@ -250,7 +252,7 @@ further-agrees options o line text behind r p stop marker some is h k short =
           rw (closed ∙ e)
           (ap (λ (l : List Cell). spaces o.indent cells p ++ chunk_events o.marker l q) lost.left
           ∙ ap (λ (es : List Event). spaces o.indent cells p ++ es)
-          (chunk-agrees o.marker line text behind (lose o.indent r) q stop lost.stands
+          (chunk-agrees o.marker line text following (lose o.indent r) q stop lost.valid
           (lose-no_ending o.indent r h) k));
       ends = ends;
       rest = end.1 ∙ rest-from line r p stop h k;

@@ -26,14 +26,14 @@ use Rattle.md_engine.proofs.StepOf.{begins, moves, passes, steps-as}
 use Rattle.md_meaning.specs.Leaves.{is_fence_marker, least_size}
 use Rattle.md_meaning.specs.Rest.{is_white}
 use Rattle.md_code.specs.Fence.{FenceInvariant, after_transition, at_non_lazy_break_code, before_chunk_code}
-use Rattle.md_code.specs.Fence.{before_close_code, before_open, before_open_code, behind_part, block_name, chunk_code}
+use Rattle.md_code.specs.Fence.{before_close_code, before_open, before_open_code, after_part, block_name, chunk_code}
 use Rattle.md_code.specs.Fence.{chunk_name, cleared, close_after_code, close_start_code, content_start_code, ends_word}
 use Rattle.md_code.specs.Fence.{fence_name, fence_ready, fence_transition, held_indent, held_marker, held_size}
 use Rattle.md_code.specs.Fence.{info_before_code, info_code, is_on, is_refused, line_entered, may_close}
 use Rattle.md_code.specs.Fence.{meta_before_code, meta_code, meta_name, sees_refused, sequence_close_code}
 use Rattle.md_code.specs.Fence.{sequence_name, sequence_open_code, start_code, string_link}
 use Rattle.md_code.specs.FenceRule.{FenceMeans, HasFence, before_chunk, before_close, before_info, before_meta}
-use Rattle.md_code.specs.FenceRule.{before_sequence, behind_sequence, behind_white_of, block_begun, close_at, close_end}
+use Rattle.md_code.specs.FenceRule.{before_sequence, after_sequence, after_white_of, block_begun, close_at, close_end}
 use Rattle.md_code.specs.FenceRule.{closed_or_content, content_at, fence_at, further_at, in_chunk, in_close, in_info}
 use Rattle.md_code.specs.FenceRule.{in_meta, in_sequence, is_end, is_line, is_word, line_begun, line_done, opens}
 use Rattle.md_code.specs.FenceRule.{part_begun, part_ended, refuses, run_end, run_has, run_rest, run_size, with_event}
@@ -125,14 +125,14 @@ two-more es a b = append_assoc es (a ∷ []) (b ∷ [])
 -- After whitespace.
 
 white-steps : (B : Behaviour) (feed : Feed) (from next : StateName) (w : World) (events added : List Event)
-    (s : Scratch) (room : ℕ) (behind : List Cell → Here → Outcome) → Sees feed w →
+    (s : Scratch) (room : ℕ) (following : List Cell → Here → Outcome) → Sees feed w →
     HasFence B w.setting.options → events ≡ w.events ++ added → 1 ≤ room → sees_white w.current ≡ true →
-    ((cells : List Cell) (h : Here) → B next cells h ≡ behind cells h) →
+    ((cells : List Cell) (h : Here) → B next cells h ≡ following cells h) →
     B from (feed w.point) (here w) ≡
-    behind_white_of room behind (feed w.point) (here (record w { events = events; scratch = s })) →
+    after_white_of room following (feed w.point) (here (record w { events = events; scratch = s })) →
     Steps B feed (Next from) w (white_then (record w { events = events; scratch = s }) 0 room (Next next) Nok).to
     (white_then (record w { events = events; scratch = s }) 0 room (Next next) Nok).world
-white-steps B feed from next w events added s room behind saw has e some f next_is from_is =
+white-steps B feed from next w events added s room following saw has e some f next_is from_is =
     let h : Here = here (record w { events = events; scratch = s }) in
     let frame : Frame = white_frame (Next next) w events in
     let white : begins_white (feed w.point) ≡ true = begins-seen feed w saw ∙ f in
@@ -143,30 +143,30 @@ white-steps B feed from next w events added s room behind saw has e some f next_
 
 -- and where none is
 none-steps : (B : Behaviour) (feed : Feed) (from next : StateName) (w : World) (events added : List Event)
-    (s : Scratch) (room : ℕ) (behind : List Cell → Here → Outcome) → Sees feed w →
+    (s : Scratch) (room : ℕ) (following : List Cell → Here → Outcome) → Sees feed w →
     events ≡ w.events ++ added → sees_white w.current ≡ false →
-    ((cells : List Cell) (h : Here) → B next cells h ≡ behind cells h) →
+    ((cells : List Cell) (h : Here) → B next cells h ≡ following cells h) →
     B from (feed w.point) (here w) ≡
-    behind_white_of room behind (feed w.point) (here (record w { events = events; scratch = s })) →
+    after_white_of room following (feed w.point) (here (record w { events = events; scratch = s })) →
     Steps B feed (Next from) w (Retry next) (record w { events = events; scratch = s })
-none-steps B feed from next w events added s room behind saw e f next_is from_is =
+none-steps B feed from next w events added s room following saw e f next_is from_is =
     let none : begins_white (feed w.point) ≡ false = begins-seen feed w saw ∙ f in
     moves B feed _ _ w (record w { events = events; scratch = s }) added refl e
     (from_is ∙ rw none (sym (next_is _ _)))
 
 part-steps : (B : Behaviour) (feed : Feed) (from : StateName) (state : RawState) (w : World)
-    (events added : List Event) (s : Scratch) (behind : List Cell → Here → Outcome) (x : Bool) → Sees feed w →
+    (events added : List Event) (s : Scratch) (following : List Cell → Here → Outcome) (x : Bool) → Sees feed w →
     HasFence B w.setting.options → events ≡ w.events ++ added → sees_white w.current ≡ x →
-    ((cells : List Cell) (h : Here) → B (n.RawFlow state) cells h ≡ behind cells h) →
+    ((cells : List Cell) (h : Here) → B (n.RawFlow state) cells h ≡ following cells h) →
     B from (feed w.point) (here w) ≡
-    behind_white_of any_size behind (feed w.point) (here (record w { events = events; scratch = s })) →
-    Steps B feed (Next from) w (behind_part (record w { events = events; scratch = s }) state x).to
-    (behind_part (record w { events = events; scratch = s }) state x).world
-part-steps B feed from state w events added s behind true saw has e f next_is from_is =
-    white-steps B feed from (n.RawFlow state) w events added s any_size behind saw has e (omega arith) f next_is
+    after_white_of any_size following (feed w.point) (here (record w { events = events; scratch = s })) →
+    Steps B feed (Next from) w (after_part (record w { events = events; scratch = s }) state x).to
+    (after_part (record w { events = events; scratch = s }) state x).world
+part-steps B feed from state w events added s following true saw has e f next_is from_is =
+    white-steps B feed from (n.RawFlow state) w events added s any_size following saw has e (omega arith) f next_is
     from_is
-part-steps B feed from state w events added s behind false saw has e f next_is from_is =
-    none-steps B feed from (n.RawFlow state) w events added s any_size behind saw e f next_is from_is
+part-steps B feed from state w events added s following false saw has e f next_is from_is =
+    none-steps B feed from (n.RawFlow state) w events added s any_size following saw e f next_is from_is
 
 -- The opening line.
 
@@ -177,7 +177,7 @@ start-off options cells h e = rw e refl
 
 start-on : (options : ParseOptions) (cells : List Cell) (h : Here) → is_on options ≡ true →
     fence_at options cells h ≡
-    behind_white_of (small_indent options) (before_sequence options) cells
+    after_white_of (small_indent options) (before_sequence options) cells
     (record h { scratch = record h.scratch { size_c = h.point.column } })
 unfolding fence_at
 start-on options cells h e = rw e refl
@@ -271,7 +271,7 @@ sequence-few cells h e few =
 sequence-done : (cells : List Cell) (h : Here) → is_current h.scratch.marker (first_seen cells) ≡ false →
     nat_lt h.scratch.size (least_size h.scratch.marker) ≡ false →
     in_sequence cells h ≡
-    behind_white_of any_size (behind_sequence h.scratch.marker) cells
+    after_white_of any_size (after_sequence h.scratch.marker) cells
     (with_event h (exit (sequence_name h.scratch.marker) h.point))
 unfolding in_sequence
 sequence-done cells h e few =
@@ -303,24 +303,24 @@ sequence_means B feed w false false z has s e f g =
     events = w.events ++ exit (sequence_name w.scratch.marker) w.point ∷ []
 
     done : B (n.RawFlow its.SequenceOpen) (feed w.point) (here w) ≡
-        behind_white_of any_size (behind_sequence w.scratch.marker) (feed w.point)
+        after_white_of any_size (after_sequence w.scratch.marker) (feed w.point)
         (here (record w { events = events; scratch = w.scratch }))
     done =
         has.each its.SequenceOpen _ _
         ∙ sequence-done (feed w.point) (here w) (ap (is_current w.scratch.marker) (first-seen feed w s) ∙ e) f
 
-    gone_on : RawState → Transition
-    gone_on state = behind_part (record w { events = events; scratch = w.scratch }) state z
+    taken_prefixes : RawState → Transition
+    taken_prefixes state = after_part (record w { events = events; scratch = w.scratch }) state z
 
     go : (math : Bool) → nat_eq w.scratch.marker 36 ≡ math →
-        Steps B feed (Next (n.RawFlow its.SequenceOpen)) w (gone_on (cond math its.MetaBefore its.InfoBefore)).to
-        (gone_on (cond math its.MetaBefore its.InfoBefore)).world
+        Steps B feed (Next (n.RawFlow its.SequenceOpen)) w (taken_prefixes (cond math its.MetaBefore its.InfoBefore)).to
+        (taken_prefixes (cond math its.MetaBefore its.InfoBefore)).world
     go true k =
         part-steps B feed _ its.MetaBefore w events (exit (sequence_name w.scratch.marker) w.point ∷ []) w.scratch
-        (behind_sequence w.scratch.marker) z s has refl g (λ cells h. has.each its.MetaBefore cells h ∙ rw k refl) done
+        (after_sequence w.scratch.marker) z s has refl g (λ cells h. has.each its.MetaBefore cells h ∙ rw k refl) done
     go false k =
         part-steps B feed _ its.InfoBefore w events (exit (sequence_name w.scratch.marker) w.point ∷ []) w.scratch
-        (behind_sequence w.scratch.marker) z s has refl g (λ cells h. has.each its.InfoBefore cells h ∙ rw k refl) done
+        (after_sequence w.scratch.marker) z s has refl g (λ cells h. has.each its.InfoBefore cells h ∙ rw k refl) done
 
 info-end : (cells : List Cell) (h : Here) → is_end cells ≡ true → before_info cells h ≡ opens cells h
 unfolding before_info
@@ -401,7 +401,7 @@ unfolding in_info
 info-bad c cs h e f = rw (e, f) refl
 
 info-done : (cells : List Cell) (h : Here) → ends_word (first_seen cells) ≡ true →
-    in_info cells h ≡ behind_white_of any_size before_meta cells (part_ended part.CodeFencedFenceInfo h.point h)
+    in_info cells h ≡ after_white_of any_size before_meta cells (part_ended part.CodeFencedFenceInfo h.point h)
 unfolding in_info
 info-done cells h e =
     let none = run-none is_word cells h.point (word-first (first_seen cells) e) in
@@ -554,7 +554,7 @@ further_means B feed w false has s is e =
     ∙ sym (has.each its.ContentStart _ _))
 
 close-is : (options : ParseOptions) (cells : List Cell) (h : Here) →
-    close_at options cells h ≡ behind_white_of (small_indent options) before_close cells h
+    close_at options cells h ≡ after_white_of (small_indent options) before_close cells h
 unfolding close_at
 close-is options cells h = refl
 
@@ -624,7 +624,7 @@ close-few cells h e few =
 close-done : (cells : List Cell) (h : Here) → is_current h.scratch.marker (first_seen cells) ≡ false →
     nat_lt h.scratch.size (held_size h.flags.leaf) ≡ false →
     in_close cells h ≡
-    behind_white_of any_size close_end cells
+    after_white_of any_size close_end cells
     (record (with_event h (exit (sequence_name h.scratch.marker) h.point)) { scratch = cleared h.scratch })
 unfolding in_close
 close-done cells h e few =
@@ -677,7 +677,7 @@ close_after_means B feed w false has s e =
     ∙ close-end (feed w.point) (here w) false (ap ends_line (first-seen feed w s) ∙ e))
 
 content-white : (cells : List Cell) (h : Here) → nat_lt 0 (held_indent h.flags.leaf) ≡ true →
-    begins_white cells ≡ true → content_at cells h ≡ behind_white_of (held_indent h.flags.leaf) before_chunk cells h
+    begins_white cells ≡ true → content_at cells h ≡ after_white_of (held_indent h.flags.leaf) before_chunk cells h
 unfolding content_at
 content-white cells h e f = rw (e, f) refl
 

@@ -15,16 +15,16 @@ use Rattle.md_meaning.specs.Leaves.{is_fence_marker, least_size}
 use Rattle.md_meaning.specs.Rest.{is_white}
 use Rattle.md_code.specs.Fence.{block_name, cleared, fence_name, is_on, is_refused, may_begin, sequence_name}
 use Rattle.md_code.specs.FenceLine.{fence_begins, fence_by, fence_opened, info_events, is_opening, marker_at}
-use Rattle.md_code.specs.FenceLine.{meta_events, open_events, behind_events}
-use Rattle.md_code.specs.FenceRule.{before_info, before_meta, before_sequence, behind_sequence, behind_white_of}
+use Rattle.md_code.specs.FenceLine.{meta_events, open_events, after_events}
+use Rattle.md_code.specs.FenceRule.{before_info, before_meta, before_sequence, after_sequence, after_white_of}
 use Rattle.md_code.specs.FenceRule.{block_begun, fence_at, in_info, in_meta, in_sequence, is_end, is_line, is_word}
 use Rattle.md_code.specs.FenceRule.{opens, part_begun, part_ended, refuses, run_end, run_has, run_rest, run_size}
 use Rattle.md_code.specs.FenceRule.{with_event}
-use Rattle.md_code.proofs.FenceCells.{SameLine, line-all, line-done, line-run, line-white, marker-dark, marker-goes}
+use Rattle.md_code.proofs.FenceCells.{SameLine, line-all, line-done, line-run, line-white, marker-dark, marker-proceeds}
 use Rattle.md_code.proofs.FenceCells.{run-length}
 use Rattle.md_code.proofs.FenceTermination.{rest-clear}
 use Rattle.md_code.proofs.FenceMeaning.{line-first, run-has-none}
-use Rattle.md_code.proofs.FenceWhole.{behind_spaces, white-joined}
+use Rattle.md_code.proofs.FenceWhole.{after_spaces, white-joined}
 use Rattle.md_events.specs.Ahead.{begins_white, from_ending, line_end, white_rest}
 use Rattle.md_events.specs.Events.Nested.{exit}
 use Rattle.md_events.specs.Look.{first_seen}
@@ -38,8 +38,8 @@ use Rattle.md_events.proofs.SpacesTermination.{rest-calm, rest-size}
 -- a run, and what follows it
 pub has-run : (bad t : ℕ → Bool) → ((b : ℕ) → t b ≡ true → is_line b ≡ true) → (cells : List Cell) →
     run_has bad is_line cells ≡ (run_has bad t cells || run_has bad is_line (run_rest t cells))
-has-run bad t goes [] = refl
-has-run bad t goes (c ∷ cs) = go (t c.byte) refl (has-run bad t goes cs)
+has-run bad t proceeds [] = refl
+has-run bad t proceeds (c ∷ cs) = go (t c.byte) refl (has-run bad t proceeds cs)
   where
     by : (x : Bool) → run_has bad is_line cs ≡ (run_has bad t cs || run_has bad is_line (run_rest t cs)) →
         cond x true (run_has bad is_line cs) ≡
@@ -52,7 +52,7 @@ has-run bad t goes (c ∷ cs) = go (t c.byte) refl (has-run bad t goes cs)
         run_has bad is_line (c ∷ cs) ≡
         (cond x (cond (bad c.byte) true (run_has bad t cs)) false
         || run_has bad is_line (cond x (run_rest t cs) (c ∷ cs)))
-    go true e next = rw (goes c.byte e) (by (bad c.byte) next)
+    go true e next = rw (proceeds c.byte e) (by (bad c.byte) next)
     go false e next = refl
 
 white-line : (b : ℕ) → is_white b ≡ true → is_line b ≡ true
@@ -167,8 +167,8 @@ info-whole cells k dark is calm short = go (is_end cells) refl
     word : Here
     word = part_ended part.CodeFencedFenceInfo q (part_begun part.CodeFencedFenceInfo k)
 
-    behind : Here
-    behind = behind_spaces any_size left word
+    following : Here
+    following = after_spaces any_size left word
 
     parts : bad ≡ (run_has (is_refused m) is_word cells || run_has (is_refused m) is_line last)
     parts =
@@ -179,20 +179,21 @@ info-whole cells k dark is calm short = go (is_end cells) refl
     on : SameLine cells left k.point q
     on = line-run is_word (λ b e. not-ten b (word-line b e)) cells k.point
 
-    ends : line_end last behind.point ≡ line_end cells k.point
+    ends : line_end last following.point ≡ line_end cells k.point
     ends = (line-white any_size left q).end ∙ on.end
 
     from : from_ending last ≡ from_ending cells
     from = (line-white any_size left q).from ∙ on.from
 
-    meta : before_meta last behind ≡
+    meta : before_meta last following ≡
         cond (run_has (is_refused m) is_line last) (refuses k)
-        (opened_at (meta_events m last behind.point) last behind)
+        (opened_at (meta_events m last following.point) last following)
     meta =
-        let le = run-length is_word cells in meta-whole last behind (white-all any_size left (omega (arith, le, short)))
+        let le = run-length is_word cells in meta-whole last following
+        (white-all any_size left (omega (arith, le, short)))
 
     opened : is_end cells ≡ false →
-        opened_at (meta_events m last behind.point) last behind ≡ opened_at (info_events m cells k.point) cells k
+        opened_at (meta_events m last following.point) last following ≡ opened_at (info_events m cells k.point) cells k
     opened e =
         rw (e, ends, from) (ap (λ (es : List Event). opened_with es cells k) (simp append_assoc))
 
@@ -209,7 +210,7 @@ info-whole cells k dark is calm short = go (is_end cells) refl
       where
         begins : is_end cells ≡ false →
             before_info cells k ≡
-            cond (run_has (is_refused m) is_word cells) (refuses k) (behind_white_of any_size before_meta left word)
+            cond (run_has (is_refused m) is_word cells) (refuses k) (after_white_of any_size before_meta left word)
         begins e = rw (e, dark) refl
 
         either : (x y : Bool) →
@@ -228,7 +229,7 @@ sized size k = record k { scratch = record k.scratch { size = size } }
 abbrev sequence_events : ℕ → List Cell → Point → List Event
 sequence_events m cells p =
     let q = run_end (λ b. b == m) cells p in
-    exit (sequence_name m) q ∷ behind_events m (run_rest (λ b. b == m) cells) q
+    exit (sequence_name m) q ∷ after_events m (run_rest (λ b. b == m) cells) q
     ++ exit (fence_name m) (line_end cells p) ∷ exit (block_name m) (line_end cells p) ∷ []
 
 sequence-whole : (cells : List Cell) (k : Here) → k.scratch.size ≡ 0 → may_begin k.scratch.marker ≡ true →
@@ -242,9 +243,9 @@ unfolding in_sequence
 sequence-whole cells k none is calm short =
     rw sum
     (ap (cond few (refuses k))
-    (white-joined any_size (behind_sequence m) left begun
+    (white-joined any_size (after_sequence m) left begun
     (ap (λ (s : Scratch). record s { size = size }) calm) (omega arith)
-    ∙ behind (m == 36)
+    ∙ following (m == 36)
     ∙ ap (cond (run_has (is_refused m) is_line last) (refuses k)) opened
     ∙ ap (λ (x : Bool). cond x (refuses k) taken)
     (has-white (is_refused m) (λ b e. refused-dark m b is e) any_size left))
@@ -278,7 +279,7 @@ sequence-whole cells k none is calm short =
     }
 
     end : Here
-    end = behind_spaces any_size left begun
+    end = after_spaces any_size left begun
 
     taken : Outcome
     taken = opened_with (k.events ++ sequence_events m cells k.point) cells (sized size k)
@@ -289,11 +290,11 @@ sequence-whole cells k none is calm short =
     dark : begins_white last ≡ false
     dark = let le = run-length (λ b. b == m) cells in white-all any_size left (omega (arith, le, short))
 
-    behind : (math : Bool) →
+    following : (math : Bool) →
         cond math (before_meta last end) (before_info last end) ≡
         cond (run_has (is_refused m) is_line last) (refuses k) (opened_at (parts math) last end)
-    behind true = meta-whole last end dark
-    behind false =
+    following true = meta-whole last end dark
+    following false =
         let le = run-length (λ b. b == m) cells in
         let less = white-length any_size left in
         info-whole last end dark is (ap (λ (s : Scratch). record s { size = size }) calm)
@@ -301,11 +302,12 @@ sequence-whole cells k none is calm short =
 
     ends : line_end last end.point ≡ line_end cells k.point
     ends =
-        (line-white any_size left q).end ∙ (line-run (λ b. b == m) (λ b e. marker-goes m b is e) cells k.point).end
+        (line-white any_size left q).end ∙ (line-run (λ b. b == m) (λ b e. marker-proceeds m b is e) cells k.point).end
 
     from : from_ending last ≡ from_ending cells
     from =
-        (line-white any_size left q).from ∙ (line-run (λ b. b == m) (λ b e. marker-goes m b is e) cells k.point).from
+        (line-white any_size left q).from
+        ∙ (line-run (λ b. b == m) (λ b e. marker-proceeds m b is e) cells k.point).from
 
     opened : opened_at (parts (m == 36)) last end ≡ taken
     opened = rw (ends, from) (ap (λ (es : List Event). opened_with es cells (sized size k)) (simp append_assoc))
@@ -388,7 +390,7 @@ fence-whole options cells h is short = go (is_on options)
     begun = record h { scratch = record h.scratch { size_c = h.point.column } }
 
     k : Here
-    k = behind_spaces room cells begun
+    k = after_spaces room cells begun
 
     calm : calmed begun.scratch ≡ begun.scratch
     calm = ap (λ (s : Scratch). record s { size_c = h.point.column }) (rest-calm h.scratch is ∙ sym is)
@@ -421,7 +423,7 @@ fence-whole options cells h is short = go (is_on options)
     by (Some m) = opened m (is_opening m rest)
 
     go : (x : Bool) →
-        cond x (behind_white_of room (before_sequence options) cells begun) (Refuses h.scratch h.flags) ≡
+        cond x (after_white_of room (before_sequence options) cells begun) (Refuses h.scratch h.flags) ≡
         fence_by options (cond x (fence_opened options cells h.point (marker_at options rest)) None) cells h
     go true =
         let le = white-length room cells in

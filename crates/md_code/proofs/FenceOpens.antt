@@ -22,7 +22,7 @@ use Rattle.md_code.specs.Fence.{is_on, is_refused, may_begin}
 use Rattle.md_code.specs.FenceLine.{fence_begins, fence_opened, is_opening, marker_at}
 use Rattle.md_code.specs.FenceRule.{is_line, run_has, run_rest, run_size}
 use Rattle.md_code.proofs.FenceCells.{first-spread, marker-dark, marker-ten, not-lt, run-walk, stop-first}
-use Rattle.md_code.proofs.FenceFurther.{small-behind}
+use Rattle.md_code.proofs.FenceFurther.{small-following}
 use Rattle.md_code.proofs.FenceOpened.{marker-may}
 use Rattle.md_code.proofs.FenceMeaning.{run-has-none}
 use Rattle.md_events.specs.Ahead.{begins_white, white_end, white_rest}
@@ -51,14 +51,14 @@ tab-fine m b is e = by (b == m) refl
     by true f = let bad : true ≡ false = sym e ∙ marker-dark m b is f in cc
     by false f = refl
 
-tab-goes : (b : ℕ) → is_white b ≡ true → is_line b ≡ true
-tab-goes b e = grind (arith, nat_tests)
+tab-proceeds : (b : ℕ) → is_white b ≡ true → is_line b ≡ true
+tab-proceeds b e = grind (arith, nat_tests)
 
 over-tab : (m : ℕ) (line : Line) (n b : ℕ) (p : Point) (cs : List Cell) → may_begin m ≡ true → is_white b ≡ true →
     run_has (is_refused m) is_line (tab_cells line n b p ++ cs) ≡ run_has (is_refused m) is_line cs
-over-tab m line zero b p cs is e = rw (tab-goes b e, tab-fine m b is e) refl
+over-tab m line zero b p cs is e = rw (tab-proceeds b e, tab-fine m b is e) refl
 over-tab m line (suc n) b p cs is e =
-    rw (tab-goes b e, tab-fine m b is e) (over-tab m line n 32 (next_column p) cs is refl)
+    rw (tab-proceeds b e, tab-fine m b is e) (over-tab m line n 32 (next_column p) cs is refl)
 
 has-spread : (m : ℕ) (line : Line) (bytes : List ℕ) (q : Point) (stop : List Cell) → may_begin m ≡ true →
     NoEnding bytes → Stops stop →
@@ -237,11 +237,11 @@ spread-agrees options line (b ∷ bs) q stop columns h k =
         held : Bool → Option HeldLeaf
         held x = cond x (Some (held_leaf.Fence b size columns)) None
 
-        came : Bool → Option LeafResult
-        came x = cond x (Some (Opened (OpenFence (opening b size columns (trim_start (drop size (b ∷ bs)))) []))) None
+        became : Bool → Option LeafResult
+        became x = cond x (Some (Opened (OpenFence (opening b size columns (trim_start (drop size (b ∷ bs)))) []))) None
 
         by : (x : Bool) → nat_le (least_size b) size ≡ x → (y : Bool) → may_begin b ≡ true →
-            HeldAs (held (x && y)) (came (x && y))
+            HeldAs (held (x && y)) (became (x && y))
         by true e true may = (refl, refl, may, some e)
         by true e false may = tt
         by false e y may = tt
@@ -253,12 +253,12 @@ spread-agrees options line (b ∷ bs) q stop columns h k =
 
 -- The whole line.
 
-pub opens-agrees : (options : ParseOptions) (line : Line) (text behind : List ℕ) (r : Rest) (p : Point)
+pub opens-agrees : (options : ParseOptions) (line : Line) (text following : List ℕ) (r : Rest) (p : Point)
     (stop : List Cell) →
-    RestAt text behind r p → NoEnding r.bytes → Stops stop → length (rest_cells line r p ++ stop) < 2 ^ 63 →
+    RestAt text following r p → NoEnding r.bytes → Stops stop → length (rest_cells line r p ++ stop) < 2 ^ 63 →
     HeldAs (fence_begins options (rest_cells line r p ++ stop) p) (fence_at options r)
 unfolding fence_at
-opens-agrees options line text behind r p stop is h k short = go (has_small_indent options r) refl
+opens-agrees options line text following r p stop is h k short = go (has_small_indent options r) refl
   where
     cells : List Cell
     cells = rest_cells line r p ++ stop
@@ -279,11 +279,11 @@ opens-agrees options line text behind r p stop is h k short = go (has_small_inde
         (cond (is_on options) (fence_opened options cells p (marker_at options (white_rest room cells))) None)
         (cond x (fence_from options (indent r) bytes) None)
     go true small =
-        let taken = small-behind options line text behind r p stop is k short small in
+        let taken = small-following options line text following r p stop is k short small in
         let q = white_end room cells p in
-        let lost = lose-walk line text behind (indent r) r p stop is k in
+        let lost = lose-walk line text following (indent r) r p stop is k in
         let columns : q.column - p.column ≡ indent r = omega
-        (arith, lost.column, lost.all (omega arith), taken.stands.column, is.column) in
+        (arith, lost.column, lost.all (omega arith), taken.valid.column, is.column) in
         rw (opened-is options cells p (marker_at options (white_rest room cells)))
         (subst (λ (n : ℕ). Agrees (white_rest room cells) n) (sym columns)
         (subst (λ (l : List Cell). Agrees l (indent r)) (sym taken.cells)
@@ -291,7 +291,7 @@ opens-agrees options line text behind r p stop is h k short = go (has_small_inde
         (no_ending-drop (prefix_len is_white r.bytes) r.bytes h) k)))
     go false large =
         rw (white-none options (white_rest room cells)
-        (indent-over line text behind room r p stop is (large-room options r large)))
+        (indent-over line text following room r p stop is (large-room options r large)))
         (none (is_on options))
       where
         none : (x : Bool) → HeldAs (cond x None None) None

@@ -12,11 +12,11 @@ use Rattle.md_engine.specs.declared.event.Point.{Point}
 use Rattle.md_engine.specs.declared.tokenizer.Line.{Line}
 use Rattle.md_engine.specs.Meaning.{Cell}
 use Rattle.md_engine.specs.Place.{is_ending}
-use Rattle.md_meaning.specs.Leaves.{behind_word, first_word, nonempty}
-use Rattle.md_meaning.specs.Rest.{Rest, behind_indent, cut_tab, indent, is_white, trim_start}
+use Rattle.md_meaning.specs.Leaves.{after_word, first_word, nonempty}
+use Rattle.md_meaning.specs.Rest.{Rest, after_indent, cut_tab, indent, is_white, trim_start}
 use Rattle.md_meaning.proofs.TextsLemmas.{NoEnding, no_ending-drop}
 use Rattle.md_code.specs.Fence.{meta_name}
-use Rattle.md_code.specs.FenceLine.{behind_events, info_events, later_part, meta_events, spaces}
+use Rattle.md_code.specs.FenceLine.{after_events, info_events, later_part, meta_events, spaces}
 use Rattle.md_code.specs.FenceParts.{bytes_at, part_of, parts_of}
 use Rattle.md_code.specs.FenceRule.{is_end, is_line, is_word, run_end, run_rest}
 use Rattle.md_code.proofs.FenceCells.{RunOf, line-all, run-length, run-walk}
@@ -36,39 +36,39 @@ at-drop text [] rest p e = e
 at-drop text (x ∷ xs) rest p e = at-drop text xs rest (past_byte x p) (past-next p.index text x (xs ++ rest) e)
 
 -- these bytes are at a point that cuts no tab
-abbrev pub Stands : List ℕ → List ℕ → List ℕ → Point → Type 0
-Stands text behind bytes p = RestAt text behind (bytes_at bytes p) p × (1 ≤ p.column)
+abbrev pub Valid : List ℕ → List ℕ → List ℕ → Point → Type 0
+Valid text following bytes p = RestAt text following (bytes_at bytes p) p × (1 ≤ p.column)
 
-pub stands-behind : (text behind xs ys : List ℕ) (p : Point) → Stands text behind (xs ++ ys) p →
-    Stands text behind ys (past_text xs p)
-stands-behind text behind xs ys p is =
+pub valid-following : (text following xs ys : List ℕ) (p : Point) → Valid text following (xs ++ ys) p →
+    Valid text following ys (past_text xs p)
+valid-following text following xs ys p is =
     let one = past_text-column xs p is.1 in (
       record {
         column = omega (arith, one);
         cut = past_text-whole xs p is.0.cut;
-        text_is = at-drop text xs (ys ++ behind) p (is.0.text_is ∙ append_assoc xs ys behind);
+        text_is = at-drop text xs (ys ++ following) p (is.0.text_is ∙ append_assoc xs ys following);
       },
       one,
     )
 
 -- after whitespace
-pub record Behind (line : Line) (text behind bytes : List ℕ) (p : Point) (stop : List Cell) : Type 0 where
+pub record Following (line : Line) (text following bytes : List ℕ) (p : Point) (stop : List Cell) : Type 0 where
   pub cells : white_rest any_size (spread line bytes p ++ stop) ≡
       spread line (trim_start bytes) (white_end any_size (spread line bytes p ++ stop) p) ++ stop
-  pub stands : Stands text behind (trim_start bytes) (white_end any_size (spread line bytes p ++ stop) p)
+  pub valid : Valid text following (trim_start bytes) (white_end any_size (spread line bytes p ++ stop) p)
   pub dark : Bare 0 (trim_start bytes)
 
-trimmed : (line : Line) (text behind bytes : List ℕ) (p : Point) (stop : List Cell) → Stands text behind bytes p →
-    Stops stop → length (spread line bytes p ++ stop) < 2 ^ 63 → Behind line text behind bytes p stop
-trimmed line text behind bytes p stop is k short =
+trimmed : (line : Line) (text following bytes : List ℕ) (p : Point) (stop : List Cell) → Valid text following bytes p →
+    Stops stop → length (spread line bytes p ++ stop) < 2 ^ 63 → Following line text following bytes p stop
+trimmed line text following bytes p stop is k short =
     record {
       cells = taken.cells ∙ ap (λ (l : List Cell). l ++ stop) (bare-spread line left q taken.none)
           ∙ ap (λ (l : List ℕ). spread line l q ++ stop) trims;
-      stands = (
+      valid = (
         record {
           column = omega (arith, at.column);
           cut = whole left.spaces (bare left taken.none) at.cut;
-          text_is = at.text_is ∙ same left (bare left taken.none) ∙ ap (λ (l : List ℕ). l ++ behind) trims;
+          text_is = at.text_is ∙ same left (bare left taken.none) ∙ ap (λ (l : List ℕ). l ++ following) trims;
         },
         omega (arith, at.column),
       );
@@ -79,21 +79,21 @@ trimmed line text behind bytes p stop is k short =
     r = bytes_at bytes p
 
     left : Rest
-    left = behind_indent r
+    left = after_indent r
 
     columns : indent r ≤ any_size
     columns =
-        let le = indent-length line text behind r p is.0 in
+        let le = indent-length line text following r p is.0 in
         let sum = length-append (spread line bytes p) stop in omega (arith, le, sum, short)
 
-    taken : HasIndent line text behind any_size r p stop left
-    taken = indent-taken line text behind any_size r p stop is.0 k columns
+    taken : HasIndent line text following any_size r p stop left
+    taken = indent-taken line text following any_size r p stop is.0 k columns
 
     q : Point
     q = white_end any_size (spread line bytes p ++ stop) p
 
-    at : RestAt text behind left q
-    at = taken.stands
+    at : RestAt text following left q
+    at = taken.valid
 
     trims : left.bytes ≡ trim_start bytes
     trims = indent-trims r taken.none
@@ -106,19 +106,19 @@ trimmed line text behind bytes p stop is k short =
     whole zero h c = c
     whole (suc n) h c = absurd h
 
-    same : (s : Rest) → Bare s.spaces s.bytes → (cut_tab s.spaces ++ s.bytes ++ behind) ≡ (s.bytes ++ behind)
+    same : (s : Rest) → Bare s.spaces s.bytes → (cut_tab s.spaces ++ s.bytes ++ following) ≡ (s.bytes ++ following)
     same s = go s.spaces
       where
-        go : (n : ℕ) → Bare n s.bytes → (cut_tab n ++ s.bytes ++ behind) ≡ (s.bytes ++ behind)
+        go : (n : ℕ) → Bare n s.bytes → (cut_tab n ++ s.bytes ++ following) ≡ (s.bytes ++ following)
         go zero h = refl
         go (suc n) h = absurd h
 
 -- Meta.
 
-meta-is : (m : ℕ) (line : Line) (text behind bytes : List ℕ) (p : Point) (stop : List Cell) →
-    Stands text behind bytes p → NoEnding bytes → Stops stop →
+meta-is : (m : ℕ) (line : Line) (text following bytes : List ℕ) (p : Point) (stop : List Cell) →
+    Valid text following bytes p → NoEnding bytes → Stops stop →
     meta_events m (spread line bytes p ++ stop) p ≡ part_of (meta_name m) (nonempty bytes) p
-meta-is m line text behind bytes p stop is h k =
+meta-is m line text following bytes p stop is h k =
     ap (λ (x : Bool). cond x [] (later_part (meta_name m) p (run_end is_line (spread line bytes p ++ stop) p)))
     (nothing-end line (bytes_at bytes p) p stop h k)
     ∙ ap (λ (q : Point). cond (is_nothing (bytes_at bytes p)) [] (later_part (meta_name m) p q))
@@ -159,12 +159,12 @@ prefix-take t (b ∷ bs) = go (t b) refl (prefix-take t bs)
         ap (λ (n : ℕ). length (take n (b ∷ bs))) (count-none t b bs e) ∙ sym (count-none t b bs e)
 
 -- what is left after info
-abbrev pub behind_info : List ℕ → List ℕ
-behind_info bytes = drop (length (first_word bytes)) bytes
+abbrev pub after_info : List ℕ → List ℕ
+after_info bytes = drop (length (first_word bytes)) bytes
 
 -- its cells, and what is before meta
 abbrev pub info_cells : Line → List ℕ → Point → List Cell → List Cell
-info_cells line bytes p stop = spread line (behind_info bytes) (past_text (first_word bytes) p) ++ stop
+info_cells line bytes p stop = spread line (after_info bytes) (past_text (first_word bytes) p) ++ stop
 
 abbrev pub meta_point : Line → List ℕ → Point → List Cell → Point
 meta_point line bytes p stop = white_end any_size (info_cells line bytes p stop) (past_text (first_word bytes) p)
@@ -185,35 +185,35 @@ word-some b bs p e =
 info-some : (m : ℕ) (line : Line) (bytes : List ℕ) (p : Point) (stop : List Cell) → Stops stop → Bare 0 bytes →
     cond (is_nothing (bytes_at bytes p)) []
     (later_part part.CodeFencedFenceInfo p (past_text (first_word bytes) p) ++ between line bytes p stop
-    ++ part_of (meta_name m) (nonempty (behind_word bytes)) (meta_point line bytes p stop)) ≡
+    ++ part_of (meta_name m) (nonempty (after_word bytes)) (meta_point line bytes p stop)) ≡
     (part_of part.CodeFencedFenceInfo (nonempty (first_word bytes)) p ++ between line bytes p stop
-    ++ part_of (meta_name m) (nonempty (behind_word bytes)) (meta_point line bytes p stop))
+    ++ part_of (meta_name m) (nonempty (after_word bytes)) (meta_point line bytes p stop))
 info-some m line [] p stop k dark = rw (stops-white stop k) refl
 info-some m line (b ∷ bs) p stop k dark =
     sym
     (ap
     (λ (es : List Event).
     es ++ between line (b ∷ bs) p stop
-    ++ part_of (meta_name m) (nonempty (behind_word (b ∷ bs))) (meta_point line (b ∷ bs) p stop))
+    ++ part_of (meta_name m) (nonempty (after_word (b ∷ bs))) (meta_point line (b ∷ bs) p stop))
     (word-some b bs p dark))
 
-info-is : (m : ℕ) (line : Line) (text behind bytes : List ℕ) (p : Point) (stop : List Cell) →
-    Stands text behind bytes p → NoEnding bytes → Stops stop → Bare 0 bytes →
+info-is : (m : ℕ) (line : Line) (text following bytes : List ℕ) (p : Point) (stop : List Cell) →
+    Valid text following bytes p → NoEnding bytes → Stops stop → Bare 0 bytes →
     length (spread line bytes p ++ stop) < 2 ^ 63 →
     (info_events m (spread line bytes p ++ stop) p ≡
     (part_of part.CodeFencedFenceInfo (nonempty (first_word bytes)) p ++ between line bytes p stop
-    ++ part_of (meta_name m) (nonempty (behind_word bytes)) (meta_point line bytes p stop))) ×
-    Stands text behind (behind_word bytes) (meta_point line bytes p stop)
-info-is m line text behind bytes p stop is h k dark short = (
+    ++ part_of (meta_name m) (nonempty (after_word bytes)) (meta_point line bytes p stop))) ×
+    Valid text following (after_word bytes) (meta_point line bytes p stop)
+info-is m line text following bytes p stop is h k dark short = (
   ap (λ (q : Point). cond (is_end cells) [] (parts q (run_rest is_word cells))) run_to
       ∙ ap (λ (l : List Cell). cond (is_end cells) [] (parts u l)) run_left
       ∙ ap (λ (es : List Event). cond (is_end cells) [] (info ++ between line bytes p stop ++ es)) meta
       ∙ ap
       (λ (x : Bool). cond x []
-      (info ++ between line bytes p stop ++ part_of (meta_name m) (nonempty (behind_word bytes)) v))
+      (info ++ between line bytes p stop ++ part_of (meta_name m) (nonempty (after_word bytes)) v))
       (nothing-end line (bytes_at bytes p) p stop h k)
       ∙ info-some m line bytes p stop k dark,
-  taken.stands,
+  taken.valid,
 )
   where
     u : Point
@@ -250,22 +250,22 @@ info-is m line text behind bytes p stop is h k dark short = (
     run_to : run_end is_word cells p ≡ u
     run_to = run.end ∙ ap (λ (xs : List ℕ). past_text xs p) word
 
-    cut : bytes ≡ first_word bytes ++ behind_info bytes
+    cut : bytes ≡ first_word bytes ++ after_info bytes
     cut =
         sym (take-append-drop (prefix_len is_word bytes) bytes)
         ∙ ap (λ (xs : List ℕ). xs ++ drop (prefix_len is_word bytes) bytes) word
         ∙ ap (λ (n : ℕ). first_word bytes ++ drop n bytes) long
 
-    stands : Stands text behind (behind_info bytes) u
-    stands =
-        stands-behind text behind (first_word bytes) (behind_info bytes) p
-        (subst (λ (xs : List ℕ). Stands text behind xs p) cut is)
+    valid : Valid text following (after_info bytes) u
+    valid =
+        valid-following text following (first_word bytes) (after_info bytes) p
+        (subst (λ (xs : List ℕ). Valid text following xs p) cut is)
 
-    taken : Behind line text behind (behind_info bytes) u stop
+    taken : Following line text following (after_info bytes) u stop
     taken =
         let le = run-length is_word cells in
         let same = ap length run_left in
-        trimmed line text behind (behind_info bytes) u stop stands k (omega (arith, le, same, short))
+        trimmed line text following (after_info bytes) u stop valid k (omega (arith, le, same, short))
 
     v : Point
     v = meta_point line bytes p stop
@@ -276,23 +276,23 @@ info-is m line text behind bytes p stop is h k dark short = (
         ++ meta_events m (white_rest any_size l) (white_end any_size l q)
 
     meta : meta_events m (white_rest any_size (info_cells line bytes p stop)) v ≡
-        part_of (meta_name m) (nonempty (behind_word bytes)) v
+        part_of (meta_name m) (nonempty (after_word bytes)) v
     meta =
         ap (λ (l : List Cell). meta_events m l v) taken.cells
-        ∙ meta-is m line text behind (behind_word bytes) v stop taken.stands
-        (no_ending-drop (prefix_len is_white (behind_info bytes)) (behind_info bytes)
+        ∙ meta-is m line text following (after_word bytes) v stop taken.valid
+        (no_ending-drop (prefix_len is_white (after_info bytes)) (after_info bytes)
         (no_ending-drop (length (first_word bytes)) bytes h)) k
 
 -- After the sequence: whitespace, and info and meta of the definition, each where its text is.
-pub behind-agrees : (m : ℕ) (line : Line) (text behind bytes : List ℕ) (p : Point) (stop : List Cell) →
-    Stands text behind bytes p → NoEnding bytes → Stops stop → length (spread line bytes p ++ stop) < 2 ^ 63 →
+pub following-agrees : (m : ℕ) (line : Line) (text following bytes : List ℕ) (p : Point) (stop : List Cell) →
+    Valid text following bytes p → NoEnding bytes → Stops stop → length (spread line bytes p ++ stop) < 2 ^ 63 →
     let cells = spread line bytes p ++ stop in
     let q = white_end any_size cells p in
-    behind_events m cells p ≡
+    after_events m cells p ≡
     (spaces any_size cells p
     ++ parts_of m (trim_start bytes) q (between line (trim_start bytes) q stop)
     (meta_point line (trim_start bytes) q stop))
-behind-agrees m line text behind bytes p stop is h k short =
+following-agrees m line text following bytes p stop is h k short =
     ap (λ (es : List Event). spaces any_size cells p ++ es) (go (m == 36))
   where
     cells : List Cell
@@ -304,8 +304,8 @@ behind-agrees m line text behind bytes p stop is h k short =
     left : List ℕ
     left = trim_start bytes
 
-    taken : Behind line text behind bytes p stop
-    taken = trimmed line text behind bytes p stop is k short
+    taken : Following line text following bytes p stop
+    taken = trimmed line text following bytes p stop is k short
 
     no_ending : NoEnding left
     no_ending = no_ending-drop (prefix_len is_white bytes) bytes h
@@ -317,10 +317,10 @@ behind-agrees m line text behind bytes p stop is h k short =
         cond math (meta_events m (white_rest any_size cells) q) (info_events m (white_rest any_size cells) q) ≡
         cond math (part_of (meta_name m) (nonempty left) q)
         (part_of part.CodeFencedFenceInfo (nonempty (first_word left)) q ++ between line left q stop
-        ++ part_of (meta_name m) (nonempty (behind_word left)) (meta_point line left q stop))
+        ++ part_of (meta_name m) (nonempty (after_word left)) (meta_point line left q stop))
     go true =
         ap (λ (l : List Cell). meta_events m l q) taken.cells
-        ∙ meta-is m line text behind left q stop taken.stands no_ending k
+        ∙ meta-is m line text following left q stop taken.valid no_ending k
     go false =
         ap (λ (l : List Cell). info_events m l q) taken.cells
-        ∙ (info-is m line text behind left q stop taken.stands no_ending k taken.dark shorter).0
+        ∙ (info-is m line text following left q stop taken.valid no_ending k taken.dark shorter).0

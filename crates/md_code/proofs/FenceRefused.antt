@@ -11,13 +11,13 @@ use Rattle.md_engine.specs.Meaning.{Cell, Here, Refuses}
 use Rattle.md_meaning.specs.Leaves.{is_fence_marker, least_size}
 use Rattle.md_code.specs.Fence.{is_on, is_refused, may_begin, sequence_name}
 use Rattle.md_code.specs.FenceLine.{fence_begins, fence_opened, is_opening, marker_at}
-use Rattle.md_code.specs.FenceRule.{before_info, before_meta, before_sequence, behind_sequence, behind_white_of}
+use Rattle.md_code.specs.FenceRule.{before_info, before_meta, before_sequence, after_sequence, after_white_of}
 use Rattle.md_code.specs.FenceRule.{fence_at, in_info, in_meta, in_sequence, is_end, is_line, is_word, part_begun}
 use Rattle.md_code.specs.FenceRule.{part_ended, refuses, run_end, run_has, run_rest, run_size, with_event}
 use Rattle.md_code.proofs.FenceTermination.{rest-clear}
 use Rattle.md_code.proofs.FenceOpened.{has-run, has-white, in_block, marker-may, refused-dark, word-line}
 use Rattle.md_code.proofs.FenceMeaning.{line-first, run-has-none}
-use Rattle.md_code.proofs.FenceWhole.{behind_spaces, white-joined}
+use Rattle.md_code.proofs.FenceWhole.{after_spaces, white-joined}
 use Rattle.md_events.specs.Ahead.{begins_white, white_end, white_rest}
 use Rattle.md_events.specs.Events.Nested.{exit}
 use Rattle.md_events.specs.Look.{first_seen}
@@ -28,8 +28,8 @@ use Rattle.md_events.proofs.SpacesTermination.{rest-calm, rest-size}
 -- After the sequence something is that may not.
 
 -- so the line does not end
-goes-on : (bad : ℕ → Bool) (cells : List Cell) → run_has bad is_line cells ≡ true → is_end cells ≡ false
-goes-on bad cells is = go (is_end cells) refl
+proceeds-on : (bad : ℕ → Bool) (cells : List Cell) → run_has bad is_line cells ≡ true → is_end cells ≡ false
+proceeds-on bad cells is = go (is_end cells) refl
   where
     go : (x : Bool) → is_end cells ≡ x → x ≡ false
     go true e = let none = run-has-none bad is_line cells (line-first (first_seen cells) e) in cc
@@ -38,7 +38,7 @@ goes-on bad cells is = go (is_end cells) refl
 meta-refused : (cells : List Cell) (k : Here) → run_has (is_refused k.scratch.marker) is_line cells ≡ true →
     before_meta cells k ≡ refuses k
 unfolding before_meta in_meta
-meta-refused cells k is = rw (goes-on (is_refused k.scratch.marker) cells is, is) (go (begins_white cells))
+meta-refused cells k is = rw (proceeds-on (is_refused k.scratch.marker) cells is, is) (go (begins_white cells))
   where
     go : (x : Bool) → cond x (refuses k) (refuses k) ≡ refuses k
     go true = refl
@@ -48,7 +48,7 @@ info-refused : (cells : List Cell) (k : Here) → run_has (is_refused k.scratch.
     may_begin k.scratch.marker ≡ true → calmed k.scratch ≡ k.scratch → before_info cells k ≡ refuses k
 unfolding before_info in_info
 info-refused cells k is may calm =
-    rw (goes-on (is_refused m) cells is) (go (begins_white cells))
+    rw (proceeds-on (is_refused m) cells is) (go (begins_white cells))
   where
     m : ℕ
     m = k.scratch.marker
@@ -70,15 +70,15 @@ info-refused cells k is may calm =
         ∙ sym (has-run (is_refused m) is_word word-line cells) ∙ is
 
     by : (x : Bool) → x || run_has (is_refused m) is_line last ≡ true →
-        cond x (refuses k) (behind_white_of any_size before_meta left word) ≡ refuses k
+        cond x (refuses k) (after_white_of any_size before_meta left word) ≡ refuses k
     by true e = refl
     by false e =
         white-joined any_size before_meta left word calm (omega arith)
-        ∙ meta-refused last (behind_spaces any_size left word) e
+        ∙ meta-refused last (after_spaces any_size left word) e
 
     go : (x : Bool) →
         cond x (refuses k)
-        (cond (run_has (is_refused m) is_word cells) (refuses k) (behind_white_of any_size before_meta left word)) ≡
+        (cond (run_has (is_refused m) is_word cells) (refuses k) (after_white_of any_size before_meta left word)) ≡
         refuses k
     go true = refl
     go false = by (run_has (is_refused m) is_word cells) parts
@@ -113,22 +113,22 @@ sequence-refused cells k none may calm shut =
     }
 
     end : Here
-    end = behind_spaces any_size left begun
+    end = after_spaces any_size left begun
 
     quiet : calmed begun.scratch ≡ begun.scratch
     quiet = ap (λ (s : Scratch). record s { size = size }) calm
 
-    behind : (math : Bool) → run_has (is_refused m) is_line last ≡ true →
+    following : (math : Bool) → run_has (is_refused m) is_line last ≡ true →
         cond math (before_meta last end) (before_info last end) ≡ refuses k
-    behind true e = meta-refused last end e
-    behind false e = info-refused last end e may quiet
+    following true e = meta-refused last end e
+    following false e = info-refused last end e may quiet
 
     by : (few bad : Bool) → run_has (is_refused m) is_line left ≡ bad → not few && not bad ≡ false →
-        cond few (refuses k) (behind_white_of any_size (behind_sequence m) left begun) ≡ refuses k
+        cond few (refuses k) (after_white_of any_size (after_sequence m) left begun) ≡ refuses k
     by true bad e f = refl
     by false true e f =
-        white-joined any_size (behind_sequence m) left begun quiet (omega arith)
-        ∙ behind (m == 36) (has-white (is_refused m) (λ b w. refused-dark m b may w) any_size left ∙ e)
+        white-joined any_size (after_sequence m) left begun quiet (omega arith)
+        ∙ following (m == 36) (has-white (is_refused m) (λ b w. refused-dark m b may w) any_size left ∙ e)
     by false false e f = absurd (cc)
 
 before-refused : (options : ParseOptions) (cells : List Cell) (k : Here) → k.scratch.size ≡ 0 →
@@ -162,7 +162,7 @@ fence-refused options cells h is none = go (is_on options) none
     begun = record h { scratch = record h.scratch { size_c = h.point.column } }
 
     k : Here
-    k = behind_spaces room cells begun
+    k = after_spaces room cells begun
 
     calm : calmed begun.scratch ≡ begun.scratch
     calm = ap (λ (s : Scratch). record s { size_c = h.point.column }) (rest-calm h.scratch is ∙ sym is)
@@ -182,7 +182,7 @@ fence-refused options cells h is none = go (is_on options) none
 
     go : (x : Bool) →
         cond x (fence_opened options cells h.point (marker_at options rest)) None ≡ None →
-        cond x (behind_white_of room (before_sequence options) cells begun) (Refuses h.scratch h.flags) ≡
+        cond x (after_white_of room (before_sequence options) cells begun) (Refuses h.scratch h.flags) ≡
         Refuses h.scratch h.flags
     go true e =
         white-joined room (before_sequence options) cells begun calm (small-some options)

@@ -18,14 +18,15 @@ use Rattle.md_engine.proofs.Local.{accepts, begins_try, consumes, refuses, turns
 use Rattle.md_engine.proofs.Points.{cells-grow, stays, takes}
 use Rattle.md_meaning.specs.Leaves.{is_fence_marker}
 use Rattle.md_code.specs.Fence.{at_non_lazy_break_code, before_chunk_code, before_close_code}
-use Rattle.md_code.specs.Fence.{before_open, before_open_code, behind_part, block_entered, block_name}
+use Rattle.md_code.specs.Fence.{before_open, before_open_code, after_part, block_entered, block_name}
 use Rattle.md_code.specs.Fence.{chunk_code, cleared, close_after_code, close_start_code, content_start_code}
 use Rattle.md_code.specs.Fence.{ends_word, fence_rank, fence_ready, fence_scheme, fence_transition}
 use Rattle.md_code.specs.Fence.{fence_level, fence_tries, held_indent, held_marker, in_fence, info_before_code}
 use Rattle.md_code.specs.Fence.{info_code, line_entered, marked, meta_before_code, meta_code, meta_name, opened}
 use Rattle.md_code.specs.Fence.{part_entered, part_exited, sequence_close_code}
 use Rattle.md_code.specs.Fence.{sequence_name, sequence_open_code, start_code}
-use Rattle.md_events.specs.Spaces.{IsRest, any_size, calmed, ends_line, is_current, rest_ready, sees_white, small_indent}
+use Rattle.md_events.specs.Spaces.{IsRest, any_size, calmed, ends_line, is_current, rest_ready, sees_white}
+use Rattle.md_events.specs.Spaces.{small_indent}
 use Rattle.md_events.specs.Transition.{exited}
 use Rattle.md_events.proofs.SpacesTermination.{Does, WhiteFits, rest-calm, rest-none, rest-size, seen-in, white_try}
 
@@ -75,24 +76,24 @@ low-chunk false = omega arith
 
 -- a state that may follow: it is at rest or in a fence, and ranks low
 record Follows (T : Scheme) (w : World) (state : RawState) (s : Scratch) : Type 1 where
-  pub behind : (q : Point) (t : Setting) → Grown w.setting t → Reaches t.limit w.point q →
+  pub following : (q : Point) (t : Setting) → Grown w.setting t → Reaches t.limit w.point q →
       fence_ready (n.RawFlow state) (spot_at t q (calmed s)) (after_all T w.frames)
   pub at_once : fence_ready (n.RawFlow state) (moved_to (position w) w.point s) (after_all T w.frames)
   pub level : fence_level (n.RawFlow state) ≡ 1
   pub low : (x : Position) → (fence_rank (n.RawFlow state) x).number < 3
   pub tries : (fence_tries (n.RawFlow state)).number ≡ 3
 
-good-behind : (T : Scheme) (w : World) (from state : RawState) (events : List Event) (s : Scratch) (x : Bool) →
+good-following : (T : Scheme) (w : World) (from state : RawState) (events : List Event) (s : Scratch) (x : Bool) →
     FenceFits T → Follows T w state s → s.whitespace.size ≡ 0 → Ends IsRest IsRest (position w) (after_all T w.frames) →
     fence_level (n.RawFlow from) ≡ 1 → 3 < (fence_rank (n.RawFlow from) (position w)).number →
-    Does T (n.RawFlow from) w (behind_part (record w { events = events; scratch = s }) state x)
-good-behind T w from state events s true has next none ends one lt =
+    Does T (n.RawFlow from) w (after_part (record w { events = events; scratch = s }) state x)
+good-following T w from state events s true has next none ends one lt =
     white_try T fence_scheme (n.RawFlow from) (n.RawFlow state) w events s 0 any_size IsRest IsRest has.white
-    (has.each from) (has.each state) none (λ some. absurd (omega arith)) ends next.behind
+    (has.each from) (has.each state) none (λ some. absurd (omega arith)) ends next.following
     (let a = next.level in omega (arith, a, one)) (omega (arith, one))
     (λ t up. let a = next.low (spot_at t w.point (calmed s)) in let b = next.tries in omega (arith, a, b))
     (let b = next.tries in omega (arith, b, lt))
-good-behind T w from state events s false has next none ends one lt = (
+good-following T w from state events s false has next none ends one lt = (
   turns T fence_scheme (n.RawFlow from) (n.RawFlow state) w events s (has.each from) (has.each state) next.at_once
       (let a = next.level in omega (arith, a, one))
       (let a = next.low (moved_to (position w) w.point s) in omega (arith, a, lt)),
@@ -111,7 +112,7 @@ in-fence T w s q t is same r up way = (
 follows-info : (T : Scheme) (w : World) → in_fence (position w) (after_all T w.frames) →
     Follows T w its.InfoBefore w.scratch
 follows-info T w r = record {
-  behind = λ q t up way. in-fence T w w.scratch q t r.0.rest refl r up way;
+  following = λ q t up way. in-fence T w w.scratch q t r.0.rest refl r up way;
   at_once = r;
   level = refl;
   low = low-info;
@@ -121,7 +122,7 @@ follows-info T w r = record {
 follows-meta : (T : Scheme) (w : World) → in_fence (position w) (after_all T w.frames) →
     Follows T w its.MetaBefore w.scratch
 follows-meta T w r = record {
-  behind = λ q t up way. in-fence T w w.scratch q t r.0.rest refl r up way;
+  following = λ q t up way. in-fence T w w.scratch q t r.0.rest refl r up way;
   at_once = r;
   level = refl;
   low = low-meta;
@@ -131,7 +132,7 @@ follows-meta T w r = record {
 follows-close : (T : Scheme) (w : World) → in_fence (position w) (after_all T w.frames) →
     Follows T w its.SequenceCloseAfter (cleared w.scratch)
 follows-close T w r = record {
-  behind = λ q t up way.
+  following = λ q t up way.
       (ap calmed r.0.rest, later_at IsRest IsRest (position w) (after_all T w.frames) q t _ up way r.1);
   at_once = (
     r.0.rest,
@@ -207,12 +208,14 @@ fence_open_ends T w false false z has r e = go (nat_eq w.scratch.marker 36)
   where
     go : (math : Bool) →
         Does T (n.RawFlow its.SequenceOpen) w
-        (behind_part (exited w (sequence_name w.scratch.marker)) (cond math its.MetaBefore its.InfoBefore) z)
+        (after_part (exited w (sequence_name w.scratch.marker)) (cond math its.MetaBefore its.InfoBefore) z)
     go true =
-        good-behind T w its.SequenceOpen its.MetaBefore (exited w (sequence_name w.scratch.marker)).events w.scratch z
+        good-following T w its.SequenceOpen its.MetaBefore
+        (exited w (sequence_name w.scratch.marker)).events w.scratch z
         has (follows-meta T w r) (fence-none w.scratch r.0.rest) r.1 refl (rw e (omega arith))
     go false =
-        good-behind T w its.SequenceOpen its.InfoBefore (exited w (sequence_name w.scratch.marker)).events w.scratch z
+        good-following T w its.SequenceOpen its.InfoBefore
+        (exited w (sequence_name w.scratch.marker)).events w.scratch z
         has (follows-info T w r) (fence-none w.scratch r.0.rest) r.1 refl (rw e (omega arith))
 
 info_before_ends : (T : Scheme) (w : World) (x y : Bool) → FenceFits T → in_fence (position w) (after_all T w.frames) →
@@ -230,7 +233,7 @@ info_before_ends T w false false has r e f = (
 info_ends : (T : Scheme) (w : World) (x y z : Bool) → FenceFits T → in_fence (position w) (after_all T w.frames) →
     ends_word (seen (position w)) ≡ x → Does T (n.RawFlow its.Info) w (info_code w x y z)
 info_ends T w true y z has r e =
-    good-behind T w its.Info its.MetaBefore (part_exited w part.CodeFencedFenceInfo).events w.scratch y has
+    good-following T w its.Info its.MetaBefore (part_exited w part.CodeFencedFenceInfo).events w.scratch y has
     (follows-meta T w r) (fence-none w.scratch r.0.rest) r.1 refl (rw e (omega arith))
 info_ends T w false y true has r e = (refuses T _ w _ _ w.events (cleared w.scratch) r.1 r.0.rest, refl)
 info_ends T w false y false has r e =
@@ -353,7 +356,7 @@ fence_close_ends T w true y z has r e =
     )
 fence_close_ends T w false true z has r e = (refuses T _ w _ _ w.events (cleared w.scratch) r.1 r.0.rest, refl)
 fence_close_ends T w false false z has r e =
-    good-behind T w its.SequenceClose its.SequenceCloseAfter (exited w (sequence_name w.scratch.marker)).events
+    good-following T w its.SequenceClose its.SequenceCloseAfter (exited w (sequence_name w.scratch.marker)).events
     (cleared w.scratch) z has (follows-close T w r) (fence-none w.scratch r.0.rest) r.1 refl (rw e (omega arith))
 
 close_after_ends : (T : Scheme) (w : World) (x : Bool) → rest_ready (position w) (after_all T w.frames) →

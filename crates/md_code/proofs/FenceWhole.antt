@@ -14,7 +14,7 @@ use Rattle.md_code.specs.Fence.{block_name, chunk_name, cleared, fence_name, hel
 use Rattle.md_code.specs.Fence.{sequence_name}
 use Rattle.md_code.specs.FenceLine.{chunk_events, closes_here, closing_end, closing_events}
 use Rattle.md_code.specs.FenceLine.{further_taken, is_closing, spaces}
-use Rattle.md_code.specs.FenceRule.{before_chunk, before_close, behind_columns, behind_white_of, close_at, close_end}
+use Rattle.md_code.specs.FenceRule.{before_chunk, before_close, after_columns, after_white_of, close_at, close_end}
 use Rattle.md_code.specs.FenceRule.{closed_or_content, content_at, further_at, in_chunk, in_close, is_end, is_line}
 use Rattle.md_code.specs.FenceRule.{line_begun, refuses, run_end, run_rest, run_size, with_event}
 use Rattle.md_leaves.specs.Further.{further_link}
@@ -30,21 +30,21 @@ use Rattle.md_events.proofs.SpacesTermination.{rest-calm, rest-size}
 
 -- Whitespace that comes first, if any does.
 
-abbrev pub behind_spaces : ℕ → List Cell → Here → Here
-behind_spaces room cells h =
+abbrev pub after_spaces : ℕ → List Cell → Here → Here
+after_spaces room cells h =
     record h { events = h.events ++ spaces room cells h.point; point = white_end room cells h.point }
 
-pub white-joined : (room : ℕ) (behind : List Cell → Here → Outcome) (cells : List Cell) (h : Here) →
+pub white-joined : (room : ℕ) (following : List Cell → Here → Outcome) (cells : List Cell) (h : Here) →
     calmed h.scratch ≡ h.scratch → 1 ≤ room →
-    behind_white_of room behind cells h ≡ behind (white_rest room cells) (behind_spaces room cells h)
-white-joined room behind cells h calm some = go (begins_white cells) refl
+    after_white_of room following cells h ≡ following (white_rest room cells) (after_spaces room cells h)
+white-joined room following cells h calm some = go (begins_white cells) refl
   where
     fits : nat_lt 0 room ≡ true
     fits = grind (arith, nat_tests)
 
     go : (x : Bool) → begins_white cells ≡ x →
-        cond x (behind (white_rest room cells) (behind_columns room cells h)) (behind cells h) ≡
-        behind (white_rest room cells)
+        cond x (following (white_rest room cells) (after_columns room cells h)) (following cells h) ≡
+        following (white_rest room cells)
         (record h {
           events = h.events
               ++ cond (nat_lt 0 room && begins_white cells)
@@ -56,10 +56,10 @@ white-joined room behind cells h calm some = go (begins_white cells) refl
         rw (fits, e)
         (ap
         (λ (s : Scratch).
-        behind (white_rest room cells) (record (behind_columns room cells h) { scratch = s })) calm)
+        following (white_rest room cells) (record (after_columns room cells h) { scratch = s })) calm)
     go false e =
         rw (fits, e, none-rest room cells e, none-end room cells h.point e)
-        (ap (λ (es : List Event). behind cells (record h { events = es })) (sym (append-nil h.events)))
+        (ap (λ (es : List Event). following cells (record h { events = es })) (sym (append-nil h.events)))
 
 -- A line of the block.
 
@@ -105,14 +105,14 @@ chunk-whole cells h = go (is_end cells) refl
 
 content-joined : (cells : List Cell) (h : Here) → calmed h.scratch ≡ h.scratch →
     content_at cells h ≡
-    before_chunk (white_rest (held_indent h.flags.leaf) cells) (behind_spaces (held_indent h.flags.leaf) cells h)
+    before_chunk (white_rest (held_indent h.flags.leaf) cells) (after_spaces (held_indent h.flags.leaf) cells h)
 unfolding content_at
 content-joined cells h calm = go (held_indent h.flags.leaf)
   where
     go : (room : ℕ) →
-        cond (nat_lt 0 room && begins_white cells) (before_chunk (white_rest room cells) (behind_columns room cells h))
+        cond (nat_lt 0 room && begins_white cells) (before_chunk (white_rest room cells) (after_columns room cells h))
         (before_chunk cells h) ≡
-        before_chunk (white_rest room cells) (behind_spaces room cells h)
+        before_chunk (white_rest room cells) (after_spaces room cells h)
     go zero =
         rw (zero-rest cells, zero-end cells h.point)
         (ap (λ (es : List Event). before_chunk cells (record h { events = es })) (sym (append-nil h.events)))
@@ -120,7 +120,7 @@ content-joined cells h calm = go (held_indent h.flags.leaf)
         let fits : nat_lt 0 (suc n) ≡ true = grind (arith, nat_tests) in
         ap
         (λ (x : Bool).
-        cond (x && begins_white cells) (before_chunk (white_rest (suc n) cells) (behind_columns (suc n) cells h))
+        cond (x && begins_white cells) (before_chunk (white_rest (suc n) cells) (after_columns (suc n) cells h))
         (before_chunk cells h)) fits
         ∙ white-joined (suc n) before_chunk cells h calm (omega arith)
 
@@ -139,7 +139,7 @@ content-whole : (cells : List Cell) (h : Here) → calmed h.scratch ≡ h.scratc
     (run_rest is_line (white_rest room cells))
 content-whole cells h calm =
     let room = held_indent h.flags.leaf in
-    content-joined cells h calm ∙ chunk-whole (white_rest room cells) (behind_spaces room cells h)
+    content-joined cells h calm ∙ chunk-whole (white_rest room cells) (after_spaces room cells h)
 
 -- A closing fence.
 
@@ -166,7 +166,7 @@ in-whole : (cells : List Cell) (h : Here) → h.scratch.size ≡ 0 → calmed (c
     in_close cells h ≡
     cond (nat_lt (run_size (λ b. b == m) cells) (held_size h.flags.leaf)) (refuses h)
     (close_end (white_rest any_size left)
-    (behind_spaces any_size left
+    (after_spaces any_size left
     (record (with_event h (exit (sequence_name m) q)) { point = q; scratch = cleared h.scratch })))
 unfolding in_close
 in-whole cells h none calm =
@@ -210,7 +210,7 @@ before-whole (c ∷ cs) h none calm same = go (c.byte == m)
 
     end : Here
     end =
-        behind_spaces any_size left
+        after_spaces any_size left
         (record (with_event k (exit (sequence_name m) q)) { point = q; scratch = cleared h.scratch })
 
     taken : Outcome
@@ -242,7 +242,7 @@ closing h = record h { scratch = record h.scratch { marker = held_marker h.flags
 
 close-joined : (options : ParseOptions) (cells : List Cell) (h : Here) → calmed h.scratch ≡ h.scratch →
     close_at options cells h ≡
-    before_close (white_rest (small_indent options) cells) (behind_spaces (small_indent options) cells h)
+    before_close (white_rest (small_indent options) cells) (after_spaces (small_indent options) cells h)
 unfolding close_at
 close-joined options cells h calm =
     white-joined (small_indent options) before_close cells h calm (small-some options)
@@ -264,7 +264,7 @@ further-whole options cells h is =
     rest = white_rest room cells
 
     k : Here
-    k = behind_spaces room cells (closing (line_begun h))
+    k = after_spaces room cells (closing (line_begun h))
 
     m : ℕ
     m = held_marker h.flags.leaf

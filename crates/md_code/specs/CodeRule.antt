@@ -32,14 +32,14 @@ abbrev pub then_here : Event → Here → Here
 then_here e h = record h { events = h.events ++ e ∷ [] }
 
 -- after whitespace, at most so many columns
-abbrev pub behind_columns : ℕ → List Cell → Here → Here
-behind_columns room cells h =
+abbrev pub after_columns : ℕ → List Cell → Here → Here
+after_columns room cells h =
     let p = white_end room cells h.point in
     record h { events = h.events ++ pair SpaceOrTab h.point p; point = p; scratch = calmed h.scratch }
 
 -- a chunk reaches to the end of the line
-abbrev pub behind_chunk : List Cell → Here → Here
-behind_chunk cells h =
+abbrev pub after_chunk : List Cell → Here → Here
+after_chunk cells h =
     let p = line_end cells h.point in
     record h { events = h.events ++ exit CodeFlowChunk p ∷ []; point = p }
 
@@ -52,7 +52,7 @@ code_ends cells h =
 
 -- in a chunk with text
 unfoldable pub in_text : List Cell → Here → Outcome
-in_text cells h = code_ends (from_ending cells) (behind_chunk cells h)
+in_text cells h = code_ends (from_ending cells) (after_chunk cells h)
 
 -- in a chunk without text yet
 unfoldable pub in_blank : List Cell → Here → Outcome
@@ -69,7 +69,7 @@ is_indented cells = nat_le 4 (white_size 4 cells)
 -- the rule of a line of code with this begin, where it may be here
 unfoldable pub line_at : Bool → Event → List Cell → Here → Outcome
 line_at may begin cells h =
-    if may && is_indented cells then at_break (white_rest 4 cells) (behind_columns 4 cells (then_here begin h))
+    if may && is_indented cells then at_break (white_rest 4 cells) (after_columns 4 cells (then_here begin h))
     else Refuses h.scratch h.flags
 
 -- the whole rule of the first line of code, if code is on and this leaf lets it begin
@@ -88,7 +88,7 @@ blank_ends cells h = Accepts (record h { flags = record h.flags { blank = true }
 -- in what whitespace is left of a blank line
 unfoldable pub further_inside : List Cell → Here → Outcome
 further_inside cells h =
-    if is_blank (line_bytes cells) then blank_ends (from_ending cells) (behind_chunk cells h)
+    if is_blank (line_bytes cells) then blank_ends (from_ending cells) (after_chunk cells h)
     else Refuses h.scratch h.flags
 
 -- after its first columns
@@ -109,7 +109,7 @@ chunk_at cells h = if h.scratch.seen then noted_chunk cells h else at_break cell
 -- a line that is no line of code continues open code if it is blank
 unfoldable pub further_begin : List Cell → Here → Outcome
 further_begin cells h =
-    if begins_white cells then further_after (white_rest 4 cells) (behind_columns 4 cells h) else further_after cells h
+    if begins_white cells then further_after (white_rest 4 cells) (after_columns 4 cells h) else further_after cells h
 
 abbrev pub or_blank : List Cell → Here → Outcome → Outcome
 or_blank cells h (Refuses s g) = further_begin cells (record h { scratch = s; flags = g })
@@ -163,8 +163,8 @@ abbrev pub code_adds : List Cell → Point → List Event
 code_adds cells p = line_adds (enter CodeIndented p) cells p
 
 -- what is kept if a line continues open code: it is blank, or one of code
-abbrev pub code_goes : HeldLeaf → List Cell → Option HeldLeaf
-code_goes leaf cells =
+abbrev pub code_continues : HeldLeaf → List Cell → Option HeldLeaf
+code_continues leaf cells =
     if is_blank (line_bytes cells) then Some leaf else if is_indented cells then Some held_leaf.Code else None
 
 -- what a blank line adds: at most four columns of whitespace, and a chunk over the rest, if there are any

@@ -73,9 +73,9 @@ abbrev pub refused : World → Transition
 refused w = record { to = Nok; world = record w { scratch = cleared w.scratch } }
 
 -- after a part of a fence, by whether whitespace is here
-abbrev pub behind_part : World → RawState → Bool → Transition
-behind_part w state true = white_then w 0 any_size (Next (n.RawFlow state)) Nok
-behind_part w state false = record { to = Retry (n.RawFlow state); world = w }
+abbrev pub after_part : World → RawState → Bool → Transition
+after_part w state true = white_then w 0 any_size (Next (n.RawFlow state)) Nok
+after_part w state false = record { to = Retry (n.RawFlow state); world = w }
 
 -- The opening line.
 
@@ -116,15 +116,15 @@ counted w state =
     }
 
 -- what follows the opening sequence: math has no info
-abbrev pub behind_opening : ℕ → RawState
-behind_opening m = if m == 36 then its.MetaBefore else its.InfoBefore
+abbrev pub after_opening : ℕ → RawState
+after_opening m = if m == 36 then its.MetaBefore else its.InfoBefore
 
 -- by whether the marker is here, whether there are too few of it, and whether whitespace is here
 abbrev pub sequence_open_code : World → Bool → Bool → Bool → Transition
 sequence_open_code w true few white = counted w its.SequenceOpen
 sequence_open_code w false true white = refused w
 sequence_open_code w false false white =
-    behind_part (exited w (sequence_name w.scratch.marker)) (behind_opening w.scratch.marker) white
+    after_part (exited w (sequence_name w.scratch.marker)) (after_opening w.scratch.marker) white
 
 -- the block is open after the line
 abbrev pub opened : World → World
@@ -155,7 +155,7 @@ meta_before_code w false false =
 
 -- by whether info ends here, whether whitespace is here, and whether what is here is refused
 abbrev pub info_code : World → Bool → Bool → Bool → Transition
-info_code w true white bad = behind_part (part_exited w part.CodeFencedFenceInfo) its.MetaBefore white
+info_code w true white bad = after_part (part_exited w part.CodeFencedFenceInfo) its.MetaBefore white
 info_code w false white true = refused w
 info_code w false white false = record { to = Next (n.RawFlow its.Info); world = taken w }
 
@@ -203,7 +203,7 @@ abbrev pub sequence_close_code : World → Bool → Bool → Bool → Transition
 sequence_close_code w true few white = counted w its.SequenceClose
 sequence_close_code w false true white = refused w
 sequence_close_code w false false white =
-    behind_part (record (exited w (sequence_name w.scratch.marker)) { scratch = cleared w.scratch })
+    after_part (record (exited w (sequence_name w.scratch.marker)) { scratch = cleared w.scratch })
     its.SequenceCloseAfter white
 
 -- by whether the line ends here

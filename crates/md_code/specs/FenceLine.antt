@@ -46,8 +46,8 @@ info_events m cells p =
     ++ meta_events m (white_rest any_size rest) (white_end any_size rest q)
 
 -- after the sequence
-abbrev pub behind_events : ℕ → List Cell → Point → List Event
-behind_events m cells p =
+abbrev pub after_events : ℕ → List Cell → Point → List Event
+after_events m cells p =
     let q = white_end any_size cells p in
     let rest = white_rest any_size cells in
     spaces any_size cells p ++ (if m == 36 then meta_events m rest q else info_events m rest q)
@@ -57,7 +57,7 @@ abbrev pub open_events : ℕ → List Cell → Point → List Event
 open_events m cells p =
     let q = run_end (λ b. b == m) cells p in
     enter (block_name m) p ∷ enter (fence_name m) p ∷ pair (sequence_name m) p q
-    ++ behind_events m (run_rest (λ b. b == m) cells) q
+    ++ after_events m (run_rest (λ b. b == m) cells) q
     ++ exit (fence_name m) (line_end cells p) ∷ exit (block_name m) (line_end cells p) ∷ []
 
 -- whether a fence of this marker is here: enough of it, and after it none that is refused
@@ -100,8 +100,8 @@ chunk_events m cells p = if is_end cells then [] else pair (chunk_name m) p (run
 
 -- What is kept of the block after the line, and where the line ends.
 
-abbrev pub fence_goes : ParseOptions → HeldLeaf → List Cell → HeldLeaf
-fence_goes options leaf cells = if closes_here options leaf cells then held_leaf.None else leaf
+abbrev pub fence_continues : ParseOptions → HeldLeaf → List Cell → HeldLeaf
+fence_continues options leaf cells = if closes_here options leaf cells then held_leaf.None else leaf
 
 abbrev pub further_end : ParseOptions → HeldLeaf → List Cell → Point → Point
 further_end options leaf cells p =
@@ -142,7 +142,7 @@ further_taken options cells h =
     (record h {
       events = h.events ++ further_events options leaf cells h.point;
       point = further_end options leaf cells h.point;
-      flags = record h.flags { leaf = fence_goes options leaf cells };
+      flags = record h.flags { leaf = fence_continues options leaf cells };
     })
     (further_rest options leaf cells)
 

@@ -4,7 +4,7 @@ use Rattle.md_engine.specs.declared.event.Event.{Event}
 use Rattle.md_engine.specs.declared.event.Name.{Name}
 use Rattle.md_engine.specs.declared.event.Name.TheVariants as part
 use Rattle.md_engine.specs.declared.event.Point.{Point}
-use Rattle.md_meaning.specs.Leaves.{behind_word, first_word, nonempty}
+use Rattle.md_meaning.specs.Leaves.{after_word, first_word, nonempty}
 use Rattle.md_meaning.specs.Rest.{Rest}
 use Rattle.md_code.specs.Fence.{meta_name}
 use Rattle.md_code.specs.FenceLine.{later_part}
@@ -25,4 +25,4 @@ abbrev pub parts_of : ℕ → List ℕ → Point → List Event → Point → Li
 parts_of m text p between q =
     if m == 36 then part_of (meta_name m) (nonempty text) p
     else part_of part.CodeFencedFenceInfo (nonempty (first_word text)) p ++ between
-    ++ part_of (meta_name m) (nonempty (behind_word text)) q
+    ++ part_of (meta_name m) (nonempty (after_word text)) q

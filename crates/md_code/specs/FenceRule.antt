@@ -63,17 +63,17 @@ abbrev pub with_event : Here → Event → Here
 with_event h e = record h { events = h.events ++ e ∷ [] }
 
 -- after whitespace that comes first, up to so many columns
-abbrev pub behind_columns : ℕ → List Cell → Here → Here
-behind_columns room cells h = record h {
+abbrev pub after_columns : ℕ → List Cell → Here → Here
+after_columns room cells h = record h {
   events = h.events ++ pair part.SpaceOrTab h.point (white_end room cells h.point);
   point = white_end room cells h.point;
   scratch = calmed h.scratch;
 }
 
 -- what is left after whitespace, if some comes first
-abbrev pub behind_white_of : ℕ → (List Cell → Here → Outcome) → List Cell → Here → Outcome
-behind_white_of room behind cells h =
-    if begins_white cells then behind (white_rest room cells) (behind_columns room cells h) else behind cells h
+abbrev pub after_white_of : ℕ → (List Cell → Here → Outcome) → List Cell → Here → Outcome
+after_white_of room following cells h =
+    if begins_white cells then following (white_rest room cells) (after_columns room cells h) else following cells h
 
 abbrev pub refuses : Here → Outcome
 refuses h = Refuses (cleared h.scratch) h.flags
@@ -116,7 +116,7 @@ before_meta cells h =
 unfoldable pub in_info : List Cell → Here → Outcome
 in_info cells h =
     if run_has (is_refused h.scratch.marker) is_word cells then refuses h
-    else behind_white_of any_size before_meta (run_rest is_word cells)
+    else after_white_of any_size before_meta (run_rest is_word cells)
     (part_ended part.CodeFencedFenceInfo (run_end is_word cells h.point) h)
 
 -- after the whitespace before info
@@ -127,8 +127,8 @@ before_info cells h =
     else in_info cells (part_begun part.CodeFencedFenceInfo h)
 
 -- what follows the sequence: math has no info
-abbrev pub behind_sequence : ℕ → List Cell → Here → Outcome
-behind_sequence m cells h = if m == 36 then before_meta cells h else before_info cells h
+abbrev pub after_sequence : ℕ → List Cell → Here → Outcome
+after_sequence m cells h = if m == 36 then before_meta cells h else before_info cells h
 
 -- in the sequence
 unfoldable pub in_sequence : List Cell → Here → Outcome
@@ -137,7 +137,7 @@ in_sequence cells h =
     let size = h.scratch.size + run_size (λ b. b == m) cells in
     let p = run_end (λ b. b == m) cells h.point in
     if nat_lt size (least_size m) then refuses h
-    else behind_white_of any_size (behind_sequence m) (run_rest (λ b. b == m) cells)
+    else after_white_of any_size (after_sequence m) (run_rest (λ b. b == m) cells)
     (record h {
       events = h.events ++ exit (sequence_name m) p ∷ [];
       point = p;
@@ -165,7 +165,7 @@ before_sequence options (c ∷ cs) h =
 unfoldable pub fence_at : ParseOptions → List Cell → Here → Outcome
 fence_at options cells h =
     if is_on options
-    then behind_white_of (small_indent options) (before_sequence options) cells
+    then after_white_of (small_indent options) (before_sequence options) cells
     (record h { scratch = record h.scratch { size_c = h.point.column } })
     else Refuses h.scratch h.flags
 
@@ -186,7 +186,7 @@ in_close cells h =
     let m = h.scratch.marker in
     let p = run_end (λ b. b == m) cells h.point in
     if nat_lt (h.scratch.size + run_size (λ b. b == m) cells) (held_size h.flags.leaf) then refuses h
-    else behind_white_of any_size close_end (run_rest (λ b. b == m) cells)
+    else after_white_of any_size close_end (run_rest (λ b. b == m) cells)
     (record h {
       events = h.events ++ exit (sequence_name m) p ∷ [];
       point = p;
@@ -205,7 +205,7 @@ before_close (c ∷ cs) h =
 
 -- a closing fence: a small indent, and a sequence after it
 unfoldable pub close_at : ParseOptions → List Cell → Here → Outcome
-close_at options cells h = behind_white_of (small_indent options) before_close cells h
+close_at options cells h = after_white_of (small_indent options) before_close cells h
 
 -- where a line ends
 abbrev pub line_done : Here → Point → Here
@@ -231,7 +231,7 @@ unfoldable pub content_at : List Cell → Here → Outcome
 content_at cells h =
     if nat_lt 0 (held_indent h.flags.leaf) && begins_white cells
     then before_chunk (white_rest (held_indent h.flags.leaf) cells)
-    (behind_columns (held_indent h.flags.leaf) cells h)
+    (after_columns (held_indent h.flags.leaf) cells h)
     else before_chunk cells h
 
 -- after a closing fence

@@ -25,7 +25,7 @@ ghost use Rattle.md_engine.specs.World.{world};
 ghost use Rattle.md_engine.specs.declared.state.Name.{Name as StateName};
 ghost use Rattle.md_engine.specs.declared.state.State.{State};
 ghost use Rattle.md_engine.specs.declared.state.raw_flow.State.{State as RawState};
-ghost use Rattle.md_code.specs.Fence.{FenceNeeds, behind_part};
+ghost use Rattle.md_code.specs.Fence.{FenceNeeds, after_part};
 ghost use Rattle.md_code.specs.Fence.{content_before_transition};
 ghost use Rattle.md_code.specs.Fence.{fence_transition};
 ghost use Rattle.md_code.specs.Fence.{is_open, may_begin};
@@ -131,11 +131,11 @@ pub fn before_sequence_open(tokenizer: &mut Tokenizer) -> State
 }
 
 /// Goes on after a part of a fence: after whitespace, if some is here.
-fn go_on(tokenizer: &mut Tokenizer, behind: RawState) -> State
+fn proceed(tokenizer: &mut Tokenizer, following: RawState) -> State
     ensures to { result ≢ State.Error →
-        result ≡ (behind_part (world tokenizer.old) behind (sees_white tokenizer.old.current)).to }
+        result ≡ (after_part (world tokenizer.old) following (sees_white tokenizer.old.current)).to }
     ensures world { result ≢ State.Error →
-        world tokenizer.new ≡ (behind_part (world tokenizer.old) behind (sees_white tokenizer.old.current)).world }
+        world tokenizer.new ≡ (after_part (world tokenizer.old) following (sees_white tokenizer.old.current)).world }
     ensures full { OnError result (IsFull tokenizer.new) }
 {
     if is_space_or_tab(tokenizer.current) {
@@ -143,11 +143,11 @@ fn go_on(tokenizer: &mut Tokenizer, behind: RawState) -> State
             tokenizer,
             0,
             usize::MAX,
-            State::Next(StateName::RawFlow(behind)),
+            State::Next(StateName::RawFlow(following)),
             State::Nok,
         )
     } else {
-        State::Retry(StateName::RawFlow(behind))
+        State::Retry(StateName::RawFlow(following))
     }
 }
 
@@ -176,9 +176,9 @@ pub fn sequence_open(tokenizer: &mut Tokenizer) -> State
     }
     or_error!(tokenizer.exit(sequence_name(marker)));
     if marker == b'$' {
-        go_on(tokenizer, RawState::MetaBefore)
+        proceed(tokenizer, RawState::MetaBefore)
     } else {
-        go_on(tokenizer, RawState::InfoBefore)
+        proceed(tokenizer, RawState::InfoBefore)
     }
 }
 
@@ -243,7 +243,7 @@ pub fn info(tokenizer: &mut Tokenizer) -> State
         None | Some(b'\t' | b'\n' | b' ') => {
             or_error!(tokenizer.exit(Name::Data));
             or_error!(tokenizer.exit(Name::CodeFencedFenceInfo));
-            go_on(tokenizer, RawState::MetaBefore)
+            proceed(tokenizer, RawState::MetaBefore)
         }
         Some(byte) => {
             if is_refused(tokenizer.scratch.marker, byte) {
@@ -422,7 +422,7 @@ pub fn sequence_close(tokenizer: &mut Tokenizer) -> State
         return State::Nok;
     }
     or_error!(tokenizer.exit(sequence_name(marker)));
-    go_on(tokenizer, RawState::SequenceCloseAfter)
+    proceed(tokenizer, RawState::SequenceCloseAfter)
 }
 
 /// After the closing sequence and whitespace: the line ends here.

@@ -79,15 +79,15 @@ seen-byte x p b e no_end single = inside (nat_lt p.index x.limit) refl
         (lt, by-end (is_ending byte) refl seen)
 
 -- Where two bytes of text are at the point of a tokenizer: what is after each.
-pub record StandsAhead (x : Setting) (p : Point) : Type 0 where
+pub record TwoAhead (x : Setting) (p : Point) : Type 0 where
   pub one : after x p ≡ ahead 1 p
   pub two : after x (after x p) ≡ ahead 2 p
   pub placed_one : IsPlaced x.bytes (ahead 1 p)
   pub placed_two : IsPlaced x.bytes (ahead 2 p)
 
-pub stands-ahead : (x : Setting) (p : Point) → IsPlaced x.bytes p → p.index + 1 < length x.bytes →
-    IsText x.bytes p.index → IsText x.bytes (p.index + 1) → StandsAhead x p
-stands-ahead x p placed lt here next = record {
+pub valid-ahead : (x : Setting) (p : Point) → IsPlaced x.bytes p → p.index + 1 < length x.bytes →
+    IsText x.bytes p.index → IsText x.bytes (p.index + 1) → TwoAhead x p
+valid-ahead x p placed lt here next = record {
   one = first;
   two = ap (λ (q : Point). after x q) first ∙ text-after x (ahead 1 p) next ∙ ahead-more 1 p;
   placed_one = placed-first;

@@ -11,7 +11,7 @@ use Rattle.md_engine.specs.declared.event.Point.{Point}
 use Rattle.md_engine.specs.declared.tokenizer.Scratch.{Scratch}
 use Rattle.md_engine.specs.Meaning.{Accepts, Cell, Here, Outcome, Refuses}
 use Rattle.md_containers.specs.Quote.{name_of, naming, unnamed}
-use Rattle.md_containers.specs.QuoteRule.{alert_close, alert_letter, alert_mark, alert_marker, alert_name, behind_alert}
+use Rattle.md_containers.specs.QuoteRule.{alert_close, alert_letter, alert_mark, alert_marker, alert_name, after_alert}
 use Rattle.md_containers.specs.QuoteRule.{marked_events, takes_bytes, takes_marker}
 use Rattle.md_containers.proofs.AlertBytes.{cells-parts, first-alone, first-none, letter-kind, letter_of, marker-length}
 use Rattle.md_containers.proofs.AlertBytes.{of_letter, one-letter, tail_of}
@@ -165,9 +165,9 @@ marked_by (Some kind) cells h =
     Accepts
     (record h {
       events = h.events ++ marked_events kind cells h.point;
-      point = line_end (behind_alert kind cells) (alert_close kind cells h.point);
+      point = line_end (after_alert kind cells) (alert_close kind cells h.point);
     })
-    (from_ending (behind_alert kind cells))
+    (from_ending (after_alert kind cells))
 
 abbrev pub kind_of : List Cell → Option AlertKind
 kind_of cells = first_kind (λ kind. takes_marker kind cells) kinds

@@ -13,7 +13,7 @@ use Rattle.md_engine.specs.declared.event.Name.TheVariants as n
 use Rattle.md_engine.specs.declared.event.Point.{Point}
 use Rattle.md_engine.specs.declared.tokenizer.Line.{Line}
 use Rattle.md_engine.specs.Meaning.{Cell}
-use Rattle.md_containers.specs.QuoteRule.{alert_close, alert_end, alert_events, alert_of, alert_rest, behind_alert}
+use Rattle.md_containers.specs.QuoteRule.{alert_close, alert_end, alert_events, alert_of, alert_rest, after_alert}
 use Rattle.md_containers.specs.QuoteRule.{marked_events, takes_marker}
 use Rattle.md_containers.proofs.AlertBytes.{Marked, first-none, first-passes, first-same, kind-alone, kind-quote}
 use Rattle.md_containers.proofs.AlertBytes.{marked-cells, takes-marked, white-unmarked}
@@ -21,7 +21,7 @@ use Rattle.md_containers.proofs.QuoteLines.{HasWhite, white-walk}
 use Rattle.md_leaves.specs.BlankRule.{blank_events}
 use Rattle.md_meaning.specs.declared.alert.AlertKind.{AlertKind}
 use Rattle.md_meaning.specs.Alert.{alert_at, first_kind, has_marker, is_marked, kinds, marker_of}
-use Rattle.md_meaning.specs.Rest.{Rest, behind, behind_indent, cut_tab, has_small_indent, indent, is_blank, is_white}
+use Rattle.md_meaning.specs.Rest.{Rest, following, after_indent, cut_tab, has_small_indent, indent, is_blank, is_white}
 use Rattle.md_meaning.specs.Rest.{trim_start}
 use Rattle.md_meaning.proofs.TextsLemmas.{NoEnding}
 use Rattle.md_events.specs.Ahead.{begins_white, from_ending, line_end, point_after, white_end, white_rest}
@@ -33,7 +33,7 @@ use Rattle.md_events.specs.Spaces.{small_indent}
 use Rattle.md_events.proofs.FeedLines.{Stops, drop-past, past_text-whole, slice-front, spread}
 use Rattle.md_events.proofs.InlineLemmas.{past-index, past_text-append}
 use Rattle.md_events.proofs.LostColumns.{White}
-use Rattle.md_events.proofs.RestCells.{Bare, Cut, HasIndent, RestAt, bare, behind-no_ending, cells_by, indent-length}
+use Rattle.md_events.proofs.RestCells.{Bare, Cut, HasIndent, RestAt, bare, following-no_ending, cells_by, indent-length}
 use Rattle.md_events.proofs.RestCells.{indent-over, indent-taken, lose-no_ending, past_cut, past_rest, rest_cells}
 use Rattle.md_events.proofs.RestLines.{bare-spread, indent-trims, large-room, rest-from, rest-past, small-room}
 use Rattle.md_events.proofs.RestLines.{trim-white}
@@ -57,7 +57,7 @@ pub record IsMarker (bytes : List ℕ) (kind : AlertKind) (p q : Point) (es : Li
   pub closes_whole : closes.vs ≡ 0
   -- what is whitespace
   pub white_before : is_blank (slice_range bytes p.index opens.index) ≡ true
-  pub white_behind : is_blank (slice_range bytes closes.index q.index) ≡ true
+  pub white_after : is_blank (slice_range bytes closes.index q.index) ≡ true
   -- all on one line
   pub line : q.line ≡ p.line
 
@@ -96,18 +96,18 @@ pub record HasBlankRest (line : Line) (text past : List ℕ) (r : Rest) (p : Poi
     (left : Rest) : Type 0 where
   pub empty : IsEmpty left
   pub fed : from_ending cells ≡ rest_cells line left (line_end cells p) ++ stop
-  pub stands : RestAt text past left (line_end cells p)
+  pub valid : RestAt text past left (line_end cells p)
   pub ends : past_rest left (line_end cells p) ≡ past_rest r p
   pub events : blank_events cells p ≡ pair_unless_empty n.SpaceOrTab p (line_end cells p)
   pub white : White text p (line_end cells p)
 
 pub blank-rest : (line : Line) (text past : List ℕ) (r : Rest) (p : Point) (stop : List Cell) → RestAt text past r p →
     NoEnding r.bytes → Stops stop → is_blank r.bytes ≡ true →
-    HasBlankRest line text past r p stop (rest_cells line r p ++ stop) (behind_indent r)
+    HasBlankRest line text past r p stop (rest_cells line r p ++ stop) (after_indent r)
 blank-rest line text past r p stop is h k blank = record {
   empty = empty;
   fed = rest-from line r p stop h k ∙ ap (λ (l : List Cell). l ++ stop) (sym (empty-cells line left q empty));
-  stands = subst (RestAt text past left) at taken.stands;
+  valid = subst (RestAt text past left) at taken.valid;
   ends = empty-past left q empty ∙ rest-past line r p stop h k (omega (arith, is.column));
   events = ap (λ (x : Point). cond (begins_white cells) (pair n.SpaceOrTab p x) []) (sym at) ∙ walked.events
       ∙ ap (pair_unless_empty n.SpaceOrTab p) at;
@@ -118,7 +118,7 @@ blank-rest line text past r p stop is h k blank = record {
     cells = rest_cells line r p ++ stop
 
     left : Rest
-    left = behind_indent r
+    left = after_indent r
 
     q : Point
     q = line_end cells p
@@ -151,23 +151,23 @@ past-line (b ∷ bs) p = past-line bs (past_byte b p)
 pub record HasAlert (options : ParseOptions) (line : Line) (text past : List ℕ) (end : Point) (stop cells : List Cell)
     (p : Point) (kind : AlertKind) (left : Rest) : Type 0 where
   pub fed : alert_rest options (Some kind) cells ≡ rest_cells line left (alert_end options (Some kind) cells p) ++ stop
-  pub stands : RestAt text past left (alert_end options (Some kind) cells p)
+  pub valid : RestAt text past left (alert_end options (Some kind) cells p)
   pub ends : past_rest left (alert_end options (Some kind) cells p) ≡ end
   pub marker : IsMarker text kind p (alert_end options (Some kind) cells p) (alert_events options (Some kind) cells p)
 
 -- the rest after the marker of a kind
-abbrev pub behind_alert_of : AlertKind → Rest → Rest
-behind_alert_of kind r = behind_indent (behind (length (marker_of kind)) (behind_indent r))
+abbrev pub after_alert_of : AlertKind → Rest → Rest
+after_alert_of kind r = after_indent (following (length (marker_of kind)) (after_indent r))
 
 -- where its bytes are after a small indent
 alert-taken : (options : ParseOptions) (kind : AlertKind) (line : Line) (text past : List ℕ) (r : Rest)
     (stop : List Cell) (p : Point) →
     RestAt text past r p → NoEnding r.bytes → Stops stop → indent r ≤ small_indent options →
-    is_marked kind (behind_indent r).bytes ≡ true →
-    HasAlert options line text past (past_rest r p) stop (rest_cells line r p ++ stop) p kind (behind_alert_of kind r)
+    is_marked kind (after_indent r).bytes ≡ true →
+    HasAlert options line text past (past_rest r p) stop (rest_cells line r p ++ stop) p kind (after_alert_of kind r)
 alert-taken options kind line text past r stop p is h k fits marked = record {
-  fed = ap from_ending behind_is ∙ blank.fed ∙ ap (λ (x : Point). rest_cells line left x ++ stop) (sym end_is);
-  stands = subst (RestAt text past left) (sym end_is) blank.stands;
+  fed = ap from_ending following_is ∙ blank.fed ∙ ap (λ (x : Point). rest_cells line left x ++ stop) (sym end_is);
+  valid = subst (RestAt text past left) (sym end_is) blank.valid;
   ends = ap (past_rest left) end_is ∙ blank.ends ∙ past_is ∙ indented.ends;
   marker =
       subst (λ (x : Point). IsMarker text kind p x (alert_events options (Some kind) cells p)) (sym end_is) (record {
@@ -186,7 +186,7 @@ alert-taken options kind line text past r stop p is h k fits marked = record {
         opens_whole = whole;
         closes_whole = past_text-whole (take size bytes) first whole;
         white_before = white.white.blank;
-        white_behind = blank.white.blank;
+        white_after = blank.white.blank;
         line = blank.white.line ∙ past-line (take size bytes) first ∙ white.white.line;
       });
 }
@@ -204,7 +204,7 @@ alert-taken options kind line text past r stop p is h k fits marked = record {
     first = white_end room cells p
 
     from : Rest
-    from = behind_indent r
+    from = after_indent r
 
     bytes : List ℕ
     bytes = from.bytes
@@ -216,10 +216,10 @@ alert-taken options kind line text past r stop p is h k fits marked = record {
     close = past_text (take size bytes) first
 
     after : Rest
-    after = behind size from
+    after = following size from
 
     left : Rest
-    left = behind_indent after
+    left = after_indent after
 
     rest : List Cell
     rest = rest_cells line after close ++ stop
@@ -240,10 +240,10 @@ alert-taken options kind line text past r stop p is h k fits marked = record {
     cells_are = indented.cells ∙ ap (λ (l : List Cell). l ++ stop) (bare-spread line from first indented.none)
 
     walked : Marked line bytes size first stop (spread line bytes first ++ stop)
-    walked = marked-cells kind line bytes first stop parts.0 (omega (arith, indented.stands.column))
+    walked = marked-cells kind line bytes first stop parts.0 (omega (arith, indented.valid.column))
 
-    behind_is : behind_alert kind marker ≡ rest
-    behind_is = ap (drop size) cells_are ∙ walked.left
+    following_is : after_alert kind marker ≡ rest
+    following_is = ap (drop size) cells_are ∙ walked.left
 
     close_is : alert_close kind marker first ≡ close
     close_is = ap (λ (l : List Cell). point_after (take size l) first) cells_are ∙ walked.point
@@ -252,18 +252,18 @@ alert-taken options kind line text past r stop p is h k fits marked = record {
     index = let i = past-index (take size bytes) first in omega (arith, i, walked.size)
 
     whole : first.vs ≡ 0
-    whole = subst (λ (n : ℕ). Cut n first) spaces indented.stands.cut
+    whole = subst (λ (n : ℕ). Cut n first) spaces indented.valid.cut
 
     text_is : drop first.index text ≡ take size bytes ++ (drop size bytes ++ past)
     text_is =
-        indented.stands.text_is
+        indented.valid.text_is
         ∙ ap (λ (n : ℕ). cut_tab n ++ bytes ++ past) spaces
         ∙ ap (λ (l : List ℕ). l ++ past) (sym (take-append-drop size bytes))
         ∙ append_assoc (take size bytes) (drop size bytes) past
 
-    stands : RestAt text past after close
-    stands = record {
-      column = let c = walked.column in let o = indented.stands.column in omega (arith, c, o);
+    valid : RestAt text past after close
+    valid = record {
+      column = let c = walked.column in let o = indented.valid.column in omega (arith, c, o);
       cut = past_text-whole (take size bytes) first whole;
       text_is =
           ap (λ (i : ℕ). drop i text) (past-index (take size bytes) first)
@@ -272,11 +272,12 @@ alert-taken options kind line text past r stop p is h k fits marked = record {
 
     blank : HasBlankRest line text past after close stop rest left
     blank =
-        blank-rest line text past after close stop stands (behind-no_ending size from (lose-no_ending (indent r) r h)) k
+        blank-rest line text past after close stop valid
+        (following-no_ending size from (lose-no_ending (indent r) r h)) k
         parts.1
 
     end_is : alert_end options (Some kind) cells p ≡ line_end rest close
-    end_is = ap₂ (λ (l : List Cell) (x : Point). line_end l x) behind_is close_is
+    end_is = ap₂ (λ (l : List Cell) (x : Point). line_end l x) following_is close_is
 
     past_is : past_rest after close ≡ past_rest from first
     past_is =
@@ -288,7 +289,7 @@ alert-taken options kind line text past r stop p is h k fits marked = record {
         enter n.BlockQuoteMarker first ∷ exit n.BlockQuoteMarker close
         ∷ pair_unless_empty n.SpaceOrTab close (line_end rest close)
     events_are =
-        ap₂ (λ (l : List Cell) (x : Point). pair n.BlockQuoteMarker first x ++ blank_events l x) behind_is close_is
+        ap₂ (λ (l : List Cell) (x : Point). pair n.BlockQuoteMarker first x ++ blank_events l x) following_is close_is
         ∙ ap (λ (es : List Event). enter n.BlockQuoteMarker first ∷ exit n.BlockQuoteMarker close ∷ es) blank.events
 
 -- a small indent fits, as in any line
@@ -303,7 +304,7 @@ small-fits options line text past r stop p is short e =
 -- the definition, by whether alerts are on and the indent is small
 alert-by : (options : ParseOptions) (r : Rest) (x y : Bool) → options.constructs.alerts ≡ x →
     has_small_indent options r ≡ y →
-    alert_at options r ≡ cond (x && y) (first_kind (λ kind. is_marked kind (behind_indent r).bytes) kinds) None
+    alert_at options r ≡ cond (x && y) (first_kind (λ kind. is_marked kind (after_indent r).bytes) kinds) None
 unfolding alert_at
 alert-by options r x y e f = rw (e, f) refl
 
@@ -330,7 +331,7 @@ alert-agrees options line text past r stop p is h k short =
     cells = rest_cells line r p ++ stop
 
     bytes : List ℕ
-    bytes = (behind_indent r).bytes
+    bytes = (after_indent r).bytes
 
     go : (x y : Bool) → options.constructs.alerts ≡ x → has_small_indent options r ≡ y →
         alert_of options cells ≡ alert_at options r
@@ -346,7 +347,7 @@ alert-agrees options line text past r stop p is h k short =
         let indented = indent-taken line text past room r p stop is k fits in
         let q = white_end room cells p in
         let same : white_rest room cells ≡ spread line bytes q ++ stop = indented.cells
-        ∙ ap (λ (l : List Cell). l ++ stop) (bare-spread line (behind_indent r) q indented.none) in
+        ∙ ap (λ (l : List Cell). l ++ stop) (bare-spread line (after_indent r) q indented.none) in
         of-by options cells true e
         ∙ first-same (λ kind. takes_marker kind (white_rest room cells)) (λ kind. is_marked kind bytes)
         (λ kind. ap (takes_marker kind) same
@@ -358,14 +359,14 @@ pub alert-has : (options : ParseOptions) (line : Line) (text past : List ℕ) (r
     (kind : AlertKind) →
     RestAt text past r p → NoEnding r.bytes → Stops stop → length (rest_cells line r p ++ stop) < 2 ^ 63 →
     alert_at options r ≡ Some kind →
-    HasAlert options line text past (past_rest r p) stop (rest_cells line r p ++ stop) p kind (behind_alert_of kind r)
+    HasAlert options line text past (past_rest r p) stop (rest_cells line r p ++ stop) p kind (after_alert_of kind r)
 alert-has options line text past r stop p kind is h k short some =
     go options.constructs.alerts (has_small_indent options r) refl refl
   where
     Done : Type 0
     Done =
         HasAlert options line text past (past_rest r p) stop (rest_cells line r p ++ stop) p kind
-        (behind_alert_of kind r)
+        (after_alert_of kind r)
 
     go : (x y : Bool) → options.constructs.alerts ≡ x → has_small_indent options r ≡ y → Done
     go false y e f = let bad = sym (alert-by options r false y e f) ∙ some in cc
@@ -373,7 +374,7 @@ alert-has options line text past r stop p kind is h k short some =
     go true true e f =
         alert-taken options kind line text past r stop p is h k
         (small-fits options line text past r stop p is short f)
-        (first-passes (λ j. is_marked j (behind_indent r).bytes) kind kinds
+        (first-passes (λ j. is_marked j (after_indent r).bytes) kind kinds
         (sym (alert-by options r true true e f) ∙ some))
 
 -- The kind of a marker.

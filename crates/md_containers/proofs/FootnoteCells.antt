@@ -11,12 +11,12 @@ use Rattle.md_engine.specs.declared.tokenizer.Scratch.{Scratch}
 use Rattle.md_engine.specs.declared.tokenizer.TheConstants.Scratch.{REST}
 use Rattle.md_engine.specs.Meaning.{Accepts, Cell, Here, Outcome, Refuses}
 use Rattle.md_containers.specs.Footnote.{footnote_held, footnote_width}
-use Rattle.md_containers.specs.FootnotePrefix.{as_footnote, footnote_behind, footnote_by, footnote_ended}
+use Rattle.md_containers.specs.FootnotePrefix.{as_footnote, footnote_after, footnote_by, footnote_ended}
 use Rattle.md_containers.specs.FootnotePrefix.{footnote_further}
 use Rattle.md_containers.specs.FootnotePrefix.{footnote_labelled, footnote_marked, footnote_new, footnote_opened}
-use Rattle.md_containers.specs.FootnoteRule.{LabelCells, at_bracket, at_caret, at_colon, behind_colon, behind_prefix}
-use Rattle.md_containers.specs.FootnoteRule.{bracket_events, caret_events, footnote_at, in_label, label_by, label_cells}
-use Rattle.md_containers.specs.FootnoteRule.{label_ended, may_have}
+use Rattle.md_containers.specs.FootnoteRule.{LabelCells, at_bracket, at_caret, at_colon, following_colon}
+use Rattle.md_containers.specs.FootnoteRule.{following_prefix, bracket_events, caret_events, footnote_at, in_label}
+use Rattle.md_containers.specs.FootnoteRule.{label_by, label_cells, label_ended, may_have}
 use Rattle.md_containers.specs.ItemPrefix.{ItemPassed, item_by, item_further, item_indented, item_same}
 use Rattle.md_containers.specs.ItemRule.{item_on}
 use Rattle.md_containers.proofs.ItemCells.{at_rest}
@@ -41,10 +41,10 @@ abbrev opened : Here → List Event → List Cell → Point → Outcome
 opened h es cells p =
     Accepts (record h { events = es; point = p; scratch = REST; flags = footnote_held h.flags }) cells
 
-behind-is : (h : Here) (label : List ℕ) (front : List Event) (cells : List Cell) (p : Point) →
-    behind_colon cells (at h front p) ≡ footnote_by (Some (footnote_opened label front cells p)) (at_rest h)
-unfolding behind_colon behind_prefix
-behind-is h label front cells p = go (begins_white cells) refl
+following-is : (h : Here) (label : List ℕ) (front : List Event) (cells : List Cell) (p : Point) →
+    following_colon cells (at h front p) ≡ footnote_by (Some (footnote_opened label front cells p)) (at_rest h)
+unfolding following_colon following_prefix
+following-is h label front cells p = go (begins_white cells) refl
   where
     q : Point
     q = white_end any_size cells p
@@ -53,7 +53,7 @@ behind-is h label front cells p = go (begins_white cells) refl
     ended = exit GfmFootnoteDefinitionPrefix q ∷ []
 
     go : (x : Bool) → begins_white cells ≡ x →
-        behind_colon cells (at h front p) ≡ footnote_by (Some (footnote_opened label front cells p)) (at_rest h)
+        following_colon cells (at h front p) ≡ footnote_by (Some (footnote_opened label front cells p)) (at_rest h)
     go true e =
         rw e
         (ap (λ (es : List Event). opened h es (white_rest any_size cells) q)
@@ -77,14 +77,14 @@ ended-is h label front (c ∷ cs) p = go (nat_eq c.byte colon)
 
     go : (x : Bool) →
         cond x
-        (behind_colon cs (record (at h front p) { events = (h.events ++ front) ++ marker; point = c.after }))
+        (following_colon cs (record (at h front p) { events = (h.events ++ front) ++ marker; point = c.after }))
         (Refuses REST h.flags) ≡
         footnote_by (cond x (Some (footnote_opened label (front ++ marker) cs c.after)) None) (at_rest h)
     go true =
         ap
-        (λ (es : List Event). behind_colon cs (record h { events = es; point = c.after; scratch = REST }))
+        (λ (es : List Event). following_colon cs (record h { events = es; point = c.after; scratch = REST }))
         (append_assoc h.events front marker)
-        ∙ behind-is h label (front ++ marker) cs c.after
+        ∙ following-is h label (front ++ marker) cs c.after
     go false = refl
 
 -- The label.
@@ -147,7 +147,7 @@ marked-is h front (c ∷ cs) p = go (nat_eq c.byte caret)
 -- After the indent.
 
 bracket-is : (h : Here) (front : List Event) (cells : List Cell) (p : Point) →
-    at_bracket cells (at h front p) ≡ footnote_by (footnote_behind front cells p) (at_rest h)
+    at_bracket cells (at h front p) ≡ footnote_by (footnote_after front cells p) (at_rest h)
 unfolding at_bracket
 bracket-is h front [] p = refl
 bracket-is h front (c ∷ cs) p = go (nat_eq c.byte left_bracket)
@@ -197,7 +197,7 @@ start-rest options cells h = go options.constructs.gfm_footnote_definition (begi
         (Refuses REST h.flags) ≡
         footnote_by
         (cond x
-        (footnote_behind (enter GfmFootnoteDefinition h.point ∷ cond y (pair SpaceOrTab h.point p) []) left p) None)
+        (footnote_after (enter GfmFootnoteDefinition h.point ∷ cond y (pair SpaceOrTab h.point p) []) left p) None)
         (at_rest h)
     go false y k = refl
     go true true k =
@@ -207,7 +207,7 @@ start-rest options cells h = go options.constructs.gfm_footnote_definition (begi
         ∙ bracket-is h (enter GfmFootnoteDefinition h.point ∷ pair SpaceOrTab h.point p) left p
     go true false k =
         bracket-is h begun cells h.point
-        ∙ ap₂ (λ (l : List Cell) (q : Point). footnote_by (footnote_behind begun l q) (at_rest h))
+        ∙ ap₂ (λ (l : List Cell) (q : Point). footnote_by (footnote_after begun l q) (at_rest h))
         (sym (none-rest room cells k)) (sym (none-end room cells h.point k))
 
 -- a footnote definition is taken where it opens, and refused elsewhere

@@ -10,7 +10,7 @@ use Rattle.md_engine.specs.declared.event.Name.TheVariants.{GfmFootnoteDefinitio
 use Rattle.md_engine.specs.declared.event.Point.{Point}
 use Rattle.md_engine.specs.Meaning.{Cell, Here, Refuses}
 use Rattle.md_containers.specs.Footnote.{footnote_width, may_begin}
-use Rattle.md_containers.specs.FootnotePrefix.{as_footnote, footnote_behind, footnote_ended, footnote_further}
+use Rattle.md_containers.specs.FootnotePrefix.{as_footnote, footnote_after, footnote_ended, footnote_further}
 use Rattle.md_containers.specs.FootnotePrefix.{footnote_labelled, footnote_marked, footnote_new}
 use Rattle.md_containers.specs.FootnoteRule.{LabelCells, at_bracket, bracket_events, caret_events, footnote_at}
 use Rattle.md_containers.specs.FootnoteRule.{label_cells, label_ended, may_have}
@@ -24,7 +24,7 @@ use Rattle.md_meaning.specs.Rest.{is_blank, is_white}
 use Rattle.md_meaning.specs.State.{InFootnote}
 use Rattle.md_events.specs.Ahead.{line_bytes, white_end, white_rest, white_size}
 use Rattle.md_events.specs.Events.Nested.{enter}
-use Rattle.md_events.specs.Look.{first_seen, seen_behind}
+use Rattle.md_events.specs.Look.{first_seen, seen_after}
 use Rattle.md_events.specs.Spaces.{IsRest, ends_line, small_indent}
 use Rattle.md_events.proofs.AheadLemmas.{none-rest}
 use Rattle.md_events.proofs.LostColumns.{lose-bare}
@@ -57,15 +57,15 @@ marked-footnote front (c ∷ cs) p =
     footnote-if (nat_eq c.byte caret) _ _
     (labelled-footnote (front ++ caret_events p c.after) (label_cells false cs c.after)) tt
 
-behind-footnote : (front : List Event) (cells : List Cell) (p : Point) → IsFootnote (footnote_behind front cells p)
-behind-footnote front [] p = tt
-behind-footnote front (c ∷ cs) p =
+following-footnote : (front : List Event) (cells : List Cell) (p : Point) → IsFootnote (footnote_after front cells p)
+following-footnote front [] p = tt
+following-footnote front (c ∷ cs) p =
     footnote-if (nat_eq c.byte left_bracket) _ _ (marked-footnote (front ++ bracket_events p c.after) cs c.after) tt
 
 pub new-footnote : (options : ParseOptions) (cells : List Cell) (p : Point) → IsFootnote (footnote_new options cells p)
 new-footnote options cells p =
     footnote-if options.constructs.gfm_footnote_definition _ _
-    (behind-footnote (enter GfmFootnoteDefinition p ∷ indent_events options cells p)
+    (following-footnote (enter GfmFootnoteDefinition p ∷ indent_events options cells p)
     (white_rest (small_indent options) cells) (white_end (small_indent options) cells p))
     tt
 
@@ -116,20 +116,20 @@ white-dark : (c : ℕ) → is_white c ≡ true → may_begin c ≡ false
 white-dark c white = grind (arith, nat_tests)
 
 pub footnote-looked : (options : ParseOptions) (cells : List Cell) (h : Here) (b : ℕ) → IsRest h.scratch →
-    seen_behind cells ≡ Some b → may_begin b ≡ false → footnote_at options cells h ≡ Refuses h.scratch h.flags
+    seen_after cells ≡ Some b → may_begin b ≡ false → footnote_at options cells h ≡ Refuses h.scratch h.flags
 footnote-looked options cells h b is seen e =
     start-looked GfmFootnoteDefinition options.constructs.gfm_footnote_definition at_bracket may_begin options cells h b
     dark-refused white-dark is seen e
 
 -- Where the line ends none opens,
 
-ended-behind : (front : List Event) (room : ℕ) (cells : List Cell) (p : Point) →
-    ends_line (first_seen cells) ≡ true → footnote_behind front (white_rest room cells) p ≡ None
-ended-behind front room [] p ends = refl
-ended-behind front room (c ∷ cs) p ends =
+ended-following : (front : List Event) (room : ℕ) (cells : List Cell) (p : Point) →
+    ends_line (first_seen cells) ≡ true → footnote_after front (white_rest room cells) p ≡ None
+ended-following front room [] p ends = refl
+ended-following front room (c ∷ cs) p ends =
     let ten : c.byte ≡ 10 = eqb-true c.byte 10 ends in
     let other : nat_eq c.byte left_bracket ≡ false = ap (λ (b : ℕ). nat_eq b left_bracket) ten in
-    ap (λ (l : List Cell). footnote_behind front l p) (none-rest room (c ∷ cs) (ap is_white ten)) ∙ rw other refl
+    ap (λ (l : List Cell). footnote_after front l p) (none-rest room (c ∷ cs) (ap is_white ten)) ∙ rw other refl
 
 pub footnote-ended : (options : ParseOptions) (cells : List Cell) (p : Point) → ends_line (first_seen cells) ≡ true →
     footnote_new options cells p ≡ None
@@ -141,8 +141,8 @@ footnote-ended options cells p ends = go options.constructs.gfm_footnote_definit
     front : List Event
     front = enter GfmFootnoteDefinition p ∷ indent_events options cells p
 
-    go : (x : Bool) → cond x (footnote_behind front (white_rest (small_indent options) cells) q) None ≡ None
-    go true = ended-behind front (small_indent options) cells q ends
+    go : (x : Bool) → cond x (footnote_after front (white_rest (small_indent options) cells) q) None ≡ None
+    go true = ended-following front (small_indent options) cells q ends
     go false = refl
 
 -- and an open one continues, and takes nothing.

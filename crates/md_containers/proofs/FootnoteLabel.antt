@@ -9,7 +9,7 @@ use Rattle.md_engine.specs.declared.tokenizer.Line.{Line}
 use Rattle.md_engine.specs.Meaning.{Cell}
 use Rattle.md_containers.specs.Footnote.{breaks_label}
 use Rattle.md_containers.specs.FootnoteRule.{LabelCells, label_cells, with_cell}
-use Rattle.md_containers.proofs.ItemDigits.{byte-behind, spread-one, starts, starts-spread}
+use Rattle.md_containers.proofs.ItemDigits.{byte-following, spread-one, starts, starts-spread}
 use Rattle.md_meaning.specs.Containers.{Labelled, footnote_label, is_label_mark, with_label_byte}
 use Rattle.md_meaning.specs.Rest.{Rest, is_white}
 use Rattle.md_meaning.proofs.TextsLemmas.{NoEnding}
@@ -33,7 +33,7 @@ pub record HasLabel (line : Line) (text past : List ℕ) (column : ℕ) (bytes :
   pub end : l.end ≡ past_text m.label p
   pub closer : l.closer ≡ cell 93 (past_byte 93 (past_text m.label p)) line
   pub left : l.rest ≡ spread line m.after (past_byte 93 (past_text m.label p)) ++ stop
-  pub stands : RestAt text past (rest (column + length m.label + 1) m.after) (past_byte 93 (past_text m.label p))
+  pub valid : RestAt text past (rest (column + length m.label + 1) m.after) (past_byte 93 (past_text m.label p))
   pub no_ending : NoEnding m.after
 
 -- a label is read of the cells where it is of the bytes
@@ -97,10 +97,10 @@ one-more line text past column b bs p stop (Some l) (Some m) dark has = record {
   end = has.end;
   closer = has.closer;
   left = has.left;
-  stands =
+  valid =
       subst
       (λ (k : ℕ). RestAt text past (rest k m.after) (past_byte 93 (past_text m.label (past_byte b p))))
-      (omega arith) has.stands;
+      (omega arith) has.valid;
   no_ending = has.no_ending;
 }
 
@@ -125,10 +125,10 @@ closed line text past column b bs p stop e is h =
       end = refl;
       closer = ap (λ (c : ℕ). cell c (past_byte c p) line) same;
       left = ap (λ (c : ℕ). spread line bs (past_byte c p) ++ stop) same;
-      stands =
+      valid =
           subst (λ (c : ℕ). RestAt text past (rest (column + 0 + 1) bs) (past_byte c p)) same
           (subst (λ (k : ℕ). RestAt text past (rest (k + 1) bs) (past_byte b p)) (sym (add-zero column))
-          (byte-behind text past column b bs p dark is));
+          (byte-following text past column b bs p dark is));
       no_ending = h;
     }
 
@@ -142,7 +142,7 @@ label-walk line text past column escaped [] p stop is h k =
     (sym (label-stops escaped stop p k)) tt
 label-walk line text past column escaped (b ∷ bs) p stop is h k =
     go (is_white b) refl
-    (λ further stands. label-walk line text past (column + 1) further bs (past_byte b p) stop stands h.1 k)
+    (λ further valid. label-walk line text past (column + 1) further bs (past_byte b p) stop valid h.1 k)
   where
     q : Point
     q = past_byte b p
@@ -168,7 +168,7 @@ label-walk line text past column escaped (b ∷ bs) p stop is h k =
             Agrees (with_cell b (label_cells further left q)) (with_label_byte b (footnote_label further bs))
         more further =
             one-more line text past column b bs p stop (label_cells further left q) (footnote_label further bs) dark
-            (next further (byte-behind text past column b bs p dark is))
+            (next further (byte-following text past column b bs p dark is))
 
         no_end : nat_eq b 10 ≡ false
         no_end = (or_parts (nat_eq b 10) (nat_eq b 13) h.0).0

@@ -8,7 +8,7 @@ use Rattle.md_engine.specs.Meaning.{Cell}
 use Rattle.md_containers.specs.Footnote.{footnote_width}
 use Rattle.md_containers.specs.FootnotePrefix.{as_footnote, footnote_further}
 use Rattle.md_containers.specs.ItemPrefix.{ItemPassed, item_further}
-use Rattle.md_containers.proofs.ItemLines.{GoesFurther, ItemAgrees, further-agrees}
+use Rattle.md_containers.proofs.ItemLines.{ContinuesFurther, ItemAgrees, further-agrees}
 use Rattle.md_meaning.specs.Containers.{Taken, footnote_continues, item_continues}
 use Rattle.md_meaning.specs.Rest.{Rest, indent, is_blank, lose}
 use Rattle.md_meaning.specs.State.{Container, InFootnote, InItem}
@@ -21,7 +21,7 @@ pub footnote-further_agrees : (label : List ℕ) (line : Line) (text past : List
     (p : Point) →
     RestAt text past r p → NoEnding r.bytes → Stops stop →
     let cells = rest_cells line r p ++ stop in
-    ItemAgrees (GoesFurther line text past p (past_rest r p) stop cells) (footnote_further label cells p)
+    ItemAgrees (ContinuesFurther line text past p (past_rest r p) stop cells) (footnote_further label cells p)
     (footnote_continues label r)
 unfolding item_continues footnote_continues
 footnote-further_agrees label line text past r stop p is h k =
@@ -43,7 +43,7 @@ footnote-further_agrees label line text past r stop p is h k =
     taken c = record { container = c; rest = lose 4 r }
 
     Agrees : Option ItemPassed → Option Taken → Type 0
-    Agrees o t = ItemAgrees (GoesFurther line text past p (past_rest r p) stop cells) o t
+    Agrees o t = ItemAgrees (ContinuesFurther line text past p (past_rest r p) stop cells) o t
 
     go : (x : Bool) (o : Option ItemPassed) → Agrees o (cond x (Some (taken (InItem [] 0 4 false))) None) →
         Agrees (as_footnote label o) (cond x (Some (taken (InFootnote label))) None)
@@ -52,7 +52,7 @@ footnote-further_agrees label line text past r stop p is h k =
       leaves = record {
         container = refl;
         fed = has.leaves.fed;
-        stands = has.leaves.stands;
+        valid = has.leaves.valid;
         ends = has.leaves.ends;
         no_ending = has.leaves.no_ending;
         shorter = has.leaves.shorter;

@@ -23,10 +23,10 @@ use Rattle.md_containers.specs.Footnote.{footnote_transition, label_after_code, 
 use Rattle.md_containers.specs.Footnote.{label_escape_code, label_inside_code, label_link}
 use Rattle.md_containers.specs.Footnote.{marker_after_code, most, refused, sees_mark, taken_as}
 use Rattle.md_containers.specs.FootnoteRule.{FootnoteMeans, HasFootnote, LabelCells, at_bracket, at_caret, at_colon}
-use Rattle.md_containers.specs.FootnoteRule.{behind_colon, behind_prefix, bracket_events, caret_events, in_label}
+use Rattle.md_containers.specs.FootnoteRule.{following_colon, following_prefix, bracket_events, caret_events, in_label}
 use Rattle.md_containers.specs.FootnoteRule.{label_by, label_cells, label_ended, with_cell}
 use Rattle.md_containers.specs.Item.{without_size}
-use Rattle.md_containers.specs.ItemRule.{behind_columns}
+use Rattle.md_containers.specs.ItemRule.{after_columns}
 use Rattle.md_meaning.specs.Ascii.{caret, colon, left_bracket}
 use Rattle.md_meaning.specs.Containers.{is_label_mark}
 use Rattle.md_leaves.proofs.LeafStart.{HasStart, start-steps}
@@ -102,10 +102,10 @@ unfolding in_label
 label-breaks c cs h e f = rw (e, f) refl
 
 -- at another byte,
-label-goes : (c : Cell) (cs : List Cell) (h : Here) → nat_eq c.byte 93 ≡ false → breaks_label c.byte ≡ false →
+label-proceeds : (c : Cell) (cs : List Cell) (h : Here) → nat_eq c.byte 93 ≡ false → breaks_label c.byte ≡ false →
     in_label false (c ∷ cs) h ≡ label_by (with_cell c.byte (label_cells (nat_eq c.byte 92) cs c.after)) h
 unfolding in_label
-label-goes c cs h e f = rw (e, f) refl
+label-proceeds c cs h e f = rw (e, f) refl
 
 -- and after a backslash, by whether it takes what follows
 label-escaped : (c : Cell) (cs : List Cell) (h : Here) → is_label_mark c.byte ≡ true →
@@ -153,16 +153,16 @@ taken_means : (B : Behaviour) (options : ParseOptions) (feed : Feed) (state next
     nat_le most w.scratch.size ≡ x →
     Steps B feed (Next (n.GfmFootnoteDefinition state)) w (taken_as w next).to (taken_as w next).world
 unfolding in_label
-taken_means B options feed state next w escaped b true has rule goes e =
+taken_means B options feed state next w escaped b true has rule proceeds e =
     rw e
     (passes B feed _ _ w (refused w).world refl refl
     (rule ∙ label-full b (label_cells escaped (feed (after w.setting w.point)) (after w.setting w.point)) (here w) e))
-taken_means B options feed state next w escaped b false has rule goes e =
+taken_means B options feed state next w escaped b false has rule proceeds e =
     let q = after w.setting w.point in
     rw e
     (passes B feed _ _ w
     (record w { point = q; scratch = record w.scratch { size = w.scratch.size + 1 } }) refl refl
-    (rule ∙ label-counted b (label_cells escaped (feed q) q) q (here w) ∙ sym (goes _ _)))
+    (rule ∙ label-counted b (label_cells escaped (feed q) q) q (here w) ∙ sym (proceeds _ _)))
 
 -- at the `]` after it, by whether it is empty
 closed_means : (B : Behaviour) (options : ParseOptions) (feed : Feed) (w : World) (b : ℕ) (x : Bool) →
@@ -220,11 +220,11 @@ label_inside_means B options feed w (Some b) has s few is =
         has.each its.LabelInside _ _
         ∙ ap (λ (x : List Cell). in_label false x (here w)) (seen-cells feed w b s is)
 
-    goes : (z : Bool) → nat_eq b 93 ≡ false → breaks_label b ≡ false → nat_eq b 92 ≡ z →
+    proceeds : (z : Bool) → nat_eq b 93 ≡ false → breaks_label b ≡ false → nat_eq b 92 ≡ z →
         B (n.GfmFootnoteDefinition its.LabelInside) (feed w.point) (here w) ≡
         label_by (with_cell b (label_cells z (feed q) q)) (here w)
-    goes z k l m =
-        seen ∙ label-goes (cell_here feed w b) (feed q) (here w) k l
+    proceeds z k l m =
+        seen ∙ label-proceeds (cell_here feed w b) (feed q) (here w) k l
         ∙ ap (λ (x : Bool). label_by (with_cell b (label_cells x (feed q) q)) (here w)) m
 
     go : (x y z : Bool) → nat_eq b 93 ≡ x → breaks_label b ≡ y → nat_eq b 92 ≡ z →
@@ -237,11 +237,11 @@ label_inside_means B options feed w (Some b) has s few is =
         (seen ∙ label-breaks (cell_here feed w b) (feed q) (here w) k l))
     go false false true k l m =
         rw (k, l, m)
-        (taken_means B options feed its.LabelInside its.LabelEscape w true b _ has (goes true k l m)
+        (taken_means B options feed its.LabelInside its.LabelEscape w true b _ has (proceeds true k l m)
         (has.each its.LabelEscape) refl)
     go false false false k l m =
         rw (k, l, m)
-        (taken_means B options feed its.LabelInside its.LabelInside w false b _ has (goes false k l m)
+        (taken_means B options feed its.LabelInside its.LabelInside w false b _ has (proceeds false k l m)
         (has.each its.LabelInside) refl)
 
 label_escape_means : (B : Behaviour) (options : ParseOptions) (feed : Feed) (w : World) (o : Option ℕ) (x : Bool) →
@@ -269,7 +269,7 @@ label_escape_means B options feed w (Some b) false has s is e =
 
 -- After the label.
 
-asks-colon : AsksFor colon (pair parts.DefinitionMarker) at_colon behind_colon
+asks-colon : AsksFor colon (pair parts.DefinitionMarker) at_colon following_colon
 unfolding at_colon
 asks-colon = record { none = λ h. refl; some = λ c cs h. refl }
 
@@ -286,15 +286,15 @@ label_after_means B options feed w false has s e = asked-none B feed _ w asks-co
 
 -- After `:`.
 
-pub behind-white : (cells : List Cell) (h : Here) → begins_white cells ≡ true →
-    behind_colon cells h ≡ behind_prefix (white_rest any_size cells) (behind_columns any_size cells h)
-unfolding behind_colon
-behind-white cells h e = rw e refl
+pub following-white : (cells : List Cell) (h : Here) → begins_white cells ≡ true →
+    following_colon cells h ≡ following_prefix (white_rest any_size cells) (after_columns any_size cells h)
+unfolding following_colon
+following-white cells h e = rw e refl
 
-pub behind-dark : (cells : List Cell) (h : Here) → begins_white cells ≡ false →
-    behind_colon cells h ≡ behind_prefix cells h
-unfolding behind_colon
-behind-dark cells h e = rw e refl
+pub following-dark : (cells : List Cell) (h : Here) → begins_white cells ≡ false →
+    following_colon cells h ≡ following_prefix cells h
+unfolding following_colon
+following-dark cells h e = rw e refl
 
 marker_after_means : (B : Behaviour) (options : ParseOptions) (feed : Feed) (w : World) (x : Bool) →
     HasFootnote B options → Sees feed w → sees_white w.current ≡ x →
@@ -310,20 +310,20 @@ marker_after_means B options feed w true has s e =
     } in
     let white : begins_white (feed w.point) ≡ true = begins-seen feed w s ∙ e in
     begins_only B feed _ _ w (marker_after_code w true).world f refl refl
-    (has.each its.MarkerAfter _ _ ∙ behind-white (feed w.point) (here w) white
+    (has.each its.MarkerAfter _ _ ∙ following-white (feed w.point) (here w) white
     ∙ sym (has.each its.WhitespaceAfter _ _)
     ∙ white-tried B feed f w.events (feed w.point) (here w) 1 any_size has.white white (omega arith) (omega arith)
     refl)
 marker_after_means B options feed w false has s e =
     passes B feed _ _ w w refl refl
-    (has.each its.MarkerAfter _ _ ∙ behind-dark (feed w.point) (here w) (begins-seen feed w s ∙ e)
+    (has.each its.MarkerAfter _ _ ∙ following-dark (feed w.point) (here w) (begins-seen feed w s ∙ e)
     ∙ sym (has.each its.WhitespaceAfter _ _))
 
 whitespace_after_means : (B : Behaviour) (options : ParseOptions) (feed : Feed) (w : World) →
     HasFootnote B options →
     Steps B feed (Next (n.GfmFootnoteDefinition its.WhitespaceAfter)) w
     (footnote_transition its.WhitespaceAfter w).to (footnote_transition its.WhitespaceAfter w).world
-unfolding behind_prefix
+unfolding following_prefix
 whitespace_after_means B options feed w has =
     moves B feed _ _ w (footnote_transition its.WhitespaceAfter w).world
     (exit parts.GfmFootnoteDefinitionPrefix w.point ∷ []) refl refl (has.each its.WhitespaceAfter _ _)

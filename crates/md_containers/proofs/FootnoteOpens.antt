@@ -14,20 +14,20 @@ use Rattle.md_engine.specs.declared.event.Name.TheVariants as n
 use Rattle.md_engine.specs.declared.event.Point.{Point}
 use Rattle.md_engine.specs.declared.tokenizer.Line.{Line}
 use Rattle.md_engine.specs.Meaning.{Cell}
-use Rattle.md_containers.specs.FootnotePrefix.{footnote_behind, footnote_ended, footnote_labelled, footnote_marked}
+use Rattle.md_containers.specs.FootnotePrefix.{footnote_after, footnote_ended, footnote_labelled, footnote_marked}
 use Rattle.md_containers.specs.FootnotePrefix.{footnote_new, footnote_opened}
 use Rattle.md_containers.specs.FootnoteRule.{LabelCells, bracket_events, caret_events, label_ended, may_have}
 use Rattle.md_containers.specs.ItemPrefix.{ItemPassed}
 use Rattle.md_containers.specs.QuoteRule.{indent_events}
-use Rattle.md_containers.proofs.BehindIndent.{IsBehind, behind-indent}
+use Rattle.md_containers.proofs.AfterIndent.{IsAfter, following-indent}
 use Rattle.md_containers.proofs.FootnoteLabel.{LabelIs, has_no_white, label-walk, rest}
 use Rattle.md_containers.proofs.FootnoteShorter.{LabelFits, label-fits}
-use Rattle.md_containers.proofs.ItemDigits.{byte-behind, spread-one, starts, starts-spread, starts-stop}
+use Rattle.md_containers.proofs.ItemDigits.{byte-following, spread-one, starts, starts-spread, starts-stop}
 use Rattle.md_containers.proofs.ItemLines.{ItemAgrees, LeavesRest}
 use Rattle.md_containers.proofs.QuoteLines.{HasWhite, white-walk, white_end-same}
 use Rattle.md_meaning.specs.Containers.{Labelled, Taken, footnote_by, footnote_label, opens_footnote}
 use Rattle.md_meaning.specs.Lines.{begins_with}
-use Rattle.md_meaning.specs.Rest.{Rest, behind, behind_indent, has_small_indent, indent}
+use Rattle.md_meaning.specs.Rest.{Rest, following, after_indent, has_small_indent, indent}
 use Rattle.md_meaning.specs.State.{InFootnote}
 use Rattle.md_meaning.proofs.TextsLemmas.{NoEnding}
 use Rattle.md_events.specs.Ahead.{begins_white, white_end, white_rest}
@@ -62,12 +62,12 @@ footnote_prefix label p q =
     let start = label_start p in
     let end = label_end label p in
     let closed = past_byte 93 end in
-    let behind = colon_end label p in
+    let following = colon_end label p in
     bracket_events p (past_byte 91 p)
     ++ (caret_events (past_byte 91 p) start
     ++ (label_ended end closed
-    ++ (pair n.DefinitionMarker closed behind
-    ++ (pair_unless_empty n.SpaceOrTab behind q ++ exit n.GfmFootnoteDefinitionPrefix q ∷ []))))
+    ++ (pair n.DefinitionMarker closed following
+    ++ (pair_unless_empty n.SpaceOrTab following q ++ exit n.GfmFootnoteDefinitionPrefix q ∷ []))))
 
 -- a label has 1 to 999 bytes
 abbrev pub IsSized : List ℕ → Type 0
@@ -77,9 +77,9 @@ IsSized label = (1 ≤ length label) × (length label ≤ 999)
 pub record WhiteFrom (line : Line) (text past bytes : List ℕ) (p : Point) (stop : List Cell) (end : Point)
     (left : Rest) : Type 0 where
   pub column : ℕ
-  pub stands : RestAt text past (rest column bytes) p
+  pub valid : RestAt text past (rest column bytes) p
   pub end_is : end ≡ white_end (indent (rest column bytes)) (rest_cells line (rest column bytes) p ++ stop) p
-  pub left_is : left ≡ behind_indent (rest column bytes)
+  pub left_is : left ≡ after_indent (rest column bytes)
 
 -- After the label.
 
@@ -107,12 +107,12 @@ colon-opened : (line : Line) (text past : List ℕ) (column : ℕ) (bs : List �
     HasColon line text past column (58 ∷ bs) p stop label front
     (footnote_opened label (front ++ pair n.DefinitionMarker p (past_byte 58 p))
     (spread line bs (past_byte 58 p) ++ stop) (past_byte 58 p))
-    (record { container = InFootnote label; rest = behind_indent (rest (column + 1) bs) })
+    (record { container = InFootnote label; rest = after_indent (rest (column + 1) bs) })
 colon-opened line text past column bs p stop label front is h k short = record {
   leaves = record {
     container = refl;
     fed = indented.cells;
-    stands = indented.stands;
+    valid = indented.valid;
     ends = indented.ends;
     no_ending = lose-no_ending (indent r) r h;
     shorter = omega (arith, size, less);
@@ -127,8 +127,8 @@ colon-opened line text past column bs p stop label front is h k short = record {
   white = walked.white;
   padded = record {
     column = column + 1;
-    stands = stands;
-    end_is = white_end-same line text past (indent r) any_size r q stop stands k refl fits;
+    valid = valid;
+    end_is = white_end-same line text past (indent r) any_size r q stop valid k refl fits;
     left_is = refl;
   };
 }
@@ -154,8 +154,8 @@ colon-opened line text past column bs p stop label front is h k short = record {
     ended : List Event
     ended = exit n.GfmFootnoteDefinitionPrefix end ∷ []
 
-    stands : RestAt text past r q
-    stands = byte-behind text past column 58 bs p refl is
+    valid : RestAt text past r q
+    valid = byte-following text past column 58 bs p refl is
 
     size : length (spread line (58 ∷ bs) p ++ stop) ≡ suc (length cells)
     size = ap length (spread-one line 58 bs p stop refl)
@@ -165,15 +165,15 @@ colon-opened line text past column bs p stop label front is h k short = record {
 
     fits : indent r ≤ any_size
     fits =
-        let most = indent-length line text past r q stands in
+        let most = indent-length line text past r q valid in
         let all = length-append (rest_cells line r q) stop in
         omega (arith, most, all, size, short)
 
-    indented : HasIndent line text past any_size r q stop (behind_indent r)
-    indented = indent-taken line text past any_size r q stop stands k fits
+    indented : HasIndent line text past any_size r q stop (after_indent r)
+    indented = indent-taken line text past any_size r q stop valid k fits
 
     walked : HasWhite text cells q end
-    walked = white-walk line text past (indent r) any_size r q stop stands k refl fits
+    walked = white-walk line text past (indent r) any_size r q stop valid k refl fits
 
 ended-none : (label : List ℕ) (front : List Event) (cells : List Cell) (p : Point) →
     starts (λ (b : ℕ). nat_eq b 58) cells ≡ false → footnote_ended label front cells p ≡ None
@@ -186,14 +186,14 @@ colon-agrees : (line : Line) (text past : List ℕ) (column : ℕ) (bytes : List
     length (spread line bytes p ++ stop) < 2 ^ 63 → from ≡ rest (column + 1) (drop 1 bytes) →
     ItemAgrees (HasColon line text past column bytes p stop label front)
     (footnote_ended label front (spread line bytes p ++ stop) p)
-    (cond (begins_with 58 bytes) (Some (record { container = InFootnote label; rest = behind_indent from })) None)
+    (cond (begins_with 58 bytes) (Some (record { container = InFootnote label; rest = after_indent from })) None)
 colon-agrees line text past column [] p stop label front from is h k short e =
     subst (λ (o : Option ItemPassed). ItemAgrees (HasColon line text past column [] p stop label front) o None)
     (sym (ended-none label front stop p (starts-stop (λ (b : ℕ). nat_eq b 58) stop refl k))) tt
 colon-agrees line text past column (b ∷ bs) p stop label front from is h k short e = go (nat_eq b 58) refl
   where
     taken : Rest → Taken
-    taken r = record { container = InFootnote label; rest = behind_indent r }
+    taken r = record { container = InFootnote label; rest = after_indent r }
 
     Has : ℕ → Type 0
     Has c =
@@ -256,10 +256,10 @@ drop-past (x ∷ xs) ys k zero e = absurd (omega (arith, e))
 drop-past (x ∷ xs) ys k (suc m) e = drop-past xs ys k m (omega (arith, e))
 
 -- after the label, its brackets and what is between these and the text
-behind-label : (column : ℕ) (label after cs : List ℕ) → cs ≡ label ++ (93 ∷ after) →
-    behind (length label + 4) (rest column (91 ∷ 94 ∷ cs)) ≡
+following-label : (column : ℕ) (label after cs : List ℕ) → cs ≡ label ++ (93 ∷ after) →
+    following (length label + 4) (rest column (91 ∷ 94 ∷ cs)) ≡
     rest (column + 1 + 1 + length label + 1 + 1) (drop 1 after)
-behind-label column label after cs e =
+following-label column label after cs e =
     ap₂ rest (omega arith)
     (ap (λ (m : ℕ). drop m (91 ∷ 94 ∷ cs)) four
     ∙ ap (drop (length label + 2)) e ∙ drop-past label (93 ∷ after) 2 (length label + 2) refl)
@@ -313,10 +313,10 @@ labelled-agrees line text past column cs p stop front (Some l) (Some m) has fewe
     front' = before ++ label_ended end q
 
     from : Rest
-    from = behind (length label + 4) (rest column (91 ∷ 94 ∷ cs))
+    from = following (length label + 4) (rest column (91 ∷ 94 ∷ cs))
 
     taken : Taken
-    taken = record { container = InFootnote label; rest = behind_indent from }
+    taken = record { container = InFootnote label; rest = after_indent from }
 
     -- the label of the cells is that of the bytes
     labelled : footnote_labelled before (Some l) ≡
@@ -363,7 +363,7 @@ labelled-agrees line text past column cs p stop front (Some l) (Some m) has fewe
       leaves = record {
         container = colon.leaves.container;
         fed = colon.leaves.fed;
-        stands = colon.leaves.stands;
+        valid = colon.leaves.valid;
         ends = colon.leaves.ends ∙ ends;
         no_ending = colon.leaves.no_ending;
         shorter = let le = colon.leaves.shorter in omega (arith, le, shorter, all);
@@ -389,9 +389,9 @@ labelled-agrees line text past column cs p stop front (Some l) (Some m) has fewe
         (HasColon line text past (column + 1 + 1 + length label + 1) m.after q stop label front')
         (footnote_ended label front' cells q) (cond (begins_with 58 m.after) (Some taken) None)
     colon =
-        colon-agrees line text past (column + 1 + 1 + length label + 1) m.after q stop label front' from has.stands
+        colon-agrees line text past (column + 1 + 1 + length label + 1) m.after q stop label front' from has.valid
         has.no_ending k (omega (arith, shorter, all, short))
-        (behind-label column label m.after cs has.bytes_are)
+        (following-label column label m.after cs has.bytes_are)
 
     go : (x y : Bool) → nat_le 1 (length label) ≡ x → nat_le (length label) 999 ≡ y →
         ItemAgrees (HasFootnote line text past (91 ∷ 94 ∷ cs) p stop front)
@@ -406,7 +406,7 @@ labelled-agrees line text past column cs p stop front (Some l) (Some m) has fewe
 -- The whole prefix.
 
 bracket-none : (front : List Event) (cells : List Cell) (p : Point) →
-    starts (λ (b : ℕ). nat_eq b 91) cells ≡ false → footnote_behind front cells p ≡ None
+    starts (λ (b : ℕ). nat_eq b 91) cells ≡ false → footnote_after front cells p ≡ None
 bracket-none front [] p e = refl
 bracket-none front (c ∷ cs) p e = rw e refl
 
@@ -472,7 +472,8 @@ caret-agrees line text past column (c ∷ cs) p stop front is h k short = go (na
         (sym (spread-one line 94 cs a stop refl))
         (labelled-agrees line text past column cs p stop front _ _
         (label-walk line text past (column + 1 + 1) false cs (label_start p) stop
-        (byte-behind text past (column + 1) 94 cs a refl (byte-behind text past column 91 (94 ∷ cs) p refl is)) h.1 k)
+        (byte-following text past (column + 1) 94 cs a refl (byte-following text past column 91 (94 ∷ cs) p refl is))
+        h.1 k)
         (label-fits false (spread line cs (label_start p) ++ stop) (label_start p)) k short)
 
     go : (x : Bool) → nat_eq c 94 ≡ x → Agrees c
@@ -490,21 +491,21 @@ caret-agrees line text past column (c ∷ cs) p stop front is h k short = go (na
         (cond x (footnote_by (rest column (91 ∷ c ∷ cs)) (footnote_label false cs)) None))
         (sym (no_caret c cs e)) tt)
 
-behind-agrees : (line : Line) (text past : List ℕ) (column : ℕ) (bytes : List ℕ) (p : Point) (stop : List Cell)
+following-agrees : (line : Line) (text past : List ℕ) (column : ℕ) (bytes : List ℕ) (p : Point) (stop : List Cell)
     (front : List Event) →
     RestAt text past (rest column bytes) p → NoEnding bytes → Stops stop →
     length (spread line bytes p ++ stop) < 2 ^ 63 →
     ItemAgrees (HasFootnote line text past bytes p stop front)
-    (footnote_behind front (spread line bytes p ++ stop) p) (defined column bytes)
-behind-agrees line text past column [] p stop front is h k short =
+    (footnote_after front (spread line bytes p ++ stop) p) (defined column bytes)
+following-agrees line text past column [] p stop front is h k short =
     subst (λ (o : Option ItemPassed). ItemAgrees (HasFootnote line text past [] p stop front) o None)
     (sym (bracket-none front stop p (starts-stop (λ (b : ℕ). nat_eq b 91) stop refl k))) tt
-behind-agrees line text past column (b ∷ bs) p stop front is h k short = go (nat_eq b 91) refl
+following-agrees line text past column (b ∷ bs) p stop front is h k short = go (nat_eq b 91) refl
   where
     Agrees : ℕ → Type 0
     Agrees c =
         ItemAgrees (HasFootnote line text past (c ∷ bs) p stop front)
-        (footnote_behind front (spread line (c ∷ bs) p ++ stop) p) (defined column (c ∷ bs))
+        (footnote_after front (spread line (c ∷ bs) p ++ stop) p) (defined column (c ∷ bs))
 
     Has : ℕ → Type 0
     Has c =
@@ -514,7 +515,7 @@ behind-agrees line text past column (b ∷ bs) p stop front is h k short = go (n
     here is short =
         subst
         (λ (l : List Cell).
-        ItemAgrees (HasFootnote line text past (91 ∷ bs) p stop front) (footnote_behind front l p)
+        ItemAgrees (HasFootnote line text past (91 ∷ bs) p stop front) (footnote_after front l p)
         (defined column (91 ∷ bs)))
         (sym (spread-one line 91 bs p stop refl))
         (caret-agrees line text past column bs p stop front is h.1 k short)
@@ -560,7 +561,7 @@ pub record OpensFootnote (line : Line) (text past : List ℕ) (p end : Point) (s
       ∷ (pair_unless_empty n.SpaceOrTab p start ++ footnote_prefix label start passed.point)
   -- whitespace is before the prefix and after `:`
   pub white_before : White text p start
-  pub white_behind : White text (colon_end label start) passed.point
+  pub white_after : White text (colon_end label start) passed.point
 
 white-no_bracket : (cells : List Cell) → begins_white cells ≡ true → starts (λ (b : ℕ). nat_eq b 91) cells ≡ false
 white-no_bracket [] e = refl
@@ -589,12 +590,12 @@ footnote-opens_agrees options line text past r stop p is h k short = go options.
     Agrees o t = ItemAgrees (OpensFootnote line text past p (past_rest r p) stop cells) o t
 
     new : List Cell → Point → Option ItemPassed
-    new left at = footnote_behind front left at
+    new left at = footnote_after front left at
 
     found : Rest → Option Taken
     found from = cond (begins from.bytes) (footnote_by from (footnote_label false (drop 2 from.bytes))) None
 
-    whole : (bytes : List ℕ) → IsBehind line text past r p stop bytes q → (o : Option ItemPassed) (t : Option Taken) →
+    whole : (bytes : List ℕ) → IsAfter line text past r p stop bytes q → (o : Option ItemPassed) (t : Option Taken) →
         ItemAgrees (HasFootnote line text past bytes q stop front) o t → Agrees o t
     whole bytes at None None note = tt
     whole bytes at None (Some t) note = absurd note
@@ -603,7 +604,7 @@ footnote-opens_agrees options line text past r stop p is h k short = go options.
       leaves = record {
         container = note.leaves.container;
         fed = note.leaves.fed;
-        stands = note.leaves.stands;
+        valid = note.leaves.valid;
         ends = note.leaves.ends ∙ at.ends;
         no_ending = note.leaves.no_ending;
         shorter = let size = at.shorter in omega (arith, size, note.leaves.shorter);
@@ -617,9 +618,9 @@ footnote-opens_agrees options line text past r stop p is h k short = go options.
       more_is = refl;
       padded = note.padded;
       text_is =
-          at.stands.text_is ∙ ap (λ (l : List ℕ). l ++ past) note.bytes_are
+          at.valid.text_is ∙ ap (λ (l : List ℕ). l ++ past) note.bytes_are
           ∙ ap (λ (l : List ℕ). 91 ∷ 94 ∷ l) (append_assoc note.label (93 ∷ 58 ∷ note.more) past);
-      whole = at.stands.cut;
+      whole = at.valid.cut;
       sized = note.sized;
       dark = note.dark;
       container = note.container;
@@ -629,17 +630,17 @@ footnote-opens_agrees options line text past r stop p is h k short = go options.
           (λ (es : List Event). enter n.GfmFootnoteDefinition p ∷ (es ++ footnote_prefix note.label q o.point))
           at.walked.events;
       white_before = at.walked.white;
-      white_behind = note.white;
+      white_after = note.white;
     }
 
     small : Agrees (new (white_rest (small_indent options) cells) q)
-        (cond (has_small_indent options r) (found (behind_indent r)) None)
+        (cond (has_small_indent options r) (found (after_indent r)) None)
     small =
-        behind-indent options line text past r stop p Agrees new found is h k short tt
+        following-indent options line text past r stop p Agrees new found is h k short tt
         (λ left over. bracket-none front left q (white-no_bracket left over))
         (λ bytes at.
         whole bytes at _ _
-        (behind-agrees line text past (behind_indent r).column bytes q stop front at.stands at.no_ending k
+        (following-agrees line text past (after_indent r).column bytes q stop front at.valid at.no_ending k
         (let size = at.shorter in omega (arith, size, short))))
 
     -- a test before a test
@@ -649,11 +650,11 @@ footnote-opens_agrees options line text past r stop p is h k short = go options.
 
     go : (x : Bool) →
         Agrees (cond x (new (white_rest (small_indent options) cells) q) None)
-        (cond (x && has_small_indent options r && begins (behind_indent r).bytes)
-        (footnote_by (behind_indent r) (footnote_label false (drop 2 (behind_indent r).bytes))) None)
+        (cond (x && has_small_indent options r && begins (after_indent r).bytes)
+        (footnote_by (after_indent r) (footnote_label false (drop 2 (after_indent r).bytes))) None)
     go false = tt
     go true =
         subst (Agrees (new (white_rest (small_indent options) cells) q))
-        (both (has_small_indent options r) (begins (behind_indent r).bytes)
-        (footnote_by (behind_indent r) (footnote_label false (drop 2 (behind_indent r).bytes))))
+        (both (has_small_indent options r) (begins (after_indent r).bytes)
+        (footnote_by (after_indent r) (footnote_label false (drop 2 (after_indent r).bytes))))
         small

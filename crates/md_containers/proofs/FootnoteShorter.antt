@@ -7,11 +7,11 @@ use Rattle.md_engine.specs.declared.event.Name.TheVariants.{GfmFootnoteDefinitio
 use Rattle.md_engine.specs.declared.event.Point.{Point}
 use Rattle.md_engine.specs.Meaning.{Cell, Here}
 use Rattle.md_containers.specs.Footnote.{breaks_label, footnote_width}
-use Rattle.md_containers.specs.FootnotePrefix.{as_footnote, footnote_behind, footnote_ended, footnote_further}
+use Rattle.md_containers.specs.FootnotePrefix.{as_footnote, footnote_after, footnote_ended, footnote_further}
 use Rattle.md_containers.specs.FootnotePrefix.{footnote_labelled, footnote_marked, footnote_new}
-use Rattle.md_containers.specs.FootnoteRule.{LabelCells, at_bracket, at_caret, at_colon, behind_colon, behind_prefix}
-use Rattle.md_containers.specs.FootnoteRule.{bracket_events, caret_events, footnote_at, in_label, label_by, label_cells}
-use Rattle.md_containers.specs.FootnoteRule.{label_ended, may_have, with_cell}
+use Rattle.md_containers.specs.FootnoteRule.{LabelCells, at_bracket, at_caret, at_colon, following_colon}
+use Rattle.md_containers.specs.FootnoteRule.{following_prefix, bracket_events, caret_events, footnote_at, in_label}
+use Rattle.md_containers.specs.FootnoteRule.{label_by, label_cells, label_ended, may_have, with_cell}
 use Rattle.md_containers.specs.ItemPrefix.{ItemPassed, item_further}
 use Rattle.md_containers.specs.QuoteRule.{indent_events}
 use Rattle.md_containers.proofs.ItemShorter.{IsShorter, further-shorter, shorter-if}
@@ -27,8 +27,8 @@ use Rattle.md_events.proofs.RestCells.{white-length}
 
 -- What opens one.
 
-colon-shortens : (n : ℕ) (cells : List Cell) (h : Here) → length cells < n → Shortens n (behind_colon cells h)
-unfolding behind_colon behind_prefix
+colon-shortens : (n : ℕ) (cells : List Cell) (h : Here) → length cells < n → Shortens n (following_colon cells h)
+unfolding following_colon following_prefix
 colon-shortens n cells h lt =
     cond-shortens n (begins_white cells) _ _ (omega (arith, lt, white-length any_size cells)) lt
 
@@ -120,10 +120,10 @@ marked-shorter n front (c ∷ cs) p le =
     (labelled-shorter n (length cs) (front ++ caret_events p c.after) (label_cells false cs c.after) (omega (arith, le))
     (label-fits false cs c.after)) tt
 
-behind-shorter : (n : ℕ) (front : List Event) (cells : List Cell) (p : Point) → length cells ≤ n →
-    IsShorter n (footnote_behind front cells p)
-behind-shorter n front [] p le = tt
-behind-shorter n front (c ∷ cs) p le =
+following-shorter : (n : ℕ) (front : List Event) (cells : List Cell) (p : Point) → length cells ≤ n →
+    IsShorter n (footnote_after front cells p)
+following-shorter n front [] p le = tt
+following-shorter n front (c ∷ cs) p le =
     shorter-if n (nat_eq c.byte left_bracket) _ _
     (marked-shorter n (front ++ bracket_events p c.after) cs c.after (omega (arith, le))) tt
 
@@ -132,7 +132,7 @@ pub footnote-shorter : (options : ParseOptions) (cells : List Cell) (p : Point) 
     IsShorter (length cells) (footnote_new options cells p)
 footnote-shorter options cells p =
     shorter-if _ options.constructs.gfm_footnote_definition _ _
-    (behind-shorter _ (enter GfmFootnoteDefinition p ∷ indent_events options cells p)
+    (following-shorter _ (enter GfmFootnoteDefinition p ∷ indent_events options cells p)
     (white_rest (small_indent options) cells) (white_end (small_indent options) cells p)
     (white-length (small_indent options) cells))
     tt

@@ -20,40 +20,40 @@ use Rattle.md_engine.specs.Sees.{Sees, ahead, cell_here}
 use Rattle.md_engine.proofs.StepOf.{begins, moves, passes, steps-as}
 use Rattle.md_leaves.specs.Heading.{without_size}
 use Rattle.md_leaves.proofs.LeafSteps.{sees-one, white_frame}
-use Rattle.md_code.specs.FenceRule.{behind_white_of, is_end, run_end, run_rest, run_size, with_event}
+use Rattle.md_code.specs.FenceRule.{after_white_of, is_end, run_end, run_rest, run_size, with_event}
 use Rattle.md_events.specs.Ahead.{HasWhite, begins_white}
 use Rattle.md_events.specs.Events.Nested.{enter, exit, pair}
 use Rattle.md_events.specs.Look.{first_seen}
 use Rattle.md_events.specs.Spaces.{any_size, ends_line, is_current, sees_white}
 use Rattle.md_events.proofs.LookLemmas.{first-seen}
 use Rattle.md_events.proofs.WhiteMeaning.{begins-seen, white-tried}
-use Rattle.md_containers.specs.Frontmatter.{after_code, begun, behind_part, cleared, close_after_code, close_start_code}
+use Rattle.md_containers.specs.Frontmatter.{after_code, begun, after_part, cleared, close_after_code, close_start_code}
 use Rattle.md_containers.specs.Frontmatter.{content_end_code, content_inside_code, content_start_code, front_transition}
 use Rattle.md_containers.specs.Frontmatter.{is_marker, open_after_code, sequence_code, start_at, start_by, start_code}
-use Rattle.md_containers.specs.FrontmatterRule.{FrontMeans, HasFront, at_line, behind_ending, behind_front, behind_line}
-use Rattle.md_containers.specs.FrontmatterRule.{chunk_begun, chunk_ended, close_end, closed_or, fence_begun}
-use Rattle.md_containers.specs.FrontmatterRule.{front_begun, front_here, in_close, in_lines, in_open, in_sequence}
-use Rattle.md_containers.specs.FrontmatterRule.{open_end, refuses}
+use Rattle.md_containers.specs.FrontmatterRule.{FrontMeans, HasFront, at_line, following_ending, after_front}
+use Rattle.md_containers.specs.FrontmatterRule.{following_line, chunk_begun, chunk_ended, close_end, closed_or}
+use Rattle.md_containers.specs.FrontmatterRule.{fence_begun, front_begun, front_here, in_close, in_lines, in_open}
+use Rattle.md_containers.specs.FrontmatterRule.{in_sequence, open_end, refuses}
 
 -- After a part, and whitespace if some is there.
 
 part-steps : (B : Behaviour) (feed : Feed) (from : StateName) (state : FrontState) (w : World)
-    (events added : List Event) (s : Scratch) (behind : List Cell → Here → Outcome) (x : Bool) → Sees feed w →
+    (events added : List Event) (s : Scratch) (following : List Cell → Here → Outcome) (x : Bool) → Sees feed w →
     HasWhite B → events ≡ w.events ++ added → sees_white w.current ≡ x →
-    ((cells : List Cell) (h : Here) → B (n.Frontmatter state) cells h ≡ behind cells h) →
+    ((cells : List Cell) (h : Here) → B (n.Frontmatter state) cells h ≡ following cells h) →
     B from (feed w.point) (here w) ≡
-    behind_white_of any_size behind (feed w.point) (here (record w { events = events; scratch = s })) →
-    Steps B feed (Next from) w (behind_part (record w { events = events; scratch = s }) state x).to
-    (behind_part (record w { events = events; scratch = s }) state x).world
-part-steps B feed from state w events added s behind true saw has e f next_is from_is =
+    after_white_of any_size following (feed w.point) (here (record w { events = events; scratch = s })) →
+    Steps B feed (Next from) w (after_part (record w { events = events; scratch = s }) state x).to
+    (after_part (record w { events = events; scratch = s }) state x).world
+part-steps B feed from state w events added s following true saw has e f next_is from_is =
     let h : Here = here (record w { events = events; scratch = s }) in
     let frame : Frame = white_frame (Next (n.Frontmatter state)) w events in
     let white : begins_white (feed w.point) ≡ true = begins-seen feed w saw ∙ f in
-    begins B feed _ _ w (behind_part (record w { events = events; scratch = s }) state true).world added
+    begins B feed _ _ w (after_part (record w { events = events; scratch = s }) state true).world added
     frame refl e
     (from_is ∙ rw white (sym (next_is _ _))
     ∙ white-tried B feed frame events (feed w.point) h 0 any_size has white (omega arith) (omega arith) refl)
-part-steps B feed from state w events added s behind false saw has e f next_is from_is =
+part-steps B feed from state w events added s following false saw has e f next_is from_is =
     let none : begins_white (feed w.point) ≡ false = begins-seen feed w saw ∙ f in
     moves B feed _ _ w (record w { events = events; scratch = s }) added refl e
     (from_is ∙ rw none (sym (next_is _ _)))
@@ -66,75 +66,75 @@ marker-none : (cells : List Cell) (m : ℕ) (h : Here) → is_current m (first_s
 marker-none [] m h e = (refl, refl, refl)
 marker-none (c ∷ cs) m h e = (rw e refl, rw e refl, rw e refl)
 
-sequence-more : (behind : List Cell → Here → Outcome) (left : Scratch) (c : Cell) (cs : List Cell) (h : Here) →
+sequence-more : (following : List Cell → Here → Outcome) (left : Scratch) (c : Cell) (cs : List Cell) (h : Here) →
     nat_eq c.byte h.scratch.marker ≡ true →
-    in_sequence behind left (c ∷ cs) h ≡
-    in_sequence behind left cs
+    in_sequence following left (c ∷ cs) h ≡
+    in_sequence following left cs
     (record h { point = c.after; scratch = record h.scratch { size = h.scratch.size + 1 } })
 unfolding in_sequence
-sequence-more behind left c cs h e =
+sequence-more following left c cs h e =
     let count = run_size (λ b. b == h.scratch.marker) cs in
     let sum : h.scratch.size + suc count ≡ h.scratch.size + 1 + count = omega arith in
     rw (e, sum) refl
 
 -- one marker too many
-sequence-many : (behind : List Cell → Here → Outcome) (left : Scratch) (c : Cell) (cs : List Cell) (h : Here) →
+sequence-many : (following : List Cell → Here → Outcome) (left : Scratch) (c : Cell) (cs : List Cell) (h : Here) →
     nat_eq c.byte h.scratch.marker ≡ true → nat_lt h.scratch.size 3 ≡ false →
-    in_sequence behind left (c ∷ cs) h ≡ Refuses left h.flags
+    in_sequence following left (c ∷ cs) h ≡ Refuses left h.flags
 unfolding in_sequence
-sequence-many behind left c cs h e much =
+sequence-many following left c cs h e much =
     let count = run_size (λ b. b == h.scratch.marker) cs in
     let le : 3 ≤ h.scratch.size = grind (arith, nat_tests) in
     let no : nat_eq (h.scratch.size + suc count) 3 ≡ false = grind (arith, nat_tests) in
     rw (e, no) refl
 
-sequence-ends : (behind : List Cell → Here → Outcome) (left : Scratch) (cells : List Cell) (h : Here) →
+sequence-ends : (following : List Cell → Here → Outcome) (left : Scratch) (cells : List Cell) (h : Here) →
     is_current h.scratch.marker (first_seen cells) ≡ false → nat_eq h.scratch.size 3 ≡ true →
-    in_sequence behind left cells h ≡
-    behind_white_of any_size behind cells
+    in_sequence following left cells h ≡
+    after_white_of any_size following cells
     (record (with_event h (exit part.FrontmatterSequence h.point)) { scratch = without_size h.scratch })
 unfolding in_sequence
-sequence-ends behind left cells h e three =
+sequence-ends following left cells h e three =
     let none = marker-none cells h.scratch.marker h e in
     let sum : h.scratch.size + run_size (λ b. b == h.scratch.marker) cells ≡ h.scratch.size = omega (arith, none.0) in
     rw (sum, three, none.1, none.2) refl
 
-sequence-few : (behind : List Cell → Here → Outcome) (left : Scratch) (cells : List Cell) (h : Here) →
+sequence-few : (following : List Cell → Here → Outcome) (left : Scratch) (cells : List Cell) (h : Here) →
     is_current h.scratch.marker (first_seen cells) ≡ false → nat_eq h.scratch.size 3 ≡ false →
-    in_sequence behind left cells h ≡ Refuses left h.flags
+    in_sequence following left cells h ≡ Refuses left h.flags
 unfolding in_sequence
-sequence-few behind left cells h e few =
+sequence-few following left cells h e few =
     let none = marker-none cells h.scratch.marker h e in
     let sum : h.scratch.size + run_size (λ b. b == h.scratch.marker) cells ≡ h.scratch.size = omega (arith, none.0) in
     rw (sum, few) refl
 
 -- its states, and what is left at them
 record IsSequence (B : Behaviour) (w : World) (now next : FrontState) (left : Scratch)
-    (behind : List Cell → Here → Outcome) : Type 0 where
+    (following : List Cell → Here → Outcome) : Type 0 where
   pub white : HasWhite B
   pub from : (cells : List Cell) (h : Here) → h.scratch.marker ≡ w.scratch.marker →
       cleared h.scratch ≡ cleared w.scratch → without_size h.scratch ≡ without_size w.scratch →
-      B (n.Frontmatter now) cells h ≡ in_sequence behind left cells h
-  pub to : (cells : List Cell) (h : Here) → B (n.Frontmatter next) cells h ≡ behind cells h
+      B (n.Frontmatter now) cells h ≡ in_sequence following left cells h
+  pub to : (cells : List Cell) (h : Here) → B (n.Frontmatter next) cells h ≡ following cells h
 
 sequence_means : (B : Behaviour) (feed : Feed) (w : World) (now next : FrontState) (left : Scratch)
-    (behind : List Cell → Here → Outcome) (m few z : Bool) → IsSequence B w now next left behind → Sees feed w →
+    (following : List Cell → Here → Outcome) (m few z : Bool) → IsSequence B w now next left following → Sees feed w →
     is_current w.scratch.marker w.current ≡ m → nat_lt w.scratch.size 3 ≡ few → sees_white w.current ≡ z →
     Steps B feed (Next (n.Frontmatter now)) w
     (sequence_code now next left w (m && few) (not m && (w.scratch.size == 3)) z).to
     (sequence_code now next left w (m && few) (not m && (w.scratch.size == 3)) z).world
-sequence_means B feed w now next left behind true true z is s e f g =
+sequence_means B feed w now next left following true true z is s e f g =
     let saw = sees-one feed w (is_current w.scratch.marker) refl s e in
     passes B feed _ _ w (sequence_code now next left w true false z).world refl refl
-    (is.from _ _ refl refl refl ∙ ap (λ (x : List Cell). in_sequence behind left x (here w)) saw.1
-    ∙ sequence-more behind left (cell_here feed w saw.0) (feed (after w.setting w.point)) (here w) saw.2
+    (is.from _ _ refl refl refl ∙ ap (λ (x : List Cell). in_sequence following left x (here w)) saw.1
+    ∙ sequence-more following left (cell_here feed w saw.0) (feed (after w.setting w.point)) (here w) saw.2
     ∙ sym (is.from _ _ refl refl refl))
-sequence_means B feed w now next left behind true false z is s e f g =
+sequence_means B feed w now next left following true false z is s e f g =
     let saw = sees-one feed w (is_current w.scratch.marker) refl s e in
     passes B feed _ _ w (sequence_code now next left w false false z).world refl refl
-    (is.from _ _ refl refl refl ∙ ap (λ (x : List Cell). in_sequence behind left x (here w)) saw.1
-    ∙ sequence-many behind left (cell_here feed w saw.0) (feed (after w.setting w.point)) (here w) saw.2 f)
-sequence_means B feed w now next left behind false few z is s e f g = go (nat_eq w.scratch.size 3) refl
+    (is.from _ _ refl refl refl ∙ ap (λ (x : List Cell). in_sequence following left x (here w)) saw.1
+    ∙ sequence-many following left (cell_here feed w saw.0) (feed (after w.setting w.point)) (here w) saw.2 f)
+sequence_means B feed w now next left following false few z is s e f g = go (nat_eq w.scratch.size 3) refl
   where
     none : is_current w.scratch.marker (first_seen (feed w.point)) ≡ false
     none = ap (is_current w.scratch.marker) (first-seen feed w s) ∙ e
@@ -144,11 +144,11 @@ sequence_means B feed w now next left behind false few z is s e f g = go (nat_eq
         (sequence_code now next left w false x z).world
     go true k =
         part-steps B feed _ next w (w.events ++ exit part.FrontmatterSequence w.point ∷ [])
-        (exit part.FrontmatterSequence w.point ∷ []) (without_size w.scratch) behind z s is.white refl g is.to
-        (is.from _ _ refl refl refl ∙ sequence-ends behind left (feed w.point) (here w) none k)
+        (exit part.FrontmatterSequence w.point ∷ []) (without_size w.scratch) following z s is.white refl g is.to
+        (is.from _ _ refl refl refl ∙ sequence-ends following left (feed w.point) (here w) none k)
     go false k =
         passes B feed _ _ w (sequence_code now next left w false false z).world refl refl
-        (is.from _ _ refl refl refl ∙ sequence-few behind left (feed w.point) (here w) none k)
+        (is.from _ _ refl refl refl ∙ sequence-few following left (feed w.point) (here w) none k)
 
 opening : (B : Behaviour) (w : World) → HasFront B w.setting.options →
     IsSequence B w its.OpenSequence its.OpenAfter (cleared w.scratch) open_end
@@ -218,7 +218,7 @@ start_means B feed w true has s e = go w.current s.next
             ∙ front-other (cell_here feed w b) (feed (after w.setting w.point)) (here w) l)
 
 pub open-ends : (c : Cell) (cs : List Cell) (h : Here) → nat_eq c.byte 10 ≡ true →
-    open_end (c ∷ cs) h ≡ at_line cs (behind_ending c (with_event h (exit part.FrontmatterFence h.point)))
+    open_end (c ∷ cs) h ≡ at_line cs (following_ending c (with_event h (exit part.FrontmatterFence h.point)))
 unfolding open_end
 open-ends c cs h e = rw e refl
 
@@ -302,9 +302,10 @@ pub close-done : (cells : List Cell) (h : Here) → is_end cells ≡ true →
 unfolding close_end
 close-done cells h e = rw e refl
 
-pub close-goes : (cells : List Cell) (h : Here) → is_end cells ≡ false → close_end cells h ≡ Refuses h.scratch h.flags
+pub close-proceeds : (cells : List Cell) (h : Here) → is_end cells ≡ false → close_end cells h ≡
+    Refuses h.scratch h.flags
 unfolding close_end
-close-goes cells h e = rw e refl
+close-proceeds cells h e = rw e refl
 
 close_after_means : (B : Behaviour) (feed : Feed) (w : World) (x : Bool) → HasFront B w.setting.options → Sees feed w →
     ends_line w.current ≡ x →
@@ -314,11 +315,11 @@ close_after_means B feed w true has s e =
     (has.each its.CloseAfter _ _ ∙ close-done (feed w.point) (here w) (ap ends_line (first-seen feed w s) ∙ e))
 close_after_means B feed w false has s e =
     passes B feed _ _ w w refl refl
-    (has.each its.CloseAfter _ _ ∙ close-goes (feed w.point) (here w) (ap ends_line (first-seen feed w s) ∙ e))
+    (has.each its.CloseAfter _ _ ∙ close-proceeds (feed w.point) (here w) (ap ends_line (first-seen feed w s) ∙ e))
 
 -- at the end of a line
 pub lines-end : (begun' : Bool) (cells : List Cell) (h : Here) → is_end cells ≡ true →
-    in_lines begun' cells h ≡ behind_line cells (chunk_ended begun' h)
+    in_lines begun' cells h ≡ following_line cells (chunk_ended begun' h)
 unfolding in_lines
 lines-end true [] h e = refl
 lines-end false [] h e = refl
@@ -368,10 +369,11 @@ content_inside_means B feed w false has s e =
     ∙ sym (has.each its.ContentInside _ _))
 
 line-ends : (c : Cell) (cs : List Cell) (h : Here) → nat_eq c.byte 10 ≡ true →
-    behind_line (c ∷ cs) h ≡ at_line cs (behind_ending c h)
+    following_line (c ∷ cs) h ≡ at_line cs (following_ending c h)
 line-ends c cs h e = rw e refl
 
-line-none : (cells : List Cell) (h : Here) → is_current 10 (first_seen cells) ≡ false → behind_line cells h ≡ refuses h
+line-none : (cells : List Cell) (h : Here) → is_current 10 (first_seen cells) ≡ false →
+    following_line cells h ≡ refuses h
 line-none [] h e = refl
 line-none (c ∷ cs) h e = rw e refl
 
@@ -382,7 +384,7 @@ content_end_means B feed w true has s e =
     let saw = sees-one feed w (is_current 10) refl s e in
     let q = after w.setting w.point in
     moves B feed _ _ w (content_end_code w true).world (pair part.LineEnding w.point q) refl (simp append_assoc)
-    (has.each its.ContentEnd _ _ ∙ ap (λ (cells : List Cell). behind_line cells (here w)) saw.1
+    (has.each its.ContentEnd _ _ ∙ ap (λ (cells : List Cell). following_line cells (here w)) saw.1
     ∙ line-ends (cell_here feed w saw.0) (feed q) (here w) saw.2
     ∙ ap (λ (es : List Event). at_line (feed q) (record (here w) { events = es; point = q })) (simp append_assoc)
     ∙ sym (has.each its.CloseStart _ _))
@@ -391,11 +393,11 @@ content_end_means B feed w false has s e =
     (has.each its.ContentEnd _ _ ∙ line-none (feed w.point) (here w) (ap (is_current 10) (first-seen feed w s) ∙ e))
 
 front-ends : (c : Cell) (cs : List Cell) (h : Here) → nat_eq c.byte 10 ≡ true →
-    behind_front (c ∷ cs) h ≡ Accepts (behind_ending c h) cs
+    after_front (c ∷ cs) h ≡ Accepts (following_ending c h) cs
 front-ends c cs h e = rw e refl
 
 front-stays : (cells : List Cell) (h : Here) → is_current 10 (first_seen cells) ≡ false →
-    behind_front cells h ≡ Accepts h cells
+    after_front cells h ≡ Accepts h cells
 front-stays [] h e = refl
 front-stays (c ∷ cs) h e = rw e refl
 
@@ -408,7 +410,7 @@ after_means B feed w true has s e =
     let ended : Here = with_event (record (here w) { scratch = cleared w.scratch }) (exit part.Frontmatter w.point) in
     moves B feed _ _ w (after_code w true).world (exit part.Frontmatter w.point ∷ pair part.LineEnding w.point q) refl
     (simp append_assoc)
-    (has.each its.After _ _ ∙ ap (λ (cells : List Cell). behind_front cells ended) saw.1
+    (has.each its.After _ _ ∙ ap (λ (cells : List Cell). after_front cells ended) saw.1
     ∙ front-ends (cell_here feed w saw.0) (feed q) ended saw.2
     ∙ ap (λ (es : List Event). Accepts (record ended { events = es; point = q }) (feed q)) (simp append_assoc))
 after_means B feed w false has s e =

@@ -17,8 +17,8 @@ use Rattle.md_engine.proofs.Local.{accepts, begins_try, consumes, refuses, turns
 use Rattle.md_engine.proofs.Points.{stays, takes}
 use Rattle.md_leaves.specs.Heading.{without_size}
 use Rattle.md_events.specs.Spaces.{IsRest, any_size, calmed, ends_line, is_current, rest_ready}
-use Rattle.md_events.proofs.SpacesTermination.{Does, WhiteFits, accepts-behind, seen-in, white_try}
-use Rattle.md_containers.specs.Frontmatter.{IsMarked, after_code, begun, behind_part, cleared, close_after_code}
+use Rattle.md_events.proofs.SpacesTermination.{Does, WhiteFits, accepts-following, seen-in, white_try}
+use Rattle.md_containers.specs.Frontmatter.{IsMarked, after_code, begun, after_part, cleared, close_after_code}
 use Rattle.md_containers.specs.Frontmatter.{close_start_code, content_end_code, content_inside_code}
 use Rattle.md_containers.specs.Frontmatter.{content_start_code, front_level, front_rank, front_ready}
 use Rattle.md_containers.specs.Frontmatter.{front_scheme, front_transition, front_tries, in_fence, in_front, is_marker}
@@ -44,50 +44,50 @@ front-later x w P Q s q t up way e = later_at P Q (position w) x q t s up way e
 -- A sequence: in the opening fence, or in the closing one.
 
 -- what a sequence asks for: its two states, which end with these scratches
-record IsSequence (T : Scheme) (w : World) (here behind : FrontState) (P : Scratch → Type 0) : Type 1 where
+record IsSequence (T : Scheme) (w : World) (here following : FrontState) (P : Scratch → Type 0) : Type 1 where
   pub ready : (s : Scratch) (q : Point) (t : Setting) → IsMarked s → Ends P P (spot_at t q s) (after_all T w.frames) →
       front_ready (n.Frontmatter here) (spot_at t q s) (after_all T w.frames)
   pub next : (s : Scratch) (q : Point) (t : Setting) → IsMarked s → Ends P P (spot_at t q s) (after_all T w.frames) →
-      front_ready (n.Frontmatter behind) (spot_at t q s) (after_all T w.frames)
-  pub same : front_level (n.Frontmatter behind) ≡ front_level (n.Frontmatter here)
+      front_ready (n.Frontmatter following) (spot_at t q s) (after_all T w.frames)
+  pub same : front_level (n.Frontmatter following) ≡ front_level (n.Frontmatter here)
   pub level : 0 < front_level (n.Frontmatter here)
   pub rank : (x : _) → (front_rank (n.Frontmatter here) x).number ≡ 4
-  pub low : (x : _) → (front_rank (n.Frontmatter behind) x).number ≡ 1
-  pub tries : (front_tries (n.Frontmatter behind)).number ≡ 3
+  pub low : (x : _) → (front_rank (n.Frontmatter following) x).number ≡ 1
+  pub tries : (front_tries (n.Frontmatter following)).number ≡ 3
 
-good-behind : (T : Scheme) (w : World) (here behind : FrontState) (P : Scratch → Type 0) (events : List Event)
-    (s : Scratch) (x : Bool) → FrontFits T → IsSequence T w here behind P → IsMarked s →
+good-following : (T : Scheme) (w : World) (here following : FrontState) (P : Scratch → Type 0) (events : List Event)
+    (s : Scratch) (x : Bool) → FrontFits T → IsSequence T w here following P → IsMarked s →
     Ends P P (position w) (after_all T w.frames) →
-    Does T (n.Frontmatter here) w (behind_part (record w { events = events; scratch = s }) behind x)
-good-behind T w here behind P events s true has is marked ends =
-    white_try T front_scheme (n.Frontmatter here) (n.Frontmatter behind) w events s 0 any_size P P has.white
-    (has.each here) (has.each behind) (marked-none s marked) (λ some. absurd (omega arith)) ends
+    Does T (n.Frontmatter here) w (after_part (record w { events = events; scratch = s }) following x)
+good-following T w here following P events s true has is marked ends =
+    white_try T front_scheme (n.Frontmatter here) (n.Frontmatter following) w events s 0 any_size P P has.white
+    (has.each here) (has.each following) (marked-none s marked) (λ some. absurd (omega arith)) ends
     (λ q t up way. is.next (calmed s) q t (ap calmed marked) (front-later _ w P P (calmed s) q t up way ends))
     (let a = is.same in omega (arith, a)) is.level
     (λ t up. let a = is.low (spot_at t w.point (calmed s)) in let b = is.tries in omega (arith, a, b))
     (let a = is.rank (position w) in let b = is.tries in omega (arith, a, b))
-good-behind T w here behind P events s false has is marked ends = (
-  turns T front_scheme (n.Frontmatter here) (n.Frontmatter behind) w events s (has.each here) (has.each behind)
+good-following T w here following P events s false has is marked ends = (
+  turns T front_scheme (n.Frontmatter here) (n.Frontmatter following) w events s (has.each here) (has.each following)
       (is.next s w.point w.setting marked (later P P (position w) _ w.point s (stays w.setting.limit w.point) ends))
       (let a = is.same in omega (arith, a))
       (let a = is.low (moved_to (position w) w.point s) in let b = is.rank (position w) in omega (arith, a, b)),
   refl,
 )
 
-good-sequence : (T : Scheme) (w : World) (here behind : FrontState) (P : Scratch → Type 0) (left : Scratch)
-    (x y z : Bool) → FrontFits T → IsSequence T w here behind P → IsMarked w.scratch → P left →
+good-sequence : (T : Scheme) (w : World) (here following : FrontState) (P : Scratch → Type 0) (left : Scratch)
+    (x y z : Bool) → FrontFits T → IsSequence T w here following P → IsMarked w.scratch → P left →
     Ends P P (position w) (after_all T w.frames) →
     (x ≡ true → is_current w.scratch.marker (seen (position w)) ≡ true) →
-    Does T (n.Frontmatter here) w (sequence_code here behind left w x y z)
-good-sequence T w here behind P left true y z has is marked gone ends e =
+    Does T (n.Frontmatter here) w (sequence_code here following left w x y z)
+good-sequence T w here following P left true y z has is marked gone ends e =
     let inside = seen-in (position w) (is_current w.scratch.marker) refl (e refl) in (
       consumes T front_scheme _ _ w w.events _ (has.each here) (has.each here) inside
           (is.ready _ _ _ marked (later P P (position w) _ _ _ (takes w.setting w.point inside) ends)) (omega arith),
       refl,
     )
-good-sequence T w here behind P left false true z has is marked gone ends e =
-    good-behind T w here behind P _ (without_size w.scratch) z has is marked ends
-good-sequence T w here behind P left false false z has is marked gone ends e =
+good-sequence T w here following P left false true z has is marked gone ends e =
+    good-following T w here following P _ (without_size w.scratch) z has is marked ends
+good-sequence T w here following P left false false z has is marked gone ends e =
     (refuses T _ w _ _ w.events left ends gone, refl)
 
 opening : (T : Scheme) (w : World) → IsSequence T w its.OpenSequence its.OpenAfter IsRest
@@ -238,7 +238,7 @@ content_end_ends T w false has r e = (refuses T _ w _ _ w.events (cleared w.scra
 after_ends : (T : Scheme) (w : World) (x : Bool) → in_front (position w) (after_all T w.frames) →
     is_current 10 (seen (position w)) ≡ x → Does T (n.Frontmatter its.After) w (after_code w x)
 after_ends T w true r e = (
-  accepts-behind T _ w _ _ (after_code w true).world.events (cleared w.scratch)
+  accepts-following T _ w _ _ (after_code w true).world.events (cleared w.scratch)
       (seen-in (position w) (is_current 10) refl e) r.1 r.0,
   refl,
 )

@@ -148,10 +148,10 @@ last-more : (m : ℕ) (d : List ℕ) (x : Blocks) (a b : Block) (bs : Blocks) �
 last-more m d x (ListOf k items) b bs = refl
 last-more m d x _ b bs = refl
 
-last-behind : (m : ℕ) (d : List ℕ) (x : Blocks) (a : Block) (gs : Blocks) (b : Block) →
+last-following : (m : ℕ) (d : List ℕ) (x : Blocks) (a : Block) (gs : Blocks) (b : Block) →
     with_last m d x (More a (then_block gs b)) ≡ More a (with_last m d x (then_block gs b))
-last-behind m d x a End b = last-more m d x a b End
-last-behind m d x a (More g gs) b = last-more m d x a g (then_block gs b)
+last-following m d x a End b = last-more m d x a b End
+last-following m d x a (More g gs) b = last-more m d x a g (then_block gs b)
 
 -- an item goes into the last list if the marker is the same
 pub last-same : (m : ℕ) (d : List ℕ) (x gs items : Blocks) →
@@ -161,14 +161,14 @@ last-same m d x End items =
     (λ (t : Bool). cond t (More (ListOf m (then_block items (Item m d x))) End)
     (More (ListOf m items) (More (ListOf m (More (Item m d x) End)) End))) (eq-eqb m m refl)
 last-same m d x (More g gs) items =
-    last-behind m d x g gs (ListOf m items) ∙ ap (More g) (last-same m d x gs items)
+    last-following m d x g gs (ListOf m items) ∙ ap (More g) (last-same m d x gs items)
 
 -- and has a list of its own after all else
 pub last-apart : (m : ℕ) (d : List ℕ) (x gs : Blocks) (b : Block) → IsNoListOf m b →
     with_last m d x (then_block gs b) ≡ then_block (then_block gs b) (ListOf m (More (Item m d x) End))
 last-apart m d x End (ListOf k items) h = rw h refl
 last-apart m d x End _ h = refl
-last-apart m d x (More g gs) b h = last-behind m d x g gs b ∙ ap (More g) (last-apart m d x gs b h)
+last-apart m d x (More g gs) b h = last-following m d x g gs b ∙ ap (More g) (last-apart m d x gs b h)
 
 pub other-no-list : (m : ℕ) (b : Block) → IsOther b → IsNoListOf m (grouped_block b)
 other-no-list m (ListOf marker items) h = absurd h

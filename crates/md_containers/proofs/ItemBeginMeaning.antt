@@ -17,14 +17,14 @@ use Rattle.md_engine.specs.declared.state.list_item.State.TheVariants as its
 use Rattle.md_engine.specs.declared.state.thematic_break.State.TheVariants as thematic_break
 use Rattle.md_engine.specs.declared.tokenizer.Frame.{Frame}
 use Rattle.md_engine.specs.declared.tokenizer.Scratch.{Scratch}
-use Rattle.md_engine.specs.Meaning.{Behaviour, Cell, Feed, Here, Refuses, Steps, goes, here, resume}
+use Rattle.md_engine.specs.Meaning.{Behaviour, Cell, Feed, Here, Refuses, Steps, proceeds, here, resume}
 use Rattle.md_engine.specs.Place.{is_ending}
 use Rattle.md_engine.specs.World.{Flags, World, after}
 use Rattle.md_engine.specs.Sees.{Sees, ahead, cell_here}
 use Rattle.md_engine.proofs.StepOf.{begins_only, moves, passes}
 use Rattle.md_containers.specs.Interrupts.{interrupts}
 use Rattle.md_containers.specs.Item.{before_code, bullet_code, is_item_marker, item_transition, may_break, unseen}
-use Rattle.md_containers.specs.ItemRule.{HasItem, at_bullet, at_marker, at_value, behind_indent, behind_marker}
+use Rattle.md_containers.specs.ItemRule.{HasItem, at_bullet, at_marker, at_value, after_indent, after_marker}
 use Rattle.md_containers.specs.ItemRule.{filled_at, one_column}
 use Rattle.md_meaning.specs.Ascii.{plus}
 use Rattle.md_meaning.specs.Containers.{is_bullet, is_digit}
@@ -49,14 +49,14 @@ frame_here ok nok check w =
     record { ok = ok; nok = nok; is_check = check; events_len = length w.events; point = w.point }
 
 -- what an attempt goes back to: the events and the point where it was begun
-pub went-back : (B : Behaviour) (to : State) (feed : Feed) (w : World) (s : Scratch) (g : Flags) →
-    goes B to (feed w.point)
+pub proceeded-back : (B : Behaviour) (to : State) (feed : Feed) (w : World) (s : Scratch) (g : Flags) →
+    proceeds B to (feed w.point)
     (record { events = take (length w.events) w.events; point = w.point; scratch = s; flags = g }) ≡
-    goes B to (feed w.point) (record (here w) { scratch = s; flags = g })
-went-back B to feed w s g =
+    proceeds B to (feed w.point) (record (here w) { scratch = s; flags = g })
+proceeded-back B to feed w s g =
     ap
     (λ (es : List Event).
-    goes B to (feed w.point) (record { events = es; point = w.point; scratch = s; flags = g }))
+    proceeds B to (feed w.point) (record { events = es; point = w.point; scratch = s; flags = g }))
     (take_all (length w.events) w.events (omega arith))
 
 pub bullet-dark : (b : ℕ) → is_bullet b ≡ true → is_white b ≡ false
@@ -65,22 +65,22 @@ bullet-dark b e = grind (arith, nat_tests)
 bullet-on : (b : ℕ) → is_bullet b ≡ true → nat_eq b 10 ≡ false
 bullet-on b e = grind (arith, nat_tests)
 
-indent-none : (options : ParseOptions) (h : Here) → behind_indent options [] h ≡ Refuses h.scratch h.flags
-unfolding behind_indent
+indent-none : (options : ParseOptions) (h : Here) → after_indent options [] h ≡ Refuses h.scratch h.flags
+unfolding after_indent
 indent-none options h = refl
 
 indent-bullet : (options : ParseOptions) (c : Cell) (cs : List Cell) (h : Here) → is_bullet c.byte ≡ true →
-    behind_indent options (c ∷ cs) h ≡
+    after_indent options (c ∷ cs) h ≡
     cond (options.constructs.thematic_break && is_rule (line_bytes (c ∷ cs))) (Refuses h.scratch h.flags)
     (at_bullet (c ∷ cs) h)
-unfolding behind_indent
+unfolding after_indent
 indent-bullet options c cs h e = rw e refl
 
 indent-other : (options : ParseOptions) (c : Cell) (cs : List Cell) (h : Here) → is_bullet c.byte ≡ false →
-    behind_indent options (c ∷ cs) h ≡
+    after_indent options (c ∷ cs) h ≡
     cond (is_digit c.byte && (not (interrupts h.flags) || nat_eq c.byte 49)) (at_value (c ∷ cs) h)
     (Refuses h.scratch h.flags)
-unfolding behind_indent
+unfolding after_indent
 indent-other options c cs h e = rw e refl
 
 -- a plus begins no break
@@ -154,7 +154,7 @@ bullet-marks b e = grind (arith, nat_tests)
 -- a bullet with neither whitespace nor an ending after it is refused
 unparted-refused : (c d : Cell) (ds : List Cell) (h : Here) → IsRest h.scratch → is_bullet c.byte ≡ true →
     is_white d.byte ≡ false → nat_eq d.byte 10 ≡ false → at_bullet (c ∷ d ∷ ds) h ≡ Refuses h.scratch h.flags
-unfolding at_bullet at_marker behind_marker filled_at one_column
+unfolding at_bullet at_marker after_marker filled_at one_column
 unparted-refused c d ds h is e dark on =
     let mark : is_item_marker c.byte ≡ true = bullet-marks c.byte e in
     rw (mark, on, dark)
@@ -228,7 +228,7 @@ break-checked B feed w c cs x y has is next e f g = go x y f g
         (Refuses (without_marker w.scratch) w.flags)
     onward =
         sym
-        (went-back B (Next (n.ListItem its.BeforeUnordered)) feed w (without_marker w.scratch) w.flags
+        (proceeded-back B (Next (n.ListItem its.BeforeUnordered)) feed w (without_marker w.scratch) w.flags
         ∙ ap₂
         (λ (cells : List Cell) (s : Scratch).
         B (n.ListItem its.BeforeUnordered) cells (record (here w) { scratch = s })) next rest
@@ -242,7 +242,7 @@ break-checked B feed w c cs x y has is next e f g = go x y f g
         (Refuses (without_marker w.scratch) w.flags))
     go true false f g =
         sym
-        (went-back B Nok feed w (without_marker w.scratch) w.flags
+        (proceeded-back B Nok feed w (without_marker w.scratch) w.flags
         ∙ ap (λ (s : Scratch). Refuses s w.flags) rest)
     go true true f g =
         let under =
@@ -261,7 +261,7 @@ bullet_means B feed w c cs true has s is next e f =
     let rule : Bool = is_rule (line_bytes (c ∷ cs)) in
     begins_only B feed _ _ w (bullet_code w true).world
     (frame_here Nok (Next (n.ListItem its.BeforeUnordered)) true w) refl refl
-    (has.each its.Before _ _ ∙ ap (λ (x : List Cell). behind_indent w.setting.options x (here w)) next
+    (has.each its.Before _ _ ∙ ap (λ (x : List Cell). after_indent w.setting.options x (here w)) next
     ∙ indent-bullet w.setting.options c cs (here w) e
     ∙ ap (λ (x : Bool). cond (x && rule) (Refuses w.scratch w.flags) (at_bullet (c ∷ cs) (here w))) on
     ∙ break-checked B feed w c cs rule _ has is next e refl refl
@@ -272,7 +272,7 @@ bullet_means B feed w c cs true has s is next e f =
     ∙ break-outcome B w.setting.options c cs (here w) has on e)))
 bullet_means B feed w c cs false has s is next e f =
     passes B feed _ _ w w refl refl
-    (has.each its.Before _ _ ∙ ap (λ (x : List Cell). behind_indent w.setting.options x (here w)) next
+    (has.each its.Before _ _ ∙ ap (λ (x : List Cell). after_indent w.setting.options x (here w)) next
     ∙ indent-bullet w.setting.options c cs (here w) e
     ∙ ap (λ (x : Bool). cond x (Refuses w.scratch w.flags) (at_bullet (c ∷ cs) (here w)))
     (no-rule feed w c cs s next e f)
@@ -284,7 +284,7 @@ pub before_means : (B : Behaviour) (feed : Feed) (w : World) (o : Option ℕ) �
     Steps B feed (Next (n.ListItem its.Before)) w (before_code w o).to (before_code w o).world
 before_means B feed w None has s is next =
     passes B feed _ Nok w w refl refl
-    (has.each its.Before _ _ ∙ ap (λ (x : List Cell). behind_indent w.setting.options x (here w)) next
+    (has.each its.Before _ _ ∙ ap (λ (x : List Cell). after_indent w.setting.options x (here w)) next
     ∙ indent-none w.setting.options (here w))
 before_means B feed w (Some b) has s is next =
     go (is_bullet b) (is_digit b && (not (interrupts w.flags) || nat_eq b 49)) refl refl
@@ -299,7 +299,7 @@ before_means B feed w (Some b) has s is next =
         B (n.ListItem its.Before) (feed w.point) (here w) ≡
         cond y (at_value (feed w.point) (here w)) (Refuses w.scratch w.flags)
     other y e f =
-        has.each its.Before _ _ ∙ ap (λ (x : List Cell). behind_indent w.setting.options x (here w)) next
+        has.each its.Before _ _ ∙ ap (λ (x : List Cell). after_indent w.setting.options x (here w)) next
         ∙ indent-other w.setting.options c cs (here w) e
         ∙ ap (λ (x : Bool). cond x (at_value (c ∷ cs) (here w)) (Refuses w.scratch w.flags)) f
         ∙ ap (λ (x : List Cell). cond y (at_value x (here w)) (Refuses w.scratch w.flags)) (sym next)

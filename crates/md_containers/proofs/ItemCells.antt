@@ -11,11 +11,11 @@ use Rattle.md_engine.specs.declared.tokenizer.TheConstants.Scratch.{REST}
 use Rattle.md_engine.specs.Meaning.{Accepts, Cell, Here, Outcome, Refuses}
 use Rattle.md_containers.specs.Interrupts.{interrupts}
 use Rattle.md_containers.specs.Item.{ends_value, is_item_marker, width_here}
-use Rattle.md_containers.specs.ItemPrefix.{ItemPassed, digits_of, item_behind, item_by, item_closed, item_marked}
+use Rattle.md_containers.specs.ItemPrefix.{ItemPassed, digits_of, item_after, item_by, item_closed, item_marked}
 use Rattle.md_containers.specs.ItemPrefix.{item_new, item_numbered, item_padded, item_valued, padding, padding_room}
-use Rattle.md_containers.specs.ItemRule.{at_bullet, at_marker, at_value, behind_columns, behind_indent, behind_marker}
-use Rattle.md_containers.specs.ItemRule.{behind_prefix, behind_value, digits_end, digits_rest, digits_size, filled_at}
-use Rattle.md_containers.specs.ItemRule.{in_value, item_at, one_column}
+use Rattle.md_containers.specs.ItemRule.{at_bullet, at_marker, at_value, after_columns, after_indent, after_marker}
+use Rattle.md_containers.specs.ItemRule.{following_prefix, following_value, digits_end, digits_rest, digits_size}
+use Rattle.md_containers.specs.ItemRule.{filled_at, in_value, item_at, one_column}
 use Rattle.md_meaning.specs.Containers.{is_bullet, is_digit}
 use Rattle.md_meaning.specs.Leaves.{is_rule}
 use Rattle.md_meaning.specs.Rest.{is_blank}
@@ -45,9 +45,9 @@ Begun h = h.flags.asked_column ≡ h.point.column
 closed-is : (h : Here) (digits : List ℕ) (byte : ℕ) (front : List Event) (blank : Bool) (cells : List Cell)
     (p : Point) →
     Begun h →
-    behind_prefix cells (at h front p (noted blank)) ≡
+    following_prefix cells (at h front p (noted blank)) ≡
     item_by (item_closed (interrupts h.flags) h.point digits byte front blank cells p) (at_rest h)
-unfolding behind_prefix
+unfolding following_prefix
 closed-is h digits byte front true cells p e = go (interrupts h.flags)
   where
     taken : List Event → ℕ → Outcome
@@ -89,7 +89,7 @@ closed-is h digits byte front false cells p e =
 -- whitespace that was taken here, with these events before it
 taken-is : (h : Here) (digits : List ℕ) (byte : ℕ) (front : List Event) (room : ℕ) (cells : List Cell) (p : Point) →
     Begun h →
-    behind_prefix (white_rest room cells)
+    following_prefix (white_rest room cells)
     (record (at h front p (noted false)) {
       events = (h.events ++ front) ++ pair SpaceOrTab p (white_end room cells p);
       point = white_end room cells p;
@@ -101,7 +101,7 @@ taken-is : (h : Here) (digits : List ℕ) (byte : ℕ) (front : List Event) (roo
 taken-is h digits byte front room cells p e =
     ap
     (λ (es : List Event).
-    behind_prefix (white_rest room cells)
+    following_prefix (white_rest room cells)
     (record h { events = es; point = white_end room cells p; scratch = noted false }))
     (append_assoc h.events front (pair SpaceOrTab p (white_end room cells p)))
     ∙ closed-is h digits byte (front ++ pair SpaceOrTab p (white_end room cells p)) false (white_rest room cells)
@@ -109,7 +109,7 @@ taken-is h digits byte front room cells p e =
 
 column-white : (cells : List Cell) (k : Here) → begins_white cells ≡ true →
     one_column cells k ≡
-    behind_prefix (white_rest 1 cells)
+    following_prefix (white_rest 1 cells)
     (record k {
       events = k.events ++ pair SpaceOrTab k.point (white_end 1 cells k.point);
       point = white_end 1 cells k.point;
@@ -127,15 +127,15 @@ column-dark (c ∷ cs) h front p e = rw e refl
 filled-split : (cells : List Cell) (h : Here) (front : List Event) (p : Point) (x y : Bool) →
     begins_white cells ≡ x → begins_white (white_rest 4 cells) ≡ y →
     filled_at cells (at h front p REST) ≡
-    cond (x && not y) (behind_prefix (white_rest 4 cells) (behind_columns 4 cells (at h front p (noted false))))
+    cond (x && not y) (following_prefix (white_rest 4 cells) (after_columns 4 cells (at h front p (noted false))))
     (one_column cells (at h front p (noted false)))
 unfolding filled_at
 filled-split cells h front p x y e f = rw (e, f) refl
 
 padded-is : (h : Here) (digits : List ℕ) (byte : ℕ) (front : List Event) (cells : List Cell) (p : Point) → Begun h →
-    behind_marker cells (at h front p REST) ≡
+    after_marker cells (at h front p REST) ≡
     item_by (item_padded (interrupts h.flags) h.point digits byte front (padding cells p)) (at_rest h)
-unfolding behind_marker
+unfolding after_marker
 padded-is h digits byte front cells p e =
     go (is_blank (line_bytes cells)) (begins_white cells) (begins_white (white_rest 4 cells)) refl refl refl
   where
@@ -152,7 +152,7 @@ padded-is h digits byte front cells p e =
 
     go : (b x y : Bool) → is_blank (line_bytes cells) ≡ b → begins_white cells ≡ x →
         begins_white (white_rest 4 cells) ≡ y →
-        behind_marker cells (at h front p REST) ≡
+        after_marker cells (at h front p REST) ≡
         item_by (item_padded interrupting h.point digits byte front (padding cells p)) (at_rest h)
     go true x y k l m =
         rw k
@@ -181,17 +181,17 @@ unfolding at_marker
 marked-is h digits front c cs p e is =
     rw is
     (ap
-    (λ (es : List Event). behind_marker cs (record h { events = es; point = c.after; scratch = REST }))
+    (λ (es : List Event). after_marker cs (record h { events = es; point = c.after; scratch = REST }))
     (append_assoc h.events front (pair ListItemMarker p c.after))
     ∙ padded-is h digits c.byte (front ++ pair ListItemMarker p c.after) cs c.after e)
 
 -- The digits.
 
 numbered-is : (h : Here) (digits : List ℕ) (size : ℕ) (front : List Event) (cells : List Cell) (p q : Point) → Begun h →
-    behind_value cells (at h front q (record REST { size = size })) ≡
+    following_value cells (at h front q (record REST { size = size })) ≡
     item_by (item_numbered (interrupts h.flags) h.point digits size (front ++ exit ListItemValue q ∷ []) cells q)
     (at_rest h)
-unfolding behind_value
+unfolding following_value
 numbered-is h digits size front [] p q e = refl
 numbered-is h digits size front (c ∷ cs) p q e =
     go (ends_value c.byte) (not (interrupts h.flags) || nat_lt size 2) refl
@@ -229,14 +229,14 @@ value-on c cs k is = rw is refl
 
 value-in : (cells : List Cell) (h : Here) (front : List Event) (p : Point) →
     in_value cells (at h front p REST) ≡
-    behind_value (digits_rest 9 cells)
+    following_value (digits_rest 9 cells)
     (at h front (digits_end 9 cells p) (record REST { size = digits_size 9 cells }))
 unfolding in_value
 value-in cells h front p =
     let sum : 0 + digits_size 9 cells ≡ digits_size 9 cells = omega arith in
     ap
     (λ (n : ℕ).
-    behind_value (digits_rest 9 cells) (at h front (digits_end 9 cells p) (record REST { size = n }))) sum
+    following_value (digits_rest 9 cells) (at h front (digits_end 9 cells p) (record REST { size = n }))) sum
 
 valued-is : (h : Here) (front : List Event) (c : Cell) (cs : List Cell) (p : Point) → Begun h →
     is_digit c.byte ≡ true →
@@ -270,12 +270,12 @@ valued-is h front c cs p e is = value-on c cs (at h front p REST) is ∙ go (c �
 bullet-marker : (b : ℕ) → is_bullet b ≡ true → is_item_marker b ≡ true
 bullet-marker b k = ap (λ (x : Bool). x || ends_value b) k
 
-behind-is : (options : ParseOptions) (h : Here) (front : List Event) (cells : List Cell) (p : Point) → Begun h →
-    behind_indent options cells (at h front p REST) ≡
-    item_by (item_behind options (interrupts h.flags) h.point front cells p) (at_rest h)
-unfolding behind_indent at_bullet
-behind-is options h front [] p e = refl
-behind-is options h front (c ∷ cs) p e =
+following-is : (options : ParseOptions) (h : Here) (front : List Event) (cells : List Cell) (p : Point) → Begun h →
+    after_indent options cells (at h front p REST) ≡
+    item_by (item_after options (interrupts h.flags) h.point front cells p) (at_rest h)
+unfolding after_indent at_bullet
+following-is options h front [] p e = refl
+following-is options h front (c ∷ cs) p e =
     go (is_bullet c.byte) (options.constructs.thematic_break && is_rule (line_bytes (c ∷ cs))) (is_digit c.byte)
     (not (interrupts h.flags) || nat_eq c.byte 49) refl refl
   where
@@ -324,28 +324,28 @@ start-rest options cells h e = go options.constructs.list_item (begins_white cel
     begun = enter ListItem h.point ∷ []
 
     new : List Event → List Cell → Point → Option ItemPassed
-    new front cells q = item_behind options (interrupts h.flags) h.point front cells q
+    new front cells q = item_after options (interrupts h.flags) h.point front cells q
 
     go : (x y : Bool) → begins_white cells ≡ y →
         cond x
         (cond y
-        (behind_indent options left
+        (after_indent options left
         (record h {
           events = (h.events ++ begun) ++ enter SpaceOrTab h.point ∷ exit SpaceOrTab p ∷ [];
           point = p;
           scratch = REST;
         }))
-        (behind_indent options cells (record h { events = h.events ++ begun; scratch = REST })))
+        (after_indent options cells (record h { events = h.events ++ begun; scratch = REST })))
         (Refuses REST h.flags) ≡
         item_by (cond x (new (enter ListItem h.point ∷ cond y (pair SpaceOrTab h.point p) []) left p) None) (at_rest h)
     go false y k = refl
     go true true k =
         ap
-        (λ (es : List Event). behind_indent options left (record h { events = es; point = p; scratch = REST }))
+        (λ (es : List Event). after_indent options left (record h { events = es; point = p; scratch = REST }))
         (append_assoc h.events begun (pair SpaceOrTab h.point p))
-        ∙ behind-is options h (enter ListItem h.point ∷ pair SpaceOrTab h.point p) left p e
+        ∙ following-is options h (enter ListItem h.point ∷ pair SpaceOrTab h.point p) left p e
     go true false k =
-        behind-is options h begun cells h.point e
+        following-is options h begun cells h.point e
         ∙ ap₂ (λ (l : List Cell) (q : Point). item_by (new begun l q) (at_rest h)) (sym (none-rest room cells k))
         (sym (none-end room cells h.point k))
 

@@ -54,9 +54,9 @@ spread-one line b bs p stop dark =
     ap (λ (l : List Cell). (l ++ spread line bs (past_byte b p)) ++ stop) (byte-one line b p dark)
 
 -- after it the rest of the line is a column further
-pub byte-behind : (text past : List ℕ) (column b : ℕ) (bs : List ℕ) (p : Point) → is_white b ≡ false →
+pub byte-following : (text past : List ℕ) (column b : ℕ) (bs : List ℕ) (p : Point) → is_white b ≡ false →
     RestAt text past (rest column (b ∷ bs)) p → RestAt text past (rest (column + 1) bs) (past_byte b p)
-byte-behind text past column b bs p dark is =
+byte-following text past column b bs p dark is =
     let tab : (b == 9) ≡ false = (or_parts (b == 32) (b == 9) dark).1 in
     record {
       column = rw tab (omega (arith, is.column));
@@ -77,7 +77,7 @@ pub record HasDigits (line : Line) (text past : List ℕ) (room column : ℕ) (b
     (stop : List Cell) (digits : List ℕ) : Type 0 where
   pub bytes_are : bytes ≡ digits ++ drop (length digits) bytes
   pub all : list_all is_digit digits ≡ true
-  pub stands : RestAt text past (rest (column + length digits) (drop (length digits) bytes)) (past_text digits p)
+  pub valid : RestAt text past (rest (column + length digits) (drop (length digits) bytes)) (past_text digits p)
   pub within : length digits ≤ room → TakesDigits line room bytes p stop digits
   -- where there are more, one is left
   pub over : room < length digits → starts is_digit (digits_rest room (spread line bytes p ++ stop)) ≡ true
@@ -109,7 +109,7 @@ no-digits : (line : Line) (text past : List ℕ) (room column : ℕ) (bytes : Li
 no-digits line text past room column bytes p stop is e = record {
   bytes_are = refl;
   all = refl;
-  stands = subst (λ (k : ℕ). RestAt text past (rest k bytes) p) (sym (add-zero column)) is;
+  valid = subst (λ (k : ℕ). RestAt text past (rest k bytes) p) (sym (add-zero column)) is;
   within = λ le. record {
     are = none-of room _ e;
     size = none-size room _ e;
@@ -130,11 +130,11 @@ more-digits : (line : Line) (text past : List ℕ) (room column b : ℕ) (bs : L
 more-digits line text past room column b bs p stop digits e has = record {
   bytes_are = ap (λ (l : List ℕ). b ∷ l) has.bytes_are;
   all = ap (λ (x : Bool). x && list_all is_digit digits) e ∙ has.all;
-  stands =
+  valid =
       subst
       (λ (k : ℕ).
       RestAt text past (rest k (drop (length digits) bs)) (past_text digits (past_byte b p)))
-      (omega arith) has.stands;
+      (omega arith) has.valid;
   within = λ le.
       let takes = has.within (omega (arith, le)) in
       record {
@@ -170,7 +170,7 @@ full-digits line text past room column b bs p stop digits e has =
     record {
       bytes_are = more.bytes_are;
       all = more.all;
-      stands = more.stands;
+      valid = more.valid;
       within = λ le. absurd (omega (arith, le));
       over = λ lt. zero-starts (spread line (b ∷ bs) p ++ stop) ∙ starts-spread is_digit line b bs p stop ∙ e;
     }
@@ -188,7 +188,7 @@ digits-walk line text past room column [] p stop is k =
 digits-walk line text past room column (b ∷ bs) p stop is k =
     subst (HasDigits line text past room column (b ∷ bs) p stop) (sym (take_while-cons is_digit b bs))
     (go room (is_digit b) refl
-    (λ room stands. digits-walk line text past room (column + 1) bs (past_byte b p) stop stands k))
+    (λ room valid. digits-walk line text past room (column + 1) bs (past_byte b p) stop valid k))
   where
     go : (room : ℕ) (x : Bool) → is_digit b ≡ x →
         ((room : ℕ) → RestAt text past (rest (column + 1) bs) (past_byte b p) →
@@ -198,7 +198,7 @@ digits-walk line text past room column (b ∷ bs) p stop is k =
         no-digits line text past room column (b ∷ bs) p stop is (starts-spread is_digit line b bs p stop ∙ e)
     go zero true e next =
         full-digits line text past 0 column b bs p stop (take_while is_digit bs) e
-        (next 0 (byte-behind text past column b bs p (digit-dark b e) is))
+        (next 0 (byte-following text past column b bs p (digit-dark b e) is))
     go (suc room) true e next =
         more-digits line text past room column b bs p stop (take_while is_digit bs) e
-        (next room (byte-behind text past column b bs p (digit-dark b e) is))
+        (next room (byte-following text past column b bs p (digit-dark b e) is))

@@ -11,7 +11,7 @@ use Rattle.md_engine.specs.declared.tokenizer.Scratch.{Scratch}
 use Rattle.md_engine.specs.declared.tokenizer.TheConstants.Scratch.{REST}
 use Rattle.md_engine.specs.declared.tokenizer.container.Container.{Container as Held}
 use Rattle.md_engine.specs.Meaning.{Accepts, Cell, Here, Outcome, Refuses}
-use Rattle.md_containers.specs.Item.{item_gone_on, least_width}
+use Rattle.md_containers.specs.Item.{item_is_further, least_width}
 use Rattle.md_containers.specs.ItemPrefix.{item_by, item_further, item_indented, item_same}
 use Rattle.md_containers.specs.ItemRule.{indent_at, inside_indent, item_on}
 use Rattle.md_containers.proofs.ItemCells.{at_rest}
@@ -30,7 +30,7 @@ indented width cells h =
       events = h.events ++ pair SpaceOrTab h.point (white_end width cells h.point);
       point = white_end width cells h.point;
       scratch = REST;
-      flags = item_gone_on h.flags;
+      flags = item_is_further h.flags;
     })
     (white_rest width cells)
 
@@ -56,7 +56,7 @@ inside-is min w c cs h e =
       events = es;
       point = white_end w cs c.after;
       scratch = REST;
-      flags = item_gone_on h.flags;
+      flags = item_is_further h.flags;
     })
     (white_rest w cs))
     (Refuses REST h.flags))

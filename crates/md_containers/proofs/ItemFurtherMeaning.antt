@@ -16,14 +16,14 @@ use Rattle.md_engine.specs.World.{World, after}
 use Rattle.md_engine.specs.Sees.{Sees, ahead, cell_here}
 use Rattle.md_engine.proofs.StepOf.{moves, passes}
 use Rattle.md_containers.specs.Item.{cont_blank_code, cont_filled_code, cont_start_code, indent_code, inside_code}
-use Rattle.md_containers.specs.Item.{item_gone_on, least_width}
+use Rattle.md_containers.specs.Item.{item_is_further, least_width}
 use Rattle.md_containers.specs.ItemRule.{HasItem, blank_behaves, filled_behaves, indent_at, indent_blank, indent_filled}
 use Rattle.md_containers.specs.ItemRule.{inside_indent, item_on}
 use Rattle.md_containers.proofs.ItemTermination.{least-some}
 use Rattle.md_meaning.specs.Rest.{is_blank, is_white}
 use Rattle.md_events.specs.Ahead.{begins_white, line_bytes, white_size}
 use Rattle.md_events.specs.Events.Nested.{enter, exit}
-use Rattle.md_events.specs.Look.{first_seen, looks_behind}
+use Rattle.md_events.specs.Look.{first_seen, looks_after}
 use Rattle.md_events.specs.Spaces.{IsRest, asking, calmed, ends_line, sees_white}
 use Rattle.md_events.proofs.AheadLemmas.{none-end, none-rest, none-size}
 use Rattle.md_events.proofs.LookLemmas.{first-seen}
@@ -60,7 +60,7 @@ cont_start_means B options feed w true false has s is e f =
     passes B feed _ _ w w refl refl
     (has.each its.ContStart _ _ ∙ on-ended (feed w.point) (here w) false (ap ends_line (first-seen feed w s) ∙ e) f)
 cont_start_means B options feed w false y has s is e f =
-    choice_means B options feed w its.ContStart its.ContBlank its.ContFilled (looks_behind w) has s refl
+    choice_means B options feed w its.ContStart its.ContBlank its.ContFilled (looks_after w) has s refl
     (has.each its.ContStart _ _ ∙ on-further (feed w.point) (here w) (ap ends_line (first-seen feed w s) ∙ e)
     ∙ ap₂ (λ (a b : Outcome). cond (is_blank (line_bytes (feed w.point))) a b)
     (sym (has.each its.ContBlank _ _ ∙ rest-blank (feed w.point) (here w) is))
@@ -127,7 +127,7 @@ inside_ended cells h =
       events = h.events ++ exit parts.SpaceOrTab h.point ∷ [];
       point = h.point;
       scratch = calmed h.scratch;
-      flags = item_gone_on h.flags;
+      flags = item_is_further h.flags;
     })
     cells)
     (Refuses (calmed h.scratch) h.flags)

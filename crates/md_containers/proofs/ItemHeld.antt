@@ -11,10 +11,10 @@ use Rattle.md_engine.specs.declared.event.Point.{Point}
 use Rattle.md_engine.specs.declared.tokenizer.container.Container.{Container as Held}
 use Rattle.md_engine.specs.Meaning.{Cell, Here, Refuses}
 use Rattle.md_containers.specs.Item.{at_least_one, ends_value, may_begin}
-use Rattle.md_containers.specs.ItemPrefix.{ItemPassed, Padded, digits_of, held_as, item_behind, item_closed}
+use Rattle.md_containers.specs.ItemPrefix.{ItemPassed, Padded, digits_of, held_as, item_after, item_closed}
 use Rattle.md_containers.specs.ItemPrefix.{item_further, item_holds, item_marked, item_new, item_numbered, item_padded}
 use Rattle.md_containers.specs.ItemPrefix.{item_valued, padding}
-use Rattle.md_containers.specs.ItemRule.{behind_indent, digits_end, digits_rest, digits_size, item_at}
+use Rattle.md_containers.specs.ItemRule.{after_indent, digits_end, digits_rest, digits_size, item_at}
 use Rattle.md_containers.specs.QuoteRule.{indent_events}
 use Rattle.md_containers.proofs.StartLooked.{start-looked}
 use Rattle.md_events.proofs.LostColumns.{lose-bare}
@@ -25,7 +25,7 @@ use Rattle.md_meaning.specs.Rest.{is_blank, is_white}
 use Rattle.md_meaning.specs.State.{InItem}
 use Rattle.md_events.specs.Ahead.{line_bytes, white_end, white_rest, white_size}
 use Rattle.md_events.specs.Events.Nested.{enter, pair}
-use Rattle.md_events.specs.Look.{first_seen, seen_behind}
+use Rattle.md_events.specs.Look.{first_seen, seen_after}
 use Rattle.md_events.specs.Spaces.{IsRest, ends_line, small_indent}
 
 -- What is held.
@@ -73,11 +73,11 @@ numbered-held held interrupting from digits size front (c ∷ cs) p =
     held-if held (ends_value c.byte && (not interrupting || nat_lt size 2)) _ _
     (marked-held held interrupting from digits front c cs p) tt
 
-behind-held : (held : Held) (options : ParseOptions) (interrupting : Bool) (from : Point) (front : List Event)
+following-held : (held : Held) (options : ParseOptions) (interrupting : Bool) (from : Point) (front : List Event)
     (cells : List Cell) (p : Point) →
-    IsHeld held (item_behind options interrupting from front cells p)
-behind-held held options interrupting from front [] p = tt
-behind-held held options interrupting from front (c ∷ cs) p =
+    IsHeld held (item_after options interrupting from front cells p)
+following-held held options interrupting from front [] p = tt
+following-held held options interrupting from front (c ∷ cs) p =
     held-if held (is_bullet c.byte) _ _
     (held-if held (options.constructs.thematic_break && is_rule (line_bytes (c ∷ cs))) _ _ tt
     (marked-held held interrupting from [] _ c cs p))
@@ -94,7 +94,7 @@ pub new-held : (held : Held) (options : ParseOptions) (interrupting : Bool) (cel
     IsHeld held (item_new options interrupting cells p)
 new-held held options interrupting cells p =
     held-if held options.constructs.list_item _ _
-    (behind-held held options interrupting p (enter ListItem p ∷ indent_events options cells p)
+    (following-held held options interrupting p (enter ListItem p ∷ indent_events options cells p)
     (white_rest (small_indent options) cells) (white_end (small_indent options) cells p))
     tt
 
@@ -108,8 +108,8 @@ further-held held digits marker width blank cells p some =
 -- Where another byte than a marker or a digit is first after whitespace, no item opens, and all is left as it was.
 
 dark-refused : (options : ParseOptions) (cells : List Cell) (h : Here) (b : ℕ) → first_seen cells ≡ Some b →
-    may_begin b ≡ false → behind_indent options cells h ≡ Refuses h.scratch h.flags
-unfolding behind_indent
+    may_begin b ≡ false → after_indent options cells h ≡ Refuses h.scratch h.flags
+unfolding after_indent
 dark-refused options [] h b e f = refl
 dark-refused options (c ∷ cs) h b e f =
     let same : c.byte ≡ b = cc in
@@ -122,9 +122,9 @@ white-dark : (c : ℕ) → is_white c ≡ true → may_begin c ≡ false
 white-dark c white = grind (arith, nat_tests)
 
 pub item-looked : (options : ParseOptions) (cells : List Cell) (h : Here) (b : ℕ) → IsRest h.scratch →
-    seen_behind cells ≡ Some b → may_begin b ≡ false → item_at options cells h ≡ Refuses h.scratch h.flags
+    seen_after cells ≡ Some b → may_begin b ≡ false → item_at options cells h ≡ Refuses h.scratch h.flags
 item-looked options cells h b is seen e =
-    start-looked ListItem options.constructs.list_item (behind_indent options) may_begin options cells h b
+    start-looked ListItem options.constructs.list_item (after_indent options) may_begin options cells h b
     (dark-refused options) white-dark is seen e
 
 -- By the line definition an item continues over an empty line, and takes nothing, unless it started blank.

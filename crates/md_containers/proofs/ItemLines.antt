@@ -14,7 +14,7 @@ use Rattle.md_containers.proofs.QuoteLines.{white-walk, white_end-same}
 use Rattle.md_events.proofs.LostColumns.{HasLost, White, lose-walk, white-none, zero-end}
 use Rattle.md_events.proofs.RestLines.{blank-cells}
 use Rattle.md_meaning.specs.Containers.{Taken, item_continues, item_padding}
-use Rattle.md_meaning.specs.Rest.{Rest, behind_indent, indent, is_blank, is_parted, is_white, lose}
+use Rattle.md_meaning.specs.Rest.{Rest, after_indent, indent, is_blank, is_parted, is_white, lose}
 use Rattle.md_meaning.specs.State.{InItem}
 use Rattle.md_meaning.proofs.TextsLemmas.{NoEnding}
 use Rattle.md_events.specs.Ahead.{begins_white, line_bytes, white_end, white_rest, white_size}
@@ -40,13 +40,13 @@ pub record LeavesRest (line : Line) (text past : List ℕ) (end : Point) (stop c
     (taken : Taken) : Type 0 where
   pub container : passed.container ≡ taken.container
   pub fed : passed.cells ≡ rest_cells line taken.rest passed.point ++ stop
-  pub stands : RestAt text past taken.rest passed.point
+  pub valid : RestAt text past taken.rest passed.point
   pub ends : past_rest taken.rest passed.point ≡ end
   pub no_ending : NoEnding taken.rest.bytes
   pub shorter : length passed.cells ≤ length cells
 
 -- of one that continues: an indent is before its content, which may be empty
-pub record GoesFurther (line : Line) (text past : List ℕ) (p end : Point) (stop cells : List Cell)
+pub record ContinuesFurther (line : Line) (text past : List ℕ) (p end : Point) (stop cells : List Cell)
     (passed : ItemPassed) (taken : Taken) : Type 0 where
   pub leaves : LeavesRest line text past end stop cells passed taken
   pub events : passed.events ≡ pair_unless_empty n.SpaceOrTab p passed.point
@@ -87,7 +87,7 @@ pub further-agrees : (digits : List ℕ) (marker width : ℕ) (blank : Bool) →
     (text past : List ℕ) (r : Rest) (stop : List Cell) (p : Point) →
     RestAt text past r p → NoEnding r.bytes → Stops stop →
     let cells = rest_cells line r p ++ stop in
-    ItemAgrees (GoesFurther line text past p (past_rest r p) stop cells)
+    ItemAgrees (ContinuesFurther line text past p (past_rest r p) stop cells)
     (item_further digits marker width blank cells p) (item_continues digits marker width blank r)
 unfolding item_continues
 further-agrees digits marker width blank some line text past r stop p is h k =
@@ -105,15 +105,15 @@ further-agrees digits marker width blank some line text past r stop p is h k =
     left : Taken
     left = record { container = InItem digits marker width false; rest = lose width r }
 
-    Goes : ItemPassed → Type 0
-    Goes passed = GoesFurther line text past p (past_rest r p) stop cells passed left
+    Proceeds : ItemPassed → Type 0
+    Proceeds passed = ContinuesFurther line text past p (past_rest r p) stop cells passed left
 
-    indented : begins_white cells ≡ true → Goes (item_indented digits marker width cells p)
+    indented : begins_white cells ≡ true → Proceeds (item_indented digits marker width cells p)
     indented white = record {
       leaves = record {
         container = refl;
         fed = lost.left;
-        stands = lost.stands;
+        valid = lost.valid;
         ends = lost.ends;
         no_ending = lose-no_ending width r h;
         shorter = white-length width cells;
@@ -122,7 +122,7 @@ further-agrees digits marker width blank some line text past r stop p is h k =
       white = lost.white;
     }
 
-    same : begins_white cells ≡ false → Goes (item_same digits marker width cells p)
+    same : begins_white cells ≡ false → Proceeds (item_same digits marker width cells p)
     same dark =
         let end : q ≡ p = none-end width cells p dark in
         record {
@@ -131,7 +131,7 @@ further-agrees digits marker width blank some line text past r stop p is h k =
             fed =
                 sym (none-rest width cells dark) ∙ lost.left
                 ∙ ap (λ (x : Point). rest_cells line (lose width r) x ++ stop) end;
-            stands = subst (RestAt text past (lose width r)) end lost.stands;
+            valid = subst (RestAt text past (lose width r)) end lost.valid;
             ends = ap (past_rest (lose width r)) (sym end) ∙ lost.ends;
             no_ending = lose-no_ending width r h;
             shorter = omega arith;
@@ -141,7 +141,7 @@ further-agrees digits marker width blank some line text past r stop p is h k =
         }
 
     Agrees : Option ItemPassed → Option Taken → Type 0
-    Agrees o t = ItemAgrees (GoesFurther line text past p (past_rest r p) stop cells) o t
+    Agrees o t = ItemAgrees (ContinuesFurther line text past p (past_rest r p) stop cells) o t
 
     -- by whether the bytes are blank
     bytes-blank : (y : Bool) → is_blank (line_bytes cells) ≡ y → is_blank r.bytes ≡ y
@@ -197,7 +197,7 @@ pub record HasPadding (line : Line) (text past : List ℕ) (m : ℕ) (r : Rest) 
     (t : Padded) : Type 0 where
   pub blank : t.blank ≡ is_blank r.bytes
   pub fed : t.cells ≡ rest_cells line (lose m r) t.point ++ stop
-  pub stands : RestAt text past (lose m r) t.point
+  pub valid : RestAt text past (lose m r) t.point
   pub ends : past_rest (lose m r) t.point ≡ past_rest r p
   pub column : (lose m r).column ≡ r.column + m
   pub events : t.events ≡ pair_unless_empty n.SpaceOrTab p t.point
@@ -287,7 +287,7 @@ padding-is line text past column bytes p stop is h k =
     none e = record {
       blank = sym e;
       fed = refl;
-      stands = is;
+      valid = is;
       ends = refl;
       column = omega arith;
       events = sym (same-none p);
@@ -304,7 +304,7 @@ padding-is line text past column bytes p stop is h k =
         record {
           blank = sym e;
           fed = lost.left;
-          stands = lost.stands;
+          valid = lost.valid;
           ends = lost.ends;
           column = let c = lost.column in omega (arith, c, size);
           events = apart-pair p (white_end 1 cells p) (lost.apart (omega arith) white);
@@ -323,7 +323,7 @@ padding-is line text past column bytes p stop is h k =
         record {
           blank = sym e;
           fed = indented.cells;
-          stands = indented.stands;
+          valid = indented.valid;
           ends = indented.ends;
           column = let c = lost.column in omega (arith, c, size);
           events =
@@ -353,7 +353,7 @@ padding-is line text past column bytes p stop is h k =
         let indented = indent-taken line text past 4 r p stop is k few in
         ap (λ (t : Bool). cond t 1 4)
         (ap begins_white indented.cells
-        ∙ bare-cells line (behind_indent r) (white_end 4 cells p) stop indented.none k)
+        ∙ bare-cells line (after_indent r) (white_end 4 cells p) stop indented.none k)
 
     parts : (b x : Bool) → is_blank bytes ≡ b → begins_white cells ≡ x →
         padding cells p ≡ cond b (Some empty) (cond x (Some (taken (padding_room cells))) None)

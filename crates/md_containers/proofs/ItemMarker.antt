@@ -11,12 +11,12 @@ use Rattle.md_engine.specs.declared.tokenizer.Line.{Line}
 use Rattle.md_engine.specs.Meaning.{Cell}
 use Rattle.md_containers.specs.Item.{at_least_one, width_here}
 use Rattle.md_containers.specs.ItemPrefix.{ItemPassed, Padded, item_marked, item_padded, padding}
-use Rattle.md_containers.proofs.ItemDigits.{byte-behind, spread-one}
+use Rattle.md_containers.proofs.ItemDigits.{byte-following, spread-one}
 use Rattle.md_containers.proofs.ItemLines.{HasPadding, ItemAgrees, LeavesRest, PaddingIs, padding-is}
 use Rattle.md_events.proofs.LostColumns.{White}
 use Rattle.md_meaning.specs.Containers.{Marker, Taken, item_padding, item_with, may_interrupt}
 use Rattle.md_meaning.specs.Leaves.{is_rule}
-use Rattle.md_meaning.specs.Rest.{Rest, behind, is_blank, is_parted, is_white, lose}
+use Rattle.md_meaning.specs.Rest.{Rest, following, is_blank, is_parted, is_white, lose}
 use Rattle.md_meaning.specs.State.{InItem}
 use Rattle.md_meaning.proofs.TextsLemmas.{NoEnding}
 use Rattle.md_events.specs.Ahead.{white_end}
@@ -33,7 +33,7 @@ rest column bytes = record { column = column; spaces = 0; bytes = bytes }
 pub record PaddedFrom (line : Line) (text past bytes : List ℕ) (p : Point) (stop : List Cell) (end : Point)
     (left : Rest) : Type 0 where
   pub column : ℕ
-  pub stands : RestAt text past (rest column bytes) p
+  pub valid : RestAt text past (rest column bytes) p
   pub end_is : end ≡ white_end (item_padding (rest column bytes)) (rest_cells line (rest column bytes) p ++ stop) p
   pub left_is : left ≡ lose (item_padding (rest column bytes)) (rest column bytes)
 
@@ -58,7 +58,7 @@ one-least columns some =
 -- What is known at a marker: it begins no break, and whether it may interrupt text shows its rest.
 pub record MayMark (options : ParseOptions) (interrupting : Bool) (from : Rest) (digits : List ℕ) (byte column : ℕ)
     (bytes : List ℕ) : Type 0 where
-  pub after : behind (length digits + 1) from ≡ rest (column + 1) bytes
+  pub after : following (length digits + 1) from ≡ rest (column + 1) bytes
   pub no_break : options.constructs.thematic_break && is_rule from.bytes ≡ false
   pub interrupts :
       (not interrupting || may_interrupt (record { digits = digits; byte = byte }) (rest (column + 1) bytes)) ≡
@@ -72,7 +72,7 @@ pub marked-agrees : (options : ParseOptions) (interrupting : Bool) (line : Line)
     ItemAgrees (HasItemMarker line text past digits byte bytes q stop front)
     (item_marked interrupting p digits front (cell byte (past_byte byte q) line)
     (spread line bytes (past_byte byte q) ++ stop) q)
-    (item_with options interrupting before from (behind (length digits + 1) from)
+    (item_with options interrupting before from (following (length digits + 1) from)
     (record { digits = digits; byte = byte }))
 marked-agrees options interrupting line text past column byte bytes q stop p before from digits front is h k dark at
     may =
@@ -82,7 +82,7 @@ marked-agrees options interrupting line text past column byte bytes q stop p bef
     (item_with options interrupting before from r marker))
     (sym may.after)
     (subst (Agrees (item_marked interrupting p digits front (cell byte q' line) cells q)) (sym defined)
-    (go (is_parted bytes) (padding cells q') (padding-is line text past (column + 1) bytes q' stop stands h k)))
+    (go (is_parted bytes) (padding cells q') (padding-is line text past (column + 1) bytes q' stop valid h k)))
   where
     marker : Marker
     marker = record { digits = digits; byte = byte }
@@ -96,8 +96,8 @@ marked-agrees options interrupting line text past column byte bytes q stop p bef
     cells : List Cell
     cells = spread line bytes q' ++ stop
 
-    stands : RestAt text past r q'
-    stands = byte-behind text past column byte bytes q dark is
+    valid : RestAt text past r q'
+    valid = byte-following text past column byte bytes q dark is
 
     Agrees : Option ItemPassed → Option Taken → Type 0
     Agrees o t = ItemAgrees (HasItemMarker line text past digits byte bytes q stop front) o t
@@ -135,7 +135,7 @@ marked-agrees options interrupting line text past column byte bytes q stop p bef
     wide : (t : Padded) → HasPadding line text past (item_padding r) r q' stop cells t →
         width_here t.point.column p.column t.blank ≡ width
     wide t has =
-        let point = has.stands.column in
+        let point = has.valid.column in
         let lost = has.column in
         let start = is.column in
         let columns : t.point.column - p.column ≡
@@ -152,7 +152,7 @@ marked-agrees options interrupting line text past column byte bytes q stop p bef
           leaves = record {
             container = ap₂ (λ (w : ℕ) (b : Bool). InItem digits byte w b) (wide t has) has.blank;
             fed = has.fed;
-            stands = has.stands;
+            valid = has.valid;
             ends = has.ends;
             no_ending = lose-no_ending (item_padding r) r h;
             shorter = omega (arith, size, has.shorter);
@@ -165,7 +165,7 @@ marked-agrees options interrupting line text past column byte bytes q stop p bef
               ∙ append_assoc front (pair n.ListItemMarker q q')
               (pair_unless_empty n.SpaceOrTab q' t.point ++ exit n.ListItemPrefix t.point ∷ []);
           white = has.white;
-          padded = record { column = column + 1; stands = stands; end_is = has.point_is; left_is = refl };
+          padded = record { column = column + 1; valid = valid; end_is = has.point_is; left_is = refl };
         }
 
     -- by whether the rest is blank, and the item would interrupt text

@@ -20,8 +20,8 @@ use Rattle.md_engine.proofs.StepOf.{moves, passes, steps-as}
 use Rattle.md_containers.specs.Interrupts.{interrupts}
 use Rattle.md_containers.specs.Item.{ItemInvariant, before_ordered_code, ends_value, is_item_marker, item_ready}
 use Rattle.md_containers.specs.Item.{item_transition, marker_code, sees, value_code, without_size}
-use Rattle.md_containers.specs.ItemRule.{HasItem, ItemMeans, at_marker, at_value, behind_indent, behind_marker}
-use Rattle.md_containers.specs.ItemRule.{behind_value, digits_end, digits_rest, digits_size, in_value}
+use Rattle.md_containers.specs.ItemRule.{HasItem, ItemMeans, at_marker, at_value, after_indent, after_marker}
+use Rattle.md_containers.specs.ItemRule.{following_value, digits_end, digits_rest, digits_size, in_value}
 use Rattle.md_meaning.specs.Containers.{is_digit}
 use Rattle.md_leaves.proofs.LeafStart.{HasStart, start-steps}
 use Rattle.md_events.specs.Events.Nested.{enter, exit}
@@ -75,47 +75,47 @@ value-more c cs h e lt =
     rw (room, e, sum) refl
 
 -- where no digit is taken, the value ends
-value-full : (cells : List Cell) (h : Here) → 9 ≤ h.scratch.size → in_value cells h ≡ behind_value cells h
+value-full : (cells : List Cell) (h : Here) → 9 ≤ h.scratch.size → in_value cells h ≡ following_value cells h
 unfolding in_value
-value-full [] h le = ap (λ (k : ℕ). behind_value [] (record h { scratch = record h.scratch { size = k } }))
+value-full [] h le = ap (λ (k : ℕ). following_value [] (record h { scratch = record h.scratch { size = k } }))
     (add-zero h.scratch.size)
 value-full (c ∷ cs) h le =
     let room : 9 - h.scratch.size ≡ 0 = omega arith in rw (room, add-zero) refl
 
 value-stop : (c : Cell) (cs : List Cell) (h : Here) (room : ℕ) → is_digit c.byte ≡ false →
-    behind_value (digits_rest room (c ∷ cs))
+    following_value (digits_rest room (c ∷ cs))
     (record h {
       point = digits_end room (c ∷ cs) h.point;
       scratch = record h.scratch { size = h.scratch.size + digits_size room (c ∷ cs) };
     }) ≡
-    behind_value (c ∷ cs) h
+    following_value (c ∷ cs) h
 value-stop c cs h zero e = rw add-zero refl
 value-stop c cs h (suc room) e = rw (e, add-zero) refl
 
 value-ended : (feed : Feed) (w : World) (h : Here) (o : Option ℕ) → sees is_digit o && nat_lt h.scratch.size 9 ≡ false →
-    in_value (ahead feed w o) h ≡ behind_value (ahead feed w o) h
+    in_value (ahead feed w o) h ≡ following_value (ahead feed w o) h
 unfolding in_value
 value-ended feed w h None e =
-    ap (λ (k : ℕ). behind_value [] (record h { scratch = record h.scratch { size = k } }))
+    ap (λ (k : ℕ). following_value [] (record h { scratch = record h.scratch { size = k } }))
     (add-zero h.scratch.size)
 value-ended feed w h (Some b) e = go (is_digit b) refl e
   where
     go : (x : Bool) → is_digit b ≡ x → x && nat_lt h.scratch.size 9 ≡ false →
-        in_value (ahead feed w (Some b)) h ≡ behind_value (ahead feed w (Some b)) h
+        in_value (ahead feed w (Some b)) h ≡ following_value (ahead feed w (Some b)) h
     go true k f = value-full (ahead feed w (Some b)) h (grind (arith, nat_tests))
     go false k f = value-stop (cell_here feed w b) (feed (after w.setting w.point)) h (9 - h.scratch.size) k
 
-value-behind : (feed : Feed) (w : World) (h : Here) (o : Option ℕ) (x : Bool) →
+value-following : (feed : Feed) (w : World) (h : Here) (o : Option ℕ) (x : Bool) →
     sees ends_value o && (not (interrupts h.flags) || nat_lt h.scratch.size 2) ≡ x →
-    behind_value (ahead feed w o) h ≡
+    following_value (ahead feed w o) h ≡
     cond x
     (at_marker (ahead feed w o)
     (record h { events = h.events ++ exit parts.ListItemValue h.point ∷ []; scratch = without_size h.scratch }))
     (Refuses (without_size h.scratch) h.flags)
-unfolding behind_value
-value-behind feed w h None true e = cc
-value-behind feed w h None false e = refl
-value-behind feed w h (Some b) x e = rw e refl
+unfolding following_value
+value-following feed w h None true e = cc
+value-following feed w h None false e = refl
+value-following feed w h (Some b) x e = rw e refl
 
 value_means : (B : Behaviour) (options : ParseOptions) (feed : Feed) (w : World) (x y : Bool) → HasItem B options →
     Sees feed w → sees is_digit w.current && nat_lt w.scratch.size 9 ≡ x →
@@ -136,7 +136,7 @@ value_means B options feed w true y has s e f = go w.current s.next e
 value_means B options feed w false true has s e f =
     moves B feed _ _ w (value_code w false true).world (exit parts.ListItemValue w.point ∷ []) refl refl
     (has.each its.Value _ _ ∙ ap (λ (x : List Cell). in_value x (here w)) s.next
-    ∙ value-ended feed w (here w) w.current e ∙ value-behind feed w (here w) w.current true f
+    ∙ value-ended feed w (here w) w.current e ∙ value-following feed w (here w) w.current true f
     ∙ ap
     (λ (x : List Cell).
     at_marker x
@@ -149,13 +149,13 @@ value_means B options feed w false true has s e f =
 value_means B options feed w false false has s e f =
     passes B feed _ Nok w (value_code w false false).world refl refl
     (has.each its.Value _ _ ∙ ap (λ (x : List Cell). in_value x (here w)) s.next
-    ∙ value-ended feed w (here w) w.current e ∙ value-behind feed w (here w) w.current false f)
+    ∙ value-ended feed w (here w) w.current e ∙ value-following feed w (here w) w.current false f)
 
 -- The marker.
 
 marker-taken : (feed : Feed) (w : World) (h : Here) (o : Option ℕ) → sees is_item_marker o ≡ true →
     at_marker (ahead feed w o) h ≡
-    behind_marker (feed (after w.setting w.point))
+    after_marker (feed (after w.setting w.point))
     (record h {
       events =
           h.events ++ enter parts.ListItemMarker h.point ∷ exit parts.ListItemMarker (after w.setting w.point) ∷ [];
@@ -181,7 +181,7 @@ marker_means B options feed w true has s e =
     moves B feed _ _ w (marker_code w true).world (a ∷ b ∷ []) refl (append_assoc w.events (a ∷ []) (b ∷ []))
     (has.each its.Marker _ _ ∙ ap (λ (x : List Cell). at_marker x (here w)) s.next
     ∙ marker-taken feed w (here w) w.current e
-    ∙ ap (λ (es : List Event). behind_marker (feed q) (record (here w) { events = es; point = q }))
+    ∙ ap (λ (es : List Event). after_marker (feed q) (record (here w) { events = es; point = q }))
     (sym (append_assoc w.events (a ∷ []) (b ∷ [])))
     ∙ sym (has.each its.MarkerAfter _ _))
 marker_means B options feed w false has s e =
@@ -193,7 +193,7 @@ marker_means B options feed w false has s e =
 
 -- the first state of an item is that of any construct
 has_start : (B : Behaviour) (options : ParseOptions) → HasItem B options →
-    HasStart B options parts.ListItem options.constructs.list_item (behind_indent options) (n.ListItem its.Start)
+    HasStart B options parts.ListItem options.constructs.list_item (after_indent options) (n.ListItem its.Start)
     (n.ListItem its.Before)
 has_start B options has = record { white = has.white; start_is = has.each its.Start; next_is = has.each its.Before }
 
@@ -202,7 +202,7 @@ item_steps : (B : Behaviour) (feed : Feed) (state : ItemState) (w : World) → H
     ItemInvariant (n.ListItem state) (position w) →
     Steps B feed (Next (n.ListItem state)) w (item_transition state w).to (item_transition state w).world
 item_steps B feed its.Start w has s at =
-    start-steps B feed parts.ListItem _ (behind_indent w.setting.options) _ _ w _ _ (has_start B _ has) s refl refl
+    start-steps B feed parts.ListItem _ (after_indent w.setting.options) _ _ w _ _ (has_start B _ has) s refl refl
 item_steps B feed its.Before w has s at = before_means B feed w _ has s at s.next
 item_steps B feed its.BeforeUnordered w has s at = unordered_means B _ feed w has
 item_steps B feed its.BeforeOrdered w has s at = ordered_means B _ feed w _ has s refl

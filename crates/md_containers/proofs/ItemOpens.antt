@@ -14,11 +14,11 @@ use Rattle.md_engine.specs.declared.event.Point.{Point}
 use Rattle.md_engine.specs.declared.tokenizer.Line.{Line}
 use Rattle.md_engine.specs.Meaning.{Cell}
 use Rattle.md_containers.specs.Item.{ends_value}
-use Rattle.md_containers.specs.ItemPrefix.{ItemPassed, digits_of, item_behind, item_marked, item_new, item_numbered}
+use Rattle.md_containers.specs.ItemPrefix.{ItemPassed, digits_of, item_after, item_marked, item_new, item_numbered}
 use Rattle.md_containers.specs.ItemPrefix.{item_valued}
 use Rattle.md_containers.specs.ItemRule.{digits_end, digits_rest, digits_size}
 use Rattle.md_containers.specs.QuoteRule.{indent_events}
-use Rattle.md_containers.proofs.BehindIndent.{IsBehind, behind-indent}
+use Rattle.md_containers.proofs.AfterIndent.{IsAfter, following-indent}
 use Rattle.md_containers.proofs.ItemBreak.{rule-spread}
 use Rattle.md_containers.proofs.ItemDigits.{HasDigits, TakesDigits, digits-walk, spread-one, starts, starts-spread}
 use Rattle.md_containers.proofs.ItemDigits.{starts-stop}
@@ -28,10 +28,11 @@ use Rattle.md_containers.proofs.ItemShorter.{digits-length}
 use Rattle.md_containers.proofs.ItemBeginMeaning.{bullet-dark}
 use Rattle.md_events.proofs.LostColumns.{White}
 use Rattle.md_meaning.specs.Containers.{Marker, Taken, is_bullet, is_digit, item_by, item_with, list_marker}
-use Rattle.md_meaning.specs.Containers.{marker_behind, may_interrupt, opens_item}
+use Rattle.md_meaning.specs.Containers.{marker_following, may_interrupt, opens_item}
 use Rattle.md_meaning.specs.Leaves.{is_rule, is_rule_marker}
 use Rattle.md_meaning.specs.Lines.{begins_with}
-use Rattle.md_meaning.specs.Rest.{Rest, behind, behind_indent, has_small_indent, indent, is_blank, is_parted, is_white}
+use Rattle.md_meaning.specs.Rest.{Rest, following, after_indent, has_small_indent, indent, is_blank, is_parted}
+use Rattle.md_meaning.specs.Rest.{is_white}
 use Rattle.md_meaning.specs.State.{InItem}
 use Rattle.md_meaning.proofs.TextsLemmas.{NoEnding, no_ending-drop}
 use Rattle.md_events.specs.Ahead.{begins_white, line_bytes, white_end, white_rest}
@@ -60,11 +61,11 @@ value_events (d ∷ ds) p = pair n.ListItemValue p (past_text (d ∷ ds) p)
 abbrev pub prefix_of : List ℕ → ℕ → Point → Point → List Event
 prefix_of digits byte p q =
     let marker = past_text digits p in
-    let behind = past_byte byte marker in
+    let following = past_byte byte marker in
     enter n.ListItemPrefix p
     ∷ (value_events digits p
-    ++ (pair n.ListItemMarker marker behind
-    ++ (pair_unless_empty n.SpaceOrTab behind q ++ exit n.ListItemPrefix q ∷ [])))
+    ++ (pair n.ListItemMarker marker following
+    ++ (pair_unless_empty n.SpaceOrTab following q ++ exit n.ListItemPrefix q ∷ [])))
 
 -- after an indent: a prefix is at these bytes
 pub record HasItem (line : Line) (text past : List ℕ) (bytes : List ℕ) (p : Point) (stop : List Cell)
@@ -165,7 +166,7 @@ bullet-agrees options interrupting line text past column b bs q stop p before fr
         (item_by options interrupting before from (Some marker))
     go true f =
         subst (ItemAgrees (HasItem line text past (b ∷ bs) q stop front) None)
-        (sym (broken options interrupting before from (behind 1 from) marker f)) tt
+        (sym (broken options interrupting before from (following 1 from) marker f)) tt
     go false f =
         by marked (item_by options interrupting before from (Some marker))
         (marked-agrees options interrupting line text past column b bs q stop p before from [] front' is h.1 k
@@ -203,7 +204,7 @@ numbered-agrees : (options : ParseOptions) (interrupting : Bool) (line : Line) (
     (digits : List ℕ) (front : List Event) →
     RestAt text past (rest column (m ∷ ms)) q → NoEnding ms → Stops stop →
     q.column ≡ p.column + before + length digits → 1 ≤ length digits → IsFirst interrupting digits →
-    behind (length digits + 1) from ≡ rest (column + 1) ms →
+    following (length digits + 1) from ≡ rest (column + 1) ms →
     options.constructs.thematic_break && is_rule from.bytes ≡ false → ends_value m ≡ true →
     ItemAgrees (HasItemMarker line text past digits m ms q stop front)
     (item_numbered interrupting p digits (length digits) front
@@ -223,7 +224,7 @@ numbered-agrees options interrupting line text past column m ms q stop p before 
         item_marked i p ds front (cell m (past_byte m q) line) (spread line ms (past_byte m q) ++ stop) q
 
     marks : (i : Bool) (ds : List ℕ) → q.column ≡ p.column + before + length ds →
-        behind (length ds + 1) from ≡ rest (column + 1) ms →
+        following (length ds + 1) from ≡ rest (column + 1) ms →
         (not i || may_interrupt (record { digits = ds; byte = m }) (rest (column + 1) ms)) ≡
         (not i || not (is_blank ms)) →
         Agrees i ds (marked i ds)
@@ -232,7 +233,7 @@ numbered-agrees options interrupting line text past column m ms q stop p before 
         (record { after = after; no_break = plain; interrupts = speaks })
 
     go : (i : Bool) (ds : List ℕ) → q.column ≡ p.column + before + length ds → 1 ≤ length ds → IsFirst i ds →
-        behind (length ds + 1) from ≡ rest (column + 1) ms →
+        following (length ds + 1) from ≡ rest (column + 1) ms →
         Agrees i ds (cond (not i || nat_lt (length ds) 2) (marked i ds) None)
     go i [] at some first after = absurd (omega (arith, some))
     go false (d ∷ ds) at some first after = marks false (d ∷ ds) at after refl
@@ -241,9 +242,9 @@ numbered-agrees options interrupting line text past column m ms q stop p before 
         (ap (λ (x : Bool). not (is_blank ms) && x) first ∙ and-true true (not (is_blank ms)))
     go true (d ∷ c ∷ ds) at some first after =
         let two : nat_lt (length (d ∷ c ∷ ds)) 2 ≡ false = grind (arith, nat_tests) in
-        let none = refused-by options before from (behind (length (d ∷ c ∷ ds) + 1) from)
+        let none = refused-by options before from (following (length (d ∷ c ∷ ds) + 1) from)
         (record { digits = d ∷ c ∷ ds; byte = m }) plain
-        (and-false (not (is_blank (behind (length (d ∷ c ∷ ds) + 1) from).bytes))) in
+        (and-false (not (is_blank (following (length (d ∷ c ∷ ds) + 1) from).bytes))) in
         subst (λ (x : Bool). Agrees true (d ∷ c ∷ ds) (cond x (marked true (d ∷ c ∷ ds)) None)) (sym two)
         (subst (ItemAgrees (HasItemMarker line text past (d ∷ c ∷ ds) m ms q stop front) None) (sym none) tt)
 
@@ -272,7 +273,7 @@ by-digits : (options : ParseOptions) (interrupting : Bool) (line : Line) (text p
     ItemAgrees (HasItem line text past bytes q stop front)
     (item_valued interrupting p front (spread line bytes q ++ stop) q)
     (item_by options interrupting before (rest column bytes)
-    (cond (nat_le 1 (length ds) && nat_le (length ds) 9) (marker_behind ds (drop (length ds) bytes)) None))
+    (cond (nat_le 1 (length ds) && nat_le (length ds) 9) (marker_following ds (drop (length ds) bytes)) None))
 by-digits options interrupting line text past column bytes q stop p before front ds is h k at has some first plain =
     go (nat_le (length ds) 9) refl
   where
@@ -293,12 +294,12 @@ by-digits options interrupting line text past column bytes q stop p before front
 
     -- one digit at least
     one : (x : Bool) → nat_le (length ds) 9 ≡ x →
-        cond (nat_le 1 (length ds) && nat_le (length ds) 9) (marker_behind ds (drop (length ds) bytes)) None ≡
-        cond x (marker_behind ds (drop (length ds) bytes)) None
+        cond (nat_le 1 (length ds) && nat_le (length ds) 9) (marker_following ds (drop (length ds) bytes)) None ≡
+        cond x (marker_following ds (drop (length ds) bytes)) None
     one x e =
         let least : nat_le 1 (length ds) ≡ true = grind (arith, nat_tests) in
-        ap (λ (y : Bool). cond (y && nat_le (length ds) 9) (marker_behind ds (drop (length ds) bytes)) None) least
-        ∙ ap (λ (y : Bool). cond y (marker_behind ds (drop (length ds) bytes)) None) e
+        ap (λ (y : Bool). cond (y && nat_le (length ds) 9) (marker_following ds (drop (length ds) bytes)) None) least
+        ∙ ap (λ (y : Bool). cond y (marker_following ds (drop (length ds) bytes)) None) e
 
     -- the item after the digits
     numbered : List Cell → Option ItemPassed
@@ -329,7 +330,7 @@ by-digits options interrupting line text past column bytes q stop p before front
           leaves = record {
             container = item.leaves.container;
             fed = item.leaves.fed;
-            stands = item.leaves.stands;
+            valid = item.leaves.valid;
             ends =
                 item.leaves.ends ∙ sym (past_text-append ds (m ∷ ms) q) ∙ ap (λ (l : List ℕ). past_text l q) (sym are);
             no_ending = item.leaves.no_ending;
@@ -352,11 +353,11 @@ by-digits options interrupting line text past column bytes q stop p before front
         (sym (numbered-none interrupting p ds (length ds) front' left q' e)) tt
 
     -- by what follows them
-    behind-them : (more : List ℕ) → drop (length ds) bytes ≡ more → length ds ≤ 9 →
+    following-them : (more : List ℕ) → drop (length ds) bytes ≡ more → length ds ≤ 9 →
         length (spread line more q' ++ stop) ≤ length cells →
-        Agrees (numbered (spread line more q' ++ stop)) (marker_behind ds more)
-    behind-them [] e few size = ended stop (starts-stop ends_value stop refl k)
-    behind-them (m ∷ ms) e few size = by (ends_value m) refl
+        Agrees (numbered (spread line more q' ++ stop)) (marker_following ds more)
+    following-them [] e few size = ended stop (starts-stop ends_value stop refl k)
+    following-them (m ∷ ms) e few size = by (ends_value m) refl
       where
         by : (x : Bool) → ends_value m ≡ x →
             Agrees (numbered (spread line (m ∷ ms) q' ++ stop))
@@ -364,23 +365,23 @@ by-digits options interrupting line text past column bytes q stop p before front
         by false f =
             ended (spread line (m ∷ ms) q' ++ stop) (starts-spread ends_value line m ms q' stop ∙ f)
         by true f =
-            let stands : RestAt text past (rest (column + length ds) (m ∷ ms)) q' =
-            subst (λ (l : List ℕ). RestAt text past (rest (column + length ds) l) q') e has.stands in
+            let valid : RestAt text past (rest (column + length ds) (m ∷ ms)) q' =
+            subst (λ (l : List ℕ). RestAt text past (rest (column + length ds) l) q') e has.valid in
             let next : drop (length ds + 1) bytes ≡ ms = past-next (length ds) bytes m ms e in
-            let after : behind (length ds + 1) from ≡ rest (column + length ds + 1) ms =
+            let after : following (length ds + 1) from ≡ rest (column + length ds + 1) ms =
             ap₂ (λ (c : ℕ) (l : List ℕ). rest c l) (omega arith) next in
-            let place = stands.column in
+            let place = valid.column in
             let start = is.column in
             let none : NoEnding (m ∷ ms) = subst NoEnding e (no_ending-drop (length ds) bytes h) in
             let item = numbered-agrees options interrupting line text past (column + length ds) m ms q' stop p before
-            from ds front' stands none.1 k (omega (arith, place, start, at)) some first after plain f in
+            from ds front' valid none.1 k (omega (arith, place, start, at)) some first after plain f in
             subst (λ (l : List Cell). Agrees (numbered l) (Some (record { digits = ds; byte = m })))
             (sym (spread-one line m ms q' stop (ends-dark m f)))
             (found m ms e f few size _ _ item)
 
     go : (x : Bool) → nat_le (length ds) 9 ≡ x →
         Agrees (item_valued interrupting p front cells q)
-        (cond (nat_le 1 (length ds) && nat_le (length ds) 9) (marker_behind ds (drop (length ds) bytes)) None)
+        (cond (nat_le 1 (length ds) && nat_le (length ds) 9) (marker_following ds (drop (length ds) bytes)) None)
     go false e =
         let many : 9 < length ds = grind (arith, nat_tests) in
         subst (Agrees (item_valued interrupting p front cells q)) (sym (one false e))
@@ -396,28 +397,28 @@ by-digits options interrupting line text past column bytes q stop p before front
         let less = digits-length 9 cells in
         let size = ap length takes.left in
         subst (Agrees (item_valued interrupting p front cells q)) (sym (one true e))
-        (subst (λ (o : Option ItemPassed). Agrees o (marker_behind ds (drop (length ds) bytes)))
+        (subst (λ (o : Option ItemPassed). Agrees o (marker_following ds (drop (length ds) bytes)))
         (sym (taken-is takes))
-        (behind-them (drop (length ds) bytes) refl few (omega (arith, less, size))))
+        (following-them (drop (length ds) bytes) refl few (omega (arith, less, size))))
 
 -- After the indent.
 
-behind-none : (options : ParseOptions) (interrupting : Bool) (p : Point) (front : List Event) (cells : List Cell)
+following-none : (options : ParseOptions) (interrupting : Bool) (p : Point) (front : List Event) (cells : List Cell)
     (q : Point) →
     starts is_bullet cells ≡ false → starts is_digit cells ≡ false →
-    item_behind options interrupting p front cells q ≡ None
-behind-none options interrupting p front [] q e f = refl
-behind-none options interrupting p front (c ∷ cs) q e f = rw (e, f) refl
+    item_after options interrupting p front cells q ≡ None
+following-none options interrupting p front [] q e f = refl
+following-none options interrupting p front (c ∷ cs) q e f = rw (e, f) refl
 
 -- digits that do not begin with 1 interrupt no text
 late-digits : (options : ParseOptions) (before : ℕ) (from : Rest) (b : ℕ) (ds bytes : List ℕ) → (b == 49) ≡ false →
     options.constructs.thematic_break && is_rule from.bytes ≡ false →
-    item_by options true before from (marker_behind (b ∷ ds) bytes) ≡ None
+    item_by options true before from (marker_following (b ∷ ds) bytes) ≡ None
 late-digits options before from b ds [] e plain = refl
 late-digits options before from b ds (m ∷ ms) e plain = go (ends_value m)
   where
     after : Rest
-    after = behind (length (b ∷ ds) + 1) from
+    after = following (length (b ∷ ds) + 1) from
 
     speaks : (ds : List ℕ) → may_interrupt (record { digits = b ∷ ds; byte = m }) after ≡ false
     speaks [] = ap (λ (x : Bool). not (is_blank after.bytes) && x) e ∙ and-false (not (is_blank after.bytes))
@@ -428,20 +429,20 @@ late-digits options before from b ds (m ∷ ms) e plain = go (ends_value m)
     go true = refused-by options before from after (record { digits = b ∷ ds; byte = m }) plain (speaks ds)
     go false = refl
 
-behind-agrees : (options : ParseOptions) (interrupting : Bool) (line : Line) (text past : List ℕ) (column : ℕ)
+following-agrees : (options : ParseOptions) (interrupting : Bool) (line : Line) (text past : List ℕ) (column : ℕ)
     (bytes : List ℕ) (q : Point) (stop : List Cell) (p : Point) (before : ℕ) (front : List Event) →
     RestAt text past (rest column bytes) q → Bare 0 bytes → NoEnding bytes → Stops stop →
     q.column ≡ p.column + before →
     ItemAgrees (HasItem line text past bytes q stop front)
-    (item_behind options interrupting p front (spread line bytes q ++ stop) q)
+    (item_after options interrupting p front (spread line bytes q ++ stop) q)
     (item_by options interrupting before (rest column bytes) (list_marker bytes))
-behind-agrees options interrupting line text past column [] q stop p before front is dark h k at =
+following-agrees options interrupting line text past column [] q stop p before front is dark h k at =
     subst (λ (o : Option ItemPassed). ItemAgrees (HasItem line text past [] q stop front) o None)
     (sym
-    (behind-none options interrupting p front stop q (starts-stop is_bullet stop refl k)
+    (following-none options interrupting p front stop q (starts-stop is_bullet stop refl k)
     (starts-stop is_digit stop refl k)))
     tt
-behind-agrees options interrupting line text past column (b ∷ bs) q stop p before front is dark h k at =
+following-agrees options interrupting line text past column (b ∷ bs) q stop p before front is dark h k at =
     go (is_bullet b) (is_digit b) interrupting (b == 49) refl refl refl refl
   where
     cells : List Cell
@@ -469,12 +470,12 @@ behind-agrees options interrupting line text past column (b ∷ bs) q stop p bef
     marked i = item_marked i p [] (front ++ enter n.ListItemPrefix q ∷ []) c cs q
 
     numbers : Option Marker
-    numbers = cond (nat_le 1 (length ds) && nat_le (length ds) 9) (marker_behind ds (drop (length ds) (b ∷ bs))) None
+    numbers = cond (nat_le 1 (length ds) && nat_le (length ds) 9) (marker_following ds (drop (length ds) (b ∷ bs))) None
 
     bullet-is : (i : Bool) → is_bullet b ≡ true →
-        item_behind options i p front cells q ≡ cond (breaks && is_rule (b ∷ bs)) None (marked i)
+        item_after options i p front cells q ≡ cond (breaks && is_rule (b ∷ bs)) None (marked i)
     bullet-is i e =
-        ap (λ (l : List Cell). item_behind options i p front l q) (spread-one line b bs q stop dark)
+        ap (λ (l : List Cell). item_after options i p front l q) (spread-one line b bs q stop dark)
         ∙ ap
         (λ (x : Bool).
         cond x (cond (breaks && is_rule (line_bytes (c ∷ cs))) None (marked i))
@@ -485,9 +486,9 @@ behind-agrees options interrupting line text past column (b ∷ bs) q stop p bef
         ∙ rule-spread line b bs q stop h k e)
 
     other-is : (i x y : Bool) → is_bullet b ≡ false → is_digit b ≡ x → (b == 49) ≡ y →
-        item_behind options i p front cells q ≡ cond (x && (not i || y)) (item_valued i p front cells q) None
+        item_after options i p front cells q ≡ cond (x && (not i || y)) (item_valued i p front cells q) None
     other-is i x y e f g =
-        ap (λ (l : List Cell). item_behind options i p front l q) (spread-one line b bs q stop dark)
+        ap (λ (l : List Cell). item_after options i p front l q) (spread-one line b bs q stop dark)
         ∙ ap
         (λ (t : Bool).
         cond t (cond (breaks && is_rule (line_bytes (c ∷ cs))) None (marked i))
@@ -515,7 +516,7 @@ behind-agrees options interrupting line text past column (b ∷ bs) q stop p bef
     none-numbers e =
         ap
         (λ (l : List ℕ).
-        cond (nat_le 1 (length l) && nat_le (length l) 9) (marker_behind l (drop (length l) (b ∷ bs))) None)
+        cond (nat_le 1 (length l) && nat_le (length l) 9) (marker_following l (drop (length l) (b ∷ bs))) None)
         (digits-are false e)
 
     late-numbers : is_digit b ≡ true → (b == 49) ≡ false → item_by options true before from numbers ≡ None
@@ -523,7 +524,7 @@ behind-agrees options interrupting line text past column (b ∷ bs) q stop p bef
         subst
         (λ (l : List ℕ).
         item_by options true before from
-        (cond (nat_le 1 (length l) && nat_le (length l) 9) (marker_behind l (drop (length l) (b ∷ bs))) None) ≡
+        (cond (nat_le 1 (length l) && nat_le (length l) 9) (marker_following l (drop (length l) (b ∷ bs))) None) ≡
         None)
         (sym (digits-are true e)) (by (nat_le 1 (length more) && nat_le (length more) 9))
       where
@@ -531,7 +532,7 @@ behind-agrees options interrupting line text past column (b ∷ bs) q stop p bef
         more = b ∷ take_while is_digit bs
 
         by : (x : Bool) →
-            item_by options true before from (cond x (marker_behind more (drop (length more) (b ∷ bs))) None) ≡ None
+            item_by options true before from (cond x (marker_following more (drop (length more) (b ∷ bs))) None) ≡ None
         by true =
             late-digits options before from b (take_while is_digit bs) (drop (length more) (b ∷ bs)) g (plain e)
         by false = refl
@@ -546,30 +547,30 @@ behind-agrees options interrupting line text past column (b ∷ bs) q stop p bef
         (ap (λ (l : List ℕ). not i || begins_with 49 l) same ∙ first) (plain e)
 
     go : (x y i z : Bool) → is_bullet b ≡ x → is_digit b ≡ y → interrupting ≡ i → (b == 49) ≡ z →
-        Agrees interrupting (item_behind options interrupting p front cells q) (list_marker (b ∷ bs))
+        Agrees interrupting (item_after options interrupting p front cells q) (list_marker (b ∷ bs))
     go true y i z e f g l =
-        subst (Agrees interrupting (item_behind options interrupting p front cells q)) (sym (bullet-marker e))
+        subst (Agrees interrupting (item_after options interrupting p front cells q)) (sym (bullet-marker e))
         (subst (λ (o : Option ItemPassed). Agrees interrupting o (Some (record { digits = []; byte = b })))
         (sym (bullet-is interrupting e))
         (bullet-agrees options interrupting line text past column b bs q stop p before front is h k at e))
     go false false i z e f g l =
-        subst (Agrees interrupting (item_behind options interrupting p front cells q))
+        subst (Agrees interrupting (item_after options interrupting p front cells q))
         (sym (other-marker e ∙ none-numbers f))
         (subst (λ (o : Option ItemPassed). Agrees interrupting o None)
         (sym (other-is interrupting false z e f l)) tt)
     go false true false z e f g l =
-        subst (Agrees interrupting (item_behind options interrupting p front cells q)) (sym (other-marker e))
-        (subst (λ (i : Bool). Agrees i (item_behind options i p front cells q) numbers) (sym g)
+        subst (Agrees interrupting (item_after options interrupting p front cells q)) (sym (other-marker e))
+        (subst (λ (i : Bool). Agrees i (item_after options i p front cells q) numbers) (sym g)
         (subst (λ (o : Option ItemPassed). Agrees false o numbers) (sym (other-is false true z e f l))
         (valued false f refl)))
     go false true true true e f g l =
-        subst (Agrees interrupting (item_behind options interrupting p front cells q)) (sym (other-marker e))
-        (subst (λ (i : Bool). Agrees i (item_behind options i p front cells q) numbers) (sym g)
+        subst (Agrees interrupting (item_after options interrupting p front cells q)) (sym (other-marker e))
+        (subst (λ (i : Bool). Agrees i (item_after options i p front cells q) numbers) (sym g)
         (subst (λ (o : Option ItemPassed). Agrees true o numbers) (sym (other-is true true true e f l))
         (valued true f l)))
     go false true true false e f g l =
-        subst (Agrees interrupting (item_behind options interrupting p front cells q)) (sym (other-marker e))
-        (subst (λ (i : Bool). Agrees i (item_behind options i p front cells q) numbers) (sym g)
+        subst (Agrees interrupting (item_after options interrupting p front cells q)) (sym (other-marker e))
+        (subst (λ (i : Bool). Agrees i (item_after options i p front cells q) numbers) (sym g)
         (subst (λ (o : Option ItemPassed). Agrees true o numbers) (sym (other-is true true false e f l))
         (subst (ItemAgrees (HasItem line text past (b ∷ bs) q stop front) None) (sym (late-numbers f l)) tt)))
 
@@ -599,7 +600,7 @@ pub record OpensItem (line : Line) (text past : List ℕ) (p end : Point) (stop 
       enter n.ListItem p ∷ (pair_unless_empty n.SpaceOrTab p value ++ prefix_of digits byte value passed.point)
   -- whitespace is before the prefix and after the marker
   pub white_before : White text p value
-  pub white_behind : White text (past_byte byte (past_text digits value)) passed.point
+  pub white_after : White text (past_byte byte (past_text digits value)) passed.point
 
 white-no_bullet : (cells : List Cell) → begins_white cells ≡ true → starts is_bullet cells ≡ false
 white-no_bullet [] e = refl
@@ -632,12 +633,12 @@ opens-agrees options interrupting line text past r stop p is h k short = go opti
     Agrees o t = ItemAgrees (OpensItem line text past p (past_rest r p) stop cells) o t
 
     new : List Cell → Point → Option ItemPassed
-    new left at = item_behind options interrupting p front left at
+    new left at = item_after options interrupting p front left at
 
     found : Rest → Option Taken
     found from = item_by options interrupting (indent r) from (list_marker from.bytes)
 
-    whole : (bytes : List ℕ) → IsBehind line text past r p stop bytes q → (o : Option ItemPassed) (t : Option Taken) →
+    whole : (bytes : List ℕ) → IsAfter line text past r p stop bytes q → (o : Option ItemPassed) (t : Option Taken) →
         ItemAgrees (HasItem line text past bytes q stop front) o t → Agrees o t
     whole bytes at None None item = tt
     whole bytes at None (Some t) item = absurd item
@@ -646,7 +647,7 @@ opens-agrees options interrupting line text past r stop p is h k short = go opti
       leaves = record {
         container = item.leaves.container;
         fed = item.leaves.fed;
-        stands = item.leaves.stands;
+        valid = item.leaves.valid;
         ends = item.leaves.ends ∙ at.ends;
         no_ending = item.leaves.no_ending;
         shorter = let size = at.shorter in omega (arith, size, item.leaves.shorter);
@@ -661,9 +662,9 @@ opens-agrees options interrupting line text past r stop p is h k short = go opti
       more_is = refl;
       padded = item.padded;
       text_is =
-          at.stands.text_is ∙ ap (λ (l : List ℕ). l ++ past) item.bytes_are
+          at.valid.text_is ∙ ap (λ (l : List ℕ). l ++ past) item.bytes_are
           ∙ append_assoc item.digits (item.byte ∷ item.more) past;
-      whole = at.stands.cut;
+      whole = at.valid.cut;
       marker = item.marker;
       item = item.item;
       events =
@@ -671,18 +672,18 @@ opens-agrees options interrupting line text past r stop p is h k short = go opti
           ∙ ap (λ (es : List Event). enter n.ListItem p ∷ (es ++ prefix_of item.digits item.byte q o.point))
           at.walked.events;
       white_before = at.walked.white;
-      white_behind = item.white;
+      white_after = item.white;
     }
 
     go : (x : Bool) →
         Agrees (cond x (new (white_rest (small_indent options) cells) q) None)
-        (cond (x && has_small_indent options r) (found (behind_indent r)) None)
+        (cond (x && has_small_indent options r) (found (after_indent r)) None)
     go false = tt
     go true =
-        behind-indent options line text past r stop p Agrees new found is h k short tt
+        following-indent options line text past r stop p Agrees new found is h k short tt
         (λ left over.
-        behind-none options interrupting p front left q (white-no_bullet left over) (white-no_digit left over))
+        following-none options interrupting p front left q (white-no_bullet left over) (white-no_digit left over))
         (λ bytes at.
         whole bytes at _ _
-        (behind-agrees options interrupting line text past (behind_indent r).column bytes q stop p (indent r) front
-        at.stands at.dark at.no_ending k at.column))
+        (following-agrees options interrupting line text past (after_indent r).column bytes q stop p (indent r) front
+        at.valid at.dark at.no_ending k at.column))

@@ -20,30 +20,30 @@ use Rattle.md_engine.proofs.StepOf.{begins_only, moves, passes}
 use Rattle.md_containers.specs.Interrupts.{interrupts}
 use Rattle.md_containers.specs.Item.{after_code, blank_code, filled_transition, item_transition, prefix_other_code}
 use Rattle.md_containers.specs.Item.{unseen, whitespace_after_code}
-use Rattle.md_containers.specs.ItemRule.{HasItem, behind_columns, behind_marker, behind_padding, behind_prefix}
+use Rattle.md_containers.specs.ItemRule.{HasItem, after_columns, after_marker, following_padding, following_prefix}
 use Rattle.md_containers.specs.ItemRule.{filled_at, one_column, padding_at}
 use Rattle.md_meaning.specs.Rest.{is_blank, is_white}
 use Rattle.md_leaves.specs.BlankRule.{blank_at, blank_events}
 use Rattle.md_events.specs.Ahead.{after_white, begins_white, from_ending, line_bytes, line_end, white_at, white_rest}
 use Rattle.md_events.specs.Events.Nested.{enter, exit}
-use Rattle.md_events.specs.Look.{looks_behind, seen_behind}
+use Rattle.md_events.specs.Look.{looks_after, seen_after}
 use Rattle.md_events.specs.Spaces.{IsRest, asking, calmed, sees_white}
 use Rattle.md_events.proofs.AheadLemmas.{white-no_ending}
 use Rattle.md_events.proofs.LookLemmas.{seen-first}
-use Rattle.md_events.proofs.WhiteMeaning.{begins-seen, behind_white, white-tried}
-use Rattle.md_containers.proofs.ItemBeginMeaning.{frame_here, went-back}
+use Rattle.md_events.proofs.WhiteMeaning.{begins-seen, following_white, white-tried}
+use Rattle.md_containers.proofs.ItemBeginMeaning.{frame_here, proceeded-back}
 
 -- the first byte after whitespace says whether the rest of a line is blank
-blank-behind : (cells : List Cell) (b : ℕ) → seen_behind cells ≡ Some b → is_blank (line_bytes cells) ≡ nat_eq b 10
-blank-behind [] b seen = cc
-blank-behind (c ∷ cs) b seen = go (is_white c.byte) refl seen (blank-behind cs b)
+blank-following : (cells : List Cell) (b : ℕ) → seen_after cells ≡ Some b → is_blank (line_bytes cells) ≡ nat_eq b 10
+blank-following [] b seen = cc
+blank-following (c ∷ cs) b seen = go (is_white c.byte) refl seen (blank-following cs b)
   where
     last : (y : Bool) → is_white c.byte ≡ false → nat_eq c.byte 10 ≡ y → is_blank (line_bytes (c ∷ cs)) ≡ y
     last true k e = rw e refl
     last false k e = rw (e, k) refl
 
-    go : (x : Bool) → is_white c.byte ≡ x → cond x (seen_behind cs) (Some c.byte) ≡ Some b →
-        (seen_behind cs ≡ Some b → is_blank (line_bytes cs) ≡ nat_eq b 10) →
+    go : (x : Bool) → is_white c.byte ≡ x → cond x (seen_after cs) (Some c.byte) ≡ Some b →
+        (seen_after cs ≡ Some b → is_blank (line_bytes cs) ≡ nat_eq b 10) →
         is_blank (line_bytes (c ∷ cs)) ≡ nat_eq b 10
     go true k is next = rw (white-no_ending c.byte k, k) (next is)
     go false k is next =
@@ -61,7 +61,7 @@ blank-outcome cells h x e = rw e refl
 -- the choice between the state of a blank rest and that of any other
 pub choice_means : (B : Behaviour) (options : ParseOptions) (feed : Feed) (w : World) (name blank filled : ItemState)
     (o : Option ℕ) →
-    HasItem B options → Sees feed w → looks_behind w ≡ o →
+    HasItem B options → Sees feed w → looks_after w ≡ o →
     B (n.ListItem name) (feed w.point) (here w) ≡
     cond (is_blank (line_bytes (feed w.point))) (B (n.ListItem blank) (feed w.point) (here w))
     (B (n.ListItem filled) (feed w.point) (here w)) →
@@ -81,19 +81,19 @@ choice_means B options feed w name blank filled None has s e is =
         sym
         (ap (resume B feed w.events (frame_here (Next (n.ListItem blank)) (Next (n.ListItem filled)) true w))
         (blank-outcome (feed w.point) (here w) true k)
-        ∙ went-back B (Next (n.ListItem blank)) feed w w.scratch w.flags)
+        ∙ proceeded-back B (Next (n.ListItem blank)) feed w w.scratch w.flags)
     go false k =
         sym
         (ap (resume B feed w.events (frame_here (Next (n.ListItem blank)) (Next (n.ListItem filled)) true w))
         (blank-outcome (feed w.point) (here w) false k)
-        ∙ went-back B (Next (n.ListItem filled)) feed w w.scratch w.flags)
+        ∙ proceeded-back B (Next (n.ListItem filled)) feed w w.scratch w.flags)
 choice_means B options feed w name blank filled (Some b) has s e is =
     go (nat_eq b 10) refl
     (is
     ∙ ap
     (λ (x : Bool).
     cond x (B (n.ListItem blank) (feed w.point) (here w)) (B (n.ListItem filled) (feed w.point) (here w)))
-    (blank-behind (feed w.point) b (seen-first feed w b s e)))
+    (blank-following (feed w.point) b (seen-first feed w b s e)))
   where
     go : (x : Bool) → nat_eq b 10 ≡ x →
         B (n.ListItem name) (feed w.point) (here w) ≡
@@ -107,11 +107,11 @@ choice_means B options feed w name blank filled (Some b) has s e is =
 pub marker_after_means : (B : Behaviour) (options : ParseOptions) (feed : Feed) (w : World) → HasItem B options →
     Sees feed w →
     Steps B feed (Next (n.ListItem its.MarkerAfter)) w
-    (blank_code its.After its.MarkerAfterFilled w (looks_behind w)).to
-    (blank_code its.After its.MarkerAfterFilled w (looks_behind w)).world
-unfolding behind_marker
+    (blank_code its.After its.MarkerAfterFilled w (looks_after w)).to
+    (blank_code its.After its.MarkerAfterFilled w (looks_after w)).world
+unfolding after_marker
 marker_after_means B options feed w has s =
-    choice_means B options feed w its.MarkerAfter its.After its.MarkerAfterFilled (looks_behind w) has s refl
+    choice_means B options feed w its.MarkerAfter its.After its.MarkerAfterFilled (looks_after w) has s refl
     (has.each its.MarkerAfter _ _
     ∙ ap₂ (λ (a b : Outcome). cond (is_blank (line_bytes (feed w.point))) a b) (sym (has.each its.After _ _))
     (sym (has.each its.MarkerAfterFilled _ _)))
@@ -120,8 +120,8 @@ filled-at : (cells : List Cell) (h : Here) (x y : Bool) → begins_white cells �
     begins_white (white_rest 4 cells) ≡ y →
     filled_at cells h ≡
     cond (x && not y)
-    (behind_prefix (white_rest 4 cells)
-    (behind_columns 4 cells (record h { scratch = record h.scratch { seen = true } })))
+    (following_prefix (white_rest 4 cells)
+    (after_columns 4 cells (record h { scratch = record h.scratch { seen = true } })))
     (one_column cells (record h { scratch = record h.scratch { seen = true } }))
 unfolding filled_at
 filled-at cells h x y e f = rw (e, f) refl
@@ -129,8 +129,8 @@ filled-at cells h x y e f = rw (e, f) refl
 padding-at : (cells : List Cell) (h : Here) (x y : Bool) → begins_white cells ≡ x →
     begins_white (white_rest 4 cells) ≡ y →
     padding_at cells h ≡
-    cond (x && not y) (Accepts (behind_columns 4 cells h) (white_rest 4 cells)) (Refuses (calmed h.scratch) h.flags)
-unfolding padding_at behind_padding
+    cond (x && not y) (Accepts (after_columns 4 cells h) (white_rest 4 cells)) (Refuses (calmed h.scratch) h.flags)
+unfolding padding_at following_padding
 padding-at cells h true true e f = rw (e, f) refl
 padding-at cells h true false e f = rw (e, f) refl
 padding-at cells h false y e f = rw e refl
@@ -164,13 +164,13 @@ filled_means B options feed w has is =
         ap calmed is ∙ sym is in ap (λ (s : Scratch). record s { seen = true }) e
 
     go : (x : Bool) →
-        cond x (behind_prefix (white_rest 4 cells) (behind_columns 4 cells k)) (one_column cells k) ≡
+        cond x (following_prefix (white_rest 4 cells) (after_columns 4 cells k)) (one_column cells k) ≡
         resume B feed w.events f
-        (cond x (Accepts (behind_columns 4 cells k) (white_rest 4 cells)) (Refuses (calmed k.scratch) k.flags))
+        (cond x (Accepts (after_columns 4 cells k) (white_rest 4 cells)) (Refuses (calmed k.scratch) k.flags))
     go true = sym (has.each its.After _ _)
     go false =
         sym
-        (went-back B (Next (n.ListItem its.PrefixOther)) feed w (calmed k.scratch) w.flags
+        (proceeded-back B (Next (n.ListItem its.PrefixOther)) feed w (calmed k.scratch) w.flags
         ∙ ap (λ (s : Scratch). B (n.ListItem its.PrefixOther) cells (record (here w) { scratch = s })) calm
         ∙ has.each its.PrefixOther _ _)
 
@@ -181,7 +181,7 @@ unfolding white_at after_white
 white-refused cells h e = rw e refl
 
 padding-some : (cells : List Cell) (h : Here) → begins_white cells ≡ true →
-    padding_at cells h ≡ behind_padding (white_rest 4 cells) (behind_white 4 cells h)
+    padding_at cells h ≡ following_padding (white_rest 4 cells) (following_white 4 cells h)
 unfolding padding_at
 padding-some cells h e = rw e refl
 
@@ -207,8 +207,8 @@ whitespace_means B options feed w false has e =
     (sym (has.white.each space_or_tab.Start _ _ ∙ white-refused (feed w.point) (here w) e)))
 
 padding-ended : (cells : List Cell) (h : Here) (x : Bool) → begins_white cells ≡ x →
-    behind_padding cells h ≡ cond x (Refuses h.scratch h.flags) (Accepts h cells)
-unfolding behind_padding
+    following_padding cells h ≡ cond x (Refuses h.scratch h.flags) (Accepts h cells)
+unfolding following_padding
 padding-ended cells h x e = rw e refl
 
 pub whitespace_after_means : (B : Behaviour) (options : ParseOptions) (feed : Feed) (w : World) (x : Bool) →
@@ -224,7 +224,7 @@ whitespace_after_means B options feed w false has s e =
 
 column-taken : (feed : Feed) (w : World) (h : Here) (o : Option ℕ) → sees_white o ≡ true →
     one_column (ahead feed w o) h ≡
-    behind_prefix (feed (after w.setting w.point))
+    following_prefix (feed (after w.setting w.point))
     (record h {
       events = h.events ++ enter parts.SpaceOrTab h.point ∷ exit parts.SpaceOrTab (after w.setting w.point) ∷ [];
       point = after w.setting w.point;
@@ -249,7 +249,7 @@ prefix_other_means B options feed w true has s e =
     moves B feed _ _ w (prefix_other_code w true).world (a ∷ b ∷ []) refl (append_assoc w.events (a ∷ []) (b ∷ []))
     (has.each its.PrefixOther _ _ ∙ ap (λ (x : List Cell). one_column x (here w)) s.next
     ∙ column-taken feed w (here w) w.current e
-    ∙ ap (λ (es : List Event). behind_prefix (feed q) (record (here w) { events = es; point = q }))
+    ∙ ap (λ (es : List Event). following_prefix (feed q) (record (here w) { events = es; point = q }))
     (sym (append_assoc w.events (a ∷ []) (b ∷ [])))
     ∙ sym (has.each its.After _ _))
 prefix_other_means B options feed w false has s e =
@@ -261,7 +261,7 @@ pub after_means : (B : Behaviour) (options : ParseOptions) (feed : Feed) (w : Wo
     HasItem B options → not w.scratch.seen && interrupts w.flags ≡ x →
     Steps B feed (Next (n.ListItem its.After)) w (after_code w x (not w.scratch.seen)).to
     (after_code w x (not w.scratch.seen)).world
-unfolding behind_prefix
+unfolding following_prefix
 after_means B options feed w true has e =
     passes B feed _ Nok w (after_code w true (not w.scratch.seen)).world refl refl
     (has.each its.After _ _ ∙ rw e refl)

@@ -10,13 +10,13 @@ use Rattle.md_engine.specs.declared.event.Point.{Point}
 use Rattle.md_engine.specs.Meaning.{Cell, Here}
 use Rattle.md_containers.specs.Interrupts.{interrupts}
 use Rattle.md_containers.specs.Item.{ends_value, is_item_marker, least_width}
-use Rattle.md_containers.specs.ItemPrefix.{ItemPassed, Padded, digits_of, item_behind, item_further}
+use Rattle.md_containers.specs.ItemPrefix.{ItemPassed, Padded, digits_of, item_after, item_further}
 use Rattle.md_containers.specs.ItemPrefix.{item_indented, item_marked, item_new, item_numbered, item_padded}
 use Rattle.md_containers.specs.ItemPrefix.{item_valued, padding, padding_room}
 use Rattle.md_containers.specs.QuoteRule.{indent_events}
-use Rattle.md_containers.specs.ItemRule.{digits_end, digits_size, at_bullet, at_marker, at_value, behind_indent}
-use Rattle.md_containers.specs.ItemRule.{behind_marker, behind_prefix, behind_value, digits_rest, filled_at, in_value}
-use Rattle.md_containers.specs.ItemRule.{indent_at, inside_indent, item_at, item_on, one_column}
+use Rattle.md_containers.specs.ItemRule.{digits_end, digits_size, at_bullet, at_marker, at_value, after_indent}
+use Rattle.md_containers.specs.ItemRule.{after_marker, following_prefix, following_value, digits_rest, filled_at}
+use Rattle.md_containers.specs.ItemRule.{in_value, indent_at, inside_indent, item_at, item_on, one_column}
 use Rattle.md_containers.proofs.ItemFurther.{blank-white, size-white}
 use Rattle.md_containers.proofs.Shorter.{Shortens, cond-shortens}
 use Rattle.md_meaning.specs.Containers.{is_bullet, is_digit}
@@ -42,8 +42,8 @@ digits-length (suc room) (c ∷ cs) = go (is_digit c.byte) (digits-length room c
 
 -- What opens an item.
 
-prefix-shortens : (n : ℕ) (cells : List Cell) (h : Here) → length cells < n → Shortens n (behind_prefix cells h)
-unfolding behind_prefix
+prefix-shortens : (n : ℕ) (cells : List Cell) (h : Here) → length cells < n → Shortens n (following_prefix cells h)
+unfolding following_prefix
 prefix-shortens n cells h lt = cond-shortens n (not h.scratch.seen && interrupts h.flags) _ _ tt lt
 
 column-shortens : (n : ℕ) (cells : List Cell) (h : Here) → length cells ≤ n → Shortens n (one_column cells h)
@@ -59,21 +59,22 @@ filled-shortens n cells h lt =
     (prefix-shortens n (white_rest 4 cells) _ (omega (arith, lt, white-length 4 cells)))
     (column-shortens n cells _ (omega (arith, lt)))
 
-behind-shortens : (n : ℕ) (cells : List Cell) (h : Here) → length cells < n → Shortens n (behind_marker cells h)
-unfolding behind_marker
-behind-shortens n cells h lt =
+following-shortens : (n : ℕ) (cells : List Cell) (h : Here) → length cells < n → Shortens n (after_marker cells h)
+unfolding after_marker
+following-shortens n cells h lt =
     cond-shortens n (is_blank (line_bytes cells)) _ _ (prefix-shortens n cells h lt) (filled-shortens n cells h lt)
 
 marker-shortens : (n : ℕ) (cells : List Cell) (h : Here) → length cells ≤ n → Shortens n (at_marker cells h)
 unfolding at_marker
 marker-shortens n [] h le = tt
 marker-shortens n (c ∷ cs) h le =
-    cond-shortens n (is_item_marker c.byte) _ _ (behind-shortens n cs _ (omega (arith, le))) tt
+    cond-shortens n (is_item_marker c.byte) _ _ (following-shortens n cs _ (omega (arith, le))) tt
 
-behind_value-shortens : (n : ℕ) (cells : List Cell) (h : Here) → length cells ≤ n → Shortens n (behind_value cells h)
-unfolding behind_value
-behind_value-shortens n [] h le = tt
-behind_value-shortens n (c ∷ cs) h le =
+following_value-shortens : (n : ℕ) (cells : List Cell) (h : Here) → length cells ≤ n →
+    Shortens n (following_value cells h)
+unfolding following_value
+following_value-shortens n [] h le = tt
+following_value-shortens n (c ∷ cs) h le =
     cond-shortens n (ends_value c.byte && (not (interrupts h.flags) || nat_lt h.scratch.size 2)) _ _
     (marker-shortens n (c ∷ cs) _ le) tt
 
@@ -81,7 +82,7 @@ in_value-shortens : (n : ℕ) (cells : List Cell) (h : Here) → length cells �
 unfolding in_value
 in_value-shortens n cells h le =
     let room = 9 - h.scratch.size in
-    behind_value-shortens n (digits_rest room cells) _ (omega (arith, le, digits-length room cells))
+    following_value-shortens n (digits_rest room cells) _ (omega (arith, le, digits-length room cells))
 
 value-shortens : (n : ℕ) (cells : List Cell) (h : Here) → length cells ≤ n → Shortens n (at_value cells h)
 unfolding at_value
@@ -93,8 +94,8 @@ unfolding at_bullet
 bullet-shortens n cells h le = marker-shortens n cells _ le
 
 indent-shortens : (options : ParseOptions) (n : ℕ) (cells : List Cell) (h : Here) → length cells ≤ n →
-    Shortens n (behind_indent options cells h)
-unfolding behind_indent
+    Shortens n (after_indent options cells h)
+unfolding after_indent
 indent-shortens options n [] h le = tt
 indent-shortens options n (c ∷ cs) h le =
     cond-shortens n (is_bullet c.byte) _ _
@@ -183,11 +184,11 @@ numbered-shorter n interrupting from digits size front (c ∷ cs) p le =
     shorter-if n (ends_value c.byte && (not interrupting || nat_lt size 2)) _ _
     (marked-shorter n interrupting from digits front c cs p le) tt
 
-behind-shorter : (n : ℕ) (options : ParseOptions) (interrupting : Bool) (from : Point) (front : List Event)
+following-shorter : (n : ℕ) (options : ParseOptions) (interrupting : Bool) (from : Point) (front : List Event)
     (cells : List Cell) (p : Point) →
-    length cells ≤ n → IsShorter n (item_behind options interrupting from front cells p)
-behind-shorter n options interrupting from front [] p le = tt
-behind-shorter n options interrupting from front (c ∷ cs) p le =
+    length cells ≤ n → IsShorter n (item_after options interrupting from front cells p)
+following-shorter n options interrupting from front [] p le = tt
+following-shorter n options interrupting from front (c ∷ cs) p le =
     shorter-if n (is_bullet c.byte) _ _
     (shorter-if n (options.constructs.thematic_break && is_rule (line_bytes (c ∷ cs))) _ _ tt
     (marked-shorter n interrupting from [] _ c cs p le))
@@ -204,7 +205,7 @@ pub new-shorter : (options : ParseOptions) (interrupting : Bool) (cells : List C
     IsShorter (length cells) (item_new options interrupting cells p)
 new-shorter options interrupting cells p =
     shorter-if _ options.constructs.list_item _ _
-    (behind-shorter _ options interrupting p (enter ListItem p ∷ indent_events options cells p)
+    (following-shorter _ options interrupting p (enter ListItem p ∷ indent_events options cells p)
     (white_rest (small_indent options) cells) (white_end (small_indent options) cells p)
     (white-length (small_indent options) cells))
     tt

@@ -32,7 +32,7 @@ use Rattle.md_leaves.specs.Break.{break_scheme}
 use Rattle.md_leaves.specs.LeafStart as leaf
 use Rattle.md_leaves.proofs.BlankTermination.{BlankFits}
 use Rattle.md_leaves.proofs.BreakTermination.{BreakFits}
-use Rattle.md_events.specs.Look.{looks_behind}
+use Rattle.md_events.specs.Look.{looks_after}
 use Rattle.md_events.specs.Spaces.{IsRest, asking, calmed, ends_line, later_ready, rest_ready, sees_white}
 use Rattle.md_events.specs.Transition.{entered, exited}
 use Rattle.md_events.proofs.SpacesTermination.{Does, WhiteFits, rest-calm, seen-in, white_try}
@@ -329,7 +329,7 @@ cont_start_ends : (T : Scheme) (w : World) (x y : Bool) → ItemFits T →
     Does T (n.ListItem its.ContStart) w (cont_start_code w x y)
 cont_start_ends T w true y has r e = let bad : true ≡ false = sym e ∙ r.1 in cc
 cont_start_ends T w false y has r e =
-    choice_ends T w its.ContStart its.ContBlank its.ContFilled (looks_behind w) has r.0.0 (record {
+    choice_ends T w its.ContStart its.ContBlank its.ContFilled (looks_after w) has r.0.0 (record {
       blank_ready = λ s t is up. indent-rest _ _ (back_later w (after_all T w.frames) s t r.0.1 is up);
       filled_ready = λ s t is up. indent-rest _ _ (back_later w (after_all T w.frames) s t r.0.1 is up);
       blank_level = omega arith;
@@ -435,7 +435,7 @@ item_terminates T its.BeforeUnordered w has c r = (
 item_terminates T its.BeforeOrdered w has c r = before_ordered_ends T w _ has r
 item_terminates T its.Value w has c r = value_ends T w _ _ _ has r (ap (sees is_digit) (sym c))
 item_terminates T its.Marker w has c r = marker_ends T w _ has r (ap (sees is_item_marker) (sym c))
-item_terminates T its.MarkerAfter w has c r = marker_after_ends T w (looks_behind w) has r
+item_terminates T its.MarkerAfter w has c r = marker_after_ends T w (looks_after w) has r
 item_terminates T its.MarkerAfterFilled w has c r = filled_ends T w has r
 item_terminates T its.Whitespace w has c r = whitespace_ends T w has r
 item_terminates T its.WhitespaceAfter w has c r = whitespace_after_ends T w _ has r

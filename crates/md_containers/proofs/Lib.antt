@@ -13,7 +13,7 @@ pub mod QuoteShorter
 pub mod Shorter
 pub mod LaterStart
 pub mod StartLooked
-pub mod BehindIndent
+pub mod AfterIndent
 pub mod ByteMeaning
 pub mod FootnoteTermination
 pub mod FootnoteMeaning

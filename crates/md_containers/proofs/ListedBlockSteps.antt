@@ -14,15 +14,15 @@ use Rattle.md_events.specs.Events.Spelled.{OpenContainer, AsDigits, FootnoteShap
 use Rattle.md_events.specs.Events.Spelled.{IsQuiet, IsQuoteMarker, ItemShape, OpenLeaf, LeafRole, OrderedShape, Purpose}
 use Rattle.md_events.specs.Events.Spelled.{Reading, Role, Shape, TextRole, Text, UnorderedShape, begun, block_around}
 use Rattle.md_events.specs.Events.Spelled.{fresh, is_ordered, left, read_by}
-use Rattle.md_containers.specs.ItemsStand.{AmongBlocks, InFront, InLabel, InLeaf, InText, Inner, IsBetween, IsOfItself}
-use Rattle.md_containers.specs.ItemsStand.{MayBegin, MayEnd, is_list_marker, site_after}
-use Rattle.md_containers.specs.Listed.{goes_on, marker_by, next_by}
+use Rattle.md_containers.specs.ItemsAllowed.{AmongBlocks, InFront, InLabel, InLeaf, InText, Inner, IsBetween}
+use Rattle.md_containers.specs.ItemsAllowed.{IsOfItself, MayBegin, MayEnd, is_list_marker, site_after}
+use Rattle.md_containers.specs.Listed.{is_continued, marker_by, next_by}
 use Rattle.md_containers.proofs.GroupedLemmas.{IsOther, NoLists, grouped-item, grouped-other, last-apart, last-same}
 use Rattle.md_containers.proofs.GroupedLemmas.{no-lists-then, other-is-no-list, other-no-list, with_last}
 use Rattle.md_containers.proofs.ListedOpen.{Agree, AgreeAt, Apart, Fits, HasBlocks, Heads, IsItemOf, IsNoItem, Known}
 use Rattle.md_containers.proofs.ListedOpen.{Knows, OpenList, Passes, Stepped, list_around, list_shape, outer_by, passed}
 use Rattle.md_containers.proofs.ListedOpen.{passes-here, place_of}
-use Rattle.md_containers.proofs.ListedMarkers.{marker-begins, marker-goes, marker-here}
+use Rattle.md_containers.proofs.ListedMarkers.{marker-begins, marker-proceeds, marker-here}
 
 -- what is between blocks says nothing of what comes next
 pub between-next : (kind : Kind) (x : Role) → IsBetween x → (ahead : ℕ) (next : Option ℕ) →
@@ -145,7 +145,7 @@ among-begin bytes IsQuoteMarker p None ls r ahead next held may known =
     (know-same bytes None ls r (read_by bytes Enter IsQuoteMarker p r) ahead ahead next next (marker-here bytes p r)
     refl known.inner)
 among-begin bytes IsQuoteMarker p (Some l) ls r ahead next held may known =
-    marker-goes bytes p l ls r ahead next held known.inner.2 known
+    marker-proceeds bytes p l ls r ahead next held known.inner.2 known
 among-begin bytes x p w ls r ahead next held may known =
     among-between bytes Enter x p w ls r ahead next held may tt known
 
@@ -210,9 +210,9 @@ holder-ends bytes p shape None ls (a ∷ arounds) here leaf text ahead next held
 
 -- An item ends.
 
-pub goes_on-some : (m : ℕ) (next : Option ℕ) → goes_on m next ≡ true → next ≡ Some m
-goes_on-some m None h = absurd (cc)
-goes_on-some m (Some k) h = ap (λ (j : ℕ). Some j) (sym (eqb-true m k h))
+pub is_continued-some : (m : ℕ) (next : Option ℕ) → is_continued m next ≡ true → next ≡ Some m
+is_continued-some m None h = absurd (cc)
+is_continued-some m (Some k) h = ap (λ (j : ℕ). Some j) (sym (eqb-true m k h))
 
 pub heads-then : (m : ℕ) (items : Blocks) (d : List ℕ) (x : Blocks) → Heads m items →
     Heads m (then_block items (Item m d x))
@@ -256,9 +256,9 @@ fits-on l b d x fits lists = record {
 }
 
 -- the list ends: an item with another marker after it begins one
-pub apart-behind : (l : OpenList) (b : Blocks) (d : List ℕ) (x : Blocks) → Fits l b → NoLists b → (m : ℕ) →
+pub apart-following : (l : OpenList) (b : Blocks) (d : List ℕ) (x : Blocks) → Fits l b → NoLists b → (m : ℕ) →
     (l.marker == m) ≡ false → Apart m (then_block b (Item l.marker d x))
-apart-behind l b d x fits lists m h e y =
+apart-following l b d x fits lists m h e y =
     let items : Blocks = then_block l.items (Item l.marker d (grouped x)) in
     grouped-item m e y (then_block b (Item l.marker d x)) (no-lists-then b (Item l.marker d x) lists tt)
     ∙ ap (with_last m e (grouped y)) (fits.more d x)
@@ -282,7 +282,7 @@ pub item-ended : (bytes : List ℕ) (p : Point) (k : ℕ) (e : List ℕ) (l : Op
     })
     ahead next (true ∷ held) (record { held = held; inner = AmongBlocks })
 item-ended bytes p k e l ls d before arounds here leaf text ahead next held marker fits lists agree =
-    go (goes_on l.marker next) refl
+    go (is_continued l.marker next) refl
   where
     item : Block
     item = Item l.marker d here
@@ -299,7 +299,7 @@ item-ended bytes p k e l ls d before arounds here leaf text ahead next held mark
       text = text;
     }
 
-    go : (t : Bool) → goes_on l.marker next ≡ t →
+    go : (t : Bool) → is_continued l.marker next ≡ t →
         Stepped bytes Exit (ContainerRole (ItemShape k e)) p None (l ∷ ls)
         (record {
           outer = record { shape = ItemShape l.marker d; before = before } ∷ arounds;
@@ -316,7 +316,7 @@ item-ended bytes p k e l ls d before arounds here leaf text ahead next held mark
       known = record {
         agree = agree;
         lists = no-lists-then before item lists tt;
-        inner = (goes_on-some l.marker next h, fits-on l before d here fits lists, blocks-then before item);
+        inner = (is_continued-some l.marker next h, fits-on l before d here fits lists, blocks-then before item);
       };
     }
     go false h = record {
@@ -339,7 +339,7 @@ item-ended bytes p k e l ls d before arounds here leaf text ahead next held mark
       known = record {
         agree = agree;
         lists = no-lists-then before item lists tt;
-        inner = λ m i. apart-behind l before d here fits lists m (ap (goes_on l.marker) (sym i) ∙ h);
+        inner = λ m i. apart-following l before d here fits lists m (ap (is_continued l.marker) (sym i) ∙ h);
       };
     }
 

@@ -10,36 +10,36 @@ use Rattle.md_containers.proofs.ListedChunks.{listed-chunks}
 use Rattle.md_containers.proofs.ListedGrammar.{listed-grammar}
 use Rattle.md_containers.proofs.ListedKept.{listed-endings, listed-pieces, listed-placed}
 use Rattle.md_containers.proofs.ListedNests.{listed-nested}
-use Rattle.md_containers.proofs.ListedParts.{listed-stands}
-use Rattle.md_events.specs.Events.Endings.{endings_stand}
+use Rattle.md_containers.proofs.ListedParts.{listed-valid}
+use Rattle.md_events.specs.Events.Endings.{endings_are_right}
 use Rattle.md_events.specs.Events.Grammar.{unread_text}
 use Rattle.md_events.specs.Events.Inline.{Covers, Piece, pieces}
 use Rattle.md_events.specs.Events.Nested.{Nested}
-use Rattle.md_events.specs.Events.Pieces.{pieces_stand}
+use Rattle.md_events.specs.Events.Pieces.{are_valid_pieces}
 use Rattle.md_events.specs.Events.Places.{are_placed, first_point}
-use Rattle.md_events.specs.Events.Tiles.{IsBlockList, chunks_stand, end_point, parts_stand}
+use Rattle.md_events.specs.Events.Tiles.{IsBlockList, chunks_in_parts, end_point, are_whole_parts}
 
 -- What a block list is before lists are put around its items: items are where lists may, directly in blocks.
 pub record IsUnlisted (bytes : List ℕ) (events : List Event) : Type 0 where
   pub nested : Nested events
   pub items : ItemsHeld [] events
   pub placed : IsTrue (are_placed bytes events)
-  pub lines : IsTrue (parts_stand bytes events)
-  pub chunks : IsTrue (chunks_stand 0 events)
+  pub lines : IsTrue (are_whole_parts bytes events)
+  pub chunks : IsTrue (chunks_in_parts 0 events)
   pub grammar : IsTrue (keeps_unlisted unread_text events)
-  pub pieces_are : IsTrue (pieces_stand bytes (pieces events))
-  pub endings : IsTrue (endings_stand events)
+  pub pieces_are : IsTrue (are_valid_pieces bytes (pieces events))
+  pub endings : IsTrue (endings_are_right events)
 
 pub listed-blocks : (bytes : List ℕ) (events : List Event) → IsUnlisted bytes events →
     IsBlockList bytes (listed bytes events)
 listed-blocks bytes events is = record {
   nested = listed-nested bytes events is.nested is.items;
   placed = listed-placed bytes bytes events ∙ is.placed;
-  lines = listed-stands bytes bytes events ∙ is.lines;
+  lines = listed-valid bytes bytes events ∙ is.lines;
   chunks = listed-chunks bytes events ∙ is.chunks;
   grammar = listed-grammar unread_text refl bytes events is.nested is.items is.grammar;
   pieces_are =
-      subst (λ (ps : List Piece). IsTrue (pieces_stand bytes ps)) (sym (listed-pieces bytes events)) is.pieces_are;
+      subst (λ (ps : List Piece). IsTrue (are_valid_pieces bytes ps)) (sym (listed-pieces bytes events)) is.pieces_are;
   endings = listed-endings bytes events ∙ is.endings;
 }
 

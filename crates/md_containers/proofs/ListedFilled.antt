@@ -19,8 +19,9 @@ use Rattle.md_events.specs.Events.Inline.{Part, is_linked, line_end, pair_unless
 use Rattle.md_events.specs.Events.Nested.{is_exit, pair}
 use Rattle.md_events.specs.Events.Places.{same_place}
 use Rattle.md_events.specs.Events.Spelled.{IsEnding, IsQuiet, Role, role, LeafRole}
-use Rattle.md_events.specs.Events.Tiles.{chunks_stand, depth_behind, filled, filled_from, first_list, further_lists}
-use Rattle.md_events.specs.Events.Tiles.{is_chunk, is_data, is_part, parts, plain_lists, plain_read, stands_in_part}
+use Rattle.md_events.specs.Events.Tiles.{chunks_in_parts, depth_following, filled, filled_from, first_list}
+use Rattle.md_events.specs.Events.Tiles.{further_lists, is_chunk, is_data, is_part, parts, plain_lists, plain_read}
+use Rattle.md_events.specs.Events.Tiles.{may_be_in_part}
 use Rattle.md_events.proofs.FilledLemmas.{EachInline, first-inline, further-inline}
 use Rattle.md_events.proofs.SpelledLemmas.{QuietOrEnding, Roles, roles-append}
 use Rattle.md_containers.proofs.ListedKept.{with-begin, with-end}
@@ -82,35 +83,35 @@ abbrev pub Chunked : List Event → Type 0
 Chunked [] = Unit {0}
 Chunked (e ∷ es) = (is_linked e ≡ true → is_chunk e es ≡ true) × Chunked es
 
-pub stand-chunked : (depth : ℕ) (es : List Event) → chunks_stand depth es ≡ true → Chunked es
-stand-chunked depth [] h = tt
-stand-chunked zero (e ∷ es) h =
+pub are_valid-chunked : (depth : ℕ) (es : List Event) → chunks_in_parts depth es ≡ true → Chunked es
+are_valid-chunked depth [] h = tt
+are_valid-chunked zero (e ∷ es) h =
     let two = and_parts (not (is_linked e))
-    (chunks_stand (if is_part e.name && not (is_exit e.kind) then 1 else 0) es) h in (
+    (chunks_in_parts (if is_part e.name && not (is_exit e.kind) then 1 else 0) es) h in (
       (λ l. absurd (let no : true ≡ false = sym l ∙ not-true (is_linked e) two.0 in cc)),
-      stand-chunked (if is_part e.name && not (is_exit e.kind) then 1 else 0) es two.1,
+      are_valid-chunked (if is_part e.name && not (is_exit e.kind) then 1 else 0) es two.1,
     )
-stand-chunked (suc depth) (e ∷ es) h =
-    go (is_part e.name) h (stand-chunked 0 es) (stand-chunked (depth_behind e.kind (suc depth)) es)
+are_valid-chunked (suc depth) (e ∷ es) h =
+    go (is_part e.name) h (are_valid-chunked 0 es) (are_valid-chunked (depth_following e.kind (suc depth)) es)
   where
     go : (x : Bool) →
-        cond x (is_exit e.kind && (depth == 0) && not (is_linked e) && chunks_stand 0 es)
-        (cond (is_linked e) ((depth == 0) && is_chunk e es) (stands_in_part e.kind e.name)
-        && chunks_stand (depth_behind e.kind (suc depth)) es) ≡
-        true → (chunks_stand 0 es ≡ true → Chunked es) →
-        (chunks_stand (depth_behind e.kind (suc depth)) es ≡ true → Chunked es) →
+        cond x (is_exit e.kind && (depth == 0) && not (is_linked e) && chunks_in_parts 0 es)
+        (cond (is_linked e) ((depth == 0) && is_chunk e es) (may_be_in_part e.kind e.name)
+        && chunks_in_parts (depth_following e.kind (suc depth)) es) ≡
+        true → (chunks_in_parts 0 es ≡ true → Chunked es) →
+        (chunks_in_parts (depth_following e.kind (suc depth)) es ≡ true → Chunked es) →
         Chunked (e ∷ es)
     go true h k l =
-        let two = and_parts (is_exit e.kind && (depth == 0) && not (is_linked e)) (chunks_stand 0 es) h in
+        let two = and_parts (is_exit e.kind && (depth == 0) && not (is_linked e)) (chunks_in_parts 0 es) h in
         let one = and_parts (is_exit e.kind && (depth == 0)) (not (is_linked e)) two.0 in
         ((λ i. absurd (let no : true ≡ false = sym i ∙ not-true (is_linked e) one.1 in cc)), k two.1)
     go false h k l =
-        let two = and_parts (cond (is_linked e) ((depth == 0) && is_chunk e es) (stands_in_part e.kind e.name))
-        (chunks_stand (depth_behind e.kind (suc depth)) es) h in (
+        let two = and_parts (cond (is_linked e) ((depth == 0) && is_chunk e es) (may_be_in_part e.kind e.name))
+        (chunks_in_parts (depth_following e.kind (suc depth)) es) h in (
           (λ i.
               (and_parts (depth == 0) (is_chunk e es)
               (subst
-              (λ (x : Bool). cond x ((depth == 0) && is_chunk e es) (stands_in_part e.kind e.name) ≡ true) i two.0)).1),
+              (λ (x : Bool). cond x ((depth == 0) && is_chunk e es) (may_be_in_part e.kind e.name) ≡ true) i two.0)).1),
           l two.1,
         )
 
@@ -295,9 +296,9 @@ plain-inline text (part ∷ parts) =
     (plain-inline text parts)
 
 -- the plain layer reads text parts before lists are put around items or after
-pub listed-plain : (text bytes : List ℕ) (events : List Event) → chunks_stand 0 events ≡ true →
+pub listed-plain : (text bytes : List ℕ) (events : List Event) → chunks_in_parts 0 events ≡ true →
     plain_read text (listed bytes events) ≡ listed bytes (plain_read text events)
-listed-plain text bytes events stands =
+listed-plain text bytes events valid =
     ap (λ (ps : List Part). filled (listed bytes events) (together (plain_lists text ps))) (listed-parts bytes events)
-    ∙ filled-listed bytes outside events (stand-chunked 0 events stands) (together (plain_lists text (parts events)))
+    ∙ filled-listed bytes outside events (are_valid-chunked 0 events valid) (together (plain_lists text (parts events)))
     (plain-inline text (parts events))

@@ -14,19 +14,20 @@ use Rattle.md_engine.specs.declared.event.Name.{Name}
 use Rattle.md_engine.specs.declared.event.Name.TheVariants as n
 use Rattle.md_engine.specs.declared.event.Point.{Point}
 use Rattle.md_containers.specs.ItemsHeld.{HoldsItems, ItemsHeld}
-use Rattle.md_containers.specs.Listed.{Place, goes_on, is_item, list_end, list_name, listed, listed_from}
+use Rattle.md_containers.specs.Listed.{Place, is_continued, is_item, list_end, list_name, listed, listed_from}
 use Rattle.md_containers.specs.Listed.{marker_ahead, next_by, next_item}
-use Rattle.md_containers.specs.Unlisted.{in_place, keeps_unlisted, unlisted_behind, unlisted_left}
-use Rattle.md_containers.proofs.ListedBlockSteps.{goes_on-some}
+use Rattle.md_containers.specs.Unlisted.{in_place, keeps_unlisted, unlisted_after, unlisted_left}
+use Rattle.md_containers.proofs.ListedBlockSteps.{is_continued-some}
 use Rattle.md_containers.proofs.ListedKept.{by-turn}
 use Rattle.md_containers.proofs.ListedLemmas.{passes-given}
 use Rattle.md_containers.proofs.ListedNests.{event, pass-next}
 use Rattle.md_containers.proofs.ListedKept.{by-list}
-use Rattle.md_containers.proofs.TamedLemmas.{AtBoth, AtFrontmatter, AtLine, AtMark, BehindBlock, IsTame, ListsWell}
-use Rattle.md_containers.proofs.TamedLemmas.{is_plain, tame-behind, tame-inside, tame-item, tame-lists}
+use Rattle.md_containers.proofs.TamedLemmas.{AtBoth, AtFrontmatter, AtLine, AtMark, AfterBlock, IsTame, ListsWell}
+use Rattle.md_containers.proofs.TamedLemmas.{is_plain, tame-following, tame-inside, tame-item, tame-lists}
 use Rattle.md_events.specs.Events.Blocks.{is_block}
-use Rattle.md_events.specs.Events.Grammar.{Expression, Many, Never, Then, behind, behind_block, blocks, inside, is_whole}
-use Rattle.md_events.specs.Events.Grammar.{keeps_grammar, left_of, line_break, may_end, one, prefixes, some, texts}
+use Rattle.md_events.specs.Events.Grammar.{Expression, Many, Never, Then, following, after_block, blocks, inside}
+use Rattle.md_events.specs.Events.Grammar.{is_whole, keeps_grammar, left_of, line_break, may_end, one, prefixes, some}
+use Rattle.md_events.specs.Events.Grammar.{texts}
 use Rattle.md_events.specs.Events.Nested.{Matches, Nested, enter, exit}
 use Rattle.md_events.specs.Events.Spelled.{role}
 
@@ -40,7 +41,7 @@ in_list true = Then (Then (Then prefixes (Many line_break)) (one n.ListItem)) mo
 
 -- what may come there in the container around it
 abbrev in_container : Bool → Expression
-in_container false = behind_block
+in_container false = after_block
 in_container true = blocks
 
 -- Nothing more may come.
@@ -61,13 +62,13 @@ dead-exit x xs (inr h) = go (may_end x)
     go true = inr h
     go false = inl refl
 
-dead-behind : (text : Expression) (kind : Kind) (name : Name) (stack : List Expression) → IsDead stack →
-    IsDead (unlisted_behind text stack kind name)
-dead-behind text kind name [] h = inl refl
-dead-behind text kind name (x ∷ xs) (inl e) = absurd (cc)
-dead-behind text Enter name (x ∷ xs) (inr (inl e)) = inr (inr (inl (ap (behind (in_place name)) e)))
-dead-behind text Enter name (x ∷ xs) (inr (inr h)) = inr (inr (inr h))
-dead-behind text Exit name (x ∷ xs) (inr h) = dead-exit x xs h
+dead-following : (text : Expression) (kind : Kind) (name : Name) (stack : List Expression) → IsDead stack →
+    IsDead (unlisted_after text stack kind name)
+dead-following text kind name [] h = inl refl
+dead-following text kind name (x ∷ xs) (inl e) = absurd (cc)
+dead-following text Enter name (x ∷ xs) (inr (inl e)) = inr (inr (inl (ap (following (in_place name)) e)))
+dead-following text Enter name (x ∷ xs) (inr (inr h)) = inr (inr (inr h))
+dead-following text Exit name (x ∷ xs) (inr h) = dead-exit x xs h
 
 dead-whole : (stack : List Expression) → IsDead stack → is_whole stack ≡ false
 dead-whole [] h = refl
@@ -80,7 +81,7 @@ dead-left : (text : Expression) (es : List Event) (stack : List Expression) → 
     is_whole (unlisted_left text stack es) ≡ false
 dead-left text [] stack h = dead-whole stack h
 dead-left text (e ∷ es) stack h =
-    dead-left text es (unlisted_behind text stack e.kind e.name) (dead-behind text e.kind e.name stack h)
+    dead-left text es (unlisted_after text stack e.kind e.name) (dead-following text e.kind e.name stack h)
 
 dead-fails : {X : Type 0} (text : Expression) (es : List Event) (stack : List Expression) → IsDead stack →
     is_whole (unlisted_left text stack es) ≡ true → X
@@ -108,12 +109,12 @@ markers_in (InItem m ∷ fs) = m ∷ markers_in fs
 abbrev around_without : List Frame → List Expression
 around_without [] = []
 around_without (InPart name x ∷ fs) = x ∷ around_without fs
-around_without (InItem m ∷ fs) = behind_block ∷ around_without fs
+around_without (InItem m ∷ fs) = after_block ∷ around_without fs
 
 abbrev around_with : List Frame → List Expression
 around_with [] = []
 around_with (InPart name x ∷ fs) = x ∷ around_with fs
-around_with (InItem m ∷ fs) = more_items ∷ behind_block ∷ around_with fs
+around_with (InItem m ∷ fs) = more_items ∷ after_block ∷ around_with fs
 
 abbrev AreFrames : List Frame → Type 0
 AreFrames [] = Unit {0}
@@ -153,7 +154,7 @@ left_without (Within m after ls fs) = later_left ls ++ in_container after ∷ ar
 
 abbrev left_with : Now → List Expression
 left_with (Free x fs) = x ∷ around_with fs
-left_with (Within m after ls fs) = later_left ls ++ in_list after ∷ behind_block ∷ around_with fs
+left_with (Within m after ls fs) = later_left ls ++ in_list after ∷ after_block ∷ around_with fs
 
 abbrev place_at : Now → Place
 place_at (Free x fs) = record { within = false; markers = markers_in fs }
@@ -191,11 +192,11 @@ module _ (text : Expression) (bytes : List ℕ) where
       inner : List Event
       inner = listed_from bytes (record { within = false; markers = a ∷ markers_in fs }) es
 
-      go : (behind n.ListOrdered x ≡ behind_block) ⊎ (behind n.ListOrdered x ≡ Never) →
-          behind n.ListUnordered x ≡ behind n.ListOrdered x →
+      go : (following n.ListOrdered x ≡ after_block) ⊎ (following n.ListOrdered x ≡ Never) →
+          following n.ListUnordered x ≡ following n.ListOrdered x →
           WholeWith (Free x fs) (enter (list_name a) p ∷ event Enter n.ListItem p link ∷ inner)
       go (inr e) same =
-          dead-fails text es (inside text n.ListItem ∷ behind n.ListOrdered x ∷ around_without fs)
+          dead-fails text es (inside text n.ListItem ∷ following n.ListOrdered x ∷ around_without fs)
           (inr (inr (inl e))) whole
       go (inl e) same =
           let k : WholeWith (Free (inside text n.ListItem) (InItem a ∷ fs)) inner =
@@ -240,23 +241,24 @@ module _ (text : Expression) (bytes : List ℕ) where
       Of : Bool → Type 0
       Of on =
           is_whole
-          (left_of text (more_items ∷ behind_block ∷ around_with fs)
+          (left_of text (more_items ∷ after_block ∷ around_with fs)
           ((if on then [] else exit (list_name m) p ∷ [])
           ++ listed_from bytes (record { within = on; markers = markers_in fs }) es)) ≡ true
 
-      by : is_whole (unlisted_left text (behind_block ∷ around_without fs) es) ≡ true → (on : Bool) →
-          goes_on m (next_item bytes es) ≡ on → Of on
+      by : is_whole (unlisted_left text (after_block ∷ around_without fs) es) ≡ true → (on : Bool) →
+          is_continued m (next_item bytes es) ≡ on → Of on
       by whole true h =
-          keeps (Within m false [] fs) (frames, holds, tt, goes_on-some m (next_item bytes es) h) matches held whole
-      by whole false h = keeps (Free behind_block fs) (inl (BehindBlock, refl), frames) matches held whole
+          keeps (Within m false [] fs) (frames, holds, tt, is_continued-some m (next_item bytes es) h)
+          matches held whole
+      by whole false h = keeps (Free after_block fs) (inl (AfterBlock, refl), frames) matches held whole
 
-      go : (b : Bool) → is_whole (unlisted_left text (cond b (behind_block ∷ around_without fs) []) es) ≡ true →
+      go : (b : Bool) → is_whole (unlisted_left text (cond b (after_block ∷ around_without fs) []) es) ≡ true →
           is_whole
-          (left_of text (cond b (more_items ∷ behind_block ∷ around_with fs) [])
+          (left_of text (cond b (more_items ∷ after_block ∷ around_with fs) [])
           (list_end (m ∷ markers_in fs) (next_item bytes es) p
-          ++ listed_from bytes (record { within = goes_on m (next_item bytes es); markers = markers_in fs }) es))
+          ++ listed_from bytes (record { within = is_continued m (next_item bytes es); markers = markers_in fs }) es))
           ≡ true
-      go true whole = by whole (goes_on m (next_item bytes es)) refl
+      go true whole = by whole (is_continued m (next_item bytes es)) refl
       go false whole = dead-fails text es [] (inl refl) whole
 
   end-free : (p : Point) (link : Option Link) (es : List Event) (x : Expression) (fs : List Frame) → Keeps es →
@@ -275,11 +277,11 @@ module _ (text : Expression) (bytes : List ℕ) where
   -- a list or an item in the place of a list may not come
   pass-dead : (es : List Event) (name : Name) (x : Expression) (xs : List Expression) → IsTame x →
       in_place name ≡ n.ListItem →
-      {X : Type 0} → is_whole (unlisted_left text (inside text name ∷ behind (in_place name) x ∷ xs) es) ≡ true → X
+      {X : Type 0} → is_whole (unlisted_left text (inside text name ∷ following (in_place name) x ∷ xs) es) ≡ true → X
   pass-dead es name x xs tame e whole =
       let well : ListsWell x = tame-lists x tame in
-      dead-fails text es (inside text name ∷ behind (in_place name) x ∷ xs)
-      (inr (inr (inl (ap (λ (y : Name). behind y x) e ∙ well.2)))) whole
+      dead-fails text es (inside text name ∷ following (in_place name) x ∷ xs)
+      (inr (inr (inl (ap (λ (y : Name). following y x) e ∙ well.2)))) whole
 
   pass-enter : (plain : is_plain text ≡ true) (name : Name) (p : Point) (link : Option Link) (es : List Event)
       (x : Expression) (fs : List Frame) → is_item (role name) ≡ false → Keeps es → IsTame x → AreFrames fs →
@@ -302,11 +304,11 @@ module _ (text : Expression) (bytes : List ℕ) where
       go (inr e) same = pass-dead es name x (around_without fs) tame e whole
       go (inl inner) (inr e) = pass-dead es name x (around_without fs) tame e whole
       go (inl inner) (inl e) =
-          keeps (Free (inside text name) (InPart name (behind name x) ∷ fs))
-          (inner, (tame-behind name x tame, i, frames)) matches.1 held.1
+          keeps (Free (inside text name) (InPart name (following name x) ∷ fs))
+          (inner, (tame-following name x tame, i, frames)) matches.1 held.1
           (subst
           (λ (y : Name).
-          is_whole (unlisted_left text (inside text name ∷ behind y x ∷ around_without fs) es) ≡ true) e whole)
+          is_whole (unlisted_left text (inside text name ∷ following y x ∷ around_without fs) es) ≡ true) e whole)
 
   pass-exit : (name : Name) (p : Point) (link : Option Link) (es : List Event) (x : Expression) (fs : List Frame) →
       is_item (role name) ≡ false → Keeps es → AreFrames fs →
@@ -337,14 +339,15 @@ module _ (text : Expression) (bytes : List ℕ) where
   later-enter name p link es m after (l ∷ ls) fs b keeps good matches held whole =
       keeps
       (Within m after
-      ((record { name = name; left = inside text name }) ∷ (record { name = l.name; left = behind name l.left }) ∷ ls)
+      ((record { name = name; left = inside text name }) ∷
+      (record { name = l.name; left = following name l.left }) ∷ ls)
       fs)
       (good.0, good.1, (b, good.2), good.3) matches.1 held.1
       (subst
       (λ (y : Name).
       is_whole
       (unlisted_left text
-      (inside text name ∷ behind y l.left ∷ later_left ls ++ in_container after ∷ around_without fs) es) ≡ true)
+      (inside text name ∷ following y l.left ∷ later_left ls ++ in_container after ∷ around_without fs) es) ≡ true)
       (free-place name b) whole)
     where
       free-place : (name : Name) → is_block (role name) ≡ false → in_place name ≡ name
@@ -352,36 +355,36 @@ module _ (text : Expression) (bytes : List ℕ) where
       free-place n.ListOrdered b = absurd (cc)
       free-place n.ListUnordered b = absurd (cc)
       free-place _ b = refl
-  later-enter name p link es m after [] fs b keeps good matches held whole = go (goes name after b)
+  later-enter name p link es m after [] fs b keeps good matches held whole = go (proceeds name after b)
     where
       -- where this may come after an item, it may come in its list and around it
-      Goes : Name → Bool → Type 0
-      Goes name after =
-          (behind (in_place name) (in_container after) ≡ Never)
-          ⊎ ((t : Bool) × (behind (in_place name) (in_container after) ≡ in_container t)
-          × (behind name (in_list after) ≡ in_list t))
+      Proceeds : Name → Bool → Type 0
+      Proceeds name after =
+          (following (in_place name) (in_container after) ≡ Never)
+          ⊎ ((t : Bool) × (following (in_place name) (in_container after) ≡ in_container t)
+          × (following name (in_list after) ≡ in_list t))
 
-      to-line : (name : Name) (after : Bool) → behind (in_place name) (in_container after) ≡ in_container true →
-          behind name (in_list after) ≡ in_list true → Goes name after
+      to-line : (name : Name) (after : Bool) → following (in_place name) (in_container after) ≡ in_container true →
+          following name (in_list after) ≡ in_list true → Proceeds name after
       to-line name after e h = inr (true, e, h)
 
-      goes : (name : Name) (after : Bool) → is_block (role name) ≡ false → Goes name after
-      goes n.LineEnding false b = inr (true, refl, refl)
-      goes _ false b = first_of (search inl, search to-line, cc)
-      goes n.LineEnding true b = inr (true, refl, refl)
-      goes _ true b = first_of (search inl, search to-line, cc)
+      proceeds : (name : Name) (after : Bool) → is_block (role name) ≡ false → Proceeds name after
+      proceeds n.LineEnding false b = inr (true, refl, refl)
+      proceeds _ false b = first_of (search inl, search to-line, cc)
+      proceeds n.LineEnding true b = inr (true, refl, refl)
+      proceeds _ true b = first_of (search inl, search to-line, cc)
 
       rest : List Event
       rest = listed_from bytes (place_at (Within m after [] fs)) es
 
-      go : Goes name after → WholeWith (Within m after [] fs) (event Enter name p link ∷ rest)
+      go : Proceeds name after → WholeWith (Within m after [] fs) (event Enter name p link ∷ rest)
       go (inl e) =
-          dead-fails text es (inside text name ∷ behind (in_place name) (in_container after) ∷ around_without fs)
+          dead-fails text es (inside text name ∷ following (in_place name) (in_container after) ∷ around_without fs)
           (inr (inr (inl e))) whole
       go (inr h) =
           subst
           (λ (y : Expression).
-          is_whole (left_of text (inside text name ∷ y ∷ behind_block ∷ around_with fs) rest) ≡ true) (sym h.2)
+          is_whole (left_of text (inside text name ∷ y ∷ after_block ∷ around_with fs) rest) ≡ true) (sym h.2)
           (keeps (Within m h.0 ((record { name = name; left = inside text name }) ∷ []) fs)
           (good.0, good.1, (b, tt), good.3) matches.1 held.1
           (subst

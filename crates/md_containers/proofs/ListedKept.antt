@@ -9,11 +9,11 @@ use Rattle.md_engine.specs.declared.event.Kind.TheVariants.{Enter, Exit}
 use Rattle.md_engine.specs.declared.event.Name.{Name}
 use Rattle.md_engine.specs.declared.event.Name.TheVariants as n
 use Rattle.md_engine.specs.declared.event.Point.{Point}
-use Rattle.md_containers.specs.Listed.{Place, goes_on, is_item, list_begin, list_end, list_name, listed, listed_from}
-use Rattle.md_containers.specs.Listed.{marker_ahead, next_item, outside, place_behind}
+use Rattle.md_containers.specs.Listed.{Place, is_continued, is_item, list_begin, list_end, list_name, listed}
+use Rattle.md_containers.specs.Listed.{listed_from, marker_ahead, next_item, outside, place_following}
 use Rattle.md_containers.proofs.ListedLemmas.{passes-given}
-use Rattle.md_events.specs.Events.Endings.{EndingPlace, endings_stand, endings_stand_from, ends_rightly, line_start}
-use Rattle.md_events.specs.Events.Endings.{on_line, IsOther, spot_behind}
+use Rattle.md_events.specs.Events.Endings.{EndingPlace, endings_are_right, endings_are_right_from, ends_as_begun}
+use Rattle.md_events.specs.Events.Endings.{line_start, on_line, IsOther, spot_after}
 use Rattle.md_events.specs.Events.Inline.{Piece, piece_of, pieces, pieces_from}
 use Rattle.md_events.specs.Events.Nested.{enter, exit}
 use Rattle.md_events.specs.Events.Places.{are_placed, first_point, is_placed}
@@ -51,7 +51,7 @@ with-begin P false m p none ordered unordered = by-list (λ (name : Name). P (en
 pub with-end : (P : List Event → Type 0) (markers : List ℕ) (next : Option ℕ) (p : Point) → P [] →
     P (exit n.ListOrdered p ∷ []) → P (exit n.ListUnordered p ∷ []) → P (list_end markers next p)
 with-end P [] next p none ordered unordered = none
-with-end P (m ∷ markers) next p none ordered unordered = go (goes_on m next)
+with-end P (m ∷ markers) next p none ordered unordered = go (is_continued m next)
   where
     go : (x : Bool) → P (cond x [] (exit (list_name m) p ∷ []))
     go true = none
@@ -83,16 +83,16 @@ unmoved {F = F} walk bytes place (e ∷ es) s =
     (record e { kind = Enter; name = n.ListItem } ∷ []) (listed_from bytes inner es))
     ∙ walk.begins s e place.within (marker_ahead bytes es) es (listed_from bytes inner es)
     (λ t. unmoved walk bytes inner es t))
-    (walk.ends s e place.markers (next_item bytes es) es (listed_from bytes behind es)
-    (λ t. unmoved walk bytes behind es t))
+    (walk.ends s e place.markers (next_item bytes es) es (listed_from bytes following es)
+    (λ t. unmoved walk bytes following es t))
     (passed (λ t. unmoved walk bytes place es t))
     e.kind e.name
   where
     inner : Place
     inner = record { within = false; markers = marker_ahead bytes es ∷ place.markers }
 
-    behind : Place
-    behind = place_behind place (next_item bytes es)
+    following : Place
+    following = place_following place (next_item bytes es)
 
     passed : ((t : _) → F t (listed_from bytes place es) ≡ F t es) → (kind : Kind) (name : Name) →
         is_item (role name) ≡ false →
@@ -142,27 +142,29 @@ filled-twice : (a b : Bool) → (a || (a || b)) ≡ (a || b)
 filled-twice true b = refl
 filled-twice false b = refl
 
-endings-unmoved : Unmoved EndingPlace Bool endings_stand_from
+endings-unmoved : Unmoved EndingPlace Bool endings_are_right_from
 endings-unmoved = record {
   begins = λ s e within m es lists h.
       let twice =
-      ap (λ (b : Bool). endings_stand_from (record s { after_leaf = b }) lists) (filled-twice s.in_leaf s.after_leaf) in
+      ap (λ (b : Bool). endings_are_right_from (record s { after_leaf = b }) lists)
+      (filled-twice s.in_leaf s.after_leaf) in
       with-begin
       (λ (xs : List Event).
-      endings_stand_from s (xs ++ record e { kind = Enter; name = n.ListItem } ∷ lists)
-      ≡ endings_stand_from (spot_behind Enter IsOther s) lists)
+      endings_are_right_from s (xs ++ record e { kind = Enter; name = n.ListItem } ∷ lists)
+      ≡ endings_are_right_from (spot_after Enter IsOther s) lists)
       within m e.point refl twice twice
-      ∙ h (spot_behind Enter IsOther s);
+      ∙ h (spot_after Enter IsOther s);
   ends = λ s e markers next es lists h.
-      with-end (λ (xs : List Event). endings_stand_from s (xs ++ lists) ≡ endings_stand_from s es) markers next e.point
+      with-end (λ (xs : List Event). endings_are_right_from s (xs ++ lists) ≡ endings_are_right_from s es)
+      markers next e.point
       (h s) (h s) (h s);
   passes = λ s bytes place e es h.
-      ap (λ (b : Bool). ends_rightly e.kind (on_line e.name) s && b) (h (spot_behind e.kind (on_line e.name) s));
+      ap (λ (b : Bool). ends_as_begun e.kind (on_line e.name) s && b) (h (spot_after e.kind (on_line e.name) s));
 }
 
 -- endings have the right names if they had
 pub listed-endings : (bytes : List ℕ) (events : List Event) →
-    endings_stand (listed bytes events) ≡ endings_stand events
+    endings_are_right (listed bytes events) ≡ endings_are_right events
 listed-endings bytes events = unmoved endings-unmoved bytes outside events line_start
 
 -- Pieces.
@@ -191,7 +193,7 @@ pub end-pieces : (f e : Event) (markers : List ℕ) (next : Option ℕ) (p : Poi
     pieces_from f (record e { kind = Exit } ∷ list_end markers next p ++ es)
     ≡ pieces_from f (record e { kind = Exit } ∷ es)
 end-pieces f e [] next p es = refl
-end-pieces f e (m ∷ markers) next p es = go (goes_on m next)
+end-pieces f e (m ∷ markers) next p es = go (is_continued m next)
   where
     go : (x : Bool) →
         pieces_from f (record e { kind = Exit } ∷ cond x [] (exit (list_name m) p ∷ []) ++ es)

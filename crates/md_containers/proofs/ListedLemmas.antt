@@ -10,8 +10,8 @@ use Rattle.md_engine.specs.declared.event.Kind.{Kind}
 use Rattle.md_engine.specs.declared.event.Kind.TheVariants.{Enter, Exit}
 use Rattle.md_engine.specs.declared.event.Point.{Point}
 use Rattle.md_engine.specs.Place.{IsPlaced}
-use Rattle.md_containers.specs.Listed.{Begins, Ends, Place, Stays, Turn, given, given_by, goes_on, is_item, list_begin}
-use Rattle.md_containers.specs.Listed.{list_end, list_name, listed, listed_from, marker_ahead, next_item}
+use Rattle.md_containers.specs.Listed.{Begins, Ends, Place, Stays, Turn, given, given_by, is_continued, is_item}
+use Rattle.md_containers.specs.Listed.{list_begin, list_end, list_name, listed, listed_from, marker_ahead, next_item}
 use Rattle.md_containers.specs.Listed.{outside, passes, place_after, place_by, turn}
 use Rattle.md_events.specs.Events.Nested.{enter, exit}
 use Rattle.md_events.specs.Events.Spelled.{Role, role}
@@ -76,7 +76,7 @@ begin-points P false marker p h = All-cons (AtPoint P) (enter (list_name marker)
 end-points : (P : Point → Type 0) (markers : List ℕ) (next : Option ℕ) (p : Point) → P p →
     All (AtPoint P) (list_end markers next p)
 end-points P [] next p h = All-nil (AtPoint P)
-end-points P (marker ∷ markers) next p h = go (goes_on marker next)
+end-points P (marker ∷ markers) next p h = go (is_continued marker next)
   where
     go : (x : Bool) → All (AtPoint P) (if x then [] else exit (list_name marker) p ∷ [])
     go true = All-nil (AtPoint P)

@@ -10,7 +10,7 @@ use Rattle.md_meaning.specs.Tree.{Block, Blocks, End, Item, ListOf, More}
 use Rattle.md_events.specs.Events.Spelled.{IsQuoteMarker, ItemShape, OpenContainer, OpenLeaf, OrderedShape, QuoteShape}
 use Rattle.md_events.specs.Events.Spelled.{Reading, Shape, Text, UnorderedShape, is_before_blocks, is_ordered, kind_at}
 use Rattle.md_events.specs.Events.Spelled.{on_shape, read_by, with_kind}
-use Rattle.md_containers.specs.ItemsStand.{AmongBlocks, Inner}
+use Rattle.md_containers.specs.ItemsAllowed.{AmongBlocks, Inner}
 use Rattle.md_containers.proofs.GroupedLemmas.{NoLists}
 use Rattle.md_containers.proofs.ListedOpen.{Agree, AgreeAt, HasBlocks, IsItemOf, IsNoItem, Known, Knows, OpenList}
 use Rattle.md_containers.proofs.ListedOpen.{Stepped, as_listed, list_shape, moved, outer_by}
@@ -129,9 +129,9 @@ marker-in_list bytes p l held ls r = go (is_before_blocks r.text r.leaf l.items)
         (list-kind kind l.marker)
     go false = refl
 
-pub marker-behind : (bytes : List ℕ) (p : Point) (r : Reading) → HasBlocks r.here →
+pub marker-following : (bytes : List ℕ) (p : Point) (r : Reading) → HasBlocks r.here →
     read_by bytes Enter IsQuoteMarker p r ≡ r
-marker-behind bytes p r h =
+marker-following bytes p r h =
     ap (λ (x : Bool). marked x (kind_at bytes p.index) r) (before-blocks r.text r.leaf r.here h)
 
 -- in a leaf or a text, neither
@@ -181,12 +181,12 @@ marker-begins bytes p ls r ahead next held inner to agree lists known =
     }
 
 -- where one does
-pub marker-goes : (bytes : List ℕ) (p : Point) (l : OpenList) (ls : List OpenList) (r : Reading) (ahead : ℕ)
+pub marker-proceeds : (bytes : List ℕ) (p : Point) (l : OpenList) (ls : List OpenList) (r : Reading) (ahead : ℕ)
     (next : Option ℕ) (held : List Bool) → HasBlocks r.here →
     Known bytes (record { held = held; inner = AmongBlocks }) (Some l) ls r ahead next →
     Stepped bytes Enter IsQuoteMarker p (Some l) ls r ahead next held (record { held = held; inner = AmongBlocks })
-marker-goes bytes p l ls r ahead next held some known =
-    let same : read_by bytes Enter IsQuoteMarker p r ≡ r = marker-behind bytes p r some in
+marker-proceeds bytes p l ls r ahead next held some known =
+    let same : read_by bytes Enter IsQuoteMarker p r ≡ r = marker-following bytes p r some in
     record {
       lists = ls;
       within = Some l;

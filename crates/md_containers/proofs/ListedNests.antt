@@ -12,11 +12,11 @@ use Rattle.md_engine.specs.declared.event.Name.{Name}
 use Rattle.md_engine.specs.declared.event.Name.TheVariants as n
 use Rattle.md_engine.specs.declared.event.Point.{Point}
 use Rattle.md_containers.specs.ItemsHeld.{HoldsItems, ItemsHeld}
-use Rattle.md_containers.specs.Listed.{Place, goes_on, is_item, list_begin, list_end, list_name, listed, listed_from}
-use Rattle.md_containers.specs.Listed.{marker_ahead, next_by, next_item, outside, place_behind}
+use Rattle.md_containers.specs.Listed.{Place, is_continued, is_item, list_begin, list_end, list_name, listed}
+use Rattle.md_containers.specs.Listed.{listed_from, marker_ahead, next_by, next_item, outside, place_following}
 use Rattle.md_containers.proofs.ListedKept.{by-turn}
 use Rattle.md_containers.proofs.ListedLemmas.{passes-given}
-use Rattle.md_containers.proofs.ListedBlockSteps.{goes_on-some}
+use Rattle.md_containers.proofs.ListedBlockSteps.{is_continued-some}
 use Rattle.md_events.specs.Events.Blocks.{is_block}
 use Rattle.md_events.specs.Events.Nested.{Forward, Matches, Nested, exit, open_after}
 use Rattle.md_events.specs.Events.Places.{at_or_before, first_point}
@@ -119,7 +119,7 @@ end-item : (bytes : List ℕ) (p : Point) (link : Option Link) (es : List Event)
     Keeps bytes es → HoldsItems (names_of entries) → AreEntries entries → Matches (names_of entries) es →
     ItemsHeld (names_of entries) es →
     Kept bytes (Free (ItemOf m ∷ entries)) (event Exit n.ListItem p link ∷ es)
-end-item bytes p link es m entries keeps holds good matches held = go (goes_on m (next_item bytes es)) refl
+end-item bytes p link es m entries keeps holds good matches held = go (is_continued m (next_item bytes es)) refl
   where
     Of : Bool → Type 0
     Of x =
@@ -131,11 +131,11 @@ end-item bytes p link es m entries keeps holds good matches held = go (goes_on m
         (event Exit n.ListItem p link ∷ (if x then [] else exit (list_name m) p ∷ [])
         ++ listed_from bytes (record { within = x; markers = markers_of entries }) es) ≡ [])
 
-    go : (x : Bool) → goes_on m (next_item bytes es) ≡ x → Of (goes_on m (next_item bytes es))
+    go : (x : Bool) → is_continued m (next_item bytes es) ≡ x → Of (is_continued m (next_item bytes es))
     go true h =
         subst Of (sym h)
         (let k : Kept bytes (Within [] m entries) es =
-        keeps (Within [] m entries) (good, holds, tt, goes_on-some m (next_item bytes es) h) matches held in
+        keeps (Within [] m entries) (good, holds, tt, is_continued-some m (next_item bytes es) h) matches held in
         ((refl, k.0), k.1))
     go false h =
         subst Of (sym h)
@@ -277,7 +277,7 @@ begin-forward bytes p q link place es h k = go place.within
 end-forward : (markers : List ℕ) (next : Option ℕ) (q : Point) (es : List Event) → Forward q es →
     Forward q (list_end markers next q ++ es)
 end-forward [] next q es h = h
-end-forward (m ∷ markers) next q es h = go (goes_on m next)
+end-forward (m ∷ markers) next q es h = go (is_continued m next)
   where
     go : (x : Bool) → Forward q (cond x [] (exit (list_name m) q ∷ []) ++ es)
     go true = h
@@ -293,8 +293,8 @@ forward-kept bytes p place (e ∷ es) h =
     (forward-kept bytes e.point (record { within = false; markers = marker_ahead bytes es ∷ place.markers }) es h.1)) (
       h.0,
       end-forward place.markers (next_item bytes es) e.point
-          (listed_from bytes (place_behind place (next_item bytes es)) es)
-          (forward-kept bytes e.point (place_behind place (next_item bytes es)) es h.1),
+          (listed_from bytes (place_following place (next_item bytes es)) es)
+          (forward-kept bytes e.point (place_following place (next_item bytes es)) es h.1),
     )
     (passed (forward-kept bytes e.point place es h.1))
     e.kind e.name

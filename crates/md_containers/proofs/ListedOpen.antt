@@ -17,13 +17,14 @@ use Rattle.md_meaning.specs.Tree.{Blocks, End, Item, Line, ListOf, More}
 use Rattle.md_events.specs.Events.Spelled.{OpenContainer, ContainerRole, IsEnding, IsQuoteMarker, ItemShape, OpenLeaf}
 use Rattle.md_events.specs.Events.Spelled.{LeafRole, OrderedShape, Purpose, Reading, Role, Shape, TextRole, Text}
 use Rattle.md_events.specs.Events.Spelled.{UnorderedShape, at_ending, begun, is_ordered, left, next_line, on_leaf, read}
-use Rattle.md_events.specs.Events.Spelled.{read_by, role, text_to, told, told_at}
-use Rattle.md_events.specs.Events.Told.{OfItself, OfLeaf, Told, told_of}
+use Rattle.md_events.specs.Events.Spelled.{read_by, role, text_to, recorded, recorded_at}
+use Rattle.md_events.specs.Events.Recorded.{OfItself, OfLeaf, Recorded, recorded_in}
 use Rattle.md_events.specs.Events.Nested.{exit}
-use Rattle.md_events.proofs.ToldLemmas.{told-noted}
-use Rattle.md_containers.specs.ItemsStand.{AmongBlocks, InFront, InLabel, InLeaf, InMarker, InText, Inner, IsForItself}
-use Rattle.md_containers.specs.ItemsStand.{IsForLeaf, IsMarkerAt, IsOfItself, IsOfLeaf, Site, is_list_marker}
-use Rattle.md_containers.specs.Listed.{Begins, Ends, Place, Stays, Turn, given_by, goes_on}
+use Rattle.md_events.proofs.RecordedLemmas.{recorded-noted}
+use Rattle.md_containers.specs.ItemsAllowed.{AmongBlocks, InFront, InLabel, InLeaf, InMarker, InText, Inner}
+use Rattle.md_containers.specs.ItemsAllowed.{IsForItself, IsForLeaf, IsMarkerAt, IsOfItself, IsOfLeaf, Site}
+use Rattle.md_containers.specs.ItemsAllowed.{is_list_marker}
+use Rattle.md_containers.specs.Listed.{Begins, Ends, Place, Stays, Turn, given_by, is_continued}
 use Rattle.md_containers.specs.Listed.{list_begin, list_end, list_name, place_by, turn}
 use Rattle.md_containers.proofs.GroupedLemmas.{NoLists}
 
@@ -154,7 +155,7 @@ begun_list false marker r = entered_list marker r
 
 abbrev pub ended_list : List ℕ → Option ℕ → Reading → Reading
 ended_list [] next r = r
-ended_list (marker ∷ markers) next r = if goes_on marker next then r else left r.outer r
+ended_list (marker ∷ markers) next r = if is_continued marker next then r else left r.outer r
 
 -- what is read of an event with the begins and ends of lists around it
 abbrev pub read_turn : Turn → Place → ℕ → Option ℕ → (Reading → Reading) → Reading → Reading
@@ -188,7 +189,7 @@ read-turn bytes Ends place ahead next e r = go place.markers
 
     go : (markers : List ℕ) → read bytes s (list_end markers next e.point) ≡ ended_list markers next s
     go [] = refl
-    go (m ∷ markers) = by (goes_on m next)
+    go (m ∷ markers) = by (is_continued m next)
       where
         by : (x : Bool) →
             read bytes s (if x then [] else exit (list_name m) e.point ∷ []) ≡ (if x then s else left s.outer s)
@@ -208,34 +209,34 @@ Passes Exit (LeafRole kind) = ⊥
 Passes Exit (TextRole purpose) = IsOfLeaf purpose
 Passes Exit _ = Unit {0}
 
-pub of-leaf : (purpose : Purpose) → IsOfLeaf purpose → told_of purpose ≡ OfLeaf
-of-leaf purpose h = go (told_of purpose) h
+pub of-leaf : (purpose : Purpose) → IsOfLeaf purpose → recorded_in purpose ≡ OfLeaf
+of-leaf purpose h = go (recorded_in purpose) h
   where
-    go : (t : Told) → IsForLeaf t → t ≡ OfLeaf
+    go : (t : Recorded) → IsForLeaf t → t ≡ OfLeaf
     go OfLeaf h = refl
     go _ h = absurd h
 
-pub of-itself : (purpose : Purpose) → IsOfItself purpose → told_of purpose ≡ OfItself
-of-itself purpose h = go (told_of purpose) h
+pub of-itself : (purpose : Purpose) → IsOfItself purpose → recorded_in purpose ≡ OfItself
+of-itself purpose h = go (recorded_in purpose) h
   where
-    go : (t : Told) → IsForItself t → t ≡ OfItself
+    go : (t : Recorded) → IsForItself t → t ≡ OfItself
     go OfItself h = refl
     go _ h = absurd h
 
-pub told-moved : (purpose : Purpose) → IsOfLeaf purpose →
+pub recorded-moved : (purpose : Purpose) → IsOfLeaf purpose →
     (line : Line) (r : Reading) (outer : List OpenContainer) (here : Blocks) →
-    told purpose line (moved r outer here) ≡ moved (told purpose line r) outer here
-told-moved purpose h line r outer here =
-    told-noted purpose (of-leaf purpose h) line (moved r outer here)
-    ∙ ap (λ (s : Reading). moved s outer here) (sym (told-noted purpose (of-leaf purpose h) line r))
+    recorded purpose line (moved r outer here) ≡ moved (recorded purpose line r) outer here
+recorded-moved purpose h line r outer here =
+    recorded-noted purpose (of-leaf purpose h) line (moved r outer here)
+    ∙ ap (λ (s : Reading). moved s outer here) (sym (recorded-noted purpose (of-leaf purpose h) line r))
 
-pub told_at-moved : (bytes : List ℕ) (purpose : Purpose) → IsOfLeaf purpose →
+pub recorded_at-moved : (bytes : List ℕ) (purpose : Purpose) → IsOfLeaf purpose →
     (p : Point) (text : Option Text) (r : Reading)
     (outer : List OpenContainer) (here : Blocks) →
-    told_at bytes purpose p text (moved r outer here) ≡ moved (told_at bytes purpose p text r) outer here
-told_at-moved bytes purpose h p None r outer here = refl
-told_at-moved bytes purpose h p (Some text) r outer here =
-    told-moved purpose h (record { spaces = text.spaces; text = text_to bytes p.index text })
+    recorded_at bytes purpose p text (moved r outer here) ≡ moved (recorded_at bytes purpose p text r) outer here
+recorded_at-moved bytes purpose h p None r outer here = refl
+recorded_at-moved bytes purpose h p (Some text) r outer here =
+    recorded-moved purpose h (record { spaces = text.spaces; text = text_to bytes p.index text })
     (record r { text = None }) outer here
 
 pub ending-moved : (bytes : List ℕ) (p : Point) (text : Option Text) (r : Reading) (outer : List OpenContainer)
@@ -256,7 +257,7 @@ passes-moved bytes Enter IsQuoteMarker p h r outer here = absurd h
 passes-moved bytes Enter _ p h r outer here = refl
 passes-moved bytes Exit (ContainerRole shape) p h r outer here = absurd h
 passes-moved bytes Exit (LeafRole kind) p h r outer here = absurd h
-passes-moved bytes Exit (TextRole purpose) p h r outer here = told_at-moved bytes purpose h p r.text r outer here
+passes-moved bytes Exit (TextRole purpose) p h r outer here = recorded_at-moved bytes purpose h p r.text r outer here
 passes-moved bytes Exit IsEnding p h r outer here = ending-moved bytes p r.text r outer here
 passes-moved bytes Exit _ p h r outer here = refl
 

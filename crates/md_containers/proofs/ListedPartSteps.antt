@@ -12,14 +12,14 @@ use Rattle.md_meaning.specs.State.{then_block}
 use Rattle.md_meaning.specs.Texts.{first_byte}
 use Rattle.md_meaning.specs.Tree.{Block, Blocks, End, Line}
 use Rattle.md_events.specs.Events.Spelled.{OpenContainer, AsDigits, AsFootnoteLabel, AsItemMarker, BreakLeaf}
-use Rattle.md_events.specs.Events.Spelled.{ContainerRole, IsEnding, IsPrefix, IsQuiet, IsQuoteMarker, ItemShape, OpenLeaf}
-use Rattle.md_events.specs.Events.Spelled.{LeafRole, Purpose, Reading, Role, Shape, TextRole, Text, at_ending, begun}
-use Rattle.md_events.specs.Events.Spelled.{block_of, finished, named, next_line, on_leaf, on_shape, read_by, text_to}
-use Rattle.md_events.specs.Events.Spelled.{told_at, after_prefix, before_prefix, noted}
-use Rattle.md_events.specs.Events.Told.{block_told}
-use Rattle.md_events.proofs.ToldLemmas.{told-block, told-noted}
-use Rattle.md_containers.specs.ItemsStand.{AmongBlocks, InFront, InLabel, InLeaf, InMarker, InText, Inner, IsBetween}
-use Rattle.md_containers.specs.ItemsStand.{IsMarkerAt, IsOfLeaf, IsPart, MayBegin, MayEnd, is_list_marker, site_after}
+use Rattle.md_events.specs.Events.Spelled.{ContainerRole, IsEnding, IsPrefix, IsQuiet, IsQuoteMarker, ItemShape}
+use Rattle.md_events.specs.Events.Spelled.{OpenLeaf, LeafRole, Purpose, Reading, Role, Shape, TextRole, Text, at_ending}
+use Rattle.md_events.specs.Events.Spelled.{begun, block_of, finished, named, next_line, on_leaf, on_shape, read_by}
+use Rattle.md_events.specs.Events.Spelled.{text_to, recorded_at, after_prefix, before_prefix, noted}
+use Rattle.md_events.specs.Events.Recorded.{block_recorded}
+use Rattle.md_events.proofs.RecordedLemmas.{recorded-block, recorded-noted}
+use Rattle.md_containers.specs.ItemsAllowed.{AmongBlocks, InFront, InLabel, InLeaf, InMarker, InText, Inner, IsBetween}
+use Rattle.md_containers.specs.ItemsAllowed.{IsMarkerAt, IsOfLeaf, IsPart, MayBegin, MayEnd, is_list_marker, site_after}
 use Rattle.md_containers.specs.Listed.{Stays, Turn, marker_by, next_by, place_by, turn}
 use Rattle.md_containers.proofs.GroupedLemmas.{IsOther, NoLists, grouped-other, no-lists-then, other-is-no-list}
 use Rattle.md_containers.proofs.ListedOpen.{Agree, AgreeFront, Apart, IsBegun, IsItemOf, IsNoItem, Known, OpenList}
@@ -40,32 +40,32 @@ IsOfHolder _ = ⊥
 abbrev pub fields : List OpenContainer → Blocks → Option OpenLeaf → Option Text → Reading
 fields outer here leaf text = record { outer = outer; here = here; leaf = leaf; text = text }
 
-pub holder-told : (bytes : List ℕ) (purpose : Purpose) → IsOfHolder purpose → (p : Point) (ls : List OpenList)
+pub holder-recorded : (bytes : List ℕ) (purpose : Purpose) → IsOfHolder purpose → (p : Point) (ls : List OpenList)
     (outer : List OpenContainer) (here : Blocks) (leaf : Option OpenLeaf) (text : Option Text) (held : List Bool) →
     read_by bytes Exit (TextRole purpose) p (as_listed None held ls (fields outer here leaf text))
     ≡ as_listed None held ls (read_by bytes Exit (TextRole purpose) p (fields outer here leaf text))
-holder-told bytes purpose h p ls outer here leaf None held = refl
-holder-told bytes AsDigits h p ls outer here leaf (Some text) held =
+holder-recorded bytes purpose h p ls outer here leaf None held = refl
+holder-recorded bytes AsDigits h p ls outer here leaf (Some text) held =
     ap (λ (o : List OpenContainer). fields o (grouped here) leaf None)
     (shape-listed (named AsDigits (text_to bytes p.index text)) held ls outer)
-holder-told bytes AsItemMarker h p ls outer here leaf (Some text) held =
+holder-recorded bytes AsItemMarker h p ls outer here leaf (Some text) held =
     ap (λ (o : List OpenContainer). fields o (grouped here) leaf None)
     (shape-listed (named AsItemMarker (text_to bytes p.index text)) held ls outer)
-holder-told bytes AsFootnoteLabel h p ls outer here leaf (Some text) held =
+holder-recorded bytes AsFootnoteLabel h p ls outer here leaf (Some text) held =
     ap (λ (o : List OpenContainer). fields o (grouped here) leaf None)
     (shape-listed (named AsFootnoteLabel (text_to bytes p.index text)) held ls outer)
-holder-told bytes _ h p ls outer here leaf (Some text) held = absurd h
+holder-recorded bytes _ h p ls outer here leaf (Some text) held = absurd h
 
 -- such an end, and what is known after it
-pub holder-tells : (bytes : List ℕ) (purpose : Purpose) → IsOfHolder purpose → (p : Point) (ls : List OpenList)
+pub holder-records : (bytes : List ℕ) (purpose : Purpose) → IsOfHolder purpose → (p : Point) (ls : List OpenList)
     (r : Reading) (ahead : ℕ) (next : Option ℕ) (held : List Bool) (inner : Inner) →
     Known bytes (record { held = held; inner = inner }) None ls (read_by bytes Exit (TextRole purpose) p r) ahead next →
     Stepped bytes Exit (TextRole purpose) p None ls r ahead next held (record { held = held; inner = inner })
-holder-tells bytes purpose h p ls r ahead next held inner known = record {
+holder-records bytes purpose h p ls r ahead next held inner known = record {
   lists = ls;
   within = None;
   place = refl;
-  reads = holder-told bytes purpose h p ls r.outer r.here r.leaf r.text held;
+  reads = holder-recorded bytes purpose h p ls r.outer r.here r.leaf r.text held;
   known = known;
 }
 
@@ -198,7 +198,7 @@ pub front-end : (bytes : List ℕ) (x : Role) (p : Point) (ls : List OpenList) (
 front-end bytes IsQuiet p ls r ahead next held may known =
     passed bytes Exit IsQuiet p None ls r ahead next held InFront tt known.agree known.lists known.inner
 front-end bytes (TextRole AsDigits) p ls r ahead next held may known =
-    holder-tells bytes AsDigits tt p ls r ahead next held InFront
+    holder-records bytes AsDigits tt p ls r ahead next held InFront
     (digits-known bytes p ls r.outer r.here r.leaf r.text ahead next held known)
 front-end bytes _ p ls r ahead next held may known = absurd may
 
@@ -208,7 +208,7 @@ pub marker-end : (bytes : List ℕ) (x : Role) (p q : Point) (ls : List OpenList
     Stepped bytes Exit x p None ls r ahead next held
     (site_after (record { held = held; inner = InMarker q }) Exit x p)
 marker-end bytes (TextRole AsItemMarker) p q ls r ahead other next now held may known =
-    holder-tells bytes AsItemMarker tt p ls r ahead next held AmongBlocks
+    holder-records bytes AsItemMarker tt p ls r ahead next held AmongBlocks
     (marker-known bytes p q ls r.outer r.here r.leaf r.text ahead next held may known.agree known.lists known.inner.0
     known.inner.1 known.inner.2 known.inner.3)
 marker-end bytes _ p q ls r ahead other next now held may known = absurd may
@@ -241,7 +241,7 @@ pub label-end : (bytes : List ℕ) (x : Role) (p : Point) (ls : List OpenList) (
     Stepped bytes Exit x p None ls r ahead next held
     (site_after (record { held = held; inner = InLabel }) Exit x p)
 label-end bytes (TextRole AsFootnoteLabel) p ls r ahead other next now held may known =
-    holder-tells bytes AsFootnoteLabel tt p ls r ahead next held AmongBlocks
+    holder-records bytes AsFootnoteLabel tt p ls r ahead next held AmongBlocks
     (label-known bytes p ls r.outer r.here r.leaf r.text ahead next held known.agree known.lists known.inner)
 label-end bytes (ContainerRole shape) p ls r ahead other next now held may known = absurd may
 label-end bytes (LeafRole kind) p ls r ahead other next now held may known = absurd may
@@ -264,12 +264,12 @@ HasLeaf r = (leaf : OpenLeaf) × (r.leaf ≡ Some leaf)
 pub changed-leaf : (f : OpenLeaf → OpenLeaf) (r : Reading) → HasLeaf r → HasLeaf (on_leaf f r)
 changed-leaf f r h = (f h.0, ap (option_map f) h.1)
 
-pub told-leaf : (bytes : List ℕ) (purpose : Purpose) → IsOfLeaf purpose →
-    (p : Point) (text : Option Text) (r : Reading) → HasLeaf r → HasLeaf (told_at bytes purpose p text r)
-told-leaf bytes purpose h p None r leaf = leaf
-told-leaf bytes purpose h p (Some text) r leaf =
+pub recorded-leaf : (bytes : List ℕ) (purpose : Purpose) → IsOfLeaf purpose →
+    (p : Point) (text : Option Text) (r : Reading) → HasLeaf r → HasLeaf (recorded_at bytes purpose p text r)
+recorded-leaf bytes purpose h p None r leaf = leaf
+recorded-leaf bytes purpose h p (Some text) r leaf =
     let line : Line = record { spaces = text.spaces; text = text_to bytes p.index text } in
-    subst HasLeaf (sym (told-noted purpose (of-leaf purpose h) line (record r { text = None })))
+    subst HasLeaf (sym (recorded-noted purpose (of-leaf purpose h) line (record r { text = None })))
     (changed-leaf (noted purpose line) (record r { text = None }) leaf)
 
 pub ending-leaf : (bytes : List ℕ) (p : Point) (text : Option Text) (r : Reading) → HasLeaf r →
@@ -286,7 +286,7 @@ pub part-leaf : (bytes : List ℕ) (kind : Kind) (x : Role) (p : Point) → IsPa
     HasLeaf (read_by bytes kind x p r)
 part-leaf bytes kind (ContainerRole shape) p h r leaf = absurd h
 part-leaf bytes kind (LeafRole k) p h r leaf = absurd h
-part-leaf bytes Exit (TextRole purpose) p h r leaf = told-leaf bytes purpose h p r.text r leaf
+part-leaf bytes Exit (TextRole purpose) p h r leaf = recorded-leaf bytes purpose h p r.text r leaf
 part-leaf bytes Exit IsEnding p h r leaf = ending-leaf bytes p r.text r leaf
 part-leaf bytes Enter IsQuoteMarker p h r leaf = subst HasLeaf (sym (marker-in_leaf bytes p r leaf.0 leaf.1)) leaf
 part-leaf bytes Enter _ p h r leaf = first_of (search, search (changed-leaf))
@@ -414,10 +414,10 @@ pub text-end : (bytes : List ℕ) (x : Role) (p : Point) (ls : List OpenList) (r
     (site_after (record { held = held; inner = InText }) Exit x p)
 text-end bytes (TextRole purpose) p ls r ahead other next now held may known =
     added bytes (TextRole purpose) p ls r ahead next held
-    (block_told (text_to bytes p.index known.inner.0)) r.leaf None refl tt refl known.agree known.lists
+    (block_recorded (text_to bytes p.index known.inner.0)) r.leaf None refl tt refl known.agree known.lists
     (λ outer here.
-    ap (λ (t : Option Text). told_at bytes purpose p t (moved r outer here)) known.inner.1
-    ∙ told-block purpose (of-itself purpose may)
+    ap (λ (t : Option Text). recorded_at bytes purpose p t (moved r outer here)) known.inner.1
+    ∙ recorded-block purpose (of-itself purpose may)
     (record { spaces = known.inner.0.spaces; text = text_to bytes p.index known.inner.0 })
     (record (moved r outer here) { text = None }))
 text-end bytes (ContainerRole shape) p ls r ahead other next now held may known = absurd may

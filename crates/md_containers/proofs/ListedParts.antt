@@ -15,8 +15,8 @@ use Rattle.md_events.specs.declared.inline.PartKind.{PartKind}
 use Rattle.md_events.specs.Events.Inline.{Part, Piece, pieces, pieces_from}
 use Rattle.md_events.specs.Events.Nested.{exit, is_exit}
 use Rattle.md_events.specs.Events.Places.{first_point}
-use Rattle.md_events.specs.Events.Tiles.{chunks, inside_part, is_part, links_kind, part_at, part_end, part_kind, part_of}
-use Rattle.md_events.specs.Events.Tiles.{part_stands, parts, parts_stand}
+use Rattle.md_events.specs.Events.Tiles.{chunks, inside_part, is_part, links_kind, part_at, part_end, part_kind}
+use Rattle.md_events.specs.Events.Tiles.{part_of, is_whole_part, parts, are_whole_parts}
 
 -- What is in a text part that is open.
 
@@ -136,35 +136,36 @@ parts-unmoved = record {
 pub listed-parts : (bytes : List ℕ) (events : List Event) → parts (listed bytes events) ≡ parts events
 listed-parts bytes events = unmoved parts-unmoved bytes outside events tt
 
-stand-same : (text bytes : List ℕ) (place : Place) (kind : Kind) (part : Option PartKind) (p : Point)
+are_valid-same : (text bytes : List ℕ) (place : Place) (kind : Kind) (part : Option PartKind) (p : Point)
     (es : List Event) →
-    part_stands text kind part p (listed_from bytes place es) ≡ part_stands text kind part p es
-stand-same text bytes place Enter (Some kind) p es =
+    is_whole_part text kind part p (listed_from bytes place es) ≡ is_whole_part text kind part p es
+are_valid-same text bytes place Enter (Some kind) p es =
     rw (
       inside-pieces bytes place es,
       unmoved end-unmoved bytes place es tt,
       unmoved (links-unmoved kind) bytes place es tt,
     )
     refl
-stand-same text bytes place Enter None p es = refl
-stand-same text bytes place Exit part p es = refl
+are_valid-same text bytes place Enter None p es = refl
+are_valid-same text bytes place Exit part p es = refl
 
-stand-unmoved : (text : List ℕ) → Unmoved (Unit {0}) Bool (λ s es. parts_stand text es)
-stand-unmoved text = record {
+are_valid-unmoved : (text : List ℕ) → Unmoved (Unit {0}) Bool (λ s es. are_whole_parts text es)
+are_valid-unmoved text = record {
   begins = λ s e within m es lists h.
       with-begin
       (λ (xs : List Event).
-      parts_stand text (xs ++ record e { kind = Enter; name = n.ListItem } ∷ lists) ≡ parts_stand text es)
+      are_whole_parts text (xs ++ record e { kind = Enter; name = n.ListItem } ∷ lists) ≡ are_whole_parts text es)
       within m e.point (h tt) (h tt) (h tt);
   ends = λ s e markers next es lists h.
-      with-end (λ (xs : List Event). parts_stand text (xs ++ lists) ≡ parts_stand text es) markers next e.point
+      with-end (λ (xs : List Event). are_whole_parts text (xs ++ lists) ≡ are_whole_parts text es) markers next e.point
       (h tt) (h tt) (h tt);
   passes = λ s bytes place e es h.
-      ap (λ (b : Bool). part_stands text e.kind (part_kind e.name) e.point (listed_from bytes place es) && b) (h tt)
-      ∙ ap (λ (b : Bool). b && parts_stand text es) (stand-same text bytes place e.kind (part_kind e.name) e.point es);
+      ap (λ (b : Bool). is_whole_part text e.kind (part_kind e.name) e.point (listed_from bytes place es) && b) (h tt)
+      ∙ ap (λ (b : Bool). b && are_whole_parts text es)
+      (are_valid-same text bytes place e.kind (part_kind e.name) e.point es);
 }
 
 -- and are as they did
-pub listed-stands : (text bytes : List ℕ) (events : List Event) →
-    parts_stand text (listed bytes events) ≡ parts_stand text events
-listed-stands text bytes events = unmoved (stand-unmoved text) bytes outside events tt
+pub listed-valid : (text bytes : List ℕ) (events : List Event) →
+    are_whole_parts text (listed bytes events) ≡ are_whole_parts text events
+listed-valid text bytes events = unmoved (are_valid-unmoved text) bytes outside events tt

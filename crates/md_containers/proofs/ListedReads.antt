@@ -8,8 +8,8 @@ use Rattle.md_engine.specs.declared.event.Point.{Point}
 use Rattle.md_meaning.specs.Grouped.{grouped}
 use Rattle.md_events.specs.Events.Spelled.{Reading, Role, read, read_by, role, spelled, unread}
 use Rattle.md_events.proofs.SpelledLemmas.{read-append}
-use Rattle.md_containers.specs.ItemsStand.{AmongBlocks, InFront, InLabel, InLeaf, InMarker, InText, Inner, ItemsStand}
-use Rattle.md_containers.specs.ItemsStand.{MayStand, Site, root, site_after}
+use Rattle.md_containers.specs.ItemsAllowed.{AmongBlocks, InFront, InLabel, InLeaf, InMarker, InText, Inner}
+use Rattle.md_containers.specs.ItemsAllowed.{ItemsAllowed, MayBeHere, Site, root, site_after}
 use Rattle.md_containers.specs.Listed.{Place, given, listed, listed_from, marker_ahead, marker_by, next_by, next_item}
 use Rattle.md_containers.specs.Listed.{place_after, turn}
 use Rattle.md_containers.proofs.ListedOpen.{OpenList, as_listed, place_of, Knows, Known, read-turn, Stepped}
@@ -21,7 +21,7 @@ use Rattle.md_containers.proofs.ListedPartSteps.{marker-end, text-begin, text-en
 
 step : (bytes : List ℕ) (inner : Inner) (kind : Kind) (x : Role) (p : Point) (w : Option OpenList)
     (ls : List OpenList) (r : Reading) (ahead : ℕ) (next : Option ℕ) (held : List Bool) →
-    MayStand bytes (record { held = held; inner = inner }) kind x p →
+    MayBeHere bytes (record { held = held; inner = inner }) kind x p →
     Known bytes (record { held = held; inner = inner }) w ls r
     (marker_by kind x (get_or bytes p.index 0) ahead) (next_by kind x ahead next) →
     Stepped bytes kind x p w ls r ahead next held
@@ -57,18 +57,18 @@ at-end bytes AmongBlocks held (Some l) ls r known = none-some l.marker known.0
 at-end bytes _ held (Some l) ls r known = absurd known
 
 walk : (bytes : List ℕ) (es : List Event) (site : Site) (w : Option OpenList) (ls : List OpenList) (r : Reading) →
-    ItemsStand bytes site es → Known bytes site w ls r (marker_ahead bytes es) (next_item bytes es) →
+    ItemsAllowed bytes site es → Known bytes site w ls r (marker_ahead bytes es) (next_item bytes es) →
     (read bytes (as_listed w site.held ls r) (listed_from bytes (place_of w ls) es)).here
     ≡ grouped (read bytes r es).here
-walk bytes [] site w ls r stand known = at-end bytes site.inner site.held w ls r known.inner
-walk bytes (e ∷ es) site w ls r stand known =
+walk bytes [] site w ls r are_valid known = at-end bytes site.inner site.held w ls r known.inner
+walk bytes (e ∷ es) site w ls r are_valid known =
     let ahead : ℕ = marker_ahead bytes es in
     let next : Option ℕ = next_item bytes es in
     let x : Role = role e.name in
     let place : Place = place_of w ls in
-    let behind : Site = site_after site e.kind x e.point in
-    let s : Stepped bytes e.kind x e.point w ls r ahead next site.held behind =
-    step bytes site.inner e.kind x e.point w ls r ahead next site.held stand.0 known in
+    let following : Site = site_after site e.kind x e.point in
+    let s : Stepped bytes e.kind x e.point w ls r ahead next site.held following =
+    step bytes site.inner e.kind x e.point w ls r ahead next site.held are_valid.0 known in
     ap (λ (t : Reading). t.here)
     (read-append bytes (as_listed w site.held ls r) (given bytes place e es)
     (listed_from bytes (place_after bytes place e es) es)
@@ -76,15 +76,15 @@ walk bytes (e ∷ es) site w ls r stand known =
     (read-turn bytes (turn e.kind x) place ahead next e (as_listed w site.held ls r) ∙ s.reads)
     ∙ ap
     (λ (place : Place).
-    read bytes (as_listed s.within behind.held s.lists (read_by bytes e.kind x e.point r))
+    read bytes (as_listed s.within following.held s.lists (read_by bytes e.kind x e.point r))
     (listed_from bytes place es)) s.place)
-    ∙ walk bytes es behind s.within s.lists (read_by bytes e.kind x e.point r) stand.1 s.known
+    ∙ walk bytes es following s.within s.lists (read_by bytes e.kind x e.point r) are_valid.1 s.known
 
 -- With lists around their items, events are read as what they are read as, grouped: if blocks are in containers alone,
 -- each item begins with its marker, and no list is yet.
-pub listed-spelled : (bytes : List ℕ) (events : List Event) → ItemsStand bytes root events →
+pub listed-spelled : (bytes : List ℕ) (events : List Event) → ItemsAllowed bytes root events →
     spelled (listed bytes events) bytes ≡ grouped (spelled events bytes)
 unfolding spelled
-listed-spelled bytes events stand =
-    walk bytes events root None [] unread stand
+listed-spelled bytes events are_valid =
+    walk bytes events root None [] unread are_valid
     (record { agree = tt; lists = tt; inner = λ m e. apart-end m })

@@ -5,7 +5,7 @@ use Rattle.md_engine.specs.declared.event.Name.{Name}
 use Rattle.md_engine.specs.declared.event.Name.TheVariants as n
 use Rattle.md_engine.specs.declared.event.Point.{Point}
 use Rattle.md_containers.specs.ItemsHeld.{ItemsHeld}
-use Rattle.md_containers.specs.ItemsStand.{ItemsStand, root}
+use Rattle.md_containers.specs.ItemsAllowed.{ItemsAllowed, root}
 use Rattle.md_containers.specs.Listed.{listed}
 use Rattle.md_containers.specs.Unlisted.{keeps_unlisted}
 use Rattle.md_events.specs.Events.Grammar.{plain_text}
@@ -62,7 +62,7 @@ prefix i =
 -- The events of a text with its lists are those without, listed; and those without are as it is asked of them.
 abbrev IsRow : List ℕ → List Event → Type 0
 IsRow text events =
-    (listed text (without_lists events) ≡ events) × ItemsStand text root (without_lists events)
+    (listed text (without_lists events) ≡ events) × ItemsAllowed text root (without_lists events)
     × ItemsHeld [] (without_lists events) × (keeps_unlisted plain_text (without_lists events) ≡ true)
 
 -- one list
@@ -118,7 +118,7 @@ unfolding keeps_unlisted
 row-nested = (refl, search rules, search rules, refl)
 
 -- a list in an item is another than the one after that item
-row-behind : IsRow (codes "+ - a" ++ 10 ∷ codes "- b")
+row-following : IsRow (codes "+ - a" ++ 10 ∷ codes "- b")
     (list 0 5 (bullet 0 5 (list 2 5 (bullet 2 5 (line 4)))) ++ ending 5 ++ list 6 9 (bullet 6 9 (line 8)))
 unfolding keeps_unlisted
-row-behind = (refl, search rules, search rules, refl)
+row-following = (refl, search rules, search rules, refl)

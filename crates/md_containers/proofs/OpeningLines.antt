@@ -9,7 +9,7 @@ use Rattle.md_engine.specs.declared.event.Name.TheVariants as n
 use Rattle.md_engine.specs.declared.event.Point.{Point}
 use Rattle.md_engine.specs.declared.tokenizer.Line.{Line}
 use Rattle.md_engine.specs.Meaning.{Cell}
-use Rattle.md_containers.proofs.AlertLines.{alert-agrees, alert-has, behind_alert_of}
+use Rattle.md_containers.proofs.AlertLines.{alert-agrees, alert-has, after_alert_of}
 pub use Rattle.md_containers.proofs.AlertLines.{IsMarker, IsMarkerIf, marker-kind, marker-none}
 use Rattle.md_containers.specs.QuoteRule.{alert_end, alert_events, alert_of, alert_rest, front_events, opening_end}
 use Rattle.md_containers.specs.QuoteRule.{opening_events, opening_kind, opening_rest, prefix_end, prefix_rest}
@@ -20,12 +20,12 @@ use Rattle.md_containers.proofs.QuoteLines.{quote-no_ending, taken-left}
 use Rattle.md_meaning.specs.declared.alert.AlertKind.{AlertKind}
 use Rattle.md_meaning.specs.Alert.{alert_at, marker_of}
 use Rattle.md_meaning.specs.Containers.{Taken, quote_taken, taken_as, with_kind}
-use Rattle.md_meaning.specs.Rest.{Rest, behind, behind_indent, indent, lose, tab_columns, without_column}
+use Rattle.md_meaning.specs.Rest.{Rest, following, after_indent, indent, lose, tab_columns, without_column}
 use Rattle.md_meaning.specs.State.{InQuote}
 use Rattle.md_meaning.proofs.TextsLemmas.{NoEnding}
 use Rattle.md_events.specs.Events.Nested.{exit}
 use Rattle.md_events.proofs.FeedLines.{Stops}
-use Rattle.md_events.proofs.RestCells.{RestAt, behind-no_ending, lose-no_ending, past_rest, rest_cells}
+use Rattle.md_events.proofs.RestCells.{RestAt, following-no_ending, lose-no_ending, past_rest, rest_cells}
 
 -- The prefix of the line on which a quote of this kind opens, from a point to a point.
 pub record IsOpening (bytes : List ℕ) (kind : Option AlertKind) (p q : Point) (es : List Event) : Type 0 where
@@ -44,7 +44,7 @@ pub record HasOpeningPrefix (options : ParseOptions) (line : Line) (text past : 
     pub takes : takes_prefix options cells ≡ true
     pub kind : taken.container ≡ InQuote (opening_kind options cells)
     pub fed : opening_rest options cells ≡ rest_cells line taken.rest (opening_end options cells p) ++ stop
-    pub stands : RestAt text past taken.rest (opening_end options cells p)
+    pub valid : RestAt text past taken.rest (opening_end options cells p)
     pub ends : past_rest taken.rest (opening_end options cells p) ≡ end
     pub opening :
         IsOpening text (opening_kind options cells) p (opening_end options cells p) (opening_events options cells p)
@@ -64,7 +64,7 @@ record HasOpened (options : ParseOptions) (line : Line) (text past : List ℕ) (
     (p : Point) (kind : Option AlertKind) (taken : Taken) : Type 0 where
   container : taken.container ≡ InQuote kind
   fed : alert_rest options kind cells ≡ rest_cells line taken.rest (alert_end options kind cells p) ++ stop
-  stands : RestAt text past taken.rest (alert_end options kind cells p)
+  valid : RestAt text past taken.rest (alert_end options kind cells p)
   ends : past_rest taken.rest (alert_end options kind cells p) ≡ end
   marker : IsMarkerIf text kind p (alert_end options kind cells p) (alert_events options kind cells p)
 
@@ -75,10 +75,10 @@ opened : (options : ParseOptions) (line : Line) (text past : List ℕ) (t : Take
     HasOpened options line text past (past_rest t.rest p) stop (rest_cells line t.rest p ++ stop) p kind
     (taken_as t kind)
 opened options line text past t stop p None is h k short quote e =
-    record { container = quote; fed = refl; stands = is; ends = refl; marker = (refl, refl) }
+    record { container = quote; fed = refl; valid = is; ends = refl; marker = (refl, refl) }
 opened options line text past t stop p (Some kind) is h k short quote e =
     let has = alert-has options line text past t.rest stop p kind is h k short e in
-    record { container = refl; fed = has.fed; stands = has.stands; ends = has.ends; marker = has.marker }
+    record { container = refl; fed = has.fed; valid = has.valid; ends = has.ends; marker = has.marker }
 
 -- such a prefix is on the cells of a line where it is on its bytes
 pub opening-agrees : (options : ParseOptions) (line : Line) (text past : List ℕ) (r : Rest) (stop : List Cell)
@@ -109,7 +109,7 @@ opening-agrees options line text past r stop p is h k short =
       takes = has.takes;
       kind = o.container;
       fed = o.fed;
-      stands = o.stands;
+      valid = o.valid;
       ends = o.ends;
       opening = record {
         middle = q;
@@ -134,13 +134,13 @@ opening-agrees options line text past r stop p is h k short =
         let no_ending = quote-no_ending options None r t h e in
         let kind : opening_kind options cells ≡ alert_at options t.rest =
         ap (alert_of options) has.fed
-        ∙ alert-agrees options line text past t.rest stop q has.stands no_ending k less in
+        ∙ alert-agrees options line text past t.rest stop q has.valid no_ending k less in
         let one : Opened t from (alert_at options t.rest) =
         subst
         (λ (end : Point).
         HasOpened options line text past end stop from q (alert_at options t.rest)
         (taken_as t (alert_at options t.rest))) has.ends
-        (opened options line text past t stop q (alert_at options t.rest) has.stands no_ending k less
+        (opened options line text past t stop q (alert_at options t.rest) has.valid no_ending k less
         (quote-container options None r t e) refl) in
         whole t has
         (subst (λ (l : List Cell). Opened t l (opening_kind options cells)) (sym has.fed)
@@ -150,17 +150,17 @@ opening-agrees options line text past r stop p is h k short =
 
 -- by the kind, it is that of any line, or what is after the marker of an alert
 opening-left : (P : Rest → Type 0) (options : ParseOptions) (r : Rest) (taken : Taken) →
-    let s = lose 1 (behind 1 (behind_indent r)) in
-    P s → ((kind : AlertKind) → P (behind_alert_of kind s)) →
+    let s = lose 1 (following 1 (after_indent r)) in
+    P s → ((kind : AlertKind) → P (after_alert_of kind s)) →
     with_kind options (quote_taken options None r) ≡ Some taken → P taken.rest
 opening-left P options r taken none some e = go (quote_taken options None r) refl e
   where
     s : Rest
-    s = lose 1 (behind 1 (behind_indent r))
+    s = lose 1 (following 1 (after_indent r))
 
     by : (t : Taken) → t.rest ≡ s → (kind : Option AlertKind) → P (taken_as t kind).rest
     by t same None = subst P (sym same) none
-    by t same (Some kind) = subst (λ (x : Rest). P (behind_alert_of kind x)) (sym same) (some kind)
+    by t same (Some kind) = subst (λ (x : Rest). P (after_alert_of kind x)) (sym same) (some kind)
 
     go : (o : Option Taken) → quote_taken options None r ≡ o → with_kind options o ≡ Some taken → P taken.rest
     go None f e = cc
@@ -170,20 +170,20 @@ opening-left P options r taken none some e = go (quote_taken options None r) ref
         (by t (taken-left (λ x. x.rest ≡ s) options None r t refl f) (alert_at options t.rest))
 
 -- a line without an ending is left without one
-behind_alert-no_ending : (kind : AlertKind) (r : Rest) → NoEnding r.bytes → NoEnding (behind_alert_of kind r).bytes
-behind_alert-no_ending kind r h =
-    let from = behind_indent r in
-    let after = behind (length (marker_of kind)) from in
+after_alert-no_ending : (kind : AlertKind) (r : Rest) → NoEnding r.bytes → NoEnding (after_alert_of kind r).bytes
+after_alert-no_ending kind r h =
+    let from = after_indent r in
+    let after = following (length (marker_of kind)) from in
     lose-no_ending (indent after) after
-    (behind-no_ending (length (marker_of kind)) from (lose-no_ending (indent r) r h))
+    (following-no_ending (length (marker_of kind)) from (lose-no_ending (indent r) r h))
 
 pub opening-no_ending : (options : ParseOptions) (r : Rest) (taken : Taken) → NoEnding r.bytes →
     with_kind options (quote_taken options None r) ≡ Some taken → NoEnding taken.rest.bytes
 opening-no_ending options r taken h e =
-    let from = behind_indent r in
-    let left = lose-no_ending 1 (behind 1 from) (behind-no_ending 1 from (lose-no_ending (indent r) r h)) in
+    let from = after_indent r in
+    let left = lose-no_ending 1 (following 1 from) (following-no_ending 1 from (lose-no_ending (indent r) r h)) in
     opening-left (λ s. NoEnding s.bytes) options r taken left
-    (λ kind. behind_alert-no_ending kind (lose 1 (behind 1 from)) left) e
+    (λ kind. after_alert-no_ending kind (lose 1 (following 1 from)) left) e
 
 -- it is a column further at least
 abbrev rest : ℕ → ℕ → List ℕ → Rest
@@ -211,8 +211,8 @@ lose-onward (suc n) r =
       lose-onward n (without_column r.column r.spaces r.bytes),
     )
 
-marked-onward : (r : Rest) → r.column < (lose 1 (behind 1 (behind_indent r))).column
-marked-onward r = omega (arith, lose-onward (indent r) r, lose-onward 1 (behind 1 (behind_indent r)))
+marked-onward : (r : Rest) → r.column < (lose 1 (following 1 (after_indent r))).column
+marked-onward r = omega (arith, lose-onward (indent r) r, lose-onward 1 (following 1 (after_indent r)))
 
 -- the prefix of a quote takes a column at least
 pub quote-onward : (options : ParseOptions) (kind : Option AlertKind) (r : Rest) (taken : Taken) →

@@ -19,19 +19,19 @@ use Rattle.md_engine.specs.Place.{IsPlaced}
 use Rattle.md_engine.specs.Run.{Step, reading}
 use Rattle.md_engine.specs.World.{World, after, looks, looks_at}
 use Rattle.md_engine.proofs.ClassLemmas.{seen-here}
-use Rattle.md_engine.proofs.Loops.{CameTo}
+use Rattle.md_engine.proofs.Loops.{ArrivedAt}
 use Rattle.md_engine.proofs.Walks.{Within, then-holds, then-stays, then-takes, within-more, within-one}
 use Rattle.md_meaning.specs.Containers.{is_bullet, is_digit}
 use Rattle.md_containers.specs.Interrupts.{interrupts}
 use Rattle.md_meaning.specs.Rest.{is_white}
 use Rattle.md_containers.specs.Item as item
 use Rattle.md_containers.specs.PlainBullet.{IsPlainBullet, bulleted, byte_at}
-use Rattle.md_containers.proofs.Ahead.{StandsAhead, stands-ahead, text-after}
+use Rattle.md_containers.proofs.Ahead.{TwoAhead, valid-ahead, text-after}
 use Rattle.md_containers.proofs.ItemBeginMeaning.{bullet-dark}
 use Rattle.md_containers.proofs.PlainItem.{HasItem}
 use Rattle.md_leaves.specs.LeafStart as leaf
 use Rattle.md_events.specs.Events.Nested.{enter, exit}
-use Rattle.md_events.specs.Look.{behind_code, first_behind, first_other, is_other, looks_behind, sees_other}
+use Rattle.md_events.specs.Look.{following_code, first_following, first_other, is_other, looks_after, sees_other}
 use Rattle.md_events.specs.Spaces.{after_code, inside_code, sees_white, start_code, white_then}
 use Rattle.md_events.specs.Transition.{Transition, entered, exited, taken, tried}
 use Rattle.md_events.proofs.OneSpace.{HasWhite}
@@ -59,7 +59,7 @@ record SeesBullet (w : World) : Type 0 where
   next : (after w.setting (after w.setting w.point)).index < w.setting.limit
   dark : sees_white (looks_at w.setting (after w.setting (after w.setting w.point))) ≡ false
   -- the rest of the line is not blank
-  first : first_behind (slice_range w.setting.bytes (after w.setting w.point).index w.setting.limit) ≡
+  first : first_following (slice_range w.setting.bytes (after w.setting w.point).index w.setting.limit) ≡
       Some (byte_at w 2)
   not_end : nat_eq (byte_at w 2) 10 ≡ false
   -- and has another byte than the bullet
@@ -75,14 +75,15 @@ sees-bullet w plain = record {
   dark = rw (one, two) (ap sees_white (seen-here w.setting class.Text q low last) ∙ plain.dark);
   first =
       rw one
-      (ap first_behind second
-      ∙ ap first_behind rest
-      ∙ ap₂ (λ (x y : Bool). cond x (first_behind after_two) (Some (cond y 10 (byte_at w 2)))) plain.dark plain.filled);
+      (ap first_following second
+      ∙ ap first_following rest
+      ∙ ap₂ (λ (x y : Bool). cond x (first_following after_two) (Some (cond y 10 (byte_at w 2)))) plain.dark
+      plain.filled);
   not_end = ending.0;
   another =
       ap (λ (l : List ℕ). is_other (first_other marker l))
       (range-next w.setting.bytes w.point.index w.setting.limit (omega (arith, low)) (omega (arith, there)))
-      ∙ ap (λ (b : Bool). is_other (cond (b || is_white marker) (first_other marker behind) (Some marker)))
+      ∙ ap (λ (b : Bool). is_other (cond (b || is_white marker) (first_other marker following) (Some marker)))
       (eq-eqb marker marker refl)
       ∙ ap (λ (l : List ℕ). is_other (first_other marker l)) second
       ∙ ap (λ (b : Bool). is_other
@@ -140,13 +141,13 @@ sees-bullet w plain = record {
     marker = slice_index w.setting.bytes w.point.index
 
     -- the bytes after the marker, and those after the byte that follows the space
-    behind : List ℕ
-    behind = slice_range w.setting.bytes (w.point.index + 1) w.setting.limit
+    following : List ℕ
+    following = slice_range w.setting.bytes (w.point.index + 1) w.setting.limit
 
     after_two : List ℕ
     after_two = slice_range w.setting.bytes (w.point.index + 2 + 1) w.setting.limit
 
-    second : behind ≡ 32 ∷ slice_range w.setting.bytes (w.point.index + 1 + 1) w.setting.limit
+    second : following ≡ 32 ∷ slice_range w.setting.bytes (w.point.index + 1 + 1) w.setting.limit
     second =
         range-next w.setting.bytes (w.point.index + 1) w.setting.limit (omega (arith, low)) (omega (arith, there))
         ∙ ap (λ (b : ℕ). b ∷ slice_range w.setting.bytes (w.point.index + 1 + 1) w.setting.limit) plain.space
@@ -159,12 +160,12 @@ sees-bullet w plain = record {
 
 -- The bullet is first after whitespace.
 pub bullet-seen : (w : World) → w.current ≡ looks w → IsPlainBullet w →
-    looks_behind w ≡ Some (slice_index w.setting.bytes w.point.index)
-unfolding looks_behind
+    looks_after w ≡ Some (slice_index w.setting.bytes w.point.index)
+unfolding looks_after
 bullet-seen w seen plain =
-    let found : Option ℕ = first_behind (slice_range w.setting.bytes w.point.index w.setting.limit) in
+    let found : Option ℕ = first_following (slice_range w.setting.bytes w.point.index w.setting.limit) in
     let marker : ℕ = slice_index w.setting.bytes w.point.index in
-    ap (λ (o : Option ℕ). behind_code o found) (seen ∙ (sees-bullet w plain).here)
+    ap (λ (o : Option ℕ). following_code o found) (seen ∙ (sees-bullet w plain).here)
     ∙ ap (λ (x : Bool). cond x found (Some marker)) (bullet-dark marker plain.bullet)
 
 -- After its space something may be read.
@@ -186,22 +187,22 @@ module _ (next : StateName) (nok : State) (w : World) where
   in_prefix = entered in_item ListItemPrefix
 
   -- the marker is taken
-  abbrev behind_marker : World
-  behind_marker = exited (taken (entered in_prefix ListItemMarker)) ListItemMarker
+  abbrev after_marker : World
+  after_marker = exited (taken (entered in_prefix ListItemMarker)) ListItemMarker
 
   abbrev padding_frame : Frame
   padding_frame = record {
     ok = Next (n.ListItem its.After);
     nok = Next (n.ListItem its.PrefixOther);
     is_check = false;
-    events_len = length behind_marker.events;
-    point = behind_marker.point;
+    events_len = length after_marker.events;
+    point = after_marker.point;
   }
 
   -- the padding is tried,
   abbrev trying_padding : World
   trying_padding =
-      record (tried (reading behind_marker) (Next (n.ListItem its.After)) (Next (n.ListItem its.PrefixOther))) {
+      record (tried (reading after_marker) (Next (n.ListItem its.After)) (Next (n.ListItem its.PrefixOther))) {
         scratch = record w.scratch { seen = true };
       }
 
@@ -210,8 +211,8 @@ module _ (next : StateName) (nok : State) (w : World) where
     ok = Next (n.ListItem its.WhitespaceAfter);
     nok = Nok;
     is_check = false;
-    events_len = length behind_marker.events;
-    point = behind_marker.point;
+    events_len = length after_marker.events;
+    point = after_marker.point;
   }
 
   -- and in it whitespace
@@ -222,14 +223,14 @@ module _ (next : StateName) (nok : State) (w : World) where
   in_white = entered trying_white SpaceOrTab
 
   -- the space is taken
-  abbrev behind_space : World
-  behind_space = (inside_code in_white true).world
+  abbrev after_space : World
+  after_space = (inside_code in_white true).world
 
-  abbrev behind_white : World
-  behind_white = exited (reading behind_space) SpaceOrTab
+  abbrev following_white : World
+  following_white = exited (reading after_space) SpaceOrTab
 
   abbrev white_held : World
-  white_held = (after_code behind_white true).world
+  white_held = (after_code following_white true).world
 
   -- the padding is known to end there
   abbrev padded : World
@@ -248,43 +249,43 @@ module _ (next : StateName) (nok : State) (w : World) where
   within-in_prefix within =
       within-more (item_frame ∷ w.frames) in_item.events (enter ListItemPrefix w.point ∷ []) (within-in_item within)
 
-  within-behind_marker : Within w → Within behind_marker
-  within-behind_marker within =
-      within-more (item_frame ∷ w.frames) _ (exit ListItemMarker behind_marker.point ∷ [])
+  within-after_marker : Within w → Within after_marker
+  within-after_marker within =
+      within-more (item_frame ∷ w.frames) _ (exit ListItemMarker after_marker.point ∷ [])
       (within-more (item_frame ∷ w.frames) in_prefix.events (enter ListItemMarker w.point ∷ [])
       (within-in_prefix within))
 
   within-trying_padding : Within w → Within trying_padding
   within-trying_padding within =
-      within-one padding_frame (item_frame ∷ w.frames) (length behind_marker.events) (omega arith)
-      (within-behind_marker within)
+      within-one padding_frame (item_frame ∷ w.frames) (length after_marker.events) (omega arith)
+      (within-after_marker within)
 
   within-trying_white : Within w → Within trying_white
   within-trying_white within =
-      within-one white_frame (padding_frame ∷ item_frame ∷ w.frames) (length behind_marker.events) (omega arith)
+      within-one white_frame (padding_frame ∷ item_frame ∷ w.frames) (length after_marker.events) (omega arith)
       (within-trying_padding within)
 
   within-in_white : Within w → Within in_white
   within-in_white within =
       within-more (white_frame ∷ padding_frame ∷ item_frame ∷ w.frames) trying_white.events
-      (enter SpaceOrTab behind_marker.point ∷ []) (within-trying_white within)
+      (enter SpaceOrTab after_marker.point ∷ []) (within-trying_white within)
 
-  within-behind_white : Within w → Within behind_white
-  within-behind_white within =
+  within-following_white : Within w → Within following_white
+  within-following_white within =
       within-more (white_frame ∷ padding_frame ∷ item_frame ∷ w.frames) in_white.events
-      (exit SpaceOrTab behind_space.point ∷ []) (within-in_white within)
+      (exit SpaceOrTab after_space.point ∷ []) (within-in_white within)
 
   within-padded : Within w → Within padded
   within-padded within =
-      within-more (padding_frame ∷ item_frame ∷ w.frames) in_white.events (exit SpaceOrTab behind_space.point ∷ [])
-      (within-more (padding_frame ∷ item_frame ∷ w.frames) behind_marker.events
-      (enter SpaceOrTab behind_marker.point ∷ []) (within-trying_padding within))
+      within-more (padding_frame ∷ item_frame ∷ w.frames) in_white.events (exit SpaceOrTab after_space.point ∷ [])
+      (within-more (padding_frame ∷ item_frame ∷ w.frames) after_marker.events
+      (enter SpaceOrTab after_marker.point ∷ []) (within-trying_padding within))
 
   within-filled : Within w → Within filled
   within-filled within =
-      within-more (item_frame ∷ w.frames) in_white.events (exit SpaceOrTab behind_space.point ∷ [])
-      (within-more (item_frame ∷ w.frames) behind_marker.events (enter SpaceOrTab behind_marker.point ∷ [])
-      (within-behind_marker within))
+      within-more (item_frame ∷ w.frames) in_white.events (exit SpaceOrTab after_space.point ∷ [])
+      (within-more (item_frame ∷ w.frames) after_marker.events (enter SpaceOrTab after_marker.point ∷ [])
+      (within-after_marker within))
 
 -- No break begins at the bullet: another byte is on the line.
 no-break : (w : World) → IsPlainBullet w → item.may_break w (slice_index w.setting.bytes w.point.index) ≡ false
@@ -303,13 +304,14 @@ no-break w plain =
 
 -- The states up to the marker of a bullet take it.
 marker-run : (T : Step) (is_end : Bool) (s : State) (v : World) (next : StateName) (nok : State) (w : World) →
-    HasItem T → CameTo T is_end s v (n.ListItem its.Start) (trying_item next nok w) → w.current ≡ looks w → Within w →
-    IsPlainBullet w → CameTo T is_end s v (n.ListItem its.MarkerAfter) (reading (behind_marker next nok w))
+    HasItem T → ArrivedAt T is_end s v (n.ListItem its.Start) (trying_item next nok w) → w.current ≡
+    looks w → Within w →
+    IsPlainBullet w → ArrivedAt T is_end s v (n.ListItem its.MarkerAfter) (reading (after_marker next nok w))
 unfolding sees_other
-marker-run T is_end s v next nok w has_item came seen within plain =
-    then-takes T is_end s v (n.ListItem its.Marker) (n.ListItem its.MarkerAfter) prefix (behind_marker next nok w)
+marker-run T is_end s v next nok w has_item arrived seen within plain =
+    then-takes T is_end s v (n.ListItem its.Marker) (n.ListItem its.MarkerAfter) prefix (after_marker next nok w)
     at_marker
-    (has_item its.Marker prefix (Next (n.ListItem its.MarkerAfter)) (behind_marker next nok w)
+    (has_item its.Marker prefix (Next (n.ListItem its.MarkerAfter)) (after_marker next nok w)
     (ap (λ (o : Option ℕ). item.marker_code prefix (item.sees item.is_item_marker o)) is
     ∙ ap (λ (x : Bool). item.marker_code prefix (x || item.ends_value marker)) plain.bullet)) refl
     (within-in_prefix next nok w within) (sees-bullet w plain).inside
@@ -335,17 +337,18 @@ marker-run T is_end s v next nok w has_item came seen within plain =
     -- what the state does at a byte that is no bullet
     ordered : Transition
     ordered =
-        cond (is_digit marker && (not (interrupts w.flags) || nat_eq marker 49)) (item.goes_to its.BeforeOrdered begun)
+        cond (is_digit marker && (not (interrupts w.flags) || nat_eq marker 49))
+        (item.proceeds_to its.BeforeOrdered begun)
         (item.refused begun)
 
-    at_before : CameTo T is_end s v (n.ListItem its.Before) begun
+    at_before : ArrivedAt T is_end s v (n.ListItem its.Before) begun
     at_before =
-        then-stays T is_end s v (n.ListItem its.Start) (n.ListItem its.Before) start begun came
+        then-stays T is_end s v (n.ListItem its.Start) (n.ListItem its.Before) start begun arrived
         (has_item its.Start start (Retry (n.ListItem its.Before)) begun
         (ap₂ (λ (x y : Bool). leaf.start_code ListItem (n.ListItem its.Before) start x y) plain.on dark)) refl
         (within-one (item_frame next nok w) w.frames (length w.events) (omega arith) within) refl seen
 
-    at_unordered : CameTo T is_end s v (n.ListItem its.BeforeUnordered) begun
+    at_unordered : ArrivedAt T is_end s v (n.ListItem its.BeforeUnordered) begun
     at_unordered =
         then-stays T is_end s v (n.ListItem its.Before) (n.ListItem its.BeforeUnordered) begun begun at_before
         (has_item its.Before begun (Retry (n.ListItem its.BeforeUnordered)) begun
@@ -353,7 +356,7 @@ marker-run T is_end s v next nok w has_item came seen within plain =
         ∙ ap₂ (λ (x y : Bool). cond x (item.bullet_code begun y) ordered) plain.bullet (no-break w plain))) refl
         (within-in_item next nok w within) refl seen
 
-    at_marker : CameTo T is_end s v (n.ListItem its.Marker) prefix
+    at_marker : ArrivedAt T is_end s v (n.ListItem its.Marker) prefix
     at_marker =
         then-stays T is_end s v (n.ListItem its.BeforeUnordered) (n.ListItem its.Marker) begun prefix at_unordered
         (has_item its.BeforeUnordered begun (Retry (n.ListItem its.Marker)) prefix refl) refl
@@ -361,10 +364,10 @@ marker-run T is_end s v next nok w has_item came seen within plain =
 
 -- After the marker the padding is tried, and in it whitespace.
 padding-run : (T : Step) (is_end : Bool) (s : State) (v : World) (next : StateName) (nok : State) (w : World) →
-    HasItem T → CameTo T is_end s v (n.ListItem its.MarkerAfter) (reading (behind_marker next nok w)) → Within w →
-    IsPlainBullet w → CameTo T is_end s v (n.SpaceOrTab white.Start) (trying_white next nok w)
-unfolding looks_behind
-padding-run T is_end s v next nok w has_item came within plain =
+    HasItem T → ArrivedAt T is_end s v (n.ListItem its.MarkerAfter) (reading (after_marker next nok w)) → Within w →
+    IsPlainBullet w → ArrivedAt T is_end s v (n.SpaceOrTab white.Start) (trying_white next nok w)
+unfolding looks_after
+padding-run T is_end s v next nok w has_item arrived within plain =
     then-stays T is_end s v (n.ListItem its.Whitespace) (n.SpaceOrTab white.Start) padding (trying_white next nok w)
     at_whitespace
     (has_item its.Whitespace padding (Retry (n.SpaceOrTab white.Start)) (trying_white next nok w) refl) refl
@@ -374,40 +377,42 @@ padding-run T is_end s v next nok w has_item came within plain =
     sees = sees-bullet w plain
 
     marked : World
-    marked = reading (behind_marker next nok w)
+    marked = reading (after_marker next nok w)
 
     padding : World
     padding = trying_padding next nok w
 
-    behind : looks_behind marked ≡ Some (byte_at w 2)
-    behind =
+    following : looks_after marked ≡ Some (byte_at w 2)
+    following =
         ap (λ (o : Option ℕ).
-        behind_code o
-        (first_behind (slice_range w.setting.bytes (after w.setting w.point).index w.setting.limit))) sees.space
+        following_code o
+        (first_following (slice_range w.setting.bytes (after w.setting w.point).index w.setting.limit))) sees.space
         ∙ sees.first
 
-    at_filled : CameTo T is_end s v (n.ListItem its.MarkerAfterFilled) marked
+    at_filled : ArrivedAt T is_end s v (n.ListItem its.MarkerAfterFilled) marked
     at_filled =
-        then-stays T is_end s v (n.ListItem its.MarkerAfter) (n.ListItem its.MarkerAfterFilled) marked marked came
+        then-stays T is_end s v (n.ListItem its.MarkerAfter) (n.ListItem its.MarkerAfterFilled) marked marked arrived
         (has_item its.MarkerAfter marked (Retry (n.ListItem its.MarkerAfterFilled)) marked
-        (ap (item.blank_code its.After its.MarkerAfterFilled marked) behind
-        ∙ ap (λ (x : Bool). cond x (item.goes_to its.After marked) (item.goes_to its.MarkerAfterFilled marked))
-        sees.not_end)) refl (within-behind_marker next nok w within) refl refl
+        (ap (item.blank_code its.After its.MarkerAfterFilled marked) following
+        ∙ ap (λ (x : Bool). cond x (item.proceeds_to its.After marked) (item.proceeds_to its.MarkerAfterFilled marked))
+        sees.not_end)) refl (within-after_marker next nok w within) refl refl
 
-    at_whitespace : CameTo T is_end s v (n.ListItem its.Whitespace) padding
+    at_whitespace : ArrivedAt T is_end s v (n.ListItem its.Whitespace) padding
     at_whitespace =
         then-stays T is_end s v (n.ListItem its.MarkerAfterFilled) (n.ListItem its.Whitespace) marked padding at_filled
         (has_item its.MarkerAfterFilled marked (Retry (n.ListItem its.Whitespace)) padding refl) refl
-        (within-behind_marker next nok w within) refl refl
+        (within-after_marker next nok w within) refl refl
 
 -- One space is taken, and the attempt at whitespace holds.
 space-run : (T : Step) (is_end : Bool) (s : State) (v : World) (next : StateName) (nok : State) (w : World) →
-    HasWhite T → CameTo T is_end s v (n.SpaceOrTab white.Start) (trying_white next nok w) → Within w → IsPlainBullet w →
-    CameTo T is_end s v (n.ListItem its.WhitespaceAfter) (padded next nok w)
-space-run T is_end s v next nok w has_white came within plain =
+    HasWhite T → ArrivedAt T is_end s v (n.SpaceOrTab white.Start) (trying_white next nok w) → Within w →
+    IsPlainBullet w →
+    ArrivedAt T is_end s v (n.ListItem its.WhitespaceAfter) (padded next nok w)
+space-run T is_end s v next nok w has_white arrived within plain =
     then-holds T is_end s v (n.SpaceOrTab white.After) (n.ListItem its.WhitespaceAfter) ended (white_held next nok w)
     (white_frame next nok w) (padding_frame next nok w ∷ item_frame next nok w ∷ w.frames) at_end
-    (has_white white.After ended Ok (white_held next nok w) refl) refl (within-behind_white next nok w within) refl refl
+    (has_white white.After ended Ok (white_held next nok w) refl) refl
+    (within-following_white next nok w within) refl refl
     refl (within-trying_padding next nok w within) sees.next
   where
     sees : SeesBullet w
@@ -420,26 +425,26 @@ space-run T is_end s v next nok w has_white came within plain =
     inside = in_white next nok w
 
     took : World
-    took = behind_space next nok w
+    took = after_space next nok w
 
     ended : World
-    ended = behind_white next nok w
+    ended = following_white next nok w
 
-    at_inside : CameTo T is_end s v (n.SpaceOrTab white.Inside) inside
+    at_inside : ArrivedAt T is_end s v (n.SpaceOrTab white.Inside) inside
     at_inside =
-        then-stays T is_end s v (n.SpaceOrTab white.Start) (n.SpaceOrTab white.Inside) begun inside came
+        then-stays T is_end s v (n.SpaceOrTab white.Start) (n.SpaceOrTab white.Inside) begun inside arrived
         (has_white white.Start begun (Retry (n.SpaceOrTab white.Inside)) inside
         (ap (λ (o : Option ℕ). start_code begun (sees_white o && nat_lt 0 4)) sees.space)) refl
         (within-trying_white next nok w within) refl refl
 
-    at_space : CameTo T is_end s v (n.SpaceOrTab white.Inside) (reading took)
+    at_space : ArrivedAt T is_end s v (n.SpaceOrTab white.Inside) (reading took)
     at_space =
         then-takes T is_end s v (n.SpaceOrTab white.Inside) (n.SpaceOrTab white.Inside) inside took at_inside
         (has_white white.Inside inside (Next (n.SpaceOrTab white.Inside)) took
         (ap (λ (o : Option ℕ). inside_code inside (sees_white o && nat_lt 0 4)) sees.space)) refl
         (within-in_white next nok w within) sees.next
 
-    at_end : CameTo T is_end s v (n.SpaceOrTab white.After) ended
+    at_end : ArrivedAt T is_end s v (n.SpaceOrTab white.After) ended
     at_end =
         then-stays T is_end s v (n.SpaceOrTab white.Inside) (n.SpaceOrTab white.After) (reading took) ended at_space
         (has_white white.Inside (reading took) (Retry (n.SpaceOrTab white.After)) ended
@@ -448,9 +453,9 @@ space-run T is_end s v next nok w has_white came within plain =
 
 -- An attempt at an item takes it, and sees what is after it.
 pub bullet-run : (T : Step) (is_end : Bool) (s : State) (v : World) (next : StateName) (nok : State) (w : World) →
-    HasItem T → HasWhite T → CameTo T is_end s v (n.ListItem its.Start) (tried w (Next next) nok) →
-    w.current ≡ looks w → Within w → IsPlainBullet w → CameTo T is_end s v next (bulleted w)
-bullet-run T is_end s v next nok w has_item has_white came seen within plain =
+    HasItem T → HasWhite T → ArrivedAt T is_end s v (n.ListItem its.Start) (tried w (Next next) nok) →
+    w.current ≡ looks w → Within w → IsPlainBullet w → ArrivedAt T is_end s v next (bulleted w)
+bullet-run T is_end s v next nok w has_item has_white arrived seen within plain =
     then-holds T is_end s v (n.ListItem its.After) next after_padding done (item_frame next nok w) w.frames at_after
     (has_item its.After after_padding Ok done refl) refl (within-filled next nok w within) refl refl refl
     within sees.next
@@ -458,8 +463,8 @@ bullet-run T is_end s v next nok w has_item has_white came seen within plain =
     sees : SeesBullet w
     sees = sees-bullet w plain
 
-    behind_padding : World
-    behind_padding = padded next nok w
+    following_padding : World
+    following_padding = padded next nok w
 
     after_padding : World
     after_padding = filled next nok w
@@ -467,23 +472,24 @@ bullet-run T is_end s v next nok w has_item has_white came seen within plain =
     done : World
     done = (item.after_code after_padding false false).world
 
-    at_padding : CameTo T is_end s v (n.ListItem its.WhitespaceAfter) behind_padding
+    at_padding : ArrivedAt T is_end s v (n.ListItem its.WhitespaceAfter) following_padding
     at_padding =
         space-run T is_end s v next nok w has_white
         (padding-run T is_end s v next nok w has_item
-        (marker-run T is_end s v next nok w has_item came seen within plain) within plain) within plain
+        (marker-run T is_end s v next nok w has_item arrived seen within plain) within plain) within plain
 
-    at_after : CameTo T is_end s v (n.ListItem its.After) after_padding
+    at_after : ArrivedAt T is_end s v (n.ListItem its.After) after_padding
     at_after =
-        then-holds T is_end s v (n.ListItem its.WhitespaceAfter) (n.ListItem its.After) behind_padding behind_padding
+        then-holds T is_end s v (n.ListItem its.WhitespaceAfter) (n.ListItem its.After) following_padding
+        following_padding
         (padding_frame next nok w) (item_frame next nok w ∷ w.frames) at_padding
-        (has_item its.WhitespaceAfter behind_padding Ok behind_padding
-        (ap (item.whitespace_after_code behind_padding) sees.dark)) refl (within-padded next nok w within)
+        (has_item its.WhitespaceAfter following_padding Ok following_padding
+        (ap (item.whitespace_after_code following_padding) sees.dark)) refl (within-padded next nok w within)
         refl refl refl
-        (within-behind_marker next nok w within) sees.next
+        (within-after_marker next nok w within) sees.next
 
 -- The bullet and the space are text.
-pub bullet-ahead : (w : World) → IsPlainBullet w → IsPlaced w.setting.bytes w.point → StandsAhead w.setting w.point
+pub bullet-ahead : (w : World) → IsPlainBullet w → IsPlaced w.setting.bytes w.point → TwoAhead w.setting w.point
 bullet-ahead w plain placed =
-    stands-ahead w.setting w.point placed (let there = plain.there in omega (arith, there))
+    valid-ahead w.setting w.point placed (let there = plain.there in omega (arith, there))
     (bullet-text (slice_index w.setting.bytes w.point.index) plain.bullet) (ap (has class.Text) plain.space)

@@ -19,16 +19,16 @@ use Rattle.md_engine.specs.Run.{Step, reading}
 use Rattle.md_engine.specs.Scheme.{cells_left}
 use Rattle.md_engine.specs.Staying.{along}
 use Rattle.md_engine.specs.World.{Setting, World, after, looks, looks_at}
-use Rattle.md_engine.proofs.Loops.{CameTo}
+use Rattle.md_engine.proofs.Loops.{ArrivedAt}
 use Rattle.md_engine.proofs.Points.{cells-fall}
 use Rattle.md_engine.proofs.Walks.{Within, then-holds, then-stays, then-takes, within-more, within-one}
-use Rattle.md_containers.specs.Item.{blank_code, cont_filled_code, cont_start_code, goes_to, indent_code, inside_code}
-use Rattle.md_containers.specs.Item.{at_least_one, item_transition, least_width}
+use Rattle.md_containers.specs.Item.{blank_code, cont_filled_code, cont_start_code, proceeds_to, indent_code}
+use Rattle.md_containers.specs.Item.{inside_code, at_least_one, item_transition, least_width}
 use Rattle.md_containers.specs.Ahead.{ahead}
 use Rattle.md_containers.proofs.Ahead.{IsText, ahead-more, placed-text, text-after}
 use Rattle.md_containers.specs.PlainItem.{IsPlainIndent, SpacesHere, indented, moved}
 use Rattle.md_events.specs.Events.Nested.{enter}
-use Rattle.md_events.specs.Look.{looks_behind}
+use Rattle.md_events.specs.Look.{looks_after}
 use Rattle.md_events.specs.Spaces.{asking, ends_line, sees_white}
 use Rattle.md_events.specs.Transition.{entered, taken, tried}
 
@@ -91,16 +91,16 @@ and-false false = refl
 -- An attempt at the indent of a further line takes it, and what follows it is seen.
 pub indent-run : (T : Step) (is_end : Bool) (s : State) (v : World) (next : StateName) (nok : State) (w : World)
     (m : ℕ) →
-    HasItem T → CameTo T is_end s v (n.ListItem its.ContStart) (tried w (Next next) nok) →
+    HasItem T → ArrivedAt T is_end s v (n.ListItem its.ContStart) (tried w (Next next) nok) →
     w.current ≡ looks w → Within w → least_width w.flags.asked ≡ suc m → IsPlainIndent (suc m) w →
-    CameTo T is_end s v next (indented (suc m) w)
-unfolding along looks_behind
-indent-run T is_end s v next nok w m item came seen within width plain =
+    ArrivedAt T is_end s v next (indented (suc m) w)
+unfolding along looks_after
+indent-run T is_end s v next nok w m item arrived seen within width plain =
     then-holds T is_end s v (n.ListItem its.ContFilled) next (part m) done f w.frames (parts m (omega arith))
     (item its.ContFilled (part m) Ok done
     (ap₂ (λ (x y : Bool). inside_code its.ContFilled (part m) x y)
     (ap (λ (b : Bool). sees_white (part m).current && b) full ∙ and-false (sees_white (part m).current)) enough)) refl
-    (in-part m) refl refl refl within behind
+    (in-part m) refl refl refl within following
   where
     x : World
     x = w
@@ -114,8 +114,8 @@ indent-run T is_end s v next nok w m item came seen within width plain =
     inside : (k : ℕ) → k ≤ suc m → (along w.setting k w.point).index < w.setting.limit
     inside k le = let at = index k le in let last = plain.inside in omega (arith, at, le, last)
 
-    behind : (along w.setting (suc m) w.point).index < w.setting.limit
-    behind = inside (suc m) (omega arith)
+    following : (along w.setting (suc m) w.point).index < w.setting.limit
+    following = inside (suc m) (omega arith)
 
     is : w.current ≡ Some 32
     is = seen ∙ spaces 0 (omega arith)
@@ -147,13 +147,14 @@ indent-run T is_end s v next nok w m item came seen within width plain =
     done : World
     done = (inside_code its.ContFilled (part m) false true).world
 
-    at_filled : CameTo T is_end s v (n.ListItem its.ContFilled) wa
+    at_filled : ArrivedAt T is_end s v (n.ListItem its.ContFilled) wa
     at_filled =
-        then-stays T is_end s v (n.ListItem its.ContStart) (n.ListItem its.ContFilled) wa wa came
+        then-stays T is_end s v (n.ListItem its.ContStart) (n.ListItem its.ContFilled) wa wa arrived
         (item its.ContStart wa (Retry (n.ListItem its.ContFilled)) wa
         (ap (λ (o : Option ℕ). cont_start_code wa (ends_line o) wa.flags.asked.starts_blank) is
-        ∙ ap (blank_code its.ContBlank its.ContFilled wa) plain.behind
-        ∙ ap (λ (b : Bool). cond b (goes_to its.ContBlank wa) (goes_to its.ContFilled wa)) plain.filled)) refl in-wa
+        ∙ ap (blank_code its.ContBlank its.ContFilled wa) plain.following
+        ∙ ap (λ (b : Bool). cond b (proceeds_to its.ContBlank wa) (proceeds_to its.ContFilled wa)) plain.filled)) refl
+        in-wa
         refl seen
 
     -- the first one was taken, of an indent of so many
@@ -164,7 +165,7 @@ indent-run T is_end s v next nok w m item came seen within width plain =
     more : ℕ → ℕ → World
     more k size = record (taken (part k)) { scratch = asking (suc m) (suc m) size wa.scratch }
 
-    first : CameTo T is_end s v (n.ListItem its.ContFilled) (part 0)
+    first : ArrivedAt T is_end s v (n.ListItem its.ContFilled) (part 0)
     first =
         then-takes T is_end s v (n.ListItem its.ContFilled) (n.ListItem its.ContFilled) wa (column (suc m)) at_filled
         (item its.ContFilled wa (Next (n.ListItem its.ContFilled)) (column (suc m))
@@ -173,7 +174,7 @@ indent-run T is_end s v next nok w m item came seen within width plain =
         ∙ ap (λ (c : ℕ). record { to = Next (n.ListItem its.ContFilled); world = column c }) width)) refl in-wa
         (inside 1 (omega arith))
 
-    parts : (k : ℕ) → k < suc m → CameTo T is_end s v (n.ListItem its.ContFilled) (part k)
+    parts : (k : ℕ) → k < suc m → ArrivedAt T is_end s v (n.ListItem its.ContFilled) (part k)
     parts zero lt = first
     parts (suc k) lt =
         let left : nat_lt (suc k) (suc m) ≡ true = grind (arith, nat_tests) in

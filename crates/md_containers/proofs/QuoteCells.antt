@@ -9,8 +9,8 @@ use Rattle.md_engine.specs.declared.event.Point.{Point}
 use Rattle.md_engine.specs.declared.tokenizer.Scratch.{Scratch}
 use Rattle.md_engine.specs.Meaning.{Accepts, Cell, Here, Outcome, Refuses}
 use Rattle.md_containers.specs.QuoteRule.{alert_at, alert_end, alert_events, alert_marker, alert_of, alert_or_end}
-use Rattle.md_containers.specs.QuoteRule.{alert_rest, at_marker, behind_alert, behind_end, behind_events, behind_marker}
-use Rattle.md_containers.specs.QuoteRule.{behind_rest, ended_by, front_events, has_marker, indent_at, indent_events}
+use Rattle.md_containers.specs.QuoteRule.{alert_rest, at_marker, after_alert, after_end, after_events, after_marker}
+use Rattle.md_containers.specs.QuoteRule.{after_rest, ended_by, front_events, has_marker, indent_at, indent_events}
 use Rattle.md_containers.specs.QuoteRule.{marker_end, marker_events, marker_rest, opening_at, opening_end}
 use Rattle.md_containers.specs.QuoteRule.{opening_events, opening_kind, opening_rest, prefix_at, prefix_end}
 use Rattle.md_containers.specs.QuoteRule.{prefix_ended, prefix_events, prefix_rest, quote_at, takes_prefix}
@@ -28,9 +28,9 @@ use Rattle.md_events.proofs.SpacesTermination.{rest-calm}
 
 -- What is left is shorter.
 
-behind-shorter : (cells : List Cell) → length (behind_rest cells) ≤ length cells
-behind-shorter [] = omega arith
-behind-shorter (c ∷ cs) = go (is_white c.byte)
+following-shorter : (cells : List Cell) → length (after_rest cells) ≤ length cells
+following-shorter [] = omega arith
+following-shorter (c ∷ cs) = go (is_white c.byte)
   where
     go : (x : Bool) → length (cond x cs (c ∷ cs)) ≤ length (c ∷ cs)
     go true = omega arith
@@ -38,7 +38,7 @@ behind-shorter (c ∷ cs) = go (is_white c.byte)
 
 marker-shorter : (cells : List Cell) → has_marker cells ≡ true → length (marker_rest cells) < length cells
 marker-shorter [] e = cc
-marker-shorter (c ∷ cs) e = omega (arith, behind-shorter cs)
+marker-shorter (c ∷ cs) e = omega (arith, following-shorter cs)
 
 -- a prefix takes a cell at least
 pub prefix-shorter : (options : ParseOptions) (cells : List Cell) → takes_prefix options cells ≡ true →
@@ -66,7 +66,7 @@ alert-shorter options (Some kind) cells =
     let marker : List Cell = white_rest (small_indent options) cells in
     omega (
       arith,
-      ending-shorter (behind_alert kind marker),
+      ending-shorter (after_alert kind marker),
       drop-shorter (length (marker_of kind)) marker,
       white-length (small_indent options) cells,
     )
@@ -83,18 +83,18 @@ opening-shorter options cells e =
 -- A prefix, and what is left after it.
 
 -- a column of whitespace, if there is one
-pub behind-is : (next : List Cell → Here → Outcome) (cells : List Cell) (h : Here) →
-    behind_marker next cells h ≡
-    next (behind_rest cells)
-    (record h { events = h.events ++ behind_events cells h.point; point = behind_end cells h.point })
-unfolding behind_marker
-behind-is next [] h = ap (λ (es : List Event). next [] (record h { events = es })) (sym (append-nil h.events))
-behind-is next (c ∷ cs) h = go (is_white c.byte) refl
+pub following-is : (next : List Cell → Here → Outcome) (cells : List Cell) (h : Here) →
+    after_marker next cells h ≡
+    next (after_rest cells)
+    (record h { events = h.events ++ after_events cells h.point; point = after_end cells h.point })
+unfolding after_marker
+following-is next [] h = ap (λ (es : List Event). next [] (record h { events = es })) (sym (append-nil h.events))
+following-is next (c ∷ cs) h = go (is_white c.byte) refl
   where
     go : (x : Bool) → is_white c.byte ≡ x →
-        behind_marker next (c ∷ cs) h ≡
-        next (behind_rest (c ∷ cs))
-        (record h { events = h.events ++ behind_events (c ∷ cs) h.point; point = behind_end (c ∷ cs) h.point })
+        after_marker next (c ∷ cs) h ≡
+        next (after_rest (c ∷ cs))
+        (record h { events = h.events ++ after_events (c ∷ cs) h.point; point = after_end (c ∷ cs) h.point })
     go true e = rw e refl
     go false e =
         rw e (ap (λ (es : List Event). next (c ∷ cs) (record h { events = es })) (sym (append-nil h.events)))
@@ -121,10 +121,10 @@ marker-is next (c ∷ cs) h = go (c.byte == 62) refl
         (Refuses h.scratch h.flags)
     go true e =
         rw e
-        (behind-is next cs (record h { events = h.events ++ front; point = c.after })
+        (following-is next cs (record h { events = h.events ++ front; point = c.after })
         ∙ ap
-        (λ (es : List Event). next (behind_rest cs) (record h { events = es; point = behind_end cs c.after }))
-        (append_assoc h.events front (behind_events cs c.after)))
+        (λ (es : List Event). next (after_rest cs) (record h { events = es; point = after_end cs c.after }))
+        (append_assoc h.events front (after_events cs c.after)))
     go false e = rw e refl
 
 -- a small indent, if there is one

@@ -11,7 +11,7 @@ use Rattle.md_engine.specs.declared.event.Name.TheVariants as n
 use Rattle.md_engine.specs.declared.event.Point.{Point}
 use Rattle.md_engine.specs.declared.tokenizer.Line.{Line}
 use Rattle.md_engine.specs.Meaning.{Cell}
-use Rattle.md_containers.specs.QuoteRule.{behind_end, behind_events, behind_rest, has_marker, marker_end, marker_events}
+use Rattle.md_containers.specs.QuoteRule.{after_end, after_events, after_rest, has_marker, marker_end, marker_events}
 use Rattle.md_containers.specs.QuoteRule.{marker_rest, prefix_end, prefix_events, prefix_rest, takes_prefix}
 use Rattle.md_meaning.specs.declared.alert.AlertKind.{AlertKind}
 use Rattle.md_events.specs.Ahead.{begins_white, white_end, white_rest}
@@ -20,16 +20,16 @@ use Rattle.md_events.specs.Events.Inline.{pair_unless_empty}
 use Rattle.md_meaning.specs.Lines.{begins_with}
 use Rattle.md_events.specs.Events.Nested.{enter, exit, pair}
 use Rattle.md_events.specs.Events.Places.{at_or_before, past_byte, past_text}
-use Rattle.md_meaning.specs.Rest.{Rest, behind, behind_indent, has_small_indent, indent, is_blank, is_white, lose}
+use Rattle.md_meaning.specs.Rest.{Rest, following, after_indent, has_small_indent, indent, is_blank, is_white, lose}
 use Rattle.md_events.specs.Spaces.{small_indent}
 use Rattle.md_meaning.specs.State.{InQuote}
 use Rattle.md_events.proofs.AheadLemmas.{none-end}
 use Rattle.md_events.proofs.FeedLines.{Stops, byte-one, cell, past-next, spread}
 use Rattle.md_events.proofs.InlineLemmas.{same-refl}
 use Rattle.md_events.proofs.LostColumns.{Step, White, column-step, step-append, white-none}
-use Rattle.md_events.proofs.RestCells.{Bare, RestAt, bare, bare-cells, bare-same, behind-no_ending, cells_by, column-end}
-use Rattle.md_events.proofs.RestCells.{column-first, indent-length, indent-over, indent-taken, lose-no_ending, past_cut}
-use Rattle.md_events.proofs.RestCells.{past_rest, rest_cells, white-length, without_first}
+use Rattle.md_events.proofs.RestCells.{Bare, RestAt, bare, bare-cells, bare-same, following-no_ending, cells_by}
+use Rattle.md_events.proofs.RestCells.{column-end, column-first, indent-length, indent-over, indent-taken}
+use Rattle.md_events.proofs.RestCells.{lose-no_ending, past_cut, past_rest, rest_cells, white-length, without_first}
 use Rattle.md_events.proofs.RestLines.{large-room, small-room}
 use Rattle.md_meaning.proofs.TextsLemmas.{NoEnding}
 
@@ -37,29 +37,29 @@ use Rattle.md_meaning.proofs.TextsLemmas.{NoEnding}
 pub record IsPrefix (bytes : List ℕ) (p q : Point) (es : List Event) : Type 0 where
   -- where `>` is, and the point after it
   pub marker : Point
-  pub behind : Point
+  pub following : Point
   pub events : es ≡
       pair_unless_empty n.SpaceOrTab p marker ++ enter n.BlockQuotePrefix marker ∷ enter n.BlockQuoteMarker marker
-      ∷ exit n.BlockQuoteMarker behind ∷ pair_unless_empty n.SpaceOrTab behind q ++ exit n.BlockQuotePrefix q ∷ []
+      ∷ exit n.BlockQuoteMarker following ∷ pair_unless_empty n.SpaceOrTab following q ++ exit n.BlockQuotePrefix q ∷ []
   -- the points continue
   pub indent : IsTrue (at_or_before p marker)
-  pub past : behind.index ≡ suc marker.index
-  pub column : IsTrue (at_or_before behind q)
+  pub past : following.index ≡ suc marker.index
+  pub column : IsTrue (at_or_before following q)
   -- `>` is a byte, and no tab is cut around it
   pub byte : slice_get bytes marker.index ≡ Some 62
   pub marker_whole : marker.vs ≡ 0
-  pub behind_whole : behind.vs ≡ 0
+  pub following_whole : following.vs ≡ 0
   -- what is whitespace
   pub white_before : is_blank (slice_range bytes p.index marker.index) ≡ true
-  pub white_behind : is_blank (slice_range bytes behind.index q.index) ≡ true
+  pub white_after : is_blank (slice_range bytes following.index q.index) ≡ true
   -- all on one line
   pub line : q.line ≡ p.line
 
 -- these events, by whether there is no whitespace before `>`, and none after it
 abbrev pub prefix_by : Bool → Bool → Point → Point → Point → Point → List Event
-prefix_by none same p marker behind q =
+prefix_by none same p marker following q =
     cond none [] (pair n.SpaceOrTab p marker) ++ enter n.BlockQuotePrefix marker ∷ enter n.BlockQuoteMarker marker
-    ∷ exit n.BlockQuoteMarker behind ∷ cond same [] (pair n.SpaceOrTab behind q) ++ exit n.BlockQuotePrefix q ∷ []
+    ∷ exit n.BlockQuoteMarker following ∷ cond same [] (pair n.SpaceOrTab following q) ++ exit n.BlockQuotePrefix q ∷ []
 
 abbrev rest : ℕ → ℕ → List ℕ → Rest
 rest column spaces bytes = record { column = column; spaces = spaces; bytes = bytes }
@@ -88,18 +88,18 @@ white-same text cells p e = record {
       ∙ sym (ap (λ (t : Bool). cond t [] (pair n.SpaceOrTab p p)) (same-refl p));
 }
 
-pub white-walk : (line : Line) (text behind : List ℕ) (n room : ℕ) (r : Rest) (p : Point) (stop : List Cell) →
-    RestAt text behind r p → Stops stop → indent r ≡ n → n ≤ room →
+pub white-walk : (line : Line) (text following : List ℕ) (n room : ℕ) (r : Rest) (p : Point) (stop : List Cell) →
+    RestAt text following r p → Stops stop → indent r ≡ n → n ≤ room →
     HasWhite text (rest_cells line r p ++ stop) p (white_end room (rest_cells line r p ++ stop) p)
-white-walk line text behind zero room r p stop is k e le =
+white-walk line text following zero room r p stop is k e le =
     let white = bare-cells line r p stop e k in
     subst (HasWhite text (rest_cells line r p ++ stop) p) (sym (none-end room (rest_cells line r p ++ stop) p white))
     (white-same text (rest_cells line r p ++ stop) p white)
-white-walk line text behind (suc n) zero r p stop is k e le = absurd (omega (arith, le))
-white-walk line text behind (suc n) (suc room) r p stop is k e le =
-    let first = column-first line text behind r p is (omega (arith, e)) in
+white-walk line text following (suc n) zero r p stop is k e le = absurd (omega (arith, le))
+white-walk line text following (suc n) (suc room) r p stop is k e le =
+    let first = column-first line text following r p is (omega (arith, e)) in
     let cs = rest_cells line (without_first r) first.at ++ stop in
-    let further = white-walk line text behind n room (without_first r) first.at stop first.stands k
+    let further = white-walk line text following n room (without_first r) first.at stop first.valid k
     (omega (arith, e, first.columns)) (omega (arith, le)) in
     let cells : rest_cells line r p ++ stop ≡
     cell first.byte first.at line ∷ cs = ap (λ (l : List Cell). l ++ stop) first.cells in
@@ -110,58 +110,58 @@ white-walk line text behind (suc n) (suc room) r p stop is k e le =
     (ap begins_white cells ∙ first.white)
     (subst (Step text p) (sym end)
     (step-append text p first.at (white_end room cs first.at)
-    (column-step line text behind r p is (omega (arith, e)) first) further.white))
+    (column-step line text following r p is (omega (arith, e)) first) further.white))
 
 -- room for more columns than there are changes nothing
-pub white_end-same : (line : Line) (text behind : List ℕ) (n room : ℕ) (r : Rest) (p : Point) (stop : List Cell) →
-    RestAt text behind r p → Stops stop → indent r ≡ n → n ≤ room →
+pub white_end-same : (line : Line) (text following : List ℕ) (n room : ℕ) (r : Rest) (p : Point) (stop : List Cell) →
+    RestAt text following r p → Stops stop → indent r ≡ n → n ≤ room →
     white_end room (rest_cells line r p ++ stop) p ≡ white_end n (rest_cells line r p ++ stop) p
-white_end-same line text behind zero room r p stop is k e le =
+white_end-same line text following zero room r p stop is k e le =
     let white = bare-cells line r p stop e k in
     none-end room (rest_cells line r p ++ stop) p white ∙ sym (none-end 0 (rest_cells line r p ++ stop) p white)
-white_end-same line text behind (suc n) zero r p stop is k e le = absurd (omega (arith, le))
-white_end-same line text behind (suc n) (suc room) r p stop is k e le =
-    let first = column-first line text behind r p is (omega (arith, e)) in
+white_end-same line text following (suc n) zero r p stop is k e le = absurd (omega (arith, le))
+white_end-same line text following (suc n) (suc room) r p stop is k e le =
+    let first = column-first line text following r p is (omega (arith, e)) in
     let cs : List Cell = rest_cells line (without_first r) first.at ++ stop in
     let cells : rest_cells line r p ++ stop ≡
     cell first.byte first.at line ∷ cs = ap (λ (l : List Cell). l ++ stop) first.cells in
     ap (λ (l : List Cell). white_end (suc room) l p) cells
     ∙ ap (λ (x : Point). cond (is_white first.byte) x p)
-    (white_end-same line text behind n room (without_first r) first.at stop first.stands k
+    (white_end-same line text following n room (without_first r) first.at stop first.valid k
     (omega (arith, e, first.columns)) (omega (arith, le)))
     ∙ sym (ap (λ (l : List Cell). white_end (suc n) l p) cells)
 
 -- After the marker.
 
 -- at most one column of whitespace is taken
-record HasBehind (line : Line) (text past : List ℕ) (end : Point) (stop cells : List Cell) (p : Point)
+record HasFollowing (line : Line) (text past : List ℕ) (end : Point) (stop cells : List Cell) (p : Point)
     (left : Rest) : Type 0 where
-  fed : behind_rest cells ≡ rest_cells line left (behind_end cells p) ++ stop
-  stands : RestAt text past left (behind_end cells p)
-  ends : past_rest left (behind_end cells p) ≡ end
-  events : behind_events cells p ≡ pair_unless_empty n.SpaceOrTab p (behind_end cells p)
-  white : White text p (behind_end cells p)
-  shorter : length (behind_rest cells) ≤ length cells
+  fed : after_rest cells ≡ rest_cells line left (after_end cells p) ++ stop
+  valid : RestAt text past left (after_end cells p)
+  ends : past_rest left (after_end cells p) ≡ end
+  events : after_events cells p ≡ pair_unless_empty n.SpaceOrTab p (after_end cells p)
+  white : White text p (after_end cells p)
+  shorter : length (after_rest cells) ≤ length cells
 
-behind-none : (cells : List Cell) (p : Point) → begins_white cells ≡ false →
-    (behind_rest cells ≡ cells) × (behind_end cells p ≡ p) × (behind_events cells p ≡ [])
-behind-none [] p e = (refl, refl, refl)
-behind-none (c ∷ cs) p e = (rw e refl, rw e refl, rw e refl)
+following-none : (cells : List Cell) (p : Point) → begins_white cells ≡ false →
+    (after_rest cells ≡ cells) × (after_end cells p ≡ p) × (after_events cells p ≡ [])
+following-none [] p e = (refl, refl, refl)
+following-none (c ∷ cs) p e = (rw e refl, rw e refl, rw e refl)
 
-behind-one : (line : Line) (text past : List ℕ) (r : Rest) (stop : List Cell) (p : Point) → RestAt text past r p →
-    Stops stop → HasBehind line text past (past_rest r p) stop (rest_cells line r p ++ stop) p (lose 1 r)
-behind-one line text past r stop p is k = go (indent r) refl
+following-one : (line : Line) (text past : List ℕ) (r : Rest) (stop : List Cell) (p : Point) → RestAt text past r p →
+    Stops stop → HasFollowing line text past (past_rest r p) stop (rest_cells line r p ++ stop) p (lose 1 r)
+following-one line text past r stop p is k = go (indent r) refl
   where
     cells : List Cell
     cells = rest_cells line r p ++ stop
 
-    go : (n : ℕ) → indent r ≡ n → HasBehind line text past (past_rest r p) stop cells p (lose 1 r)
+    go : (n : ℕ) → indent r ≡ n → HasFollowing line text past (past_rest r p) stop cells p (lose 1 r)
     go zero e =
-        let none = behind-none cells p (bare-cells line r p stop e k) in
-        let end : p ≡ behind_end cells p = sym none.1 in
-        subst (HasBehind line text past (past_rest r p) stop cells p) (sym (bare-same r e)) (record {
+        let none = following-none cells p (bare-cells line r p stop e k) in
+        let end : p ≡ after_end cells p = sym none.1 in
+        subst (HasFollowing line text past (past_rest r p) stop cells p) (sym (bare-same r e)) (record {
           fed = none.0 ∙ ap (λ (q : Point). rest_cells line r q ++ stop) end;
-          stands = subst (RestAt text past r) end is;
+          valid = subst (RestAt text past r) end is;
           ends = ap (past_rest r) none.1;
           events = none.2
               ∙ sym (ap (λ (t : Bool). cond t [] (pair n.SpaceOrTab p p)) (same-refl p))
@@ -174,16 +174,16 @@ behind-one line text past r stop p is k = go (indent r) refl
         let left = rest_cells line (without_first r) first.at ++ stop in
         let same : cells ≡ cell first.byte first.at line ∷ left = ap (λ (l : List Cell). l ++ stop) first.cells in
         let end : first.at ≡
-        behind_end cells p = sym
-        (ap (λ (l : List Cell). behind_end l p) same ∙ ap (λ (t : Bool). cond t first.at p) first.white) in
-        let further : behind_rest cells ≡ left = ap behind_rest same
+        after_end cells p = sym
+        (ap (λ (l : List Cell). after_end l p) same ∙ ap (λ (t : Bool). cond t first.at p) first.white) in
+        let further : after_rest cells ≡ left = ap after_rest same
         ∙ ap (λ (t : Bool). cond t left (cell first.byte first.at line ∷ left)) first.white in
         let step = column-step line text past r p is (omega (arith, e)) first in
         record {
           fed = further ∙ ap (λ (q : Point). rest_cells line (without_first r) q ++ stop) end;
-          stands = subst (RestAt text past (without_first r)) end first.stands;
+          valid = subst (RestAt text past (without_first r)) end first.valid;
           ends = ap (past_rest (without_first r)) (sym end) ∙ column-end line text past r p is first;
-          events = ap (λ (l : List Cell). behind_events l p) same
+          events = ap (λ (l : List Cell). after_events l p) same
               ∙ ap (λ (t : Bool). cond t (pair n.SpaceOrTab p first.at) []) first.white
               ∙ sym (ap (λ (t : Bool). cond t [] (pair n.SpaceOrTab p first.at)) step.apart)
               ∙ ap (pair_unless_empty n.SpaceOrTab p) end;
@@ -197,18 +197,18 @@ record HasMarker (line : Line) (text past : List ℕ) (end : Point) (stop cells 
     (left : Rest) : Type 0 where
   takes : has_marker cells ≡ true
   fed : marker_rest cells ≡ rest_cells line left (marker_end cells p) ++ stop
-  stands : RestAt text past left (marker_end cells p)
+  valid : RestAt text past left (marker_end cells p)
   ends : past_rest left (marker_end cells p) ≡ end
-  behind : Point
+  following : Point
   events : marker_events cells p ≡
-      enter n.BlockQuotePrefix p ∷ enter n.BlockQuoteMarker p ∷ exit n.BlockQuoteMarker behind
-      ∷ pair_unless_empty n.SpaceOrTab behind (marker_end cells p)
-  next : behind.index ≡ suc p.index
-  same_line : behind.line ≡ p.line
+      enter n.BlockQuotePrefix p ∷ enter n.BlockQuoteMarker p ∷ exit n.BlockQuoteMarker following
+      ∷ pair_unless_empty n.SpaceOrTab following (marker_end cells p)
+  next : following.index ≡ suc p.index
+  same_line : following.line ≡ p.line
   byte : slice_get text p.index ≡ Some 62
   whole : p.vs ≡ 0
-  behind_whole : behind.vs ≡ 0
-  white : White text behind (marker_end cells p)
+  following_whole : following.vs ≡ 0
+  white : White text following (marker_end cells p)
   shorter : length (marker_rest cells) < length cells
 
 -- a marker is here, and so much is left after it, or there is none
@@ -230,7 +230,7 @@ stop-marker (c ∷ cs) k = ap (λ (b : ℕ). b == 62) (eqb-true c.byte 10 k)
 -- where no indent is left
 abbrev taken_at : Option AlertKind → Rest → Option Taken
 taken_at kind r =
-    cond (begins_with 62 r.bytes) (Some (record { container = InQuote kind; rest = lose 1 (behind 1 r) })) None
+    cond (begins_with 62 r.bytes) (Some (record { container = InQuote kind; rest = lose 1 (following 1 r) })) None
 
 marker-is : (kind : Option AlertKind) (line : Line) (text past : List ℕ) (r : Rest) (stop : List Cell) (p : Point) →
     RestAt text past r p → indent r ≡ 0 → Stops stop →
@@ -254,19 +254,19 @@ marker-is kind line text past r stop p is e k = go r.spaces r.bytes is (bare r e
         marks : Marks 62
         marks here =
             let q = past_byte 62 p in
-            let from : Rest = behind 1 (rest r.column 0 (62 ∷ bs)) in
+            let from : Rest = following 1 (rest r.column 0 (62 ∷ bs)) in
             let next : RestAt text past from q = record {
               column = omega (arith, here.column);
               cut = refl;
               text_is = past-next p.index text 62 (bs ++ past) here.text_is;
             } in
-            let further = behind-one line text past from stop q next k in
+            let further = following-one line text past from stop q next k in
             record {
               takes = refl;
               fed = further.fed;
-              stands = further.stands;
+              valid = further.valid;
               ends = further.ends;
-              behind = q;
+              following = q;
               events =
                   ap
                   (λ (es : List Event).
@@ -276,7 +276,7 @@ marker-is kind line text past r stop p is e k = go r.spaces r.bytes is (bare r e
               same_line = refl;
               byte = get-next p.index text 62 (bs ++ past) here.text_is;
               whole = here.cut;
-              behind_whole = refl;
+              following_whole = refl;
               white = further.white;
               shorter = let le = further.shorter in omega arith;
             }
@@ -302,7 +302,7 @@ pub record HasPrefix (options : ParseOptions) (line : Line) (text past : List �
     (p : Point) (left : Rest) : Type 0 where
   pub takes : takes_prefix options cells ≡ true
   pub fed : prefix_rest options cells ≡ rest_cells line left (prefix_end options cells p) ++ stop
-  pub stands : RestAt text past left (prefix_end options cells p)
+  pub valid : RestAt text past left (prefix_end options cells p)
   pub ends : past_rest left (prefix_end options cells p) ≡ end
   pub prefix : IsPrefix text p (prefix_end options cells p) (prefix_events options cells p)
   pub shorter : length (prefix_rest options cells) < length cells
@@ -316,7 +316,7 @@ PrefixIs options line text past end stop cells p None = takes_prefix options cel
 
 -- the definition takes what follows the indent, if that is small
 taken-small : (options : ParseOptions) (kind : Option AlertKind) (r : Rest) → has_small_indent options r ≡ true →
-    quote_taken options kind r ≡ taken_at kind (behind_indent r)
+    quote_taken options kind r ≡ taken_at kind (after_indent r)
 unfolding quote_taken
 taken-small options kind r e = rw e refl
 
@@ -351,11 +351,11 @@ prefix-agrees options kind line text past r stop p is k short = go (has_small_in
     whole (Some taken) white m = record {
       takes = m.takes;
       fed = m.fed;
-      stands = m.stands;
+      valid = m.valid;
       ends = m.ends;
       prefix = record {
         marker = q;
-        behind = m.behind;
+        following = m.following;
         events =
             ap (λ (es : List Event). es ++ exit n.BlockQuotePrefix (marker_end left q) ∷ [])
             (ap (λ (es : List Event). es ++ marker_events left q) white.events
@@ -365,9 +365,9 @@ prefix-agrees options kind line text past r stop p is k short = go (has_small_in
         column = m.white.onward;
         byte = m.byte;
         marker_whole = m.whole;
-        behind_whole = m.behind_whole;
+        following_whole = m.following_whole;
         white_before = white.white.blank;
-        white_behind = m.white.blank;
+        white_after = m.white.blank;
         line = m.white.line ∙ m.same_line ∙ white.white.line;
       };
       shorter = let le = white-length room cells in let lt = m.shorter in omega arith;
@@ -384,15 +384,15 @@ prefix-agrees options kind line text past r stop p is k short = go (has_small_in
         (let most = indent-length line text past r p is in omega arith) short in
         let taken = indent-taken line text past room r p stop is k fits in
         let white = white-walk line text past (indent r) room r p stop is k refl fits in
-        let marker : MarkerIs line text past (past_rest r p) stop left q (taken_at kind (behind_indent r)) =
-        subst (λ (l : List Cell). MarkerIs line text past (past_rest r p) stop l q (taken_at kind (behind_indent r)))
+        let marker : MarkerIs line text past (past_rest r p) stop left q (taken_at kind (after_indent r)) =
+        subst (λ (l : List Cell). MarkerIs line text past (past_rest r p) stop l q (taken_at kind (after_indent r)))
         (sym taken.cells)
         (subst
         (λ (end : Point).
-        MarkerIs line text past end stop (rest_cells line (behind_indent r) q ++ stop) q
-        (taken_at kind (behind_indent r))) taken.ends
-        (marker-is kind line text past (behind_indent r) stop q taken.stands taken.none k)) in
-        subst Done (sym (taken-small options kind r e)) (whole (taken_at kind (behind_indent r)) white marker)
+        MarkerIs line text past end stop (rest_cells line (after_indent r) q ++ stop) q
+        (taken_at kind (after_indent r))) taken.ends
+        (marker-is kind line text past (after_indent r) stop q taken.valid taken.none k)) in
+        subst Done (sym (taken-small options kind r e)) (whole (taken_at kind (after_indent r)) white marker)
     go false e =
         subst Done (sym (taken-large options kind r e))
         (marker-white left (indent-over line text past room r p stop is (large-room options r e)))
@@ -400,7 +400,7 @@ prefix-agrees options kind line text past r stop p is k short = go (has_small_in
 -- What is left.
 
 pub taken-left : (P : Taken → Type 0) (options : ParseOptions) (kind : Option AlertKind) (r : Rest) (taken : Taken) →
-    P (record { container = InQuote kind; rest = lose 1 (behind 1 (behind_indent r)) }) →
+    P (record { container = InQuote kind; rest = lose 1 (following 1 (after_indent r)) }) →
     quote_taken options kind r ≡ Some taken → P taken
 taken-left P options kind r taken h e = subst Of e (small (has_small_indent options r) refl)
   where
@@ -409,12 +409,12 @@ taken-left P options kind r taken h e = subst Of e (small (has_small_indent opti
     Of (Some t) = P t
 
     marked : (t : Bool) →
-        Of (cond t (Some (record { container = InQuote kind; rest = lose 1 (behind 1 (behind_indent r)) })) None)
+        Of (cond t (Some (record { container = InQuote kind; rest = lose 1 (following 1 (after_indent r)) })) None)
     marked true = h
     marked false = tt
 
     small : (t : Bool) → has_small_indent options r ≡ t → Of (quote_taken options kind r)
-    small true f = subst Of (sym (taken-small options kind r f)) (marked (begins_with 62 (behind_indent r).bytes))
+    small true f = subst Of (sym (taken-small options kind r f)) (marked (begins_with 62 (after_indent r).bytes))
     small false f = subst Of (sym (taken-large options kind r f)) tt
 
 pub quote-container : (options : ParseOptions) (kind : Option AlertKind) (r : Rest) (taken : Taken) →
@@ -425,6 +425,6 @@ quote-container options kind r taken e = taken-left (λ t. t.container ≡ InQuo
 pub quote-no_ending : (options : ParseOptions) (kind : Option AlertKind) (r : Rest) (taken : Taken) → NoEnding r.bytes →
     quote_taken options kind r ≡ Some taken → NoEnding taken.rest.bytes
 quote-no_ending options kind r taken h e =
-    let marker = behind_indent r in
+    let marker = after_indent r in
     taken-left (λ t. NoEnding t.rest.bytes) options kind r taken
-    (lose-no_ending 1 (behind 1 marker) (behind-no_ending 1 marker (lose-no_ending (indent r) r h))) e
+    (lose-no_ending 1 (following 1 marker) (following-no_ending 1 marker (lose-no_ending (indent r) r h))) e

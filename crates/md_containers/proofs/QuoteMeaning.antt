@@ -24,16 +24,16 @@ use Rattle.md_containers.specs.Quote.{alert_before_code, alert_mark_code, column
 use Rattle.md_containers.specs.Quote.{letter_code, marker_code, name_code, name_of, naming, quote_transition}
 use Rattle.md_containers.specs.Quote.{start_code, try_code, unnamed}
 use Rattle.md_containers.specs.QuoteRule.{HasQuote, QuoteMeans, alert_at, alert_letter, alert_mark, alert_marker}
-use Rattle.md_containers.specs.QuoteRule.{alert_name, alert_or_end, at_marker, behind_marker, ended_by, indent_at}
+use Rattle.md_containers.specs.QuoteRule.{alert_name, alert_or_end, at_marker, after_marker, ended_by, indent_at}
 use Rattle.md_containers.specs.QuoteRule.{no_name, opening_at, prefix_at, prefix_ended, quote_at}
-use Rattle.md_containers.proofs.ItemBeginMeaning.{frame_here, went-back}
+use Rattle.md_containers.proofs.ItemBeginMeaning.{frame_here, proceeded-back}
 use Rattle.md_leaves.specs.BlankRule.{blank_at}
 use Rattle.md_meaning.specs.Bytes.{is_end}
 use Rattle.md_events.specs.Ahead.{HasWhite, begins_white, white_rest}
 use Rattle.md_events.specs.Events.Nested.{enter, exit}
 use Rattle.md_events.specs.Spaces.{is_current, sees_white, small_indent}
 use Rattle.md_events.proofs.AheadLemmas.{small-some}
-use Rattle.md_events.proofs.WhiteMeaning.{begins-seen, behind_white, white-tried}
+use Rattle.md_events.proofs.WhiteMeaning.{begins-seen, following_white, white-tried}
 use Rattle.md_containers.proofs.ByteMeaning.{AsksFor, asked-some, asked-none}
 
 -- what is left of the rule at some state
@@ -82,7 +82,7 @@ quote_start_means B feed w false y has e f =
 
 indent-white : (next : Left) (options : ParseOptions) (cells : List Cell) (h : Here) → begins_white cells ≡ true →
     indent_at next options cells h ≡
-    next (white_rest (small_indent options) cells) (behind_white (small_indent options) cells h)
+    next (white_rest (small_indent options) cells) (following_white (small_indent options) cells h)
 unfolding indent_at
 indent-white next options cells h s = rw s refl
 
@@ -91,18 +91,18 @@ indent-none : (next : Left) (options : ParseOptions) (cells : List Cell) (h : He
 unfolding indent_at
 indent-none next options cells h s = rw s refl
 
-indent_means : (B : Behaviour) (feed : Feed) (w : World) (x : Bool) (state behind : QuoteState) (next : Left) →
-    HasWhite B → Leaves B state (indent_at next w.setting.options) → Leaves B behind next → Sees feed w →
+indent_means : (B : Behaviour) (feed : Feed) (w : World) (x : Bool) (state following : QuoteState) (next : Left) →
+    HasWhite B → Leaves B state (indent_at next w.setting.options) → Leaves B following next → Sees feed w →
     sees_white w.current ≡ x →
-    Steps B feed (Next (n.BlockQuote state)) w (indent_code behind w x).to (indent_code behind w x).world
-indent_means B feed w true state behind next white is then s e =
-    let f : Frame = frame_here (Next (n.BlockQuote behind)) Nok false w in
+    Steps B feed (Next (n.BlockQuote state)) w (indent_code following w x).to (indent_code following w x).world
+indent_means B feed w true state following next white is then s e =
+    let f : Frame = frame_here (Next (n.BlockQuote following)) Nok false w in
     let some : begins_white (feed w.point) ≡ true = begins-seen feed w s ∙ e in
-    begins_only B feed _ _ w (indent_code behind w true).world f refl refl
+    begins_only B feed _ _ w (indent_code following w true).world f refl refl
     (is _ _ ∙ indent-white next _ (feed w.point) (here w) some ∙ sym (then _ _)
     ∙ white-tried B feed f w.events (feed w.point) (here w) 1 (small_indent w.setting.options) white some
     (small-some w.setting.options) (omega arith) refl)
-indent_means B feed w false state behind next white is then s e =
+indent_means B feed w false state following next white is then s e =
     passes B feed _ _ w w refl refl
     (is _ _ ∙ indent-none next _ (feed w.point) (here w) (begins-seen feed w s ∙ e) ∙ sym (then _ _))
 
@@ -111,7 +111,7 @@ indent_means B feed w false state behind next white is then s e =
 asks-marker : (next : Left) →
     AsksFor 62 (λ p q. enter BlockQuotePrefix p ∷ enter BlockQuoteMarker p ∷ exit BlockQuoteMarker q ∷ [])
     (at_marker next)
-    (behind_marker next)
+    (after_marker next)
 unfolding at_marker
 asks-marker next = record { none = λ h. refl; some = λ c cs h. refl }
 
@@ -119,52 +119,52 @@ asks-marker next = record { none = λ h. refl; some = λ c cs h. refl }
 three : (events : List Event) (a b c : Event) → ((events ++ a ∷ []) ++ b ∷ []) ++ c ∷ [] ≡ events ++ a ∷ b ∷ c ∷ []
 three events a b c = simp append_assoc
 
-marker_means : (B : Behaviour) (feed : Feed) (w : World) (x : Bool) (state behind : QuoteState) (next : Left) →
-    Leaves B state (at_marker next) → Leaves B behind (behind_marker next) → Sees feed w →
+marker_means : (B : Behaviour) (feed : Feed) (w : World) (x : Bool) (state following : QuoteState) (next : Left) →
+    Leaves B state (at_marker next) → Leaves B following (after_marker next) → Sees feed w →
     is_current 62 w.current ≡ x →
-    Steps B feed (Next (n.BlockQuote state)) w (marker_code behind w x).to (marker_code behind w x).world
-marker_means B feed w true state behind next is then s e =
-    asked-some B feed _ _ w (marker_code behind w true).world (asks-marker next) is then s e refl
+    Steps B feed (Next (n.BlockQuote state)) w (marker_code following w x).to (marker_code following w x).world
+marker_means B feed w true state following next is then s e =
+    asked-some B feed _ _ w (marker_code following w true).world (asks-marker next) is then s e refl
     (three w.events (enter BlockQuotePrefix w.point) (enter BlockQuoteMarker w.point)
     (exit BlockQuoteMarker (after w.setting w.point))) refl refl
-marker_means B feed w false state behind next is then s e = asked-none B feed _ w (asks-marker next) is s e
+marker_means B feed w false state following next is then s e = asked-none B feed _ w (asks-marker next) is s e
 
 -- After the marker.
 
-behind-white : (next : Left) (feed : Feed) (w : World) (h : Here) (o : Option ℕ) → sees_white o ≡ true →
-    behind_marker next (ahead feed w o) h ≡
+following-white : (next : Left) (feed : Feed) (w : World) (h : Here) (o : Option ℕ) → sees_white o ≡ true →
+    after_marker next (ahead feed w o) h ≡
     next (feed (after w.setting w.point))
     (record h {
       events = h.events ++ enter SpaceOrTab h.point ∷ exit SpaceOrTab (after w.setting w.point) ∷ [];
       point = after w.setting w.point;
     })
-unfolding behind_marker
-behind-white next feed w h None e = cc
-behind-white next feed w h (Some b) e = rw e refl
+unfolding after_marker
+following-white next feed w h None e = cc
+following-white next feed w h (Some b) e = rw e refl
 
-behind-none : (next : Left) (feed : Feed) (w : World) (h : Here) (o : Option ℕ) → sees_white o ≡ false →
-    behind_marker next (ahead feed w o) h ≡ next (ahead feed w o) h
-unfolding behind_marker
-behind-none next feed w h None e = refl
-behind-none next feed w h (Some b) e = rw e refl
+following-none : (next : Left) (feed : Feed) (w : World) (h : Here) (o : Option ℕ) → sees_white o ≡ false →
+    after_marker next (ahead feed w o) h ≡ next (ahead feed w o) h
+unfolding after_marker
+following-none next feed w h None e = refl
+following-none next feed w h (Some b) e = rw e refl
 
-column_means : (B : Behaviour) (feed : Feed) (w : World) (x : Bool) (state behind : QuoteState) (next : Left) →
-    Leaves B state (behind_marker next) → Leaves B behind next → Sees feed w → sees_white w.current ≡ x →
-    Steps B feed (Next (n.BlockQuote state)) w (column_code behind w x).to (column_code behind w x).world
-column_means B feed w true state behind next is then s e =
+column_means : (B : Behaviour) (feed : Feed) (w : World) (x : Bool) (state following : QuoteState) (next : Left) →
+    Leaves B state (after_marker next) → Leaves B following next → Sees feed w → sees_white w.current ≡ x →
+    Steps B feed (Next (n.BlockQuote state)) w (column_code following w x).to (column_code following w x).world
+column_means B feed w true state following next is then s e =
     let q = after w.setting w.point in
     let a = enter SpaceOrTab w.point in
     let b = exit SpaceOrTab q in
-    moves B feed _ _ w (column_code behind w true).world (a ∷ b ∷ []) refl (append_assoc w.events (a ∷ []) (b ∷ []))
-    (is _ _ ∙ ap (λ (x : List Cell). behind_marker next x (here w)) s.next
-    ∙ behind-white next feed w (here w) w.current e
+    moves B feed _ _ w (column_code following w true).world (a ∷ b ∷ []) refl (append_assoc w.events (a ∷ []) (b ∷ []))
+    (is _ _ ∙ ap (λ (x : List Cell). after_marker next x (here w)) s.next
+    ∙ following-white next feed w (here w) w.current e
     ∙ ap (λ (es : List Event). next (feed q) (record (here w) { events = es; point = q }))
     (sym (append_assoc w.events (a ∷ []) (b ∷ [])))
     ∙ sym (then _ _))
-column_means B feed w false state behind next is then s e =
+column_means B feed w false state following next is then s e =
     passes B feed _ _ w w refl refl
-    (is _ _ ∙ ap (λ (x : List Cell). behind_marker next x (here w)) s.next
-    ∙ behind-none next feed w (here w) w.current e ∙ ap (λ (x : List Cell). next x (here w)) (sym s.next)
+    (is _ _ ∙ ap (λ (x : List Cell). after_marker next x (here w)) s.next
+    ∙ following-none next feed w (here w) w.current e ∙ ap (λ (x : List Cell). next x (here w)) (sym s.next)
     ∙ sym (then _ _))
 
 cont_after_means : (B : Behaviour) (options : ParseOptions) (feed : Feed) (w : World) (x : Bool) →
@@ -176,14 +176,14 @@ cont_after_means B options feed w true has s e =
     let b = exit SpaceOrTab q in
     let c = exit BlockQuotePrefix q in
     moves B feed _ _ w (cont_after_code w true).world (a ∷ b ∷ c ∷ []) refl (three w.events a b c)
-    (has.each its.ContAfter _ _ ∙ ap (λ (x : List Cell). behind_marker prefix_ended x (here w)) s.next
-    ∙ behind-white prefix_ended feed w (here w) w.current e
+    (has.each its.ContAfter _ _ ∙ ap (λ (x : List Cell). after_marker prefix_ended x (here w)) s.next
+    ∙ following-white prefix_ended feed w (here w) w.current e
     ∙ ap (λ (es : List Event). prefix_ended (feed q) (record (here w) { events = es; point = q }))
     (sym (append_assoc w.events (a ∷ []) (b ∷ []))))
 cont_after_means B options feed w false has s e =
     moves B feed _ _ w (cont_after_code w false).world (exit BlockQuotePrefix w.point ∷ []) refl refl
-    (has.each its.ContAfter _ _ ∙ ap (λ (x : List Cell). behind_marker prefix_ended x (here w)) s.next
-    ∙ behind-none prefix_ended feed w (here w) w.current e
+    (has.each its.ContAfter _ _ ∙ ap (λ (x : List Cell). after_marker prefix_ended x (here w)) s.next
+    ∙ following-none prefix_ended feed w (here w) w.current e
     ∙ ap (λ (x : List Cell). prefix_ended x (here w)) (sym s.next))
 
 -- The marker of an alert.
@@ -195,7 +195,7 @@ ended-resumed : (B : Behaviour) (options : ParseOptions) (feed : Feed) (w : Worl
     (frame_here (Next (n.BlockQuote its.PrefixEnd)) (Next (n.BlockQuote its.PrefixEnd)) false w) o
 ended-resumed B options feed w (Accepts k rest) has = sym (has.each its.PrefixEnd rest k)
 ended-resumed B options feed w (Refuses s g) has =
-    sym (went-back B (Next (n.BlockQuote its.PrefixEnd)) feed w s g ∙ has.each its.PrefixEnd _ _)
+    sym (proceeded-back B (Next (n.BlockQuote its.PrefixEnd)) feed w s g ∙ has.each its.PrefixEnd _ _)
 ended-resumed B options feed w Fails has = refl
 
 try_means : (B : Behaviour) (feed : Feed) (w : World) → HasQuote B w.setting.options →

@@ -16,11 +16,11 @@ use Rattle.md_engine.specs.declared.state.State.TheVariants.{Next, Ok, Retry}
 use Rattle.md_engine.specs.declared.tokenizer.Frame.{Frame}
 use Rattle.md_engine.specs.Run.{Step, reading}
 use Rattle.md_engine.specs.World.{World, after, looks, looks_at}
-use Rattle.md_engine.proofs.Loops.{CameTo}
+use Rattle.md_engine.proofs.Loops.{ArrivedAt}
 use Rattle.md_engine.proofs.Walks.{Within, then-holds, then-stays, then-takes, within-more, within-one}
 use Rattle.md_containers.specs.Ahead.{ahead}
 use Rattle.md_containers.specs.QuotePrefix.{IsPlainPrefix, prefixed}
-use Rattle.md_containers.proofs.Ahead.{StandsAhead, seen-byte, stands-ahead, text-after}
+use Rattle.md_containers.proofs.Ahead.{TwoAhead, seen-byte, valid-ahead, text-after}
 use Rattle.md_containers.specs.Quote.{cont_after_code, cont_before_code, cont_start_code, quote_transition}
 use Rattle.md_events.specs.Events.Nested.{enter, exit}
 use Rattle.md_events.specs.Spaces.{is_current, sees_white}
@@ -34,10 +34,10 @@ HasQuote T =
 
 -- an attempt at the prefix of a further line takes it, and what follows it is seen
 pub prefix-run : (T : Step) (is_end : Bool) (s : State) (v : World) (next : StateName) (nok : State) (w : World) →
-    HasQuote T → CameTo T is_end s v (n.BlockQuote its.ContStart) (tried w (Next next) nok) →
-    w.current ≡ looks w → Within w → IsPlainPrefix w → CameTo T is_end s v next (prefixed w)
-prefix-run T is_end s v next nok w quote came seen within prefix =
-    then-holds T is_end s v (n.BlockQuote its.ContAfter) next (reading wb) wc f w.frames behind
+    HasQuote T → ArrivedAt T is_end s v (n.BlockQuote its.ContStart) (tried w (Next next) nok) →
+    w.current ≡ looks w → Within w → IsPlainPrefix w → ArrivedAt T is_end s v next (prefixed w)
+prefix-run T is_end s v next nok w quote arrived seen within prefix =
+    then-holds T is_end s v (n.BlockQuote its.ContAfter) next (reading wb) wc f w.frames following
     (quote its.ContAfter (reading wb) Ok wc
     (ap (λ (b : Bool). cont_after_code (reading wb) b) (ap sees_white prefix.space))) refl in-wb refl refl refl within
     prefix.next
@@ -66,23 +66,23 @@ prefix-run T is_end s v next nok w quote came seen within prefix =
         (within-more (f ∷ w.frames) _ (enter BlockQuoteMarker w.point ∷ [])
         (within-more (f ∷ w.frames) w.events (enter BlockQuotePrefix w.point ∷ []) in-wa))
 
-    at_marker : CameTo T is_end s v (n.BlockQuote its.ContBefore) wa
+    at_marker : ArrivedAt T is_end s v (n.BlockQuote its.ContBefore) wa
     at_marker =
-        then-stays T is_end s v (n.BlockQuote its.ContStart) (n.BlockQuote its.ContBefore) wa wa came
+        then-stays T is_end s v (n.BlockQuote its.ContStart) (n.BlockQuote its.ContBefore) wa wa arrived
         (quote its.ContStart wa (Retry (n.BlockQuote its.ContBefore)) wa
         (ap (λ (b : Bool). cont_start_code wa b) (ap sees_white is))) refl in-wa refl seen
 
-    behind : CameTo T is_end s v (n.BlockQuote its.ContAfter) (reading wb)
-    behind =
+    following : ArrivedAt T is_end s v (n.BlockQuote its.ContAfter) (reading wb)
+    following =
         then-takes T is_end s v (n.BlockQuote its.ContBefore) (n.BlockQuote its.ContAfter) wa wb at_marker
         (quote its.ContBefore wa (Next (n.BlockQuote its.ContAfter)) wb
         (ap (λ (b : Bool). cont_before_code wa b) (ap (is_current 62) is))) refl in-wa prefix.inside
 
 -- It is two bytes of text.
 pub prefix-ahead : (w : World) → IsPlainPrefix w → IsPlaced w.setting.bytes w.point →
-    w.setting.limit ≤ length w.setting.bytes → StandsAhead w.setting w.point
+    w.setting.limit ≤ length w.setting.bytes → TwoAhead w.setting w.point
 prefix-ahead w plain placed readable =
-    stands-ahead w.setting w.point placed inside (ap (has class.Text) here.1)
+    valid-ahead w.setting w.point placed inside (ap (has class.Text) here.1)
     (ap (has class.Text) space.1)
   where
     here : (w.point.index < w.setting.limit) × (slice_index w.setting.bytes w.point.index ≡ 62)

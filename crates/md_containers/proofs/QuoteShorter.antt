@@ -5,7 +5,7 @@ use Rattle.md_engine.specs.declared.configuration.ParseOptions.{ParseOptions}
 use Rattle.md_engine.specs.Meaning.{Accepts, Cell, Fails, Here, Outcome, Refuses}
 use Rattle.md_containers.specs.Quote.{name_of}
 use Rattle.md_containers.specs.QuoteRule.{alert_at, alert_letter, alert_mark, alert_marker, alert_name, alert_or_end}
-use Rattle.md_containers.specs.QuoteRule.{at_marker, behind_marker, ended_by, indent_at, opening_at, prefix_at}
+use Rattle.md_containers.specs.QuoteRule.{at_marker, after_marker, ended_by, indent_at, opening_at, prefix_at}
 use Rattle.md_containers.specs.QuoteRule.{prefix_ended, quote_at}
 use Rattle.md_containers.proofs.Shorter.{Shortens, cond-shortens}
 use Rattle.md_containers.proofs.QuoteCells.{ending-shorter}
@@ -24,18 +24,18 @@ Takes n next = (cells : List Cell) (h : Here) → length cells ≤ n → Shorten
 abbrev Keeps : ℕ → (List Cell → Here → Outcome) → Type 0
 Keeps n next = (cells : List Cell) (h : Here) → length cells < n → Shortens n (next cells h)
 
-behind_marker-shortens : (n : ℕ) (next : List Cell → Here → Outcome) (cells : List Cell) (h : Here) → Keeps n next →
-    length cells < n → Shortens n (behind_marker next cells h)
-unfolding behind_marker
-behind_marker-shortens n next [] h keeps lt = keeps [] h lt
-behind_marker-shortens n next (c ∷ cs) h keeps lt =
+after_marker-shortens : (n : ℕ) (next : List Cell → Here → Outcome) (cells : List Cell) (h : Here) → Keeps n next →
+    length cells < n → Shortens n (after_marker next cells h)
+unfolding after_marker
+after_marker-shortens n next [] h keeps lt = keeps [] h lt
+after_marker-shortens n next (c ∷ cs) h keeps lt =
     cond-shortens n (is_white c.byte) _ _ (keeps cs _ (omega (arith, lt))) (keeps (c ∷ cs) h lt)
 
 at_marker-shortens : (n : ℕ) (next : List Cell → Here → Outcome) → Keeps n next → Takes n (at_marker next)
 unfolding at_marker
 at_marker-shortens n next keeps [] h le = tt
 at_marker-shortens n next keeps (c ∷ cs) h le =
-    cond-shortens n (nat_eq c.byte 62) _ _ (behind_marker-shortens n next cs _ keeps (omega (arith, le))) tt
+    cond-shortens n (nat_eq c.byte 62) _ _ (after_marker-shortens n next cs _ keeps (omega (arith, le))) tt
 
 indent-shortens : (options : ParseOptions) (n : ℕ) (next : List Cell → Here → Outcome) (cells : List Cell) (h : Here) →
     ((cells' : List Cell) (k : Here) → length cells' ≤ length cells → Shortens n (next cells' k)) →

@@ -22,8 +22,8 @@ use Rattle.md_leaves.proofs.BlankTermination.{BlankFits}
 use Rattle.md_meaning.specs.Bytes.{is_end}
 use Rattle.md_events.specs.Spaces.{IsRest, is_current, later_ready, rest_ready, sees_white, small_indent}
 use Rattle.md_events.specs.Transition.{entered, exited}
-use Rattle.md_events.proofs.SpacesTermination.{Does, WhiteFits, accepts-behind, rest-calm, rest-none, seen-in, seen-some}
-use Rattle.md_events.proofs.SpacesTermination.{white_try, white_try_later}
+use Rattle.md_events.proofs.SpacesTermination.{Does, WhiteFits, accepts-following, rest-calm, rest-none, seen-in}
+use Rattle.md_events.proofs.SpacesTermination.{seen-some, white_try, white_try_later}
 
 pub record QuoteFits (T : Scheme) : Type 1 where
   pub white : WhiteFits T
@@ -119,7 +119,7 @@ cont_after_ends : (T : Scheme) (w : World) (x : Bool) → QuoteFits T → rest_r
     sees_white (seen (position w)) ≡ x → Does T (n.BlockQuote its.ContAfter) w (cont_after_code w x)
 cont_after_ends T w true has r e =
     let inside = seen-in (position w) sees_white refl e in (
-      accepts-behind T (n.BlockQuote its.ContAfter) w _ _
+      accepts-following T (n.BlockQuote its.ContAfter) w _ _
           (cont_after_code w true).world.events w.scratch inside r.1 r.0,
       refl,
     )

@@ -9,21 +9,21 @@ use Rattle.md_meaning.specs.Rest.{is_white}
 use Rattle.md_leaves.specs.LeafStart.{entered_here, start_at}
 use Rattle.md_leaves.proofs.LeafStart.{at-none, at-off, at-white}
 use Rattle.md_events.specs.Ahead.{begins_white, white_rest}
-use Rattle.md_events.specs.Look.{first_seen, seen_behind}
+use Rattle.md_events.specs.Look.{first_seen, seen_after}
 use Rattle.md_events.specs.Spaces.{IsRest, small_indent}
 use Rattle.md_events.proofs.AheadLemmas.{none-rest}
 use Rattle.md_events.proofs.LookLemmas.{rest-begins}
 use Rattle.md_events.proofs.SpacesTermination.{rest-calm}
-use Rattle.md_events.proofs.WhiteMeaning.{behind_white}
+use Rattle.md_events.proofs.WhiteMeaning.{following_white}
 
 -- what is left after the indent refuses where such a byte, or whitespace, is first
-pub start-looked : (name : Name) (on : Bool) (behind : List Cell → Here → Outcome) (may : ℕ → Bool)
+pub start-looked : (name : Name) (on : Bool) (following : List Cell → Here → Outcome) (may : ℕ → Bool)
     (options : ParseOptions) (cells : List Cell) (h : Here) (b : ℕ) →
     ((cells : List Cell) (h : Here) (b : ℕ) → first_seen cells ≡ Some b → may b ≡ false →
-    behind cells h ≡ Refuses h.scratch h.flags) →
-    ((c : ℕ) → is_white c ≡ true → may c ≡ false) → IsRest h.scratch → seen_behind cells ≡ Some b → may b ≡ false →
-    start_at name on behind options cells h ≡ Refuses h.scratch h.flags
-start-looked name on behind may options cells h b dark white is seen e = go on (begins_white cells) refl refl
+    following cells h ≡ Refuses h.scratch h.flags) →
+    ((c : ℕ) → is_white c ≡ true → may c ≡ false) → IsRest h.scratch → seen_after cells ≡ Some b → may b ≡ false →
+    start_at name on following options cells h ≡ Refuses h.scratch h.flags
+start-looked name on following may options cells h b dark white is seen e = go on (begins_white cells) refl refl
   where
     room : ℕ
     room = small_indent options
@@ -35,17 +35,17 @@ start-looked name on behind may options cells h b dark white is seen e = go on (
     other c (inl k) = white c k
     other c (inr same) = rw same e
 
-    refused : (k : Here) → behind (white_rest room cells) k ≡ Refuses k.scratch k.flags
+    refused : (k : Here) → following (white_rest room cells) k ≡ Refuses k.scratch k.flags
     refused k = dark (white_rest room cells) k first.0 first.1 (other first.0 first.2)
 
     go : (x y : Bool) → on ≡ x → begins_white cells ≡ y →
-        start_at name on behind options cells h ≡ Refuses h.scratch h.flags
-    go false y off k = at-off name on behind options cells h off
+        start_at name on following options cells h ≡ Refuses h.scratch h.flags
+    go false y off k = at-off name on following options cells h off
     go true true is_on k =
-        at-white name on behind options cells h is_on k
-        ∙ refused (behind_white room cells (entered_here name h))
+        at-white name on following options cells h is_on k
+        ∙ refused (following_white room cells (entered_here name h))
         ∙ ap (λ (s : Scratch). Refuses s h.flags) (rest-calm h.scratch is ∙ sym is)
     go true false is_on k =
-        at-none name on behind options cells h is_on k
-        ∙ ap (λ (l : List Cell). behind l (entered_here name h)) (sym (none-rest room cells k))
+        at-none name on following options cells h is_on k
+        ∙ ap (λ (l : List Cell). following l (entered_here name h)) (sym (none-rest room cells k))
         ∙ refused (entered_here name h)

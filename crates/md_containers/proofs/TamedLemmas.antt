@@ -7,8 +7,8 @@ use Rattle.std.proofs.lemmas.Bool.{and_from, and_parts, or_from}
 use Rattle.md_engine.specs.declared.event.Name.{Name}
 use Rattle.md_engine.specs.declared.event.Name.TheVariants as n
 use Rattle.md_containers.specs.Unlisted.{in_place}
-use Rattle.md_events.specs.Events.Grammar.{Expression, Many, Never, Nothing, One, Or, Then, and_then, behind}
-use Rattle.md_events.specs.Events.Grammar.{behind_block, blocks, inside, may_end, one, or_else, white}
+use Rattle.md_events.specs.Events.Grammar.{Expression, Many, Never, Nothing, One, Or, Then, and_then, following}
+use Rattle.md_events.specs.Events.Grammar.{after_block, blocks, inside, may_end, one, or_else, white}
 use Rattle.md_events.specs.Events.Words.{same_name}
 
 -- Containers.
@@ -27,7 +27,7 @@ pub data Stage : Type 0 where
   AtFront : (prefix : Name) → IsOfNoList prefix → Stage
   AtPrefix : (prefix : Name) → IsOfNoList prefix → Stage
   AtLine : Stage
-  BehindBlock : Stage
+  AfterBlock : Stage
   AtMark : Stage
   AtFrontmatter : Stage
   AtBoth : Stage
@@ -37,10 +37,10 @@ abbrev pub left_at : Stage → Expression
 left_at (AtFront prefix apart) = Then white (Then (one prefix) blocks)
 left_at (AtPrefix prefix apart) = Then (one prefix) blocks
 left_at AtLine = blocks
-left_at BehindBlock = behind_block
+left_at AfterBlock = after_block
 left_at AtMark = Then (one n.ByteOrderMark) blocks
-left_at AtFrontmatter = Then (one n.Frontmatter) behind_block
-left_at AtBoth = Then (one n.ByteOrderMark) (Then (one n.Frontmatter) behind_block)
+left_at AtFrontmatter = Then (one n.Frontmatter) after_block
+left_at AtBoth = Then (one n.ByteOrderMark) (Then (one n.Frontmatter) after_block)
 left_at Dead = Never
 
 abbrev HasStage : Expression → Type 0
@@ -49,8 +49,8 @@ HasStage x = (s : Stage) × (x ≡ left_at s)
 is-line : (x : Expression) → x ≡ blocks → HasStage x
 is-line x e = (AtLine, e)
 
-is-behind : (x : Expression) → x ≡ behind_block → HasStage x
-is-behind x e = (BehindBlock, e)
+is-following : (x : Expression) → x ≡ after_block → HasStage x
+is-following x e = (AfterBlock, e)
 
 is-dead : (x : Expression) → x ≡ Never → HasStage x
 is-dead x e = (Dead, e)
@@ -61,28 +61,28 @@ at-prefix true = (AtLine, refl)
 at-prefix false = (Dead, refl)
 
 -- at the begin of a line comes what leaves it there, or a block, or nothing
-line-behind : (name : Name) → HasStage (behind name blocks)
-line-behind n.SpaceOrTab = (AtLine, refl)
-line-behind _ = first_of (search is-line, search is-behind, search is-dead)
+line-following : (name : Name) → HasStage (following name blocks)
+line-following n.SpaceOrTab = (AtLine, refl)
+line-following _ = first_of (search is-line, search is-following, search is-dead)
 
-stage-behind : (s : Stage) (name : Name) → HasStage (behind name (left_at s))
-stage-behind (AtFront prefix apart) n.SpaceOrTab =
+stage-following : (s : Stage) (name : Name) → HasStage (following name (left_at s))
+stage-following (AtFront prefix apart) n.SpaceOrTab =
     let front : Bool → Expression =
     λ same. or_else (Then (one prefix) blocks) (or_else (and_then (cond (same || false) Nothing Never) blocks) Never) in
     (AtPrefix prefix apart, ap front apart.space)
-stage-behind (AtFront prefix apart) name = at-prefix (list_any (same_name name) (prefix ∷ []))
-stage-behind (AtPrefix prefix apart) name = at-prefix (list_any (same_name name) (prefix ∷ []))
-stage-behind AtLine name = line-behind name
-stage-behind BehindBlock n.LineEnding = (AtLine, refl)
-stage-behind BehindBlock n.BlankLineEnding = (AtLine, refl)
-stage-behind BehindBlock _ = (Dead, refl)
-stage-behind AtMark n.ByteOrderMark = (AtLine, refl)
-stage-behind AtMark _ = (Dead, refl)
-stage-behind AtFrontmatter n.Frontmatter = (BehindBlock, refl)
-stage-behind AtFrontmatter _ = (Dead, refl)
-stage-behind AtBoth n.ByteOrderMark = (AtFrontmatter, refl)
-stage-behind AtBoth _ = (Dead, refl)
-stage-behind Dead name = (Dead, refl)
+stage-following (AtFront prefix apart) name = at-prefix (list_any (same_name name) (prefix ∷ []))
+stage-following (AtPrefix prefix apart) name = at-prefix (list_any (same_name name) (prefix ∷ []))
+stage-following AtLine name = line-following name
+stage-following AfterBlock n.LineEnding = (AtLine, refl)
+stage-following AfterBlock n.BlankLineEnding = (AtLine, refl)
+stage-following AfterBlock _ = (Dead, refl)
+stage-following AtMark n.ByteOrderMark = (AtLine, refl)
+stage-following AtMark _ = (Dead, refl)
+stage-following AtFrontmatter n.Frontmatter = (AfterBlock, refl)
+stage-following AtFrontmatter _ = (Dead, refl)
+stage-following AtBoth n.ByteOrderMark = (AtFrontmatter, refl)
+stage-following AtBoth _ = (Dead, refl)
+stage-following Dead name = (Dead, refl)
 
 -- All else.
 
@@ -120,19 +120,19 @@ plain-one : (b : Bool) → is_plain (cond b Nothing Never) ≡ true
 plain-one true = refl
 plain-one false = refl
 
-plain-behind : (name : Name) (x : Expression) → is_plain x ≡ true → is_plain (behind name x) ≡ true
-plain-behind name Never h = refl
-plain-behind name Nothing h = refl
-plain-behind name (One names) h = plain-one (list_any (same_name name) names)
-plain-behind name (Then x y) h =
+plain-following : (name : Name) (x : Expression) → is_plain x ≡ true → is_plain (following name x) ≡ true
+plain-following name Never h = refl
+plain-following name Nothing h = refl
+plain-following name (One names) h = plain-one (list_any (same_name name) names)
+plain-following name (Then x y) h =
     let two = and_parts (is_plain x) (is_plain y) h in
-    plain-or_else (and_then (behind name x) y) (cond (may_end x) (behind name y) Never)
-    (plain-and_then (behind name x) y (plain-behind name x two.0) two.1)
-    (plain-if (may_end x) (behind name y) (plain-behind name y two.1))
-plain-behind name (Or x y) h =
+    plain-or_else (and_then (following name x) y) (cond (may_end x) (following name y) Never)
+    (plain-and_then (following name x) y (plain-following name x two.0) two.1)
+    (plain-if (may_end x) (following name y) (plain-following name y two.1))
+plain-following name (Or x y) h =
     let two = and_parts (is_plain x) (is_plain y) h in
-    plain-or_else (behind name x) (behind name y) (plain-behind name x two.0) (plain-behind name y two.1)
-plain-behind name (Many x) h = plain-and_then (behind name x) (Many x) (plain-behind name x h) h
+    plain-or_else (following name x) (following name y) (plain-following name x two.0) (plain-following name y two.1)
+plain-following name (Many x) h = plain-and_then (following name x) (Many x) (plain-following name x h) h
 
 -- a name of a list, or of an item
 abbrev pub IsListing : Name → Type 0
@@ -180,35 +180,35 @@ never-or : (x y : Expression) → x ≡ Never → y ≡ Never → or_else x y �
 never-or x y h k = ap (λ (z : Expression). or_else z y) h ∙ k
 
 -- where no list may come, none does
-plain-never : (l : Name) → IsListing l → (x : Expression) → is_plain x ≡ true → behind l x ≡ Never
+plain-never : (l : Name) → IsListing l → (x : Expression) → is_plain x ≡ true → following l x ≡ Never
 plain-never l is Never h = refl
 plain-never l is Nothing h = refl
 plain-never l is (One names) h = ap (λ (b : Bool). cond b Nothing Never) (listing-any l is names h)
 plain-never l is (Then x y) h =
     let two = and_parts (is_plain x) (is_plain y) h in
-    never-or (and_then (behind l x) y) (cond (may_end x) (behind l y) Never)
-    (never-then (behind l x) y (plain-never l is x two.0))
-    (never-if (may_end x) (behind l y) (plain-never l is y two.1))
+    never-or (and_then (following l x) y) (cond (may_end x) (following l y) Never)
+    (never-then (following l x) y (plain-never l is x two.0))
+    (never-if (may_end x) (following l y) (plain-never l is y two.1))
 plain-never l is (Or x y) h =
     let two = and_parts (is_plain x) (is_plain y) h in
-    never-or (behind l x) (behind l y) (plain-never l is x two.0) (plain-never l is y two.1)
-plain-never l is (Many x) h = never-then (behind l x) (Many x) (plain-never l is x h)
+    never-or (following l x) (following l y) (plain-never l is x two.0) (plain-never l is y two.1)
+plain-never l is (Many x) h = never-then (following l x) (Many x) (plain-never l is x h)
 
 -- Both.
 
 abbrev pub IsTame : Expression → Type 0
 IsTame x = HasStage x ⊎ (is_plain x ≡ true)
 
-pub tame-behind : (name : Name) (x : Expression) → IsTame x → IsTame (behind name x)
-tame-behind name x (inl h) =
-    let next = stage-behind h.0 name in inl (next.0, ap (behind name) h.1 ∙ next.1)
-tame-behind name x (inr h) = inr (plain-behind name x h)
+pub tame-following : (name : Name) (x : Expression) → IsTame x → IsTame (following name x)
+tame-following name x (inl h) =
+    let next = stage-following h.0 name in inl (next.0, ap (following name) h.1 ∙ next.1)
+tame-following name x (inr h) = inr (plain-following name x h)
 
 -- where a list comes, blocks of a container continue after it; and an item is in none
 abbrev pub ListsWell : Expression → Type 0
 ListsWell x =
-    ((behind n.ListOrdered x ≡ behind_block) ⊎ (behind n.ListOrdered x ≡ Never))
-    × (behind n.ListUnordered x ≡ behind n.ListOrdered x) × (behind n.ListItem x ≡ Never)
+    ((following n.ListOrdered x ≡ after_block) ⊎ (following n.ListOrdered x ≡ Never))
+    × (following n.ListUnordered x ≡ following n.ListOrdered x) × (following n.ListItem x ≡ Never)
 
 -- no list comes where the prefix must
 prefix-first : (same : Bool) → same ≡ false →
@@ -234,16 +234,16 @@ pub tame-lists : (x : Expression) → IsTame x → ListsWell x
 tame-lists x (inl h) =
     let well : ListsWell (left_at h.0) = stage-lists h.0 in (
       moved well.0,
-      ap (behind n.ListUnordered) h.1 ∙ well.1 ∙ ap (behind n.ListOrdered) (sym h.1),
-      ap (behind n.ListItem) h.1 ∙ well.2,
+      ap (following n.ListUnordered) h.1 ∙ well.1 ∙ ap (following n.ListOrdered) (sym h.1),
+      ap (following n.ListItem) h.1 ∙ well.2,
     )
   where
-    moved : (behind n.ListOrdered (left_at h.0) ≡ behind_block) ⊎ (behind n.ListOrdered (left_at h.0) ≡ Never) →
-        (behind n.ListOrdered x ≡ behind_block) ⊎ (behind n.ListOrdered x ≡ Never)
-    moved (inl k) = inl (ap (behind n.ListOrdered) h.1 ∙ k)
-    moved (inr k) = inr (ap (behind n.ListOrdered) h.1 ∙ k)
+    moved : (following n.ListOrdered (left_at h.0) ≡ after_block) ⊎ (following n.ListOrdered (left_at h.0) ≡ Never) →
+        (following n.ListOrdered x ≡ after_block) ⊎ (following n.ListOrdered x ≡ Never)
+    moved (inl k) = inl (ap (following n.ListOrdered) h.1 ∙ k)
+    moved (inr k) = inr (ap (following n.ListOrdered) h.1 ∙ k)
 tame-lists x (inr h) =
-    let none : behind n.ListOrdered x ≡ Never = plain-never n.ListOrdered tt x h in
+    let none : following n.ListOrdered x ≡ Never = plain-never n.ListOrdered tt x h in
     (inr none, plain-never n.ListUnordered tt x h ∙ sym none, plain-never n.ListItem tt x h)
 
 -- a container before its first prefix

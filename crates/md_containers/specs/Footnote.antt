@@ -47,8 +47,8 @@ breaks_label b = (is_white b || (b == 10)) || (b == left_bracket)
 abbrev pub refused : World → Transition
 refused w = record { to = Nok; world = record w { scratch = without_size w.scratch } }
 
-abbrev pub goes_on : FootnoteState → World → Transition
-goes_on state w = record { to = Next (n.GfmFootnoteDefinition state); world = w }
+abbrev pub is_continued : FootnoteState → World → Transition
+is_continued state w = record { to = Next (n.GfmFootnoteDefinition state); world = w }
 
 abbrev pub start_transition : World → Transition
 start_transition w =
@@ -58,7 +58,7 @@ start_transition w =
 -- by whether `[` is here
 abbrev pub label_before_code : World → Bool → Transition
 label_before_code w true =
-    goes_on its.LabelAtMarker
+    is_continued its.LabelAtMarker
     (exited
     (taken
     (entered (entered (entered w GfmFootnoteDefinitionPrefix) GfmFootnoteDefinitionLabel)
@@ -69,7 +69,7 @@ label_before_code w false = record { to = Nok; world = w }
 -- by whether `^` is here
 abbrev pub label_at_marker_code : World → Bool → Transition
 label_at_marker_code w true =
-    goes_on its.LabelInside
+    is_continued its.LabelInside
     (entered_link
     (entered (exited (taken (entered w GfmFootnoteDefinitionMarker)) GfmFootnoteDefinitionMarker)
     GfmFootnoteDefinitionLabelString)
@@ -80,13 +80,13 @@ label_at_marker_code w false = record { to = Nok; world = w }
 abbrev pub taken_as : World → FootnoteState → Transition
 taken_as w state =
     if nat_le most w.scratch.size then refused w
-    else goes_on state (record (taken w) { scratch = record w.scratch { size = w.scratch.size + 1 } })
+    else is_continued state (record (taken w) { scratch = record w.scratch { size = w.scratch.size + 1 } })
 
 -- at the `]` that ends the label, by whether it is empty
 abbrev pub closed_code : World → Bool → Transition
 closed_code w true = refused w
 closed_code w false =
-    goes_on its.LabelAfter
+    is_continued its.LabelAfter
     (record (exited
     (exited
     (taken (entered (exited (exited w Data) GfmFootnoteDefinitionLabelString) GfmFootnoteDefinitionLabelMarker))
@@ -108,7 +108,7 @@ label_escape_code w false = record { to = Retry (n.GfmFootnoteDefinition its.Lab
 
 -- by whether `:` is here
 abbrev pub label_after_code : World → Bool → Transition
-label_after_code w true = goes_on its.MarkerAfter (exited (taken (entered w DefinitionMarker)) DefinitionMarker)
+label_after_code w true = is_continued its.MarkerAfter (exited (taken (entered w DefinitionMarker)) DefinitionMarker)
 label_after_code w false = record { to = Nok; world = w }
 
 -- by whether whitespace is here

@@ -57,16 +57,16 @@ footnote_marked front (c ∷ cs) p =
     else None
 
 -- and after its indent.
-abbrev pub footnote_behind : List Event → List Cell → Point → Option ItemPassed
-footnote_behind front [] p = None
-footnote_behind front (c ∷ cs) p =
+abbrev pub footnote_after : List Event → List Cell → Point → Option ItemPassed
+footnote_after front [] p = None
+footnote_after front (c ∷ cs) p =
     if c.byte == left_bracket then footnote_marked (front ++ bracket_events p c.after) cs c.after else None
 
 -- the footnote definition that opens, if one does
 abbrev pub footnote_new : ParseOptions → List Cell → Point → Option ItemPassed
 footnote_new options cells p =
     if options.constructs.gfm_footnote_definition
-    then footnote_behind (enter GfmFootnoteDefinition p ∷ indent_events options cells p)
+    then footnote_after (enter GfmFootnoteDefinition p ∷ indent_events options cells p)
     (white_rest (small_indent options) cells) (white_end (small_indent options) cells p)
     else None
 

@@ -20,7 +20,7 @@ use Rattle.md_engine.specs.World.{World}
 use Rattle.md_containers.specs.Footnote.{FootnoteInvariant, breaks_label, footnote_held, label_link, most}
 use Rattle.md_containers.specs.Footnote.{footnote_transition}
 use Rattle.md_containers.specs.Item.{without_size}
-use Rattle.md_containers.specs.ItemRule.{behind_columns}
+use Rattle.md_containers.specs.ItemRule.{after_columns}
 use Rattle.md_meaning.specs.Ascii.{backslash, caret, colon, left_bracket, right_bracket}
 use Rattle.md_meaning.specs.Containers.{is_label_mark}
 use Rattle.md_leaves.specs.LeafStart.{start_at}
@@ -79,24 +79,24 @@ label_ended p q =
 -- What is left.
 
 -- after the prefix: the footnote definition opens
-unfoldable pub behind_prefix : List Cell → Here → Outcome
-behind_prefix cells h =
+unfoldable pub following_prefix : List Cell → Here → Outcome
+following_prefix cells h =
     Accepts
     (record h { events = h.events ++ exit GfmFootnoteDefinitionPrefix h.point ∷ []; flags = footnote_held h.flags })
     cells
 
 -- after `:` all whitespace belongs to the prefix
-unfoldable pub behind_colon : List Cell → Here → Outcome
-behind_colon cells h =
-    if begins_white cells then behind_prefix (white_rest any_size cells) (behind_columns any_size cells h)
-    else behind_prefix cells h
+unfoldable pub following_colon : List Cell → Here → Outcome
+following_colon cells h =
+    if begins_white cells then following_prefix (white_rest any_size cells) (after_columns any_size cells h)
+    else following_prefix cells h
 
 -- after the label
 unfoldable pub at_colon : List Cell → Here → Outcome
 at_colon [] h = Refuses h.scratch h.flags
 at_colon (c ∷ cs) h =
     if c.byte == colon
-    then behind_colon cs (record h { events = h.events ++ pair DefinitionMarker h.point c.after; point = c.after })
+    then following_colon cs (record h { events = h.events ++ pair DefinitionMarker h.point c.after; point = c.after })
     else Refuses h.scratch h.flags
 
 -- in the label, of which some bytes were read: it may have so many in all
@@ -144,8 +144,8 @@ footnote_behaves options its.LabelAtMarker cells h = at_caret cells h
 footnote_behaves options its.LabelInside cells h = in_label false cells h
 footnote_behaves options its.LabelEscape cells h = in_label true cells h
 footnote_behaves options its.LabelAfter cells h = at_colon cells h
-footnote_behaves options its.MarkerAfter cells h = behind_colon cells h
-footnote_behaves options its.WhitespaceAfter cells h = behind_prefix cells h
+footnote_behaves options its.MarkerAfter cells h = following_colon cells h
+footnote_behaves options its.WhitespaceAfter cells h = following_prefix cells h
 
 pub record HasFootnote (B : Behaviour) (options : ParseOptions) : Type 0 where
   pub white : HasWhite B

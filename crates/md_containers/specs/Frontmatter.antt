@@ -56,9 +56,9 @@ start_by w true = start_at w w.current
 start_by w false = record { to = Nok; world = w }
 
 -- after a sequence, by whether whitespace is here
-abbrev pub behind_part : World → FrontState → Bool → Transition
-behind_part w state true = white_then w 0 any_size (Next (n.Frontmatter state)) Nok
-behind_part w state false = record { to = Retry (n.Frontmatter state); world = w }
+abbrev pub after_part : World → FrontState → Bool → Transition
+after_part w state true = white_then w 0 any_size (Next (n.Frontmatter state)) Nok
+after_part w state false = record { to = Retry (n.Frontmatter state); world = w }
 
 -- by whether one more marker is taken, whether there are just three, and whether whitespace is here
 abbrev pub sequence_code : FrontState → FrontState → Scratch → World → Bool → Bool → Bool → Transition
@@ -68,7 +68,7 @@ sequence_code here next left w true all white =
       world = record (taken w) { scratch = record w.scratch { size = w.scratch.size + 1 } };
     }
 sequence_code here next left w false true white =
-    behind_part (exited (record w { scratch = without_size w.scratch }) part.FrontmatterSequence) next white
+    after_part (exited (record w { scratch = without_size w.scratch }) part.FrontmatterSequence) next white
 sequence_code here next left w false false white = record { to = Nok; world = record w { scratch = left } }
 
 -- whether one more marker is taken, of at most three

@@ -11,7 +11,7 @@ use Rattle.md_engine.specs.Meaning.{Accepts, Behaviour, Cell, Fails, Here, Outco
 use Rattle.md_engine.specs.Sees.{IsStep}
 use Rattle.md_engine.specs.World.{Flags, World}
 use Rattle.md_leaves.specs.Heading.{without_size}
-use Rattle.md_code.specs.FenceRule.{behind_white_of, is_end, run_end, run_rest, run_size, with_event}
+use Rattle.md_code.specs.FenceRule.{after_white_of, is_end, run_end, run_rest, run_size, with_event}
 use Rattle.md_events.specs.Ahead.{HasWhite}
 use Rattle.md_events.specs.Events.Nested.{enter, exit, pair}
 use Rattle.md_events.specs.Look.{first_seen}
@@ -27,11 +27,11 @@ refuses h = Refuses (cleared h.scratch) h.flags
 -- A fence: just three markers, and after them only whitespace. What is left is its sequence, after which something is
 -- asked; where there are fewer or more markers, this scratch is left.
 unfoldable pub in_sequence : (List Cell → Here → Outcome) → Scratch → List Cell → Here → Outcome
-in_sequence behind left cells h =
+in_sequence following left cells h =
     let m = h.scratch.marker in
     let p = run_end (λ b. b == m) cells h.point in
     if (h.scratch.size + run_size (λ b. b == m) cells) == 3
-    then behind_white_of any_size behind (run_rest (λ b. b == m) cells)
+    then after_white_of any_size following (run_rest (λ b. b == m) cells)
     (record h {
       events = h.events ++ exit part.FrontmatterSequence p ∷ [];
       point = p;
@@ -44,17 +44,17 @@ abbrev pub fence_begun : Here → Here
 fence_begun h = with_event (with_event h (enter part.FrontmatterFence h.point)) (enter part.FrontmatterSequence h.point)
 
 -- after a line ending
-abbrev pub behind_ending : Cell → Here → Here
-behind_ending c h = record h { events = h.events ++ pair part.LineEnding h.point c.after; point = c.after }
+abbrev pub following_ending : Cell → Here → Here
+following_ending c h = record h { events = h.events ++ pair part.LineEnding h.point c.after; point = c.after }
 
 -- After the closing fence: its line ending, if there is one.
-abbrev pub behind_front : List Cell → Here → Outcome
-behind_front [] h = Accepts h []
-behind_front (c ∷ cs) h = if c.byte == 10 then Accepts (behind_ending c h) cs else Accepts h (c ∷ cs)
+abbrev pub after_front : List Cell → Here → Outcome
+after_front [] h = Accepts h []
+after_front (c ∷ cs) h = if c.byte == 10 then Accepts (following_ending c h) cs else Accepts h (c ∷ cs)
 
 abbrev pub shuts : List Cell → Here → Outcome
 shuts cells h =
-    behind_front cells (with_event (record h { scratch = cleared h.scratch }) (exit part.Frontmatter h.point))
+    after_front cells (with_event (record h { scratch = cleared h.scratch }) (exit part.Frontmatter h.point))
 
 -- after a closing fence and its whitespace
 unfoldable pub close_end : List Cell → Here → Outcome
@@ -93,7 +93,7 @@ chunk_ended false h = h
 unfoldable pub in_lines : Bool → List Cell → Here → Outcome
 in_lines begun [] h = refuses h
 in_lines begun (c ∷ cs) h =
-    let k = behind_ending c (chunk_ended begun h) in
+    let k = following_ending c (chunk_ended begun h) in
     if c.byte == 10
     then closed_or (λ s g. in_lines false cs (record k { scratch = s; flags = g })) (close_at cs k)
     else in_lines true cs (record (chunk_begun begun h) { point = c.after })
@@ -104,9 +104,9 @@ at_line cells h =
     closed_or (λ s g. in_lines false cells (record h { scratch = s; flags = g })) (close_at cells h)
 
 -- after a line ending that has to be here
-abbrev pub behind_line : List Cell → Here → Outcome
-behind_line [] h = refuses h
-behind_line (c ∷ cs) h = if c.byte == 10 then at_line cs (behind_ending c h) else refuses h
+abbrev pub following_line : List Cell → Here → Outcome
+following_line [] h = refuses h
+following_line (c ∷ cs) h = if c.byte == 10 then at_line cs (following_ending c h) else refuses h
 
 -- The opening fence.
 
@@ -114,7 +114,7 @@ behind_line (c ∷ cs) h = if c.byte == 10 then at_line cs (behind_ending c h) e
 unfoldable pub open_end : List Cell → Here → Outcome
 open_end [] h = refuses h
 open_end (c ∷ cs) h =
-    if c.byte == 10 then at_line cs (behind_ending c (with_event h (exit part.FrontmatterFence h.point)))
+    if c.byte == 10 then at_line cs (following_ending c (with_event h (exit part.FrontmatterFence h.point)))
     else refuses h
 
 -- in its sequence
@@ -147,7 +147,7 @@ front_behaves options its.CloseSequence cells h = in_close cells h
 front_behaves options its.CloseAfter cells h = close_end cells h
 front_behaves options its.ContentStart cells h = in_lines false cells h
 front_behaves options its.ContentInside cells h = in_lines true cells h
-front_behaves options its.ContentEnd cells h = behind_line cells h
+front_behaves options its.ContentEnd cells h = following_line cells h
 front_behaves options its.After cells h = shuts cells h
 
 pub record HasFront (B : Behaviour) (options : ParseOptions) : Type 0 where

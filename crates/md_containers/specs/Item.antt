@@ -20,7 +20,7 @@ use Rattle.md_containers.specs.Interrupts.{interrupts}
 use Rattle.md_meaning.specs.Ascii.{dot, plus, right_parenthesis}
 use Rattle.md_meaning.specs.Containers.{is_bullet, is_digit}
 use Rattle.md_leaves.specs.LeafStart as leaf
-use Rattle.md_events.specs.Look.{looks_behind, sees_other}
+use Rattle.md_events.specs.Look.{looks_after, sees_other}
 use Rattle.md_events.specs.Spaces.{IsRest, asking, calmed, ends_line, later_ready, rest_ready, sees_white, white_then}
 use Rattle.md_events.specs.Transition.{Transition, entered, exited, taken, tried}
 
@@ -57,8 +57,8 @@ checked w ok nok = record w {
 abbrev pub refused : World → Transition
 refused w = record { to = Nok; world = w }
 
-abbrev pub goes_to : ItemState → World → Transition
-goes_to state w = record { to = Retry (n.ListItem state); world = w }
+abbrev pub proceeds_to : ItemState → World → Transition
+proceeds_to state w = record { to = Retry (n.ListItem state); world = w }
 
 -- What opens an item.
 
@@ -72,7 +72,7 @@ bullet_code w true = record {
   to = Retry (n.ThematicBreak thematic_break.Start);
   world = checked w Nok (Next (n.ListItem its.BeforeUnordered));
 }
-bullet_code w false = goes_to its.BeforeUnordered w
+bullet_code w false = proceeds_to its.BeforeUnordered w
 
 -- whether a thematic break of this marker may be here: there is none of `+`, and none where another byte is seen
 abbrev pub may_break : World → ℕ → Bool
@@ -83,12 +83,12 @@ abbrev pub before_code : World → Option ℕ → Transition
 before_code w None = refused w
 before_code w (Some b) =
     if is_bullet b then bullet_code w (may_break w b)
-    else if is_digit b && (not (interrupts w.flags) || (b == 49)) then goes_to its.BeforeOrdered w
+    else if is_digit b && (not (interrupts w.flags) || (b == 49)) then proceeds_to its.BeforeOrdered w
     else refused w
 
 -- by whether a digit is here
 abbrev pub before_ordered_code : World → Bool → Transition
-before_ordered_code w true = goes_to its.Value (entered (entered w ListItemPrefix) ListItemValue)
+before_ordered_code w true = proceeds_to its.Value (entered (entered w ListItemPrefix) ListItemValue)
 before_ordered_code w false = refused w
 
 -- by whether one more digit is taken, and whether the value ends
@@ -99,7 +99,7 @@ value_code w true ends =
       world = record (taken w) { scratch = record w.scratch { size = w.scratch.size + 1 } };
     }
 value_code w false true =
-    goes_to its.Marker (record (exited w ListItemValue) { scratch = without_size w.scratch })
+    proceeds_to its.Marker (record (exited w ListItemValue) { scratch = without_size w.scratch })
 value_code w false false = refused (record w { scratch = without_size w.scratch })
 
 -- by whether a marker is here
@@ -117,12 +117,12 @@ blank_code blank filled w None = record {
   to = Retry (n.BlankLine blank_line.Start);
   world = checked w (Next (n.ListItem blank)) (Next (n.ListItem filled));
 }
-blank_code blank filled w (Some b) = if b == 10 then goes_to blank w else goes_to filled w
+blank_code blank filled w (Some b) = if b == 10 then proceeds_to blank w else proceeds_to filled w
 
 -- 1 to 4 columns are tried; that something is after the marker is noted
 abbrev pub filled_transition : World → Transition
 filled_transition w =
-    goes_to its.Whitespace (record (tried w (Next (n.ListItem its.After)) (Next (n.ListItem its.PrefixOther))) {
+    proceeds_to its.Whitespace (record (tried w (Next (n.ListItem its.After)) (Next (n.ListItem its.PrefixOther))) {
       scratch = record w.scratch { seen = true };
     })
 
@@ -170,14 +170,14 @@ abbrev pub least_width : Container → ℕ
 least_width c = at_least_one c.width
 
 -- it does not start blank any more
-abbrev pub item_gone_on : Flags → Flags
-item_gone_on g = record g { asked = record g.asked { starts_blank = false } }
+abbrev pub item_is_further : Flags → Flags
+item_is_further g = record g { asked = record g.asked { starts_blank = false } }
 
 -- by whether the line ends here, and whether the item started blank
 abbrev pub cont_start_code : World → Bool → Bool → Transition
 cont_start_code w true true = refused w
 cont_start_code w true false = record { to = Ok; world = w }
-cont_start_code w false blank = blank_code its.ContBlank its.ContFilled w (looks_behind w)
+cont_start_code w false blank = blank_code its.ContBlank its.ContFilled w (looks_after w)
 
 -- the first column of an indent, of which so many are asked for at least: by whether whitespace is here
 abbrev pub indent_code : ItemState → ℕ → World → Bool → Transition
@@ -201,7 +201,7 @@ inside_code state w true enough =
     }
 inside_code state w false true = record {
   to = Ok;
-  world = record (exited w SpaceOrTab) { scratch = calmed w.scratch; flags = item_gone_on w.flags };
+  world = record (exited w SpaceOrTab) { scratch = calmed w.scratch; flags = item_is_further w.flags };
 }
 inside_code state w false false = refused (record w { scratch = calmed w.scratch })
 
@@ -226,7 +226,7 @@ abbrev pub before_transition : World → Transition
 before_transition w = before_code w w.current
 
 abbrev pub before_unordered_transition : World → Transition
-before_unordered_transition w = goes_to its.Marker (entered w ListItemPrefix)
+before_unordered_transition w = proceeds_to its.Marker (entered w ListItemPrefix)
 
 abbrev pub before_ordered_transition : World → Transition
 before_ordered_transition w = before_ordered_code w (sees is_digit w.current)
@@ -240,7 +240,7 @@ abbrev pub marker_transition : World → Transition
 marker_transition w = marker_code w (sees is_item_marker w.current)
 
 abbrev pub marker_after_transition : World → Transition
-marker_after_transition w = blank_code its.After its.MarkerAfterFilled w (looks_behind w)
+marker_after_transition w = blank_code its.After its.MarkerAfterFilled w (looks_after w)
 
 abbrev pub whitespace_transition : World → Transition
 whitespace_transition w = white_then w 1 4 (Next (n.ListItem its.WhitespaceAfter)) Nok

@@ -96,9 +96,9 @@ item_valued interrupting from front cells p =
     (digits_end 9 cells p)
 
 -- and after its indent.
-abbrev pub item_behind : ParseOptions → Bool → Point → List Event → List Cell → Point → Option ItemPassed
-item_behind options interrupting from front [] p = None
-item_behind options interrupting from front (c ∷ cs) p =
+abbrev pub item_after : ParseOptions → Bool → Point → List Event → List Cell → Point → Option ItemPassed
+item_after options interrupting from front [] p = None
+item_after options interrupting from front (c ∷ cs) p =
     if is_bullet c.byte
     then if options.constructs.thematic_break && is_rule (line_bytes (c ∷ cs)) then None
     else item_marked interrupting from [] (front ++ enter ListItemPrefix p ∷ []) c cs p
@@ -110,7 +110,7 @@ item_behind options interrupting from front (c ∷ cs) p =
 abbrev pub item_new : ParseOptions → Bool → List Cell → Point → Option ItemPassed
 item_new options interrupting cells p =
     if options.constructs.list_item
-    then item_behind options interrupting p (enter ListItem p ∷ indent_events options cells p)
+    then item_after options interrupting p (enter ListItem p ∷ indent_events options cells p)
     (white_rest (small_indent options) cells) (white_end (small_indent options) cells p)
     else None
 

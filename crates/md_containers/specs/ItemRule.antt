@@ -14,7 +14,7 @@ use Rattle.md_engine.specs.Scheme.{position}
 use Rattle.md_engine.specs.Sees.{IsStep}
 use Rattle.md_engine.specs.World.{World}
 use Rattle.md_containers.specs.Interrupts.{interrupts}
-use Rattle.md_containers.specs.Item.{ItemInvariant, ends_value, is_item_marker, item_gone_on, item_held, least_width}
+use Rattle.md_containers.specs.Item.{ItemInvariant, ends_value, is_item_marker, item_is_further, item_held, least_width}
 use Rattle.md_containers.specs.Item.{unseen, without_size, item_transition}
 use Rattle.md_meaning.specs.Containers.{is_bullet, is_digit}
 use Rattle.md_meaning.specs.Leaves.{is_rule}
@@ -50,8 +50,8 @@ digits_rest (suc room) (c ∷ cs) = if is_digit c.byte then digits_rest room cs 
 -- What opens an item.
 
 -- after the prefix: the item opens, unless it is blank and would interrupt text
-unfoldable pub behind_prefix : List Cell → Here → Outcome
-behind_prefix cells h =
+unfoldable pub following_prefix : List Cell → Here → Outcome
+following_prefix cells h =
     let blank = not h.scratch.seen in
     if blank && interrupts h.flags then Refuses (unseen h.scratch) h.flags
     else Accepts
@@ -67,16 +67,16 @@ unfoldable pub one_column : List Cell → Here → Outcome
 one_column [] h = Refuses (unseen h.scratch) h.flags
 one_column (c ∷ cs) h =
     if is_white c.byte
-    then behind_prefix cs (record h { events = h.events ++ pair SpaceOrTab h.point c.after; point = c.after })
+    then following_prefix cs (record h { events = h.events ++ pair SpaceOrTab h.point c.after; point = c.after })
     else Refuses (unseen h.scratch) h.flags
 
 -- no more whitespace
-unfoldable pub behind_padding : List Cell → Here → Outcome
-behind_padding cells h = if begins_white cells then Refuses h.scratch h.flags else Accepts h cells
+unfoldable pub following_padding : List Cell → Here → Outcome
+following_padding cells h = if begins_white cells then Refuses h.scratch h.flags else Accepts h cells
 
 -- after whitespace that comes first, up to so many columns
-abbrev pub behind_columns : ℕ → List Cell → Here → Here
-behind_columns room cells h = record h {
+abbrev pub after_columns : ℕ → List Cell → Here → Here
+after_columns room cells h = record h {
   events = h.events ++ pair SpaceOrTab h.point (white_end room cells h.point);
   point = white_end room cells h.point;
   scratch = calmed h.scratch;
@@ -85,7 +85,7 @@ behind_columns room cells h = record h {
 -- 1 to 4 columns of whitespace
 unfoldable pub padding_at : List Cell → Here → Outcome
 padding_at cells h =
-    if begins_white cells then behind_padding (white_rest 4 cells) (behind_columns 4 cells h)
+    if begins_white cells then following_padding (white_rest 4 cells) (after_columns 4 cells h)
     else Refuses (calmed h.scratch) h.flags
 
 -- after a marker that something else follows: 1 to 4 columns of whitespace, or one of more
@@ -93,25 +93,25 @@ unfoldable pub filled_at : List Cell → Here → Outcome
 filled_at cells h =
     let k = record h { scratch = record h.scratch { seen = true } } in
     if begins_white cells && not (begins_white (white_rest 4 cells))
-    then behind_prefix (white_rest 4 cells) (behind_columns 4 cells k)
+    then following_prefix (white_rest 4 cells) (after_columns 4 cells k)
     else one_column cells k
 
 -- after the marker: none where the rest of the line is blank
-unfoldable pub behind_marker : List Cell → Here → Outcome
-behind_marker cells h = if is_blank (line_bytes cells) then behind_prefix cells h else filled_at cells h
+unfoldable pub after_marker : List Cell → Here → Outcome
+after_marker cells h = if is_blank (line_bytes cells) then following_prefix cells h else filled_at cells h
 
 -- the marker
 unfoldable pub at_marker : List Cell → Here → Outcome
 at_marker [] h = Refuses h.scratch h.flags
 at_marker (c ∷ cs) h =
     if is_item_marker c.byte
-    then behind_marker cs (record h { events = h.events ++ pair ListItemMarker h.point c.after; point = c.after })
+    then after_marker cs (record h { events = h.events ++ pair ListItemMarker h.point c.after; point = c.after })
     else Refuses h.scratch h.flags
 
 -- after the digits; text is interrupted by one alone
-unfoldable pub behind_value : List Cell → Here → Outcome
-behind_value [] h = Refuses (without_size h.scratch) h.flags
-behind_value (c ∷ cs) h =
+unfoldable pub following_value : List Cell → Here → Outcome
+following_value [] h = Refuses (without_size h.scratch) h.flags
+following_value (c ∷ cs) h =
     if ends_value c.byte && (not (interrupts h.flags) || nat_lt h.scratch.size 2)
     then at_marker (c ∷ cs)
     (record h { events = h.events ++ exit ListItemValue h.point ∷ []; scratch = without_size h.scratch })
@@ -121,7 +121,7 @@ behind_value (c ∷ cs) h =
 unfoldable pub in_value : List Cell → Here → Outcome
 in_value cells h =
     let room = 9 - h.scratch.size in
-    behind_value (digits_rest room cells)
+    following_value (digits_rest room cells)
     (record h {
       point = digits_end room cells h.point;
       scratch = record h.scratch { size = h.scratch.size + digits_size room cells };
@@ -141,9 +141,9 @@ unfoldable pub at_bullet : List Cell → Here → Outcome
 at_bullet cells h = at_marker cells (record h { events = h.events ++ enter ListItemPrefix h.point ∷ [] })
 
 -- after the indent: a bullet, where no thematic break is, or digits; text is interrupted by the number 1 alone
-unfoldable pub behind_indent : ParseOptions → List Cell → Here → Outcome
-behind_indent options [] h = Refuses h.scratch h.flags
-behind_indent options (c ∷ cs) h =
+unfoldable pub after_indent : ParseOptions → List Cell → Here → Outcome
+after_indent options [] h = Refuses h.scratch h.flags
+after_indent options (c ∷ cs) h =
     if is_bullet c.byte
     then if options.constructs.thematic_break && is_rule (line_bytes (c ∷ cs)) then Refuses h.scratch h.flags
     else at_bullet (c ∷ cs) h
@@ -152,7 +152,7 @@ behind_indent options (c ∷ cs) h =
 
 -- the whole rule, if items are on: a small indent, and a prefix after it
 abbrev pub item_at : ParseOptions → List Cell → Here → Outcome
-item_at options cells h = start_at ListItem options.constructs.list_item (behind_indent options) options cells h
+item_at options cells h = start_at ListItem options.constructs.list_item (after_indent options) options cells h
 
 -- What has an item continue.
 
@@ -168,7 +168,7 @@ inside_indent cells h =
       events = h.events ++ exit SpaceOrTab p ∷ [];
       point = p;
       scratch = calmed h.scratch;
-      flags = item_gone_on h.flags;
+      flags = item_is_further h.flags;
     })
     (white_rest room cells)
     else Refuses (calmed h.scratch) h.flags
@@ -214,17 +214,17 @@ filled_behaves (suc more) cells h = inside_indent cells h
 -- what is left at each state
 abbrev pub item_behaves : ParseOptions → ItemState → List Cell → Here → Outcome
 item_behaves options its.Start cells h = item_at options cells h
-item_behaves options its.Before cells h = behind_indent options cells h
+item_behaves options its.Before cells h = after_indent options cells h
 item_behaves options its.BeforeUnordered cells h = at_bullet cells h
 item_behaves options its.BeforeOrdered cells h = at_value cells h
 item_behaves options its.Value cells h = in_value cells h
 item_behaves options its.Marker cells h = at_marker cells h
-item_behaves options its.MarkerAfter cells h = behind_marker cells h
+item_behaves options its.MarkerAfter cells h = after_marker cells h
 item_behaves options its.MarkerAfterFilled cells h = filled_at cells h
 item_behaves options its.Whitespace cells h = padding_at cells h
-item_behaves options its.WhitespaceAfter cells h = behind_padding cells h
+item_behaves options its.WhitespaceAfter cells h = following_padding cells h
 item_behaves options its.PrefixOther cells h = one_column cells h
-item_behaves options its.After cells h = behind_prefix cells h
+item_behaves options its.After cells h = following_prefix cells h
 item_behaves options its.ContStart cells h = item_on cells h
 item_behaves options its.ContBlank cells h = blank_behaves h.scratch.whitespace.max cells h
 item_behaves options its.ContFilled cells h = filled_behaves h.scratch.whitespace.max cells h

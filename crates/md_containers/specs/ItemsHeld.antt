@@ -4,7 +4,7 @@ use Rattle.md_engine.specs.declared.event.Event.{Event}
 use Rattle.md_engine.specs.declared.event.Name.{Name}
 use Rattle.md_containers.specs.Listed.{Begins, Ends, Stays, Turn, turn}
 use Rattle.md_events.specs.Events.Blocks.{is_block}
-use Rattle.md_events.specs.Events.Nested.{open_behind}
+use Rattle.md_events.specs.Events.Nested.{open_following}
 use Rattle.md_events.specs.Events.Spelled.{role}
 
 -- whether what is innermost is a block, if anything is open
@@ -20,4 +20,4 @@ IsHeld Stays names = Unit {0}
 abbrev pub ItemsHeld : List Name → List Event → Type 0
 ItemsHeld names [] = Unit {0}
 ItemsHeld names (e ∷ es) =
-    IsHeld (turn e.kind (role e.name)) names × ItemsHeld (open_behind names e.kind e.name) es
+    IsHeld (turn e.kind (role e.name)) names × ItemsHeld (open_following names e.kind e.name) es

@@ -11,7 +11,7 @@ pub mod Footnote
 pub mod FootnoteRule
 pub mod FootnotePrefix
 pub mod Listed
-pub mod ItemsStand
+pub mod ItemsAllowed
 pub mod ItemsHeld
 pub mod PlainBullet
 pub mod PlainItem

@@ -31,8 +31,8 @@ is_marker _ = false
 -- The marker of an item that has begun: the byte at the first marker after it, before all further blocks; 0 if there is
 -- none.
 abbrev pub marker_by : Kind → Role → ℕ → ℕ → ℕ
-marker_by kind role byte behind =
-    if is_block role then 0 else if is_enter kind && is_marker role then byte else behind
+marker_by kind role byte following =
+    if is_block role then 0 else if is_enter kind && is_marker role then byte else following
 
 abbrev pub marker_ahead : List ℕ → List Event → ℕ
 marker_ahead bytes [] = 0
@@ -40,17 +40,17 @@ marker_ahead bytes (e ∷ es) = marker_by e.kind (role e.name) (get_or bytes e.p
 
 -- The marker of the next block, if that is an item.
 abbrev pub next_by : Kind → Role → ℕ → Option ℕ → Option ℕ
-next_by kind role ahead behind =
-    if is_block role then (if is_enter kind && is_item role then Some ahead else None) else behind
+next_by kind role ahead following =
+    if is_block role then (if is_enter kind && is_item role then Some ahead else None) else following
 
 abbrev pub next_item : List ℕ → List Event → Option ℕ
 next_item bytes [] = None
 next_item bytes (e ∷ es) = next_by e.kind (role e.name) (marker_ahead bytes es) (next_item bytes es)
 
 -- whether the list of an item with this marker continues, by what the next block is
-abbrev pub goes_on : ℕ → Option ℕ → Bool
-goes_on marker None = false
-goes_on marker (Some next) = marker == next
+abbrev pub is_continued : ℕ → Option ℕ → Bool
+is_continued marker None = false
+is_continued marker (Some next) = marker == next
 
 -- Lists.
 
@@ -76,15 +76,15 @@ list_begin within marker p = if within then [] else enter (list_name marker) p �
 -- what follows an item, which ends at this point: the end of its list, if it is the last in it
 abbrev pub list_end : List ℕ → Option ℕ → Point → List Event
 list_end [] next p = []
-list_end (marker ∷ markers) next p = if goes_on marker next then [] else exit (list_name marker) p ∷ []
+list_end (marker ∷ markers) next p = if is_continued marker next then [] else exit (list_name marker) p ∷ []
 
 -- after the end of an item
-abbrev pub place_behind : Place → Option ℕ → Place
-place_behind place next = behind place.markers
+abbrev pub place_following : Place → Option ℕ → Place
+place_following place next = following place.markers
   where
-    behind : List ℕ → Place
-    behind [] = place
-    behind (marker ∷ markers) = record { within = goes_on marker next; markers = markers }
+    following : List ℕ → Place
+    following [] = place
+    following (marker ∷ markers) = record { within = is_continued marker next; markers = markers }
 
 -- what an event does to items
 pub data Turn : Type 0 where
@@ -106,7 +106,7 @@ given_by Stays place marker next e = e ∷ []
 -- where one is after it
 abbrev pub place_by : Turn → Place → ℕ → Option ℕ → Place
 place_by Begins place marker next = record { within = false; markers = marker ∷ place.markers }
-place_by Ends place marker next = place_behind place next
+place_by Ends place marker next = place_following place next
 place_by Stays place marker next = place
 
 abbrev pub given : List ℕ → Place → Event → List Event → List Event

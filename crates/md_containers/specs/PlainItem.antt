@@ -4,8 +4,8 @@ use Rattle.md_engine.specs.declared.event.Name.TheVariants.{SpaceOrTab}
 use Rattle.md_engine.specs.Run.{reading}
 use Rattle.md_engine.specs.Staying.{along}
 use Rattle.md_engine.specs.World.{World}
-use Rattle.md_containers.specs.Item.{item_gone_on}
-use Rattle.md_events.specs.Look.{looks_behind}
+use Rattle.md_containers.specs.Item.{item_is_further}
+use Rattle.md_events.specs.Look.{looks_after}
 use Rattle.md_events.specs.Spaces.{calmed}
 use Rattle.md_events.specs.Transition.{entered, exited}
 
@@ -23,7 +23,7 @@ pub record IsPlainIndent (columns : ℕ) (w : World) : Type 0 where
   pub spaces : SpacesHere columns w
   pub inside : w.point.index + columns < w.setting.limit
   pub first : ℕ
-  pub behind : looks_behind w ≡ Some first
+  pub following : looks_after w ≡ Some first
   pub filled : (first == 10) ≡ false
   pub rest : w.scratch.whitespace.max ≡ 0
 
@@ -37,5 +37,5 @@ indented n w =
     reading
     (record (exited (moved n (entered w SpaceOrTab)) SpaceOrTab) {
       scratch = calmed w.scratch;
-      flags = item_gone_on w.flags;
+      flags = item_is_further w.flags;
     })

@@ -33,9 +33,9 @@ abbrev pub prefix_ended : List Cell → Here → Outcome
 prefix_ended cells h = Accepts (record h { events = h.events ++ exit BlockQuotePrefix h.point ∷ [] }) cells
 
 -- after `>`: one column of whitespace belongs to the prefix, and this is left after it
-unfoldable pub behind_marker : (List Cell → Here → Outcome) → List Cell → Here → Outcome
-behind_marker next [] h = next [] h
-behind_marker next (c ∷ cs) h =
+unfoldable pub after_marker : (List Cell → Here → Outcome) → List Cell → Here → Outcome
+after_marker next [] h = next [] h
+after_marker next (c ∷ cs) h =
     if is_white c.byte
     then next cs (record h { events = h.events ++ pair SpaceOrTab h.point c.after; point = c.after })
     else next (c ∷ cs) h
@@ -45,7 +45,7 @@ unfoldable pub at_marker : (List Cell → Here → Outcome) → List Cell → He
 at_marker next [] h = Refuses h.scratch h.flags
 at_marker next (c ∷ cs) h =
     if c.byte == 62
-    then behind_marker next cs
+    then after_marker next cs
     (record h {
       events = h.events ++ enter BlockQuotePrefix h.point ∷ pair BlockQuoteMarker h.point c.after;
       point = c.after;
@@ -145,14 +145,14 @@ indent_events options cells p =
     if begins_white cells then pair SpaceOrTab p (white_end (small_indent options) cells p) else []
 
 -- after `>`, before what ends the prefix
-abbrev pub behind_events : List Cell → Point → List Event
-behind_events [] p = []
-behind_events (c ∷ cs) p = if is_white c.byte then pair SpaceOrTab p c.after else []
+abbrev pub after_events : List Cell → Point → List Event
+after_events [] p = []
+after_events (c ∷ cs) p = if is_white c.byte then pair SpaceOrTab p c.after else []
 
 -- from `>` on
 abbrev pub marker_events : List Cell → Point → List Event
 marker_events [] p = []
-marker_events (c ∷ cs) p = enter BlockQuotePrefix p ∷ pair BlockQuoteMarker p c.after ++ behind_events cs c.after
+marker_events (c ∷ cs) p = enter BlockQuotePrefix p ∷ pair BlockQuoteMarker p c.after ++ after_events cs c.after
 
 -- What a prefix takes.
 
@@ -166,21 +166,21 @@ abbrev pub takes_prefix : ParseOptions → List Cell → Bool
 takes_prefix options cells = has_marker (white_rest (small_indent options) cells)
 
 -- what is left after `>` and one column of whitespace, and where that begins
-abbrev pub behind_rest : List Cell → List Cell
-behind_rest [] = []
-behind_rest (c ∷ cs) = if is_white c.byte then cs else c ∷ cs
+abbrev pub after_rest : List Cell → List Cell
+after_rest [] = []
+after_rest (c ∷ cs) = if is_white c.byte then cs else c ∷ cs
 
-abbrev pub behind_end : List Cell → Point → Point
-behind_end [] p = p
-behind_end (c ∷ cs) p = if is_white c.byte then c.after else p
+abbrev pub after_end : List Cell → Point → Point
+after_end [] p = p
+after_end (c ∷ cs) p = if is_white c.byte then c.after else p
 
 abbrev pub marker_rest : List Cell → List Cell
 marker_rest [] = []
-marker_rest (c ∷ cs) = behind_rest cs
+marker_rest (c ∷ cs) = after_rest cs
 
 abbrev pub marker_end : List Cell → Point → Point
 marker_end [] p = p
-marker_end (c ∷ cs) p = behind_end cs c.after
+marker_end (c ∷ cs) p = after_end cs c.after
 
 -- what is left after a prefix, and where that begins
 abbrev pub prefix_rest : ParseOptions → List Cell → List Cell
@@ -221,8 +221,8 @@ alert_of options cells =
     else None
 
 -- the cells after a marker, and the point
-abbrev pub behind_alert : AlertKind → List Cell → List Cell
-behind_alert kind cells = drop (length (marker_of kind)) cells
+abbrev pub after_alert : AlertKind → List Cell → List Cell
+after_alert kind cells = drop (length (marker_of kind)) cells
 
 abbrev pub alert_close : AlertKind → List Cell → Point → Point
 alert_close kind cells p = point_after (take (length (marker_of kind)) cells) p
@@ -231,7 +231,7 @@ alert_close kind cells p = point_after (take (length (marker_of kind)) cells) p
 abbrev pub marked_events : AlertKind → List Cell → Point → List Event
 marked_events kind cells p =
     let q = alert_close kind cells p in
-    pair BlockQuoteMarker p q ++ blank_events (behind_alert kind cells) q
+    pair BlockQuoteMarker p q ++ blank_events (after_alert kind cells) q
 
 -- what the marker of an alert adds to a prefix, if there is one, where it ends, and what it leaves
 abbrev pub alert_events : ParseOptions → Option AlertKind → List Cell → Point → List Event
@@ -245,11 +245,11 @@ alert_end options None cells p = p
 alert_end options (Some kind) cells p =
     let room = small_indent options in
     let marker = white_rest room cells in
-    line_end (behind_alert kind marker) (alert_close kind marker (white_end room cells p))
+    line_end (after_alert kind marker) (alert_close kind marker (white_end room cells p))
 
 abbrev pub alert_rest : ParseOptions → Option AlertKind → List Cell → List Cell
 alert_rest options None cells = cells
-alert_rest options (Some kind) cells = from_ending (behind_alert kind (white_rest (small_indent options) cells))
+alert_rest options (Some kind) cells = from_ending (after_alert kind (white_rest (small_indent options) cells))
 
 -- The prefix of the line on which a quote opens: its kind, its events, where it ends, and what it leaves.
 
@@ -274,7 +274,7 @@ abbrev pub quote_behaves : ParseOptions → QuoteState → List Cell → Here �
 quote_behaves options its.Start cells h = quote_at options cells h
 quote_behaves options its.OpenStart cells h = opening_at options cells h
 quote_behaves options its.OpenBefore cells h = at_marker (alert_or_end options) cells h
-quote_behaves options its.OpenAfter cells h = behind_marker (alert_or_end options) cells h
+quote_behaves options its.OpenAfter cells h = after_marker (alert_or_end options) cells h
 quote_behaves options its.AlertTry cells h = alert_or_end options cells h
 quote_behaves options its.AlertStart cells h = alert_at options cells h
 quote_behaves options its.AlertBefore cells h = alert_marker cells h
@@ -284,7 +284,7 @@ quote_behaves options its.AlertName cells h = alert_name (drop h.scratch.size (n
 quote_behaves options its.PrefixEnd cells h = prefix_ended cells h
 quote_behaves options its.ContStart cells h = prefix_at options cells h
 quote_behaves options its.ContBefore cells h = at_marker prefix_ended cells h
-quote_behaves options its.ContAfter cells h = behind_marker prefix_ended cells h
+quote_behaves options its.ContAfter cells h = after_marker prefix_ended cells h
 
 pub record HasQuote (B : Behaviour) (options : ParseOptions) : Type 0 where
   pub white : HasWhite B

@@ -128,13 +128,13 @@ fn sequence(
     ensures full { OnError result (IsFull tokenizer.new) }
 {
     let Scratch { marker, size, .. } = tokenizer.scratch;
-    let stands = tokenizer.current == Some(marker);
-    if stands && size < SIZE {
+    let valid = tokenizer.current == Some(marker);
+    if valid && size < SIZE {
         tokenizer.consume();
         tokenizer.scratch.size = size + 1;
         return State::Next(StateName::Frontmatter(here));
     }
-    if stands || size != SIZE {
+    if valid || size != SIZE {
         tokenizer.scratch = refused;
         return State::Nok;
     }

@@ -26,7 +26,7 @@ ghost use Rattle.md_containers.specs.Item.{item_transition, least_width};
 ghost use Rattle.md_containers.specs.Item.{may_begin, may_break, sees};
 ghost use Rattle.md_containers.specs.Item.{width_here};
 ghost use Rattle.md_meaning.specs.Containers.{is_bullet, is_digit};
-ghost use Rattle.md_events.specs.Look.{looks_behind, may_with};
+ghost use Rattle.md_events.specs.Look.{looks_after, may_with};
 ghost use Rattle.md_events.specs.Spaces.{sees_white};
 ghost use Rattle.md_events.specs.Stays.{TakesEach};
 ghost use Rattle.md_events.specs.Transition.{IsAt, NeedsNothing};
@@ -41,7 +41,7 @@ use md_engine::state::{Name as StateName, State};
 use md_engine::stay::Stay;
 use md_engine::tokenizer::{Tokenizer, Whitespace};
 use md_events::space_or_tab::{
-    is_space_or_tab, look_behind, sees_other, small_indent, space_or_tab_min_max,
+    is_space_or_tab, look_after_white, sees_other, small_indent, space_or_tab_min_max,
 };
 use md_leaves::blank_line::ends_line;
 
@@ -258,13 +258,13 @@ pub fn marker(tokenizer: &mut Tokenizer) -> State
 /// Goes on at `blank` if the rest of the line is blank, else at `filled`.
 fn by_blank(tokenizer: &mut Tokenizer, blank: ItemState, filled: ItemState) -> State
     ensures to { result ≢ State.Error →
-        result ≡ (blank_code blank filled (world tokenizer.old) (looks_behind (world tokenizer.old))).to }
+        result ≡ (blank_code blank filled (world tokenizer.old) (looks_after (world tokenizer.old))).to }
     ensures world { result ≢ State.Error →
         world tokenizer.new ≡
-        (blank_code blank filled (world tokenizer.old) (looks_behind (world tokenizer.old))).world }
+        (blank_code blank filled (world tokenizer.old) (looks_after (world tokenizer.old))).world }
     ensures full { OnError result (IsFull tokenizer.new) }
 {
-    match look_behind(tokenizer) {
+    match look_after_white(tokenizer) {
         Some(b'\n') => State::Retry(StateName::ListItem(blank)),
         Some(_) => State::Retry(StateName::ListItem(filled)),
         None => {
@@ -462,7 +462,7 @@ fn begin_indent(tokenizer: &mut Tokenizer, state: ItemState, min: usize) -> Stat
 }
 
 /// Takes one more column of an indent, or ends it.
-fn go_on_indent(tokenizer: &mut Tokenizer, state: ItemState) -> State
+fn proceed_in_indent(tokenizer: &mut Tokenizer, state: ItemState) -> State
     requires { IsAt NeedsNothing (StateName.ListItem state) (world tokenizer.old) }
     ensures to { result ≢ State.Error → result ≡ (inside_transition state (world tokenizer.old)).to }
     ensures world { result ≢ State.Error → world tokenizer.new ≡ (inside_transition state (world tokenizer.old)).world }
@@ -501,7 +501,7 @@ pub fn cont_blank(tokenizer: &mut Tokenizer) -> State
     ensures { IsItemState ItemState.ContBlank (world tokenizer.old) result tokenizer.new }
 {
     if tokenizer.scratch.whitespace.max > 0 {
-        go_on_indent(tokenizer, ItemState::ContBlank)
+        proceed_in_indent(tokenizer, ItemState::ContBlank)
     } else if tokenizer.flags.asked.starts_blank {
         State::Nok
     } else {
@@ -522,7 +522,7 @@ pub fn cont_filled(tokenizer: &mut Tokenizer) -> State
     ensures { IsItemState ItemState.ContFilled (world tokenizer.old) result tokenizer.new }
 {
     if tokenizer.scratch.whitespace.max > 0 {
-        go_on_indent(tokenizer, ItemState::ContFilled)
+        proceed_in_indent(tokenizer, ItemState::ContFilled)
     } else {
         let min = least_width(tokenizer);
         begin_indent(tokenizer, ItemState::ContFilled, min)

@@ -15,7 +15,7 @@ use md_engine::class::is_white;
 use md_engine::event::Name;
 use md_engine::message::Message;
 use md_engine::tokenizer::{Container, Tokenizer, Whitespace};
-use md_events::space_or_tab::look_behind;
+use md_events::space_or_tab::look_after_white;
 
 /// Whether a bullet and one space are here, and after them another byte than this bullet, which may be read now.
 pub fn is_plain_bullet(tokenizer: &Tokenizer) -> bool
@@ -29,13 +29,13 @@ pub fn is_plain_bullet(tokenizer: &Tokenizer) -> bool
         return false;
     }
     let marker = tokenizer.bytes[index];
-    let behind = tokenizer.bytes[index + 2];
+    let following = tokenizer.bytes[index + 2];
     is_bullet(marker)
         && tokenizer.bytes[index + 1] == b' '
-        && behind != marker
-        && !is_white(behind)
-        && behind != b'\n'
-        && behind != b'\r'
+        && following != marker
+        && !is_white(following)
+        && following != b'\n'
+        && following != b'\r'
 }
 
 /// Takes the bullet and the space that are here where the list of events may have no room for them. This is rare, so it
@@ -142,7 +142,7 @@ pub fn is_plain_indent(tokenizer: &mut Tokenizer, item: Container) -> bool
     {
         return false;
     }
-    match look_behind(tokenizer) {
+    match look_after_white(tokenizer) {
         Some(byte) => byte != b'\n',
         None => false,
     }

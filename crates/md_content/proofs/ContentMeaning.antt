@@ -15,11 +15,11 @@ use Rattle.md_engine.specs.World.{World, after, looks}
 use Rattle.md_engine.specs.Sees.{Sees, ahead, cell_here}
 use Rattle.md_engine.proofs.StepOf.{moves, passes, steps-as}
 use Rattle.md_content.specs.ChunkRule.{ChunkMeans, HasChunk, chunk_at, inside_chunk, longer}
-use Rattle.md_content.specs.Chunks.{ChunkInvariant, chunk_inside_code, chunk_ready, chunk_start_transition, chunk_transition}
-use Rattle.md_content.specs.Chunks.{content_link, rest_taken, unbegun}
+use Rattle.md_content.specs.Chunks.{ChunkInvariant, chunk_inside_code, chunk_ready, chunk_start_transition}
+use Rattle.md_content.specs.Chunks.{chunk_transition, content_link, rest_taken, unbegun}
 use Rattle.md_events.proofs.LineTaken.{bytes-none, taken-more}
 use Rattle.md_meaning.specs.Rest.{Rest}
-use Rattle.md_link_definitions.specs.OpenText.{begun_rest, text_behind}
+use Rattle.md_link_definitions.specs.OpenText.{begun_rest, text_following}
 use Rattle.md_link_definitions.specs.WholeCells.{rest_here, whole_line}
 use Rattle.md_events.specs.Ahead.{from_ending, line_end}
 use Rattle.md_events.specs.Events.Nested.{enter_link, exit}
@@ -47,7 +47,7 @@ chunk-ends : (feed : Feed) (w : World) (front : Rest) (h : Here) (o : Option ℕ
     Accepts
     (record h {
       events = h.events ++ exit parts.Content h.point ∷ [];
-      flags = record h.flags { leaf = text_behind h.flags.leaf front };
+      flags = record h.flags { leaf = text_following h.flags.leaf front };
     })
     (ahead feed w o)
 unfolding inside_chunk
@@ -55,7 +55,7 @@ chunk-ends feed w front h None e =
     ap (λ (line : List ℕ). Accepts
     (record h {
       events = h.events ++ exit parts.Content h.point ∷ [];
-      flags = record h.flags { leaf = text_behind h.flags.leaf (record front { bytes = line }) };
+      flags = record h.flags { leaf = text_following h.flags.leaf (record front { bytes = line }) };
     })
     [])
     (append-nil front.bytes)
@@ -64,7 +64,7 @@ chunk-ends feed w front h (Some b) e =
     (ap (λ (line : List ℕ). Accepts
     (record h {
       events = h.events ++ exit parts.Content h.point ∷ [];
-      flags = record h.flags { leaf = text_behind h.flags.leaf (record front { bytes = line }) };
+      flags = record h.flags { leaf = text_following h.flags.leaf (record front { bytes = line }) };
     })
     (ahead feed w (Some b)))
     (append-nil front.bytes))
@@ -82,7 +82,7 @@ chunk-passes front more c cs h e same =
     (record h {
       events = h.events ++ exit parts.Content p ∷ [];
       point = p;
-      flags = record h.flags { leaf = text_behind h.flags.leaf r };
+      flags = record h.flags { leaf = text_following h.flags.leaf r };
     })
     (from_ending (c ∷ cs)))
     ends same
@@ -90,7 +90,7 @@ chunk-passes front more c cs h e same =
     (record h {
       events = h.events ++ exit parts.Content q ∷ [];
       point = q;
-      flags = record h.flags { leaf = text_behind h.flags.leaf (longer more (whole_line c.after cs)) };
+      flags = record h.flags { leaf = text_following h.flags.leaf (longer more (whole_line c.after cs)) };
     }))
     rest
 
@@ -104,7 +104,8 @@ chunk-more feed w h (Some b) same le c e =
     let q = after w.setting w.point in
     let cell = cell_here feed w b in
     let front = line_taken w.setting.bytes w.scratch w.point in
-    chunk-passes (rest_taken w.setting.bytes w.scratch w.point) (rest_taken w.setting.bytes w.scratch q) cell (feed q) h e
+    chunk-passes (rest_taken w.setting.bytes w.scratch w.point) (rest_taken w.setting.bytes w.scratch q)
+    cell (feed q) h e
     (ap (begun_rest w.scratch.size w.scratch.seen)
     (ap (λ (p : Point). front ++ whole_line p (cell ∷ feed q)) same
     ∙ taken-more w.setting w.scratch w.point cell (feed q) le refl (sym c) e))

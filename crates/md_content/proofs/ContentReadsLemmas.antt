@@ -7,17 +7,17 @@ use Rattle.md_engine.specs.declared.resolve.name.Name.{Name as ResolveName}
 use Rattle.md_engine.specs.declared.state.State.{State}
 use Rattle.md_engine.specs.declared.state.State.TheVariants.{Next}
 use Rattle.md_engine.specs.Found.{Found}
-use Rattle.md_engine.specs.Meaning.{Accepts, Here, comes_to, here}
+use Rattle.md_engine.specs.Meaning.{Accepts, Here, whole_outcome, here}
 use Rattle.md_engine.specs.Run.{Flushes, Resolution, Resolved, Runs}
 use Rattle.md_engine.specs.Run.Resolved.{More, NoneYet}
-use Rattle.md_engine.specs.Scheme.{stands}
+use Rattle.md_engine.specs.Scheme.{valid}
 use Rattle.md_engine.specs.TextFeed.{text_feed}
 use Rattle.md_engine.specs.World.{Setting, World, fresh, reads_to, skipping}
 use Rattle.md_content.specs.ContentReads.{content_events, end_of, first_of, settled, skipping_all}
 use Rattle.md_content.specs.ContentRule.{content_over}
 use Rattle.md_content.specs.States.{ContentStep, content_behaves, content_scheme, content_start}
 use Rattle.md_content.proofs.ContentRuns.{content_outcome, content_push}
-use Rattle.md_content.proofs.ContentWhole.{over, part-comes-to}
+use Rattle.md_content.proofs.ContentWhole.{over, part-becomes-to}
 use Rattle.md_events.specs.declared.inline.Chunk.{Chunk}
 use Rattle.md_events.specs.Parts.{AreChunks}
 use Rattle.md_events.specs.Spaces.{IsRest}
@@ -74,8 +74,8 @@ resolved-same R w names found v same (More ns n f m v' v'' r step) =
     same n v' m v'' step ∙ resolved-same R w ns f v' same r
 
 -- a part is where it begins
-part-stands : (w : World) → IsRest w.scratch → w.frames ≡ [] → stands content_scheme w (Next content_start)
-part-stands w rest none = (rest, rw none (record { ok = λ s q t is g r. tt; nok = λ s q t is g. tt }))
+part-valid : (w : World) → IsRest w.scratch → w.frames ≡ [] → valid content_scheme w (Next content_start)
+part-valid w rest none = (rest, rw none (record { ok = λ s q t is g r. tt; nok = λ s q t is g. tt }))
 
 -- what is read of a part
 pub part-read : (bytes : List ℕ) (options : ParseOptions) (chunks : List Chunk) (i : ℕ) (w w' : World) (end : ℕ)
@@ -98,15 +98,15 @@ part-read bytes options chunks i w w' end s R found new le skips last small run 
     let on : w.setting.options ≡ options = ap (λ (x : World). x.setting.options) shape in
     let after : w'.setting.options ≡ w.setting.options = ap (λ (x : Setting). x.options) kept in
     let feed = text_feed (reads_to w end).setting in
-    let behind : Here = over w.setting.options (feed w.point) w in
+    let following : Here = over w.setting.options (feed w.point) w in
     let pushed = content_push (Next content_start) s w w' end end small (omega arith)
-    (part-stands (reads_to w end) rest frames) run in
-    let at_end : comes_to (content_behaves w'.setting.options) (text_feed w'.setting) s w' ≡ Accepts behind [] =
-    ap (λ (o : ParseOptions). comes_to (content_behaves o) (text_feed w'.setting) s w') after
-    ∙ ap (λ (x : Setting). comes_to (content_behaves w.setting.options) (text_feed x) s w') kept ∙ sym pushed.0
-    ∙ part-comes-to w.setting.options feed w frames events in
-    let h : behind ≡
-    here f.at = content_outcome R s w' true found new behind (rw kept small) pushed.1 at_end f in
+    (part-valid (reads_to w end) rest frames) run in
+    let at_end : whole_outcome (content_behaves w'.setting.options) (text_feed w'.setting) s w' ≡ Accepts following [] =
+    ap (λ (o : ParseOptions). whole_outcome (content_behaves o) (text_feed w'.setting) s w') after
+    ∙ ap (λ (x : Setting). whole_outcome (content_behaves w.setting.options) (text_feed x) s w') kept ∙ sym pushed.0
+    ∙ part-becomes-to w.setting.options feed w frames events in
+    let h : following ≡
+    here f.at = content_outcome R s w' true found new following (rw kept small) pushed.1 at_end f in
     let resolved : new ≡ record f.at { resolvers = [] } = resolved-same R _ _ _ _ same f.resolved in
     let is : settled chunks (content_over w.setting.options (feed w.point) w.point) ≡
     content_events bytes options chunks =

@@ -7,12 +7,12 @@ use Rattle.md_engine.specs.declared.event.Event.{Event}
 use Rattle.md_engine.specs.declared.event.Name.TheVariants.{LineEnding}
 use Rattle.md_engine.specs.declared.event.Point.{Point}
 use Rattle.md_engine.specs.Meaning.{Cell}
-use Rattle.md_content.specs.ContentRule.{behind_definition, content_by, content_of, content_over, definition_in}
+use Rattle.md_content.specs.ContentRule.{following_definition, content_by, content_of, content_over, definition_in}
 use Rattle.md_content.specs.Definitions.{may_define}
 use Rattle.md_content.specs.ParagraphRule.{paragraph_over}
 use Rattle.md_content.proofs.DefinitionTakes.{DefinitionTakes, definition-takes}
-use Rattle.md_link_definitions.specs.DefinitionRule.{DefinitionParts, definition_end, definition_events, definition_parts}
-use Rattle.md_link_definitions.specs.DefinitionRule.{definition_rest, parts_labelled}
+use Rattle.md_link_definitions.specs.DefinitionRule.{DefinitionParts, definition_end, definition_events}
+use Rattle.md_link_definitions.specs.DefinitionRule.{definition_parts, definition_rest, parts_labelled}
 use Rattle.md_link_definitions.specs.LabelRule.{label_parts}
 use Rattle.md_events.specs.Events.Nested.{pair}
 use Rattle.md_events.specs.Look.{first_seen}
@@ -54,11 +54,11 @@ content-nothing options (suc n) p =
     ap (λ (o : Option DefinitionParts). content_by o (content_of options n) [] p) (in-none options [] refl)
 
 -- two ways to read on that agree on fewer cells
-behind-same : (f g : List Cell → Point → List Event) (size : ℕ) (rest : List Cell) (q : Point) →
+following-same : (f g : List Cell → Point → List Event) (size : ℕ) (rest : List Cell) (q : Point) →
     ((cells : List Cell) (r : Point) → length cells < size → f cells r ≡ g cells r) → length rest ≤ size →
-    behind_definition f rest q ≡ behind_definition g rest q
-behind-same f g size [] q same le = refl
-behind-same f g size (c ∷ cs) q same le =
+    following_definition f rest q ≡ following_definition g rest q
+following-same f g size [] q same le = refl
+following-same f g size (c ∷ cs) q same le =
     ap (λ (es : List Event). pair LineEnding q c.after ++ es) (same cs c.after (omega (arith, le)))
 
 by-same : (options : ParseOptions) (f g : List Cell → Point → List Event) (cells : List Cell) (p : Point) →
@@ -72,7 +72,7 @@ by-same options f g cells p same = go (definition_in options cells) refl
     go (Some d) e =
         let fewer = (in-takes options cells p d e).fewer in
         ap (λ (es : List Event). definition_events d p ++ es)
-        (behind-same f g (length cells) (definition_rest d) (definition_end d) same (omega (arith, fewer)))
+        (following-same f g (length cells) (definition_rest d) (definition_end d) same (omega (arith, fewer)))
 
 -- as many definitions as there are cells are enough
 content-enough : (options : ParseOptions) (n m : ℕ) (cells : List Cell) (p : Point) → length cells ≤ n →

@@ -19,7 +19,7 @@ use Rattle.md_content.proofs.ContentReadsLemmas.{end-at, small-at}
 use Rattle.md_content.specs.ContentRule.{content_over}
 use Rattle.md_content.specs.WholeDefinitions.{definition_part}
 use Rattle.md_content.specs.WholeDefinitions.{IsDefinition, IsWritten, past}
-use Rattle.md_content.proofs.WholeLines.{Followed, end-behind, first-vs, firsts, followed, has-byte, setting_over}
+use Rattle.md_content.proofs.WholeLines.{Followed, end-following, first-vs, firsts, followed, has-byte, setting_over}
 use Rattle.md_content.proofs.WholeLines.{within, world-point, world-setting}
 use Rattle.md_events.specs.declared.inline.Chunk.{Chunk}
 use Rattle.md_events.specs.Events.Nested.{pair}
@@ -85,15 +85,16 @@ first-before bytes chunk (next ∷ chunks) are lines =
     let is = All-head (IsChunk bytes) chunk (next ∷ chunks) are in
     let own = has-byte bytes chunk.first chunk.after is.first is.after (first-vs bytes chunk.after is.after f.column)
     (omega (arith, f.line)) in
-    let behind = end-behind bytes chunk (next ∷ chunks) are lines in
-    omega (arith, own, behind)
+    let following = end-following bytes chunk (next ∷ chunks) are lines in
+    omega (arith, own, following)
 
 -- its first byte
-first-byte : (bytes : List ℕ) (p : Point) (end n m : ℕ) → end ≤ length bytes → IsDefinition (slice_range bytes p.index end) n m →
+first-byte : (bytes : List ℕ) (p : Point) (end n m : ℕ) → end ≤ length bytes →
+    IsDefinition (slice_range bytes p.index end) n m →
     slice_index bytes p.index ≡ 91
 first-byte bytes p end n m le line =
     let has = has-text bytes p end line.label line.destination le line.bytes in
-    at-next p.index bytes 91 ((line.label ++ 93 ∷ 58 ∷ 32 ∷ line.destination) ++ has.behind) has.text
+    at-next p.index bytes 91 ((line.label ++ 93 ∷ 58 ∷ 32 ∷ line.destination) ++ has.following) has.text
 
 pub written-more : (bytes : List ℕ) (chunks : List Chunk) (at : ℕ) (d : Chunk) (n m : ℕ) (old new : List Event) →
     AreChunks bytes chunks → Written bytes chunks at d old → at + 1 < length chunks →
@@ -105,9 +106,9 @@ pub written-more : (bytes : List ℕ) (chunks : List Chunk) (at : ℕ) (d : Chun
     Written bytes chunks (at + 1) d new
 written-more bytes chunks at d n m old new are w lt line ending is = record {
   within = lt;
-  lines = ap are_lines behind ∙ both.1;
+  lines = ap are_lines following ∙ both.1;
   line = ap (λ (i : ℕ). (get_or chunks i d).first.line) (add-one at) ∙ omega (arith, f.begins, f.line, w.line);
-  end = ap end_of behind ∙ sym (ap end_of here) ∙ w.end;
+  end = ap end_of following ∙ sym (ap end_of here) ∙ w.end;
   placed =
       subst (ArePlaced bytes) (sym is)
       (All-append (λ (e : Event). IsPlaced bytes e.point) (old ++ definition_part n m chunk.first)
@@ -120,11 +121,12 @@ written-more bytes chunks at d n m old new are w lt line ending is = record {
       λ options on bracket. ap (λ (es : List Event). es ++ reads options (x options) (drop (at + 1) chunks)) is
       ∙ ap (λ (cs : List Chunk).
       ((old ++ definition_part n m chunk.first) ++ pair parts.LineEnding (past (n + 4 + m) chunk.first) chunk.after)
-      ++ reads options (x options) cs) behind
+      ++ reads options (x options) cs) following
       ∙ join old (definition_part n m chunk.first) (pair parts.LineEnding (past (n + 4 + m) chunk.first) chunk.after)
       (reads options (x options) (next ∷ more))
       ∙ ap (λ (es : List Event). old ++ es)
-      (sym (step options on (ap (λ (i : ℕ). slice_index bytes (get_or chunks i d).first.index) (sym (add-one at)) ∙ bracket)
+      (sym (step options on (ap (λ (i : ℕ). slice_index bytes (get_or chunks i d).first.index)
+      (sym (add-one at)) ∙ bracket)
       n m line.label_size line.destination_size))
       ∙ ap (λ (cs : List Chunk). old ++ reads options (x options) cs) (sym here)
       ∙ w.so_far options on (first-byte bytes chunk.first (chunk.after.index - 1) n m within_text line);
@@ -148,8 +150,8 @@ written-more bytes chunks at d n m old new are w lt line ending is = record {
     here : drop at chunks ≡ chunk ∷ next ∷ more
     here = drop-cons chunks at d w.within ∙ ap (λ (cs : List Chunk). chunk ∷ cs) tail
 
-    behind : drop (at + 1) chunks ≡ next ∷ more
-    behind = ap (λ (i : ℕ). drop i chunks) (add-one at) ∙ tail
+    following : drop (at + 1) chunks ≡ next ∷ more
+    following = ap (λ (i : ℕ). drop i chunks) (add-one at) ∙ tail
 
     both : (is_followed chunk next ≡ true) × (are_lines (next ∷ more) ≡ true)
     both = and_parts (is_followed chunk next) (are_lines (next ∷ more)) (sym (ap are_lines here) ∙ w.lines)
@@ -183,14 +185,16 @@ written-more bytes chunks at d n m old new are w lt line ending is = record {
     definition_at : (n m : ℕ) → length line.label ≡ n → length line.destination ≡ m →
         ArePlaced bytes (definition_part n m chunk.first)
     definition_at n m a b =
-        by-sizes (λ k j. ArePlaced bytes (definition_part k j chunk.first)) (length line.label) (length line.destination) n m a b
+        by-sizes (λ k j. ArePlaced bytes (definition_part k j chunk.first)) (length line.label)
+        (length line.destination) n m a b
         (definition-placed bytes chunk.first (chunk.after.index - 1) line.label line.destination within_text own.first
         line.parts line.bytes)
 
     end_at : (n m : ℕ) → length line.label ≡ n → length line.destination ≡ m →
         IsPlaced bytes (past (n + 4 + m) chunk.first)
     end_at n m a b =
-        by-sizes (λ k j. IsPlaced bytes (past (k + 4 + j) chunk.first)) (length line.label) (length line.destination) n m a b
+        by-sizes (λ k j. IsPlaced bytes (past (k + 4 + j) chunk.first)) (length line.label)
+        (length line.destination) n m a b
         (end-placed bytes chunk.first (chunk.after.index - 1) line.label line.destination within_text own.first
         line.parts line.bytes)
 
@@ -244,15 +248,18 @@ written-all bytes chunks at d n m old new are lines w le line is = (
     definition_at : (n m : ℕ) → length line.label ≡ n → length line.destination ≡ m →
         ArePlaced bytes (definition_part n m chunk.first)
     definition_at n m a b =
-        by-sizes (λ k j. ArePlaced bytes (definition_part k j chunk.first)) (length line.label) (length line.destination) n m a b
+        by-sizes (λ k j. ArePlaced bytes (definition_part k j chunk.first)) (length line.label)
+        (length line.destination) n m a b
         (definition-placed bytes chunk.first chunk.after.index line.label line.destination own.after.index own.first
         line.parts line.bytes)
 
     step : (options : ParseOptions) → options.constructs.definition ≡ true → (n m : ℕ) → length line.label ≡ n →
         length line.destination ≡ m → reads options (x options) (chunk ∷ []) ≡ definition_part n m chunk.first
     step options on n m a b =
-        by-sizes (λ k j. reads options (x options) (chunk ∷ []) ≡ definition_part k j chunk.first) (length line.label) (length line.destination) n m a b
-        (step-last (x options) options chunk line.label line.destination (end-limit bytes chunks d are) on line.parts own
+        by-sizes (λ k j. reads options (x options) (chunk ∷ []) ≡ definition_part k j chunk.first) (length line.label)
+        (length line.destination) n m a b
+        (step-last (x options) options chunk line.label line.destination (end-limit bytes chunks d are) on
+        line.parts own
         (within chunk (sym (ap are_lines here) ∙ w.lines)) line.bytes (sym w.end ∙ ap end_of here))
 
 -- As the loop has it: chunks by any other default.
@@ -279,7 +286,8 @@ loop-more bytes chunks at d q old some new are w lt ending line is =
         new ≡ some ++ pair parts.LineEnding q chunk.after → Written bytes chunks (at + 1) no_chunk new
     go chunk k ending line is =
         written-more bytes chunks at no_chunk line.n line.m old new are w lt
-        (subst (λ (c : Chunk). IsDefinition (slice_range bytes c.first.index (c.after.index - 1)) line.n line.m) k line.line)
+        (subst (λ (c : Chunk). IsDefinition (slice_range bytes c.first.index (c.after.index - 1)) line.n
+        line.m) k line.line)
         (ap (λ (c : Chunk). slice_index bytes (c.after.index - 1)) (sym k) ∙ ending)
         (is
         ∙ ap (λ (es : List Event). es ++ pair parts.LineEnding q chunk.after) line.events
@@ -316,4 +324,5 @@ pub loop-ends : (bytes : List ℕ) (chunks : List Chunk) (at : ℕ) (d : Chunk) 
     ((options : ParseOptions) → options.constructs.definition ≡ true → new ≡ content_events bytes options chunks) ×
     ArePlaced bytes new
 loop-ends bytes chunks at d None old new are lines w le h some = let no : false ≡ true = some in cc
-loop-ends bytes chunks at d (Some q) old new are lines w le h some = loop-all bytes chunks at d q old new are lines w le h
+loop-ends bytes chunks at d (Some q) old new are lines w le h some =
+    loop-all bytes chunks at d q old new are lines w le h

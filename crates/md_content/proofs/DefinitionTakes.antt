@@ -10,9 +10,9 @@ use Rattle.md_engine.specs.declared.event.Point.{Point}
 use Rattle.md_engine.specs.Meaning.{Cell}
 use Rattle.md_link_definitions.specs.Chunks.{before_mark, from_mark}
 use Rattle.md_link_definitions.specs.DefinitionRule.{DefinitionParts, definition_end, definition_parts, definition_rest}
-use Rattle.md_link_definitions.specs.DefinitionRule.{destination_begin, destination_end, destination_rest, ends_behind, lone}
-use Rattle.md_link_definitions.specs.DefinitionRule.{parts_behind, parts_end, parts_labelled, parts_rest, parts_with, title_behind}
-use Rattle.md_link_definitions.specs.DefinitionRule.{titled_end, titled_rest}
+use Rattle.md_link_definitions.specs.DefinitionRule.{destination_begin, destination_end, destination_rest, ends_after}
+use Rattle.md_link_definitions.specs.DefinitionRule.{lone, parts_after, parts_end, parts_labelled, parts_rest}
+use Rattle.md_link_definitions.specs.DefinitionRule.{parts_with, title_following, titled_end, titled_rest}
 use Rattle.md_link_definitions.specs.DestinationRule.{begins_literal, destination_size}
 use Rattle.md_link_definitions.specs.GapRule.{begins_gap, ending_end, ending_rest, gap_end, gap_rest}
 use Rattle.md_link_definitions.specs.Label.{is_bracket}
@@ -72,7 +72,8 @@ takes-end cells p rest q t =
 -- Each part.
 
 -- whitespace
-white-takes : (room : ℕ) (cells : List Cell) (p : Point) → Takes cells p (white_rest room cells) (white_end room cells p)
+white-takes : (room : ℕ) (cells : List Cell) (p : Point) →
+    Takes cells p (white_rest room cells) (white_end room cells p)
 white-takes room [] p = takes-none [] p
 white-takes zero (c ∷ cs) p = takes-none (c ∷ cs) p
 white-takes (suc room) (c ∷ cs) p = go (is_white c.byte) (white-takes room cs c.after)
@@ -169,12 +170,13 @@ gap-takes cells p =
     (ending-takes (white_rest any_size cells) (white_end any_size cells p))
 
 -- so many cells
-some-takes : (size : ℕ) (cells : List Cell) (p : Point) → Takes cells p (drop size cells) (point_after (take size cells) p)
+some-takes : (size : ℕ) (cells : List Cell) (p : Point) →
+    Takes cells p (drop size cells) (point_after (take size cells) p)
 some-takes size cells p =
     record { front = take size cells; split = sym (take-append-drop size cells); last = refl }
 
 -- a title after a gap, if there is one
-titled-takes : (cells : List Cell) (p : Point) (title : Option TitleParts) → title_behind cells ≡ title →
+titled-takes : (cells : List Cell) (p : Point) (title : Option TitleParts) → title_following cells ≡ title →
     Takes cells p (titled_rest title cells) (titled_end title p)
 titled-takes cells p None e = takes-none cells p
 titled-takes cells p (Some t) e = go (begins_gap cells) (title_parts (gap_rest cells)) refl e
@@ -192,7 +194,7 @@ titled-takes cells p (Some t) e = go (begins_gap cells) (title_parts (gap_rest c
 
     go : (x : Bool) (o : Option TitleParts) → title_parts (gap_rest cells) ≡ o → cond x (lone o) None ≡ Some t → There t
     go true None k e = let none : (let o : Option TitleParts = None in o) ≡ Some t = e in cc
-    go true (Some u) k e = by u (ends_behind u.rest) k e
+    go true (Some u) k e = by u (ends_after u.rest) k e
     go false o k e = let none : (let o : Option TitleParts = None in o) ≡ Some t = e in cc
 
 -- The whole.
@@ -210,7 +212,7 @@ with-takes : (cells front : List Cell) (p : Point) (label : LabelParts) (c : Cel
     DefinitionTakes d cells p
 with-takes cells front p label c cs None d t fewer e =
     let none : (let o : Option DefinitionParts = None in o) ≡ Some d = e in cc
-with-takes cells front p label c cs (Some destination) d t fewer e = go (ends_behind (parts_rest all)) refl e
+with-takes cells front p label c cs (Some destination) d t fewer e = go (ends_after (parts_rest all)) refl e
   where
     all : DefinitionParts
     all = record {
@@ -219,7 +221,7 @@ with-takes cells front p label c cs (Some destination) d t fewer e = go (ends_be
       colon = c;
       more = cs;
       destination = destination;
-      title = title_behind (drop (destination_size (begins_literal (gap_rest cs)) destination.text) (gap_rest cs));
+      title = title_following (drop (destination_size (begins_literal (gap_rest cs)) destination.text) (gap_rest cs));
     }
 
     takes : Takes cs c.after (definition_rest all) (definition_end all)
@@ -232,7 +234,7 @@ with-takes cells front p label c cs (Some destination) d t fewer e = go (ends_be
         (titled-takes (destination_rest all) (destination_end all) all.title refl)
         (white-takes any_size (parts_rest all) (parts_end all))))
 
-    ends : ends_behind (parts_rest all) ≡ true → DefinitionTakes all cells p
+    ends : ends_after (parts_rest all) ≡ true → DefinitionTakes all cells p
     ends is =
         let few = takes-fewer cs c.after (definition_rest all) (definition_end all) takes in
         record {
@@ -241,18 +243,18 @@ with-takes cells front p label c cs (Some destination) d t fewer e = go (ends_be
           ends = is;
         }
 
-    go : (x : Bool) → ends_behind (parts_rest all) ≡ x → cond x (Some all) None ≡ Some d → DefinitionTakes d cells p
+    go : (x : Bool) → ends_after (parts_rest all) ≡ x → cond x (Some all) None ≡ Some d → DefinitionTakes d cells p
     go true is e =
         let same : all ≡ d = cc in subst (λ (x : DefinitionParts). DefinitionTakes x cells p) same (ends is)
     go false is e = let none : (let o : Option DefinitionParts = None in o) ≡ Some d = e in cc
 
 -- by what follows the label
-behind-takes : (cells front : List Cell) (p : Point) (label : LabelParts) (left : List Cell) (q : Point)
+following-takes : (cells front : List Cell) (p : Point) (label : LabelParts) (left : List Cell) (q : Point)
     (d : DefinitionParts) →
-    Takes cells p left q → parts_behind front label left ≡ Some d → DefinitionTakes d cells p
-behind-takes cells front p label [] q d t e =
+    Takes cells p left q → parts_after front label left ≡ Some d → DefinitionTakes d cells p
+following-takes cells front p label [] q d t e =
     let none : (let o : Option DefinitionParts = None in o) ≡ Some d = e in cc
-behind-takes cells front p label (c ∷ cs) q d t e = go (nat_eq c.byte colon) e
+following-takes cells front p label (c ∷ cs) q d t e = go (nat_eq c.byte colon) e
   where
     go : (x : Bool) →
         cond x (parts_with front label c cs (found.destination_at (line_bytes (gap_rest cs)))) None ≡ Some d →
@@ -273,7 +275,7 @@ definition-takes cells p d e = go (label_parts (white_rest any_size cells)) refl
         DefinitionTakes d cells p
     go None k e = let none : (let o : Option DefinitionParts = None in o) ≡ Some d = e in cc
     go (Some label) k e =
-        behind-takes cells cells p label label.rest label.closer.after d
+        following-takes cells cells p label label.rest label.closer.after d
         (takes-then cells p _ _ _ _ (white-takes any_size cells p)
         (label-takes (white_end any_size cells p) (white_rest any_size cells) label k))
         e

@@ -20,7 +20,7 @@ use Rattle.md_engine.specs.Scheme.{After, position}
 use Rattle.md_engine.specs.World.{World, after}
 use Rattle.md_engine.specs.Sees.{Sees, ahead, cell_here}
 use Rattle.md_engine.proofs.StepOf.{begins_only, moves, passes, steps-as}
-use Rattle.md_content.specs.ContentRule.{behind_definition, content_by, content_over, definition_in}
+use Rattle.md_content.specs.ContentRule.{following_definition, content_by, content_over, definition_in}
 use Rattle.md_content.specs.Definitions.{definition_after_code, definition_before_code, definitions_ready}
 use Rattle.md_content.specs.Definitions.{definitions_transition, may_define}
 use Rattle.md_content.specs.DefinitionsRule.{DefinitionsMeans, HasDefinitions, after_definition, content_at}
@@ -40,7 +40,8 @@ pub paragraph-whole : (cells : List Cell) (h : Here) →
     paragraph_at cells h ≡
     Accepts (record h { events = h.events ++ paragraph_over cells h.point; point = point_after cells h.point }) []
 unfolding paragraph_at paragraph_line inside_paragraph
-paragraph-whole cells h = ap (λ (es : List Event). Accepts (record h { events = es; point = point_after cells h.point }) []) (simp append_assoc)
+paragraph-whole cells h = ap (λ (es : List Event). Accepts (record h { events = es; point = point_after cells h.point })
+    []) (simp append_assoc)
 
 -- so content is a paragraph where no definition is
 content-none : (options : ParseOptions) (cells : List Cell) (h : Here) → definition_in options cells ≡ None →
@@ -62,18 +63,19 @@ content-some : (options : ParseOptions) (cells : List Cell) (h : Here) (d : Defi
 unfolding content_at after_definition
 content-some options cells h d e =
     let takes = in-takes options cells h.point d e in
-    let behind : List Event = behind_definition (content_over options) (definition_rest d) (definition_end d) in
-    let is : content_over options cells h.point ≡ definition_events d h.point ++ behind = content-unfolds options cells h.point
+    let following : List Event = following_definition (content_over options) (definition_rest d) (definition_end d) in
+    let is : content_over options cells h.point ≡ definition_events d h.point ++ following =
+    content-unfolds options cells h.point
     ∙ ap (λ (o : Option DefinitionParts). content_by o (content_over options) cells h.point) e in
     ap₂ (λ (es : List Event) (p : Point). Accepts (record h { events = es; point = p }) [])
-    (ap (λ (es : List Event). h.events ++ es) is ∙ sym (append_assoc h.events (definition_events d h.point) behind))
+    (ap (λ (es : List Event). h.events ++ es) is ∙ sym (append_assoc h.events (definition_events d h.point) following))
     (takes-end cells h.point (definition_rest d) (definition_end d) takes.takes)
     ∙ ap
     (λ (x : Bool).
     cond x
     (Accepts
     (record h {
-      events = (h.events ++ definition_events d h.point) ++ behind;
+      events = (h.events ++ definition_events d h.point) ++ following;
       point = point_after (definition_rest d) (definition_end d);
     })
     [])

@@ -65,7 +65,8 @@ before_ends T w false has r = (
   refl,
 )
 
-after_ends : (T : Scheme) (w : World) (o : Option ℕ) → DefinitionsFits T → rest_ready (position w) (after_all T w.frames) →
+after_ends : (T : Scheme) (w : World) (o : Option ℕ) → DefinitionsFits T →
+    rest_ready (position w) (after_all T w.frames) →
     seen (position w) ≡ o → Does T (n.Content its.DefinitionAfter) w (definition_after_code w o)
 after_ends T w None has r e = (accepts T _ w _ _ w.events w.scratch r.1 r.0, refl)
 after_ends T w (Some b) has r e = go (nat_eq b line_feed) refl

@@ -1,5 +1,6 @@
 -- The labels of footnote definitions among events: before the first event of a label there are none.
-use Rattle.std.proofs.Common.{◌≡◌, ◌+◌, ◌&&◌, ℕ, suc, Bool, true, false, cond, List, [], ◌∷◌, drop, refl, ap, arith, ◌∙◌, sym}
+use Rattle.std.proofs.Common.{◌≡◌, ◌+◌, ◌&&◌, ℕ, suc, Bool, true, false, cond, List, [], ◌∷◌, drop, refl, ap, arith}
+use Rattle.std.proofs.Common.{◌∙◌, sym}
 use Rattle.std.specs.Prelude.{if◌then◌else◌, not, slice_range}
 use Rattle.std.specs.List.{prefix_len}
 use Rattle.md_engine.specs.declared.event.Event.{Event}
@@ -15,13 +16,13 @@ label-passed : (bytes : List ℕ) (from : ℕ) (e : Event) (es : List Event) →
     footnote_labels_from bytes from (e ∷ es) ≡ footnote_labels_from bytes from es
 label-passed bytes from e es none = go e.kind (is_footnote_label e.name) none
   where
-    behind : List (List ℕ)
-    behind = footnote_labels_from bytes from es
+    following : List (List ℕ)
+    following = footnote_labels_from bytes from es
 
     go : (k : Kind) (is : Bool) → is ≡ false →
         (if is_enter k && is then footnote_labels_from bytes (byte_at e.point) es
-        else if is_exit k && is then normal_form (slice_range bytes from e.point.index ∷ []) ∷ behind else behind)
-        ≡ behind
+        else if is_exit k && is then normal_form (slice_range bytes from e.point.index ∷ []) ∷ following else following)
+        ≡ following
     go Enter false h = refl
     go Exit false h = refl
     go k true h = cc
@@ -40,11 +41,11 @@ footnotes-passed bytes from (e ∷ es) = by (is_footnote_label e.name) refl (foo
         footnote_labels_from bytes from (drop run es) ≡ footnote_labels_from bytes from es →
         footnote_labels_from bytes from (drop (cond (not (is_footnote_label e.name)) (1 + run) 0) (e ∷ es))
         ≡ footnote_labels_from bytes from (e ∷ es)
-    by false none behind =
+    by false none following =
         let more : 1 + run ≡ suc run = omega arith in
         ap (λ x. footnote_labels_from bytes from (drop (cond (not x) (1 + run) 0) (e ∷ es))) none
         ∙ ap (λ n. footnote_labels_from bytes from (drop n (e ∷ es))) more
-        ∙ behind
+        ∙ following
         ∙ sym (label-passed bytes from e es none)
-    by true begins behind =
+    by true begins following =
         ap (λ x. footnote_labels_from bytes from (drop (cond (not x) (1 + run) 0) (e ∷ es))) begins

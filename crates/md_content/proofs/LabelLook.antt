@@ -263,13 +263,13 @@ scan x end (suc fuel) p small limit within enough h = elim (cases_lt p.index end
             closes (from_mark is_bracket false (text_feed x p)) ≡ false
         from-then _ same rest = ap closes same ∙ rest
 
-        behind : may_close (slice_range x.bytes (p.index + 1) end) ≡ false
-        behind = rw (s, e, f) at k
+        following : may_close (slice_range x.bytes (p.index + 1) end) ≡ false
+        following = rw (s, e, f) at k
 
         left : ((next_point x.bytes p).index ≡ p.index) ⊎ ((next_point x.bytes p).index ≡ p.index + 1) →
             may_close (slice_range x.bytes (next_point x.bytes p).index end) ≡ false
         left (inl same) = ap (λ (i : ℕ). may_close (slice_range x.bytes i end)) same ∙ h
-        left (inr one) = ap (λ (i : ℕ). may_close (slice_range x.bytes i end)) one ∙ behind
+        left (inr one) = ap (λ (i : ℕ). may_close (slice_range x.bytes i end)) one ∙ following
 
 -- No definition begins where the look refuses it.
 pub look-none : (x : Setting) (options : ParseOptions) (end : ℕ) (p : Point) → x.limit < 2 ^ 61 → end ≤ x.limit →
@@ -292,9 +292,9 @@ look-none x options end p small limit within h = elim (cases_lt p.index end) [
     go lt true w l e k = let no : true ≡ false = rw w at k in cc
     go lt false w true e k =
         let v = plain-seen x p left_bracket (eqb-true _ _ e) refl refl small (omega (arith, lt, limit)) in
-        let behind : may_close (slice_range x.bytes (p.index + 1) end) ≡ false = rw (w, e) at k in
+        let following : may_close (slice_range x.bytes (p.index + 1) end) ≡ false = rw (w, e) at k in
         let rest : may_close (slice_range x.bytes v.next.index end) ≡ false =
-        ap (λ (i : ℕ). may_close (slice_range x.bytes i end)) v.index ∙ behind in
+        ap (λ (i : ℕ). may_close (slice_range x.bytes i end)) v.index ∙ following in
         ap (definition_in options) v.feed
         ∙ on (v.here ∷ text_feed x v.next) options.constructs.definition
         (closes-none v.here (text_feed x v.next) v.byte

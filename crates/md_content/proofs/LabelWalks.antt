@@ -68,15 +68,15 @@ labels-before bytes (e ∷ es) = by (begins_label e) refl (labels-before bytes e
 
     by : (x : Bool) → begins_label e ≡ x → labels_in bytes (drop run es) ≡ labels_in bytes es →
         labels_in bytes (drop (cond (not (begins_label e)) (1 + run) 0) (e ∷ es)) ≡ labels_in bytes (e ∷ es)
-    by false none behind =
+    by false none following =
         let more : 1 + run ≡ suc run = omega arith in
         ap (λ x. labels_in bytes (drop (cond (not x) (1 + run) 0) (e ∷ es))) none
         ∙ ap (λ n. labels_in bytes (drop n (e ∷ es))) more
-        ∙ behind
+        ∙ following
         ∙ sym
         (ap (λ x. cond x (normal_form (split_lines (label_text bytes es)) ∷ labels_in bytes es) (labels_in bytes es))
         none)
-    by true begins behind = ap (λ x. labels_in bytes (drop (cond (not x) (1 + run) 0) (e ∷ es))) begins
+    by true begins following = ap (λ x. labels_in bytes (drop (cond (not x) (1 + run) 0) (e ∷ es))) begins
 
 -- and so after a place
 pub labels-passed : (bytes : List ℕ) (events : List Event) (i n : ℕ) (found : List (List ℕ)) →

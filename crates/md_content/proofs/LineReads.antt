@@ -25,8 +25,8 @@ use Rattle.md_events.proofs.PointOrder.{Before, next-within, placed-same, reache
 
 -- a point that is not after another one
 in-order : (bytes : List ℕ) (n m : ℕ) → (Before (walked bytes m) (walked bytes n) → ⊥) → n ≤ m
-in-order bytes n m not_behind = elim (cases_lt m n) [
-  | inl lt ↦ absurd (not_behind (walk-before bytes m n lt))
+in-order bytes n m not_after = elim (cases_lt m n) [
+  | inl lt ↦ absurd (not_after (walk-before bytes m n lt))
   | inr le ↦ le
 ]
 
@@ -68,7 +68,7 @@ lines-order bytes n m le = lines-grow bytes (m - n) n m (omega (arith, le))
 -- a later point is on no line before
 pub line-order : (bytes : List ℕ) (p q : Point) → IsPlaced bytes p → IsPlaced bytes q → (Before q p → ⊥) →
     p.line ≤ q.line
-line-order bytes p q h k not_behind =
+line-order bytes p q h k not_after =
     ∥∥₁_elim h.reached (hlevel props) (λ r. ∥∥₁_elim k.reached (hlevel props) (λ s. go r s))
   where
     go : IsReached bytes p → IsReached bytes q → p.line ≤ q.line
@@ -76,7 +76,7 @@ line-order bytes p q h k not_behind =
         rw (e, f)
         (lines-order bytes n m
         (in-order bytes n m
-        (λ b. not_behind (subst (λ (r : Point). Before r p) (sym f) (subst (Before (walked bytes m)) (sym e) b)))))
+        (λ b. not_after (subst (λ (r : Point). Before r p) (sym f) (subst (Before (walked bytes m)) (sym e) b)))))
 
 -- with its first column a line begins
 ends-before : (bytes : List ℕ) (p : Point) → 1 ≤ p.column → (next_point bytes p).column ≡ 1 →
@@ -161,11 +161,11 @@ step-upto bytes p q h k lt whole = go (cases_lt (next_point bytes p).index q.ind
         (placed-same bytes (next_point bytes p) q (placed-next bytes p h (omega (arith, lt, k.index))) k same
         (vs same ∙ sym whole))
 
-not-behind : (p q : Point) → (p.index < q.index) ⊎ (p ≡ q) → q.vs ≡ 0 → Before q p → ⊥
-not-behind p q (inl lt) whole (inl b) = omega (arith, lt, b)
-not-behind p q (inl lt) whole (inr b) = omega (arith, lt, b.0)
-not-behind p q (inr same) whole (inl b) = omega (arith, ap (λ (r : Point). r.index) same, b)
-not-behind p q (inr same) whole (inr b) = omega (arith, ap (λ (r : Point). r.vs) same, b.1)
+not-following : (p q : Point) → (p.index < q.index) ⊎ (p ≡ q) → q.vs ≡ 0 → Before q p → ⊥
+not-following p q (inl lt) whole (inl b) = omega (arith, lt, b)
+not-following p q (inl lt) whole (inr b) = omega (arith, lt, b.0)
+not-following p q (inr same) whole (inl b) = omega (arith, ap (λ (r : Point). r.index) same, b)
+not-following p q (inr same) whole (inr b) = omega (arith, ap (λ (r : Point). r.vs) same, b.1)
 
 -- The events of a line.
 
@@ -223,12 +223,12 @@ last-line x q zero p small limit k whole enough h line (inl lt) = absurd (omega 
 last-line x q (suc fuel) p small limit k whole enough h line (inl lt) =
     let next = next_point x.bytes p in
     let inside : p.index < x.limit = omega (arith, limit, lt) in
-    let stands : IsPlaced x.bytes next = placed-next x.bytes p h (omega (arith, lt, k.index)) in
+    let valid : IsPlaced x.bytes next = placed-next x.bytes p h (omega (arith, lt, k.index)) in
     let upto = step-upto x.bytes p q h k lt whole in
-    let later : next.line ≤ q.line = line-order x.bytes next q stands k (not-behind next q upto whole) in
+    let later : next.line ≤ q.line = line-order x.bytes next q valid k (not-following next q upto whole) in
     let plain = not-ending later in
     read-byte x p (exit parts.Data q ∷ []) q small inside plain
-    (last-line x q fuel next small limit k whole (omega (arith, enough, plain-falls x p inside plain)) stands
+    (last-line x q fuel next small limit k whole (omega (arith, enough, plain-falls x p inside plain)) valid
     ((kept x.bytes p plain).0 ∙ line) upto)
   where
     not-ending : (next_point x.bytes p).line ≤ q.line → is_ending (slice_index x.bytes p.index) ≡ false
@@ -248,13 +248,13 @@ ended-line x q r events to zero p small limit k first whole begun h enough at li
 ended-line x q r events to (suc fuel) p small limit k first whole begun h enough at line lt =
     go (is_ending (slice_index x.bytes p.index)) refl (step-upto x.bytes p q at k lt whole)
     (λ e less. ended-line x q r events to fuel (next_point x.bytes p) small limit k first whole begun h
-    (omega (arith, enough, plain-falls x p inside e)) stands (omega (arith, line, (kept x.bytes p e).0)) less)
+    (omega (arith, enough, plain-falls x p inside e)) valid (omega (arith, line, (kept x.bytes p e).0)) less)
   where
     inside : p.index < x.limit
     inside = omega (arith, limit, lt)
 
-    stands : IsPlaced x.bytes (next_point x.bytes p)
-    stands = placed-next x.bytes p at (omega (arith, lt, k.index))
+    valid : IsPlaced x.bytes (next_point x.bytes p)
+    valid = placed-next x.bytes p at (omega (arith, lt, k.index))
 
     go : (t : Bool) → is_ending (slice_index x.bytes p.index) ≡ t →
         ((next_point x.bytes p).index < q.index) ⊎ (next_point x.bytes p ≡ q) →
@@ -263,7 +263,7 @@ ended-line x q r events to (suc fuel) p small limit k first whole begun h enough
         Reads x p (exit parts.Data r ∷ enter_link parts.Data r text_link ∷ events) to
     go true e (inl less) _ =
         absurd
-        (omega (arith, line, ended x.bytes p e, line-first x.bytes (next_point x.bytes p) q stands k less first))
+        (omega (arith, line, ended x.bytes p e, line-first x.bytes (next_point x.bytes p) q valid k less first))
     go true e (inr same) _ = read-ending x p r events to small inside e (ap (line_begun x) same ∙ begun) h
     go false e (inl less) rest =
         read-byte x p (exit parts.Data r ∷ enter_link parts.Data r text_link ∷ events) to small inside e (rest e less)

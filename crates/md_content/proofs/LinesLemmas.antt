@@ -1,7 +1,7 @@
 -- Lines of content are joined and read in one walk, step by step.
-use Rattle.std.proofs.Common.{◌≡◌, ℕ, suc, ◌+◌, ◌-◌, ◌<◌, ◌≤◌, ◌⊎◌, inl, inr, Bool, true, false, ◌&&◌, cond, List}
-use Rattle.std.proofs.Common.{[], ◌∷◌, ◌++◌, length, get_or, take, drop, refl, ap, sym, ◌∙◌, subst, append_assoc, append-nil}
-use Rattle.std.proofs.Common.{length-drop, arith}
+use Rattle.std.proofs.Common.{◌≡◌, ℕ, suc, ◌+◌, ◌-◌, ◌<◌, ◌≤◌, ◌⊎◌, inl, inr, Bool, true, false, ◌&&◌, cond, List, []}
+use Rattle.std.proofs.Common.{◌∷◌, ◌++◌, length, get_or, take, drop, refl, ap, sym, ◌∙◌, subst, append_assoc}
+use Rattle.std.proofs.Common.{append-nil, length-drop, arith}
 use Rattle.std.specs.Prelude.{not, is_none, Option, Some, None}
 use Rattle.std.specs.List.{prefix_len}
 use Rattle.std.specs.Option.{is_some}
@@ -16,14 +16,14 @@ use Rattle.md_engine.specs.declared.event.Link.{Link}
 use Rattle.md_engine.specs.declared.event.Name.{Name}
 use Rattle.md_engine.specs.declared.event.Name.TheVariants as name
 use Rattle.md_content.specs.ContentReads.{content_events, content_readings, wants_content}
-use Rattle.md_content.specs.Joined.{ends_content, goes_on, is_content, joined, joined_with}
+use Rattle.md_content.specs.Joined.{ends_content, is_continued, is_content, joined, joined_with}
 use Rattle.md_content.specs.Lines.{begins_chunk, is_passed, lines_from}
 use Rattle.md_content.proofs.JoinedLemmas.{joined-head, joined-placed}
 use Rattle.md_events.specs.declared.inline.Chunk.{Chunk}
 use Rattle.md_events.specs.Events.Nested.{is_exit}
 use Rattle.md_events.specs.Events.Prefix.{is_prefix}
 use Rattle.md_events.specs.Parts.{AreChunks, ArePlaced}
-use Rattle.md_events.specs.Substituted.{Begun, chunk_of, chunks_behind, chunks_from, share, stays, wanted, wanted_at}
+use Rattle.md_events.specs.Substituted.{Begun, chunk_of, chunks_after, chunks_from, share, stays, wanted, wanted_at}
 use Rattle.md_events.proofs.SubstitutedLemmas.{Leads, chunks-placed, leads-chunk, leads-event}
 
 -- An event with which no line ends is joined with none.
@@ -35,7 +35,7 @@ exits Exit l h = absurd (true≢false (sym h))
 pub joined-stays : (e : Event) (es : List Event) → ends_content e ≡ false → joined (e ∷ es) ≡ e ∷ joined es
 joined-stays e [] h = refl
 joined-stays e (f ∷ []) h = refl
-joined-stays e (f ∷ g ∷ es) h = rw (other (is_exit e.kind) (is_content e.name) (goes_on (f ∷ g ∷ es)) h) refl
+joined-stays e (f ∷ g ∷ es) h = rw (other (is_exit e.kind) (is_content e.name) (is_continued (f ∷ g ∷ es)) h) refl
   where
     other : (a b c : Bool) → (a && b) ≡ false → (a && b && c) ≡ false
     other true true c h = absurd (true≢false h)
@@ -96,11 +96,11 @@ lines-split rest with last d h is more =
     let e : Event = get_or rest 0 d in
     let f : Event = ended rest last d in
     let es : List Event = joined (drop (last + 1) rest) in
-    ap (chunks_behind wants_content) (chunk-split rest with last d h is more)
+    ap (chunks_after wants_content) (chunk-split rest with last d h is more)
     ∙ ap
     (λ (x : Bool).
-    cond x (chunk_of e f ∷ chunks_behind wants_content es)
-    (cond (is_prefix e.name) (chunks_behind wants_content (f ∷ es)) []))
+    cond x (chunk_of e f ∷ chunks_after wants_content es)
+    (cond (is_prefix e.name) (chunks_after wants_content (f ∷ es)) []))
     (first-begins rest d h)
 
 some-content : (o : Option Content) → is_some o ≡ true → (content : Content) × (o ≡ Some content)
@@ -109,18 +109,18 @@ some-content None h = absurd (true≢false (sym h))
 
 -- what is read is in the places of its lines
 pub leads-line : (bytes : List ℕ) (options : ParseOptions)
-    (events rest left now left_behind all new : List Event) (chunks many chunks_left with last : ℕ) (d : Event) →
+    (events rest left now left_after all new : List Event) (chunks many chunks_left with last : ℕ) (d : Event) →
     begins_chunk rest ≡ true → with ≡ joined_with (drop 1 rest) → last ≡ 1 + with →
     Begun (λ (answer : List Event). answer ≡ content_events bytes options (lines_from rest)) (length (lines_from rest))
     left chunks now many →
     chunks_left + 1 ≡ many →
     new ≡ all ++ take (share (many - 1) now (get_or rest last d).point.index) now →
-    left_behind ≡ drop (share (many - 1) now (get_or rest last d).point.index) now →
+    left_after ≡ drop (share (many - 1) now (get_or rest last d).point.index) now →
     Leads wants_content (content_readings bytes options) events left chunks (joined rest) all →
-    Leads wants_content (content_readings bytes options) events left_behind chunks_left (joined (drop (last + 1) rest))
+    Leads wants_content (content_readings bytes options) events left_after chunks_left (joined (drop (last + 1) rest))
     new
-leads-line bytes options events rest left now left_behind all new chunks many chunks_left with last d h is next begun
-    one placed behind leads =
+leads-line bytes options events rest left now left_after all new chunks many chunks_left with last d h is next begun
+    one placed following leads =
     let reads = content_readings bytes options in
     let e : Event = get_or rest 0 d in
     let f : Event = ended rest last d in
@@ -128,12 +128,12 @@ leads-line bytes options events rest left now left_behind all new chunks many ch
     let more : many ≡ suc chunks_left = omega arith in
     let less : many - 1 ≡ chunks_left = omega arith in
     let held = some-content (wanted wants_content e) (first-begins rest d h) in
-    let begins : Begun (reads held.0 (chunk_of e f ∷ chunks_behind wants_content es))
-    (length (chunk_of e f ∷ chunks_behind wants_content es)) left chunks now (suc chunks_left) =
+    let begins : Begun (reads held.0 (chunk_of e f ∷ chunks_after wants_content es))
+    (length (chunk_of e f ∷ chunks_after wants_content es)) left chunks now (suc chunks_left) =
     subst
     (λ (n : ℕ).
-    Begun (reads held.0 (chunk_of e f ∷ chunks_behind wants_content es))
-    (length (chunk_of e f ∷ chunks_behind wants_content es)) left chunks now n) more
+    Begun (reads held.0 (chunk_of e f ∷ chunks_after wants_content es))
+    (length (chunk_of e f ∷ chunks_after wants_content es)) left chunks now n) more
     (subst
     (λ (cs : List Chunk).
     Begun (λ (answer : List Event). answer ≡ content_events bytes options cs) (length cs) left chunks now many)
@@ -143,7 +143,7 @@ leads-line bytes options events rest left now left_behind all new chunks many ch
     leads-chunk wants_content reads events left all chunks e f es held.0 held.1
     (subst (λ (l : List Event). Leads wants_content reads events left chunks l all)
     (chunk-split rest with last d h is next) leads) now chunks_left begins in
-    subst (λ (l : List Event). Leads wants_content reads events l chunks_left es new) (sym behind)
+    subst (λ (l : List Event). Leads wants_content reads events l chunks_left es new) (sym following)
     (subst (Leads wants_content reads events (drop (share (many - 1) now f.point.index) now) chunks_left es)
     (sym placed)
     (subst
@@ -168,7 +168,7 @@ lines-placed bytes rest d h placed =
 ends-first : (e : Event) (es : List Event) → 0 < joined_with (e ∷ es) → is_exit e.kind ≡ true
 ends-first e [] lt = absurd (omega arith)
 ends-first e (f ∷ []) lt = absurd (omega arith)
-ends-first e (f ∷ g ∷ es) lt = go (is_exit e.kind) (is_content e.name) (goes_on (f ∷ g ∷ es)) lt
+ends-first e (f ∷ g ∷ es) lt = go (is_exit e.kind) (is_content e.name) (is_continued (f ∷ g ∷ es)) lt
   where
     go : (a b c : Bool) → 0 < cond (a && b && c) 2 0 → a ≡ true
     go true b c lt = refl
@@ -187,13 +187,14 @@ leads-end bytes options events left rest all chunks with e d first is some leads
     let reads = content_readings bytes options in
     let f : Event = get_or rest with d in
     let now : Event = record e { point = f.point } in
-    let behind : List Event = joined (drop (with + 1) rest) in
+    let following : List Event = joined (drop (with + 1) rest) in
     let here : get_or rest 0 e ≡ e = ap (λ (l : List Event). get_or l 0 e) first in
     let long : 0 < length rest = subst (λ (l : List Event). 0 < length l) (sym first) (omega arith) in
-    let split : joined rest ≡ now ∷ behind = joined-head rest with e d long is ∙ both (get_or rest 0 e) e f behind here in
+    let split : joined rest ≡ now ∷ following = joined-head rest with e d long is
+    ∙ both (get_or rest 0 e) e f following here in
     let exit : is_exit e.kind ≡ true = ends-first e (drop 1 rest)
     (subst (λ (l : List Event). 0 < joined_with l) first (subst (λ (n : ℕ). 0 < n) is some)) in
-    leads-event wants_content reads events left behind all chunks now (inl (exit-stays e.kind e.link exit))
+    leads-event wants_content reads events left following all chunks now (inl (exit-stays e.kind e.link exit))
     (subst (λ (l : List Event). Leads wants_content reads events left chunks l all) split leads)
   where
     both : (a b f : Event) (l : List Event) → a ≡ b →
@@ -209,7 +210,8 @@ unwanted (Some held) h = absurd (true≢false (sym h))
 pub leads-run : (bytes : List ℕ) (options : ParseOptions) (events left rest all : List Event) (chunks : ℕ) →
     Leads wants_content (content_readings bytes options) events left chunks (joined rest) all →
     let run = prefix_len is_passed rest in
-    Leads wants_content (content_readings bytes options) events left chunks (joined (drop run rest)) (all ++ take run rest)
+    Leads wants_content (content_readings bytes options) events left chunks (joined (drop run rest))
+    (all ++ take run rest)
 leads-run bytes options events left [] all chunks leads =
     subst (Leads wants_content (content_readings bytes options) events left chunks []) (sym (append-nil all)) leads
 leads-run bytes options events left (e ∷ es) all chunks leads =
@@ -229,18 +231,19 @@ leads-run bytes options events left (e ∷ es) all chunks leads =
         let many = cond (is_passed e) (1 + run) 0 in
         Leads wants_content (content_readings bytes options) events left chunks (joined (drop many (e ∷ es)))
         (all ++ take many (e ∷ es))
-    go true k behind =
+    go true k following =
         let reads = content_readings bytes options in
         let more : 1 + run ≡ suc run = omega arith in
         let parts = and_parts (stays wants_content e) (not (ends_content e)) k in
         rw (k, more)
-        (subst (Leads wants_content reads events left chunks (joined (drop run es))) (append_assoc all (e ∷ []) (take run es))
-        (behind
+        (subst (Leads wants_content reads events left chunks (joined (drop run es)))
+        (append_assoc all (e ∷ []) (take run es))
+        (following
         (leads-event wants_content reads events left (joined es) all chunks e
         (inl (unwanted (wanted wants_content e) parts.0))
         (subst (λ (l : List Event). Leads wants_content reads events left chunks l all)
         (joined-stays e es (not-true (ends_content e) parts.1)) leads))))
-    go false k behind =
+    go false k following =
         rw k
         (subst (Leads wants_content (content_readings bytes options) events left chunks (joined (e ∷ es)))
         (sym (append-nil all)) leads)
@@ -263,7 +266,8 @@ leads-passed bytes options events left all rest chunks many e first none alone c
     (subst
     (λ (n : ℕ).
     Leads wants_content reads events left chunks (joined (drop n (e ∷ es))) (all ++ take n (e ∷ es))) (sym count)
-    (subst (Leads wants_content reads events left chunks (joined (drop run es))) (append_assoc all (e ∷ []) (take run es))
+    (subst (Leads wants_content reads events left chunks (joined (drop run es)))
+    (append_assoc all (e ∷ []) (take run es))
     (leads-run bytes options events left es (all ++ e ∷ []) chunks
     (leads-event wants_content reads events left (joined es) all chunks e
     (stay e es (ap begins_chunk (sym first) ∙ none))
@@ -302,9 +306,9 @@ lines-more events at with last d items new all h is next new_is listed =
     chunk_of (get_or rest 0 d) (get_or rest (1 + with) d) ∷ lines_from (drop (1 + with + 1) rest) =
     lines-split rest with (1 + with) d h (is ∙ ap joined_with (sym one)) refl in
     let own : List Chunk = chunk_of (get_or events at d) (get_or events last d) ∷ [] in
-    let behind : List Chunk = lines_from (drop (last + 1) events) in
-    ap (λ (l : List Chunk). l ++ behind) new_is
-    ∙ append_assoc items own behind
+    let following : List Chunk = lines_from (drop (last + 1) events) in
+    ap (λ (l : List Chunk). l ++ following) new_is
+    ∙ append_assoc items own following
     ∙ sym
     (ap (λ (l : List Chunk). items ++ l)
     (split
@@ -317,34 +321,34 @@ lines-more events at with last d items new all h is next new_is listed =
 pub past-prefix : (e : Event) (es : List Event) → is_some (wanted wants_content e) ≡ false → is_prefix e.name ≡ true →
     lines_from (e ∷ es) ≡ lines_from es
 past-prefix e es none prefix =
-    ap (chunks_behind wants_content) (joined-stays e es (prefix-stays e prefix)) ∙ go (joined es)
+    ap (chunks_after wants_content) (joined-stays e es (prefix-stays e prefix)) ∙ go (joined es)
   where
-    go : (l : List Event) → chunks_behind wants_content (e ∷ l) ≡ chunks_behind wants_content l
+    go : (l : List Event) → chunks_after wants_content (e ∷ l) ≡ chunks_after wants_content l
     go [] = refl
     go (f ∷ l) =
         ap
         (λ (x : Bool).
-        cond x (chunk_of e f ∷ chunks_behind wants_content l)
-        (cond (is_prefix e.name) (chunks_behind wants_content (f ∷ l)) [])) none
-        ∙ ap (λ (x : Bool). cond x (chunks_behind wants_content (f ∷ l)) []) prefix
+        cond x (chunk_of e f ∷ chunks_after wants_content l)
+        (cond (is_prefix e.name) (chunks_after wants_content (f ∷ l)) [])) none
+        ∙ ap (λ (x : Bool). cond x (chunks_after wants_content (f ∷ l)) []) prefix
 
 -- none after another event
 pub past-other : (e : Event) (es : List Event) → is_some (wanted wants_content e) ≡ false →
     is_prefix e.name ≡ false → lines_from (e ∷ es) ≡ []
 past-other e es none other =
     let j : ℕ = joined_with (e ∷ es) in
-    ap (chunks_behind wants_content) (joined-head (e ∷ es) j e e (omega arith) refl)
+    ap (chunks_after wants_content) (joined-head (e ∷ es) j e e (omega arith) refl)
     ∙ go (record e { point = (get_or (e ∷ es) j e).point }) (joined (drop (j + 1) (e ∷ es))) none other
   where
     go : (e : Event) (l : List Event) → is_some (wanted wants_content e) ≡ false → is_prefix e.name ≡ false →
-        chunks_behind wants_content (e ∷ l) ≡ []
+        chunks_after wants_content (e ∷ l) ≡ []
     go e [] none other = refl
     go e (f ∷ l) none other =
         ap
         (λ (x : Bool).
-        cond x (chunk_of e f ∷ chunks_behind wants_content l)
-        (cond (is_prefix e.name) (chunks_behind wants_content (f ∷ l)) [])) none
-        ∙ ap (λ (x : Bool). cond x (chunks_behind wants_content (f ∷ l)) []) other
+        cond x (chunk_of e f ∷ chunks_after wants_content l)
+        (cond (is_prefix e.name) (chunks_after wants_content (f ∷ l)) [])) none
+        ∙ ap (λ (x : Bool). cond x (chunks_after wants_content (f ∷ l)) []) other
 
 unbegun : (e : Event) (es : List Event) → 0 < length es → begins_chunk (e ∷ es) ≡ false →
     is_some (wanted wants_content e) ≡ false

@@ -19,7 +19,7 @@ use Rattle.md_engine.specs.declared.event.Name.TheVariants as parts
 use Rattle.md_engine.specs.declared.event.Point.{Point}
 use Rattle.md_engine.specs.Place.{IsPlaced}
 use Rattle.md_content.specs.ContentReads.{content_events, content_readings, wants_content}
-use Rattle.md_content.specs.Joined.{content_behind, ends_content, goes_on, is_content, joined, joined_with}
+use Rattle.md_content.specs.Joined.{content_after, ends_content, is_continued, is_content, joined, joined_with}
 use Rattle.md_content.specs.Lines.{begins_chunk, lines_from}
 use Rattle.md_content.specs.Paragraph.{text_link}
 use Rattle.md_content.specs.ParagraphLines.{HasLines, IsParagraph, Reached, is_unlinked, past_prefixes}
@@ -131,7 +131,7 @@ shows-line : (bytes : List ℕ) (options : ParseOptions) (events rest left now a
     (suc (length cs)) →
     LeadsTo bytes options events left chunks rest all →
     Shown bytes options events (drop (with + 2) rest) (all ++ (front ++ lines_of (c ∷ []))) c.after cs
-shows-line bytes options events rest left now all front chunks with c [] d begins is lines whole stands own begun
+shows-line bytes options events rest left now all front chunks with c [] d begins is lines whole valid own begun
     leads =
     let put : List Event = front ++ lines_of (c ∷ []) in
     let ends : List Event = exit parts.Paragraph c.after ∷ [] in
@@ -139,23 +139,23 @@ shows-line bytes options events rest left now all front chunks with c [] d begin
     begun leads in
     let given : all ++ take (length now) now ≡ (all ++ put) ++ ends =
     ap (λ (l : List Event). all ++ l)
-    (take_all (length now) now (omega arith) ∙ stands ∙ sym (append_assoc front (lines_of (c ∷ [])) ends))
+    (take_all (length now) now (omega arith) ∙ valid ∙ sym (append_assoc front (lines_of (c ∷ [])) ends))
     ∙ sym (append_assoc all put ends) in
     subst (LeadsTo bytes options events [] 0 (drop (with + 2) rest)) given
     (subst
     (λ (l : List Event).
     LeadsTo bytes options events l 0 (drop (with + 2) rest) (all ++ take (length now) now))
     (drop_all (length now) now (omega arith)) on)
-shows-line bytes options events rest left now all front chunks with c (e ∷ cs) d begins is lines whole stands own begun
+shows-line bytes options events rest left now all front chunks with c (e ∷ cs) d begins is lines whole valid own begun
     leads =
     let put : List Event = front ++ lines_of (c ∷ []) in
-    let behind : List Event = lines_of (e ∷ cs) ++ exit parts.Paragraph (after_of (e ∷ cs)) ∷ [] in
+    let following : List Event = lines_of (e ∷ cs) ++ exit parts.Paragraph (after_of (e ∷ cs)) ∷ [] in
     let both = and_parts _ _ whole in
     let f = followed c e both.0 in
     let n : ℕ = length put in
-    let apart : now ≡ put ++ behind = stands ∙ sym (append_assoc front (lines_of (c ∷ [])) behind) in
+    let apart : now ≡ put ++ following = valid ∙ sym (append_assoc front (lines_of (c ∷ [])) following) in
     let share_is : share (suc (length cs)) now c.after.index ≡ n =
-    ap (prefix_len (belongs c.after.index)) stands
+    ap (prefix_len (belongs c.after.index)) valid
     ∙ own e.first (exit parts.Data e.after ∷ lines_of cs ++ exit parts.Paragraph (after_of (e ∷ cs)) ∷ []) f.index in
     let on = line-placed bytes options events rest left now all chunks with n c (e ∷ cs) d begins is lines share_is
     begun leads in (
@@ -163,11 +163,11 @@ shows-line bytes options events rest left now all front chunks with c (e ∷ cs)
       subst
           (λ (l : List Event).
           LeadsTo bytes options events l (suc (length cs)) (drop (with + 2) rest) (all ++ put))
-          (ap (drop n) apart ∙ drop_at put behind n refl)
+          (ap (drop n) apart ∙ drop_at put following n refl)
           (subst
           (λ (l : List Event).
           LeadsTo bytes options events (drop n now) (suc (length cs)) (drop (with + 2) rest) (all ++ l))
-          (ap (take n) apart ∙ take_at put behind n refl) on),
+          (ap (take n) apart ∙ take_at put following n refl) on),
     )
 
 -- the first line of a paragraph
@@ -214,15 +214,15 @@ lines-prefixes (e ∷ es) = by (is_plain_prefix e) refl (lines-prefixes es)
 
     by : (x : Bool) → is_plain_prefix e ≡ x → lines_from (drop run es) ≡ lines_from es →
         lines_from (drop (cond (is_plain_prefix e) (1 + run) 0) (e ∷ es)) ≡ lines_from (e ∷ es)
-    by true plain behind =
+    by true plain following =
         let more : 1 + run ≡ suc run = omega arith in
         ap (λ (x : Bool). lines_from (drop (cond x (1 + run) 0) (e ∷ es))) plain
         ∙ ap (λ (n : ℕ). lines_from (drop n (e ∷ es))) more
-        ∙ behind
+        ∙ following
         ∙ sym
         (past-prefix e es (ap is_some (plain-unwanted e plain))
         (and_parts (is_prefix e.name) (is_none e.link) plain).0)
-    by false other behind = ap (λ (x : Bool). lines_from (drop (cond x (1 + run) 0) (e ∷ es))) other
+    by false other following = ap (λ (x : Bool). lines_from (drop (cond x (1 + run) 0) (e ∷ es))) other
 
 -- where a line begins after them, they are the events without a link
 pub unlinked-prefixes : (events : List Event) → begins_chunk (past_prefixes events) ≡ true →
@@ -249,16 +249,16 @@ unlinked-prefixes (e ∷ es) h = by (is_plain_prefix e) refl h (unlinked-prefixe
         begins_chunk (drop (cond (is_plain_prefix e) (1 + run) 0) (e ∷ es)) ≡ true →
         (begins_chunk (past_prefixes es) ≡ true → prefix_len is_unlinked es ≡ run) →
         cond (is_unlinked e) (1 + prefix_len is_unlinked es) 0 ≡ cond (is_plain_prefix e) (1 + run) 0
-    by true plain h behind =
+    by true plain h following =
         let more : 1 + run ≡ suc run = omega arith in
         let there : begins_chunk (drop (suc run) (e ∷ es)) ≡ true =
         subst (λ (n : ℕ). begins_chunk (drop n (e ∷ es)) ≡ true) more
         (subst (λ (x : Bool). begins_chunk (drop (cond x (1 + run) 0) (e ∷ es)) ≡ true) plain h) in
         ap (λ (x : Bool). cond x (1 + prefix_len is_unlinked es) 0)
         (and_parts (is_prefix e.name) (is_none e.link) plain).1
-        ∙ ap (λ (n : ℕ). 1 + n) (behind there)
+        ∙ ap (λ (n : ℕ). 1 + n) (following there)
         ∙ sym (ap (λ (x : Bool). cond x (1 + run) 0) plain)
-    by false other h behind =
+    by false other h following =
         let here : begins_chunk (e ∷ es) ≡ true =
         subst (λ (x : Bool). begins_chunk (drop (cond x (1 + run) 0) (e ∷ es)) ≡ true) other h in
         ap (λ (x : Bool). cond x (1 + prefix_len is_unlinked es) 0)
@@ -282,17 +282,17 @@ leads-prefixes bytes options events left (e ∷ es) all chunks leads =
         LeadsTo bytes options events left chunks (drop run es) ((all ++ e ∷ []) ++ take run es)) →
         let many = cond (is_plain_prefix e) (1 + run) 0 in
         LeadsTo bytes options events left chunks (drop many (e ∷ es)) (all ++ take many (e ∷ es))
-    go true plain behind =
+    go true plain following =
         let reads = content_readings bytes options in
         let more : 1 + run ≡ suc run = omega arith in
         let prefix = (and_parts (is_prefix e.name) (is_none e.link) plain).0 in
         rw (plain, more)
         (subst (LeadsTo bytes options events left chunks (drop run es)) (append_assoc all (e ∷ []) (take run es))
-        (behind
+        (following
         (leads-event wants_content reads (joined events) left (joined es) all chunks e (inl (plain-unwanted e plain))
         (subst (λ (l : List Event). Leads wants_content reads (joined events) left chunks l all)
         (joined-stays e es (prefix-stays e prefix)) leads))))
-    go false other behind =
+    go false other following =
         rw other
         (subst (LeadsTo bytes options events left chunks (e ∷ es)) (sym (append-nil all)) leads)
 
@@ -312,8 +312,8 @@ unbegun bytes options left now (e ∷ f ∷ es) out s =
         ((out : List Event) → Substituted wants_content reads left 0 (f ∷ es) out →
         Substituted wants_content reads now 0 (f ∷ es) out) →
         SubstitutedBy wants_content reads left 0 e f es out o → SubstitutedBy wants_content reads now 0 e f es out o
-    go None behind s = (s.0, s.1, behind s.0 s.2)
-    go (Some _) behind s = s
+    go None following s = (s.0, s.1, following s.0 s.2)
+    go (Some _) following s = s
 
 pub to-unbegun : (bytes : List ℕ) (options : ParseOptions) (events left rest all : List Event) (chunks : ℕ) →
     chunks ≡ 0 → LeadsTo bytes options events left chunks rest all → LeadsTo bytes options events [] 0 rest all
@@ -330,7 +330,8 @@ from-unbegun bytes options events left rest all chunks none leads =
 -- A paragraph is written.
 
 -- some of its lines are, the last of which ends at `after`
-pub record Behind (bytes : List ℕ) (options : ParseOptions) (items all rest : List Event) (after : Point) : Type 0 where
+pub record Following (bytes : List ℕ) (options : ParseOptions) (items all rest : List Event)
+    (after : Point) : Type 0 where
   pub given : ArePlaced bytes all
   pub left : ArePlaced bytes rest
   pub end : IsPlaced bytes after
@@ -362,7 +363,7 @@ joined-within : (l : List Event) → 0 < length l → joined_with l < length l
 joined-within [] lt = absurd (omega arith)
 joined-within (e ∷ []) lt = omega arith
 joined-within (e ∷ f ∷ []) lt = omega arith
-joined-within (e ∷ f ∷ g ∷ es) lt = go (is_exit e.kind && is_content e.name && goes_on (f ∷ g ∷ es))
+joined-within (e ∷ f ∷ g ∷ es) lt = go (is_exit e.kind && is_content e.name && is_continued (f ∷ g ∷ es))
   where
     go : (b : Bool) → cond b 2 0 < length (e ∷ f ∷ g ∷ es)
     go true = omega arith
@@ -394,14 +395,14 @@ line-at bytes c is =
     (All-nil (λ (e : Event). IsPlaced bytes e.point)))
 
 -- the first line
-pub paragraph-first : (bytes : List ℕ) (options : ParseOptions) (events all rest all_behind rest_behind : List Event)
+pub paragraph-first : (bytes : List ℕ) (options : ParseOptions) (events all rest all_after rest_after : List Event)
     (more : ℕ) (c : Chunk) (d : Event) → IsParagraph bytes more rest → Reached bytes options events all rest →
-    lines_from rest ≡ c ∷ lines_from rest_behind → rest_behind ≡ drop (joined_with (drop 1 rest) + 2) rest →
-    all_behind ≡ all ++ enter parts.Paragraph c.first ∷ lines_of (c ∷ []) →
-    Behind bytes options events all_behind rest_behind c.after
-paragraph-first bytes options events all rest all_behind rest_behind more c d is reached lines next given =
+    lines_from rest ≡ c ∷ lines_from rest_after → rest_after ≡ drop (joined_with (drop 1 rest) + 2) rest →
+    all_after ≡ all ++ enter parts.Paragraph c.first ∷ lines_of (c ∷ []) →
+    Following bytes options events all_after rest_after c.after
+paragraph-first bytes options events all rest all_after rest_after more c d is reached lines next given =
     let At = λ (e : Event). IsPlaced bytes e.point in
-    let cs : List Chunk = lines_from rest_behind in
+    let cs : List Chunk = lines_from rest_after in
     let h = begins more rest is.lines in
     let are = chunks-are bytes rest c cs d h lines reached.left in
     let own = All-head (IsChunk bytes) c cs are in
@@ -417,7 +418,7 @@ paragraph-first bytes options events all rest all_behind rest_behind more c d is
       left = subst (ArePlaced bytes) (sym next) (All-drop At (joined_with (drop 1 rest) + 2) rest reached.left);
       end = own.after;
       shown =
-          subst (λ (l : List Event). Shown bytes options events rest_behind l c.after cs) (sym given)
+          subst (λ (l : List Event). Shown bytes options events rest_after l c.after cs) (sym given)
           (subst
           (λ (l : List Event).
           Shown bytes options events l (all ++ enter parts.Paragraph c.first ∷ lines_of (c ∷ [])) c.after cs) (sym next)
@@ -425,25 +426,25 @@ paragraph-first bytes options events all rest all_behind rest_behind more c d is
     }
 
 -- a further line
-pub paragraph-more : (bytes : List ℕ) (options : ParseOptions) (events all rest all_behind rest_behind : List Event)
-    (after : Point) (more : ℕ) (c : Chunk) (d : Event) → Behind bytes options events all rest after →
+pub paragraph-more : (bytes : List ℕ) (options : ParseOptions) (events all rest all_after rest_after : List Event)
+    (after : Point) (more : ℕ) (c : Chunk) (d : Event) → Following bytes options events all rest after →
     HasLines more (past_prefixes rest) →
-    lines_from (past_prefixes rest) ≡ c ∷ lines_from rest_behind →
-    rest_behind ≡ drop (joined_with (drop 1 (past_prefixes rest)) + 2) (past_prefixes rest) →
-    all_behind ≡ (all ++ take (prefix_len is_plain_prefix rest) rest) ++ lines_of (c ∷ []) →
-    Behind bytes options events all_behind rest_behind c.after
-paragraph-more bytes options events all rest all_behind rest_behind after more c d behind has lines next given =
+    lines_from (past_prefixes rest) ≡ c ∷ lines_from rest_after →
+    rest_after ≡ drop (joined_with (drop 1 (past_prefixes rest)) + 2) (past_prefixes rest) →
+    all_after ≡ (all ++ take (prefix_len is_plain_prefix rest) rest) ++ lines_of (c ∷ []) →
+    Following bytes options events all_after rest_after c.after
+paragraph-more bytes options events all rest all_after rest_after after more c d following has lines next given =
     let At = λ (e : Event). IsPlaced bytes e.point in
-    let cs : List Chunk = lines_from rest_behind in
+    let cs : List Chunk = lines_from rest_after in
     let now : List Event = past_prefixes rest in
     let n : ℕ = prefix_len is_plain_prefix rest in
     let put : List Event = all ++ take n rest in
     let h = begins more now has in
-    let left = All-drop At n rest behind.left in
+    let left = All-drop At n rest following.left in
     let are = chunks-are bytes now c cs d h lines left in
     let own = All-head (IsChunk bytes) c cs are in
     let left_is : Shown bytes options events rest all after (c ∷ cs) =
-    subst (Shown bytes options events rest all after) (sym (lines-prefixes rest) ∙ lines) behind.shown in
+    subst (Shown bytes options events rest all after) (sym (lines-prefixes rest) ∙ lines) following.shown in
     let shown = shows-next bytes options events now put (joined_with (drop 1 now)) c cs d h refl lines are left_is.0
     (leads-prefixes bytes options events (lines_of (c ∷ cs) ++ exit parts.Paragraph (after_of (c ∷ cs)) ∷ []) rest all
     (suc (length cs)) left_is.1) in
@@ -451,39 +452,39 @@ paragraph-more bytes options events all rest all_behind rest_behind after more c
       given =
           subst (ArePlaced bytes) (sym given)
           (All-append At put (lines_of (c ∷ []))
-          (All-append At all (take n rest) behind.given (All-take At n rest behind.left)) (line-at bytes c own));
+          (All-append At all (take n rest) following.given (All-take At n rest following.left)) (line-at bytes c own));
       left = subst (ArePlaced bytes) (sym next) (All-drop At (joined_with (drop 1 now) + 2) now left);
       end = own.after;
       shown =
-          subst (λ (l : List Event). Shown bytes options events rest_behind l c.after cs) (sym given)
+          subst (λ (l : List Event). Shown bytes options events rest_after l c.after cs) (sym given)
           (subst (λ (l : List Event). Shown bytes options events l (put ++ lines_of (c ∷ [])) c.after cs) (sym next)
           shown);
     }
 
 -- no further line
-pub paragraph-all : (bytes : List ℕ) (options : ParseOptions) (events all rest all_behind rest_behind : List Event)
-    (after : Point) → Behind bytes options events all rest after → lines_from rest ≡ [] → rest_behind ≡ rest →
-    all_behind ≡ all ++ exit parts.Paragraph after ∷ [] → Reached bytes options events all_behind rest_behind
-paragraph-all bytes options events all rest all_behind rest_behind after behind none next given =
+pub paragraph-all : (bytes : List ℕ) (options : ParseOptions) (events all rest all_after rest_after : List Event)
+    (after : Point) → Following bytes options events all rest after → lines_from rest ≡ [] → rest_after ≡ rest →
+    all_after ≡ all ++ exit parts.Paragraph after ∷ [] → Reached bytes options events all_after rest_after
+paragraph-all bytes options events all rest all_after rest_after after following none next given =
     let At = λ (e : Event). IsPlaced bytes e.point in
     let ends : Event = exit parts.Paragraph after in
-    subst (Reached bytes options events all_behind) (sym next)
+    subst (Reached bytes options events all_after) (sym next)
     (subst (λ (l : List Event). Reached bytes options events l rest) (sym given)
     (record {
-      given = All-append At all (ends ∷ []) behind.given (All-cons At ends [] behind.end (All-nil At));
-      left = behind.left;
-      substituted = subst (Shown bytes options events rest all after) none behind.shown;
+      given = All-append At all (ends ∷ []) following.given (All-cons At ends [] following.end (All-nil At));
+      left = following.left;
+      substituted = subst (Shown bytes options events rest all after) none following.shown;
     }))
 
 -- A paragraph is looked for.
 
 -- a line of content is after prefixes
-behind-prefixes : (es : List Event) (d : Event) → prefix_len is_plain_prefix es < length es →
+following-prefixes : (es : List Event) (d : Event) → prefix_len is_plain_prefix es < length es →
     (is_enter (get_or es (prefix_len is_plain_prefix es) d).kind
     && is_content (get_or es (prefix_len is_plain_prefix es) d).name) ≡ true →
-    content_behind es ≡ true
-behind-prefixes [] d lt h = absurd (omega arith)
-behind-prefixes (e ∷ es) d lt h = by (is_plain_prefix e) refl lt h (behind-prefixes es d)
+    content_after es ≡ true
+following-prefixes [] d lt h = absurd (omega arith)
+following-prefixes (e ∷ es) d lt h = by (is_plain_prefix e) refl lt h (following-prefixes es d)
   where
     run : ℕ
     run = prefix_len is_plain_prefix es
@@ -500,20 +501,20 @@ behind-prefixes (e ∷ es) d lt h = by (is_plain_prefix e) refl lt h (behind-pre
 
     by : (x : Bool) → is_plain_prefix e ≡ x → cond (is_plain_prefix e) (1 + run) 0 < length (e ∷ es) →
         Begins (e ∷ es) (cond (is_plain_prefix e) (1 + run) 0) →
-        (run < length es → Begins es run → content_behind es ≡ true) →
-        cond (is_prefix e.name) (content_behind es) (is_enter e.kind && is_content e.name) ≡ true
-    by true plain lt h behind =
+        (run < length es → Begins es run → content_after es ≡ true) →
+        cond (is_prefix e.name) (content_after es) (is_enter e.kind && is_content e.name) ≡ true
+    by true plain lt h following =
         let more : 1 + run ≡ suc run = omega arith in
         let less : cond true (1 + run) 0 < length (e ∷ es) =
         subst (λ (x : Bool). cond x (1 + run) 0 < length (e ∷ es)) plain lt in
         let there : Begins (e ∷ es) (suc run) =
         subst (Begins (e ∷ es)) more (subst (λ (x : Bool). Begins (e ∷ es) (cond x (1 + run) 0)) plain h) in
-        ap (λ (x : Bool). cond x (content_behind es) (is_enter e.kind && is_content e.name))
+        ap (λ (x : Bool). cond x (content_after es) (is_enter e.kind && is_content e.name))
         (and_parts (is_prefix e.name) (is_none e.link) plain).0
-        ∙ behind (omega (arith, less)) there
-    by false none lt h behind =
+        ∙ following (omega (arith, less)) there
+    by false none lt h following =
         let here : Begins (e ∷ es) 0 = subst (λ (x : Bool). Begins (e ∷ es) (cond x (1 + run) 0)) none h in
-        ap (λ (x : Bool). cond x (content_behind es) (is_enter e.kind && is_content e.name))
+        ap (λ (x : Bool). cond x (content_after es) (is_enter e.kind && is_content e.name))
         (other e.name (and_parts (is_enter e.kind) (is_content e.name) here).1)
         ∙ here
 
@@ -531,11 +532,11 @@ joins-two (e ∷ f ∷ g ∷ es) n d three ends ending is lt h =
     let there = subst
     (λ (k : ℕ). (is_enter (get_or (e ∷ f ∷ g ∷ es) k d).kind && is_content (get_or (e ∷ f ∷ g ∷ es) k d).name) ≡ true)
     more h in
-    let behind : content_behind es ≡ true =
-    behind-prefixes es d (omega (arith, is))
+    let following : content_after es ≡ true =
+    following-prefixes es d (omega (arith, is))
     (subst (λ (k : ℕ). (is_enter (get_or es k d).kind && is_content (get_or es k d).name) ≡ true) is there) in
     let own = and_parts (is_exit e.kind) (is_content e.name) ends in
-    rw (own.0, own.1, ending, behind) refl
+    rw (own.0, own.1, ending, following) refl
 
 -- one line more
 
@@ -545,12 +546,12 @@ front-drop events at n =
     ∙ ap (λ (k : ℕ). drop k events) (omega arith)
     ∙ sym (drop-drop (suc n) at events)
 
-pub more-lines : (events : List Event) (at behind next : ℕ) → begins_chunk (drop at events) ≡ true →
+pub more-lines : (events : List Event) (at following next : ℕ) → begins_chunk (drop at events) ≡ true →
     joined_with (drop (at + 1) events) ≡ 2 →
-    behind ≡ 3 + prefix_len is_plain_prefix (drop 3 (drop (at + 1) events)) → next ≡ at + 1 + behind →
+    following ≡ 3 + prefix_len is_plain_prefix (drop 3 (drop (at + 1) events)) → next ≡ at + 1 + following →
     (past_prefixes (drop 4 (drop at events)) ≡ drop next events)
     × (joined_with (drop 1 (drop at events)) ≡ 2)
-more-lines events at behind next h two is far =
+more-lines events at following next h two is far =
     let n : ℕ = prefix_len is_plain_prefix (drop 3 (drop (at + 1) events)) in
     let there : drop 3 (drop (at + 1) events) ≡ drop 4 (drop at events) = front-drop events at 3 in
     let sum : (at + 4) + n ≡ next = omega (arith, is, far) in (
@@ -565,29 +566,29 @@ more-lines events at behind next h two is far =
 abbrev pub CountsTo : List Event → ℕ → ℕ → Type 0
 CountsTo events at more = (n : ℕ) → HasLines n (drop at events) → HasLines (n + more) events
 
-pub counts-more : (events : List Event) (at behind next more : ℕ) → begins_chunk (drop at events) ≡ true →
+pub counts-more : (events : List Event) (at following next more : ℕ) → begins_chunk (drop at events) ≡ true →
     joined_with (drop (at + 1) events) ≡ 2 →
-    behind ≡ 3 + prefix_len is_plain_prefix (drop 3 (drop (at + 1) events)) → next ≡ at + 1 + behind →
+    following ≡ 3 + prefix_len is_plain_prefix (drop 3 (drop (at + 1) events)) → next ≡ at + 1 + following →
     CountsTo events at more → CountsTo events next (more + 1)
-counts-more events at behind next more h two is far counts n has =
-    let on = more-lines events at behind next h two is far in
+counts-more events at following next more h two is far counts n has =
+    let on = more-lines events at following next h two is far in
     let sum : suc n + more ≡ n + (more + 1) = omega arith in
     subst (λ (k : ℕ). HasLines k events) sum
     (counts (suc n) (h, on.1, subst (HasLines n) (sym on.0) has))
 
 -- the lines of the part, from one on
-pub whole-more : (events : List Event) (at behind next : ℕ) (d : Event) (q : Point) →
+pub whole-more : (events : List Event) (at following next : ℕ) (d : Event) (q : Point) →
     begins_chunk (drop at events) ≡ true →
     begins_chunk (drop next events) ≡ true → joined_with (drop (at + 1) events) ≡ 2 →
-    behind ≡ 3 + prefix_len is_plain_prefix (drop 3 (drop (at + 1) events)) → next ≡ at + 1 + behind →
+    following ≡ 3 + prefix_len is_plain_prefix (drop 3 (drop (at + 1) events)) → next ≡ at + 1 + following →
     is_followed (chunk_of (get_or events at d) (get_or events (at + 3) d))
     (record { first = (get_or events next d).point; after = q }) ≡ true →
     are_lines (lines_from (drop next events)) ≡ are_lines (lines_from (drop at events))
-whole-more events at behind next d q h there two is far follows =
+whole-more events at following next d q h there two is far follows =
     let rest : List Event = drop at events in
-    let behind_is = more-lines events at behind next h two is far in
+    let following_is = more-lines events at following next h two is far in
     let with : ℕ = joined_with (drop 1 (drop next events)) in
-    let own = lines-split rest 2 3 d h (sym behind_is.1) refl in
+    let own = lines-split rest 2 3 d h (sym following_is.1) refl in
     let more = lines-split (drop next events) with (1 + with) d there refl refl in
     let e : Event = get_or (drop next events) 0 d in
     let f : Event = get_or (drop next events) (1 + with) d in
@@ -604,7 +605,7 @@ whole-more events at behind next d q h there two is far follows =
     ∙ ap (λ (k : Event). chunk_of k (get_or rest 3 d) ∷ lines_from (drop 4 rest)) here
     ∙ ap (λ (k : Event). chunk_of (get_or events at d) k ∷ lines_from (drop 4 rest)) last
     ∙ ap (λ (l : List Chunk). c ∷ l)
-    (sym (lines-prefixes (drop 4 rest)) ∙ ap lines_from behind_is.0 ∙ more) in
+    (sym (lines-prefixes (drop 4 rest)) ∙ ap lines_from following_is.0 ∙ more) in
     let followed_is : is_followed c (chunk_of e f) ≡ true =
     ap (λ (k : Event). is_followed c (chunk_of k f)) first ∙ follows in
     ap are_lines more ∙ sym (ap are_lines lines ∙ ap (λ (b : Bool). b && are_lines (chunk_of e f ∷ tail)) followed_is)
@@ -705,18 +706,18 @@ given-first written begun put held all line e is begins puts none =
     ∙ ap (λ (l : List Event). l ++ line) (begins ∙ ap (λ (l : List Event). l ++ e ∷ []) is)
     ∙ append_assoc all (e ∷ []) line
 
-pub given-more : (written held written_on held_on taken put held_behind prefixes line : List Event) →
+pub given-more : (written held written_on held_on taken put held_after prefixes line : List Event) →
     written_on ≡ written → held_on ≡ held ++ prefixes → taken ≡ written_on ++ held_on → put ≡ taken ++ line →
-    held_behind ≡ [] → put ++ held_behind ≡ ((written ++ held) ++ prefixes) ++ line
-given-more written held written_on held_on taken put held_behind prefixes line is holds takes puts none =
+    held_after ≡ [] → put ++ held_after ≡ ((written ++ held) ++ prefixes) ++ line
+given-more written held written_on held_on taken put held_after prefixes line is holds takes puts none =
     ap (λ (l : List Event). put ++ l) none ∙ append-nil put ∙ puts
     ∙ ap (λ (l : List Event). l ++ line)
     (takes ∙ ap (λ (l : List Event). l ++ held_on) is ∙ ap (λ (l : List Event). written ++ l) holds
     ∙ sym (append_assoc written held prefixes))
 
-pub given-end : (written held put held_behind : List Event) (e : Event) → put ≡ written ++ e ∷ [] →
-    held_behind ≡ held → held ≡ [] → put ++ held_behind ≡ (written ++ held) ++ e ∷ []
-given-end written held put held_behind e puts same none =
+pub given-end : (written held put held_after : List Event) (e : Event) → put ≡ written ++ e ∷ [] →
+    held_after ≡ held → held ≡ [] → put ++ held_after ≡ (written ++ held) ++ e ∷ []
+given-end written held put held_after e puts same none =
     ap (λ (l : List Event). put ++ l) (same ∙ none) ∙ append-nil put ∙ puts
     ∙ ap (λ (l : List Event). l ++ e ∷ []) (sym (ap (λ (l : List Event). written ++ l) none ∙ append-nil written))
 

@@ -78,7 +78,8 @@ paragraph_inside_means B feed w has s = go w.current s.next
             ∙ text-more c cs (here w) k ∙ sym (has.each paragraph.Inside _ _)))
 
 -- each state of a paragraph takes one step of what it means
-pub paragraph_means : (B : Behaviour) (feed : Feed) (state : ParagraphState) (w : World) → HasParagraph B → Sees feed w →
+pub paragraph_means : (B : Behaviour) (feed : Feed) (state : ParagraphState) (w : World) →
+    HasParagraph B → Sees feed w →
     Steps B feed (Next (n.Paragraph state)) w (paragraph_transition state w).to (paragraph_transition state w).world
 paragraph_means B feed paragraph.Start w has s = paragraph_start_means B feed w has
 paragraph_means B feed paragraph.LineStart w has s = paragraph_line_means B feed w has

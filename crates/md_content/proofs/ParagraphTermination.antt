@@ -34,7 +34,8 @@ line_start_ends T w has r = (
   refl,
 )
 
-inside_ends : (T : Scheme) (w : World) (o : Option ℕ) → ParagraphFits T → rest_ready (position w) (after_all T w.frames) →
+inside_ends : (T : Scheme) (w : World) (o : Option ℕ) → ParagraphFits T →
+    rest_ready (position w) (after_all T w.frames) →
     seen (position w) ≡ o → Does T (n.Paragraph paragraph.Inside) w (inside_code w o)
 inside_ends T w None has r e =
     (accepts T _ w _ _ (exited (exited w parts.Data) parts.Paragraph).events w.scratch r.1 r.0, refl)
@@ -47,14 +48,19 @@ inside_ends T w (Some b) has r e = go (nat_eq b 10) refl
     go true k =
         rw k (
           consumes T paragraph_scheme _ _ w (exited (taken w) parts.Data).events w.scratch (has.each paragraph.Inside)
-              (has.each paragraph.LineStart) inside (r.0, later _ _ (position w) _ _ _ (takes w.setting w.point inside) r.1)
+              (has.each paragraph.LineStart) inside
+              (r.0, later _ _ (position w) _ _ _ (takes w.setting w.point inside) r.1)
               (omega arith),
           refl,
         )
     go false k =
         rw k (
           consumes T paragraph_scheme _ _ w w.events w.scratch (has.each paragraph.Inside)
-              (has.each paragraph.Inside) inside (r.0, later _ _ (position w) _ _ _ (takes w.setting w.point inside) r.1)
+              (has.each paragraph.Inside) inside (
+                r.0,
+                later _ _ (position w) _ _ _
+                    (takes w.setting w.point inside) r.1,
+              )
               (omega arith),
           refl,
         )

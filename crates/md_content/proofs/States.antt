@@ -6,8 +6,8 @@ use Rattle.md_engine.specs.declared.state.State.TheVariants.{Next}
 use Rattle.md_engine.specs.Meaning.{Feed, Steps}
 use Rattle.md_engine.specs.declared.configuration.ParseOptions.{ParseOptions}
 use Rattle.md_engine.specs.Run.{reading}
-use Rattle.md_engine.specs.Scheme.{after_all, stands}
-use Rattle.md_engine.specs.Standing.{MeansAt, StandsOn}
+use Rattle.md_engine.specs.Scheme.{after_all, valid}
+use Rattle.md_engine.specs.Situation.{MeansAt, KeepsValid}
 use Rattle.md_engine.specs.World.{Setting, World, looks}
 use Rattle.md_engine.proofs.Local.{fits}
 use Rattle.md_engine.specs.Sees.{Sees}
@@ -36,7 +36,7 @@ use Rattle.md_link_definitions.proofs.LabelMeaning.{label_means}
 use Rattle.md_link_definitions.proofs.TitleTermination.{TitleFits, title_terminates}
 use Rattle.md_link_definitions.proofs.TitleMeaning.{title_means}
 use Rattle.md_events.specs.Ahead.{HasWhite}
-use Rattle.md_events.proofs.SpacesTermination.{Does, WhiteFits, does-fall, does-stands, white_terminates}
+use Rattle.md_events.proofs.SpacesTermination.{Does, WhiteFits, does-fall, does-valid, white_terminates}
 use Rattle.md_events.proofs.WhiteMeaning.{white_means}
 
 -- The table has each construct.
@@ -75,7 +75,7 @@ definitions_fits = record {
   each = λ state. fits content_owner (n.Content state);
 }
 
-pub content_terminates : (name : StateName) (w : World) → w.current ≡ looks w → stands content_scheme w (Next name) →
+pub content_terminates : (name : StateName) (w : World) → w.current ≡ looks w → valid content_scheme w (Next name) →
     Does content_scheme name w (content_transition name w)
 content_terminates (n.Content state) w c r = definitions_terminates content_scheme state w definitions_fits c r
 content_terminates (n.Definition state) w c r = definition_terminates content_scheme state w definition_fits c r
@@ -91,7 +91,7 @@ content_terminates name w c r = absurd r
 pub content-keeps : EachKeeps ContentStep content_scheme
 content-keeps name w to new seen at step =
     let does = content_terminates name w seen at in (
-      does-stands content_scheme name w (content_transition name w) to new step.to_is step.new_is does,
+      does-valid content_scheme name w (content_transition name w) to new step.to_is step.new_is does,
       does-fall content_scheme name w (content_transition name w) to new step.to_is step.new_is does,
     )
 
@@ -131,7 +131,7 @@ has_definitions options = record {
   each = λ _ _ _. refl;
 }
 
-content_means : (feed : Feed) (name : StateName) (w : World) → Sees feed w → stands content_scheme w (Next name) →
+content_means : (feed : Feed) (name : StateName) (w : World) → Sees feed w → valid content_scheme w (Next name) →
     Steps (content_behaves w.setting.options) feed (Next name) w (content_transition name w).to
     (content_transition name w).world
 content_means feed (n.Content state) w s at =
@@ -163,8 +163,8 @@ pub content_table_means : (under : Setting) (is_end : Bool) →
     MeansAt ContentStep content_scheme under (content_behaves under.options) is_end
 content_table_means under is_end feed name w to new f called step =
     steps-as (content_behaves under.options) feed (Next name) _ to (reading w) _ new step.to_is step.new_is
-    (rw (sym called.setting) (content_means feed name (reading w) (sees feed w is_end f called.may) called.stands))
+    (rw (sym called.setting) (content_means feed name (reading w) (sees feed w is_end f called.may) called.valid))
 
 -- and reaches where the table is
-pub content_stands : StandsOn ContentStep content_scheme
-content_stands name w to new at step = (content-keeps name (reading w) to new refl at step).0
+pub content_keeps_valid : KeepsValid ContentStep content_scheme
+content_keeps_valid name w to new at step = (content-keeps name (reading w) to new refl at step).0

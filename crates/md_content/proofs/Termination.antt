@@ -12,7 +12,7 @@ use Rattle.md_engine.proofs.Local.{accepts, consumes, turns}
 use Rattle.md_engine.proofs.Points.{stays, takes}
 use Rattle.md_content.specs.Chunks.{begun, chunk_inside_code, chunk_ready, chunk_scheme, chunk_start_transition}
 use Rattle.md_content.specs.Chunks.{chunk_transition, content_link, in_chunk, unbegun}
-use Rattle.md_events.proofs.LineTaken.{whole-behind}
+use Rattle.md_events.proofs.LineTaken.{whole-following}
 use Rattle.md_events.specs.Lent.{whole_from}
 use Rattle.md_events.specs.Spaces.{IsRest, ends_line, rest_ready}
 use Rattle.md_events.specs.Transition.{entered_link, exited}
@@ -41,7 +41,7 @@ chunk_start_ends T w has r = (
 start-taken : (w : World) (o : Option ℕ) → o ≡ looks w → ends_line o ≡ false → w.scratch.start ≤ whole_from w.point →
     w.scratch.start ≤ whole_from (after w.setting w.point)
 start-taken w None c e le = cc
-start-taken w (Some b) c e le = omega (arith, le, whole-behind w.setting w.point b e (sym c))
+start-taken w (Some b) c e le = omega (arith, le, whole-following w.setting w.point b e (sym c))
 
 chunk_inside_ends : (T : Scheme) (w : World) (x : Bool) → ChunkFits T →
     in_chunk (position w) (after_all T w.frames) → w.current ≡ looks w → ends_line w.current ≡ x →

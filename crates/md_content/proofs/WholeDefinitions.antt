@@ -6,7 +6,8 @@ use Rattle.std.specs.List.{list_all, prefix_len}
 use Rattle.std.proofs.lemmas.Bool.{and_parts, not-true, or_parts}
 use Rattle.std.proofs.lemmas.Bool.Decides.{nat_tests}
 use Rattle.std.proofs.lemmas.List.{append-nil, drop_at, take-append-drop, take_at}
-use Rattle.md_meaning.specs.Ascii.{backslash, left_bracket, left_parenthesis, less_than, right_bracket, right_parenthesis}
+use Rattle.md_meaning.specs.Ascii.{backslash, left_bracket, left_parenthesis, less_than, right_bracket}
+use Rattle.md_meaning.specs.Ascii.{right_parenthesis}
 use Rattle.md_meaning.specs.Definition.{destination_at as found_destination}
 use Rattle.md_meaning.specs.Rest.{is_blank, is_white}
 use Rattle.md_engine.specs.declared.event.Event.{Event}
@@ -22,14 +23,15 @@ use Rattle.md_content.specs.WholeDefinitions.{AreParts, definition_between, defi
 use Rattle.md_content.specs.WholeDefinitions.{IsDefinition, label_part, past}
 use Rattle.md_content.proofs.LineReads.{after-plain}
 use Rattle.md_link_definitions.specs.Chunks.{before_mark, chunks, from_mark, string_link}
-use Rattle.md_link_definitions.specs.DefinitionRule.{DefinitionParts, definition_end, definition_events, definition_parts}
-use Rattle.md_link_definitions.specs.DefinitionRule.{definition_rest, destination_begin, destination_end, destination_rest}
-use Rattle.md_link_definitions.specs.DefinitionRule.{is_literal, label_begin, titled_part, parts_end, ended, ends_behind}
-use Rattle.md_link_definitions.specs.DefinitionRule.{parts_labelled, parts_rest, parts_with, title_behind}
-use Rattle.md_link_definitions.specs.DestinationRule.{begins_literal, destination_left, destination_part, destination_size}
-use Rattle.md_link_definitions.specs.DestinationRule.{raw_begin, raw_end}
-use Rattle.md_link_definitions.specs.GapRule.{begins_ending, ending_end, ending_part, ending_rest, gap_end, gap_part, white_part}
-use Rattle.md_link_definitions.specs.GapRule.{gap_rest}
+use Rattle.md_link_definitions.specs.DefinitionRule.{DefinitionParts, definition_end, definition_events}
+use Rattle.md_link_definitions.specs.DefinitionRule.{definition_parts, definition_rest, destination_begin}
+use Rattle.md_link_definitions.specs.DefinitionRule.{destination_end, destination_rest, is_literal, label_begin}
+use Rattle.md_link_definitions.specs.DefinitionRule.{titled_part, parts_end, ended, ends_after, parts_labelled}
+use Rattle.md_link_definitions.specs.DefinitionRule.{parts_rest, parts_with, title_following}
+use Rattle.md_link_definitions.specs.DestinationRule.{begins_literal, destination_left, destination_part}
+use Rattle.md_link_definitions.specs.DestinationRule.{destination_size, raw_begin, raw_end}
+use Rattle.md_link_definitions.specs.GapRule.{begins_ending, ending_end, ending_part, ending_rest, gap_end, gap_part}
+use Rattle.md_link_definitions.specs.GapRule.{white_part, gap_rest}
 use Rattle.md_link_definitions.specs.Label.{is_bracket}
 use Rattle.md_link_definitions.specs.LabelRule.{has_text, label_events, label_parts, text_size}
 use Rattle.md_link_definitions.specs.TitleRule.{TitleParts}
@@ -40,19 +42,19 @@ use Rattle.md_events.specs.Events.Nested.{around, enter, enter_link, exit, pair}
 use Rattle.md_events.specs.Look.{first_seen}
 use Rattle.md_events.specs.Spaces.{any_size, ends_line}
 use Rattle.md_events.proofs.AheadLemmas.{none-end, none-rest}
-use Rattle.md_events.proofs.FeedLines.{Stops, behind_last, cell, feed-next, past-next, stops-white}
+use Rattle.md_events.proofs.FeedLines.{Stops, after_last, cell, feed-next, past-next, stops-white}
 use Rattle.md_events.proofs.PlacesLemmas.{at-next}
 
 -- Cells of bytes that are one column wide.
 
 abbrev pub row : Line → List ℕ → Point → List Cell
 row line [] p = []
-row line (b ∷ bs) p = cell b (behind_last p) line ∷ row line bs (behind_last p)
+row line (b ∷ bs) p = cell b (after_last p) line ∷ row line bs (after_last p)
 
 -- the point after them
 abbrev pub over : List ℕ → Point → Point
 over [] p = p
-over (b ∷ bs) p = over bs (behind_last p)
+over (b ∷ bs) p = over bs (after_last p)
 
 -- no control of ASCII
 abbrev pub is_flat : ℕ → Bool
@@ -66,18 +68,19 @@ flat-line b h =
     let tab : (b == 9) ≡ false = grind (arith, nat_tests) in
     (rw (lf, cr) refl, tab)
 
-pub row-append : (line : Line) (xs bs : List ℕ) (p : Point) → row line (xs ++ bs) p ≡ row line xs p ++ row line bs (over xs p)
+pub row-append : (line : Line) (xs bs : List ℕ) (p : Point) → row line (xs ++ bs) p ≡ row line xs p
+    ++ row line bs (over xs p)
 row-append line [] bs p = refl
 row-append line (a ∷ xs) bs p =
-    ap (λ (l : List Cell). cell a (behind_last p) line ∷ l) (row-append line xs bs (behind_last p))
+    ap (λ (l : List Cell). cell a (after_last p) line ∷ l) (row-append line xs bs (after_last p))
 
 row-length : (line : Line) (bs : List ℕ) (p : Point) → length (row line bs p) ≡ length bs
 row-length line [] p = refl
-row-length line (b ∷ bs) p = ap suc (row-length line bs (behind_last p))
+row-length line (b ∷ bs) p = ap suc (row-length line bs (after_last p))
 
 row-end : (line : Line) (bs : List ℕ) (p : Point) → point_after (row line bs p) p ≡ over bs p
 row-end line [] p = refl
-row-end line (b ∷ bs) p = row-end line bs (behind_last p)
+row-end line (b ∷ bs) p = row-end line bs (after_last p)
 
 -- a line is fed as such cells
 pub row-feed : (x : Setting) (bs rest : List ℕ) (p : Point) → x.limit < 2 ^ 61 → drop p.index x.bytes ≡ bs ++ rest →
@@ -92,11 +95,12 @@ row-feed x (b ∷ bs) rest p small is flat within =
     let long : p.index + suc (length bs) ≤ x.limit = within in
     feed-next x p small (omega (arith, long))
     ∙ ap (λ (q : Point). cell (seen_at x.bytes p) q x.line ∷ text_feed x q) (after-plain x p e ∙ next here f.0 f.1)
-    ∙ ap (λ (a : ℕ). cell a (behind_last p) x.line ∷ text_feed x (behind_last p)) (seen here f.0 f.1)
-    ∙ ap (λ (l : List Cell). cell b (behind_last p) x.line ∷ l)
-    (row-feed x bs rest (behind_last p) small (past-next p.index x.bytes b (bs ++ rest) is) both.1 (omega (arith, long)))
+    ∙ ap (λ (a : ℕ). cell a (after_last p) x.line ∷ text_feed x (after_last p)) (seen here f.0 f.1)
+    ∙ ap (λ (l : List Cell). cell b (after_last p) x.line ∷ l)
+    (row-feed x bs rest (after_last p) small (past-next p.index x.bytes b (bs ++ rest) is) both.1 (omega (arith, long)))
   where
-    next : slice_index x.bytes p.index ≡ b → is_ending b ≡ false → (b == 9) ≡ false → next_point x.bytes p ≡ behind_last p
+    next : slice_index x.bytes p.index ≡ b → is_ending b ≡ false → (b == 9) ≡ false →
+        next_point x.bytes p ≡ after_last p
     next h e t = rw (h, e, t) refl
 
     seen : slice_index x.bytes p.index ≡ b → is_ending b ≡ false → (b == 9) ≡ false → seen_at x.bytes p ≡ b
@@ -124,7 +128,7 @@ before-row line (b ∷ bs) p c cs h mark =
     let both = and_parts (is_label_byte b) (list_all is_label_byte bs) h in
     let i = inner b both.0 in
     rw (i.bracket, i.escape)
-    (ap (λ (l : List Cell). cell b (behind_last p) line ∷ l) (before-row line bs (behind_last p) c cs both.1 mark))
+    (ap (λ (l : List Cell). cell b (after_last p) line ∷ l) (before-row line bs (after_last p) c cs both.1 mark))
 
 from-row : (line : Line) (bs : List ℕ) (p : Point) (c : Cell) (cs : List Cell) → list_all is_label_byte bs ≡ true →
     is_bracket c.byte ≡ true → from_mark is_bracket false (row line bs p ++ c ∷ cs) ≡ c ∷ cs
@@ -132,13 +136,13 @@ from-row line [] p c cs h mark = rw mark refl
 from-row line (b ∷ bs) p c cs h mark =
     let both = and_parts (is_label_byte b) (list_all is_label_byte bs) h in
     let i = inner b both.0 in
-    rw (i.bracket, i.escape) (from-row line bs (behind_last p) c cs both.1 mark)
+    rw (i.bracket, i.escape) (from-row line bs (after_last p) c cs both.1 mark)
 
 text-row : (line : Line) (bs : List ℕ) (p : Point) → list_all is_label_byte bs ≡ true → is_blank bs ≡ false →
     has_text (row line bs p) ≡ true
 text-row line [] p h filled = let no : true ≡ false = filled in cc
 text-row line (b ∷ bs) p h filled =
-    go (is_white b) refl (λ more. text-row line bs (behind_last p) both.1 more)
+    go (is_white b) refl (λ more. text-row line bs (after_last p) both.1 more)
   where
     both : (is_label_byte b ≡ true) × (list_all is_label_byte bs ≡ true)
     both = and_parts (is_label_byte b) (list_all is_label_byte bs) h
@@ -146,7 +150,7 @@ text-row line (b ∷ bs) p h filled =
     no_feed : (b == 10) ≡ false
     no_feed = (or_parts (b == 10) (b == 13) (flat-line b (inner b both.0).flat).0).0
 
-    go : (w : Bool) → is_white b ≡ w → (is_blank bs ≡ false → has_text (row line bs (behind_last p)) ≡ true) →
+    go : (w : Bool) → is_white b ≡ w → (is_blank bs ≡ false → has_text (row line bs (after_last p)) ≡ true) →
         has_text (row line (b ∷ bs) p) ≡ true
     go true e more = rw e (more (rw e at filled))
     go false e more = rw (e, no_feed) refl
@@ -157,7 +161,7 @@ size-row line [] p h whole = refl
 size-row line (b ∷ bs) p h whole =
     let both = and_parts (is_label_byte b) (list_all is_label_byte bs) h in
     let no_feed = (or_parts (b == 10) (b == 13) (flat-line b (inner b both.0).flat).0).0 in
-    let more = size-row line bs (behind_last p) both.1 refl in
+    let more = size-row line bs (after_last p) both.1 refl in
     rw (no_feed, whole) (omega (arith, more))
 
 chunks-more : (line : Line) (bs : List ℕ) (p : Point) → list_all is_label_byte bs ≡ true →
@@ -166,7 +170,7 @@ chunks-more line [] p h = refl
 chunks-more line (b ∷ bs) p h =
     let both = and_parts (is_label_byte b) (list_all is_label_byte bs) h in
     let no_feed = (or_parts (b == 10) (b == 13) (flat-line b (inner b both.0).flat).0).0 in
-    rw no_feed (chunks-more line bs (behind_last p) both.1)
+    rw no_feed (chunks-more line bs (after_last p) both.1)
 
 chunks-row : (line : Line) (bs : List ℕ) (p : Point) → list_all is_label_byte bs ≡ true → is_blank bs ≡ false →
     chunks false (row line bs p) p ≡ enter_link n.Data p string_link ∷ exit n.Data (over bs p) ∷ []
@@ -175,21 +179,21 @@ chunks-row line (b ∷ bs) p h filled =
     let both = and_parts (is_label_byte b) (list_all is_label_byte bs) h in
     let no_feed = (or_parts (b == 10) (b == 13) (flat-line b (inner b both.0).flat).0).0 in
     rw no_feed
-    (ap (λ (es : List Event). enter_link n.Data p string_link ∷ es) (chunks-more line bs (behind_last p) both.1))
+    (ap (λ (es : List Event). enter_link n.Data p string_link ∷ es) (chunks-more line bs (after_last p) both.1))
 
 -- the label that these cells begin with
 label-row : (line : Line) (bs : List ℕ) (p s : Point) (cs : List Cell) → list_all is_label_byte bs ≡ true →
     is_blank bs ≡ false → length bs ≤ 999 →
-    label_parts (cell 91 (behind_last p) line ∷ row line bs (behind_last p) ++ cell 93 s line ∷ cs) ≡
+    label_parts (cell 91 (after_last p) line ∷ row line bs (after_last p) ++ cell 93 s line ∷ cs) ≡
     Some (record {
-      opener = cell 91 (behind_last p) line;
-      text = row line bs (behind_last p);
+      opener = cell 91 (after_last p) line;
+      text = row line bs (after_last p);
       closer = cell 93 s line;
       rest = cs;
     })
 unfolding label_parts
 label-row line bs p s cs plain filled short =
-    let q = behind_last p in
+    let q = after_last p in
     let closer = cell 93 s line in
     let fits : nat_le (length bs) 999 ≡ true = grind (arith, nat_tests, short) in
     rw (
@@ -250,7 +254,7 @@ line-row line [] p rest h stops = stops-line rest stops
 line-row line (b ∷ bs) p rest h stops =
     let both = and_parts (is_plain_byte b) (list_all is_plain_byte bs) h in
     let no_feed = (or_parts (b == 10) (b == 13) (flat-line b (outer b both.0).flat).0).0 in
-    rw no_feed (ap (λ (l : List ℕ). b ∷ l) (line-row line bs (behind_last p) rest both.1 stops))
+    rw no_feed (ap (λ (l : List ℕ). b ∷ l) (line-row line bs (after_last p) rest both.1 stops))
 
 -- One space.
 
@@ -298,15 +302,17 @@ one-gap c cs p is dark line =
       part =
           ap (λ (q : Point). cond (is_white c.byte) (pair n.SpaceOrTab p q) []
           ++ ending_part (white_rest any_size (c ∷ cs)) q) end
-          ∙ ap (λ (l : List Cell). cond (is_white c.byte) (pair n.SpaceOrTab p c.after) [] ++ ending_part l c.after) left
+          ∙ ap (λ (l : List Cell). cond (is_white c.byte) (pair n.SpaceOrTab p c.after) []
+          ++ ending_part l c.after) left
           ∙ ap (λ (es : List Event). cond (is_white c.byte) (pair n.SpaceOrTab p c.after) [] ++ es)
           (ending-nothing cs c.after line)
           ∙ ap (λ (t : Bool). cond t (pair n.SpaceOrTab p c.after) [] ++ []) is;
     }
 
 -- the line ends after the destination
-stops-ends : (rest : List Cell) → Stops rest → ends_behind rest ≡ true
-stops-ends rest h = ap (λ (l : List Cell). ends_line (first_seen l)) (none-rest any_size rest (stops-white rest h)) ∙ go rest h
+stops-ends : (rest : List Cell) → Stops rest → ends_after rest ≡ true
+stops-ends rest h = ap (λ (l : List Cell). ends_line (first_seen l))
+    (none-rest any_size rest (stops-white rest h)) ∙ go rest h
   where
     go : (l : List Cell) → Stops l → ends_line (first_seen l) ≡ true
     go [] h = refl
@@ -317,18 +323,25 @@ stops-ends rest h = ap (λ (l : List Cell). ends_line (first_seen l)) (none-rest
 abbrev pub parts_of : Line → List ℕ → List ℕ → Point → Point → Point → Point → List Cell → DefinitionParts
 parts_of line label dest p s t u rest =
     let more : List Cell = cell 32 u line ∷ row line dest u ++ rest in
-    let q = behind_last p in
+    let q = after_last p in
     record {
       cells = cell 91 q line ∷ row line label q ++ cell 93 s line ∷ cell 58 t line ∷ more;
-      label = record { opener = cell 91 q line; text = row line label q; closer = cell 93 s line; rest = cell 58 t line ∷ more };
+      label = record {
+        opener = cell 91 q line;
+        text = row line label q;
+        closer = cell 93 s line;
+        rest =
+            cell 58 t line ∷ more;
+      };
       colon = cell 58 t line;
       more = more;
       destination = record { text = dest; rest = [] };
       title = None;
     }
 
-pub parts-row : (line : Line) (label dest : List ℕ) (p s t u : Point) (rest : List Cell) → AreParts label dest → Stops rest →
-    title_behind rest ≡ None →
+pub parts-row : (line : Line) (label dest : List ℕ) (p s t u : Point) (rest : List Cell) →
+    AreParts label dest → Stops rest →
+    title_following rest ≡ None →
     definition_parts (parts_of line label dest p s t u rest).cells ≡ Some (parts_of line label dest p s t u rest)
 unfolding definition_parts
 parts-row line label dest p s t u rest are stops untitled =
@@ -336,7 +349,8 @@ parts-row line label dest p s t u rest are stops untitled =
     ∙ ap (parts_labelled d.cells)
     (label-row line label p s d.label.rest are.plain_label are.filled are.short)
     ∙ ap (parts_with d.cells d.label d.colon d.more)
-    (ap found_destination (ap line_bytes gap.rest ∙ line-row line dest u rest (plain-each dest are.plain_destination) stops)
+    (ap found_destination (ap line_bytes gap.rest ∙ line-row line dest u rest
+    (plain-each dest are.plain_destination) stops)
     ∙ plain-found dest are.plain_destination)
     ∙ ap
     (λ (o : Option TitleParts).
@@ -348,8 +362,8 @@ parts-row line label dest p s t u rest are stops untitled =
       destination = d.destination;
       title = o;
     }))
-    (ap title_behind left ∙ untitled)
-    ∙ ap (λ (x : Bool). cond x (Some d) None) (ap ends_behind left ∙ stops-ends rest stops)
+    (ap title_following left ∙ untitled)
+    ∙ ap (λ (x : Bool). cond x (Some d) None) (ap ends_after left ∙ stops-ends rest stops)
   where
     d : DefinitionParts
     d = parts_of line label dest p s t u rest
@@ -387,7 +401,8 @@ events-by : (d : DefinitionParts) (p q r s t u v : Point) → begins_white d.cel
 events-by d p q r s t u v dark untitled closer colon label gap destination ends tail =
     ap (λ (x : Bool). cond x (pair n.SpaceOrTab p (label_begin d p)) [] ++ body d.title) dark
     ∙ ap body untitled
-    ∙ ap (λ (es : List Event). enter n.Definition (label_begin d p) ∷ (es ++ white0) ++ exit n.Definition (definition_end d) ∷ [])
+    ∙ ap (λ (es : List Event). enter n.Definition (label_begin d p) ∷ (es ++ white0)
+    ++ exit n.Definition (definition_end d) ∷ [])
     (append-nil
     (label_events d.label (label_begin d p) ++ pair n.DefinitionMarker d.label.closer.after d.colon.after
     ++ gap_part d.more d.colon.after
@@ -434,8 +449,9 @@ events-by d p q r s t u v dark untitled closer colon label gap destination ends 
     white0 : List Event
     white0 = white_part (parts_rest d) (parts_end d)
 
-pub read-row : (line : Line) (label dest : List ℕ) (p s t u : Point) (rest : List Cell) → AreParts label dest → Stops rest →
-    IsRead (parts_of line label dest p s t u rest) p (behind_last p) (over label (behind_last p)) s t u (over dest u) rest
+pub read-row : (line : Line) (label dest : List ℕ) (p s t u : Point) (rest : List Cell) →
+    AreParts label dest → Stops rest →
+    IsRead (parts_of line label dest p s t u rest) p (after_last p) (over label (after_last p)) s t u (over dest u) rest
 read-row line label dest p s t u rest are stops = record {
   events =
       events-by d p q r s t u v refl refl refl refl labelled gap.part
@@ -454,7 +470,7 @@ read-row line label dest p s t u rest are stops = record {
     d = parts_of line label dest p s t u rest
 
     q : Point
-    q = behind_last p
+    q = after_last p
 
     r : Point
     r = over label q
@@ -505,7 +521,8 @@ read-row line label dest p s t u rest are stops = record {
         label_shape : Point → List Event → List Event
         label_shape b text =
             around n.DefinitionLabel p s
-            (pair n.DefinitionLabelMarker p q ++ around n.DefinitionLabelString q b text ++ pair n.DefinitionLabelMarker b s)
+            (pair n.DefinitionLabelMarker p q ++ around n.DefinitionLabelString q b text
+            ++ pair n.DefinitionLabelMarker b s)
 
 -- What a look and a writer give.
 
@@ -546,7 +563,8 @@ joined : (old : List Event) (a z : Event) (l m g d : List Event) →
     (((((old ++ a ∷ []) ++ l) ++ m) ++ g) ++ d) ++ z ∷ [] ≡ old ++ (a ∷ (l ++ m ++ g ++ d) ++ z ∷ [])
 joined old a z l m g d = simp append_assoc
 
-pub written : (p q r s t u v : Point) (k m : ℕ) (o0 o1 o2 o3 o4 o5 o6 : List Event) → q ≡ past 1 p → r ≡ past (k + 1) p →
+pub written : (p q r s t u v : Point) (k m : ℕ) (o0 o1 o2 o3 o4 o5 o6 : List Event) → q ≡ past 1 p → r ≡
+    past (k + 1) p →
     s ≡ past (k + 2) p → t ≡ past (k + 3) p → u ≡ past (k + 4) p → v ≡ past (k + 4 + m) p →
     o1 ≡ o0 ++ enter n.Definition p ∷ [] → o2 ≡ o1 ++ label_part p q r s → o3 ≡ o2 ++ pair n.DefinitionMarker s t →
     o4 ≡ o3 ++ pair n.SpaceOrTab t u → o5 ≡ o4 ++ whole.destination_part u v → o6 ≡ o5 ++ exit n.Definition v ∷ [] →
@@ -554,5 +572,7 @@ pub written : (p q r s t u v : Point) (k m : ℕ) (o0 o1 o2 o3 o4 o5 o6 : List E
 written p q r s t u v k m o0 o1 o2 o3 o4 o5 o6 a b c d e f e1 e2 e3 e4 e5 e6 =
     rw (e6, e5, e4, e3, e2, e1, a, b, c, d, e, f)
     (joined o0 (enter n.Definition p) (exit n.Definition (past (k + 4 + m) p))
-    (label_part p (past 1 p) (past (k + 1) p) (past (k + 2) p)) (pair n.DefinitionMarker (past (k + 2) p) (past (k + 3) p))
-    (pair n.SpaceOrTab (past (k + 3) p) (past (k + 4) p)) (whole.destination_part (past (k + 4) p) (past (k + 4 + m) p)))
+    (label_part p (past 1 p) (past (k + 1) p) (past (k + 2) p))
+    (pair n.DefinitionMarker (past (k + 2) p) (past (k + 3) p))
+    (pair n.SpaceOrTab (past (k + 3) p) (past (k + 4) p))
+    (whole.destination_part (past (k + 4) p) (past (k + 4 + m) p)))

@@ -87,15 +87,15 @@ pub first-vs : (bytes : List ℕ) (q : Point) → IsPlaced bytes q → q.column 
 first-vs bytes q k first = let few = k.vs in omega (arith, few, first)
 
 -- no chunk ends after the last
-pub end-behind : (bytes : List ℕ) (chunk : Chunk) (chunks : List Chunk) → All (IsChunk bytes) (chunk ∷ chunks) →
+pub end-following : (bytes : List ℕ) (chunk : Chunk) (chunks : List Chunk) → All (IsChunk bytes) (chunk ∷ chunks) →
     are_lines (chunk ∷ chunks) ≡ true → chunk.after.index ≤ end_of (chunk ∷ chunks)
-end-behind bytes chunk [] are lines = omega arith
-end-behind bytes chunk (next ∷ chunks) are lines =
+end-following bytes chunk [] are lines = omega arith
+end-following bytes chunk (next ∷ chunks) are lines =
     let both = and_parts _ _ lines in
     let f = followed chunk next both.0 in
     let rest = All-tail (IsChunk bytes) chunk (next ∷ chunks) are in
     let own = All-head (IsChunk bytes) next chunks rest in
-    omega (arith, f.index, ordered next chunks own both.1, end-behind bytes next chunks rest both.1)
+    omega (arith, f.index, ordered next chunks own both.1, end-following bytes next chunks rest both.1)
   where
     ordered : (c : Chunk) (cs : List Chunk) → IsChunk bytes c → are_lines (c ∷ cs) ≡ true →
         c.first.index < c.after.index
@@ -117,20 +117,20 @@ abbrev pub firsts : List Chunk → List Point
 firsts [] = []
 firsts (chunk ∷ chunks) = chunk.first ∷ firsts chunks
 
-at-seam : (before : List Point) (p : Point) (behind : List Point) →
-    slice_get (before ++ p ∷ behind) (length before) ≡ Some p
-at-seam [] p behind = refl
-at-seam (q ∷ before) p behind = at-seam before p behind
+at-seam : (before : List Point) (p : Point) (following : List Point) →
+    slice_get (before ++ p ∷ following) (length before) ≡ Some p
+at-seam [] p following = refl
+at-seam (q ∷ before) p following = at-seam before p following
 
 -- the line after a chunk begins at the next chunk
-begun-next : (x : Setting) (before : List Point) (p : Point) (behind : List Point) (q : Point) →
-    x.skips ≡ before ++ p ∷ behind → q.line ≡ x.first_line + length before → q.index ≤ p.index → line_begun x q ≡ p
-begun-next x before p behind q skips line le =
+begun-next : (x : Setting) (before : List Point) (p : Point) (following : List Point) (q : Point) →
+    x.skips ≡ before ++ p ∷ following → q.line ≡ x.first_line + length before → q.index ≤ p.index → line_begun x q ≡ p
+begun-next x before p following q skips line le =
     let count : q.line - x.first_line ≡ length before = omega (arith, line) in
     let there : nat_le q.index p.index ≡ true = grind (arith, nat_tests, le) in
     ap (λ (l : List Point). begun_at (slice_get l (q.line - x.first_line)) q) skips
-    ∙ ap (λ (i : ℕ). begun_at (slice_get (before ++ p ∷ behind) i) q) count
-    ∙ rw (at-seam before p behind, there) refl
+    ∙ ap (λ (i : ℕ). begun_at (slice_get (before ++ p ∷ following) i) q) count
+    ∙ rw (at-seam before p following, there) refl
 
 -- What is read of them.
 
@@ -159,12 +159,12 @@ read-lines x chunk (next ∷ chunks) before small limit skips line are lines =
     let whole = first-vs x.bytes chunk.after is.after f.column in
     let begun : line_begun x chunk.after ≡ next.first =
     begun-next x before next.first (firsts chunks) chunk.after skips (omega (arith, line, f.line)) f.index in
-    let behind : List Event = line_events (text_feed x next.first) next.first in
+    let following : List Event = line_events (text_feed x next.first) next.first in
     let to : Point = point_after (text_feed x next.first) next.first in
     let read : Reads x chunk.first
-    (exit parts.Data next.first ∷ enter_link parts.Data next.first text_link ∷ behind) to =
-    ended-line x chunk.after next.first behind to (cells_left x.limit chunk.first) chunk.first small
-    (omega (arith, limit, end-behind x.bytes chunk (next ∷ chunks) are lines)) is.after f.column whole begun
+    (exit parts.Data next.first ∷ enter_link parts.Data next.first text_link ∷ following) to =
+    ended-line x chunk.after next.first following to (cells_left x.limit chunk.first) chunk.first small
+    (omega (arith, limit, end-following x.bytes chunk (next ∷ chunks) are lines)) is.after f.column whole begun
     (refl, refl) (omega arith) is.first f.line
     (has-byte x.bytes chunk.first chunk.after is.first is.after whole (omega (arith, f.line))) in
     let more = read-lines x next chunks (before ++ next.first ∷ []) small limit
@@ -172,10 +172,10 @@ read-lines x chunk (next ∷ chunks) before small limit skips line are lines =
     (omega (arith, line, f.line, f.begins, length-append before (next.first ∷ []))) rest both.1 in
     rw (read.0, read.1)
     (settled-end chunk (next ∷ chunks) (exit parts.Data next.first)
-    (enter_link parts.Data next.first text_link ∷ behind ++ exit parts.Paragraph to ∷ []) refl f.index
+    (enter_link parts.Data next.first text_link ∷ following ++ exit parts.Paragraph to ∷ []) refl f.index
     ∙ ap (λ (es : List Event). exit parts.Data chunk.after ∷ es)
     (settled-other (next ∷ chunks) (enter_link parts.Data next.first text_link)
-    (behind ++ exit parts.Paragraph to ∷ []) refl
+    (following ++ exit parts.Paragraph to ∷ []) refl
     ∙ ap (λ (es : List Event). enter_link parts.Data next.first text_link ∷ es) more))
 
 -- Where they are read.
@@ -240,7 +240,8 @@ read-whole bytes options chunk chunks are first lines =
     let cells = text_feed x p in
     let to = point_after cells p in
     let is = (All-head (IsChunk bytes) chunk chunks are).after in
-    let none = look-none x options chunk.after.index p small (end-behind bytes chunk chunks are lines) is.index first in
+    let none = look-none x options chunk.after.index p small (end-following bytes chunk chunks are lines)
+    is.index first in
     ap (λ (s : Setting). settled all
     (content_over options (text_feed s (part_world bytes options all).point) (part_world bytes options all).point))
     (world-setting bytes options chunk chunks)

@@ -11,7 +11,7 @@ use Rattle.md_engine.specs.Sees.{IsStep}
 use Rattle.md_engine.specs.World.{World}
 use Rattle.md_content.specs.Chunks.{ChunkInvariant, content_link, rest_taken, unbegun, chunk_transition}
 use Rattle.md_meaning.specs.Rest.{Rest}
-use Rattle.md_link_definitions.specs.OpenText.{text_behind}
+use Rattle.md_link_definitions.specs.OpenText.{text_following}
 use Rattle.md_link_definitions.specs.WholeCells.{rest_here, whole_line}
 use Rattle.md_events.specs.Ahead.{from_ending, line_end}
 use Rattle.md_events.specs.Events.Nested.{enter_link, exit}
@@ -32,7 +32,7 @@ inside_chunk front cells h =
     (record h {
       events = h.events ++ exit parts.Content p ∷ [];
       point = p;
-      flags = record h.flags { leaf = text_behind h.flags.leaf (longer front (whole_line h.point cells)) };
+      flags = record h.flags { leaf = text_following h.flags.leaf (longer front (whole_line h.point cells)) };
     })
     (from_ending cells)
 

@@ -14,7 +14,7 @@ use Rattle.md_engine.specs.declared.state.State.TheVariants.{Ok, Nok, Next, Retr
 use Rattle.md_engine.specs.declared.tokenizer.Scratch.{Scratch}
 use Rattle.md_engine.specs.Scheme.{After, Ends, Rank, Scheme, Position, ranked}
 use Rattle.md_engine.specs.World.{World, registered_before}
-use Rattle.md_link_definitions.specs.OpenText.{begun_rest, text_behind}
+use Rattle.md_link_definitions.specs.OpenText.{begun_rest, text_following}
 use Rattle.md_events.specs.Lent.{whole_from}
 use Rattle.md_events.specs.Spaces.{IsRest, ends_line, rest_ready}
 use Rattle.md_events.specs.Transition.{Transition, entered_link, exited, taken}
@@ -49,7 +49,7 @@ chunk_inside_code w true =
       world = record (exited w parts.Content) {
         resolvers = registered_before w.resolvers ContentResolver;
         scratch = unbegun w.scratch;
-        flags = record w.flags { leaf = text_behind w.flags.leaf (rest_taken w.setting.bytes w.scratch w.point) };
+        flags = record w.flags { leaf = text_following w.flags.leaf (rest_taken w.setting.bytes w.scratch w.point) };
       };
     }
 chunk_inside_code w false = record { to = Next (n.Content its.ChunkInside); world = taken w }

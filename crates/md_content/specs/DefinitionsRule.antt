@@ -8,7 +8,7 @@ use Rattle.md_engine.specs.declared.state.State.{State}
 use Rattle.md_engine.specs.Meaning.{Accepts, Behaviour, Cell, Here, Outcome, Refuses}
 use Rattle.md_engine.specs.Sees.{IsStep}
 use Rattle.md_engine.specs.World.{World}
-use Rattle.md_content.specs.ContentRule.{behind_definition, content_over}
+use Rattle.md_content.specs.ContentRule.{following_definition, content_over}
 use Rattle.md_content.specs.ParagraphRule.{HasParagraph}
 use Rattle.md_link_definitions.specs.DefinitionRule.{HasDefinition}
 use Rattle.md_events.specs.Ahead.{point_after}
@@ -32,7 +32,7 @@ after_definition options cells h =
     if ends_line (first_seen cells)
     then Accepts
     (record h {
-      events = h.events ++ behind_definition (content_over options) cells h.point;
+      events = h.events ++ following_definition (content_over options) cells h.point;
       point = point_after cells h.point;
     })
     []

@@ -16,19 +16,19 @@ abbrev pub ends_content : Event → Bool
 ends_content e = is_exit e.kind && is_content e.name
 
 -- whether a line of content begins after container prefixes
-abbrev pub content_behind : List Event → Bool
-content_behind [] = false
-content_behind (e ∷ es) = if is_prefix e.name then content_behind es else is_enter e.kind && is_content e.name
+abbrev pub content_after : List Event → Bool
+content_after [] = false
+content_after (e ∷ es) = if is_prefix e.name then content_after es else is_enter e.kind && is_content e.name
 
 -- whether a line of content that ends before these events continues after them: with its ending, and another line of
 -- content
-abbrev pub goes_on : List Event → Bool
-goes_on (e ∷ f ∷ es) = is_line_ending e.name && content_behind es
-goes_on _ = false
+abbrev pub is_continued : List Event → Bool
+is_continued (e ∷ f ∷ es) = is_line_ending e.name && content_after es
+is_continued _ = false
 
 -- how many events are joined with the first of these
 abbrev pub joined_with : List Event → ℕ
-joined_with (e ∷ f ∷ g ∷ es) = if is_exit e.kind && is_content e.name && goes_on (f ∷ g ∷ es) then 2 else 0
+joined_with (e ∷ f ∷ g ∷ es) = if is_exit e.kind && is_content e.name && is_continued (f ∷ g ∷ es) then 2 else 0
 joined_with _ = 0
 
 -- each line of content that continues ends after its ending
@@ -37,7 +37,7 @@ joined [] = []
 joined (e ∷ []) = e ∷ []
 joined (e ∷ f ∷ []) = e ∷ f ∷ []
 joined (e ∷ f ∷ g ∷ es) =
-    if is_exit e.kind && is_content e.name && goes_on (f ∷ g ∷ es)
+    if is_exit e.kind && is_content e.name && is_continued (f ∷ g ∷ es)
     then record e { point = g.point } ∷ joined es
     else e ∷ joined (f ∷ g ∷ es)
 

@@ -5,7 +5,7 @@ use Rattle.md_engine.specs.declared.event.Event.{Event}
 use Rattle.md_content.specs.ContentReads.{wants_content}
 use Rattle.md_content.specs.Joined.{ends_content, joined}
 use Rattle.md_events.specs.declared.inline.Chunk.{Chunk}
-use Rattle.md_events.specs.Substituted.{chunks_behind, stays, wanted}
+use Rattle.md_events.specs.Substituted.{chunks_after, stays, wanted}
 
 -- whether a chunk of content begins with the first of some events
 abbrev pub begins_chunk : List Event → Bool
@@ -18,4 +18,4 @@ is_passed e = stays wants_content e && not (ends_content e)
 
 -- the chunks with which the part begins or continues that these events come first in
 abbrev pub lines_from : List Event → List Chunk
-lines_from events = chunks_behind wants_content (joined events)
+lines_from events = chunks_after wants_content (joined events)

@@ -44,6 +44,6 @@ pub record Reached (bytes : List ℕ) (options : ParseOptions) (events all rest 
 -- From events that are given and left to those that are, where a paragraph over so many further lines was given for its
 -- lines.
 abbrev pub GivesParagraph : ℕ → List Event → List Event → List Event → List Event → Type 0
-GivesParagraph more all rest all_behind rest_behind =
+GivesParagraph more all rest all_after rest_after =
     (bytes : List ℕ) (options : ParseOptions) (events : List Event) → IsParagraph bytes more rest →
-    Reached bytes options events all rest → Reached bytes options events all_behind rest_behind
+    Reached bytes options events all rest → Reached bytes options events all_after rest_after

@@ -1,13 +1,14 @@
 -- A line that is one definition without a title, and its events (CommonMark 4.7).
-use Rattle.std.specs.Prelude.{◌≡◌, ℕ, ◌+◌, ◌≤◌, Bool, true, false, ◌&&◌, ◌||◌, ◌==◌, not, nat_le, List, [], ◌∷◌, ◌++◌, length}
+use Rattle.std.specs.Prelude.{◌≡◌, ℕ, ◌+◌, ◌≤◌, Bool, true, false, ◌&&◌, ◌||◌, ◌==◌, not, nat_le, List, [], ◌∷◌, ◌++◌}
+use Rattle.std.specs.Prelude.{length}
 use Rattle.std.specs.List.{list_all}
 use Rattle.md_meaning.specs.Ascii.{backslash, colon, left_bracket, right_bracket, space}
 use Rattle.md_meaning.specs.Rest.{is_blank}
 use Rattle.md_engine.specs.declared.event.Event.{Event}
 use Rattle.md_engine.specs.declared.event.Name.TheVariants.{Data, Definition, DefinitionDestination}
 use Rattle.md_engine.specs.declared.event.Name.TheVariants.{DefinitionDestinationRaw, DefinitionDestinationString}
-use Rattle.md_engine.specs.declared.event.Name.TheVariants.{DefinitionLabel, DefinitionLabelMarker, DefinitionLabelString}
-use Rattle.md_engine.specs.declared.event.Name.TheVariants.{DefinitionMarker, SpaceOrTab}
+use Rattle.md_engine.specs.declared.event.Name.TheVariants.{DefinitionLabel, DefinitionLabelMarker}
+use Rattle.md_engine.specs.declared.event.Name.TheVariants.{DefinitionLabelString, DefinitionMarker, SpaceOrTab}
 use Rattle.md_engine.specs.declared.event.Point.{Point}
 use Rattle.md_link_definitions.specs.Chunks.{string_link}
 use Rattle.md_link_definitions.specs.PlainDestination.{is_plain_destination}

@@ -16,7 +16,7 @@ ghost use Rattle.std.specs.Option.{option_map};
 ghost use Rattle.md_content.specs.ChunkRule.{IsChunkState};
 ghost use Rattle.md_engine.specs.Full.{Grown, IsFullOf, OnError};
 ghost use Rattle.md_engine.specs.Found.{found_in};
-ghost use Rattle.md_engine.specs.Scheme.{stands};
+ghost use Rattle.md_engine.specs.Scheme.{valid};
 ghost use Rattle.md_engine.specs.World.{looks, world};
 ghost use Rattle.md_engine.specs.declared.state.Name.{Name as StateName};
 ghost use Rattle.md_engine.specs.declared.state.State.{State};
@@ -25,7 +25,7 @@ ghost use Rattle.md_content.specs.States.{content_scheme, content_transition};
 ghost use Rattle.md_content.specs.Chunks.{chunk_transition};
 ghost use Rattle.md_events.specs.WholeLine.{line_taken};
 ghost use Rattle.md_content.specs.Chunks.{rest_taken};
-ghost use Rattle.md_link_definitions.specs.OpenText.{text_behind};
+ghost use Rattle.md_link_definitions.specs.OpenText.{text_following};
 ghost use Rattle.md_content.specs.ContentReads.{content_events, is_piece_end, settled};
 ghost use Rattle.md_content.specs.Resolves.{Resolves, found_in_content, has_neither, is_all_read};
 ghost use Rattle.md_content.specs.LabelLook.{may_close, may_define_in};
@@ -56,7 +56,7 @@ use md_events::slice::{between, whole_from};
 use md_events::space_or_tab;
 use md_events::subtokenize::Reader;
 use md_events::walks::{Test, passing};
-use md_link_definitions::open_text::text_behind;
+use md_link_definitions::open_text::text_following;
 use md_link_definitions::{definition, destination, label, space_or_tab_eol, title};
 use std::alloc::Global;
 use std::mem;
@@ -76,10 +76,10 @@ fn line_taken<'a>(tokenizer: &Tokenizer<'a>) -> &'a [u8]
 /// What is held of the open text after the line that ends here.
 fn text_with_line(tokenizer: &Tokenizer) -> HeldLeaf
     ensures { let w = world tokenizer.now in
-        result ≡ text_behind w.flags.leaf (rest_taken w.setting.bytes w.scratch w.point) }
+        result ≡ text_following w.flags.leaf (rest_taken w.setting.bytes w.scratch w.point) }
 {
     let Scratch { size, seen, .. } = tokenizer.scratch;
-    text_behind(tokenizer.flags.leaf, size, seen, line_taken(tokenizer))
+    text_following(tokenizer.flags.leaf, size, seen, line_taken(tokenizer))
 }
 
 /// Before a line. Its column from 0, and whether it begins within a tab, show how far it is indented.
@@ -159,7 +159,7 @@ pub fn takes_at_once(state: ContentState) -> Option<Stay>
 /// Calls a state of the table of content.
 fn call_state(tokenizer: &mut Tokenizer, name: StateName) -> State
     requires current { (world tokenizer.old).current ≡ looks (world tokenizer.old) }
-    requires stands { stands content_scheme (world tokenizer.old) (State.Next name) }
+    requires valid { valid content_scheme (world tokenizer.old) (State.Next name) }
     ensures to { result ≢ State.Error → result ≡ (content_transition name (world tokenizer.old)).to }
     ensures world { result ≢ State.Error → world tokenizer.new ≡ (content_transition name (world tokenizer.old)).world }
     ensures full { OnError result (IsFullOf (Grown.Resolvers ∷ Grown.Events ∷ Grown.Frames ∷ []) tokenizer.new) }

@@ -47,8 +47,8 @@ pub fn definition_before(tokenizer: &mut Tokenizer) -> State
     if !may_define(tokenizer.current) {
         return State::Retry(paragraph);
     }
-    let behind = StateName::Content(ContentState::DefinitionAfter);
-    or_error!(tokenizer.attempt(State::Next(behind), State::Next(paragraph)));
+    let following = StateName::Content(ContentState::DefinitionAfter);
+    or_error!(tokenizer.attempt(State::Next(following), State::Next(paragraph)));
     State::Retry(StateName::Definition(DefinitionState::Start))
 }
 

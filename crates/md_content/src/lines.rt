@@ -17,7 +17,7 @@ ghost use Rattle.std.specs.Prelude.{◌≡◌, ◌≤◌, ◌<◌, ◌+◌, ◌&
 ghost use Rattle.std.specs.Prelude.{OnOk, get_or, true};
 ghost use Rattle.std.specs.List.{prefix_len};
 ghost use Rattle.md_content.specs.ContentReads.{content_events, content_readings, wants_content};
-ghost use Rattle.md_content.specs.Joined.{ends_content, goes_on, is_content, is_of_prefix, joined, joined_with};
+ghost use Rattle.md_content.specs.Joined.{ends_content, is_continued, is_content, is_of_prefix, joined, joined_with};
 ghost use Rattle.md_content.specs.Lines.{begins_chunk, is_passed, lines_from};
 ghost use Rattle.md_content.specs.ParagraphLines.{GivesParagraph, HasLines, IsParagraph, is_unlinked};
 ghost use Rattle.md_content.specs.WholeLines.{lines_of};
@@ -87,8 +87,8 @@ fn plain_prefixes(events: &[Event]) -> usize
 
 /// Whether a line of content that ends before these events continues: its ending comes first, and after it and the
 /// prefixes of the next line a line of content.
-fn goes_on(events: &[Event]) -> bool
-    ensures { result ≡ goes_on events.now }
+fn is_continued(events: &[Event]) -> bool
+    ensures { result ≡ is_continued events.now }
 {
     if events.len() < 2 || !is_ending(&events[0]) {
         return false;
@@ -111,7 +111,7 @@ fn joined_with(events: &[Event]) -> usize
     ensures value { result ≡ joined_with events.now }
     ensures within { result < length events.now }
 {
-    if ends_line(&events[0]) && goes_on(&events[1..]) {
+    if ends_line(&events[0]) && is_continued(&events[1..]) {
         2
     } else {
         0
@@ -211,8 +211,8 @@ fn further_lines(bytes: &[u8], events: &[Event]) -> Option<usize>
     }
     let mut at = 0;
     let mut more = 0;
-    while let Some(behind) = next_line(&events[at + 1..]) {
-        let next = at + 1 + behind;
+    while let Some(following) = next_line(&events[at + 1..]) {
+        let next = at + 1 + following;
         let line = chunk_of(&events[at], &events[at + 3]);
         if !is_followed(&line, &chunk_of(&events[next], &events[next + 1])) {
             return None;

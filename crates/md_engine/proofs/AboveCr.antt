@@ -35,11 +35,11 @@ lowest-low bytes n r long few is =
     ∙ count-not-low bytes
 
 -- after some of the bytes that are counted, the others are
-pub counted-behind : (bytes : List ℕ) (at : ℕ) → at ≤ prefix_len (nat_lt 13) bytes →
+pub counted-following : (bytes : List ℕ) (at : ℕ) → at ≤ prefix_len (nat_lt 13) bytes →
     at + prefix_len (nat_lt 13) (drop at bytes) ≡ prefix_len (nat_lt 13) bytes
-counted-behind bytes zero le = omega arith
-counted-behind [] (suc at) le = absurd (omega arith)
-counted-behind (b ∷ bytes) (suc at) le = go (nat_lt 13 b) (counted-behind bytes at) le
+counted-following bytes zero le = omega arith
+counted-following [] (suc at) le = absurd (omega arith)
+counted-following (b ∷ bytes) (suc at) le = go (nat_lt 13 b) (counted-following bytes at) le
   where
     go : (x : Bool) →
         (at ≤ prefix_len (nat_lt 13) bytes →
@@ -72,8 +72,8 @@ counted-front (b ∷ bytes) (suc n) = go (nat_lt 13 b) (counted-front bytes n)
     go false more = (omega arith, λ lt. refl, λ le. absurd (omega arith))
 
 -- what lies after so many bytes, as slicing gives it
-behind-whole : (bytes : List ℕ) (at : ℕ) → take (length bytes - at) (drop at bytes) ≡ drop at bytes
-behind-whole bytes at =
+following-whole : (bytes : List ℕ) (at : ℕ) → take (length bytes - at) (drop at bytes) ≡ drop at bytes
+following-whole bytes at =
     take_all (length bytes - at) (drop at bytes) (let size = length-drop at bytes in omega (arith, size))
 
 -- the next bytes are counted after those that were counted: all of them, or up to one that is at most CR
@@ -81,9 +81,9 @@ pub counted-next : (bytes : List ℕ) (at n r : ℕ) → at ≤ prefix_len (nat_
     r ≡ prefix_len (nat_lt 13) (take n (take (length bytes - at) (drop at bytes))) →
     (r < n → at + r ≡ prefix_len (nat_lt 13) bytes) × (n ≤ r → at + n ≤ prefix_len (nat_lt 13) bytes)
 counted-next bytes at n r le is =
-    let same = is ∙ ap (λ (rest : List ℕ). prefix_len (nat_lt 13) (take n rest)) (behind-whole bytes at) in
+    let same = is ∙ ap (λ (rest : List ℕ). prefix_len (nat_lt 13) (take n rest)) (following-whole bytes at) in
     let front = counted-front (drop at bytes) n in
-    let all = counted-behind bytes at le in (
+    let all = counted-following bytes at le in (
       λ lt. let some = front.1 (omega (arith, same, lt)) in omega (arith, same, all, some),
       λ ge. let more = front.2 (omega (arith, same, ge)) in omega (arith, all, more),
     )
@@ -96,6 +96,6 @@ counted-last bytes at n r le few is =
     let size = length-drop at bytes in
     let whole = take_all n (drop at bytes) (omega (arith, size, few)) in
     let same =
-    is ∙ ap (λ (rest : List ℕ). prefix_len (nat_lt 13) (take n rest)) (behind-whole bytes at)
+    is ∙ ap (λ (rest : List ℕ). prefix_len (nat_lt 13) (take n rest)) (following-whole bytes at)
     ∙ ap (prefix_len (nat_lt 13)) whole in
-    omega (arith, same, counted-behind bytes at le)
+    omega (arith, same, counted-following bytes at le)

@@ -123,20 +123,20 @@ span-here c n bytes end p low at h = (
     read k lt = get_or-take (end - p.index) (drop p.index bytes) k 0 lt ∙ get_or-drop p.index bytes k 0
 
 -- the point after a span
-abbrev pub behind : ℕ → Point → Point
-behind n p = record p { column = p.column + n; index = p.index + n; vs = 0 }
+abbrev pub following : ℕ → Point → Point
+following n p = record p { column = p.column + n; index = p.index + n; vs = 0 }
 
-behind-further : (n : ℕ) (p : Point) → 0 < n → further n p ≡ behind n p
-behind-further zero p lt = absurd (omega (arith, lt))
-behind-further (suc n) p lt = refl
+following-further : (n : ℕ) (p : Point) → 0 < n → further n p ≡ following n p
+following-further zero p lt = absurd (omega (arith, lt))
+following-further (suc n) p lt = refl
 
 pub span-taken : (c : Class) (n : ℕ) (end : ℕ) (w : World) → end ≤ length w.setting.bytes → w.point.index ≤ end →
     0 < n →
     IsSpan c (slice_range w.setting.bytes w.point.index end) n →
-    TakesAll c end w (record w { point = behind n w.point })
+    TakesAll c end w (record w { point = following n w.point })
 span-taken c n end w low at some h =
     let here = span-here c n w.setting.bytes end w.point low at h in
-    let is = behind-further n w.point some in
+    let is = following-further n w.point some in
     record {
       count = n;
       new = ap (λ (p : Point). record w { point = p }) (sym (along-further w.setting c n end w.point here.0 ∙ is));
@@ -161,11 +161,12 @@ placed-further bytes c (suc n) end p low h each =
     let here = each n (omega arith) in
     rw (← further-next bytes c n p here.1) (placed-next bytes (further n p) before (omega (arith, here.0, low)))
 
-pub placed-behind : (c : Class) (n : ℕ) (bytes : List ℕ) (end : ℕ) (p : Point) → IsPlaced bytes p → end ≤ length bytes →
+pub placed-following : (c : Class) (n : ℕ) (bytes : List ℕ) (end : ℕ) (p : Point) → IsPlaced bytes p → end ≤
+    length bytes →
     p.index ≤ end → 0 < n →
-    IsSpan c (slice_range bytes p.index end) n → IsPlaced bytes (behind n p)
-placed-behind c n bytes end p placed low at some h =
-    subst (IsPlaced bytes) (behind-further n p some)
+    IsSpan c (slice_range bytes p.index end) n → IsPlaced bytes (following n p)
+placed-following c n bytes end p placed low at some h =
+    subst (IsPlaced bytes) (following-further n p some)
     (placed-further bytes c n end p low placed (span-here c n bytes end p low at h).0)
 
 -- what is taken as far as the text may be read is seen and taken, where the last byte is seen after it
@@ -179,13 +180,13 @@ sees-leapt c n w h none = record {
 }
 
 -- what was taken, by its number
-pub record Went (c : Class) (n : ℕ) (end : ℕ) (w v : World) : Type 0 where
+pub record Proceeded (c : Class) (n : ℕ) (end : ℕ) (w v : World) : Type 0 where
   pub here : AreHere c n w.setting.bytes end w.point
   pub ends : ¬ IsOf c w.setting.bytes end (further n w.point)
   pub is : v ≡ record w { point = further n w.point }
 
-pub went : (c : Class) (end : ℕ) (w v : World) (t : TakesAll c end w v) → Went c t.count end w v
-went c end w v t = record {
+pub proceeded : (c : Class) (end : ℕ) (w v : World) (t : TakesAll c end w v) → Proceeded c t.count end w v
+proceeded c end w v t = record {
   here = here;
   ends = λ yes. t.ends (subst (IsOf c w.setting.bytes end) (sym at) yes);
   is = is;
@@ -202,9 +203,9 @@ went c end w v t = record {
 
 pub sees-some : (c : Class) (w v v' : World) → TakesAll c w.setting.limit w v → w.point.index < v.point.index →
     v' ≡ record v { current = Some (slice_index v.setting.bytes (v.point.index - 1)) } → SeesSpan c w v'
-sees-some c w v v' t lt e = go t.count (went c w.setting.limit w v t)
+sees-some c w v v' t lt e = go t.count (proceeded c w.setting.limit w v t)
   where
-    go : (n : ℕ) → Went c n w.setting.limit w v → SeesSpan c w v'
+    go : (n : ℕ) → Proceeded c n w.setting.limit w v → SeesSpan c w v'
     go zero g =
         let none : v.point.index ≡ w.point.index = ap (λ (x : World). x.point.index) g.is in
         absurd (omega (arith, none, lt))
@@ -219,9 +220,9 @@ sees-some c w v v' t lt e = go t.count (went c w.setting.limit w v t)
 
 pub sees-none : (c : Class) (w v : World) → TakesAll c w.setting.limit w v → v.point.index ≤ w.point.index →
     SeesSpan c w v
-sees-none c w v t le = go t.count (went c w.setting.limit w v t)
+sees-none c w v t le = go t.count (proceeded c w.setting.limit w v t)
   where
-    go : (n : ℕ) → Went c n w.setting.limit w v → SeesSpan c w v
+    go : (n : ℕ) → Proceeded c n w.setting.limit w v → SeesSpan c w v
     go zero g = subst (SeesSpan c w) (sym g.is) (sees-leapt c 0 w g.here g.ends)
     go (suc m) g =
         let more : v.point.index ≡ w.point.index + suc m = ap (λ (x : World). x.point.index) g.is in

@@ -145,7 +145,7 @@ turned-few xs r first second front back n le all left right one two =
     let size : n ≡ length (reverse b) = omega (arith, le, dropped, turned) in
     let before : first ≡ reverse b = left ∙ ap (λ (l : List Event). take n l) split
     ∙ ap (λ (m : ℕ). take m (reverse b ++ reverse a)) size ∙ take-append_seam (reverse b) (reverse a) in
-    let behind : second ≡ reverse a = right ∙ ap (λ (l : List Event). drop n l) split
+    let following : second ≡ reverse a = right ∙ ap (λ (l : List Event). drop n l) split
     ∙ ap (λ (m : ℕ). drop m (reverse b ++ reverse a)) size ∙ drop-append_seam (reverse b) (reverse a) in
     ap (λ (l : List Event). l ++ back) (one ∙ ap reverse before ∙ reverse-reverse b)
-    ∙ ap (λ (l : List Event). b ++ l) (two ∙ ap reverse behind ∙ reverse-reverse a)
+    ∙ ap (λ (l : List Event). b ++ l) (two ∙ ap reverse following ∙ reverse-reverse a)

@@ -9,10 +9,10 @@ use Rattle.md_engine.specs.declared.tokenizer.Frame.{Frame}
 use Rattle.md_engine.specs.declared.tokenizer.Scratch.{Scratch}
 use Rattle.md_engine.specs.World.{Setting, World}
 use Rattle.md_engine.specs.Place.{seen_at}
-use Rattle.md_engine.specs.Run.{IsEnd, Leaves, goes_back, left, next_of, plain}
+use Rattle.md_engine.specs.Run.{IsEnd, Leaves, leads_back, left, next_of, plain}
 use Rattle.md_engine.specs.Scheme.{After, Ends, EndsLater, Grown, Passes, Reaches, Resumes, Scheme, Position, Tries}
 use Rattle.md_engine.specs.Scheme.{TriesLater, after_all, after_frame, cells_before, frame_level, frame_number}
-use Rattle.md_engine.specs.Scheme.{frame_rank, frames_work, holds, moved_to, seen, position, spot_at, stands}
+use Rattle.md_engine.specs.Scheme.{frame_rank, frames_work, holds, moved_to, seen, position, spot_at, valid}
 use Rattle.md_engine.specs.Scheme.{state_level, state_number, state_rank, state_work, work}
 use Rattle.md_engine.proofs.Points.{grown-same, grown-then, passes-reaches, passes_then, rank-low, stays, then_passes}
 use Rattle.md_engine.proofs.Points.{then_reaches}
@@ -73,7 +73,7 @@ seen_grows x t s b g e = go (nat_lt x.point.index x.setting.limit) refl
 resumes : (T : Scheme) (f : Frame) (st : State) (x : Position) (K : After) (p : Point) → f.point ≡ p →
     Reaches x.setting.limit p x.point → holds T st x K → state_level T st ≤ frame_level T f →
     (x.point ≡ p → state_rank T st x < frame_rank T f + 1) → Resumes T f st x K
-resumes T f st x K p same r h l k = record { stands = h; level = l; falls = go st r.cells k }
+resumes T f st x K p same r h l k = record { valid = h; level = l; falls = go st r.cells k }
   where
     go : (st : State) → (p ≡ x.point) ⊎ ((cells_before p < cells_before x.point) × (p.index < x.setting.limit)) →
         (x.point ≡ p → state_rank T st x < frame_rank T f + 1) → state_number T st x < frame_number T x.setting.limit f
@@ -133,8 +133,8 @@ tries_later T f P Q x K same h = record {
 
 -- leaving an attempt
 pub resumed : (T : Scheme) (w : World) (fs : List Frame) (f : Frame) (s : State) → IsEnd s → w.frames ≡ f ∷ fs →
-    stands T w (plain s) →
-    Resumes T f (next_of f s) (position (left w fs f (goes_back f s))) (after_all T fs)
+    valid T w (plain s) →
+    Resumes T f (next_of f s) (position (left w fs f (leads_back f s))) (after_all T fs)
 resumed T w fs f s end e st = go s end (subst Q e st)
   where
     Q : List Frame → Type 0
@@ -147,7 +147,7 @@ resumed T w fs f s end e st = go s end (subst Q e st)
     back false r = r
 
     go : (s : State) → IsEnd s → holds T (plain s) (position w) (after_all T (f ∷ fs)) →
-        Resumes T f (next_of f s) (position (left w fs f (goes_back f s))) (after_all T fs)
+        Resumes T f (next_of f s) (position (left w fs f (leads_back f s))) (after_all T fs)
     go Ok end h = back f.is_check h
     go Nok end h = h
     go Error end h = absurd end
@@ -176,13 +176,13 @@ left-limit : (w : World) (fs : List Frame) (f : Frame) (b : Bool) → (left w fs
 left-limit w fs f true = refl
 left-limit w fs f false = refl
 
-pub left_stands : (T : Scheme) (w : World) (fs : List Frame) (f : Frame) (s : State) → IsEnd s → w.frames ≡ f ∷ fs →
-    stands T w (plain s) →
-    stands T (left w fs f (goes_back f s)) (plain (next_of f s))
-left_stands T w fs f s end e st =
-    let r = (resumed T w fs f s end e st).stands in
+pub left_valid : (T : Scheme) (w : World) (fs : List Frame) (f : Frame) (s : State) → IsEnd s → w.frames ≡ f ∷ fs →
+    valid T w (plain s) →
+    valid T (left w fs f (leads_back f s)) (plain (next_of f s))
+left_valid T w fs f s end e st =
+    let r = (resumed T w fs f s end e st).valid in
     let h = plain-holds T (next_of f s) _ _ r in
-    rw (left-frames w fs f (goes_back f s)) h
+    rw (left-frames w fs f (leads_back f s)) h
 
 ends-work : (T : Scheme) (s : State) (x : Position) → IsEnd s → state_work T (plain s) x ≡ 0
 ends-work T Ok x end = omega arith
@@ -210,10 +210,10 @@ falls-with T limit fs f st x w' fr sp li le lt =
     subst Q li all
 
 pub left_falls : (T : Scheme) (w : World) (fs : List Frame) (f : Frame) (s : State) → IsEnd s → w.frames ≡ f ∷ fs →
-    stands T w (plain s) →
-    work T (left w fs f (goes_back f s)) (plain (next_of f s)) < work T w (plain s)
+    valid T w (plain s) →
+    work T (left w fs f (leads_back f s)) (plain (next_of f s)) < work T w (plain s)
 left_falls T w fs f s end e st =
-    let b = goes_back f s in
+    let b = leads_back f s in
     let r = resumed T w fs f s end e st in
     let less = falls-with T w.setting.limit fs f (next_of f s) (position (left w fs f b)) (left w fs f b)
     (left-frames w fs f b) refl (left-limit w fs f b) r.level r.falls in
@@ -223,10 +223,10 @@ left_falls T w fs f s end e st =
     rw z less)
 
 -- the same, of a state and a world known by equations
-pub stands_same : (T : Scheme) (w w' : World) (s s' : State) → w ≡ w' → s ≡ s' → stands T w s → stands T w' s'
-stands_same T w w' s s' e k h =
-    let P : World → Type 0 = λ x. stands T x s in
-    let Q : State → Type 0 = λ x. stands T w' x in
+pub valid_same : (T : Scheme) (w w' : World) (s s' : State) → w ≡ w' → s ≡ s' → valid T w s → valid T w' s'
+valid_same T w w' s s' e k h =
+    let P : World → Type 0 = λ x. valid T x s in
+    let Q : State → Type 0 = λ x. valid T w' x in
     subst Q k (subst P e h)
 
 pub falls_same : (T : Scheme) (v w w' : World) (t s s' : State) → w ≡ w' → s ≡ s' → work T v t < work T w s →
@@ -236,13 +236,13 @@ falls_same T v w w' t s s' e k h =
     let Q : State → Type 0 = λ x. work T v t < work T w' x in
     subst Q k (subst P e h)
 
-pub leaves_stands : (T : Scheme) (w w' : World) (s s' : State) → Leaves s w s' w' → stands T w (plain s) →
-    stands T w' (plain s')
-leaves_stands T w w' s s' l st =
-    stands_same T _ w' _ (plain s') (sym l.new) (ap plain (sym l.next))
-    (left_stands T w l.outer l.frame s l.end l.frames st)
+pub leaves_valid : (T : Scheme) (w w' : World) (s s' : State) → Leaves s w s' w' → valid T w (plain s) →
+    valid T w' (plain s')
+leaves_valid T w w' s s' l st =
+    valid_same T _ w' _ (plain s') (sym l.new) (ap plain (sym l.next))
+    (left_valid T w l.outer l.frame s l.end l.frames st)
 
-pub leaves_falls : (T : Scheme) (w w' : World) (s s' : State) → Leaves s w s' w' → stands T w (plain s) →
+pub leaves_falls : (T : Scheme) (w w' : World) (s s' : State) → Leaves s w s' w' → valid T w (plain s) →
     work T w' (plain s') < work T w (plain s)
 leaves_falls T w w' s s' l st =
     let P : World → Type 0 = λ x. work T x (plain (next_of l.frame s)) < work T w (plain s) in

@@ -7,9 +7,9 @@ use Rattle.md_engine.specs.declared.event.Event.{Event}
 use Rattle.md_engine.specs.declared.state.State.{State}
 use Rattle.md_engine.specs.declared.state.State.TheVariants.{Error, Ok, Nok, Next, Retry}
 use Rattle.md_engine.specs.declared.tokenizer.Frame.{Frame}
-use Rattle.md_engine.specs.Meaning.{Accepts, Behaviour, Fails, Feed, Outcome, Refuses, Steps, comes_to, goes, here}
-use Rattle.md_engine.specs.Meaning.{restored, resume, resume_all}
-use Rattle.md_engine.specs.Run.{IsEnd, Leaves, Runs, Step, goes_back, left, next_of, plain}
+use Rattle.md_engine.specs.Meaning.{Accepts, Behaviour, Fails, Feed, Outcome, Refuses, Steps, whole_outcome, proceeds}
+use Rattle.md_engine.specs.Meaning.{here, restored, resume, resume_all}
+use Rattle.md_engine.specs.Run.{IsEnd, Leaves, Runs, Step, leads_back, left, next_of, plain}
 use Rattle.md_engine.specs.Run.Runs.{Stays, ThenCalls, ThenLeaves}
 use Rattle.md_engine.specs.World.{World}
 
@@ -30,11 +30,12 @@ resume-same B feed a b f (Accepts h rest) e =
     ap
     (λ (x : List Event).
     cond f.is_check
-    (goes B f.ok (feed f.point) (record { events = x; point = f.point; scratch = h.scratch; flags = h.flags }))
-    (goes B f.ok rest h)) e
+    (proceeds B f.ok (feed f.point) (record { events = x; point = f.point; scratch = h.scratch; flags = h.flags }))
+    (proceeds B f.ok rest h)) e
 resume-same B feed a b f (Refuses s g) e =
     ap
-    (λ (x : List Event). goes B f.nok (feed f.point) (record { events = x; point = f.point; scratch = s; flags = g })) e
+    (λ (x : List Event). proceeds B f.nok (feed f.point)
+    (record { events = x; point = f.point; scratch = s; flags = g })) e
 resume-same B feed a b f Fails e = refl
 
 resume_all-same : (B : Behaviour) (feed : Feed) (a b : List Event) (fs : List Frame) (o : Outcome) →
@@ -55,9 +56,9 @@ back-same B feed events fs f o h =
 leave_ok : (B : Behaviour) (feed : Feed) (w : World) (fs : List Frame) (f : Frame) →
     All (λ g. g.events_len ≤ f.events_len) fs → (b : Bool) →
     resume_all B feed w.events fs
-    (cond b (goes B f.ok (feed f.point) (restored w.events f w.scratch w.flags))
-    (goes B f.ok (feed w.point) (here w))) ≡
-    comes_to B feed f.ok (left w fs f b)
+    (cond b (proceeds B f.ok (feed f.point) (restored w.events f w.scratch w.flags))
+    (proceeds B f.ok (feed w.point) (here w))) ≡
+    whole_outcome B feed f.ok (left w fs f b)
 leave_ok B feed w fs f h true = back-same B feed w.events fs f _ h
 leave_ok B feed w fs f h false = refl
 
@@ -65,7 +66,7 @@ leave_ok B feed w fs f h false = refl
 leave_keeps : (B : Behaviour) (feed : Feed) (w : World) (fs : List Frame) (f : Frame) (s : State) → IsEnd s →
     w.frames ≡ f ∷ fs →
     All (λ g. g.events_len ≤ f.events_len) fs →
-    comes_to B feed s w ≡ comes_to B feed (next_of f s) (left w fs f (goes_back f s))
+    whole_outcome B feed s w ≡ whole_outcome B feed (next_of f s) (left w fs f (leads_back f s))
 leave_keeps B feed w fs f Ok end e h =
     ap (λ (x : List Frame). resume_all B feed w.events x (Accepts (here w) (feed w.point))) e
     ∙ leave_ok B feed w fs f h f.is_check
@@ -77,14 +78,14 @@ leave_keeps B feed w fs f (Retry n) end e h = absurd end
 leave_keeps B feed w fs f Error end e h = absurd end
 
 pub leaves-keep : (B : Behaviour) (feed : Feed) (s s' : State) (w w' : World) → Leaves s w s' w' →
-    comes_to B feed s w ≡ comes_to B feed s' w'
+    whole_outcome B feed s w ≡ whole_outcome B feed s' w'
 leaves-keep B feed s s' w w' l =
     leave_keeps B feed w l.outer l.frame s l.end l.frames l.below
-    ∙ ap₂ (λ (x : State) (y : World). comes_to B feed x y) (sym l.next) (sym l.new)
+    ∙ ap₂ (λ (x : State) (y : World). whole_outcome B feed x y) (sym l.next) (sym l.new)
 
 -- a state that stays and one that takes what is here become the same
 pub plain-same : (B : Behaviour) (feed : Feed) (w : World) (s : State) →
-    comes_to B feed (plain s) w ≡ comes_to B feed s w
+    whole_outcome B feed (plain s) w ≡ whole_outcome B feed s w
 plain-same B feed w Ok = refl
 plain-same B feed w Nok = refl
 plain-same B feed w Error = refl
@@ -99,12 +100,12 @@ resume_all-join B feed events (f ∷ fs) gs o = resume_all-join B feed events fs
 -- a step of a construct keeps what the whole tokenizer becomes
 pub steps-keep : (B : Behaviour) (feed : Feed) (from to : State) (old new : World) →
     All (λ f. f.events_len ≤ length old.events) old.frames →
-    Steps B feed from old to new → comes_to B feed from old ≡ comes_to B feed to new
+    Steps B feed from old to new → whole_outcome B feed from old ≡ whole_outcome B feed to new
 steps-keep B feed from to old new h s =
     ap (resume_all B feed old.events old.frames) s.same
     ∙ resume_all-same B feed old.events new.events old.frames _ (go s.events)
     ∙ sym (resume_all-join B feed new.events s.begun old.frames _)
-    ∙ ap (λ (x : List Frame). resume_all B feed new.events x (goes B to (feed new.point) (here new))) (sym s.frames)
+    ∙ ap (λ (x : List Frame). resume_all B feed new.events x (proceeds B to (feed new.point) (here new))) (sym s.frames)
   where
     go : (old.frames ≡ []) ⊎ (new.events ≡ old.events ++ s.added) →
         All (λ f. take f.events_len old.events ≡ take f.events_len new.events) old.frames
@@ -116,7 +117,7 @@ steps-keep B feed from to old new h s =
 
 -- leaving an attempt changes no setting
 leaves-setting : (s s' : State) (w w' : World) → Leaves s w s' w' → w'.setting ≡ w.setting
-leaves-setting s s' w w' l = ap (λ (x : World). x.setting) l.new ∙ go (goes_back l.frame s)
+leaves-setting s s' w w' l = ap (λ (x : World). x.setting) l.new ∙ go (leads_back l.frame s)
   where
     go : (b : Bool) → (left w l.outer l.frame b).setting ≡ w.setting
     go true = refl

@@ -11,5 +11,5 @@ pub mod StayLemmas
 pub mod Walks
 pub mod Keeps
 pub mod StepOf
-pub mod Standing
+pub mod Situation
 pub mod TextFeed

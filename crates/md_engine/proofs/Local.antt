@@ -11,7 +11,7 @@ use Rattle.md_engine.specs.World.{World, after}
 use Rattle.md_engine.specs.Scheme.{Reaches, after_frame, Position, position, moved_to, After, Rank, Scheme, state_level}
 use Rattle.md_engine.specs.Scheme.{state_rank, state_number, keyed, frame_level, frame_rank, frame_number, base}
 use Rattle.md_engine.specs.Scheme.{frames_work, work, holds, after_all, Ends, EndsLater, Tries, TriesLater, Good, Fits}
-use Rattle.md_engine.specs.Scheme.{FitsState, of_owners, stands}
+use Rattle.md_engine.specs.Scheme.{FitsState, of_owners, valid}
 use Rattle.md_engine.proofs.Falls.{later, tries, tries_later}
 use Rattle.md_engine.proofs.Points.{cells-fall, grown-same, rank-low, stays}
 use Rattle.md_engine.proofs.Powers.{weighs, weighs_with}
@@ -162,7 +162,7 @@ tries_later_by T own f P Q x K a b t =
 
 -- what a call that begins an attempt keeps and lets fall
 abbrev Begun : Scheme → StateName → World → StateName → World → Type 0
-Begun T n w m new = stands T new (Next m) × (work T new (Next m) < work T w (Next n))
+Begun T n w m new = valid T new (Next m) × (work T new (Next m) < work T w (Next n))
 
 -- an attempt at another construct, of a lower level, that is ready there
 begins_ready : (T own inner : Scheme) (n m : StateName) (w : World) (events : List Event) (q : Point) (s : Scratch)

@@ -28,7 +28,7 @@ pub end_not_error : (s : State) → IsEnd s → s ≢ Error
 end_not_error s end h = let k : IsEnd Error = rw h at end in k
 
 -- one has reached a state of this name, which sees what is here
-pub record CameTo (T : Step) (is_end : Bool) (s : State) (v : World) (name : StateName) (w : World) : Type 0 where
+pub record ArrivedAt (T : Step) (is_end : Bool) (s : State) (v : World) (name : StateName) (w : World) : Type 0 where
   pub state : State
   pub at : World
   pub names : plain state ≡ Next name
@@ -37,16 +37,16 @@ pub record CameTo (T : Step) (is_end : Bool) (s : State) (v : World) (name : Sta
   pub runs : Runs T is_end s v state at
 
 -- from each state of the first name
-abbrev pub Came : Step → Bool → StateName → World → StateName → World → Type 0
-Came T is_end first old name w =
+abbrev pub Arrived : Step → Bool → StateName → World → StateName → World → Type 0
+Arrived T is_end first old name w =
     (s : State) (v : World) → plain s ≡ Next first → reading v ≡ old →
-    (is_end ≡ true) ⊎ (v.point.index < v.setting.limit) → CameTo T is_end s v name w
+    (is_end ≡ true) ⊎ (v.point.index < v.setting.limit) → ArrivedAt T is_end s v name w
 
-abbrev pub CameHere : Step → StateName → World → StateName → World → Type 0
-CameHere T first old name w = (is_end : Bool) → Came T is_end first old name w
+abbrev pub ArrivedHere : Step → StateName → World → StateName → World → Type 0
+ArrivedHere T first old name w = (is_end : Bool) → Arrived T is_end first old name w
 
-pub came-first : (T : Step) (first : StateName) (w : World) → CameHere T first w first w
-came-first T first w is_end s v names sees may = record {
+pub arrived-first : (T : Step) (first : StateName) (w : World) → ArrivedHere T first w first w
+arrived-first T first w is_end s v names sees may = record {
   state = s;
   at = v;
   names = names;
@@ -56,11 +56,11 @@ came-first T first w is_end s v names sees may = record {
 }
 
 -- by one call more
-pub came-calls : (T : Step) (first name : StateName) (old w : World) (s' : State) (w' : World) →
-    CameHere T first old name w → T name w s' w' → s' ≢ Error → w'.setting ≡ w.setting →
+pub arrived-calls : (T : Step) (first name : StateName) (old w : World) (s' : State) (w' : World) →
+    ArrivedHere T first old name w → T name w s' w' → s' ≢ Error → w'.setting ≡ w.setting →
     All (λ f. f.events_len ≤ length w.events) w.frames → RunsHere T first old s' w'
-came-calls T first name old w s' w' came step fine same within is_end s v names sees may =
-    let h = came is_end s v names sees may in
+arrived-calls T first name old w s' w' arrived step fine same within is_end s v names sees may =
+    let h = arrived is_end s v names sees may in
     let P : World → Type 0 = λ x. T name x s' w' in
     let Q : World → Type 0 = λ x. All (λ f. f.events_len ≤ length x.events) x.frames in
     ThenCalls h.state h.at s' w' h.runs
@@ -75,10 +75,10 @@ came-calls T first name old w s' w' came step fine same within is_end s v names 
     })
 
 -- by more that runs from there
-pub came-runs : (T : Step) (is_end : Bool) (first name : StateName) (old w : World) (s' : State) (w' : World) →
-    Came T is_end first old name w → RunsFrom T is_end name w s' w' → RunsFrom T is_end first old s' w'
-came-runs T is_end first name old w s' w' came runs s v names sees may =
-    let h = came s v names sees may in
+pub arrived-runs : (T : Step) (is_end : Bool) (first name : StateName) (old w : World) (s' : State) (w' : World) →
+    Arrived T is_end first old name w → RunsFrom T is_end name w s' w' → RunsFrom T is_end first old s' w'
+arrived-runs T is_end first name old w s' w' arrived runs s v names sees may =
+    let h = arrived s v names sees may in
     runs-append T is_end s v h.state h.at s' w' h.runs (runs h.state h.at h.names h.sees h.may)
 
 -- and more after it
@@ -89,10 +89,10 @@ runs-then T is_end first old t u s' w' before after s v names sees may =
     runs-append T is_end s v t u s' w' (before s v names sees may) after
 
 -- one has reached a state that may be called again, where what is there is seen
-pub came-on : (T : Step) (is_end : Bool) (first next : StateName) (old u w : World) →
+pub arrived-on : (T : Step) (is_end : Bool) (first next : StateName) (old u w : World) →
     RunsFrom T is_end first old (Next next) u → (is_end ≡ true) ⊎ (u.point.index < u.setting.limit) → w ≡ reading u →
-    Came T is_end first old next w
-came-on T is_end first next old u w runs may is s v names sees here' = record {
+    Arrived T is_end first old next w
+arrived-on T is_end first next old u w runs may is s v names sees here' = record {
   state = Next next;
   at = u;
   names = refl;
@@ -114,7 +114,7 @@ reading-same w seen = ap (λ (o : Option ℕ). record w { current = o }) (sym se
 pub call-runs : (T : Step) (name : StateName) (w : World) (s' : State) (w' : World) → T name w s' w' → s' ≢ Error →
     w'.setting ≡ w.setting → All (λ f. f.events_len ≤ length w.events) w.frames → RunsHere T name w s' w'
 call-runs T name w s' w' step fine same within =
-    came-calls T name name w w s' w' (came-first T name w) step fine same within
+    arrived-calls T name name w w s' w' (arrived-first T name w) step fine same within
 
 pub call-sees : (s' : State) (w w' : World) → Remains s' w w' → w'.setting ≡ w.setting → w.current ≡ looks w →
     SeesOn s' w w'
@@ -125,11 +125,11 @@ call-sees (Next n) w w' r same seen = tt
 call-sees (Retry n) w w' r same seen = (still-sees n w w' r same seen, inl r.0)
 
 -- and so one has reached a state that stays
-pub came-stays : (T : Step) (first name next : StateName) (old w w' : World) → CameHere T first old name w →
+pub arrived-stays : (T : Step) (first name next : StateName) (old w w' : World) → ArrivedHere T first old name w →
     RunsHere T name w (Retry next) w' → SeesOn (Retry next) w w' → w'.setting ≡ w.setting →
-    CameHere T first old next w'
-came-stays T first name next old w w' came runs r same is_end s v names sees may =
-    let h = came is_end s v names sees may in
+    ArrivedHere T first old next w'
+arrived-stays T first name next old w w' arrived runs r same is_end s v names sees may =
+    let h = arrived is_end s v names sees may in
     let within : w'.setting ≡ h.at.setting = same ∙ sym (ap (λ (x : World). x.setting) h.sees) in
     record {
       state = Retry next;
@@ -138,7 +138,7 @@ came-stays T first name next old w w' came runs r same is_end s v names sees may
       sees = reading-same w' r.0;
       may = go h.at h.may within (sym (ap (λ (x : World). x.point) h.sees)) r.1;
       runs =
-          came-runs T is_end first name old w (Retry next) w' (came is_end) (runs is_end) s v names sees may;
+          arrived-runs T is_end first name old w (Retry next) w' (arrived is_end) (runs is_end) s v names sees may;
     }
   where
     go : (at : World) → (is_end ≡ true) ⊎ (at.point.index < at.setting.limit) → w'.setting ≡ at.setting →

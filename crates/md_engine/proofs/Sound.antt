@@ -276,5 +276,6 @@ pub sound-put : (bytes : List ℕ) (p : Point) (limit : ℕ) (events : List Even
     IsSound bytes p limit (events ++ e ∷ []) frames skips
 sound-put bytes p limit events e frames skips h k =
     sound-moved bytes e.point p limit (events ++ e ∷ []) frames skips
-    (sound-add bytes e.point limit events e frames skips (sound-moved bytes p e.point limit events frames skips h k) refl)
+    (sound-add bytes e.point limit events e frames skips
+    (sound-moved bytes p e.point limit events frames skips h k) refl)
     h.placed

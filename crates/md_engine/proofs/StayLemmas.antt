@@ -20,7 +20,7 @@ use Rattle.md_engine.specs.Classes.{has, is_white}
 use Rattle.md_engine.specs.Place.{IsPlaced, is_ending, next_point, seen_at, stepped}
 use Rattle.md_engine.specs.Run.{Runs, Step, plain}
 use Rattle.md_engine.specs.Run.Runs.{Stays, ThenCalls}
-use Rattle.md_engine.specs.Scheme.{Fits, Scheme, cells_left, stands, work}
+use Rattle.md_engine.specs.Scheme.{Fits, Scheme, cells_left, valid, work}
 use Rattle.md_engine.specs.Sound.{IsSaved}
 use Rattle.md_engine.specs.Staying.{IsSeen, Sees, SeesAll, SeesSome, SeesSpan, StaysOn, counted, stayed, takes, took}
 use Rattle.md_engine.specs.Staying.{SeesColumns, SeesWhite, TookColumns, took_all}
@@ -388,7 +388,7 @@ tab-taken w v u v' n some lt e columns span =
 -- a state that stays: what it becomes after so many bytes
 pub record Stayed (T : Step) (S : Scheme) (s : State) (w w' : World) : Type 0 where
   pub runs : (is_end : Bool) → Runs T is_end s w s w'
-  pub ready : stands S w' (plain s)
+  pub ready : valid S w' (plain s)
   pub falls : work S w' (plain s) ≤ work S w (plain s)
   pub setting : w'.setting ≡ w.setting
   pub within : All (λ (f : Frame). f.events_len ≤ length w'.events) w'.frames
@@ -401,7 +401,7 @@ stayed-more : (T : Step) (S : Scheme) (n : StateName) (k : Stay) (w v : World) �
     Stayed T S (Next n) w v → Sees k v → Stayed T S (Next n) w (stayed k v)
 stayed-more T S n k w v s h here =
     let inside = seen-inside v.setting v.point here.0 here.1 in
-    let ready : stands S (stayed k v) (Next n) = s.ready v here.0 here.1 here.2 h.ready in
+    let ready : valid S (stayed k v) (Next n) = s.ready v here.0 here.1 here.2 h.ready in
     let level : S.level n ≤ S.level n = omega arith in
     let good = consumes S S n n v v.events (counted k v.scratch) (fits-own S n) (fits-own S n) inside ready level in
     let less : work S (stayed k v) (Next n) < work S v (Next n) = good.1 in
@@ -424,7 +424,7 @@ stayed-more T S n k w v s h here =
     }
 
 -- what is taken and counted one after another is what a state takes that stays
-stays-some : (T : Step) (S : Scheme) (n : StateName) (k : Stay) (w v : World) → StaysOn T S n k → stands S w (Next n) →
+stays-some : (T : Step) (S : Scheme) (n : StateName) (k : Stay) (w v : World) → StaysOn T S n k → valid S w (Next n) →
     All (λ (f : Frame). f.events_len ≤ length w.events) w.frames → SeesSome k w v → Stayed T S (Next n) w v
 stays-some T S n k w _ s r within Nothing = record {
   runs = λ is_end. Stays;
@@ -444,8 +444,8 @@ within-world t = All-reverse (λ (f : Frame). f.events_len ≤ length t.events.i
 
 -- much is taken at once where a state stays
 pub stayed-by : (T : Step) (S : Scheme) (s : State) (n : StateName) (k : Stay) (w v : World) → s ≡ Next n →
-    StaysOn T S n k → stands S w (plain s) →
+    StaysOn T S n k → valid S w (plain s) →
     All (λ (f : Frame). f.events_len ≤ length w.events) w.frames → SeesAll k w v → Stayed T S s w v
 stayed-by T S s n k w v e on r within h =
-    subst (λ (x : State). stands S w (plain x) → Stayed T S x w v) (sym e)
+    subst (λ (x : State). valid S w (plain x) → Stayed T S x w v) (sym e)
     (λ ready. stays-some T S n k w v on ready within h.some) r

@@ -5,7 +5,7 @@ use Rattle.std.proofs.lemmas.Bool.Decides.{nat_tests}
 use Rattle.md_engine.specs.declared.event.Event.{Event}
 use Rattle.md_engine.specs.declared.state.State.{State}
 use Rattle.md_engine.specs.declared.tokenizer.Frame.{Frame}
-use Rattle.md_engine.specs.Meaning.{Behaviour, Feed, Follows, Steps, goes, here, resume}
+use Rattle.md_engine.specs.Meaning.{Behaviour, Feed, Follows, Steps, proceeds, here, resume}
 use Rattle.md_engine.specs.Run.{reading}
 use Rattle.md_engine.specs.Scheme.{Scheme, after_all}
 use Rattle.md_engine.specs.Sees.{Sees, ahead}
@@ -14,7 +14,8 @@ use Rattle.md_engine.specs.World.{World, looks}
 -- a step that begins no attempt
 pub moves : (B : Behaviour) (feed : Feed) (from to : State) (old new : World) (added : List Event) →
     new.frames ≡ old.frames → new.events ≡ old.events ++ added →
-    goes B from (feed old.point) (here old) ≡ goes B to (feed new.point) (here new) → Steps B feed from old to new
+    proceeds B from (feed old.point) (here old) ≡ proceeds B to (feed new.point) (here new) →
+    Steps B feed from old to new
 moves B feed from to old new added frames events same = record {
   begun = [];
   added = added;
@@ -26,14 +27,16 @@ moves B feed from to old new added frames events same = record {
 -- a step that adds no event either
 pub passes : (B : Behaviour) (feed : Feed) (from to : State) (old new : World) → new.frames ≡ old.frames →
     new.events ≡ old.events →
-    goes B from (feed old.point) (here old) ≡ goes B to (feed new.point) (here new) → Steps B feed from old to new
+    proceeds B from (feed old.point) (here old) ≡ proceeds B to (feed new.point) (here new) →
+    Steps B feed from old to new
 passes B feed from to old new frames events same =
     moves B feed from to old new [] frames (events ∙ sym (append-nil old.events)) same
 
 -- a step that begins an attempt
 pub begins : (B : Behaviour) (feed : Feed) (from to : State) (old new : World) (added : List Event) (f : Frame) →
     new.frames ≡ f ∷ old.frames → new.events ≡ old.events ++ added →
-    goes B from (feed old.point) (here old) ≡ resume B feed new.events f (goes B to (feed new.point) (here new)) →
+    proceeds B from (feed old.point) (here old) ≡ resume B feed new.events f
+    (proceeds B to (feed new.point) (here new)) →
     Steps B feed from old to new
 begins B feed from to old new added f frames events same = record {
   begun = f ∷ [];
@@ -45,7 +48,8 @@ begins B feed from to old new added f frames events same = record {
 
 -- a step that changes events where no attempt can go back
 pub changes : (B : Behaviour) (feed : Feed) (from to : State) (old new : World) → old.frames ≡ [] → new.frames ≡ [] →
-    goes B from (feed old.point) (here old) ≡ goes B to (feed new.point) (here new) → Steps B feed from old to new
+    proceeds B from (feed old.point) (here old) ≡ proceeds B to (feed new.point) (here new) →
+    Steps B feed from old to new
 changes B feed from to old new none frames same = record {
   begun = [];
   added = [];
@@ -62,7 +66,8 @@ outermost-frames T (f ∷ fs) none = absurd none
 -- and adds no event
 pub begins_only : (B : Behaviour) (feed : Feed) (from to : State) (old new : World) (f : Frame) →
     new.frames ≡ f ∷ old.frames → new.events ≡ old.events →
-    goes B from (feed old.point) (here old) ≡ resume B feed new.events f (goes B to (feed new.point) (here new)) →
+    proceeds B from (feed old.point) (here old) ≡ resume B feed new.events f
+    (proceeds B to (feed new.point) (here new)) →
     Steps B feed from old to new
 begins_only B feed from to old new f frames events same =
     begins B feed from to old new [] f frames (events ∙ sym (append-nil old.events)) same

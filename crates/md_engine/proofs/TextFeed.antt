@@ -6,15 +6,15 @@ use Rattle.md_engine.specs.declared.event.Point.{Point}
 use Rattle.md_engine.specs.declared.state.State.{State}
 use Rattle.md_engine.specs.declared.tokenizer.Frame.{Frame}
 use Rattle.md_engine.specs.Found.{Found}
-use Rattle.md_engine.specs.Meaning.{Behaviour, Cell, Feed, Follows, comes_to, goes, here, line_of, resume_all}
+use Rattle.md_engine.specs.Meaning.{Behaviour, Cell, Feed, Follows, whole_outcome, proceeds, here, line_of, resume_all}
 use Rattle.md_engine.specs.Place.{seen_at}
 use Rattle.md_engine.specs.Run.{Flushes, Resolution, Step, plain}
-use Rattle.md_engine.specs.Scheme.{Scheme, cells_left, stands}
-use Rattle.md_engine.specs.Standing.{MeansAt, StandsOn}
+use Rattle.md_engine.specs.Scheme.{Scheme, cells_left, valid}
+use Rattle.md_engine.specs.Situation.{MeansAt, KeepsValid}
 use Rattle.md_engine.specs.TextFeed.{cells_from, text_feed}
 use Rattle.md_engine.specs.World.{Setting, World, after}
 use Rattle.md_engine.proofs.Points.{cells-fall}
-use Rattle.md_engine.proofs.Standing.{runs-mean}
+use Rattle.md_engine.proofs.Situation.{runs-mean}
 
 abbrev cell_at : Setting → Point → Cell
 cell_at x p = record { byte = seen_at x.bytes p; after = after x p; line = x.line }
@@ -101,8 +101,9 @@ text-follows x limit is_end small le end = record {
 -- what a tokenizer becomes is where it has become at the end
 pub flush-means : (T : Step) (R : Resolution) (S : Scheme) (B : Behaviour) (feed : Feed) (s : State) (w : World)
     (resolve : Bool) (found : Found) (new : World) →
-    MeansAt T S w.setting B true → StandsOn T S → Follows feed w.setting true → stands S w (plain s) →
-    (f : Flushes T R s w resolve found new) → comes_to B feed s w ≡ goes B f.end (feed f.at.point) (here f.at)
+    MeansAt T S w.setting B true → KeepsValid T S → Follows feed w.setting true → valid S w (plain s) →
+    (f : Flushes T R s w resolve found new) → whole_outcome B feed s w ≡ proceeds B f.end (feed f.at.point) (here f.at)
 flush-means T R S B feed s w resolve found new m on follows at f =
     (runs-mean T S B true feed s w m on follows at f.end f.at f.runs).0
-    ∙ ap (λ (x : List Frame). resume_all B feed f.at.events x (goes B f.end (feed f.at.point) (here f.at))) f.none_left
+    ∙ ap (λ (x : List Frame). resume_all B feed f.at.events x
+    (proceeds B f.end (feed f.at.point) (here f.at))) f.none_left

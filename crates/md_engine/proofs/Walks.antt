@@ -12,13 +12,13 @@ use Rattle.md_engine.specs.declared.stay.Stay.{Stay}
 use Rattle.md_engine.specs.declared.tokenizer.Frame.{Frame}
 use Rattle.md_engine.specs.Run.{Runs, RunsHere, Step, left, plain, reading}
 use Rattle.md_engine.specs.Run.Runs.{Stays, ThenCalls, ThenLeaves}
-use Rattle.md_engine.specs.Scheme.{Scheme, stands, work}
+use Rattle.md_engine.specs.Scheme.{Scheme, valid, work}
 use Rattle.md_engine.specs.Staying.{SeesSome, stayed, takes}
 use Rattle.md_engine.specs.Staying.SeesSome.{Nothing, OneMore}
 use Rattle.md_engine.specs.World.{World, looks}
-use Rattle.md_engine.proofs.Falls.{leaves_falls, leaves_stands}
+use Rattle.md_engine.proofs.Falls.{leaves_falls, leaves_valid}
 use Rattle.md_engine.proofs.Keeps.{runs-setting}
-use Rattle.md_engine.proofs.Loops.{CameTo, not_error, reading-same}
+use Rattle.md_engine.proofs.Loops.{ArrivedAt, not_error, reading-same}
 use Rattle.md_engine.proofs.StayLemmas.{seen-inside}
 
 -- all attempts go back to events that are there
@@ -39,7 +39,7 @@ within-one f fs n le h (suc k) d lt = h k d (omega (arith, lt))
 -- One has reached a state. It is called,
 pub then-run : (T : Step) (is_end : Bool) (s : State) (v : World) (name : StateName) (w : World) (s' : State)
     (w' : World) →
-    CameTo T is_end s v name w → T name w s' w' → s' ≢ Error → w'.setting ≡ w.setting → Within w →
+    ArrivedAt T is_end s v name w → T name w s' w' → s' ≢ Error → w'.setting ≡ w.setting → Within w →
     Runs T is_end s v s' w'
 then-run T is_end s v name w s' w' h step fine same within =
     let P : World → Type 0 = λ x. T name x s' w' in
@@ -57,8 +57,8 @@ then-run T is_end s v name w s' w' h step fine same within =
 
 -- and stays at what is here,
 pub then-stays : (T : Step) (is_end : Bool) (s : State) (v : World) (name next : StateName) (w w' : World) →
-    CameTo T is_end s v name w → T name w (Retry next) w' → w'.setting ≡ w.setting → Within w →
-    w'.point ≡ w.point → w'.current ≡ looks w' → CameTo T is_end s v next w'
+    ArrivedAt T is_end s v name w → T name w (Retry next) w' → w'.setting ≡ w.setting → Within w →
+    w'.point ≡ w.point → w'.current ≡ looks w' → ArrivedAt T is_end s v next w'
 then-stays T is_end s v name next w w' h step same within there seen =
     let from : w'.point ≡ h.at.point = there ∙ sym (ap (λ (x : World). x.point) h.sees) in
     let text : w'.setting ≡ h.at.setting = same ∙ sym (ap (λ (x : World). x.setting) h.sees) in
@@ -73,8 +73,8 @@ then-stays T is_end s v name next w w' h step same within there seen =
 
 -- or takes it, and what follows it is seen,
 pub then-takes : (T : Step) (is_end : Bool) (s : State) (v : World) (name next : StateName) (w u : World) →
-    CameTo T is_end s v name w → T name w (Next next) u → u.setting ≡ w.setting → Within w →
-    u.point.index < u.setting.limit → CameTo T is_end s v next (reading u)
+    ArrivedAt T is_end s v name w → T name w (Next next) u → u.setting ≡ w.setting → Within w →
+    u.point.index < u.setting.limit → ArrivedAt T is_end s v next (reading u)
 then-takes T is_end s v name next w u h step same within lt = record {
   state = Next next;
   at = u;
@@ -87,9 +87,9 @@ then-takes T is_end s v name next w u h step same within lt = record {
 -- or an attempt holds
 pub then-holds : (T : Step) (is_end : Bool) (s : State) (v : World) (name next : StateName) (w u : World) (f : Frame)
     (fs : List Frame) →
-    CameTo T is_end s v name w → T name w Ok u → u.setting ≡ w.setting → Within w → u.frames ≡ f ∷ fs →
+    ArrivedAt T is_end s v name w → T name w Ok u → u.setting ≡ w.setting → Within w → u.frames ≡ f ∷ fs →
     f.is_check ≡ false → f.ok ≡ Next next → All (λ (g : Frame). g.events_len ≤ f.events_len) fs →
-    u.point.index < u.setting.limit → CameTo T is_end s v next (reading (record u { frames = fs }))
+    u.point.index < u.setting.limit → ArrivedAt T is_end s v next (reading (record u { frames = fs }))
 then-holds T is_end s v name next w u f fs h step same within e not_check ok below lt =
     let fine : Ok ≢ Error = λ k. cc in
     record {
@@ -118,7 +118,7 @@ TakesSo T n k =
     (w : World) (b : ℕ) → looks w ≡ Some b → takes k w.scratch b ≡ true → T n (reading w) (Next n) (stayed k w)
 
 then-some : (T : Step) (is_end : Bool) (s : State) (v : World) (name : StateName) (k : Stay) (w u : World) →
-    TakesSo T name k → CameTo T is_end s v name w → w.current ≡ looks w → Within w → SeesSome k w u →
+    TakesSo T name k → ArrivedAt T is_end s v name w → w.current ≡ looks w → Within w → SeesSome k w u →
     ((u ≡ w) ⊎ Runs T is_end s v (Next name) u) × Within u
 then-some T is_end s v name k w _ each h seen within Nothing = (inl refl, within)
 then-some T is_end s v name k w _ each h seen within (OneMore u some here) =
@@ -134,7 +134,7 @@ then-some T is_end s v name k w _ each h seen within (OneMore u some here) =
     go : Within u → (u ≡ w) ⊎ Runs T is_end s v (Next name) u → Runs T is_end s v (Next name) (stayed k u)
     go good (inl e) =
         let same : u.current ≡ looks u = ap (λ (x : World). x.current) e ∙ seen ∙ ap looks (sym e) in
-        let P : World → Type 0 = λ x. CameTo T is_end s v name x in
+        let P : World → Type 0 = λ x. ArrivedAt T is_end s v name x in
         let Q : World → Type 0 = λ x. T name x (Next name) (stayed k u) in
         then-run T is_end s v name u (Next name) (stayed k u) (subst P (sym e) h)
         (subst Q (reading-same u same) step) fine refl good
@@ -152,21 +152,21 @@ then-some T is_end s v name k w _ each h seen within (OneMore u some here) =
 
 -- So one reaches it again, where something is after,
 pub then-seen : (T : Step) (is_end : Bool) (s : State) (v : World) (name : StateName) (k : Stay) (w u : World) →
-    TakesSo T name k → CameTo T is_end s v name w → w.current ≡ looks w → Within w → SeesSome k w u →
-    u.point.index < u.setting.limit → CameTo T is_end s v name (reading u)
+    TakesSo T name k → ArrivedAt T is_end s v name w → w.current ≡ looks w → Within w → SeesSome k w u →
+    u.point.index < u.setting.limit → ArrivedAt T is_end s v name (reading u)
 then-seen T is_end s v name k w u each h seen within some lt =
     go (then-some T is_end s v name k w u each h seen within some).0
   where
-    go : (u ≡ w) ⊎ Runs T is_end s v (Next name) u → CameTo T is_end s v name (reading u)
+    go : (u ≡ w) ⊎ Runs T is_end s v (Next name) u → ArrivedAt T is_end s v name (reading u)
     go (inl e) =
-        let P : World → Type 0 = λ x. CameTo T is_end s v name x in
+        let P : World → Type 0 = λ x. ArrivedAt T is_end s v name x in
         let same : u.current ≡ looks u = ap (λ (x : World). x.current) e ∙ seen ∙ ap looks (sym e) in
         subst P (sym (reading-same u same ∙ e)) h
     go (inr r) = record { state = Next name; at = u; names = refl; sees = refl; may = inr lt; runs = r }
 
 -- and waits for more where nothing does
 pub then-waits : (T : Step) (is_end : Bool) (s : State) (v : World) (name : StateName) (k : Stay) (w u : World) →
-    TakesSo T name k → CameTo T is_end s v name w → w.current ≡ looks w → Within w → SeesSome k w u →
+    TakesSo T name k → ArrivedAt T is_end s v name w → w.current ≡ looks w → Within w → SeesSome k w u →
     w.point.index < w.setting.limit → u.setting.limit ≤ u.point.index → Runs T is_end s v (Next name) u
 then-waits T is_end s v name k w u each h seen within some lt le =
     go (then-some T is_end s v name k w u each h seen within some).0
@@ -181,18 +181,18 @@ then-waits T is_end s v name k w u each h seen within some lt le =
 -- What each call keeps, a run keeps.
 abbrev pub EachKeeps : Step → Scheme → Type 0
 EachKeeps T S =
-    (name : StateName) (w : World) (to : State) (new : World) → w.current ≡ looks w → stands S w (Next name) →
-    T name w to new → stands S new (plain to) × (work S new (plain to) < work S w (Next name))
+    (name : StateName) (w : World) (to : State) (new : World) → w.current ≡ looks w → valid S w (Next name) →
+    T name w to new → valid S new (plain to) × (work S new (plain to) < work S w (Next name))
 
 pub runs-keep : (T : Step) (S : Scheme) (is_end : Bool) (s : State) (w : World) (s' : State) (w' : World) →
-    EachKeeps T S → stands S w (plain s) → Runs T is_end s w s' w' →
-    (((s' ≡ s) × (w' ≡ w)) ⊎ (work S w' (plain s') < work S w (plain s))) × stands S w' (plain s')
+    EachKeeps T S → valid S w (plain s) → Runs T is_end s w s' w' →
+    (((s' ≡ s) × (w' ≡ w)) ⊎ (work S w' (plain s') < work S w (plain s))) × valid S w' (plain s')
 runs-keep T S is_end s w _ _ each at Stays = (inl (refl, refl), at)
 runs-keep T S is_end s w s' w' each at (ThenLeaves t v t' v' r l) =
     let before = runs-keep T S is_end s w t v each at r in
-    let ready : stands S v (plain t) = before.1 in
+    let ready : valid S v (plain t) = before.1 in
     let less : work S v' (plain t') < work S v (plain t) = leaves_falls S v v' t t' l ready in
-    (inr (go before.0 less), leaves_stands S v v' t t' l ready)
+    (inr (go before.0 less), leaves_valid S v v' t t' l ready)
   where
     go : (((t ≡ s) × (v ≡ w)) ⊎ (work S v (plain t) < work S w (plain s))) →
         work S v' (plain t') < work S v (plain t) → work S v' (plain t') < work S w (plain s)
@@ -203,8 +203,8 @@ runs-keep T S is_end s w s' w' each at (ThenLeaves t v t' v' r l) =
     go (inr lt) less = omega (arith, lt, less)
 runs-keep T S is_end s w s' w' each at (ThenCalls t v t' v' r c) =
     let before = runs-keep T S is_end s w t v each at r in
-    let P : State → Type 0 = λ x. stands S (reading v) x in
-    let ready : stands S (reading v) (Next c.name) = subst P c.names before.1 in
+    let P : State → Type 0 = λ x. valid S (reading v) x in
+    let ready : valid S (reading v) (Next c.name) = subst P c.names before.1 in
     let good = each c.name (reading v) t' v' refl ready c.step in
     let same : work S v (plain t) ≡ work S (reading v) (Next c.name) =
     ap (λ (x : State). work S (reading v) x) c.names in
@@ -220,15 +220,15 @@ runs-keep T S is_end s w s' w' each at (ThenCalls t v t' v' r c) =
 
 -- a run from a state that sees what is here has called it once at least
 pub here-keeps : (T : Step) (S : Scheme) (name : StateName) (w : World) (s' : State) (w' : World) → EachKeeps T S →
-    w.current ≡ looks w → stands S w (Next name) → RunsHere T name w s' w' →
-    stands S w' (plain s') × (work S w' (plain s') < work S w (Next name)) × (w'.setting ≡ w.setting)
+    w.current ≡ looks w → valid S w (Next name) → RunsHere T name w s' w' →
+    valid S w' (plain s') × (work S w' (plain s') < work S w (Next name)) × (w'.setting ≡ w.setting)
 here-keeps T S name w s' w' each seen at runs = go s' refl
   where
     from : (s : State) → plain s ≡ Next name → s' ≢ s →
-        stands S w' (plain s') × (work S w' (plain s') < work S w (Next name)) × (w'.setting ≡ w.setting)
+        valid S w' (plain s') × (work S w' (plain s') < work S w (Next name)) × (w'.setting ≡ w.setting)
     from s names other =
         let r : Runs T true s w s' w' = runs true s w names (reading-same w seen) (inl refl) in
-        let P : State → Type 0 = λ x. stands S w x in
+        let P : State → Type 0 = λ x. valid S w x in
         let kept = runs-keep T S true s w s' w' each (subst P (sym names) at) r in
         (kept.1, less kept.0, runs-setting T true s w s' w' r)
       where
@@ -239,7 +239,7 @@ here-keeps T S name w s' w' each seen at runs = go s' refl
             let Q : State → Type 0 = λ x. work S w' (plain s') < work S w x in subst Q names lt
 
     go : (x : State) → s' ≡ x →
-        stands S w' (plain s') × (work S w' (plain s') < work S w (Next name)) × (w'.setting ≡ w.setting)
+        valid S w' (plain s') × (work S w' (plain s') < work S w (Next name)) × (w'.setting ≡ w.setting)
     go (Next n) e = from (Retry name) refl (λ k. let no : Next n ≡ Retry name = sym e ∙ k in cc)
     go (Retry n) e = from (Next name) refl (λ k. let no : Retry n ≡ Next name = sym e ∙ k in cc)
     go Ok e = from (Next name) refl (λ k. let no : Ok ≡ Next name = sym e ∙ k in cc)

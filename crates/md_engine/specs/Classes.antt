@@ -6,8 +6,8 @@ use Rattle.md_engine.specs.declared.class.Class.TheVariants.{Plain, Text, Word}
 use Rattle.md_engine.specs.Place.{is_ending}
 
 -- after such a byte the line continues, one column further
-abbrev pub goes_on : ℕ → Bool
-goes_on b = not (is_ending b || (b == 9))
+abbrev pub is_continued : ℕ → Bool
+is_continued b = not (is_ending b || (b == 9))
 
 -- a byte that a construct may give a meaning: one of `"'()<>[\]|`, or U+007F
 abbrev pub is_mark : ℕ → Bool
@@ -22,7 +22,7 @@ admits Word b = not (b == 32)
 admits Plain b = nat_lt 32 b && not (is_mark b)
 
 abbrev pub has : Class → ℕ → Bool
-has c b = goes_on b && admits c b
+has c b = is_continued b && admits c b
 
 -- a space or a tab; in a tab a state sees spaces
 abbrev pub is_white : ℕ → Bool

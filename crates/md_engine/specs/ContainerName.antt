@@ -17,7 +17,7 @@ first_kind = kind.BlockQuote
 
 -- whether a container of a kind continues over an empty line, by whether it started blank: a list item that did not
 -- (CommonMark 5.2), and each footnote definition
-abbrev pub kind_goes_over : ContainerKind → Bool → Bool
-kind_goes_over kind.BlockQuote blank = false
-kind_goes_over kind.ListItem blank = not blank
-kind_goes_over kind.GfmFootnoteDefinition blank = true
+abbrev pub kind_continues_over : ContainerKind → Bool → Bool
+kind_continues_over kind.BlockQuote blank = false
+kind_continues_over kind.ListItem blank = not blank
+kind_continues_over kind.GfmFootnoteDefinition blank = true

@@ -17,6 +17,6 @@ IsKnownRun bytes s = AreOfRun bytes s.marker s.from s.end
 
 -- the run from an index on goes up to another: it ends there, or the text may be read no further
 pub record EndsRun (bytes : List ℕ) (marker from limit n : ℕ) : Type 0 where
-  pub behind : from ≤ n
+  pub following : from ≤ n
   pub each : AreOfRun bytes marker from n
   pub ends : n < limit → is_of_run marker (slice_index bytes n) ≡ false

@@ -13,7 +13,7 @@ pub mod Going
 pub mod Scheme
 pub mod Staying
 pub mod Meaning
-pub mod Standing
+pub mod Situation
 pub mod TextFeed
 pub mod Progress
 pub mod Full

@@ -43,12 +43,12 @@ abbrev pub Behaviour : Type 0
 Behaviour = StateName → List Cell → Here → Outcome
 
 -- what a state becomes
-abbrev pub goes : Behaviour → State → List Cell → Here → Outcome
-goes B Ok cells h = Accepts h cells
-goes B Nok cells h = Refuses h.scratch h.flags
-goes B Error cells h = Fails
-goes B (Next name) cells h = B name cells h
-goes B (Retry name) cells h = B name cells h
+abbrev pub proceeds : Behaviour → State → List Cell → Here → Outcome
+proceeds B Ok cells h = Accepts h cells
+proceeds B Nok cells h = Refuses h.scratch h.flags
+proceeds B Error cells h = Fails
+proceeds B (Next name) cells h = B name cells h
+proceeds B (Retry name) cells h = B name cells h
 
 -- back at what a frame saved
 abbrev pub restored : List Event → Frame → Scratch → Flags → Here
@@ -57,8 +57,8 @@ restored events f s g = record { events = take f.events_len events; point = f.po
 -- what an attempt becomes, once what it tried has ended
 abbrev pub resume : Behaviour → Feed → List Event → Frame → Outcome → Outcome
 resume B feed events f (Accepts h rest) =
-    if f.is_check then goes B f.ok (feed f.point) (restored events f h.scratch h.flags) else goes B f.ok rest h
-resume B feed events f (Refuses s g) = goes B f.nok (feed f.point) (restored events f s g)
+    if f.is_check then proceeds B f.ok (feed f.point) (restored events f h.scratch h.flags) else proceeds B f.ok rest h
+resume B feed events f (Refuses s g) = proceeds B f.nok (feed f.point) (restored events f s g)
 resume B feed events f Fails = Fails
 
 -- the same for all attempts, the innermost first
@@ -67,8 +67,8 @@ resume_all B feed events [] o = o
 resume_all B feed events (f ∷ fs) o = resume_all B feed events fs (resume B feed events f o)
 
 -- what the whole tokenizer becomes from a state
-abbrev pub comes_to : Behaviour → Feed → State → World → Outcome
-comes_to B feed state w = resume_all B feed w.events w.frames (goes B state (feed w.point) (here w))
+abbrev pub whole_outcome : Behaviour → Feed → State → World → Outcome
+whole_outcome B feed state w = resume_all B feed w.events w.frames (proceeds B state (feed w.point) (here w))
 
 -- the line of the next cell, which only a feed that continues has
 abbrev pub line_of : Line → List Cell → Line
@@ -92,5 +92,5 @@ pub record Steps (B : Behaviour) (feed : Feed) (from : State) (old : World) (to 
   pub added : List Event
   pub frames : new.frames ≡ begun ++ old.frames
   pub events : (old.frames ≡ []) ⊎ (new.events ≡ old.events ++ added)
-  pub same : goes B from (feed old.point) (here old) ≡
-      resume_all B feed new.events begun (goes B to (feed new.point) (here new))
+  pub same : proceeds B from (feed old.point) (here old) ≡
+      resume_all B feed new.events begun (proceeds B to (feed new.point) (here new))

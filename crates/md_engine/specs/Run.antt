@@ -46,9 +46,9 @@ left w outer f back =
     if back then record w { frames = outer; events = take f.events_len w.events; point = f.point }
     else record w { frames = outer }
 
-abbrev pub goes_back : Frame → State → Bool
-goes_back f Ok = f.is_check
-goes_back f _ = true
+abbrev pub leads_back : Frame → State → Bool
+leads_back f Ok = f.is_check
+leads_back f _ = true
 
 abbrev pub next_of : Frame → State → State
 next_of f Ok = f.ok
@@ -61,7 +61,7 @@ pub record Leaves (s : State) (w : World) (s' : State) (w' : World) : Type 0 whe
   pub end : IsEnd s
   pub frames : w.frames ≡ frame ∷ outer
   pub next : s' ≡ next_of frame s
-  pub new : w' ≡ left w outer frame (goes_back frame s)
+  pub new : w' ≡ left w outer frame (leads_back frame s)
   -- the attempts around it go back to no more events
   pub below : All (λ g. g.events_len ≤ frame.events_len) outer
 

@@ -130,7 +130,7 @@ holds T Error x K = Unit {0}
 
 -- an attempt may continue here, below what it set aside
 pub record Resumes (T : Scheme) (f : Frame) (st : State) (x : Position) (K : After) : Type 0 where
-  pub stands : holds T st x K
+  pub valid : holds T st x K
   pub level : state_level T st ≤ frame_level T f
   pub falls : state_number T st x < frame_number T x.setting.limit f
 
@@ -150,8 +150,8 @@ after_all T [] = top
 after_all T (f ∷ fs) = after_frame T f (after_all T fs)
 
 -- the tokenizer is at a state
-abbrev pub stands : Scheme → World → State → Type 0
-stands T w st = holds T st (position w) (after_all T w.frames)
+abbrev pub valid : Scheme → World → State → Type 0
+valid T w st = holds T st (position w) (after_all T w.frames)
 
 -- a later point, or the same
 pub record Reaches (limit : ℕ) (p q : Point) : Type 0 where
@@ -201,7 +201,7 @@ pub record TriesLater (T : Scheme) (f : Frame) (P Q : Scratch → Type 0) (x : P
 
 -- a state's call keeps what the table needs, falls, and goes nowhere where it stays
 abbrev pub Good : Scheme → StateName → World → State → World → Type 0
-Good T n w to new = stands T new (plain to) × (work T new (plain to) < work T w (Next n)) × Remains to w new
+Good T n w to new = valid T new (plain to) × (work T new (plain to) < work T w (Next n)) × Remains to w new
 
 -- a table has a state as its construct has it
 pub record Fits (T own : Scheme) (n : StateName) : Type 1 where

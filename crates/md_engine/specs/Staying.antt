@@ -11,7 +11,7 @@ use Rattle.md_engine.specs.declared.stay.Stay.TheVariants as stay
 use Rattle.md_engine.specs.declared.tokenizer.Scratch.{Scratch}
 use Rattle.md_engine.specs.Classes.{has, is_white}
 use Rattle.md_engine.specs.Run.{Step, reading}
-use Rattle.md_engine.specs.Scheme.{Scheme, stands}
+use Rattle.md_engine.specs.Scheme.{Scheme, valid}
 use Rattle.md_engine.specs.World.{Setting, World, after, looks}
 
 -- a byte of a class is at a point, before the index `end`
@@ -101,5 +101,5 @@ pub record SeesAll (k : Stay) (w w' : World) : Type 0 where
 pub record StaysOn (T : Step) (S : Scheme) (n : StateName) (k : Stay) : Type 0 where
   pub step : (w : World) (b : ℕ) → looks w ≡ Some b → takes k w.scratch b ≡ true →
       T n (reading w) (Next n) (stayed k w)
-  pub ready : (w : World) (b : ℕ) → looks w ≡ Some b → takes k w.scratch b ≡ true → stands S w (Next n) →
-      stands S (stayed k w) (Next n)
+  pub ready : (w : World) (b : ℕ) → looks w ≡ Some b → takes k w.scratch b ≡ true → valid S w (Next n) →
+      valid S (stayed k w) (Next n)

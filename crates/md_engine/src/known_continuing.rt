@@ -4,7 +4,8 @@
 // many blank lines in many containers none is asked again unless it has changed.
 
 ghost use Rattle.std.specs.Prelude.{◌≡◌, ◌<◌, ◌≤◌, List, false, get_or, length, slice_set, take};
-ghost use Rattle.md_engine.specs.KnownContinuing.{AreContinuing, EndsContinuing, IsKnownContinuing, goes_over_empty};
+ghost use Rattle.md_engine.specs.KnownContinuing.{AreContinuing, EndsContinuing, IsKnownContinuing};
+ghost use Rattle.md_engine.specs.KnownContinuing.{continues_over_empty};
 ghost use Rattle.md_engine.specs.declared.tokenizer.container.Container.{Container};
 
 use crate::tokenizer::container::Container;
@@ -21,10 +22,10 @@ fn asked(containers: &[Container], from: usize, until: usize) -> usize
     requires { (from ≤ until) × (until ≤ length containers.now) }
     ensures within { (from ≤ result) × (result ≤ until) }
     ensures each { AreContinuing containers.now from result }
-    ensures ends { (d : Container) → result < until → goes_over_empty (get_or containers.now result d) ≡ false }
+    ensures ends { (d : Container) → result < until → continues_over_empty (get_or containers.now result d) ≡ false }
 {
     let mut to = from;
-    while to < until && containers[to].goes_over_empty() {
+    while to < until && containers[to].continues_over_empty() {
         to += 1;
     }
     to
@@ -88,7 +89,7 @@ impl KnownContinuing {
         ensures { (cs : List Container) → IsKnownContinuing cs self →
             IsKnownContinuing (slice_set cs index container) result }
     {
-        if index < self.from || container.goes_over_empty() {
+        if index < self.from || container.continues_over_empty() {
             self
         } else {
             self.cut(index)

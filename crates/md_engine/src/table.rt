@@ -8,7 +8,7 @@ ghost use Rattle.md_engine.specs.Found.{found_in};
 ghost use Rattle.md_engine.specs.Going.{SeesOn};
 ghost use Rattle.md_engine.specs.Run.{Flushes, IsEnd, IsStopped, Leaves, Resolution, ResolvedIf, Runs};
 ghost use Rattle.md_engine.specs.Run.{IsWaiting, RunsFrom, RunsHere, Step, plain};
-ghost use Rattle.md_engine.specs.Scheme.{Scheme, stands, work};
+ghost use Rattle.md_engine.specs.Scheme.{Scheme, valid, work};
 ghost use Rattle.md_engine.specs.Staying.{StaysOn};
 ghost use Rattle.md_engine.specs.World.{looks, reads_to, world};
 ghost use Rattle.md_engine.specs.declared.state.State.{State};
@@ -34,10 +34,10 @@ pub trait Table {
     /// Calls the state of this name, at what is at the point, and maybe some that follow it, one after another.
     fn call(tokenizer: &mut Tokenizer, name: StateName) -> State
         requires current { (world tokenizer.old).current ≡ looks (world tokenizer.old) }
-        requires stands { stands scheme (world tokenizer.old) (State.Next name) }
+        requires valid { valid scheme (world tokenizer.old) (State.Next name) }
         ensures runs { result ≢ State.Error →
             RunsHere step name (world tokenizer.old) result (world tokenizer.new) }
-        ensures stands { result ≢ State.Error → stands scheme (world tokenizer.new) (plain result) }
+        ensures valid { result ≢ State.Error → valid scheme (world tokenizer.new) (plain result) }
         ensures falls { result ≢ State.Error →
             work scheme (world tokenizer.new) (plain result) < work scheme (world tokenizer.old) (State.Next name) }
         ensures setting { result ≢ State.Error → (world tokenizer.new).setting ≡ (world tokenizer.old).setting }
@@ -82,9 +82,9 @@ pub fn leave(tokenizer: &mut Tokenizer, state: State) -> Option<State>
 
 /// Takes what a state that has taken something continues to take, where it stays.
 fn stay<T: Table>(tokenizer: &mut Tokenizer, state: State)
-    requires { stands T.scheme (world tokenizer.old) (plain state) }
+    requires { valid T.scheme (world tokenizer.old) (plain state) }
     ensures runs { (is_end : Bool) → Runs T.step is_end state (world tokenizer.old) state (world tokenizer.new) }
-    ensures stands { stands T.scheme (world tokenizer.new) (plain state) }
+    ensures valid { valid T.scheme (world tokenizer.new) (plain state) }
     ensures falls { work T.scheme (world tokenizer.new) (plain state) ≤
         work T.scheme (world tokenizer.old) (plain state) }
     ensures setting { (world tokenizer.new).setting ≡ (world tokenizer.old).setting }
@@ -108,10 +108,10 @@ fn stay<T: Table>(tokenizer: &mut Tokenizer, state: State)
 #[inline(always)]
 fn call_here<T: Table>(tokenizer: &mut Tokenizer, first: StateName) -> State
     requires current { (world tokenizer.old).current ≡ looks (world tokenizer.old) }
-    requires stands { stands T.scheme (world tokenizer.old) (State.Next first) }
+    requires valid { valid T.scheme (world tokenizer.old) (State.Next first) }
     ensures runs { result ≢ State.Error →
         RunsHere T.step first (world tokenizer.old) result (world tokenizer.new) }
-    ensures stands { result ≢ State.Error → stands T.scheme (world tokenizer.new) (plain result) }
+    ensures valid { result ≢ State.Error → valid T.scheme (world tokenizer.new) (plain result) }
     ensures falls { result ≢ State.Error →
         work T.scheme (world tokenizer.new) (plain result) < work T.scheme (world tokenizer.old) (State.Next first) }
     ensures setting { result ≢ State.Error → (world tokenizer.new).setting ≡ (world tokenizer.old).setting }
@@ -128,11 +128,11 @@ fn call_here<T: Table>(tokenizer: &mut Tokenizer, first: StateName) -> State
 /// Calls states one after another, from that of this name, which sees what is here, until one ends or waits.
 fn call_on<T: Table>(tokenizer: &mut Tokenizer, first: StateName, is_end: bool) -> State
     requires current { (world tokenizer.old).current ≡ looks (world tokenizer.old) }
-    requires stands { stands T.scheme (world tokenizer.old) (State.Next first) }
+    requires valid { valid T.scheme (world tokenizer.old) (State.Next first) }
     ensures runs { result ≢ State.Error →
         RunsFrom T.step is_end first (world tokenizer.old) result (world tokenizer.new) }
     ensures waits { IsWaiting is_end result (world tokenizer.new) }
-    ensures stands { result ≢ State.Error → stands T.scheme (world tokenizer.new) (plain result) }
+    ensures valid { result ≢ State.Error → valid T.scheme (world tokenizer.new) (plain result) }
     ensures falls { result ≢ State.Error →
         work T.scheme (world tokenizer.new) (plain result) < work T.scheme (world tokenizer.old) (State.Next first) }
     ensures setting { result ≢ State.Error → (world tokenizer.new).setting ≡ (world tokenizer.old).setting }
@@ -153,10 +153,10 @@ fn call_on<T: Table>(tokenizer: &mut Tokenizer, first: StateName, is_end: bool) 
 
 /// Goes from state to state until one waits for more of the text, or the last has ended.
 fn run<T: Table>(tokenizer: &mut Tokenizer, start: State, is_end: bool) -> State
-    requires { stands T.scheme (world tokenizer.old) (plain start) }
+    requires { valid T.scheme (world tokenizer.old) (plain start) }
     ensures runs { result ≢ State.Error → Runs T.step is_end start (world tokenizer.old) result (world tokenizer.new) }
     ensures stops { IsStopped is_end result (world tokenizer.new) }
-    ensures stands { result ≢ State.Error → stands T.scheme (world tokenizer.new) (plain result) }
+    ensures valid { result ≢ State.Error → valid T.scheme (world tokenizer.new) (plain result) }
     ensures setting { result ≢ State.Error → (world tokenizer.new).setting ≡ (world tokenizer.old).setting }
 {
     let mut state = start;
@@ -186,11 +186,11 @@ fn run<T: Table>(tokenizer: &mut Tokenizer, start: State, is_end: bool) -> State
 /// A tokenizer that has answered `State::Error` is only dropped.
 pub fn push<T: Table>(tokenizer: &mut Tokenizer, to: usize, state: State) -> State
     requires within { to ≤ length (world tokenizer.old).setting.bytes }
-    requires stands { stands T.scheme (reads_to (world tokenizer.old) to) (plain state) }
+    requires valid { valid T.scheme (reads_to (world tokenizer.old) to) (plain state) }
     ensures runs { result ≢ State.Error →
         Runs T.step false state (reads_to (world tokenizer.old) to) result (world tokenizer.new) }
     ensures stops { IsStopped false result (world tokenizer.new) }
-    ensures stands { result ≢ State.Error → stands T.scheme (world tokenizer.new) (plain result) }
+    ensures valid { result ≢ State.Error → valid T.scheme (world tokenizer.new) (plain result) }
     ensures setting { result ≢ State.Error →
         (world tokenizer.new).setting ≡ (reads_to (world tokenizer.old) to).setting }
 {
@@ -206,7 +206,7 @@ pub fn flush<T: Table>(
     state: State,
     resolve: bool,
 ) -> Result<Subresult, Message>
-    requires { stands T.scheme (world tokenizer.old) (plain state) }
+    requires { valid T.scheme (world tokenizer.old) (plain state) }
     ensures { IfOk result
         (λ found. Flushes T.step T.resolves state (world tokenizer.old) resolve (found_in found)
         (world tokenizer.new)) }

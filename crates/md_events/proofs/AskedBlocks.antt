@@ -16,7 +16,7 @@ use Rattle.md_events.specs.Events.Inline.{Part}
 use Rattle.md_events.specs.Events.Tiles.{parts}
 use Rattle.md_events.proofs.AskedLemmas.{AskedBy, asked-event}
 use Rattle.md_events.proofs.PartsLemmas.{EachPart}
-use Rattle.md_events.proofs.PartWalks.{Walk, Ends, Stays, Begins, GoesOn, unlinked-unwanted, walk-blocks}
+use Rattle.md_events.proofs.PartWalks.{Walk, Ends, Stays, Begins, IsContinued, unlinked-unwanted, walk-blocks}
 use Rattle.md_events.proofs.SubstitutedLemmas.{SubstitutedBy}
 
 -- Event by event.
@@ -45,24 +45,24 @@ stays-unwanted wants e h = go (wanted wants e) h
 
 -- After events that stay.
 
-pub asked-behind : (wants : Content → Bool) (asked : Asked) (front items : List Event) →
+pub asked-following : (wants : Content → Bool) (asked : Asked) (front items : List Event) →
     list_all (stays wants) front ≡ true → EachAsked wants asked 0 (front ++ items) → EachAsked wants asked 0 items
-asked-behind wants asked [] items stay h = h
-asked-behind wants asked (e ∷ front) items stay h =
+asked-following wants asked [] items stay h = h
+asked-following wants asked (e ∷ front) items stay h =
     let both : (stays wants e ≡ true) ×
     (list_all (stays wants) front ≡ true) = and_parts (stays wants e) (list_all (stays wants) front) stay in
-    asked-behind wants asked front items both.1
+    asked-following wants asked front items both.1
     (asked-event wants asked 0 e (front ++ items) (inl (stays-unwanted wants e both.0)) h)
 
-pub substituted-behind : (wants : Content → Bool) (reads : Readings) (front items body : List Event) →
+pub substituted-following : (wants : Content → Bool) (reads : Readings) (front items body : List Event) →
     list_all (stays wants) front ≡ true → Substituted wants reads [] 0 items body →
     Substituted wants reads [] 0 (front ++ items) (front ++ body)
-substituted-behind wants reads [] items body stay s = s
-substituted-behind wants reads (e ∷ front) items body stay s =
+substituted-following wants reads [] items body stay s = s
+substituted-following wants reads (e ∷ front) items body stay s =
     let both : (stays wants e ≡ true) ×
     (list_all (stays wants) front ≡ true) = and_parts (stays wants e) (list_all (stays wants) front) stay in
     substituted-more wants reads [] 0 e (front ++ items) (front ++ body) (stays-unwanted wants e both.0)
-    (substituted-behind wants reads front items body both.1 s)
+    (substituted-following wants reads front items body both.1 s)
 
 -- The parts of a block list.
 
@@ -82,12 +82,12 @@ asked-walk P (Begins {e = e} {f = f} {es = es} {left = left} {held = held} is li
     (λ (list : List Chunk).
     AskedFor P held (chunk_of e f ∷ list) × EachAsked wants_text (AskedFor P) (length list) es) (sym listed)
     (each.0, asked-walk P walk each.1))
-asked-walk P (GoesOn {e = e} {f = f} {es = es} {left = left} is walk) each =
+asked-walk P (IsContinued {e = e} {f = f} {es = es} {left = left} is walk) each =
     subst (AskedBy wants_text (AskedFor P) (suc (length left)) e f es) (sym is.holds) (asked-walk P walk each)
 
 -- each part of a list is among them
 each-among : (all before rest : List Part) → all ≡ before ++ rest →
-    EachPart (λ (part : Part). (front behind : List Part) × (all ≡ front ++ part ∷ behind)) rest
+    EachPart (λ (part : Part). (front following : List Part) × (all ≡ front ++ part ∷ following)) rest
 each-among all before [] is = tt
 each-among all before (part ∷ rest) is = (
   (before, rest, is),
@@ -105,13 +105,13 @@ pub asked-blocks : (document : Document) (blocks : List Event) → AreBlocks doc
     0 blocks
 asked-blocks document blocks are =
     asked-walk (IsTextPart document) (walk-blocks document.bytes blocks are.list)
-    (each-map (λ (part : Part). (front behind : List Part) × (parts blocks ≡ front ++ part ∷ behind))
+    (each-map (λ (part : Part). (front following : List Part) × (parts blocks ≡ front ++ part ∷ following))
     (IsTextPart document)
     (λ part among. record {
       blocks = blocks;
       are = are;
       before = among.0;
-      behind = among.1;
+      following = among.1;
       among = among.2;
     })
     (parts blocks) (each-among (parts blocks) [] (parts blocks) refl))

@@ -5,7 +5,7 @@ use Rattle.std.specs.Prelude.{Option, Some, None, Bool}
 use Rattle.std.specs.List.{prefix_len}
 use Rattle.md_engine.specs.declared.event.Content.{Content}
 use Rattle.md_engine.specs.declared.event.Event.{Event}
-use Rattle.md_events.specs.Substituted.{Asked, Begun, EachAsked, chunk_of, chunks_behind, chunks_from, stays, wanted}
+use Rattle.md_events.specs.Substituted.{Asked, Begun, EachAsked, chunk_of, chunks_after, chunks_from, stays, wanted}
 use Rattle.md_events.proofs.SubstitutedLemmas.{two-left}
 
 -- what may be asked after two events, by what a chunk that begins with the first holds
@@ -14,8 +14,8 @@ AskedBy wants asked chunks e f es o = elim o [
   | None ↦ EachAsked wants asked chunks (f ∷ es)
   | Some content ↦ elim chunks [
     | zero ↦
-        asked content (chunk_of e f ∷ chunks_behind wants es)
-        × EachAsked wants asked (length (chunks_behind wants es)) es
+        asked content (chunk_of e f ∷ chunks_after wants es)
+        × EachAsked wants asked (length (chunks_after wants es)) es
     | suc more ↦ EachAsked wants asked more es
   ]
 ]
@@ -40,10 +40,10 @@ asked-events wants asked n (e ∷ es) each =
     go : (x : Option Content) → wanted wants e ≡ x →
         (EachAsked wants asked n es → EachAsked wants asked n (drop run es)) →
         EachAsked wants asked n (drop (prefix_len (stays wants) (e ∷ es)) (e ∷ es))
-    go None k behind =
+    go None k following =
         let more : 1 + run ≡ suc run = omega arith in
-        rw (k, more) (behind (asked-event wants asked n e es (inl k) each))
-    go (Some held) k behind = rw k each
+        rw (k, more) (following (asked-event wants asked n e es (inl k) each))
+    go (Some held) k following = rw k each
 
 -- an event that stays, as no chunk begins there, and those after it up to the next chunk
 pub asked-stays : (wants : Content → Bool) (asked : Asked) (rest : List Event) (chunks many : ℕ) (e : Event) →
@@ -57,8 +57,10 @@ asked-stays wants asked rest chunks many e first stay count each =
     (asked-event wants asked chunks e (drop 1 rest) stay (subst (EachAsked wants asked chunks) first each))))
 
 -- a part begins, unless chunks of another are left
-pub asked-part : (wants : Content → Bool) (asked : Asked) (rest : List Event) (chunks : ℕ) (d : Event) (content : Content) →
-    1 < length rest → Some content ≡ wanted wants (get_or rest 0 d) → EachAsked wants asked chunks rest → chunks ≡ 0 → asked content (chunks_from wants rest)
+pub asked-part : (wants : Content → Bool) (asked : Asked) (rest : List Event) (chunks : ℕ) (d : Event)
+    (content : Content) →
+    1 < length rest → Some content ≡ wanted wants (get_or rest 0 d) → EachAsked wants asked chunks rest → chunks ≡ 0 →
+    asked content (chunks_from wants rest)
 asked-part wants asked rest chunks d content h some each none =
     let e : Event = get_or rest 0 d in
     let f : Event = get_or rest 1 d in
@@ -94,8 +96,8 @@ asked-next wants asked reads rest left now chunks many chunks_left d content h s
     go : (chunks : ℕ) → Begun reads (length (chunks_from wants (e ∷ f ∷ es))) left chunks now many →
         AskedBy wants asked chunks e f es (Some content) → EachAsked wants asked chunks_left es
     go zero begun each =
-        let all : many ≡ suc (length (chunks_behind wants es)) = begun.1 in
-        let same : length (chunks_behind wants es) ≡ chunks_left = omega (arith, all, one) in
+        let all : many ≡ suc (length (chunks_after wants es)) = begun.1 in
+        let same : length (chunks_after wants es) ≡ chunks_left = omega (arith, all, one) in
         subst (λ (n : ℕ). EachAsked wants asked n es) same each.1
     go (suc more) begun each =
         let all : many ≡ suc more = begun.1 in

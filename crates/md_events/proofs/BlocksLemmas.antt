@@ -6,7 +6,7 @@ use Rattle.md_engine.specs.declared.event.Event.{Event}
 use Rattle.md_engine.specs.declared.event.Name.{Name}
 use Rattle.md_events.specs.Events.Nested.{exit, around}
 use Rattle.md_events.specs.Events.Spelled.{Reading, Text, OpenLeaf, LeafKind, Role, LeafRole, TextRole, Purpose, role}
-use Rattle.md_events.specs.Events.Spelled.{add_block, block_of, finished, fresh, begun, text_to, told, told_at}
+use Rattle.md_events.specs.Events.Spelled.{add_block, block_of, finished, fresh, begun, text_to, recorded, recorded_at}
 use Rattle.md_events.specs.Events.Spelled.{read_enter, read_exit, read}
 use Rattle.md_events.proofs.SpelledLemmas.{Roles, Between, read-append, read-text, text_after}
 
@@ -29,18 +29,19 @@ read-leaf bytes r name kind p q inside leaf is_leaf none found =
     ∙ ap (λ (x : Option OpenLeaf). add_block (block_of leaf) (record r { leaf = x })) (sym none)
 
 -- A text, cut at its container prefixes.
-pub read-told : (bytes : List ℕ) (r : Reading) (name : Name) (purpose : Purpose) (p q : Point) (inside : List Event) →
+pub read-recorded : (bytes : List ℕ) (r : Reading) (name : Name) (purpose : Purpose) (p q : Point)
+    (inside : List Event) →
     role name ≡ TextRole purpose → r.text ≡ None → Roles Between inside →
     let text : Text = text_after bytes (begun p) inside in
     read bytes r (around name p q inside) ≡
-    told purpose (record { spaces = text.spaces; text = text_to bytes q.index text }) r
-read-told bytes r name purpose p q inside tells none between =
+    recorded purpose (record { spaces = text.spaces; text = text_to bytes q.index text }) r
+read-recorded bytes r name purpose p q inside records none between =
     let text : Text = text_after bytes (begun p) inside in
     read-around bytes r name p q inside
-    ∙ ap (λ (x : Role). read_exit bytes x q (read bytes (read_enter bytes x p r) inside)) tells
-    ∙ ap (λ (x : Reading). told_at bytes purpose q x.text x)
+    ∙ ap (λ (x : Role). read_exit bytes x q (read bytes (read_enter bytes x p r) inside)) records
+    ∙ ap (λ (x : Reading). recorded_at bytes purpose q x.text x)
     (read-text bytes (record r { text = Some (begun p) }) (begun p) inside refl between)
     ∙ ap
     (λ (x : Option Text).
-    told purpose (record { spaces = text.spaces; text = text_to bytes q.index text }) (record r { text = x }))
+    recorded purpose (record { spaces = text.spaces; text = text_to bytes q.index text }) (record r { text = x }))
     (sym none)

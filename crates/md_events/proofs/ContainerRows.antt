@@ -351,11 +351,11 @@ unfolding spelled keeps_grammar kind_at
 row-cut-chunk = (refl, refl, refl, search rules, search rules, search rules, search rules)
 
 -- a setext heading after a definition in a quote: "> [a]: b\n> c\n> ="
-abbrev pub behind_definition_text : List ℕ
-behind_definition_text = codes "> [a]: b" ++ 10 ∷ codes "> c" ++ 10 ∷ codes "> ="
+abbrev pub after_definition_text : List ℕ
+after_definition_text = codes "> [a]: b" ++ 10 ∷ codes "> c" ++ 10 ∷ codes "> ="
 
-abbrev pub behind_definition_events : List Event
-behind_definition_events =
+abbrev pub after_definition_events : List Event
+after_definition_events =
     around n.BlockQuote (at 1 1 0) (at 3 4 16)
     (around n.BlockQuotePrefix (at 1 1 0) (at 1 3 2)
     (pair n.BlockQuoteMarker (at 1 1 0) (at 1 2 1)
@@ -386,16 +386,16 @@ behind_definition_events =
     ++ around n.HeadingSetextUnderline (at 3 3 15) (at 3 4 16)
     (pair n.HeadingSetextUnderlineSequence (at 3 3 15) (at 3 4 16))))
 
-abbrev pub behind_definition_tree : t.Blocks
-behind_definition_tree =
+abbrev pub after_definition_tree : t.Blocks
+after_definition_tree =
     t.More
     (t.Quote None
     (t.More (t.Definition (codes "a" ∷ []) (codes "b") None) (t.More (t.Heading 1 (codes "c" ∷ [])) t.End)))
     t.End
 
-row-behind-definition : Row behind_definition_text behind_definition_events behind_definition_tree
+row-following-definition : Row after_definition_text after_definition_events after_definition_tree
 unfolding spelled keeps_grammar kind_at
-row-behind-definition = (refl, refl, refl, search rules, search rules, search rules, search rules)
+row-following-definition = (refl, refl, refl, search rules, search rules, search rules, search rules)
 
 -- a table after a paragraph in a quote, its head a lazy line: "> a\nb|c\n> -|-"
 abbrev pub lazy_head_text : List ℕ

@@ -22,24 +22,24 @@ cut-together (chunk ∷ next ∷ chunks) events some =
     ∙ take-append-drop many events
 
 -- the events that pass are those in front, where the next one fails
-passing-front : (test : Event → Bool) (front behind : List Event) → list_all test front ≡ true →
-    prefix_len test behind ≡ 0 → prefix_len test (front ++ behind) ≡ length front
-passing-front test [] behind all none = none
-passing-front test (e ∷ front) behind all none =
+passing-front : (test : Event → Bool) (front following : List Event) → list_all test front ≡ true →
+    prefix_len test following ≡ 0 → prefix_len test (front ++ following) ≡ length front
+passing-front test [] following all none = none
+passing-front test (e ∷ front) following all none =
     let both : (test e ≡ true) × (list_all test front ≡ true) = and_parts (test e) (list_all test front) all in
-    ap (λ (x : Bool). cond x (1 + prefix_len test (front ++ behind)) 0) both.0
-    ∙ ap (λ (n : ℕ). 1 + n) (passing-front test front behind both.1 none) ∙ omega arith
+    ap (λ (x : Bool). cond x (1 + prefix_len test (front ++ following)) 0) both.0
+    ∙ ap (λ (n : ℕ). 1 + n) (passing-front test front following both.1 none) ∙ omega arith
 
 -- what belongs to a chunk is cut off, where what follows it does not
-pub cut-front : (chunk next : Chunk) (chunks : List Chunk) (front behind : List Event) →
-    list_all (belongs chunk.after.index) front ≡ true → prefix_len (belongs chunk.after.index) behind ≡ 0 →
-    cut_at (chunk ∷ next ∷ chunks) (front ++ behind) ≡ front ∷ cut_at (next ∷ chunks) behind
-cut-front chunk next chunks front behind all none =
-    ap (λ (n : ℕ). take n (front ++ behind) ∷ cut_at (next ∷ chunks) (drop n (front ++ behind)))
-    (passing-front (belongs chunk.after.index) front behind all none)
-    ∙ ap (λ (l : List Event). l ∷ cut_at (next ∷ chunks) (drop (length front) (front ++ behind)))
-    (take-append_seam front behind)
-    ∙ ap (λ (l : List Event). front ∷ cut_at (next ∷ chunks) l) (drop-append_seam front behind)
+pub cut-front : (chunk next : Chunk) (chunks : List Chunk) (front following : List Event) →
+    list_all (belongs chunk.after.index) front ≡ true → prefix_len (belongs chunk.after.index) following ≡ 0 →
+    cut_at (chunk ∷ next ∷ chunks) (front ++ following) ≡ front ∷ cut_at (next ∷ chunks) following
+cut-front chunk next chunks front following all none =
+    ap (λ (n : ℕ). take n (front ++ following) ∷ cut_at (next ∷ chunks) (drop n (front ++ following)))
+    (passing-front (belongs chunk.after.index) front following all none)
+    ∙ ap (λ (l : List Event). l ∷ cut_at (next ∷ chunks) (drop (length front) (front ++ following)))
+    (take-append_seam front following)
+    ∙ ap (λ (l : List Event). front ∷ cut_at (next ∷ chunks) l) (drop-append_seam front following)
 
 -- the last chunk has all that is left
 pub cut-last : (chunk : Chunk) (events : List Event) → cut_at (chunk ∷ []) (events ++ []) ≡ events ∷ []

@@ -7,8 +7,8 @@ use Rattle.md_engine.specs.declared.event.Kind.{Kind}
 use Rattle.md_engine.specs.declared.event.Kind.TheVariants.{Enter, Exit}
 use Rattle.md_engine.specs.declared.event.Name.{Name}
 use Rattle.md_engine.specs.declared.event.Point.{Point}
-use Rattle.md_events.specs.Events.Endings.{Ends, IsLeaf, IsOther, OnLine, EndingPlace, endings_stand_from, ends_rightly}
-use Rattle.md_events.specs.Events.Endings.{is_filled, line_start, on_line, spot_behind}
+use Rattle.md_events.specs.Events.Endings.{Ends, IsLeaf, IsOther, OnLine, EndingPlace, endings_are_right_from}
+use Rattle.md_events.specs.Events.Endings.{ends_as_begun, is_filled, line_start, on_line, spot_after}
 use Rattle.md_events.specs.Events.Nested.{around, exit}
 use Rattle.md_events.proofs.PlacesLemmas.{all-append}
 
@@ -33,16 +33,16 @@ abbrev pub in_leaf : Bool → EndingPlace
 in_leaf filled = record { in_leaf = true; after_leaf = filled }
 
 -- after a leaf, on its last line
-abbrev pub behind_leaf : EndingPlace
-behind_leaf = record { in_leaf = false; after_leaf = true }
+abbrev pub following_leaf : EndingPlace
+following_leaf = record { in_leaf = false; after_leaf = true }
 
 -- events whose endings are, and that lead from here to there
 abbrev pub Leads : EndingPlace → EndingPlace → List Event → Type 0
-Leads s t xs = (ys : List Event) → endings_stand_from s (xs ++ ys) ≡ endings_stand_from t ys
+Leads s t xs = (ys : List Event) → endings_are_right_from s (xs ++ ys) ≡ endings_are_right_from t ys
 
 -- one after the other
 pub leads-append : (s t u : EndingPlace) (xs ys : List Event) → Leads s t xs → Leads t u ys → Leads s u (xs ++ ys)
-leads-append s t u xs ys h k = λ zs. ap (endings_stand_from s) (append_assoc xs ys zs) ∙ h (ys ++ zs) ∙ k zs
+leads-append s t u xs ys h k = λ zs. ap (endings_are_right_from s) (append_assoc xs ys zs) ∙ h (ys ++ zs) ∙ k zs
 
 -- other events lead nowhere, unless a leaf continues over the begin of the line
 pub others-lead : (s : EndingPlace) (xs : List Event) → is_filled s ≡ s.after_leaf → AreOthers xs → Leads s s xs
@@ -54,25 +54,25 @@ others-lead s (e ∷ xs) same h = λ ys.
     one e.kind (on_line e.name) (xs ++ ys) both.0 ∙ others-lead s xs same both.1 ys
   where
     one : (kind : Kind) (x : OnLine) (es : List Event) → is_other x ≡ true →
-        (ends_rightly kind x s && endings_stand_from (spot_behind kind x s) es) ≡ endings_stand_from s es
-    one Enter IsOther es h = ap (λ (filled : Bool). endings_stand_from (record s { after_leaf = filled }) es) same
+        (ends_as_begun kind x s && endings_are_right_from (spot_after kind x s) es) ≡ endings_are_right_from s es
+    one Enter IsOther es h = ap (λ (filled : Bool). endings_are_right_from (record s { after_leaf = filled }) es) same
     one Exit IsOther es h = refl
     one kind IsLeaf es h = cc
     one kind (Ends blank) es h = cc
 
 -- a leaf
 pub leaf-leads : (name : Name) (p q : Point) (inside : List Event) → on_line name ≡ IsLeaf →
-    Leads (in_leaf true) (in_leaf true) inside → Leads line_start behind_leaf (around name p q inside)
+    Leads (in_leaf true) (in_leaf true) inside → Leads line_start following_leaf (around name p q inside)
 leaf-leads name p q inside leaf h = λ ys.
     ap
     (λ (x : OnLine).
-    ends_rightly Enter x line_start
-    && endings_stand_from (spot_behind Enter x line_start) ((inside ++ exit name q ∷ []) ++ ys)) leaf
-    ∙ ap (endings_stand_from (in_leaf true)) (append_assoc inside (exit name q ∷ []) ys)
+    ends_as_begun Enter x line_start
+    && endings_are_right_from (spot_after Enter x line_start) ((inside ++ exit name q ∷ []) ++ ys)) leaf
+    ∙ ap (endings_are_right_from (in_leaf true)) (append_assoc inside (exit name q ∷ []) ys)
     ∙ h (exit name q ∷ ys)
     ∙ ap
     (λ (x : OnLine).
-    ends_rightly Exit x (in_leaf true) && endings_stand_from (spot_behind Exit x (in_leaf true)) ys) leaf
+    ends_as_begun Exit x (in_leaf true) && endings_are_right_from (spot_after Exit x (in_leaf true)) ys) leaf
 
 -- Inside of a leaf.
 
@@ -106,8 +106,8 @@ stays-others (e ∷ xs) h =
     one : (from : Bool) (kind : Kind) (x : OnLine) → is_other x ≡ true →
         (to : Bool) ×
         ((es : List Event) →
-        (ends_rightly kind x (in_leaf from) && endings_stand_from (spot_behind kind x (in_leaf from)) es) ≡
-        endings_stand_from (in_leaf to) es)
+        (ends_as_begun kind x (in_leaf from) && endings_are_right_from (spot_after kind x (in_leaf from)) es) ≡
+        endings_are_right_from (in_leaf to) es)
     one from Enter IsOther h = (true, λ es. refl)
     one from Exit IsOther h = (from, λ es. refl)
     one from kind IsLeaf h = cc

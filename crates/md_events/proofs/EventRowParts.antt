@@ -12,10 +12,10 @@ use Rattle.md_events.specs.Events.Spelled.{spelled}
 use Rattle.md_events.specs.Events.Places.{first_point, are_placed}
 use Rattle.md_events.specs.Events.Nested.{exit, Nested}
 use Rattle.md_events.specs.Events.Inline.{Part, plain_events, plain_chunks, pieces, Covers, together}
-use Rattle.md_events.specs.Events.Endings.{endings_stand}
+use Rattle.md_events.specs.Events.Endings.{endings_are_right}
 use Rattle.md_events.specs.Events.Grammar.{keeps_grammar, plain_text, unread_text}
-use Rattle.md_events.specs.Events.Pieces.{pieces_stand}
-use Rattle.md_events.specs.Events.Tiles.{EachRead, parts, parts_stand, chunks_stand, end_point, filled}
+use Rattle.md_events.specs.Events.Pieces.{are_valid_pieces}
+use Rattle.md_events.specs.Events.Tiles.{EachRead, parts, are_whole_parts, chunks_in_parts, end_point, filled}
 
 -- a point by its line, its column and its byte
 abbrev pub at : ℕ → ℕ → ℕ → Point
@@ -56,19 +56,19 @@ plain bytes blocks = filled blocks (together (plain_lists bytes (parts blocks)))
 
 -- What can be decided of the events of a text: they are at its points, keep the grammar, and each piece, chunk, part
 -- and ending is what its name says, also once the plain layer has read the text parts.
-abbrev pub list_stands : List ℕ → List Event → Bool
-list_stands bytes blocks =
+abbrev pub is_valid_list : List ℕ → List Event → Bool
+is_valid_list bytes blocks =
     let events = plain bytes blocks in
-    are_placed bytes blocks && parts_stand bytes blocks && chunks_stand 0 blocks
+    are_placed bytes blocks && are_whole_parts bytes blocks && chunks_in_parts 0 blocks
     && keeps_grammar unread_text blocks && keeps_grammar plain_text events
-    && pieces_stand bytes (pieces blocks) && pieces_stand bytes (pieces events)
-    && endings_stand blocks && endings_stand events
+    && are_valid_pieces bytes (pieces blocks) && are_valid_pieces bytes (pieces events)
+    && endings_are_right blocks && endings_are_right events
 
 -- What holds of each text: that, its events spell out its tree, before and after the plain layer, they nest and tile
 -- the text, each part is read as it should be, and an empty text has none.
 abbrev pub Row : List ℕ → List Event → t.Blocks → Type 0
 Row bytes blocks tree =
-    IsTrue (list_stands bytes blocks) × (spelled blocks bytes ≡ tree) × (spelled (plain bytes blocks) bytes ≡ tree)
+    IsTrue (is_valid_list bytes blocks) × (spelled blocks bytes ≡ tree) × (spelled (plain bytes blocks) bytes ≡ tree)
     × Nested blocks × Covers first_point (pieces blocks) (end_point bytes)
     × EachRead (λ part events. events ≡ plain_events bytes part) (parts blocks) (plain_lists bytes (parts blocks))
     × (bytes ≡ [] → plain bytes blocks ≡ [])

@@ -68,8 +68,8 @@ feed-none x p small le = (text-follows x x.limit true small (omega arith) (λ e.
 abbrev pub next_column : Point → Point
 next_column p = record p { column = p.column + 1; vs = p.vs + 1 }
 
-abbrev pub behind_last : Point → Point
-behind_last p = record p { column = p.column + 1; index = p.index + 1; vs = 0 }
+abbrev pub after_last : Point → Point
+after_last p = record p { column = p.column + 1; index = p.index + 1; vs = 0 }
 
 -- a later byte, or a later column of the same
 pub before-byte : (p q : Point) → p.index < q.index → IsTrue (at_or_before p q)
@@ -84,7 +84,7 @@ columns_more p = 3 - (p.column + 3) % 4
 
 -- the cells of a tab with so many more columns: its first column is fed as this byte, the others as spaces
 abbrev pub tab_cells : Line → ℕ → ℕ → Point → List Cell
-tab_cells line zero byte p = cell byte (behind_last p) line ∷ []
+tab_cells line zero byte p = cell byte (after_last p) line ∷ []
 tab_cells line (suc n) byte p = cell byte (next_column p) line ∷ tab_cells line n 32 (next_column p)
 
 abbrev pub byte_cells : Line → ℕ → Point → List Cell
@@ -106,7 +106,7 @@ spread line (b ∷ bs) p = byte_cells line b p ++ spread line bs (past_byte b p)
 abbrev pub tab_end : ℕ → Point → Point
 tab_end n p = record { line = p.line; column = p.column + n + 1; index = p.index + 1; vs = 0 }
 
-pub tab_end-last : (p : Point) → behind_last p ≡ tab_end 0 p
+pub tab_end-last : (p : Point) → after_last p ≡ tab_end 0 p
 tab_end-last p =
     ap (λ (c : ℕ). let q : Point = record { line = p.line; column = c; index = p.index + 1; vs = 0 } in q) (omega arith)
 
@@ -116,19 +116,19 @@ tab_end-next n p =
 
 -- a point of a column begins a byte, or lies within a tab
 tab-after : (x : Setting) (p : Point) → slice_index x.bytes p.index ≡ 9 →
-    after x p ≡ cond (not (p.column % 4 == 0)) (next_column p) (behind_last p)
+    after x p ≡ cond (not (p.column % 4 == 0)) (next_column p) (after_last p)
 tab-after x p is = rw is refl
 
 tab-within : (x : Setting) (n : ℕ) (p : Point) → slice_index x.bytes p.index ≡ 9 → suc n ≡ columns_more p →
     after x p ≡ next_column p
 tab-within x n p is e =
     let more : not (p.column % 4 == 0) ≡ true = grind (arith, nat_tests) in
-    tab-after x p is ∙ ap (λ (t : Bool). cond t (next_column p) (behind_last p)) more
+    tab-after x p is ∙ ap (λ (t : Bool). cond t (next_column p) (after_last p)) more
 
-tab-last : (x : Setting) (p : Point) → slice_index x.bytes p.index ≡ 9 → 0 ≡ columns_more p → after x p ≡ behind_last p
+tab-last : (x : Setting) (p : Point) → slice_index x.bytes p.index ≡ 9 → 0 ≡ columns_more p → after x p ≡ after_last p
 tab-last x p is e =
     let none : not (p.column % 4 == 0) ≡ false = grind (arith, nat_tests) in
-    tab-after x p is ∙ ap (λ (t : Bool). cond t (next_column p) (behind_last p)) none
+    tab-after x p is ∙ ap (λ (t : Bool). cond t (next_column p) (after_last p)) none
 
 seen-more : (bytes : List ℕ) (p : Point) → slice_index bytes p.index ≡ 9 → seen_at bytes (next_column p) ≡ 32
 seen-more bytes p is = let more : nat_lt 0 (p.vs + 1) ≡ true = grind (arith, nat_tests) in rw (is, more) refl
@@ -148,7 +148,7 @@ pub tab-feed : (x : Setting) (n : ℕ) (p : Point) → x.limit < 2 ^ 61 → p.in
 tab-feed x zero p small lt is e =
     feed-next x p small lt
     ∙ ap (λ (q : Point). cell (seen_at x.bytes p) q x.line ∷ text_feed x q) (tab-last x p is e)
-    ∙ ap (λ (q : Point). cell (seen_at x.bytes p) (behind_last p) x.line ∷ text_feed x q) (tab_end-last p)
+    ∙ ap (λ (q : Point). cell (seen_at x.bytes p) (after_last p) x.line ∷ text_feed x q) (tab_end-last p)
 tab-feed x (suc n) p small lt is e =
     let q = next_column p in
     feed-next x p small lt

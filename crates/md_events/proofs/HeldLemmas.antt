@@ -14,12 +14,12 @@ use Rattle.md_engine.specs.declared.event.Point.{Point}
 use Rattle.md_events.specs.Events.Held.{Holds, byte_point}
 use Rattle.md_events.specs.Events.Inline.{Covers, Piece, is_linked, is_one_line, piece_of, pieces, pieces_from}
 use Rattle.md_events.specs.Events.Nested.{is_exit}
-use Rattle.md_events.specs.Events.Pieces.{begins_in_tab, ends_in_tab, is_piece_name, piece_rule, piece_stands, piece_text}
-use Rattle.md_events.specs.Events.Pieces.{pieces_stand, stands_over}
+use Rattle.md_events.specs.Events.Pieces.{begins_in_tab, ends_in_tab, is_piece_name, piece_rule, is_valid_piece}
+use Rattle.md_events.specs.Events.Pieces.{piece_text, are_valid_pieces, may_cover}
 use Rattle.md_events.specs.Events.Places.{at_or_before, first_point, same_place}
 use Rattle.md_meaning.specs.Texts.{split_lines}
-use Rattle.md_events.specs.Events.Tiles.{chunks_stand, depth_behind, end_point, is_chunk, is_data, is_part}
-use Rattle.md_events.specs.Events.Tiles.{stands_in_part}
+use Rattle.md_events.specs.Events.Tiles.{chunks_in_parts, depth_following, end_point, is_chunk, is_data, is_part}
+use Rattle.md_events.specs.Events.Tiles.{may_be_in_part}
 
 -- The name of a piece.
 
@@ -38,20 +38,20 @@ over-named None text h = h
 over-named (Some over) text h = refl
 
 -- so each piece that is has the name of one
-piece-named : (bytes : List ℕ) (piece : Piece) → piece_stands bytes piece ≡ true →
+piece-named : (bytes : List ℕ) (piece : Piece) → is_valid_piece bytes piece ≡ true →
     (not piece.linked || is_piece_name piece.name) ≡ true → is_piece_name piece.name ≡ true
 piece-named bytes piece h k = go piece.linked last k
   where
     text : List ℕ
     text = piece_text bytes piece
 
-    last : cond piece.linked (is_one_line (split_lines text) true) (stands_over piece.name text) ≡ true
+    last : cond piece.linked (is_one_line (split_lines text) true) (may_cover piece.name text) ≡ true
     last =
         (and_parts (not (same_place piece.first piece.after) && ((piece.first.vs == 0) || begins_in_tab piece.name)
         && ((piece.after.vs == 0) || ends_in_tab piece.name))
-        (cond piece.linked (is_one_line (split_lines text) true) (stands_over piece.name text)) h).1
+        (cond piece.linked (is_one_line (split_lines text) true) (may_cover piece.name text)) h).1
 
-    go : (linked : Bool) → cond linked (is_one_line (split_lines text) true) (stands_over piece.name text) ≡ true →
+    go : (linked : Bool) → cond linked (is_one_line (split_lines text) true) (may_cover piece.name text) ≡ true →
         (not linked || is_piece_name piece.name) ≡ true → is_piece_name piece.name ≡ true
     go true h k = k
     go false h k = over-named (piece_rule piece.name) text h
@@ -69,7 +69,7 @@ next-holds bytes first rest index h = record {
   among = contains-next h.piece first rest h.among;
   begins = h.begins;
   ends = h.ends;
-  stands = h.stands;
+  valid = h.valid;
   name = h.name;
 }
 
@@ -79,17 +79,17 @@ same-before p q r h k = grind (arith, nat_tests)
 
 -- from a point at the byte or before, to one after its first column
 pieces-hold : (bytes : List ℕ) (from to : Point) (list : List Piece) (index : ℕ) → Covers from list to →
-    pieces_stand bytes list ≡ true → AreNamed list → at_or_before from (byte_point index) ≡ true →
+    are_valid_pieces bytes list ≡ true → AreNamed list → at_or_before from (byte_point index) ≡ true →
     at_or_before to (byte_point index) ≡ false →
     Holds bytes list index
-pieces-hold bytes from to [] index covers stand named h k =
+pieces-hold bytes from to [] index covers are_valid named h k =
     let late : at_or_before to (byte_point index) ≡ true = same-before from to (byte_point index) covers h in cc
-pieces-hold bytes from to (piece ∷ list) index covers stand named h k =
+pieces-hold bytes from to (piece ∷ list) index covers are_valid named h k =
     go (at_or_before piece.after (byte_point index)) refl
-    (λ before. pieces-hold bytes piece.after to list index covers.1 stands.1 names.1 before k)
+    (λ before. pieces-hold bytes piece.after to list index covers.1 valid.1 names.1 before k)
   where
-    stands : (piece_stands bytes piece ≡ true) × (pieces_stand bytes list ≡ true)
-    stands = and_parts (piece_stands bytes piece) (pieces_stand bytes list) stand
+    valid : (is_valid_piece bytes piece ≡ true) × (are_valid_pieces bytes list ≡ true)
+    valid = and_parts (is_valid_piece bytes piece) (are_valid_pieces bytes list) are_valid
 
     names : ((not piece.linked || is_piece_name piece.name) ≡ true) × AreNamed list
     names =
@@ -104,17 +104,17 @@ pieces-hold bytes from to (piece ∷ list) index covers stand named h k =
       among = (0, omega arith, refl);
       begins = same-before from piece.first (byte_point index) covers.0 h;
       ends = ap not e;
-      stands = stands.0;
-      name = piece-named bytes piece stands.0 names.0;
+      valid = valid.0;
+      name = piece-named bytes piece valid.0 names.0;
     }
 
 -- no byte begins before the first point, and none after the last
 first-before : (index : ℕ) → at_or_before first_point (byte_point index) ≡ true
 first-before index = grind (arith, nat_tests)
 
-end-behind : (bytes : List ℕ) (index : ℕ) → index < length bytes →
+end-following : (bytes : List ℕ) (index : ℕ) → index < length bytes →
     at_or_before (end_point bytes) (byte_point index) ≡ false
-end-behind bytes index h = grind (arith, nat_tests)
+end-following bytes index h = grind (arith, nat_tests)
 
 -- Events.
 
@@ -150,12 +150,13 @@ all-called test (e ∷ es) h = pieces-called test e es h
 
 -- Every byte of a text is in a piece of its events.
 pub bytes-held : (bytes : List ℕ) (events : List Event) → Covers first_point (pieces events) (end_point bytes) →
-    pieces_stand bytes (pieces events) ≡ true → list_all is_named events ≡ true → (index : ℕ) → index < length bytes →
+    are_valid_pieces bytes (pieces events) ≡ true → list_all is_named events ≡ true →
+    (index : ℕ) → index < length bytes →
     Holds bytes (pieces events) index
-bytes-held bytes events covers stand named index h =
-    pieces-hold bytes first_point (end_point bytes) (pieces events) index covers stand
+bytes-held bytes events covers are_valid named index h =
+    pieces-hold bytes first_point (end_point bytes) (pieces events) index covers are_valid
     (all-called is_piece_name events named)
-    (first-before index) (end-behind bytes index h)
+    (first-before index) (end-following bytes index h)
 
 -- A block list, where each chunk is called `Data`.
 
@@ -175,44 +176,48 @@ chunk-data e (f ∷ es) h =
     (and_parts (not (is_exit e.kind)) (is_data e.name) named).1
 
 -- an event in a text part, where chunks are only in text parts, and what follows it
-inside-data : (depth : ℕ) (e : Event) (es : List Event) → chunks_stand (suc depth) (e ∷ es) ≡ true →
-    (is_called is_data e ≡ true) × ((behind : ℕ) × (chunks_stand behind es ≡ true))
+inside-data : (depth : ℕ) (e : Event) (es : List Event) → chunks_in_parts (suc depth) (e ∷ es) ≡ true →
+    (is_called is_data e ≡ true) × ((following : ℕ) × (chunks_in_parts following es ≡ true))
 inside-data depth e es h = go (is_part e.name) (is_linked e) h
   where
-    behind : ℕ
-    behind = depth_behind e.kind (suc depth)
+    following : ℕ
+    following = depth_following e.kind (suc depth)
 
     go : (part linked : Bool) →
-        cond part (is_exit e.kind && (depth == 0) && not linked && chunks_stand 0 es)
-        ((cond linked ((depth == 0) && is_chunk e es) (stands_in_part e.kind e.name)) && chunks_stand behind es) ≡
+        cond part (is_exit e.kind && (depth == 0) && not linked && chunks_in_parts 0 es)
+        ((cond linked ((depth == 0) && is_chunk e es) (may_be_in_part e.kind e.name)) && chunks_in_parts following es) ≡
         true →
-        ((not linked || is_data e.name) ≡ true) × ((behind : ℕ) × (chunks_stand behind es ≡ true))
+        ((not linked || is_data e.name) ≡ true) × ((following : ℕ) × (chunks_in_parts following es ≡ true))
     go true linked h =
         let both : (is_exit e.kind && (depth == 0) && not linked ≡ true) ×
-        (chunks_stand 0 es ≡ true) = and_parts (is_exit e.kind && (depth == 0) && not linked)
-        (chunks_stand 0 es) h in (
+        (chunks_in_parts 0 es ≡ true) = and_parts (is_exit e.kind && (depth == 0) && not linked)
+        (chunks_in_parts 0 es) h in (
           or_left (not linked) (is_data e.name)
               (and_parts (is_exit e.kind && (depth == 0)) (not linked) both.0).1,
           (0, both.1),
         )
     go false true h =
         let both : ((depth == 0) && is_chunk e es ≡ true) ×
-        (chunks_stand behind es ≡ true) = and_parts ((depth == 0) && is_chunk e es) (chunks_stand behind es) h in
-        (chunk-data e es (and_parts (depth == 0) (is_chunk e es) both.0).1, (behind, both.1))
-    go false false h = (refl, (behind, (and_parts (stands_in_part e.kind e.name) (chunks_stand behind es) h).1))
+        (chunks_in_parts following es ≡ true) = and_parts ((depth == 0) && is_chunk e es)
+        (chunks_in_parts following es) h in
+        (chunk-data e es (and_parts (depth == 0) (is_chunk e es) both.0).1, (following, both.1))
+    go false false h =
+        (refl, (following, (and_parts (may_be_in_part e.kind e.name) (chunks_in_parts following es) h).1))
 
 -- all events that are read later are called `Data`
-pub chunks-data : (depth : ℕ) (events : List Event) → chunks_stand depth events ≡ true →
+pub chunks-data : (depth : ℕ) (events : List Event) → chunks_in_parts depth events ≡ true →
     list_all (is_called is_data) events ≡ true
 chunks-data depth [] h = refl
 chunks-data zero (e ∷ es) h =
-    let behind : ℕ = cond (is_part e.name && not (is_exit e.kind)) 1 0 in
+    let following : ℕ = cond (is_part e.name && not (is_exit e.kind)) 1 0 in
     let both : (not (is_linked e) ≡ true) ×
-    (chunks_stand behind es ≡ true) = and_parts (not (is_linked e)) (chunks_stand behind es) h in
-    and_from (is_called is_data e) (list_all (is_called is_data) es) (or_left (not (is_linked e)) (is_data e.name) both.0)
-    (chunks-data behind es both.1)
+    (chunks_in_parts following es ≡ true) = and_parts (not (is_linked e)) (chunks_in_parts following es) h in
+    and_from (is_called is_data e) (list_all (is_called is_data) es)
+    (or_left (not (is_linked e)) (is_data e.name) both.0)
+    (chunks-data following es both.1)
 chunks-data (suc depth) (e ∷ es) h =
-    let both : (is_called is_data e ≡ true) × ((behind : ℕ) × (chunks_stand behind es ≡ true)) = inside-data depth e es
+    let both : (is_called is_data e ≡ true) × ((following : ℕ) × (chunks_in_parts following es ≡ true)) =
+    inside-data depth e es
     h in
     and_from (is_called is_data e) (list_all (is_called is_data) es) both.0 (chunks-data both.1.0 es both.1.1)
 
@@ -228,12 +233,14 @@ all-named (e ∷ es) h =
     go true h = data-named e.name h
     go false h = refl
 
-pub chunks-named : (depth : ℕ) (events : List Event) → chunks_stand depth events ≡ true →
+pub chunks-named : (depth : ℕ) (events : List Event) → chunks_in_parts depth events ≡ true →
     list_all is_named events ≡ true
 chunks-named depth events h = all-named events (chunks-data depth events h)
 
 -- So every byte of a text is in a piece of its block list.
 pub blocks-held : (bytes : List ℕ) (blocks : List Event) → Covers first_point (pieces blocks) (end_point bytes) →
-    pieces_stand bytes (pieces blocks) ≡ true → chunks_stand 0 blocks ≡ true → (index : ℕ) → index < length bytes →
+    are_valid_pieces bytes (pieces blocks) ≡ true → chunks_in_parts 0 blocks ≡ true →
+    (index : ℕ) → index < length bytes →
     Holds bytes (pieces blocks) index
-blocks-held bytes blocks covers stand chunks = bytes-held bytes blocks covers stand (chunks-named 0 blocks chunks)
+blocks-held bytes blocks covers are_valid chunks = bytes-held bytes blocks covers are_valid
+    (chunks-named 0 blocks chunks)

@@ -79,12 +79,12 @@ line-next : (bytes : List ℕ) (chunk : Chunk) →
     (rest : List ℕ) × (drop chunk.first.index bytes ≡ without_ending (chunk_text bytes chunk) ++ rest)
 line-next bytes chunk =
     let size : ℕ = chunk.after.index - chunk.first.index in
-    let behind : List ℕ = drop chunk.first.index bytes in
-    let long : ℕ = prefix_len (λ (b : ℕ). not (is_ending b)) (take size behind) in (
-      drop long (take size behind) ++ drop size behind,
-      sym (sym (append_assoc (take long (take size behind)) (drop long (take size behind)) (drop size behind))
-          ∙ ap (λ (l : List ℕ). l ++ drop size behind) (take-append-drop long (take size behind))
-          ∙ take-append-drop size behind),
+    let following : List ℕ = drop chunk.first.index bytes in
+    let long : ℕ = prefix_len (λ (b : ℕ). not (is_ending b)) (take size following) in (
+      drop long (take size following) ++ drop size following,
+      sym (sym (append_assoc (take long (take size following)) (drop long (take size following)) (drop size following))
+          ∙ ap (λ (l : List ℕ). l ++ drop size following) (take-append-drop long (take size following))
+          ∙ take-append-drop size following),
     )
 
 -- it is no longer than the chunk
@@ -92,14 +92,14 @@ pub line-length : (bytes : List ℕ) (chunk : Chunk) →
     length (without_ending (chunk_text bytes chunk)) ≤ chunk.after.index - chunk.first.index
 line-length bytes chunk =
     let size : ℕ = chunk.after.index - chunk.first.index in
-    let behind : List ℕ = drop chunk.first.index bytes in
-    let long : ℕ = prefix_len (λ (b : ℕ). not (is_ending b)) (take size behind) in
-    omega (arith, length-take long (take size behind), length-take size behind)
+    let following : List ℕ = drop chunk.first.index bytes in
+    let long : ℕ = prefix_len (λ (b : ℕ). not (is_ending b)) (take size following) in
+    omega (arith, length-take long (take size following), length-take size following)
 
 -- The end of its line lies in the chunk.
 
-pub end-behind : (bytes : List ℕ) (chunk : Chunk) → IsTrue (at_or_before chunk.first (line_end bytes chunk))
-end-behind bytes chunk = before-text (without_ending (chunk_text bytes chunk)) chunk.first
+pub end-following : (bytes : List ℕ) (chunk : Chunk) → IsTrue (at_or_before chunk.first (line_end bytes chunk))
+end-following bytes chunk = before-text (without_ending (chunk_text bytes chunk)) chunk.first
 
 pub end-before : (bytes : List ℕ) (chunk : Chunk) → IsTrue (at_or_before chunk.first chunk.after) →
     IsTrue (at_or_before (line_end bytes chunk) chunk.after)
@@ -213,7 +213,7 @@ plain-forward : (bytes : List ℕ) (chunk : Chunk) → IsTrue (at_or_before chun
 plain-forward bytes chunk h =
     let end : Point = line_end bytes chunk in
     forward-pair chunk.first n.Data chunk.first end (pair_unless_empty n.LineEnding end chunk.after)
-    (at_or_before-refl chunk.first) (end-behind bytes chunk)
+    (at_or_before-refl chunk.first) (end-following bytes chunk)
     (subst (Forward end) (append-nil (pair_unless_empty n.LineEnding end chunk.after))
     (forward-pair end n.LineEnding end chunk.after [] (at_or_before-refl end) (end-before bytes chunk h) tt))
 
@@ -221,7 +221,7 @@ plain-last : (bytes : List ℕ) (chunk : Chunk) → IsTrue (at_or_before chunk.f
     IsTrue (at_or_before (last_point chunk.first (plain_chunk bytes chunk)) chunk.after)
 plain-last bytes chunk h =
     let end : Point = line_end bytes chunk in
-    last-pair chunk.first n.Data chunk.first end (at_or_before-refl chunk.first) (end-behind bytes chunk)
+    last-pair chunk.first n.Data chunk.first end (at_or_before-refl chunk.first) (end-following bytes chunk)
     (pair_unless_empty n.LineEnding end chunk.after) chunk.after
     (λ o before. subst (λ (l : List Event). IsTrue (at_or_before (last_point o l) chunk.after))
     (append-nil (pair_unless_empty n.LineEnding end chunk.after))
@@ -326,7 +326,8 @@ line-bytes [] p h = let same : same_place p p ≡ true = same-refl p in cc
 line-bytes (b ∷ text) p h = omega (arith, past-index (b ∷ text) p)
 
 -- and so has an ending that does not end within a tab
-ending-bytes : (p q : Point) → IsTrue (at_or_before p q) → (q.vs == 0) ≡ true → same_place p q ≡ false → p.index < q.index
+ending-bytes : (p q : Point) → IsTrue (at_or_before p q) → (q.vs == 0) ≡ true → same_place p q ≡ false →
+    p.index < q.index
 ending-bytes p q h whole apart = grind (arith, nat_tests)
 
 plain-belongs : (bytes : List ℕ) (chunk : Chunk) → IsTrue (at_or_before chunk.first chunk.after) →
@@ -343,9 +344,9 @@ plain-belongs bytes chunk h whole =
     (omega arith))
 
 -- what begins at a chunk's end, or after it
-pair-behind : (end : ℕ) (name : Name) (p q : Point) (rest : List Event) → end ≤ p.index →
+pair-following : (end : ℕ) (name : Name) (p q : Point) (rest : List Event) → end ≤ p.index →
     prefix_len (belongs end) rest ≡ 0 → prefix_len (belongs end) (pair_unless_empty name p q ++ rest) ≡ 0
-pair-behind end name p q rest h none = go (same_place p q)
+pair-following end name p q rest h none = go (same_place p q)
   where
     late : nat_lt p.index end ≡ false
     late = grind (arith, nat_tests)
@@ -354,10 +355,10 @@ pair-behind end name p q rest h none = go (same_place p q)
     go true = none
     go false = ap (λ (x : Bool). cond x (1 + prefix_len (belongs end) (exit name q ∷ rest)) 0) late
 
-plain-behind : (bytes : List ℕ) (end : ℕ) (p : Point) (chunks : List Chunk) → end ≤ p.index →
+plain-following : (bytes : List ℕ) (end : ℕ) (p : Point) (chunks : List Chunk) → end ≤ p.index →
     in_order p chunks ≡ true → prefix_len (belongs end) (together (plain_chunks bytes chunks)) ≡ 0
-plain-behind bytes end p [] h order = refl
-plain-behind bytes end p (chunk ∷ chunks) h order =
+plain-following bytes end p [] h order = refl
+plain-following bytes end p (chunk ∷ chunks) h order =
     let outer : (at_or_before p chunk.first && at_or_before chunk.first chunk.after ≡ true) ×
     (in_order chunk.after chunks ≡ true) = and_parts
     (at_or_before p chunk.first && at_or_before chunk.first chunk.after) (in_order chunk.after chunks) order in
@@ -366,15 +367,15 @@ plain-behind bytes end p (chunk ∷ chunks) h order =
     (at_or_before chunk.first chunk.after) outer.0 in
     let to : Point = line_end bytes chunk in
     let first : p.index ≤ chunk.first.index = index-before p chunk.first inner.0 in
-    let line : chunk.first.index ≤ to.index = index-before chunk.first to (end-behind bytes chunk) in
+    let line : chunk.first.index ≤ to.index = index-before chunk.first to (end-following bytes chunk) in
     let after : chunk.first.index ≤ chunk.after.index = index-before chunk.first chunk.after inner.1 in
     let content : List Event = pair_unless_empty n.Data chunk.first to in
     let ending : List Event = pair_unless_empty n.LineEnding to chunk.after in
     let rest : List Event = together (plain_chunks bytes chunks) in
     ap (prefix_len (belongs end)) (append_assoc content ending rest)
-    ∙ pair-behind end n.Data chunk.first to (ending ++ rest) (omega (arith, h, first))
-    (pair-behind end n.LineEnding to chunk.after rest (omega (arith, h, first, line))
-    (plain-behind bytes end chunk.after chunks (omega (arith, h, first, after)) outer.1))
+    ∙ pair-following end n.Data chunk.first to (ending ++ rest) (omega (arith, h, first))
+    (pair-following end n.LineEnding to chunk.after rest (omega (arith, h, first, line))
+    (plain-following bytes end chunk.after chunks (omega (arith, h, first, after)) outer.1))
 
 pub plain-cut : (bytes : List ℕ) (p : Point) (chunks : List Chunk) → in_order p chunks ≡ true →
     list_all ends_whole chunks ≡ true → cut_at chunks (together (plain_chunks bytes chunks)) ≡ plain_chunks bytes chunks
@@ -391,7 +392,7 @@ plain-cut bytes p (chunk ∷ next ∷ chunks) order whole =
     (list_all ends_whole (next ∷ chunks)) whole in
     cut-front chunk next chunks (plain_chunk bytes chunk) (together (plain_chunks bytes (next ∷ chunks)))
     (plain-belongs bytes chunk inner.1 ends.0)
-    (plain-behind bytes chunk.after.index chunk.after (next ∷ chunks) (omega arith) outer.1)
+    (plain-following bytes chunk.after.index chunk.after (next ∷ chunks) (omega arith) outer.1)
     ∙ ap (λ (l : List (List Event)). plain_chunk bytes chunk ∷ l)
     (plain-cut bytes chunk.after (next ∷ chunks) outer.1 ends.1)
 

@@ -19,11 +19,13 @@ use Rattle.md_events.specs.declared.inline.Chunk.{Chunk}
 use Rattle.md_meaning.specs.Texts.{split_lines}
 use Rattle.md_events.specs.Substituted.{Substituted, chunk_of, share, wanted}
 use Rattle.md_events.specs.TextPart.{text_kind, text_readings, wants_text}
-use Rattle.md_events.specs.Events.Nested.{Balanced, Fits, Forward, exit, is_exit, last_point, open_after, open_behind}
+use Rattle.md_events.specs.Events.Nested.{Balanced, Fits, Forward, exit, is_exit, last_point, open_after}
+use Rattle.md_events.specs.Events.Nested.{open_following}
 use Rattle.md_events.specs.Events.Places.{at_or_before, first_point, same_place}
-use Rattle.md_events.specs.Events.Pieces.{begins_in_tab, ends_in_tab, piece_stands, piece_text, pieces_stand, stands_over}
-use Rattle.md_events.specs.Events.Inline.{Covers, Fills, IsPart, KeepsFrame, Part, Piece, cut_at, is_linked, is_one_line}
-use Rattle.md_events.specs.Events.Inline.{piece_of, pieces, pieces_from, together}
+use Rattle.md_events.specs.Events.Pieces.{begins_in_tab, ends_in_tab, is_valid_piece, piece_text, are_valid_pieces}
+use Rattle.md_events.specs.Events.Pieces.{may_cover}
+use Rattle.md_events.specs.Events.Inline.{Covers, Fills, IsPart, KeepsFrame, Part, Piece, cut_at, is_linked}
+use Rattle.md_events.specs.Events.Inline.{is_one_line, piece_of, pieces, pieces_from, together}
 use Rattle.md_events.specs.Events.Tiles.{EachRead, IsBlockList, Tiles, end_point, filled, filled_from, first_list}
 use Rattle.md_events.specs.Events.Tiles.{further_lists, parts}
 use Rattle.md_events.proofs.CutLemmas.{cut-together}
@@ -31,8 +33,8 @@ use Rattle.md_events.proofs.HeldLemmas.{same-before}
 use Rattle.md_events.proofs.InlineLemmas.{same-trans}
 use Rattle.md_events.proofs.NestedLemmas.{at_or_before-refl, at_or_before-trans}
 use Rattle.md_events.proofs.NestsLemmas.{EachFills, fills-read, no_lists}
-use Rattle.md_events.proofs.PartWalks.{IsLinkedChunk, Walk, Ends, Stays, Begins, GoesOn, starts_exit, starts_linked}
-use Rattle.md_events.proofs.PartWalks.{unlinked-unwanted, walk-blocks}
+use Rattle.md_events.proofs.PartWalks.{IsLinkedChunk, Walk, Ends, Stays, Begins, IsContinued, starts_exit}
+use Rattle.md_events.proofs.PartWalks.{starts_linked, unlinked-unwanted, walk-blocks}
 use Rattle.md_events.proofs.PartsLemmas.{EachPart, parts-are}
 use Rattle.md_events.proofs.SubstitutedLemmas.{SubstitutedBy}
 
@@ -42,7 +44,8 @@ pub filled-unlinked : (e : Event) (es : List Event) (lists : List (List Event)) 
     e ∷ filled_from false es lists ≡ filled_from false (e ∷ es) lists
 filled-unlinked e es lists unlinked =
     ap
-    (λ (x : Bool). cond x (first_list lists ++ filled_from true es (further_lists lists)) (e ∷ filled_from false es lists))
+    (λ (x : Bool). cond x (first_list lists ++ filled_from true es (further_lists lists))
+    (e ∷ filled_from false es lists))
     (sym unlinked)
 
 pub filled-linked : (e f : Event) (es : List Event) (lists : List (List Event)) → is_linked e ≡ true →
@@ -54,7 +57,8 @@ filled-linked e f es lists linked =
     (sym linked)
 
 -- An event that is last stays, and so does one that begins no chunk.
-pub left-alone : (reads : Part → List Event → Type 0) (now : List Event) (chunks : ℕ) (e : Event) (es out : List Event) →
+pub left-alone : (reads : Part → List Event → Type 0) (now : List Event) (chunks : ℕ) (e : Event)
+    (es out : List Event) →
     wanted wants_text e ≡ None → Substituted wants_text (text_readings reads) now chunks (e ∷ es) out →
     (rest : List Event) × (is : out ≡ e ∷ rest) × Substituted wants_text (text_readings reads) now chunks es rest
 left-alone reads now chunks e [] out none s = ([], s, refl)
@@ -77,11 +81,11 @@ reads-walk bytes reads frame (Stays {e = e} {es = es} {left = left} {parts = par
     let next : (rest : List Event) × (is : out ≡ e ∷ rest) ×
     Substituted wants_text (text_readings reads) now (length left) es rest =
     left-alone reads now (length left) e es out (unlinked-unwanted wants_text e unlinked) s in
-    let behind : Reads reads parts left now es next.0 = reads-walk bytes reads frame walk are now next.0 next.2 in (
-      behind.0,
-      behind.1,
-      next.1 ∙ ap (λ (list : List Event). e ∷ list) behind.2
-          ∙ filled-unlinked e es (cut_at left now ++ together behind.0) unlinked,
+    let following : Reads reads parts left now es next.0 = reads-walk bytes reads frame walk are now next.0 next.2 in (
+      following.0,
+      following.1,
+      next.1 ∙ ap (λ (list : List Event). e ∷ list) following.2
+          ∙ filled-unlinked e es (cut_at left now ++ together following.0) unlinked,
     )
 reads-walk bytes reads frame (Begins {e = e} {f = f} {es = es} {left = left} {parts = parts} {held = held} is
     listed walk) are now out s =
@@ -100,19 +104,19 @@ reads-walk bytes reads frame (Begins {e = e} {f = f} {es = es} {left = left} {pa
     let answer : List Event = next.0 in
     let first : List Event = take (share (length left) answer f.point.index) answer in
     let now_on : List Event = drop (share (length left) answer f.point.index) answer in
-    let behind : Reads reads parts left now_on es next.1 =
+    let following : Reads reads parts left now_on es next.1 =
     reads-walk bytes reads frame walk are.1 now_on next.1 next.4 in
     let lists : List (List Event) = cut_at part.chunks answer in (
-      lists ∷ behind.0,
+      lists ∷ following.0,
       (
         (frame part answer are.0 next.2).fills,
         subst (reads part) (sym (cut-together part.chunks answer (omega arith))) next.2,
-        behind.1,
+        following.1,
       ),
-      next.3 ∙ ap (λ (list : List Event). first ++ list) behind.2
-          ∙ filled-linked e f es (lists ++ together behind.0) is.linked,
+      next.3 ∙ ap (λ (list : List Event). first ++ list) following.2
+          ∙ filled-linked e f es (lists ++ together following.0) is.linked,
     )
-reads-walk bytes reads frame (GoesOn {e = e} {f = f} {es = es} {left = left} {parts = parts} {held = held} is
+reads-walk bytes reads frame (IsContinued {e = e} {f = f} {es = es} {left = left} {parts = parts} {held = held} is
     walk) are now out s =
     let next : (rest : List Event) × (is : out ≡ take (share (length left) now f.point.index) now ++ rest)
     × Substituted wants_text (text_readings reads) (drop (share (length left) now f.point.index) now)
@@ -120,12 +124,12 @@ reads-walk bytes reads frame (GoesOn {e = e} {f = f} {es = es} {left = left} {pa
     subst (SubstitutedBy wants_text (text_readings reads) now (suc (length left)) e f es out) is.holds s in
     let first : List Event = take (share (length left) now f.point.index) now in
     let now_on : List Event = drop (share (length left) now f.point.index) now in
-    let behind : Reads reads parts left now_on es next.0 =
+    let following : Reads reads parts left now_on es next.0 =
     reads-walk bytes reads frame walk are now_on next.0 next.2 in (
-      behind.0,
-      behind.1,
-      next.1 ∙ ap (λ (list : List Event). first ++ list) behind.2
-          ∙ filled-linked e f es (cut_at (chunk_of e f ∷ left) now ++ together behind.0) is.linked,
+      following.0,
+      following.1,
+      next.1 ∙ ap (λ (list : List Event). first ++ list) following.2
+          ∙ filled-linked e f es (cut_at (chunk_of e f ∷ left) now ++ together following.0) is.linked,
     )
 
 -- A block list with what a layer reads in the places of the chunks of its text parts tiles the text.
@@ -135,7 +139,8 @@ pub substituted-tiles : (bytes : List ℕ) (reads : Part → List Event → Type
     (tiles : Tiles reads bytes events) × (tiles.blocks ≡ blocks)
 substituted-tiles bytes reads blocks events frame list covers substituted empty =
     let read : Reads reads (parts blocks) [] [] blocks events =
-    reads-walk bytes reads frame (walk-blocks bytes blocks list) (parts-are bytes blocks list) [] events substituted in (
+    reads-walk bytes reads frame (walk-blocks bytes blocks list) (parts-are bytes blocks list) [] events
+    substituted in (
       record {
         blocks = blocks;
         block_list = list;
@@ -233,9 +238,9 @@ last_kind-from kind (e ∷ es) h = h
 -- where nothing is open after some events, the last is an exit
 closed-exit : (names : List Name) (es : List Event) → open_after names es ≡ [] → last_kind Exit es ≡ Exit
 closed-exit names [] h = refl
-closed-exit names (e ∷ es) h = go e.kind h (closed-exit (open_behind names e.kind e.name) es h)
+closed-exit names (e ∷ es) h = go e.kind h (closed-exit (open_following names e.kind e.name) es h)
   where
-    go : (kind : Kind) → open_after (open_behind names kind e.name) es ≡ [] → last_kind Exit es ≡ Exit →
+    go : (kind : Kind) → open_after (open_following names kind e.name) es ≡ [] → last_kind Exit es ≡ Exit →
         last_kind kind es ≡ Exit
     go Exit h rest = rest
     go Enter h rest = by es h rest
@@ -264,40 +269,40 @@ data At (b c : Event) (left : List Chunk) (es : List Event) (from : Point) : Typ
 abbrev Covering : List ℕ → List Chunk → List Event → List Part → Type 0
 Covering bytes left es parts =
     (b c : Event) (from to : Point) (G : List (List Event)) (gs : List (List (List Event))) → Fills left G →
-    last_kind Exit (together G) ≡ Exit → EachFills parts gs → pieces_stand bytes (pieces_from b es) ≡ true →
+    last_kind Exit (together G) ≡ Exit → EachFills parts gs → are_valid_pieces bytes (pieces_from b es) ≡ true →
     Covers from (pieces_from b es) to → At b c left es from →
     Covers from (pieces_from c (filled_from false es (G ++ together gs))) to
 
 -- what follows an event may change, where it is covered as before
 piece-kept : (bytes : List ℕ) (b e : Event) (kind other : Kind) (from to : Point) (xs ys : List Piece) →
-    pieces_stand bytes (piece_of b e kind other ++ xs) ≡ true → Covers from (piece_of b e kind other ++ xs) to →
-    ((o : Point) → pieces_stand bytes xs ≡ true → Covers o xs to → Covers o ys to) →
+    are_valid_pieces bytes (piece_of b e kind other ++ xs) ≡ true → Covers from (piece_of b e kind other ++ xs) to →
+    ((o : Point) → are_valid_pieces bytes xs ≡ true → Covers o xs to → Covers o ys to) →
     Covers from (piece_of b e kind other ++ ys) to
-piece-kept bytes b e Enter Exit from to xs ys stand covers next = (
+piece-kept bytes b e Enter Exit from to xs ys are_valid covers next = (
   covers.0,
-  next e.point (and_parts (piece_stands bytes (record {
+  next e.point (and_parts (is_valid_piece bytes (record {
     name = b.name;
     linked = is_linked b;
     first = b.point;
     after = e.point;
-  })) (pieces_stand bytes xs) stand).1 covers.1,
+  })) (are_valid_pieces bytes xs) are_valid).1 covers.1,
 )
-piece-kept bytes b e Enter Enter from to xs ys stand covers next = next from stand covers
-piece-kept bytes b e Exit other from to xs ys stand covers next = next from stand covers
+piece-kept bytes b e Enter Enter from to xs ys are_valid covers next = next from are_valid covers
+piece-kept bytes b e Exit other from to xs ys are_valid covers next = next from are_valid covers
 
 cover-stays : (bytes : List ℕ) (left : List Chunk) (e : Event) (es : List Event) (parts : List Part) →
     is_linked e ≡ false → (e.kind ≡ Enter → starts_linked es ≡ true → left ≡ []) → Covering bytes left es parts →
     Covering bytes left (e ∷ es) parts
-cover-stays bytes left e es parts unlinked outer covering b c from to G gs fills last each stand covers at =
+cover-stays bytes left e es parts unlinked outer covering b c from to G gs fills last each are_valid covers at =
     subst (λ (list : List Event). Covers from (pieces_from c list) to)
     (filled-unlinked e es (G ++ together gs) unlinked) (go at)
   where
     rest : List Event
     rest = filled_from false es (G ++ together gs)
 
-    next : (o : Point) → pieces_stand bytes (pieces_from e es) ≡ true → Covers o (pieces_from e es) to →
+    next : (o : Point) → are_valid_pieces bytes (pieces_from e es) ≡ true → Covers o (pieces_from e es) to →
         Covers o (pieces_from e rest) to
-    next o stand covers = covering e e o to G gs fills last each stand covers (Same refl outer)
+    next o are_valid covers = covering e e o to G gs fills last each are_valid covers (Same refl outer)
 
     cut : (kind other : Kind) → (is_exit other ≡ true → kind ≡ Exit) → Covers from (pieces_from e rest) to →
         Covers from (piece_of c e kind other ++ pieces_from e rest) to
@@ -308,12 +313,12 @@ cover-stays bytes left e es parts unlinked outer covering b c from to G gs fills
     go : At b c left (e ∷ es) from → Covers from (piece_of c e c.kind e.kind ++ pieces_from e rest) to
     go (Same same inner) =
         subst (λ (d : Event). Covers from (piece_of d e d.kind e.kind ++ pieces_from e rest) to) same
-        (piece-kept bytes b e b.kind e.kind from to (pieces_from e es) (pieces_from e rest) stand covers next)
+        (piece-kept bytes b e b.kind e.kind from to (pieces_from e es) (pieces_from e rest) are_valid covers next)
     go (Cut exits place ends) =
         cut c.kind e.kind ends
         (next from
         (subst
-        (λ (kind : Kind). pieces_stand bytes (piece_of b e kind e.kind ++ pieces_from e es) ≡ true) exits stand)
+        (λ (kind : Kind). are_valid_pieces bytes (piece_of b e kind e.kind ++ pieces_from e es) ≡ true) exits are_valid)
         (subst (λ (kind : Kind). Covers from (piece_of b e kind e.kind ++ pieces_from e es) to) exits covers))
 
 -- a chunk is a piece
@@ -333,26 +338,27 @@ chunk-piece b e f es enters exits =
     none Exit = refl
 
 -- and it is not empty
-piece-apart : (bytes : List ℕ) (piece : Piece) → piece_stands bytes piece ≡ true →
+piece-apart : (bytes : List ℕ) (piece : Piece) → is_valid_piece bytes piece ≡ true →
     same_place piece.first piece.after ≡ false
 piece-apart bytes piece h =
     let kinds : (not (same_place piece.first piece.after) && ((piece.first.vs == 0) || begins_in_tab piece.name)
     && ((piece.after.vs == 0) || ends_in_tab piece.name) ≡
     true) ×
     (cond piece.linked (is_one_line (split_lines (piece_text bytes piece)) true)
-    (stands_over piece.name (piece_text bytes piece)) ≡
+    (may_cover piece.name (piece_text bytes piece)) ≡
     true) =
     and_parts (not (same_place piece.first piece.after) && ((piece.first.vs == 0) || begins_in_tab piece.name)
     && ((piece.after.vs == 0) || ends_in_tab piece.name))
     (cond piece.linked (is_one_line (split_lines (piece_text bytes piece)) true)
-    (stands_over piece.name (piece_text bytes piece))) h in
+    (may_cover piece.name (piece_text bytes piece))) h in
     let points : (not (same_place piece.first piece.after) && ((piece.first.vs == 0) || begins_in_tab piece.name) ≡
     true) ×
     ((piece.after.vs == 0) || ends_in_tab piece.name ≡ true) =
     and_parts (not (same_place piece.first piece.after) && ((piece.first.vs == 0) || begins_in_tab piece.name))
     ((piece.after.vs == 0) || ends_in_tab piece.name) kinds.0 in
     not-true (same_place piece.first piece.after)
-    (and_parts (not (same_place piece.first piece.after)) ((piece.first.vs == 0) || begins_in_tab piece.name) points.0).0
+    (and_parts (not (same_place piece.first piece.after))
+    ((piece.first.vs == 0) || begins_in_tab piece.name) points.0).0
 
 -- Where a chunk was, something does that covers it, and begins with an exit only where what was before it is covered to
 -- the same place.
@@ -361,10 +367,10 @@ cover-filled : (bytes : List ℕ) (left : List Chunk) (e f : Event) (es : List E
     (b c : Event) (from to : Point) →
     IsLinkedChunk e f es left held → Covering bytes left es parts → Fills (chunk_of e f ∷ left) ((l ∷ L) ∷ G) →
     last_kind l.kind (L ++ together G) ≡ Exit → EachFills parts gs →
-    pieces_stand bytes (pieces_from b (e ∷ f ∷ es)) ≡ true → Covers from (pieces_from b (e ∷ f ∷ es)) to →
+    are_valid_pieces bytes (pieces_from b (e ∷ f ∷ es)) ≡ true → Covers from (pieces_from b (e ∷ f ∷ es)) to →
     (c.kind ≡ Enter → l.kind ≡ Exit → same_place from c.point ≡ true) →
     Covers from (pieces_from c (filled_from false (e ∷ f ∷ es) ((l ∷ L) ∷ (G ++ together gs)))) to
-cover-filled bytes left e f es parts held l L G gs b c from to is covering fills last each stand covers joins =
+cover-filled bytes left e f es parts held l L G gs b c from to is covering fills last each are_valid covers joins =
     subst (λ (list : List Event). Covers from (pieces_from c list) to)
     (filled-linked e f es ((l ∷ L) ∷ (G ++ together gs)) is.linked) (go c.kind l.kind joins)
   where
@@ -377,10 +383,11 @@ cover-filled bytes left e f es parts held l L G gs b c from to is covering fills
     end : Event
     end = last_event l L
 
-    stands : (piece_stands bytes piece ≡ true) × (pieces_stand bytes (pieces_from f es) ≡ true)
-    stands =
-        and_parts (piece_stands bytes piece) (pieces_stand bytes (pieces_from f es))
-        (subst (λ (list : List Piece). pieces_stand bytes list ≡ true) (chunk-piece b e f es is.enters is.exits) stand)
+    valid : (is_valid_piece bytes piece ≡ true) × (are_valid_pieces bytes (pieces_from f es) ≡ true)
+    valid =
+        and_parts (is_valid_piece bytes piece) (are_valid_pieces bytes (pieces_from f es))
+        (subst (λ (list : List Piece). are_valid_pieces bytes list ≡ true)
+        (chunk-piece b e f es is.enters is.exits) are_valid)
 
     covered : IsTrue (same_place from e.point) × Covers f.point (pieces_from f es) to
     covered = subst (λ (list : List Piece). Covers from list to) (chunk-piece b e f es is.enters is.exits) covers
@@ -388,26 +395,28 @@ cover-filled bytes left e f es parts held l L G gs b c from to is covering fills
     starts : same_place l.point e.point ≡ true
     starts =
         both-before l.point e.point
-        (covers-first e.point f.point l L (piece-apart bytes piece stands.0) fills.0.1 fills.2) fills.0.0
+        (covers-first e.point f.point l L (piece-apart bytes piece valid.0) fills.0.1 fills.2) fills.0.0
 
     place : same_place f.point end.point ≡ true
     place =
         subst (λ (p : Point). same_place f.point p ≡ true) (sym (last-point l L))
-        (both-before f.point (last_point l.point L) (covers-last e.point f.point l L fills.0.0 fills.0.1 fills.2) fills.1)
+        (both-before f.point (last_point l.point L)
+        (covers-last e.point f.point l L fills.0.0 fills.0.1 fills.2) fills.1)
 
-    behind : last_kind (last_kind l.kind L) (together G) ≡ Exit
-    behind = sym (last_kind-append l.kind L (together G)) ∙ last
+    following : last_kind (last_kind l.kind L) (together G) ≡ Exit
+    following = sym (last_kind-append l.kind L (together G)) ∙ last
 
     ends : starts_exit es ≡ true → end.kind ≡ Exit
     ends h =
         let none : G ≡ [] = no_lists G (subst (λ (list : List Chunk). Fills list G) (is.last h) fills.3) in
         sym (last_kind-event l L)
-        ∙ subst (λ (G : List (List Event)). last_kind (last_kind l.kind L) (together G) ≡ Exit) none behind
+        ∙ subst (λ (G : List (List Event)). last_kind (last_kind l.kind L) (together G) ≡ Exit) none following
 
     whole : Covers e.point (pieces_from l (L ++ rest)) to
     whole =
         covers-append e.point f.point to l L rest fills.2
-        (covering f end f.point to G gs fills.3 (last_kind-from (last_kind l.kind L) (together G) behind) each stands.1
+        (covering f end f.point to G gs fills.3
+        (last_kind-from (last_kind l.kind L) (together G) following) each valid.1
         covered.1 (Cut is.exits place ends))
 
     go : (kind other : Kind) → (kind ≡ Enter → other ≡ Exit → same_place from c.point ≡ true) →
@@ -422,18 +431,18 @@ cover-chunk : (bytes : List ℕ) (left : List Chunk) (e f : Event) (es : List Ev
     (b c : Event) (from to : Point) →
     IsLinkedChunk e f es left held → Covering bytes left es parts → Fills (chunk_of e f ∷ left) (events ∷ G) →
     last_kind Exit (events ++ together G) ≡ Exit → EachFills parts gs →
-    pieces_stand bytes (pieces_from b (e ∷ f ∷ es)) ≡ true → Covers from (pieces_from b (e ∷ f ∷ es)) to →
+    are_valid_pieces bytes (pieces_from b (e ∷ f ∷ es)) ≡ true → Covers from (pieces_from b (e ∷ f ∷ es)) to →
     (c.kind ≡ Enter → starts_exit events ≡ true → same_place from c.point ≡ true) →
     Covers from (pieces_from c (filled_from false (e ∷ f ∷ es) (events ∷ (G ++ together gs)))) to
-cover-chunk bytes left e f es parts held [] G gs b c from to is covering fills last each stand covers joins =
+cover-chunk bytes left e f es parts held [] G gs b c from to is covering fills last each are_valid covers joins =
     let piece : Piece = record { name = e.name; linked = is_linked e; first = e.point; after = f.point } in
-    let stands : piece_stands bytes piece ≡ true = (and_parts (piece_stands bytes piece)
-    (pieces_stand bytes (pieces_from f es))
-    (subst (λ (list : List Piece). pieces_stand bytes list ≡ true)
-    (chunk-piece b e f es is.enters is.exits) stand)).0 in
-    let no : false ≡ true = sym (piece-apart bytes piece stands) ∙ fills.2 in cc
-cover-chunk bytes left e f es parts held (l ∷ L) G gs b c from to is covering fills last each stand covers joins =
-    cover-filled bytes left e f es parts held l L G gs b c from to is covering fills last each stand covers
+    let valid : is_valid_piece bytes piece ≡ true = (and_parts (is_valid_piece bytes piece)
+    (are_valid_pieces bytes (pieces_from f es))
+    (subst (λ (list : List Piece). are_valid_pieces bytes list ≡ true)
+    (chunk-piece b e f es is.enters is.exits) are_valid)).0 in
+    let no : false ≡ true = sym (piece-apart bytes piece valid) ∙ fills.2 in cc
+cover-chunk bytes left e f es parts held (l ∷ L) G gs b c from to is covering fills last each are_valid covers joins =
+    cover-filled bytes left e f es parts held l L G gs b c from to is covering fills last each are_valid covers
     (λ enters exits. joins enters (ap is_exit exits))
 
 -- the first chunk of a part
@@ -441,15 +450,18 @@ cover-begins : (bytes : List ℕ) (left : List Chunk) (e f : Event) (es : List E
     (held : Content) →
     IsLinkedChunk e f es left held → Covering bytes left es parts →
     Covering bytes [] (e ∷ f ∷ es) ((record { kind = text_kind held; chunks = chunk_of e f ∷ left }) ∷ parts)
-cover-begins bytes left e f es parts held is covering b c from to (events ∷ G) gs fills last each stand covers at =
+cover-begins bytes left e f es parts held is covering b c from to (events ∷ G) gs fills last each are_valid covers at =
     absurd fills
-cover-begins bytes left e f es parts held is covering b c from to [] [] fills last each stand covers at = absurd each
-cover-begins bytes left e f es parts held is covering b c from to [] ([] ∷ gs) fills last each stand covers at =
+cover-begins bytes left e f es parts held is covering b c from to [] [] fills last each are_valid covers
+    at = absurd each
+cover-begins bytes left e f es parts held is covering b c from to [] ([] ∷ gs) fills last each are_valid covers at =
     absurd each.0
-cover-begins bytes left e f es parts held is covering b c from to [] ((events ∷ G) ∷ gs) fills last each stand covers
+cover-begins bytes left e f es parts held is covering b c from to [] ((events ∷ G) ∷ gs) fills last each
+    are_valid covers
     at =
     cover-chunk bytes left e f es parts held events G gs b c from to is covering each.0
-    (closed-exit [] (events ++ together G) each.1.closed) each.2 stand covers (λ enters exits. first events each.1 exits)
+    (closed-exit [] (events ++ together G) each.1.closed) each.2 are_valid covers
+    (λ enters exits. first events each.1 exits)
   where
     first : (events : List Event) → Balanced (events ++ together G) → starts_exit events ≡ true →
         same_place from c.point ≡ true
@@ -458,14 +470,15 @@ cover-begins bytes left e f es parts held is covering b c from to [] ((events �
         let no : true ≡ false = sym exits ∙ ap is_exit (balanced-enter l (L ++ together G) balanced) in cc
 
 -- a further one
-cover-goes_on : (bytes : List ℕ) (left : List Chunk) (e f : Event) (es : List Event) (parts : List Part)
+cover-is_continued : (bytes : List ℕ) (left : List Chunk) (e f : Event) (es : List Event) (parts : List Part)
     (held : Content) →
     IsLinkedChunk e f es left held → Covering bytes left es parts →
     Covering bytes (chunk_of e f ∷ left) (e ∷ f ∷ es) parts
-cover-goes_on bytes left e f es parts held is covering b c from to [] gs fills last each stand covers at =
+cover-is_continued bytes left e f es parts held is covering b c from to [] gs fills last each are_valid covers at =
     absurd fills
-cover-goes_on bytes left e f es parts held is covering b c from to (events ∷ G) gs fills last each stand covers at =
-    cover-chunk bytes left e f es parts held events G gs b c from to is covering fills last each stand covers
+cover-is_continued bytes left e f es parts held is covering b c from to (events ∷ G) gs fills last each
+    are_valid covers at =
+    cover-chunk bytes left e f es parts held events G gs b c from to is covering fills last each are_valid covers
     (joins at)
   where
     joins : At b c (chunk_of e f ∷ left) (e ∷ f ∷ es) from → c.kind ≡ Enter → starts_exit events ≡ true →
@@ -475,13 +488,13 @@ cover-goes_on bytes left e f es parts held is covering b c from to (events ∷ G
 
 cover-walk : (bytes : List ℕ) {left : List Chunk} {es : List Event} {parts : List Part} → Walk left es parts →
     Covering bytes left es parts
-cover-walk bytes Ends = λ b c from to G gs fills last each stand covers at. covers
+cover-walk bytes Ends = λ b c from to G gs fills last each are_valid covers at. covers
 cover-walk bytes (Stays {e = e} {es = es} {left = left} {parts = parts} unlinked outer walk) =
     cover-stays bytes left e es parts unlinked outer (cover-walk bytes walk)
 cover-walk bytes (Begins {e = e} {f = f} {es = es} {left = left} {parts = parts} {held = held} is listed walk) =
     cover-begins bytes left e f es parts held is (cover-walk bytes walk)
-cover-walk bytes (GoesOn {e = e} {f = f} {es = es} {left = left} {parts = parts} {held = held} is walk) =
-    cover-goes_on bytes left e f es parts held is (cover-walk bytes walk)
+cover-walk bytes (IsContinued {e = e} {f = f} {es = es} {left = left} {parts = parts} {held = held} is walk) =
+    cover-is_continued bytes left e f es parts held is (cover-walk bytes walk)
 
 -- The innermost pairs of what tiles lie side by side from the first byte to the last, whatever the layer.
 pub tiles-cover : (bytes : List ℕ) (reads : Part → List Event → Type 0) (events : List Event) →
@@ -495,7 +508,7 @@ tiles-cover bytes reads events frame tiles =
     tiles.lists tt refl
     (fills-read bytes reads frame (parts tiles.blocks) tiles.lists (parts-are bytes tiles.blocks tiles.block_list)
     tiles.each)
-    (subst (λ (list : List Piece). pieces_stand bytes list ≡ true) (same tiles.blocks) tiles.block_list.pieces_are)
+    (subst (λ (list : List Piece). are_valid_pieces bytes list ≡ true) (same tiles.blocks) tiles.block_list.pieces_are)
     (subst (λ (list : List Piece). Covers first_point list (end_point bytes)) (same tiles.blocks) tiles.covers)
     (Same refl (λ enters starts. refl))))
   where

@@ -20,7 +20,7 @@ use Rattle.md_events.specs.WholeLine.{bytes_on, line_taken, whole_line}
 
 -- the next byte begins after what is in a line, which is a byte where one begins
 record SeesByte (x : Setting) (p : Point) (b : ℕ) : Type 0 where
-  pub behind : whole_from (after x p) ≡ p.index + 1
+  pub following : whole_from (after x p) ≡ p.index + 1
   pub byte : p.vs ≡ 0 → slice_index x.bytes p.index ≡ b
 
 sees-byte : (x : Setting) (p : Point) (b : ℕ) → nat_eq b 10 ≡ false → looks_at x p ≡ Some b → SeesByte x p b
@@ -39,12 +39,12 @@ sees-byte x p b line e = go (nat_lt p.index x.limit) e
     plain true z t k l m is =
         let bad : nat_eq 10 10 ≡ false = subst (λ (n : ℕ). nat_eq n 10 ≡ false) (sym is) line in cc
     plain false false t k l m is =
-        record { behind = rw (k, l) refl; byte = seen false (nat_lt 0 p.vs) refl is }
+        record { following = rw (k, l) refl; byte = seen false (nat_lt 0 p.vs) refl is }
     plain false true true k l m is =
-        record { behind = rw (k, l, m) refl; byte = seen true (nat_lt 0 p.vs) refl is }
+        record { following = rw (k, l, m) refl; byte = seen true (nat_lt 0 p.vs) refl is }
     plain false true false k l m is =
         let more : nat_lt 0 (p.vs + 1) ≡ true = grind (arith, nat_tests) in
-        record { behind = rw (k, l, m, more) refl; byte = seen true (nat_lt 0 p.vs) refl is }
+        record { following = rw (k, l, m, more) refl; byte = seen true (nat_lt 0 p.vs) refl is }
 
     go : (y : Bool) → cond y (Some (seen_at x.bytes p)) None ≡ Some b → SeesByte x p b
     go true e =
@@ -61,9 +61,9 @@ whole-least p = go (nat_lt 0 p.vs)
     go false = omega arith
 
 -- after what is taken it comes no earlier
-pub whole-behind : (x : Setting) (p : Point) (b : ℕ) → nat_eq b 10 ≡ false → looks_at x p ≡ Some b →
+pub whole-following : (x : Setting) (p : Point) (b : ℕ) → nat_eq b 10 ≡ false → looks_at x p ≡ Some b →
     whole_from p ≤ whole_from (after x p)
-whole-behind x p b line e = rw (sees-byte x p b line e).behind (whole-least p)
+whole-following x p b line e = rw (sees-byte x p b line e).following (whole-least p)
 
 -- of a text one byte more
 bytes-more : (bytes : List ℕ) (from at b : ℕ) → from ≤ at → slice_index bytes at ≡ b →
@@ -89,10 +89,10 @@ taken-more x s p c cs le next is line = go (nat_lt 0 p.vs) refl
     saw : SeesByte x p c.byte
     saw = sees-byte x p c.byte line is
 
-    behind : line_taken x.bytes s c.after ≡ bytes_on x.bytes s.start (p.index + 1 - s.start)
-    behind =
+    following : line_taken x.bytes s c.after ≡ bytes_on x.bytes s.start (p.index + 1 - s.start)
+    following =
         ap (λ (q : Point). line_taken x.bytes s q) next
-        ∙ ap (λ (i : ℕ). bytes_on x.bytes s.start (i - s.start)) saw.behind
+        ∙ ap (λ (i : ℕ). bytes_on x.bytes s.start (i - s.start)) saw.following
 
     rest : List ℕ
     rest = whole_line c.after cs
@@ -103,7 +103,7 @@ taken-more x s p c cs le next is line = go (nat_lt 0 p.vs) refl
         let inside : nat_eq p.vs 0 ≡ false = grind (arith, nat_tests) in
         let here : line_taken x.bytes s p ≡ bytes_on x.bytes s.start (p.index + 1 - s.start) = rw k refl in
         let none : whole_line p (c ∷ cs) ≡ rest = rw (line, inside) refl in
-        ap₂ (λ (a b : List ℕ). a ++ b) (here ∙ sym behind) none
+        ap₂ (λ (a b : List ℕ). a ++ b) (here ∙ sym following) none
     go false k =
         let begins : p.vs ≡ 0 = grind (arith, nat_tests) in
         let first : nat_eq p.vs 0 ≡ true = rw begins refl in
@@ -113,7 +113,7 @@ taken-more x s p c cs le next is line = go (nat_lt 0 p.vs) refl
         ap₂ (λ (a b : List ℕ). a ++ b) here one
         ∙ sym (append_assoc (bytes_on x.bytes s.start (p.index - s.start)) (c.byte ∷ []) rest)
         ∙ ap (λ (a : List ℕ). a ++ rest)
-        (sym (bytes-more x.bytes s.start p.index c.byte from (saw.byte begins)) ∙ sym behind)
+        (sym (bytes-more x.bytes s.start p.index c.byte from (saw.byte begins)) ∙ sym following)
 
 -- All of it is in the text.
 

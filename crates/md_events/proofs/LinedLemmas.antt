@@ -17,7 +17,8 @@ use Rattle.md_events.specs.Events.Places.{at_or_before}
 use Rattle.md_events.specs.Events.Prefix.{is_prefix}
 use Rattle.md_events.specs.Lined.{AreLines, BeginsWith, EachLine, IsLine, ReadsLines, lined}
 use Rattle.md_events.specs.Parts.{ArePlaced}
-use Rattle.md_events.specs.Substituted.{Asked, EachAsked, Readings, Substituted, chunk_of, chunks_behind, share, stays, wanted}
+use Rattle.md_events.specs.Substituted.{Asked, EachAsked, Readings, Substituted, chunk_of, chunks_after, share, stays}
+use Rattle.md_events.specs.Substituted.{wanted}
 use Rattle.md_events.proofs.AskedLemmas.{AskedBy}
 use Rattle.md_events.proofs.InlineLemmas.{plain-cut}
 use Rattle.md_events.proofs.SubstitutedLemmas.{SubstitutedBy}
@@ -77,21 +78,21 @@ line-share bytes chunk chunks are =
 -- Which events are read.
 
 -- the chunks that continue a part after an event with no chunk
-none-behind : (wants : Content → Bool) (e f : Event) (es : List Event) → wanted wants e ≡ None →
-    chunks_behind wants (e ∷ f ∷ es) ≡ cond (is_prefix e.name) (chunks_behind wants (f ∷ es)) []
-none-behind wants e f es none =
+none-following : (wants : Content → Bool) (e f : Event) (es : List Event) → wanted wants e ≡ None →
+    chunks_after wants (e ∷ f ∷ es) ≡ cond (is_prefix e.name) (chunks_after wants (f ∷ es)) []
+none-following wants e f es none =
     ap
     (λ (o : Option Content).
-    cond (is_some o) (chunk_of e f ∷ chunks_behind wants es) (cond (is_prefix e.name) (chunks_behind wants (f ∷ es)) []))
+    cond (is_some o) (chunk_of e f ∷ chunks_after wants es) (cond (is_prefix e.name) (chunks_after wants (f ∷ es)) []))
     none
 
 -- and with one
-some-behind : (wants : Content → Bool) (e f : Event) (es : List Event) (held : Content) →
-    wanted wants e ≡ Some held → chunks_behind wants (e ∷ f ∷ es) ≡ chunk_of e f ∷ chunks_behind wants es
-some-behind wants e f es held some =
+some-following : (wants : Content → Bool) (e f : Event) (es : List Event) (held : Content) →
+    wanted wants e ≡ Some held → chunks_after wants (e ∷ f ∷ es) ≡ chunk_of e f ∷ chunks_after wants es
+some-following wants e f es held some =
     ap
     (λ (o : Option Content).
-    cond (is_some o) (chunk_of e f ∷ chunks_behind wants es) (cond (is_prefix e.name) (chunks_behind wants (f ∷ es)) []))
+    cond (is_some o) (chunk_of e f ∷ chunks_after wants es) (cond (is_prefix e.name) (chunks_after wants (f ∷ es)) []))
     some
 
 -- of a part that has begun, these chunks are ahead, and these events are left
@@ -108,7 +109,7 @@ record ReadLined (wants : Content → Bool) (bytes : List ℕ) (reads : Readings
 
 lined-reads : (wants : Content → Bool) (bytes : List ℕ) (asked : Asked) (reads : Readings) →
     ReadsLines bytes asked reads → (left : List Event) (count : ℕ) (events : List Event) →
-    EachAsked wants asked count events → (0 < count → Ahead bytes left count (chunks_behind wants events)) →
+    EachAsked wants asked count events → (0 < count → Ahead bytes left count (chunks_after wants events)) →
     ReadLined wants bytes reads left count events
 lined-reads wants bytes asked reads law left count [] asks ahead = record { substituted = refl; each = tt }
 lined-reads wants bytes asked reads law left count (e ∷ []) asks ahead = record { substituted = refl; each = tt }
@@ -120,28 +121,28 @@ lined-reads wants bytes asked reads law left count (e ∷ f ∷ es) asks ahead =
     chunk : Chunk
     chunk = chunk_of e f
 
-    behind : List Chunk
-    behind = chunks_behind wants es
+    following : List Chunk
+    following = chunks_after wants es
 
     -- the chunks ahead stay the same after an event of a prefix, and there are none after another
     pass : (x : Bool) (left : List Event) (count : ℕ) → 0 < count →
-        Ahead bytes left count (cond x (chunks_behind wants (f ∷ es)) []) →
-        Ahead bytes left count (chunks_behind wants (f ∷ es))
+        Ahead bytes left count (cond x (chunks_after wants (f ∷ es)) []) →
+        Ahead bytes left count (chunks_after wants (f ∷ es))
     pass true left count some ahead = ahead
     pass false left count some ahead = absurd (omega (arith, ahead.many))
 
     go : (o : Option Content) → wanted wants e ≡ o → (left : List Event) (count : ℕ) →
         EachAsked wants asked count (e ∷ f ∷ es) →
-        (0 < count → Ahead bytes left count (chunks_behind wants (e ∷ f ∷ es))) →
+        (0 < count → Ahead bytes left count (chunks_after wants (e ∷ f ∷ es))) →
         ((l : List Event) (n : ℕ) → EachAsked wants asked n (f ∷ es) →
-        (0 < n → Ahead bytes l n (chunks_behind wants (f ∷ es))) → ReadLined wants bytes reads l n (f ∷ es)) →
+        (0 < n → Ahead bytes l n (chunks_after wants (f ∷ es))) → ReadLined wants bytes reads l n (f ∷ es)) →
         ((l : List Event) (n : ℕ) → EachAsked wants asked n es →
-        (0 < n → Ahead bytes l n (chunks_behind wants es)) → ReadLined wants bytes reads l n es) →
+        (0 < n → Ahead bytes l n (chunks_after wants es)) → ReadLined wants bytes reads l n es) →
         ReadLined wants bytes reads left count (e ∷ f ∷ es)
     go None k left count asks ahead next later =
         let read = next left count (subst (AskedBy wants asked count e f es) k asks)
         (λ some. pass (is_prefix e.name) left count some
-        (subst (Ahead bytes left count) (none-behind wants e f es k) (ahead some))) in
+        (subst (Ahead bytes left count) (none-following wants e f es k) (ahead some))) in
         record {
           substituted =
               subst (SubstitutedBy wants reads left count e f es (lined wants bytes (e ∷ f ∷ es))) (sym k)
@@ -150,12 +151,13 @@ lined-reads wants bytes asked reads law left count (e ∷ f ∷ es) asks ahead =
         }
     go (Some held) k left zero asks ahead next later =
         let now = subst (AskedBy wants asked 0 e f es) k asks in
-        let may : AreLines bytes (chunk ∷ behind) × reads held (chunk ∷ behind) (together (plain_chunks bytes (chunk ∷ behind))) =
-        law held (chunk ∷ behind) now.0 in
-        let all : List Event = together (plain_chunks bytes (chunk ∷ behind)) in
-        let is : IsShare bytes all chunk behind = line-share bytes chunk behind may.0 in
-        let read = later (drop (share (length behind) all f.point.index) all) (length behind) now.1
-        (λ some. record { many = refl; left_are = is.rest; lines = next-lines bytes chunk behind may.0 }) in
+        let may : AreLines bytes (chunk ∷ following) × reads held (chunk ∷ following)
+        (together (plain_chunks bytes (chunk ∷ following))) =
+        law held (chunk ∷ following) now.0 in
+        let all : List Event = together (plain_chunks bytes (chunk ∷ following)) in
+        let is : IsShare bytes all chunk following = line-share bytes chunk following may.0 in
+        let read = later (drop (share (length following) all f.point.index) all) (length following) now.1
+        (λ some. record { many = refl; left_are = is.rest; lines = next-lines bytes chunk following may.0 }) in
         record {
           substituted =
               subst (SubstitutedBy wants reads left 0 e f es (lined wants bytes (e ∷ f ∷ es))) (sym k) (
@@ -167,22 +169,22 @@ lined-reads wants bytes asked reads law left count (e ∷ f ∷ es) asks ahead =
               );
           each =
               subst (EachBy wants bytes e f es) (sym k)
-              (All-head (IsLine bytes) chunk behind may.0.each, read.each);
+              (All-head (IsLine bytes) chunk following may.0.each, read.each);
         }
     go (Some held) k left (suc more) asks ahead next later =
         let now : EachAsked wants asked more es = subst (AskedBy wants asked (suc more) e f es) k asks in
-        let here : Ahead bytes left (suc more) (chunk ∷ behind) =
-        subst (Ahead bytes left (suc more)) (some-behind wants e f es held k) (ahead (omega arith)) in
-        let many : more ≡ length behind = omega (arith, here.many) in
-        let all : IsShare bytes left chunk behind =
-        subst (λ (l : List Event). IsShare bytes l chunk behind) (sym here.left_are)
-        (line-share bytes chunk behind here.lines) in
+        let here : Ahead bytes left (suc more) (chunk ∷ following) =
+        subst (Ahead bytes left (suc more)) (some-following wants e f es held k) (ahead (omega arith)) in
+        let many : more ≡ length following = omega (arith, here.many) in
+        let all : IsShare bytes left chunk following =
+        subst (λ (l : List Event). IsShare bytes l chunk following) (sym here.left_are)
+        (line-share bytes chunk following here.lines) in
         let first : take (share more left f.point.index) left ≡ plain_chunk bytes chunk =
         ap (λ (n : ℕ). take (share n left f.point.index) left) many ∙ all.first in
-        let rest : drop (share more left f.point.index) left ≡ together (plain_chunks bytes behind) =
+        let rest : drop (share more left f.point.index) left ≡ together (plain_chunks bytes following) =
         ap (λ (n : ℕ). drop (share n left f.point.index) left) many ∙ all.rest in
         let read = later (drop (share more left f.point.index) left) more now
-        (λ some. record { many = many; left_are = rest; lines = next-lines bytes chunk behind here.lines }) in
+        (λ some. record { many = many; left_are = rest; lines = next-lines bytes chunk following here.lines }) in
         record {
           substituted =
               subst (SubstitutedBy wants reads left (suc more) e f es (lined wants bytes (e ∷ f ∷ es))) (sym k) (
@@ -192,7 +194,7 @@ lined-reads wants bytes asked reads law left count (e ∷ f ∷ es) asks ahead =
               );
           each =
               subst (EachBy wants bytes e f es) (sym k)
-              (All-head (IsLine bytes) chunk behind here.lines.each, read.each);
+              (All-head (IsLine bytes) chunk following here.lines.each, read.each);
         }
 
 -- no part has begun
@@ -253,14 +255,18 @@ lined-run wants bytes (e ∷ es) = go (wanted wants e) refl (lined-run wants byt
         lined wants bytes es ≡ take run es ++ lined wants bytes (drop run es) →
         lined wants bytes (e ∷ es) ≡ take (cond (is_none (wanted wants e)) (1 + run) 0) (e ∷ es)
         ++ lined wants bytes (drop (cond (is_none (wanted wants e)) (1 + run) 0) (e ∷ es))
-    go None k behind =
+    go None k following =
         let more : 1 + run ≡ suc run = omega arith in
-        let many : cond (is_none (wanted wants e)) (1 + run) 0 ≡ suc run = ap (λ (o : Option Content). cond (is_none o) (1 + run) 0) k ∙ more in
-        subst (λ (n : ℕ). lined wants bytes (e ∷ es) ≡ take n (e ∷ es) ++ lined wants bytes (drop n (e ∷ es))) (sym many)
-        (next es k ∙ ap (λ (l : List Event). e ∷ l) behind)
-    go (Some held) k behind =
-        let many : cond (is_none (wanted wants e)) (1 + run) 0 ≡ 0 = ap (λ (o : Option Content). cond (is_none o) (1 + run) 0) k in
-        subst (λ (n : ℕ). lined wants bytes (e ∷ es) ≡ take n (e ∷ es) ++ lined wants bytes (drop n (e ∷ es))) (sym many)
+        let many : cond (is_none (wanted wants e)) (1 + run) 0 ≡ suc run =
+        ap (λ (o : Option Content). cond (is_none o) (1 + run) 0) k ∙ more in
+        subst (λ (n : ℕ). lined wants bytes (e ∷ es) ≡ take n (e ∷ es)
+        ++ lined wants bytes (drop n (e ∷ es))) (sym many)
+        (next es k ∙ ap (λ (l : List Event). e ∷ l) following)
+    go (Some held) k following =
+        let many : cond (is_none (wanted wants e)) (1 + run) 0 ≡ 0 =
+        ap (λ (o : Option Content). cond (is_none o) (1 + run) 0) k in
+        subst (λ (n : ℕ). lined wants bytes (e ∷ es) ≡ take n (e ∷ es)
+        ++ lined wants bytes (drop n (e ∷ es))) (sym many)
         refl
 
 pub each-run : (wants : Content → Bool) (bytes : List ℕ) (l : List Event) → EachLine wants bytes l →
@@ -278,12 +284,14 @@ each-run wants bytes (e ∷ es) each = go (wanted wants e) refl (λ h. each-run 
     go : (o : Option Content) → wanted wants e ≡ o →
         (EachLine wants bytes es → EachLine wants bytes (drop run es)) →
         EachLine wants bytes (drop (cond (is_none (wanted wants e)) (1 + run) 0) (e ∷ es))
-    go None k behind =
+    go None k following =
         let more : 1 + run ≡ suc run = omega arith in
-        let many : cond (is_none (wanted wants e)) (1 + run) 0 ≡ suc run = ap (λ (o : Option Content). cond (is_none o) (1 + run) 0) k ∙ more in
-        subst (λ (n : ℕ). EachLine wants bytes (drop n (e ∷ es))) (sym many) (behind (next es k each))
-    go (Some held) k behind =
-        let many : cond (is_none (wanted wants e)) (1 + run) 0 ≡ 0 = ap (λ (o : Option Content). cond (is_none o) (1 + run) 0) k in
+        let many : cond (is_none (wanted wants e)) (1 + run) 0 ≡ suc run =
+        ap (λ (o : Option Content). cond (is_none o) (1 + run) 0) k ∙ more in
+        subst (λ (n : ℕ). EachLine wants bytes (drop n (e ∷ es))) (sym many) (following (next es k each))
+    go (Some held) k following =
+        let many : cond (is_none (wanted wants e)) (1 + run) 0 ≡ 0 =
+        ap (λ (o : Option Content). cond (is_none o) (1 + run) 0) k in
         subst (λ (n : ℕ). EachLine wants bytes (drop n (e ∷ es))) (sym many) each
 
 -- the first chunk
@@ -311,9 +319,9 @@ first-line wants bytes (e ∷ f ∷ es) chunk begins each =
 pub given-run : (wants : Content → Bool) (bytes : List ℕ) (rest left before now all : List Event) →
     left ≡ drop (prefix_len (stays wants) rest) rest → now ≡ before ++ take (prefix_len (stays wants) rest) rest →
     before ++ lined wants bytes rest ≡ all → now ++ lined wants bytes left ≡ all
-given-run wants bytes rest left before now all behind given so_far =
+given-run wants bytes rest left before now all following given so_far =
     let n : ℕ = prefix_len (stays wants) rest in
-    rw (behind, given)
+    rw (following, given)
     (append_assoc before (take n rest) (lined wants bytes (drop n rest))
     ∙ ap (λ (l : List Event). before ++ l) (sym (lined-run wants bytes rest)) ∙ so_far)
 
@@ -321,20 +329,21 @@ given-run wants bytes rest left before now all behind given so_far =
 pub given-line : (wants : Content → Bool) (bytes : List ℕ) (rest left before now all : List Event) (chunk : Chunk) →
     FirstLine wants bytes rest chunk → left ≡ drop 2 rest → now ≡ before ++ plain_chunk bytes chunk →
     before ++ lined wants bytes rest ≡ all → now ++ lined wants bytes left ≡ all
-given-line wants bytes rest left before now all chunk first behind given so_far =
-    rw (behind, given)
+given-line wants bytes rest left before now all chunk first following given so_far =
+    rw (following, given)
     (append_assoc before (plain_chunk bytes chunk) (lined wants bytes (drop 2 rest))
     ∙ ap (λ (l : List Event). before ++ l) (sym first.is) ∙ so_far)
 
 -- it begins after those that stay
-pub begins-behind : (wants : Content → Bool) (l rest : List Event) (d : Event) (chunk : Chunk) →
+pub begins-following : (wants : Content → Bool) (l rest : List Event) (d : Event) (chunk : Chunk) →
     rest ≡ drop (prefix_len (stays wants) l) l → 1 < length rest →
     chunk ≡ chunk_of (get_or rest 0 d) (get_or rest 1 d) → BeginsWith wants chunk rest
-begins-behind wants l rest d chunk behind two is =
+begins-following wants l rest d chunk following two is =
     let n : ℕ = prefix_len (stays wants) l in
-    let long : length rest ≡ length l - n = ap length behind ∙ length-drop n l in
+    let long : length rest ≡ length l - n = ap length following ∙ length-drop n l in
     let stop : stays wants (get_or l n d) ≡ false = prefix_len_stops (stays wants) l d (omega arith) in
-    let same : get_or rest 0 d ≡ get_or l n d = ap (λ (l : List Event). get_or l 0 d) (behind ∙ drop_more l n d (omega arith)) in
+    let same : get_or rest 0 d ≡ get_or l n d = ap (λ (l : List Event). get_or l 0 d)
+    (following ∙ drop_more l n d (omega arith)) in
     go rest two is (ap (stays wants) same ∙ stop)
   where
     go : (rest : List Event) → 1 < length rest → chunk ≡ chunk_of (get_or rest 0 d) (get_or rest 1 d) →

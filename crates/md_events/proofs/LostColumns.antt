@@ -12,7 +12,7 @@ use Rattle.md_meaning.specs.Rest.{Rest, indent, is_blank, is_white, lose, white_
 use Rattle.md_events.specs.Ahead.{begins_white, white_end, white_rest, white_size}
 use Rattle.md_events.specs.Events.Places.{at_or_before, past_byte, same_place}
 use Rattle.md_events.proofs.AheadLemmas.{none-end, none-rest, none-size}
-use Rattle.md_events.proofs.FeedLines.{Stops, behind_last, cell, columns_more, next_column, slice-front, slice-split}
+use Rattle.md_events.proofs.FeedLines.{Stops, after_last, cell, columns_more, next_column, slice-front, slice-split}
 use Rattle.md_events.proofs.FeedLines.{spread, tab_cells}
 use Rattle.md_events.proofs.NestedLemmas.{at_or_before-refl, at_or_before-trans}
 use Rattle.md_events.proofs.PlainSteps.{range-none}
@@ -94,30 +94,31 @@ abbrev rest : ℕ → ℕ → List ℕ → Rest
 rest column spaces bytes = record { column = column; spaces = spaces; bytes = bytes }
 
 -- one column of whitespace is a step
-pub column-step : (line : Line) (text behind : List ℕ) (r : Rest) (p : Point) → RestAt text behind r p → 0 < indent r →
-    (first : HasColumn line text behind r p) → Step text p first.at
-column-step line text behind r p is lt first = go r.column r.spaces r.bytes is lt (ap (first_after p) first.cells)
+pub column-step : (line : Line) (text following : List ℕ) (r : Rest) (p : Point) → RestAt text following r p →
+    0 < indent r →
+    (first : HasColumn line text following r p) → Step text p first.at
+column-step line text following r p is lt first = go r.column r.spaces r.bytes is lt (ap (first_after p) first.cells)
   where
     at : Point
     at = first.at
 
-    go : (column spaces : ℕ) (bytes : List ℕ) → RestAt text behind (rest column spaces bytes) p →
+    go : (column spaces : ℕ) (bytes : List ℕ) → RestAt text following (rest column spaces bytes) p →
         0 < indent (rest column spaces bytes) → first_after p (rest_cells line (rest column spaces bytes) p) ≡ at →
         Step text p at
     go column (suc zero) bytes h lt e =
-        subst (Step text p) e (step-byte text (bytes ++ behind) 9 p (behind_last p) h.text_is refl refl refl)
+        subst (Step text p) e (step-byte text (bytes ++ following) 9 p (after_last p) h.text_is refl refl refl)
     go column (suc (suc n)) bytes h lt e = subst (Step text p) e (step-column text p)
     go column zero [] h lt e = absurd (omega (arith, lt))
     go column zero (b ∷ bs) h lt e = by (b == 9) refl (b == 32) refl h e
       where
         Has : ℕ → Type 0
         Has c =
-            RestAt text behind (rest column 0 (c ∷ bs)) p →
+            RestAt text following (rest column 0 (c ∷ bs)) p →
             first_after p (rest_cells line (rest column 0 (c ∷ bs)) p) ≡ at → Step text p at
 
-        tab : (k : ℕ) → drop p.index text ≡ 9 ∷ bs ++ behind →
+        tab : (k : ℕ) → drop p.index text ≡ 9 ∷ bs ++ following →
             first_after p (tab_cells line k 9 p ++ spread line bs (past_byte 9 p)) ≡ at → Step text p at
-        tab zero is e = subst (Step text p) e (step-byte text (bs ++ behind) 9 p (behind_last p) is refl refl refl)
+        tab zero is e = subst (Step text p) e (step-byte text (bs ++ following) 9 p (after_last p) is refl refl refl)
         tab (suc k) is e = subst (Step text p) e (step-column text p)
 
         by : (t : Bool) → (b == 9) ≡ t → (s : Bool) → (b == 32) ≡ s → Has b
@@ -125,7 +126,7 @@ column-step line text behind r p is lt first = go r.column r.spaces r.bytes is l
         by false f true g =
             subst Has (sym (eqb-true b 32 g))
             (λ is e.
-            subst (Step text p) e (step-byte text (bs ++ behind) 32 p (past_byte 32 p) is.text_is refl refl refl))
+            subst (Step text p) e (step-byte text (bs ++ following) 32 p (past_byte 32 p) is.text_is refl refl refl))
         by false f false g =
             let none : white_columns (column + 0) (b ∷ bs) ≡ 0 = rw (f, g) refl in absurd (omega (arith, lt, none))
 
@@ -161,10 +162,10 @@ column-next r = go r.spaces r.bytes
             let none : white_columns (r.column + 0) (b ∷ bs) ≡ 0 = rw (f, g) refl in absurd (omega (arith, lt, none))
 
 -- so many columns are taken, or as many as there are: after them the rest without them
-pub record HasLost (line : Line) (text behind : List ℕ) (m : ℕ) (r : Rest) (p : Point) (stop cells : List Cell)
+pub record HasLost (line : Line) (text following : List ℕ) (m : ℕ) (r : Rest) (p : Point) (stop cells : List Cell)
     (q : Point) : Type 0 where
   pub left : white_rest m cells ≡ rest_cells line (lose m r) q ++ stop
-  pub stands : RestAt text behind (lose m r) q
+  pub valid : RestAt text following (lose m r) q
   pub ends : past_rest (lose m r) q ≡ past_rest r p
   pub column : (lose m r).column ≡ r.column + white_size m cells
   -- how many they are
@@ -174,17 +175,17 @@ pub record HasLost (line : Line) (text behind : List ℕ) (m : ℕ) (r : Rest) (
   pub white : White text p q
   pub apart : 1 ≤ m → begins_white cells ≡ true → same_place p q ≡ false
 
-lost-bare : (line : Line) (text behind : List ℕ) (m : ℕ) (r : Rest) (p : Point) (stop : List Cell) →
-    RestAt text behind r p → Stops stop → indent r ≡ 0 →
-    HasLost line text behind m r p stop (rest_cells line r p ++ stop) (white_end m (rest_cells line r p ++ stop) p)
-lost-bare line text behind m r p stop is k e =
+lost-bare : (line : Line) (text following : List ℕ) (m : ℕ) (r : Rest) (p : Point) (stop : List Cell) →
+    RestAt text following r p → Stops stop → indent r ≡ 0 →
+    HasLost line text following m r p stop (rest_cells line r p ++ stop) (white_end m (rest_cells line r p ++ stop) p)
+lost-bare line text following m r p stop is k e =
     let cells : List Cell = rest_cells line r p ++ stop in
     let dark = bare-cells line r p stop e k in
     let size : white_size m cells ≡ 0 = none-size m cells dark in
     let same : r ≡ lose m r = sym (lose-bare m r e) in
-    subst (HasLost line text behind m r p stop cells) (sym (none-end m cells p dark)) (record {
+    subst (HasLost line text following m r p stop cells) (sym (none-end m cells p dark)) (record {
       left = none-rest m cells dark ∙ ap (λ (s : Rest). rest_cells line s p ++ stop) same;
-      stands = subst (λ (s : Rest). RestAt text behind s p) same is;
+      valid = subst (λ (s : Rest). RestAt text following s p) same is;
       ends = ap (λ (s : Rest). past_rest s p) (sym same);
       column = let c = ap (λ (s : Rest). s.column) same in omega (arith, c, size);
       most = omega (arith, size);
@@ -193,15 +194,15 @@ lost-bare line text behind m r p stop is k e =
       apart = λ some white. let bad : true ≡ false = sym white ∙ dark in cc;
     })
 
-pub lose-walk : (line : Line) (text behind : List ℕ) (m : ℕ) (r : Rest) (p : Point) (stop : List Cell) →
-    RestAt text behind r p → Stops stop →
-    HasLost line text behind m r p stop (rest_cells line r p ++ stop) (white_end m (rest_cells line r p ++ stop) p)
-lose-walk line text behind zero r p stop is k =
+pub lose-walk : (line : Line) (text following : List ℕ) (m : ℕ) (r : Rest) (p : Point) (stop : List Cell) →
+    RestAt text following r p → Stops stop →
+    HasLost line text following m r p stop (rest_cells line r p ++ stop) (white_end m (rest_cells line r p ++ stop) p)
+lose-walk line text following zero r p stop is k =
     let cells : List Cell = rest_cells line r p ++ stop in
     let size : white_size 0 cells ≡ 0 = none cells in
-    subst (HasLost line text behind 0 r p stop cells) (sym (zero-end cells p)) (record {
+    subst (HasLost line text following 0 r p stop cells) (sym (zero-end cells p)) (record {
       left = zero-rest cells;
-      stands = is;
+      valid = is;
       ends = refl;
       column = omega (arith, size);
       most = omega (arith, size);
@@ -213,20 +214,20 @@ lose-walk line text behind zero r p stop is k =
     none : (cells : List Cell) → white_size 0 cells ≡ 0
     none [] = refl
     none (c ∷ cs) = refl
-lose-walk line text behind (suc m) r p stop is k =
-    go (indent r) refl (λ first. lose-walk line text behind m (without_first r) first.at stop first.stands k)
+lose-walk line text following (suc m) r p stop is k =
+    go (indent r) refl (λ first. lose-walk line text following m (without_first r) first.at stop first.valid k)
   where
     cells : List Cell
     cells = rest_cells line r p ++ stop
 
     go : (n : ℕ) → indent r ≡ n →
-        ((first : HasColumn line text behind r p) →
+        ((first : HasColumn line text following r p) →
         let left = rest_cells line (without_first r) first.at ++ stop in
-        HasLost line text behind m (without_first r) first.at stop left (white_end m left first.at)) →
-        HasLost line text behind (suc m) r p stop cells (white_end (suc m) cells p)
-    go zero e next = lost-bare line text behind (suc m) r p stop is k e
+        HasLost line text following m (without_first r) first.at stop left (white_end m left first.at)) →
+        HasLost line text following (suc m) r p stop cells (white_end (suc m) cells p)
+    go zero e next = lost-bare line text following (suc m) r p stop is k e
     go (suc n) e more =
-        let first = column-first line text behind r p is (omega (arith, e)) in
+        let first = column-first line text following r p is (omega (arith, e)) in
         let left : List Cell = rest_cells line (without_first r) first.at ++ stop in
         let further = more first in
         let same : cells ≡ cell first.byte first.at line ∷ left = ap (λ (l : List Cell). l ++ stop) first.cells in
@@ -239,13 +240,13 @@ lose-walk line text behind (suc m) r p stop is k =
         let next = column-next r (omega (arith, e)) in
         let step : Step text p (white_end m left first.at) =
         step-append text p first.at (white_end m left first.at)
-        (column-step line text behind r p is (omega (arith, e)) first) further.white in
-        subst (HasLost line text behind (suc m) r p stop cells) (sym end) (record {
+        (column-step line text following r p is (omega (arith, e)) first) further.white in
+        subst (HasLost line text following (suc m) r p stop cells) (sym end) (record {
           left = ap (white_rest (suc m)) same
               ∙ ap (λ (t : Bool). cond t (white_rest m left) (cell first.byte first.at line ∷ left)) first.white
               ∙ further.left;
-          stands = further.stands;
-          ends = further.ends ∙ column-end line text behind r p is first;
+          valid = further.valid;
+          ends = further.ends ∙ column-end line text following r p is first;
           column = let c = further.column in omega (arith, c, size, next);
           most = omega (arith, size, further.most, first.columns);
           all = λ le. let some = further.all (omega (arith, le, first.columns)) in omega (arith, size, some);

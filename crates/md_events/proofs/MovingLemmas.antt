@@ -1,6 +1,6 @@
 -- Events are moved to the front of their list, and appended to another piece by piece.
-use Rattle.std.proofs.Common.{◌≡◌, ℕ, ◌+◌, ◌-◌, ◌≤◌, List, ◌++◌, length, take, drop, refl, sym, ◌∙◌, ap, arith, append_assoc}
-use Rattle.std.proofs.Common.{length-drop}
+use Rattle.std.proofs.Common.{◌≡◌, ℕ, ◌+◌, ◌-◌, ◌≤◌, List, ◌++◌, length, take, drop, refl, sym, ◌∙◌, ap, arith}
+use Rattle.std.proofs.Common.{append_assoc, length-drop}
 use lib.Seq.{paste}
 use Rattle.std.proofs.Math.Seq.{take-add}
 use Rattle.std.proofs.lemmas.List.{drop-drop, drop-take, drop_at, length-take-le, take-append-drop, take-append-le}
@@ -9,9 +9,9 @@ use Rattle.std.proofs.lemmas.List.Edits.{drop-paste}
 use Rattle.md_engine.specs.declared.event.Event.{Event}
 use Rattle.md_events.proofs.RewrittenLemmas.{held-many}
 
-pub behind-moved : (events : List Event) (to from end : ℕ) → to ≤ from → from ≤ end → end ≤ length events →
+pub following-moved : (events : List Event) (to from end : ℕ) → to ≤ from → from ≤ end → end ≤ length events →
     drop end (paste events to (drop from events) (end - from)) ≡ drop end events
-behind-moved events to from end low le within =
+following-moved events to from end low le within =
     let n = end - from in
     let new : List Event = paste events to (drop from events) n in
     let far = end - (to + n) in
@@ -28,9 +28,9 @@ unmoved events to from end same =
     take-add to (end - from) events ∙ ap (λ (n : ℕ). take to events ++ take (end - from) (drop n events)) same
 
 -- where they are copied
-pub behind-copied : (events front back : List Event) (from end : ℕ) → from ≤ end → length front ≡ from →
+pub following-copied : (events front back : List Event) (from end : ℕ) → from ≤ end → length front ≡ from →
     back ≡ drop from events → drop end (front ++ back) ≡ drop end events
-behind-copied events front back from end le long is =
+following-copied events front back from end le long is =
     let far = end - from in
     ap (λ (n : ℕ). drop n (front ++ back)) (omega arith)
     ∙ sym (drop-drop far (length front) (front ++ back))
@@ -54,7 +54,7 @@ pub piece-down : (old now front back : List Event) (to from at gap many : ℕ) �
     take (at - gap + length (take many back)) front ≡ take (at - gap) (take at now) ++ take many back →
     take (to + (at - from)) now ≡ take to old ++ take (at - from) (drop from old) → drop at now ≡ drop at old →
     take (to + (at + many - from)) (front ++ back) ≡ take to old ++ take (at + many - from) (drop from old)
-piece-down old now front back to from at gap many by low reached within small long is copied so_far behind =
+piece-down old now front back to from at gap many by low reached within small long is copied so_far following =
     let size : length (take many back) ≡ many =
     length-take-le many back (rw is (simp length-drop (omega (arith, within)))) in
     let end : to + (at + many - from) ≡ at - gap + length (take many back) = omega (arith, size) in
@@ -64,16 +64,16 @@ piece-down old now front back to from at gap many by low reached within small lo
     ∙ copied
     ∙ ap (λ (l : List Event). l ++ take many back)
     (take-take (at - gap) at now (omega arith) ∙ ap (λ (n : ℕ). take n now) start ∙ so_far)
-    ∙ ap (λ (l : List Event). (take to old ++ take (at - from) (drop from old)) ++ take many l) (is ∙ behind)
+    ∙ ap (λ (l : List Event). (take to old ++ take (at - from) (drop from old)) ++ take many l) (is ∙ following)
     ∙ append_assoc (take to old) (take (at - from) (drop from old)) (take many (drop at old))
     ∙ ap (λ (l : List Event). take to old ++ l) (sym (held-many old from at many reached))
 
 -- and after them nothing has changed
-pub piece-behind : (old now front back : List Event) (at many : ℕ) → length front ≡ at → back ≡ drop at now →
+pub piece-following : (old now front back : List Event) (at many : ℕ) → length front ≡ at → back ≡ drop at now →
     drop at now ≡ drop at old → drop (at + many) (front ++ back) ≡ drop (at + many) old
-piece-behind old now front back at many long is behind =
-    behind-copied now front back at (at + many) (omega arith) long is
-    ∙ sym (drop-drop many at now) ∙ ap (drop many) behind ∙ drop-drop many at old
+piece-following old now front back at many long is following =
+    following-copied now front back at (at + many) (omega arith) long is
+    ∙ sym (drop-drop many at now) ∙ ap (drop many) following ∙ drop-drop many at old
 
 -- Events are moved up piece by piece, by so many places, the last first.
 
@@ -101,13 +101,15 @@ piece-up old now front back new end gap many first is small within long size cop
     ∙ ap (take many) (cut old end (length old - gap - end))
     ∙ take-take many (length old - gap - end) (drop end old) (omega arith)) in
     let none : 0 + length piece ≡ length piece = omega arith in
-    let behind : drop (length piece) new ≡ drop many (drop end kept) =
-    ap (λ (n : ℕ). drop n new) (sym none) ∙ rest ∙ ap (λ (n : ℕ). drop n back) none ∙ ap (λ (n : ℕ). drop n back) many' ∙ ap (drop many) is ∙ drop-drop many (end + gap) now
-    ∙ ap (λ (n : ℕ). drop n now) (omega arith) ∙ so_far ∙ sym (drop-drop many end kept ∙ ap (λ (n : ℕ). drop n kept) (omega arith)) in
+    let following : drop (length piece) new ≡ drop many (drop end kept) =
+    ap (λ (n : ℕ). drop n new) (sym none) ∙ rest ∙ ap (λ (n : ℕ). drop n back) none ∙ ap (λ (n : ℕ). drop n back) many'
+    ∙ ap (drop many) is ∙ drop-drop many (end + gap) now
+    ∙ ap (λ (n : ℕ). drop n now) (omega arith) ∙ so_far
+    ∙ sym (drop-drop many end kept ∙ ap (λ (n : ℕ). drop n kept) (omega arith)) in
     drop_at front new (end + gap) long
     ∙ sym (take-append-drop (length piece) new)
     ∙ ap (λ (l : List Event). l ++ drop (length piece) new) (ap (λ (n : ℕ). take n new) (sym none) ∙ copied)
-    ∙ ap (λ (l : List Event). piece ++ l) behind
+    ∙ ap (λ (l : List Event). piece ++ l) following
     ∙ ap (λ (l : List Event). l ++ drop many (drop end kept)) moved
     ∙ take-append-drop many (drop end kept)
   where

@@ -8,36 +8,36 @@ use Rattle.md_engine.specs.declared.event.Kind.{Kind}
 use Rattle.md_engine.specs.declared.event.Kind.TheVariants.{Enter, Exit}
 use Rattle.md_engine.specs.declared.event.Name.{Name}
 use Rattle.md_events.specs.Events.Places.{at_or_before}
-use Rattle.md_events.specs.Events.Nested.{open_behind, open_after, Fits, Matches, Forward, last_point, Balanced}
+use Rattle.md_events.specs.Events.Nested.{open_following, open_after, Fits, Matches, Forward, last_point, Balanced}
 
 -- Open names.
 
 pub open_after-append : (names : List Name) (xs ys : List Event) →
     open_after names (xs ++ ys) ≡ open_after (open_after names xs) ys
 open_after-append names [] ys = refl
-open_after-append names (e ∷ xs) ys = open_after-append (open_behind names e.kind e.name) xs ys
+open_after-append names (e ∷ xs) ys = open_after-append (open_following names e.kind e.name) xs ys
 
 pub matches-append : (names : List Name) (xs ys : List Event) → Matches names xs → Matches (open_after names xs) ys →
     Matches names (xs ++ ys)
 matches-append names [] ys m k = k
-matches-append names (e ∷ xs) ys m k = (m.0, matches-append (open_behind names e.kind e.name) xs ys m.1 k)
+matches-append names (e ∷ xs) ys m k = (m.0, matches-append (open_following names e.kind e.name) xs ys m.1 k)
 
 pub matches-front : (names : List Name) (xs ys : List Event) → Matches names (xs ++ ys) → Matches names xs
 matches-front names [] ys m = tt
-matches-front names (e ∷ xs) ys m = (m.0, matches-front (open_behind names e.kind e.name) xs ys m.1)
+matches-front names (e ∷ xs) ys m = (m.0, matches-front (open_following names e.kind e.name) xs ys m.1)
 
 pub matches-rest : (names : List Name) (xs ys : List Event) → Matches names (xs ++ ys) →
     Matches (open_after names xs) ys
 matches-rest names [] ys m = m
-matches-rest names (e ∷ xs) ys m = matches-rest (open_behind names e.kind e.name) xs ys m.1
+matches-rest names (e ∷ xs) ys m = matches-rest (open_following names e.kind e.name) xs ys m.1
 
 -- What is open around some events does not matter to them.
 
-open_behind-under : (names outer : List Name) (kind : Kind) (name : Name) → Fits names kind name →
-    open_behind (names ++ outer) kind name ≡ open_behind names kind name ++ outer
-open_behind-under names outer Enter name f = refl
-open_behind-under [] outer Exit name f = absurd f
-open_behind-under (n ∷ names) outer Exit name f = refl
+open_following-under : (names outer : List Name) (kind : Kind) (name : Name) → Fits names kind name →
+    open_following (names ++ outer) kind name ≡ open_following names kind name ++ outer
+open_following-under names outer Enter name f = refl
+open_following-under [] outer Exit name f = absurd f
+open_following-under (n ∷ names) outer Exit name f = refl
 
 fits-under : (names outer : List Name) (kind : Kind) (name : Name) → Fits names kind name →
     Fits (names ++ outer) kind name
@@ -49,15 +49,15 @@ pub open_after-under : (names outer : List Name) (xs : List Event) → Matches n
     open_after (names ++ outer) xs ≡ open_after names xs ++ outer
 open_after-under names outer [] m = refl
 open_after-under names outer (e ∷ xs) m =
-    ap (λ (l : List Name). open_after l xs) (open_behind-under names outer e.kind e.name m.0)
-    ∙ open_after-under (open_behind names e.kind e.name) outer xs m.1
+    ap (λ (l : List Name). open_after l xs) (open_following-under names outer e.kind e.name m.0)
+    ∙ open_after-under (open_following names e.kind e.name) outer xs m.1
 
 pub matches-under : (names outer : List Name) (xs : List Event) → Matches names xs → Matches (names ++ outer) xs
 matches-under names outer [] m = tt
 matches-under names outer (e ∷ xs) m = (
   fits-under names outer e.kind e.name m.0,
-  subst (λ (l : List Name). Matches l xs) (sym (open_behind-under names outer e.kind e.name m.0))
-      (matches-under (open_behind names e.kind e.name) outer xs m.1),
+  subst (λ (l : List Name). Matches l xs) (sym (open_following-under names outer e.kind e.name m.0))
+      (matches-under (open_following names e.kind e.name) outer xs m.1),
 )
 
 -- Balanced events leave open what is open.
@@ -93,7 +93,8 @@ open_after-before names xs ys b =
 pub balanced-around : (e f : Event) (inside : List Event) → e.kind ≡ Enter → f.kind ≡ Exit → e.name ≡ f.name →
     Balanced inside → Balanced (e ∷ inside ++ f ∷ [])
 balanced-around e f inside entered left named b =
-    let opened : open_behind [] e.kind e.name ≡ e.name ∷ [] = ap (λ (k : Kind). open_behind [] k e.name) entered in
+    let opened : open_following [] e.kind e.name ≡ e.name ∷ [] =
+    ap (λ (k : Kind). open_following [] k e.name) entered in
     record {
       matches = (
         subst (λ (k : Kind). Fits [] k e.name) (sym entered) tt,
@@ -104,7 +105,7 @@ balanced-around e f inside entered left named b =
       closed =
           ap (λ (l : List Name). open_after l (inside ++ f ∷ [])) opened
           ∙ open_after-before (e.name ∷ []) inside (f ∷ []) b
-          ∙ ap (λ (k : Kind). open_behind (e.name ∷ []) k f.name) left;
+          ∙ ap (λ (k : Kind). open_following (e.name ∷ []) k f.name) left;
     }
 
 -- Balanced events may be anywhere among others.

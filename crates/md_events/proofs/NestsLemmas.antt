@@ -13,11 +13,11 @@ use Rattle.md_engine.specs.declared.event.Name.{Name}
 use Rattle.md_events.specs.declared.inline.PartKind.{PartKind}
 use Rattle.md_events.specs.declared.inline.Chunk.{Chunk}
 use Rattle.md_events.specs.Events.Places.{first_point, is_placed, are_placed, at_or_before}
-use Rattle.md_events.specs.Events.Nested.{open_behind, open_after, Fits, Matches, Forward, last_point, Balanced, Nested}
-use Rattle.md_events.specs.Events.Nested.{is_exit}
+use Rattle.md_events.specs.Events.Nested.{open_following, open_after, Fits, Matches, Forward, last_point, Balanced}
+use Rattle.md_events.specs.Events.Nested.{Nested, is_exit}
 use Rattle.md_events.specs.Events.Inline.{Part, IsPart, KeepsFrame, Fills, is_linked, together, piece_of, pieces_from}
 use Rattle.md_events.specs.Events.Inline.{pieces}
-use Rattle.md_events.specs.Events.Tiles.{stands_in_part, is_data, is_part, is_chunk, depth_behind, chunks_stand}
+use Rattle.md_events.specs.Events.Tiles.{may_be_in_part, is_data, is_part, is_chunk, depth_following, chunks_in_parts}
 use Rattle.md_events.specs.Events.Tiles.{first_list, further_lists, filled_from, parts, part_kind, part_of, part_at}
 use Rattle.md_events.specs.Events.Tiles.{inside_part, chunks, EachRead, Tiles}
 use Rattle.md_events.proofs.NestedLemmas.{open_after-append, matches-append, matches-front, matches-rest, matches-under}
@@ -28,7 +28,8 @@ use Rattle.md_events.proofs.PartsLemmas.{EachPart, parts-are}
 
 -- Chunks and parts, event by event.
 
-pub chunks-unlinked : (e : Event) (es : List Event) → is_linked e ≡ false → chunks (pieces (e ∷ es)) ≡ chunks (pieces es)
+pub chunks-unlinked : (e : Event) (es : List Event) → is_linked e ≡ false → chunks (pieces (e ∷ es)) ≡
+    chunks (pieces es)
 chunks-unlinked e [] h = refl
 chunks-unlinked e (f ∷ es) h = go e.kind f.kind
   where
@@ -70,7 +71,7 @@ Does M fs N es = Matches M fs × (open_after M fs ≡ open_after N es) × ((p : 
 
 abbrev Outside : List Event → Type 0
 Outside es =
-    (N : List Name) (gs : List (List (List Event))) → chunks_stand 0 es ≡ true → EachFills (parts es) gs →
+    (N : List Name) (gs : List (List (List Event))) → chunks_in_parts 0 es ≡ true → EachFills (parts es) gs →
     Matches N es → Does N (filled_from false es (together gs)) N es
 
 -- `D` is open inside the part, and `X` was left open by what is in the places of its chunks so far; `G` is still to
@@ -78,7 +79,7 @@ Outside es =
 abbrev Inside : List Event → Type 0
 Inside es =
     (D X : List Name) (part : Name) (N : List Name) (G : List (List Event)) (gs : List (List (List Event))) →
-    chunks_stand (suc (length D)) es ≡ true → is_part part ≡ true →
+    chunks_in_parts (suc (length D)) es ≡ true → is_part part ≡ true →
     Fills (chunks (pieces (inside_part es))) G → Matches X (together G) → open_after X (together G) ≡ [] →
     EachFills (parts es) gs → Matches (D ++ (part ∷ N)) es →
     Does (D ++ (X ++ (part ∷ N))) (filled_from false es (G ++ together gs)) (D ++ (part ∷ N)) es
@@ -88,7 +89,7 @@ no_lists [] h = refl
 no_lists (events ∷ G) h = absurd h
 
 inside-end : Inside []
-inside-end D X part N G gs stands is fills m closed each k =
+inside-end D X part N G gs valid is fills m closed each k =
     let none : G ≡ [] = no_lists G fills in
     let gone : X ≡ [] = subst (λ (G : List (List Event)). open_after X (together G) ≡ []) none closed in
     (tt, ap (λ (X : List Name). D ++ (X ++ (part ∷ N))) gone, λ p f. tt)
@@ -96,7 +97,7 @@ inside-end D X part N G gs stands is fills m closed each k =
 -- an event with no link, with what follows
 does-next : (M N : List Name) (e : Event) (es : List Event) (lists : List (List Event)) → is_linked e ≡ false →
     Fits M e.kind e.name →
-    Does (open_behind M e.kind e.name) (filled_from false es lists) (open_behind N e.kind e.name) es →
+    Does (open_following M e.kind e.name) (filled_from false es lists) (open_following N e.kind e.name) es →
     Does M (filled_from false (e ∷ es) lists) N (e ∷ es)
 does-next M N e es lists unlinked fits does =
     subst
@@ -111,14 +112,14 @@ inside-part_ends : (kind : Kind) (name : Name) (p : Point) (link : Option Link) 
     (part : Name) (N : List Name) (G : List (List Event)) (gs : List (List (List Event))) →
     Outside es →
     let e : Event = record { kind = kind; name = name; point = p; link = link } in
-    is_part name ≡ true → is_exit kind ≡ true → length D ≡ 0 → is_linked e ≡ false → chunks_stand 0 es ≡ true →
+    is_part name ≡ true → is_exit kind ≡ true → length D ≡ 0 → is_linked e ≡ false → chunks_in_parts 0 es ≡ true →
     Fills (chunks (pieces (inside_part (e ∷ es)))) G → open_after X (together G) ≡ [] → EachFills (parts (e ∷ es)) gs →
     Matches (D ++ (part ∷ N)) (e ∷ es) →
     Does (D ++ (X ++ (part ∷ N))) (filled_from false (e ∷ es) (G ++ together gs)) (D ++ (part ∷ N)) (e ∷ es)
-inside-part_ends Enter name p link es D X part N G gs outside is ends flat unlinked stands fills closed each m = cc
-inside-part_ends Exit name p link es (d ∷ D) X part N G gs outside is ends flat unlinked stands fills closed each m =
+inside-part_ends Enter name p link es D X part N G gs outside is ends flat unlinked valid fills closed each m = cc
+inside-part_ends Exit name p link es (d ∷ D) X part N G gs outside is ends flat unlinked valid fills closed each m =
     absurd (omega arith)
-inside-part_ends Exit name p link es [] X part N G gs outside is ends flat unlinked stands fills closed each m =
+inside-part_ends Exit name p link es [] X part N G gs outside is ends flat unlinked valid fills closed each m =
     let e : Event = record { kind = Exit; name = name; point = p; link = link } in
     let none : G ≡
     [] = no_lists G
@@ -129,27 +130,27 @@ inside-part_ends Exit name p link es [] X part N G gs outside is ends flat unlin
     (sym gone)
     (subst (λ (G : List (List Event)). Does (part ∷ N) (filled_from false (e ∷ es) (G ++ together gs)) (part ∷ N)
     (e ∷ es)) (sym none)
-    (does-next (part ∷ N) (part ∷ N) e es (together gs) unlinked m.0 (outside N gs stands each m.1)))
+    (does-next (part ∷ N) (part ∷ N) e es (together gs) unlinked m.0 (outside N gs valid each m.1)))
 
 -- a prefix, or an event inside of one
 inside-other : (kind : Kind) (name : Name) (p : Point) (link : Option Link) (es : List Event) (D X : List Name)
     (part : Name) (N : List Name) (G : List (List Event)) (gs : List (List (List Event))) →
     Inside es →
     let e : Event = record { kind = kind; name = name; point = p; link = link } in
-    is_part name ≡ false → is_linked e ≡ false → chunks_stand (depth_behind kind (suc (length D))) es ≡ true →
+    is_part name ≡ false → is_linked e ≡ false → chunks_in_parts (depth_following kind (suc (length D))) es ≡ true →
     is_part part ≡ true →
     Fills (chunks (pieces (inside_part es))) G → Matches X (together G) → open_after X (together G) ≡ [] →
     EachFills (parts es) gs → Matches (D ++ (part ∷ N)) (e ∷ es) →
     Does (D ++ (X ++ (part ∷ N))) (filled_from false (e ∷ es) (G ++ together gs)) (D ++ (part ∷ N)) (e ∷ es)
-inside-other Enter name p link es D X part N G gs inside other unlinked stands is fills m closed each k =
+inside-other Enter name p link es D X part N G gs inside other unlinked valid is fills m closed each k =
     does-next (D ++ (X ++ (part ∷ N))) (D ++ (part ∷ N))
     (record { kind = Enter; name = name; point = p; link = link }) es (G ++ together gs) unlinked tt
-    (inside (name ∷ D) X part N G gs stands is fills m closed each k.1)
-inside-other Exit name p link es (d ∷ D) X part N G gs inside other unlinked stands is fills m closed each k =
+    (inside (name ∷ D) X part N G gs valid is fills m closed each k.1)
+inside-other Exit name p link es (d ∷ D) X part N G gs inside other unlinked valid is fills m closed each k =
     does-next ((d ∷ D) ++ (X ++ (part ∷ N))) ((d ∷ D) ++ (part ∷ N))
     (record { kind = Exit; name = name; point = p; link = link }) es (G ++ together gs) unlinked k.0
-    (inside D X part N G gs stands is fills m closed each k.1)
-inside-other Exit name p link es [] X part N G gs inside other unlinked stands is fills m closed each k =
+    (inside D X part N G gs valid is fills m closed each k.1)
+inside-other Exit name p link es [] X part N G gs inside other unlinked valid is fills m closed each k =
     let same : is_part part ≡ is_part name = ap is_part k.0 in cc
 
 last-from : (o p q : Point) (es : List Event) → IsTrue (at_or_before o q) → IsTrue (at_or_before (last_point p es) q) →
@@ -163,11 +164,11 @@ inside-chunk : (name other : Name) (p q : Point) (link back : Option Link) (es :
     Inside es →
     let e : Event = record { kind = Enter; name = name; point = p; link = link } in
     let f : Event = record { kind = Exit; name = other; point = q; link = back } in
-    is_data other ≡ true → is_linked e ≡ true → chunks_stand 2 (f ∷ es) ≡ true → is_part part ≡ true →
+    is_data other ≡ true → is_linked e ≡ true → chunks_in_parts 2 (f ∷ es) ≡ true → is_part part ≡ true →
     Fills (chunks (pieces (e ∷ inside_part (f ∷ es)))) G → Matches X (together G) → open_after X (together G) ≡ [] →
     EachFills (parts (f ∷ es)) gs → Matches (part ∷ N) (e ∷ f ∷ es) →
     Does (X ++ (part ∷ N)) (filled_from false (e ∷ f ∷ es) (G ++ together gs)) (part ∷ N) (e ∷ f ∷ es)
-inside-chunk name other p q link back es X part N G gs inside ends linked stands is fills m closed each k =
+inside-chunk name other p q link back es X part N G gs inside ends linked valid is fills m closed each k =
     go G
     (subst (λ (x : Bool). Fills
     (cond x ((record { first = p; after = q }) ∷ chunks (pieces_from f (inside_part es)))
@@ -184,11 +185,11 @@ inside-chunk name other p q link back es X part N G gs inside ends linked stands
     outside : is_part other ≡ false
     outside = data-no_part other ends
 
-    on : chunks_stand 1 es ≡ true
-    on = (and_parts (cond (is_linked f) ((1 == 0) && is_chunk f es) (stands_in_part Exit other)) (chunks_stand 1 es)
-        (subst (λ (x : Bool). cond x (true && (1 == 0) && not (is_linked f) && chunks_stand 0 es)
-        (cond (is_linked f) ((1 == 0) && is_chunk f es) (stands_in_part Exit other) && chunks_stand 1 es) ≡ true)
-        outside stands)).1
+    on : chunks_in_parts 1 es ≡ true
+    on = (and_parts (cond (is_linked f) ((1 == 0) && is_chunk f es) (may_be_in_part Exit other)) (chunks_in_parts 1 es)
+        (subst (λ (x : Bool). cond x (true && (1 == 0) && not (is_linked f) && chunks_in_parts 0 es)
+        (cond (is_linked f) ((1 == 0) && is_chunk f es) (may_be_in_part Exit other) && chunks_in_parts 1 es) ≡ true)
+        outside valid)).1
 
     go : (G : List (List Event)) →
         Fills ((record { first = p; after = q }) ∷ chunks (pieces_from f (inside_part es))) G → Matches X (together G) →
@@ -221,57 +222,57 @@ inside-chunk name other p q link back es X part N G gs inside ends linked stands
               (last-from o p q events (at_or_before-trans o p q h.0 h.1.0) fills.1) (rest.2 q h.1.1)),
         )
 
-abbrev InsideBehind : List Event → Type 0
-InsideBehind [] = Unit {0}
-InsideBehind (f ∷ es) = Inside es
+abbrev InsideFollowing : List Event → Type 0
+InsideFollowing [] = Unit {0}
+InsideFollowing (f ∷ es) = Inside es
 
 inside-linked : (kind : Kind) (name : Name) (p : Point) (link : Option Link) (es : List Event) (D X : List Name)
     (part : Name) (N : List Name) (G : List (List Event)) (gs : List (List (List Event))) →
-    InsideBehind es →
+    InsideFollowing es →
     let e : Event = record { kind = kind; name = name; point = p; link = link } in
     length D ≡ 0 → is_chunk e es ≡ true → is_linked e ≡ true →
-    chunks_stand (depth_behind kind (suc (length D))) es ≡ true → is_part part ≡ true →
+    chunks_in_parts (depth_following kind (suc (length D))) es ≡ true → is_part part ≡ true →
     Fills (chunks (pieces (e ∷ inside_part es))) G → Matches X (together G) → open_after X (together G) ≡ [] →
     EachFills (parts es) gs → Matches (D ++ (part ∷ N)) (e ∷ es) →
     Does (D ++ (X ++ (part ∷ N))) (filled_from false (e ∷ es) (G ++ together gs)) (D ++ (part ∷ N)) (e ∷ es)
-inside-linked kind name p link es (d ∷ D) X part N G gs inside flat chunk linked stands is fills m closed each k =
+inside-linked kind name p link es (d ∷ D) X part N G gs inside flat chunk linked valid is fills m closed each k =
     absurd (omega arith)
-inside-linked kind name p link [] [] X part N G gs inside flat chunk linked stands is fills m closed each k = cc
-inside-linked kind name p link (f ∷ es) [] X part N G gs inside flat chunk linked stands is fills m closed each k =
-    go kind f.kind chunk stands fills each k
+inside-linked kind name p link [] [] X part N G gs inside flat chunk linked valid is fills m closed each k = cc
+inside-linked kind name p link (f ∷ es) [] X part N G gs inside flat chunk linked valid is fills m closed each k =
+    go kind f.kind chunk valid fills each k
   where
     go : (kind back : Kind) →
         let e : Event = record { kind = kind; name = name; point = p; link = link } in
         let g : Event = record { kind = back; name = f.name; point = f.point; link = f.link } in
-        is_chunk e (g ∷ es) ≡ true → chunks_stand (depth_behind kind 1) (g ∷ es) ≡ true →
+        is_chunk e (g ∷ es) ≡ true → chunks_in_parts (depth_following kind 1) (g ∷ es) ≡ true →
         Fills (chunks (pieces (e ∷ inside_part (g ∷ es)))) G → EachFills (parts (g ∷ es)) gs →
         Matches (part ∷ N) (e ∷ g ∷ es) →
         Does (X ++ (part ∷ N)) (filled_from false (e ∷ g ∷ es) (G ++ together gs)) (part ∷ N) (e ∷ g ∷ es)
-    go Enter Exit chunk stands fills each k =
+    go Enter Exit chunk valid fills each k =
         inside-chunk name f.name p f.point link f.link es X part N G gs inside
-        (and_parts (is_data name && true) (is_data f.name) chunk).1 linked stands is fills m closed each k
-    go Enter Enter chunk stands fills each k =
+        (and_parts (is_data name && true) (is_data f.name) chunk).1 linked valid is fills m closed each k
+    go Enter Enter chunk valid fills each k =
         cc ((and_parts (is_data name) false (and_parts (is_data name && false) (is_data f.name) chunk).0).1)
-    go Exit back chunk stands fills each k = cc
+    go Exit back chunk valid fills each k = cc
 
 inside-step : (kind : Kind) (name : Name) (p : Point) (link : Option Link) (es : List Event) → Outside es → Inside es →
-    InsideBehind es → Inside ((record { kind = kind; name = name; point = p; link = link }) ∷ es)
-inside-step kind name p link es outside inside behind D X part N G gs stands is fills m closed each k =
-    go (is_part name) refl stands
+    InsideFollowing es → Inside ((record { kind = kind; name = name; point = p; link = link }) ∷ es)
+inside-step kind name p link es outside inside following D X part N G gs valid is fills m closed each k =
+    go (is_part name) refl valid
   where
     e : Event
     e = record { kind = kind; name = name; point = p; link = link }
 
     go : (x : Bool) → is_part name ≡ x →
-        cond x (is_exit kind && (length D == 0) && not (is_linked e) && chunks_stand 0 es)
-        (cond (is_linked e) ((length D == 0) && is_chunk e es) (stands_in_part kind name)
-        && chunks_stand (depth_behind kind (suc (length D))) es) ≡
+        cond x (is_exit kind && (length D == 0) && not (is_linked e) && chunks_in_parts 0 es)
+        (cond (is_linked e) ((length D == 0) && is_chunk e es) (may_be_in_part kind name)
+        && chunks_in_parts (depth_following kind (suc (length D))) es) ≡
         true →
         Does (D ++ (X ++ (part ∷ N))) (filled_from false (e ∷ es) (G ++ together gs)) (D ++ (part ∷ N)) (e ∷ es)
     go true at h =
         let outer : (is_exit kind && (length D == 0) && not (is_linked e) ≡ true) ×
-        (chunks_stand 0 es ≡ true) = and_parts (is_exit kind && (length D == 0) && not (is_linked e))
-        (chunks_stand 0 es) h in
+        (chunks_in_parts 0 es ≡ true) = and_parts (is_exit kind && (length D == 0) && not (is_linked e))
+        (chunks_in_parts 0 es) h in
         let middle : (is_exit kind && (length D == 0) ≡ true) ×
         (not (is_linked e) ≡ true) = and_parts (is_exit kind && (length D == 0)) (not (is_linked e)) outer.0 in
         let inner : (is_exit kind ≡ true) ×
@@ -279,75 +280,75 @@ inside-step kind name p link es outside inside behind D X part N G gs stands is 
         inside-part_ends kind name p link es D X part N G gs outside at inner.0 (eqb-true (length D) 0 inner.1)
         (not-true (is_linked e) middle.1) outer.1 fills closed each k
     go false at h =
-        let outer : (cond (is_linked e) ((length D == 0) && is_chunk e es) (stands_in_part kind name) ≡ true) ×
-        (chunks_stand (depth_behind kind (suc (length D))) es ≡ true) =
-        and_parts (cond (is_linked e) ((length D == 0) && is_chunk e es) (stands_in_part kind name))
-        (chunks_stand (depth_behind kind (suc (length D))) es) h in
+        let outer : (cond (is_linked e) ((length D == 0) && is_chunk e es) (may_be_in_part kind name) ≡ true) ×
+        (chunks_in_parts (depth_following kind (suc (length D))) es ≡ true) =
+        and_parts (cond (is_linked e) ((length D == 0) && is_chunk e es) (may_be_in_part kind name))
+        (chunks_in_parts (depth_following kind (suc (length D))) es) h in
         by (is_linked e) refl outer.0 outer.1
         (subst (λ (x : Bool). Fills (chunks (pieces (cond (x && is_exit kind) [] (e ∷ inside_part es)))) G) at fills)
         (subst (λ (l : List Part). EachFills (l ++ parts es) gs) (part-none kind name es at) each)
       where
         by : (y : Bool) → is_linked e ≡ y →
-            cond y ((length D == 0) && is_chunk e es) (stands_in_part kind name) ≡ true →
-            chunks_stand (depth_behind kind (suc (length D))) es ≡ true →
+            cond y ((length D == 0) && is_chunk e es) (may_be_in_part kind name) ≡ true →
+            chunks_in_parts (depth_following kind (suc (length D))) es ≡ true →
             Fills (chunks (pieces (e ∷ inside_part es))) G → EachFills (parts es) gs →
             Does (D ++ (X ++ (part ∷ N))) (filled_from false (e ∷ es) (G ++ together gs)) (D ++ (part ∷ N)) (e ∷ es)
-        by false unlinked stands on fills each =
+        by false unlinked valid on fills each =
             inside-other kind name p link es D X part N G gs inside at unlinked on is
             (subst (λ (l : List Chunk). Fills l G) (chunks-unlinked e (inside_part es) unlinked) fills) m closed each k
         by true linked chunk on fills each =
             let parts : ((length D == 0) ≡ true) ×
             (is_chunk e es ≡ true) = and_parts (length D == 0) (is_chunk e es) chunk in
-            inside-linked kind name p link es D X part N G gs behind
+            inside-linked kind name p link es D X part N G gs following
             (eqb-true (length D) 0 parts.0) parts.1 linked on is fills m closed each k
 
 -- a part begins
 outside-part : (name : Name) (p : Point) (link : Option Link) (es : List Event) (N : List Name)
     (gs : List (List (List Event))) →
     Inside es → is_part name ≡ true → (kind : PartKind) (list : List Chunk) → chunks (pieces (inside_part es)) ≡ list →
-    chunks_stand 1 es ≡ true → EachFills (part_of kind list ++ parts es) gs → Matches (name ∷ N) es →
+    chunks_in_parts 1 es ≡ true → EachFills (part_of kind list ++ parts es) gs → Matches (name ∷ N) es →
     Does (name ∷ N) (filled_from false es (together gs)) (name ∷ N) es
-outside-part name p link es N gs inside is kind [] none stands each k =
-    inside [] [] name N [] gs stands is (subst (λ (l : List Chunk). Fills l []) (sym none) tt) tt refl each k
-outside-part name p link es N [] inside is kind (chunk ∷ list) some stands each k = absurd each
-outside-part name p link es N (g ∷ gs) inside is kind (chunk ∷ list) some stands each k =
+outside-part name p link es N gs inside is kind [] none valid each k =
+    inside [] [] name N [] gs valid is (subst (λ (l : List Chunk). Fills l []) (sym none) tt) tt refl each k
+outside-part name p link es N [] inside is kind (chunk ∷ list) some valid each k = absurd each
+outside-part name p link es N (g ∷ gs) inside is kind (chunk ∷ list) some valid each k =
     let does : Does (name ∷ N) (filled_from false es (g ++ together gs))
-    (name ∷ N) es = inside [] [] name N g gs stands is
+    (name ∷ N) es = inside [] [] name N g gs valid is
     (subst (λ (l : List Chunk). Fills l g) (sym some) each.0) each.1.matches each.1.closed each.2 k in
     does
 
 outside-step : (kind : Kind) (name : Name) (p : Point) (link : Option Link) (es : List Event) → Outside es → Inside es →
     Outside ((record { kind = kind; name = name; point = p; link = link }) ∷ es)
-outside-step kind name p link es outside inside N gs stands each k =
+outside-step kind name p link es outside inside N gs valid each k =
     let parts : (not (is_linked e) ≡ true) ×
-    (chunks_stand (cond (is_part name && not (is_exit kind)) 1 0) es ≡ true) = and_parts (not (is_linked e))
-    (chunks_stand (cond (is_part name && not (is_exit kind)) 1 0) es) stands in
+    (chunks_in_parts (cond (is_part name && not (is_exit kind)) 1 0) es ≡ true) = and_parts (not (is_linked e))
+    (chunks_in_parts (cond (is_part name && not (is_exit kind)) 1 0) es) valid in
     does-next N N e es (together gs) (not-true (is_linked e) parts.0) k.0 (go kind (is_part name) refl parts.1 each k.1)
   where
     e : Event
     e = record { kind = kind; name = name; point = p; link = link }
 
-    at : (x : Option PartKind) → (elim x [ None ↦ false | Some k ↦ true ]) ≡ true → chunks_stand 1 es ≡ true →
+    at : (x : Option PartKind) → (elim x [ None ↦ false | Some k ↦ true ]) ≡ true → chunks_in_parts 1 es ≡ true →
         EachFills (part_at Enter x es ++ parts es) gs → is_part name ≡ true → Matches (name ∷ N) es →
         Does (name ∷ N) (filled_from false es (together gs)) (name ∷ N) es
-    at None h stands each is k = cc
-    at (Some kind) h stands each is k =
-        outside-part name p link es N gs inside is kind (chunks (pieces (inside_part es))) refl stands each k
+    at None h valid each is k = cc
+    at (Some kind) h valid each is k =
+        outside-part name p link es N gs inside is kind (chunks (pieces (inside_part es))) refl valid each k
 
-    go : (kind : Kind) (x : Bool) → is_part name ≡ x → chunks_stand (cond (x && not (is_exit kind)) 1 0) es ≡ true →
-        EachFills (part_at kind (part_kind name) es ++ parts es) gs → Matches (open_behind N kind name) es →
-        Does (open_behind N kind name) (filled_from false es (together gs)) (open_behind N kind name) es
-    go Enter true is stands each k = at (part_kind name) is stands each is k
-    go Enter false is stands each k =
-        outside (name ∷ N) gs stands
+    go : (kind : Kind) (x : Bool) → is_part name ≡ x → chunks_in_parts (cond (x && not (is_exit kind)) 1 0) es ≡ true →
+        EachFills (part_at kind (part_kind name) es ++ parts es) gs → Matches (open_following N kind name) es →
+        Does (open_following N kind name) (filled_from false es (together gs)) (open_following N kind name) es
+    go Enter true is valid each k = at (part_kind name) is valid each is k
+    go Enter false is valid each k =
+        outside (name ∷ N) gs valid
         (subst (λ (l : List Part). EachFills (l ++ parts es) gs) (part-none Enter name es is) each) k
-    go Exit true is stands each k = outside (open_behind N Exit name) gs stands each k
-    go Exit false is stands each k = outside (open_behind N Exit name) gs stands each k
+    go Exit true is valid each k = outside (open_following N Exit name) gs valid each k
+    go Exit false is valid each k = outside (open_following N Exit name) gs valid each k
 
-does-all : (es : List Event) → (outside : Outside es) × (inside : Inside es) × InsideBehind es
-does-all [] = ((λ N gs stands each k. (tt, refl, λ p f. tt)), inside-end, tt)
+does-all : (es : List Event) → (outside : Outside es) × (inside : Inside es) × InsideFollowing es
+does-all [] = ((λ N gs valid each k. (tt, refl, λ p f. tt)), inside-end, tt)
 does-all (e ∷ es) =
-    let all : (outside : Outside es) × (inside : Inside es) × InsideBehind es = does-all es in (
+    let all : (outside : Outside es) × (inside : Inside es) × InsideFollowing es = does-all es in (
       outside-step e.kind e.name e.point e.link es all.0 all.1,
       inside-step e.kind e.name e.point e.link es all.0 all.1 all.2,
       all.1,

@@ -12,9 +12,9 @@ use Rattle.md_meaning.specs.Definition.{Defined, cut_definitions}
 use Rattle.md_meaning.specs.Grouped.{grouped, grouped_block, with_front, with_item}
 use Rattle.md_meaning.specs.Html.{HtmlKind, html_ends}
 use Rattle.md_meaning.specs.Leaves.{ParagraphContext, LeafResult, Finished, NoText, Opened, Text, break_at, closes}
-use Rattle.md_meaning.specs.Leaves.{code_at, code_goes_on, fence_at, fence_from, fence_goes_on, goes_on, heading_at}
-use Rattle.md_meaning.specs.Leaves.{html_at, html_by, html_goes_on, html_line, is_fence_marker, starts, table_at}
-use Rattle.md_meaning.specs.Leaves.{table_by, table_goes_on, underline_depth, underlined, underlined_by}
+use Rattle.md_meaning.specs.Leaves.{code_at, code_continued, fence_at, fence_from, fence_continued, is_continued}
+use Rattle.md_meaning.specs.Leaves.{heading_at, html_at, html_by, html_continued, html_line, is_fence_marker, starts}
+use Rattle.md_meaning.specs.Leaves.{table_at, table_by, table_continued, underline_depth, underlined, underlined_by}
 use Rattle.md_meaning.specs.Lines.{lines_of}
 use Rattle.md_meaning.specs.Meaning.{tree}
 use Rattle.md_events.specs.Events.On.{are_on, is_kind_on, is_on, is_setext_depth}
@@ -24,7 +24,7 @@ use Rattle.md_meaning.specs.State.{At, Container, InFootnote, InItem, InQuote, P
 use Rattle.md_meaning.specs.State.{OpenFence, OpenHtml, OpenParagraph, OpenTable, Opening, Path, Innermost, Within}
 use Rattle.md_meaning.specs.State.{at_spot, closed, container_block, cut, fence_block, shut, shut_paragraph, spot}
 use Rattle.md_meaning.specs.State.{texts, then_block, then_definitions, then_leaf, then_paragraph}
-use Rattle.md_meaning.specs.Step.{all_continued, all_continued_by, came, leaf_line_by, on_or_fresh, row_or_text}
+use Rattle.md_meaning.specs.Step.{all_continued, all_continued_by, became, leaf_line_by, on_or_fresh, row_or_text}
 use Rattle.md_meaning.specs.Step.{entered, fresh_by, fresh_line, is_concrete, is_open_text, stopped_by, leaf_line}
 use Rattle.md_meaning.specs.Step.{lazy_by, opened, spot_of, step, steps, stopped, text_by, text_line}
 use Rattle.md_meaning.specs.Step.{underline_or_text, with_lazy}
@@ -120,31 +120,31 @@ then_leaf-on options bs (OpenHtml kind lines) h k = then-on options bs (Html lin
 then_leaf-on options bs (OpenTable delimiter rows) h k = then-on options bs (Table delimiter rows) h k
 
 -- what a leaf became with a line: on, open or finished
-abbrev CameOn : ParseOptions → LeafResult → Type 0
-CameOn options (Opened leaf) = is_leaf_on options leaf ≡ true
-CameOn options (Finished block) = is_on options block ≡ true
+abbrev BecameOn : ParseOptions → LeafResult → Type 0
+BecameOn options (Opened leaf) = is_leaf_on options leaf ≡ true
+BecameOn options (Finished block) = is_on options block ≡ true
 
 -- a thematic break
-break-on : (options : ParseOptions) (r : Rest) → Finds (break_at options r) (CameOn options)
+break-on : (options : ParseOptions) (r : Rest) → Finds (break_at options r) (BecameOn options)
 unfolding break_at
 break-on options r = λ c e. grind (arith)
 
 -- an ATX heading
-heading-on : (options : ParseOptions) (r : Rest) → Finds (heading_at options r) (CameOn options)
+heading-on : (options : ParseOptions) (r : Rest) → Finds (heading_at options r) (BecameOn options)
 unfolding heading_at
 heading-on options r = λ c e. grind (arith)
 
 -- indented code
 code-on : (options : ParseOptions) (against : ParagraphContext) (r : Rest) →
-    Finds (code_at options against r) (CameOn options)
+    Finds (code_at options against r) (BecameOn options)
 unfolding code_at
 code-on options against r = search (when-found, some-found, first_of_three)
 
 -- indented code that continues
-code_goes-on : (options : ParseOptions) (lines : List Line) (r : Rest) → options.constructs.code_indented ≡ true →
-    Finds (code_goes_on lines r) (CameOn options)
-unfolding code_goes_on
-code_goes-on options lines r on = search (when-found, some-found)
+code_continues-on : (options : ParseOptions) (lines : List Line) (r : Rest) → options.constructs.code_indented ≡ true →
+    Finds (code_continued lines r) (BecameOn options)
+unfolding code_continued
+code_continues-on options lines r on = search (when-found, some-found)
 
 -- a marker that may fence
 marker-on : (options : ParseOptions) (m : ℕ) → is_fence_marker options m ≡ true → is_marker_on options m ≡ true
@@ -158,23 +158,23 @@ marker-on options m h = go (m == 36) h
 
 -- an opening fence
 fence_from-on : (options : ParseOptions) (columns : ℕ) (bytes : List ℕ) →
-    Finds (fence_from options columns bytes) (CameOn options)
-fence_from-on options columns [] = none-found (CameOn options)
+    Finds (fence_from options columns bytes) (BecameOn options)
+fence_from-on options columns [] = none-found (BecameOn options)
 fence_from-on options columns (m ∷ bytes) = search (when-found, some-found, first_of_three, marker-on)
 
 -- an opening fence after an indent
-fence-on : (options : ParseOptions) (r : Rest) → Finds (fence_at options r) (CameOn options)
+fence-on : (options : ParseOptions) (r : Rest) → Finds (fence_at options r) (BecameOn options)
 unfolding fence_at
 fence-on options r = search (when-found, fence_from-on)
 
 -- fenced code or math that continues
-fence_goes-on : (options : ParseOptions) (o : Opening) (lines : List Line) (r : Rest) →
-    is_marker_on options o.marker ≡ true → CameOn options (fence_goes_on options o lines r)
-unfolding fence_goes_on
-fence_goes-on options o lines r h = go (closes options o r)
+fence_continues-on : (options : ParseOptions) (o : Opening) (lines : List Line) (r : Rest) →
+    is_marker_on options o.marker ≡ true → BecameOn options (fence_continued options o lines r)
+unfolding fence_continued
+fence_continues-on options o lines r h = go (closes options o r)
   where
     go : (x : Bool) →
-        CameOn options
+        BecameOn options
         (cond x (Finished (fence_block o lines true))
         (Opened (OpenFence o (lines ++ line_of (lose o.indent r) ∷ []))))
     go true = fence_block-on options o lines true ∙ h
@@ -182,55 +182,55 @@ fence_goes-on options o lines r h = go (closes options o r)
 
 -- a line of HTML
 html_line-on : (options : ParseOptions) (kind : HtmlKind) (lines : List Line) (r : Rest) →
-    options.constructs.html_flow ≡ true → CameOn options (html_line kind lines r)
+    options.constructs.html_flow ≡ true → BecameOn options (html_line kind lines r)
 html_line-on options kind lines r h = go (html_ends kind r.bytes)
   where
     go : (x : Bool) →
-        CameOn options
+        BecameOn options
         (cond x (Finished (Html (lines ++ line_of r ∷ []))) (Opened (OpenHtml kind (lines ++ line_of r ∷ []))))
     go true = h
     go false = h
 
 -- HTML of a kind
 html_by-on : (options : ParseOptions) (against : ParagraphContext) (r : Rest) (kind : Option HtmlKind) →
-    options.constructs.html_flow ≡ true → Finds (html_by against r kind) (CameOn options)
-html_by-on options against r None h = none-found (CameOn options)
+    options.constructs.html_flow ≡ true → Finds (html_by against r kind) (BecameOn options)
+html_by-on options against r None h = none-found (BecameOn options)
 html_by-on options against r (Some kind) h = search (when-found, some-found, html_line-on)
 
 -- HTML
 html-on : (options : ParseOptions) (against : ParagraphContext) (r : Rest) →
-    Finds (html_at options against r) (CameOn options)
+    Finds (html_at options against r) (BecameOn options)
 unfolding html_at
 html-on options against r = search (when-found, html_by-on, first_of_two)
 
 -- HTML that continues
-html_goes-on : (options : ParseOptions) (kind : HtmlKind) (lines : List Line) (r : Rest) →
-    options.constructs.html_flow ≡ true → Finds (html_goes_on kind lines r) (CameOn options)
-unfolding html_goes_on
-html_goes-on options kind lines r h = search (unless-found, some-found, html_line-on)
+html_continues-on : (options : ParseOptions) (kind : HtmlKind) (lines : List Line) (r : Rest) →
+    options.constructs.html_flow ≡ true → Finds (html_continued kind lines r) (BecameOn options)
+unfolding html_continued
+html_continues-on options kind lines r h = search (unless-found, some-found, html_line-on)
 
 -- the first leaf that starts at a rest
 starts-on : (options : ParseOptions) (against : ParagraphContext) (r : Rest) →
-    Finds (starts options against r) (CameOn options)
+    Finds (starts options against r) (BecameOn options)
 unfolding starts
 starts-on options against r = search (first-found, code-on, fence-on, html-on, heading-on, break-on)
 
 -- a table that continues
-table_goes-on : (options : ParseOptions) (delimiter : List ℕ) (rows : List (List (List ℕ))) (r : Rest) →
-    options.constructs.gfm_table ≡ true → Finds (table_goes_on options delimiter rows r) (CameOn options)
-unfolding table_goes_on
-table_goes-on options delimiter rows r h = search (unless-found, some-found)
+table_continues-on : (options : ParseOptions) (delimiter : List ℕ) (rows : List (List (List ℕ))) (r : Rest) →
+    options.constructs.gfm_table ≡ true → Finds (table_continued options delimiter rows r) (BecameOn options)
+unfolding table_continued
+table_continues-on options delimiter rows r h = search (unless-found, some-found)
 
 -- an open leaf that continues
-goes-on : (options : ParseOptions) (leaf : Leaf) (r : Rest) → is_leaf_on options leaf ≡ true →
-    Finds (goes_on options leaf r) (CameOn options)
-goes-on options NoLeaf r h = none-found (CameOn options)
-goes-on options (OpenParagraph lines) r h = none-found (CameOn options)
-goes-on options (OpenCode lines) r h = code_goes-on options lines r h
-goes-on options (OpenFence o lines) r h =
-    some-found (CameOn options) (fence_goes_on options o lines r) (fence_goes-on options o lines r h)
-goes-on options (OpenHtml kind lines) r h = html_goes-on options kind lines r h
-goes-on options (OpenTable delimiter rows) r h = table_goes-on options delimiter rows r h
+proceeds-on : (options : ParseOptions) (leaf : Leaf) (r : Rest) → is_leaf_on options leaf ≡ true →
+    Finds (is_continued options leaf r) (BecameOn options)
+proceeds-on options NoLeaf r h = none-found (BecameOn options)
+proceeds-on options (OpenParagraph lines) r h = none-found (BecameOn options)
+proceeds-on options (OpenCode lines) r h = code_continues-on options lines r h
+proceeds-on options (OpenFence o lines) r h =
+    some-found (BecameOn options) (fence_continued options o lines r) (fence_continues-on options o lines r h)
+proceeds-on options (OpenHtml kind lines) r h = html_continues-on options kind lines r h
+proceeds-on options (OpenTable delimiter rows) r h = table_continues-on options delimiter rows r h
 
 -- Spots.
 
@@ -239,10 +239,10 @@ abbrev SpotOn : ParseOptions → Innermost → Type 0
 SpotOn options s = (are_on options s.here ≡ true) × (is_leaf_on options s.leaf ≡ true)
 
 -- what a leaf became, after blocks
-came-on : (options : ParseOptions) (bs : Blocks) (c : LeafResult) → are_on options bs ≡ true → CameOn options c →
-    SpotOn options (came bs c)
-came-on options bs (Opened leaf) h k = (h, k)
-came-on options bs (Finished block) h k = (then-on options bs block h k, refl)
+became-on : (options : ParseOptions) (bs : Blocks) (c : LeafResult) → are_on options bs ≡ true → BecameOn options c →
+    SpotOn options (became bs c)
+became-on options bs (Opened leaf) h k = (h, k)
+became-on options bs (Finished block) h k = (then-on options bs block h k, refl)
 
 -- a rest where no leaf is open
 fresh-on : (options : ParseOptions) (bs : Blocks) (r : Rest) → are_on options bs ≡ true →
@@ -250,8 +250,8 @@ fresh-on : (options : ParseOptions) (bs : Blocks) (r : Rest) → are_on options 
 unfolding fresh_line
 fresh-on options bs r h = by (is_blank r.bytes)
   where
-    found : (o : Option LeafResult) → Finds o (CameOn options) → SpotOn options (fresh_by bs r o)
-    found (Some c) on = came-on options bs c h (on c refl)
+    found : (o : Option LeafResult) → Finds o (BecameOn options) → SpotOn options (fresh_by bs r o)
+    found (Some c) on = became-on options bs c h (on c refl)
     found None on = (h, refl)
 
     by : (x : Bool) → SpotOn options (cond x (spot_of bs) (fresh_by bs r (starts options NoText r)))
@@ -259,7 +259,8 @@ fresh-on options bs r h = by (is_blank r.bytes)
     by false = found (starts options NoText r) (starts-on options NoText r)
 
 -- the head of a table
-table_by-on : (options : ParseOptions) (bs : Blocks) (lines : List ParagraphLine) (delimiter : List ℕ) (columns : Option ℕ) →
+table_by-on : (options : ParseOptions) (bs : Blocks) (lines : List ParagraphLine) (delimiter : List ℕ)
+    (columns : Option ℕ) →
     are_on options bs ≡ true → options.constructs.gfm_table ≡ true →
     Finds (table_by options bs lines delimiter columns) (SpotOn options)
 table_by-on options bs [] delimiter columns h k = none-found (SpotOn options)
@@ -309,8 +310,8 @@ text-on options bs lines r h = by (is_blank r.bytes)
     row (Some s) on = on s refl
     row None on = (h, refl)
 
-    leaf : (o : Option LeafResult) → Finds o (CameOn options) → SpotOn options (text_by options bs lines r o)
-    leaf (Some c) on = came-on options (then_leaf options bs (OpenParagraph lines)) c shut_on (on c refl)
+    leaf : (o : Option LeafResult) → Finds o (BecameOn options) → SpotOn options (text_by options bs lines r o)
+    leaf (Some c) on = became-on options (then_leaf options bs (OpenParagraph lines)) c shut_on (on c refl)
     leaf None on = row (table_at options bs lines r) (table-on options bs lines r h)
 
     line : (o : Option ℕ) → Finds o (λ depth. (options.constructs.heading_setext && is_setext_depth depth) ≡ true) →
@@ -330,14 +331,14 @@ leaf_line-on : (options : ParseOptions) (s : Innermost) (r : Rest) → SpotOn op
     SpotOn options (leaf_line options s r)
 leaf_line-on options s r h = go s.leaf h.1
   where
-    other : (o : Option LeafResult) → Finds o (CameOn options) → SpotOn options (on_or_fresh options s r o)
-    other (Some c) on = came-on options s.here c h.0 (on c refl)
+    other : (o : Option LeafResult) → Finds o (BecameOn options) → SpotOn options (on_or_fresh options s r o)
+    other (Some c) on = became-on options s.here c h.0 (on c refl)
     other None on = fresh-on options (shut options s) r (then_leaf-on options s.here s.leaf h.0 h.1)
 
     go : (leaf : Leaf) → is_leaf_on options leaf ≡ true → SpotOn options (leaf_line_by options s r leaf)
     go NoLeaf k = fresh-on options s.here r h.0
     go (OpenParagraph lines) k = text-on options s.here lines r h.0
-    go leaf k = other (goes_on options leaf r) (goes-on options leaf r k)
+    go leaf k = other (is_continued options leaf r) (proceeds-on options leaf r k)
 
 -- Containers.
 
@@ -492,11 +493,11 @@ stopped-on : (options : ParseOptions) (before : Blocks) (container : Container) 
 unfolding stopped
 stopped-on options before container p r h = go (opens options false r) (opens-on options false r)
   where
-    behind : Blocks
-    behind = then_block before (container_block container (closed options p))
+    following : Blocks
+    following = then_block before (container_block container (closed options p))
 
-    behind_on : are_on options behind ≡ true
-    behind_on = closed-on options (Within before container p) h
+    following_on : are_on options following ≡ true
+    following_on = closed-on options (Within before container p) h
 
     lazy : (o : Option Leaf) → Finds o (λ l. is_leaf_on options l ≡ true) →
         PathOn options (lazy_by options before container p r o)
@@ -506,10 +507,10 @@ stopped-on options before container p r h = go (opens options false r) (opens-on
       at_spot-on options p (record { here = (spot p).here; leaf = leaf }) h.2
           ((spot-on options p h.2).0, on leaf refl),
     )
-    lazy None on = fresh-on options behind r behind_on
+    lazy None on = fresh-on options following r following_on
 
     go : (o : Option Taken) → Finds o (TakenOn options) → PathOn options (stopped_by options before container p r o)
-    go (Some t) on = entered-on options behind t behind_on (on t refl)
+    go (Some t) on = entered-on options following t following_on (on t refl)
     go None on = lazy (with_lazy options (spot p).leaf r) (lazy-on options (spot p).leaf r)
 
 -- a line

@@ -5,7 +5,7 @@ use Rattle.md_engine.specs.declared.event.Point.{Point}
 use Rattle.md_engine.specs.declared.event.Event.{Event}
 use Rattle.md_engine.specs.declared.event.Name.TheVariants as n
 use Rattle.md_meaning.specs.Tree as t
-use Rattle.md_events.proofs.BlocksLemmas.{read-told}
+use Rattle.md_events.proofs.BlocksLemmas.{read-recorded}
 use Rattle.md_meaning.specs.Texts.{trim_each}
 use Rattle.md_events.specs.Events.Nested.{around}
 use Rattle.md_events.specs.Events.Spelled.{Reading, AsParagraph, add_block, begun, text_to, read}
@@ -17,6 +17,6 @@ pub read-paragraph : (bytes : List ℕ) (r : Reading) (p q : Point) (inside : Li
     r.text ≡ None → Roles Between inside → IsOfLines lines (text_to bytes q.index (text_after bytes (begun p) inside)) →
     read bytes r (around n.Paragraph p q inside) ≡ add_block (t.Paragraph (trim_each lines)) r
 read-paragraph bytes r p q inside lines none between is =
-    read-told bytes r n.Paragraph AsParagraph p q inside refl none between
+    read-recorded bytes r n.Paragraph AsParagraph p q inside refl none between
     ∙ ap (λ (x : List (List ℕ)). add_block (t.Paragraph (trim_each x)) r)
     (split-lines lines (text_to bytes q.index (text_after bytes (begun p) inside)) is)

@@ -1,5 +1,6 @@
 -- The text parts of a block list may be read, and the tree does not depend on how.
-use Rattle.std.proofs.Common.{◌≡◌, ℕ, Bool, true, false, cond, not, ◌&&◌, ◌||◌, List, [], ◌∷◌, ◌++◌, refl, ap, ◌∙◌, arith}
+use Rattle.std.proofs.Common.{◌≡◌, ℕ, Bool, true, false, cond, not, ◌&&◌, ◌||◌, List, [], ◌∷◌, ◌++◌, refl, ap, ◌∙◌}
+use Rattle.std.proofs.Common.{arith}
 use Rattle.std.specs.Prelude.{◌==◌, Option, Some, None, IsTrue}
 use Rattle.std.specs.List.{list_all}
 use Rattle.std.proofs.lemmas.Bool.{and_parts, and_from}
@@ -12,15 +13,17 @@ use Rattle.md_engine.specs.declared.event.Name.TheVariants as n
 use Rattle.md_meaning.specs.Texts.{split_lines}
 use Rattle.md_events.specs.declared.inline.PartKind.{PartKind}
 use Rattle.md_events.specs.declared.inline.Chunk.{Chunk}
-use Rattle.md_events.specs.Events.Pieces.{begins_in_tab, ends_in_tab, piece_stands, piece_text, pieces_stand, stands_over}
+use Rattle.md_events.specs.Events.Pieces.{begins_in_tab, ends_in_tab, is_valid_piece, piece_text, are_valid_pieces}
+use Rattle.md_events.specs.Events.Pieces.{may_cover}
 use Rattle.md_events.specs.Events.Places.{first_point, is_placed, are_placed, at_or_before, same_place}
 use Rattle.md_events.specs.Events.Nested.{Forward, is_exit}
 use Rattle.md_events.specs.Events.Spelled.{Role, spelled}
 use Rattle.md_events.specs.Events.Inline.{Part, Piece, IsPart, KeepsFrame, is_linked, is_inline, together, piece_of}
-use Rattle.md_events.specs.Events.Inline.{pieces_from, pieces, in_order, chunk_placed, are_lines, ends_whole, is_one_line}
-use Rattle.md_events.specs.Events.Tiles.{begins_at, is_part, parts, part_kind, part_of, part_at, part_end, is_white_piece}
-use Rattle.md_events.specs.Events.Tiles.{is_data, links_kind}
-use Rattle.md_events.specs.Events.Tiles.{part_stands, parts_stand, inside_part, chunks, IsBlockList, EachRead, Tiles}
+use Rattle.md_events.specs.Events.Inline.{pieces_from, pieces, in_order, chunk_placed, are_lines, ends_whole}
+use Rattle.md_events.specs.Events.Inline.{is_one_line}
+use Rattle.md_events.specs.Events.Tiles.{begins_at, is_part, parts, part_kind, part_of, part_at, part_end}
+use Rattle.md_events.specs.Events.Tiles.{is_white_piece, is_data, links_kind, is_whole_part, are_whole_parts}
+use Rattle.md_events.specs.Events.Tiles.{inside_part, chunks, IsBlockList, EachRead, Tiles}
 use Rattle.md_events.proofs.HeldLemmas.{AreCalled, all-called, chunks-data}
 use Rattle.md_events.proofs.NestedLemmas.{at_or_before-refl, at_or_before-trans}
 use Rattle.md_events.proofs.SpelledLemmas.{Roles, QuietOrEnding}
@@ -132,9 +135,9 @@ data-whole : (name : Name) → is_data name ≡ true → ends_in_tab name ≡ fa
 data-whole n.Data h = refl
 data-whole name h = cc
 
-whole-piece : (bytes : List ℕ) (piece : Piece) → piece_stands bytes piece ≡ true →
+whole-piece : (bytes : List ℕ) (piece : Piece) → is_valid_piece bytes piece ≡ true →
     (not piece.linked || is_data piece.name) ≡ true → is_whole piece ≡ true
-whole-piece bytes piece stands data_link = go piece.linked data_link
+whole-piece bytes piece valid data_link = go piece.linked data_link
   where
     text : List ℕ
     text = piece_text bytes piece
@@ -146,7 +149,7 @@ whole-piece bytes piece stands data_link = go piece.linked data_link
         (and_parts
         (not (same_place piece.first piece.after) && ((piece.first.vs == 0) || begins_in_tab piece.name)
         && ((piece.after.vs == 0) || ends_in_tab piece.name))
-        (cond piece.linked (is_one_line (split_lines text) true) (stands_over piece.name text)) stands).0).1
+        (cond piece.linked (is_one_line (split_lines text) true) (may_cover piece.name text)) valid).0).1
 
     one : (x y : Bool) → (x || y) ≡ true → y ≡ false → x ≡ true
     one true y h k = refl
@@ -156,23 +159,23 @@ whole-piece bytes piece stands data_link = go piece.linked data_link
     go true h = one (piece.after.vs == 0) (ends_in_tab piece.name) ends (data-whole piece.name h)
     go false h = refl
 
-whole-pieces : (bytes : List ℕ) (list : List Piece) → pieces_stand bytes list ≡ true → AreCalled is_data list →
+whole-pieces : (bytes : List ℕ) (list : List Piece) → are_valid_pieces bytes list ≡ true → AreCalled is_data list →
     list_all is_whole list ≡ true
-whole-pieces bytes [] stand called = refl
-whole-pieces bytes (piece ∷ list) stand called =
-    let stands : (piece_stands bytes piece ≡ true) × (pieces_stand bytes list ≡ true) = and_parts
-    (piece_stands bytes piece) (pieces_stand bytes list) stand in
+whole-pieces bytes [] are_valid called = refl
+whole-pieces bytes (piece ∷ list) are_valid called =
+    let valid : (is_valid_piece bytes piece ≡ true) × (are_valid_pieces bytes list ≡ true) = and_parts
+    (is_valid_piece bytes piece) (are_valid_pieces bytes list) are_valid in
     let names : ((not piece.linked || is_data piece.name) ≡ true) × AreCalled is_data list = and_parts
     (not piece.linked || is_data piece.name)
     (list_all (λ (piece : Piece). not piece.linked || is_data piece.name) list) called in
-    and_from (is_whole piece) (list_all is_whole list) (whole-piece bytes piece stands.0 names.0)
-    (whole-pieces bytes list stands.1 names.1)
+    and_from (is_whole piece) (list_all is_whole list) (whole-piece bytes piece valid.0 names.0)
+    (whole-pieces bytes list valid.1 names.1)
 
 -- after the first event
-whole-behind : (e : Event) (es : List Event) → list_all is_whole (pieces_from e es) ≡ true →
+whole-following : (e : Event) (es : List Event) → list_all is_whole (pieces_from e es) ≡ true →
     list_all is_whole (pieces es) ≡ true
-whole-behind e [] whole = refl
-whole-behind e (f ∷ es) whole = go e.kind f.kind whole
+whole-following e [] whole = refl
+whole-following e (f ∷ es) whole = go e.kind f.kind whole
   where
     go : (k l : Kind) → list_all is_whole (piece_of e f k l ++ pieces_from f es) ≡ true →
         list_all is_whole (pieces_from f es) ≡ true
@@ -185,7 +188,7 @@ whole-behind e (f ∷ es) whole = go e.kind f.kind whole
 whole-from : (e : Event) (es : List Event) → list_all is_whole (pieces_from e es) ≡ true →
     list_all is_whole (pieces_from e (inside_part es)) ≡ true
 whole-from e [] whole = refl
-whole-from e (f ∷ es) whole = go (is_part f.name && is_exit f.kind) (whole-from f es (whole-behind e (f ∷ es) whole))
+whole-from e (f ∷ es) whole = go (is_part f.name && is_exit f.kind) (whole-from f es (whole-following e (f ∷ es) whole))
   where
     here : (k l : Kind) → list_all is_whole (piece_of e f k l ++ pieces_from f es) ≡ true →
         list_all is_whole (pieces_from f (inside_part es)) ≡ true →
@@ -241,35 +244,36 @@ part-is bytes kind end (chunk ∷ list) lines whole order placed =
     (record { end = end; lines = lines; whole = whole; some = omega arith; order = order; placed = placed }, tt)
 
 parts-at : (bytes : List ℕ) (p : Point) (kind : Kind) (part : Option PartKind) (es : List Event) →
-    part_stands bytes kind part p es ≡ true → list_all is_whole (pieces es) ≡ true → Forward p es →
+    is_whole_part bytes kind part p es ≡ true → list_all is_whole (pieces es) ≡ true → Forward p es →
     are_placed bytes es ≡ true → IsTrue (at_or_before first_point p) → EachPart (IsPart bytes) (part_at kind part es)
-parts-at bytes p Enter (Some kind) es stands whole forward placed h =
+parts-at bytes p Enter (Some kind) es valid whole forward placed h =
     let list : List Chunk = chunks (pieces (inside_part es)) in
     let front : Bool = begins_at p list && list_all (is_white_piece bytes) (pieces (inside_part es)) in
     part-is bytes kind (part_end es) list
     (and_parts front (are_lines bytes (part_end es) list)
-    (and_parts (front && are_lines bytes (part_end es) list) (list_all (links_kind kind) (inside_part es)) stands).0).1
+    (and_parts (front && are_lines bytes (part_end es) list) (list_all (links_kind kind) (inside_part es)) valid).0).1
     (whole-chunks (pieces (inside_part es)) (whole-inside es whole))
     (order-from first_point p (chunks (pieces (inside_part es))) h
     (order-chunks p (inside_part es) (inside-forward p es forward)))
     (placed-chunks bytes (inside_part es) (inside-placed bytes es placed))
-parts-at bytes p Enter None es stands whole forward placed h = tt
-parts-at bytes p Exit part es stands whole forward placed h = tt
+parts-at bytes p Enter None es valid whole forward placed h = tt
+parts-at bytes p Exit part es valid whole forward placed h = tt
 
-parts-from : (bytes : List ℕ) (p : Point) (es : List Event) → parts_stand bytes es ≡ true →
+parts-from : (bytes : List ℕ) (p : Point) (es : List Event) → are_whole_parts bytes es ≡ true →
     list_all is_whole (pieces es) ≡ true → Forward p es → are_placed bytes es ≡ true →
     IsTrue (at_or_before first_point p) → EachPart (IsPart bytes) (parts es)
-parts-from bytes p [] stands whole forward placed h = tt
-parts-from bytes p (e ∷ es) stands whole forward placed h =
-    let lines : (part_stands bytes e.kind (part_kind e.name) e.point es ≡ true) ×
-    (parts_stand bytes es ≡ true) = and_parts (part_stands bytes e.kind (part_kind e.name) e.point es)
-    (parts_stand bytes es) stands in
+parts-from bytes p [] valid whole forward placed h = tt
+parts-from bytes p (e ∷ es) valid whole forward placed h =
+    let lines : (is_whole_part bytes e.kind (part_kind e.name) e.point es ≡ true) ×
+    (are_whole_parts bytes es ≡ true) = and_parts (is_whole_part bytes e.kind (part_kind e.name) e.point es)
+    (are_whole_parts bytes es) valid in
     let points : (is_placed bytes e.point ≡ true) ×
     (are_placed bytes es ≡ true) = and_parts (is_placed bytes e.point) (are_placed bytes es) placed in
-    let behind : IsTrue (at_or_before first_point e.point) = at_or_before-trans first_point p e.point h forward.0 in
+    let following : IsTrue (at_or_before first_point e.point) = at_or_before-trans first_point p e.point h forward.0 in
     each-part-append (IsPart bytes) (part_at e.kind (part_kind e.name) es) (parts es)
-    (parts-at bytes e.point e.kind (part_kind e.name) es lines.0 (whole-behind e es whole) forward.1 points.1 behind)
-    (parts-from bytes e.point es lines.1 (whole-behind e es whole) forward.1 points.1 behind)
+    (parts-at bytes e.point e.kind (part_kind e.name) es lines.0 (whole-following e es whole) forward.1
+    points.1 following)
+    (parts-from bytes e.point es lines.1 (whole-following e es whole) forward.1 points.1 following)
 
 -- The text parts of a block list may be read.
 pub parts-are : (bytes : List ℕ) (events : List Event) → IsBlockList bytes events →

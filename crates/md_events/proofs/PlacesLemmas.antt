@@ -161,8 +161,8 @@ pub apart-later : (p q : Point) → p.index < q.index → same_place p q ≡ fal
 apart-later p q h = grind (arith, nat_tests)
 
 -- after a byte that is no CR, no ending continues
-pub apart-behind : (bytes : List ℕ) (i : ℕ) → (slice_index bytes i == 13) ≡ false → splits_pair bytes (i + 1) ≡ false
-apart-behind bytes i h =
+pub apart-following : (bytes : List ℕ) (i : ℕ) → (slice_index bytes i == 13) ≡ false → splits_pair bytes (i + 1) ≡ false
+apart-following bytes i h =
     and_right (nat_lt 0 (i + 1)) (is_pair bytes (i + 1 - 1))
     (ap (is_pair bytes) same ∙ and_left (slice_index bytes i == 13) (slice_index bytes (i + 1) == 10) h)
   where
@@ -215,10 +215,10 @@ placed-from bytes p h =
     (ap not h.apart)
 
 -- the column after a byte, from the columns before its point
-column-behind : (b before vs column : ℕ) → column ≡ before + vs + 1 →
+column-following : (b before vs column : ℕ) → column ≡ before + vs + 1 →
     ((vs == 0) || ((b == 9) && nat_lt vs (tab_columns before))) ≡ true →
     column_past b (column - 1) ≡ column_past b before
-column-behind b before vs column e h = go (b == 9) h
+column-following b before vs column e h = go (b == 9) h
   where
     go : (x : Bool) → ((vs == 0) || (x && nat_lt vs (4 - before % 4))) ≡ true →
         cond x ((column - 1) + (4 - (column - 1) % 4)) ((column - 1) + 1) ≡
@@ -254,7 +254,7 @@ placed-byte bytes p b rest placed next line =
     ((p.vs == 0) || ((first_byte l == 9) && nat_lt p.vs (tab_columns (columns_before bytes p.index)))) ≡ true) next
     placed.within in
     let column : column_past b (p.column - 1) ≡
-    columns_before bytes (p.index + 1) = column-behind b
+    columns_before bytes (p.index + 1) = column-following b
     (columns_before bytes p.index) p.vs p.column placed.column within
     ∙ sym columns in
     let index : suc p.index ≤ length bytes = index-next p.index bytes b rest next in
@@ -266,7 +266,8 @@ placed-byte bytes p b rest placed next line =
           ∙ sym (ap length lines);
       column = omega arith;
       apart =
-          apart-behind bytes p.index (ap (λ (x : ℕ). x == 13) (at-next p.index bytes b rest next) ∙ no_return b line);
+          apart-following bytes p.index (ap (λ (x : ℕ). x == 13) (at-next p.index bytes b rest next)
+          ∙ no_return b line);
     }
 
 -- So is the point after a piece of a line.

@@ -68,7 +68,8 @@ line-end bytes p end h = ap without_ending (range-none bytes p.index end h)
 -- after a byte of a line, what is left leads to the same end
 pub line-step : (bytes : List ℕ) (p : Point) (end : ℕ) → p.index < end → end ≤ length bytes →
     is_ending (slice_index bytes p.index) ≡ false →
-    past_text (line_left bytes (past_byte (slice_index bytes p.index) p) end) (past_byte (slice_index bytes p.index) p) ≡
+    past_text (line_left bytes (past_byte (slice_index bytes p.index) p) end)
+    (past_byte (slice_index bytes p.index) p) ≡
     past_text (line_left bytes p end) p
 line-step bytes p end h k plain = sym (ap (λ (l : List ℕ). past_text l p) (line-more bytes p end h k plain))
 

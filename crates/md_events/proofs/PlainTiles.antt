@@ -9,7 +9,7 @@ use Rattle.md_events.specs.Substituted.{Readings, Substituted, chunk_of, share}
 use Rattle.md_events.specs.TextPart.{text_kind, text_readings, wants_text}
 use Rattle.md_events.proofs.InlineLemmas.{plain-cut}
 use Rattle.md_events.proofs.LayerTiles.{filled-linked, filled-unlinked, left-alone}
-use Rattle.md_events.proofs.PartWalks.{Begins, Ends, GoesOn, Stays, Walk, unlinked-unwanted, walk-blocks}
+use Rattle.md_events.proofs.PartWalks.{Begins, Ends, IsContinued, Stays, Walk, unlinked-unwanted, walk-blocks}
 use Rattle.md_events.proofs.PartsLemmas.{EachPart, parts-are}
 use Rattle.md_events.proofs.SubstitutedLemmas.{SubstitutedBy}
 
@@ -53,7 +53,7 @@ plain-walk bytes (Begins {e = e} {f = f} {es = es} {left = left} {parts = parts}
     ∙ filled-linked e f es (cut_at part.chunks answer ++ rest) is.linked
     ∙ ap (λ (lists : List (List Event)). filled_from false (e ∷ f ∷ es) (lists ++ rest))
     (ap (cut_at part.chunks) next.2 ∙ plain-cut bytes first_point part.chunks are.0.order are.0.whole)
-plain-walk bytes (GoesOn {e = e} {f = f} {es = es} {left = left} {parts = parts} {held = held} is walk) are now out
+plain-walk bytes (IsContinued {e = e} {f = f} {es = es} {left = left} {parts = parts} {held = held} is walk) are now out
     s =
     let next : (rest : List Event) × (is : out ≡ take (share (length left) now f.point.index) now ++ rest)
     × Substituted wants_text (plain_readings bytes) (drop (share (length left) now f.point.index) now)

@@ -16,8 +16,8 @@ use Rattle.md_events.specs.declared.inline.Chunk.{Chunk}
 use Rattle.md_events.specs.Parts.{IsChunk}
 use Rattle.md_events.proofs.InlineLemmas.{line-no_ending, past-index, same-refl}
 use Rattle.md_events.proofs.PlacesLemmas.{Placed, apart-later, placed-facts, placed-text}
-use Rattle.md_events.proofs.PlainSteps.{Rests, One, Two, ending-none, line-and-rest, range-drop, range-length, range-next}
-use Rattle.md_events.proofs.PlainSteps.{rests-of, stops-at}
+use Rattle.md_events.proofs.PlainSteps.{Rests, One, Two, ending-none, line-and-rest, range-drop, range-length}
+use Rattle.md_events.proofs.PlainSteps.{range-next, rests-of, stops-at}
 use Rattle.md_events.proofs.ReachedLemmas.{point-placed}
 use Rattle.md_events.proofs.WalkedLemmas.{one-point}
 
@@ -45,29 +45,31 @@ whole-line bytes chunk is one lt plain = go (cases_lt (length line) (length text
     -- the last byte of an ending ends a line
     cut : (b : ℕ) (rest : List ℕ) → length line < length text → drop (length line) text ≡ b ∷ rest →
         is_ending b ≡ true → Rests b rest → ⊥
-    cut b rest less behind ends (One none) =
+    cut b rest less following ends (One none) =
         let left : slice_range bytes to chunk.after.index ≡ b ∷ [] =
         sym (range-drop bytes chunk.first.index (length line) chunk.after.index (omega (arith, less, size)))
-        ∙ behind ∙ ap (λ (l : List ℕ). b ∷ l) none in
+        ∙ following ∙ ap (λ (l : List ℕ). b ∷ l) none in
         let long : length (slice_range bytes to chunk.after.index) ≡ chunk.after.index - to =
         range-length bytes to chunk.after.index is.after.index in
         let one : length (slice_range bytes to chunk.after.index) ≡ 1 = ap length left in
         let first : slice_index bytes to ∷ slice_range bytes (to + 1) chunk.after.index ≡ b ∷ [] =
-        sym (range-next bytes to chunk.after.index (omega (arith, long, one)) (omega (arith, long, one, is.after.index)))
+        sym (range-next bytes to chunk.after.index (omega (arith, long, one))
+        (omega (arith, long, one, is.after.index)))
         ∙ left in
         let byte : slice_index bytes to ≡ b = cc in
         let last : chunk.after.index - 1 ≡ to = omega (arith, long, one) in
         true≢false
         (sym ends ∙ ap is_ending (sym byte) ∙ ap (λ (i : ℕ). is_ending (slice_index bytes i)) (sym last) ∙ plain)
-    cut b rest less behind ends (Two return feed) =
+    cut b rest less following ends (Two return feed) =
         let left : slice_range bytes to chunk.after.index ≡ b ∷ 10 ∷ [] =
         sym (range-drop bytes chunk.first.index (length line) chunk.after.index (omega (arith, less, size)))
-        ∙ behind ∙ ap (λ (l : List ℕ). b ∷ l) feed in
+        ∙ following ∙ ap (λ (l : List ℕ). b ∷ l) feed in
         let long : length (slice_range bytes to chunk.after.index) ≡ chunk.after.index - to =
         range-length bytes to chunk.after.index is.after.index in
         let two : length (slice_range bytes to chunk.after.index) ≡ 2 = ap length left in
         let first : slice_index bytes to ∷ slice_range bytes (to + 1) chunk.after.index ≡ b ∷ 10 ∷ [] =
-        sym (range-next bytes to chunk.after.index (omega (arith, long, two)) (omega (arith, long, two, is.after.index)))
+        sym (range-next bytes to chunk.after.index (omega (arith, long, two))
+        (omega (arith, long, two, is.after.index)))
         ∙ left in
         let rest_is : slice_range bytes (to + 1) chunk.after.index ≡ 10 ∷ [] = cc in
         let second : slice_index bytes (to + 1) ∷ slice_range bytes ((to + 1) + 1) chunk.after.index ≡ 10 ∷ [] =
@@ -98,7 +100,8 @@ pub whole-chunk : (bytes : List ℕ) (chunk : Chunk) → IsChunk bytes chunk →
     IsTrue (ends_whole chunk) → plain_chunk bytes chunk ≡ pair n.Data chunk.first chunk.after
 whole-chunk bytes chunk is lt plain one whole =
     ap (λ (q : Point). pair_unless_empty n.Data chunk.first q ++ pair_unless_empty n.LineEnding q chunk.after) end
-    ∙ ap (λ x. cond x [] (pair n.Data chunk.first chunk.after) ++ pair_unless_empty n.LineEnding chunk.after chunk.after)
+    ∙ ap (λ x. cond x [] (pair n.Data chunk.first chunk.after)
+    ++ pair_unless_empty n.LineEnding chunk.after chunk.after)
     (apart-later chunk.first chunk.after lt)
     ∙ ap (λ x. pair n.Data chunk.first chunk.after ++ cond x [] (pair n.LineEnding chunk.after chunk.after))
     (same-refl chunk.after)
@@ -118,13 +121,15 @@ whole-chunk bytes chunk is lt plain one whole =
     placed_to : Placed bytes to
     placed_to =
         placed-text bytes chunk.first (without_ending text)
-        (drop (length (without_ending text)) text ++ drop (chunk.after.index - chunk.first.index) (drop chunk.first.index bytes))
+        (drop (length (without_ending text)) text ++ drop (chunk.after.index - chunk.first.index)
+        (drop chunk.first.index bytes))
         (placed-facts bytes chunk.first (point-placed bytes chunk.first is.first))
         (sym
         (sym
         (append_assoc (without_ending text) (drop (length (without_ending text)) text)
         (drop (chunk.after.index - chunk.first.index) (drop chunk.first.index bytes)))
-        ∙ ap (λ l. l ++ drop (chunk.after.index - chunk.first.index) (drop chunk.first.index bytes)) (line-and-rest text)
+        ∙ ap (λ l. l ++ drop (chunk.after.index - chunk.first.index) (drop chunk.first.index bytes))
+        (line-and-rest text)
         ∙ take-append-drop (chunk.after.index - chunk.first.index) (drop chunk.first.index bytes)))
         (line-no_ending text)
 

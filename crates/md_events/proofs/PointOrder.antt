@@ -57,7 +57,8 @@ reached-same bytes p q (n, e) (m, f) i v = elim (cases_lt n m) [
   | inr le ↦ elim (cases_lt m n) [
     | inl lt ↦ absurd
         (never-same q p (sym i) (sym v)
-        (subst (λ (r : Point). Before r p) (sym f) (subst (Before (walked bytes m)) (sym e) (walk-before bytes m n lt))))
+        (subst (λ (r : Point). Before r p) (sym f)
+        (subst (Before (walked bytes m)) (sym e) (walk-before bytes m n lt))))
     | inr same ↦ let k : n ≡ m = omega arith in e ∙ ap (walked bytes) k ∙ sym f
   ]
 ]

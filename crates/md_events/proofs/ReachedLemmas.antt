@@ -20,7 +20,7 @@ use Rattle.md_events.specs.Events.Places.{are_placed, columns_before, columns_fr
 use Rattle.md_events.specs.Events.Places.{splits_pair}
 use Rattle.md_meaning.specs.Rest.{tab_columns}
 use Rattle.md_meaning.specs.Texts.{first_byte, split_lines}
-use Rattle.md_events.proofs.PlacesLemmas.{Placed, Some_line, apart-behind, placed-byte, placed-from, some-split}
+use Rattle.md_events.proofs.PlacesLemmas.{Placed, Some_line, apart-following, placed-byte, placed-from, some-split}
 use Rattle.md_meaning.proofs.TextsLemmas.{Ending, Both, LineFeed, Return, ending_bytes}
 
 -- An ending at the end of a text.
@@ -37,10 +37,10 @@ ends_return-snoc (a ∷ []) b = refl
 ends_return-snoc (a ∷ c ∷ text) b = ends_return-snoc (c ∷ text) b
 
 -- an LF after a CR would be the end of its ending
-abbrev StandsAfter : List ℕ → Ending → Type 0
-StandsAfter text LineFeed = ends_return text ≡ false
-StandsAfter text Return = Unit {0}
-StandsAfter text Both = Unit {0}
+abbrev NoFeedAfter : List ℕ → Ending → Type 0
+NoFeedAfter text LineFeed = ends_return text ≡ false
+NoFeedAfter text Return = Unit {0}
+NoFeedAfter text Both = Unit {0}
 
 onto_first-snoc : (b : ℕ) (lines : List (List ℕ)) → Some_line lines →
     onto_first b (lines ++ [] ∷ []) ≡ onto_first b lines ++ [] ∷ []
@@ -48,21 +48,21 @@ onto_first-snoc b [] s = absurd s
 onto_first-snoc b (line ∷ lines) s = refl
 
 -- a byte ends a line before an ending where it does at the end, unless the ending continues with it
-ends-before : (b : ℕ) (bs : List ℕ) (ending : Ending) → StandsAfter (b ∷ bs) ending →
+ends-before : (b : ℕ) (bs : List ℕ) (ending : Ending) → NoFeedAfter (b ∷ bs) ending →
     ends_line b (bs ++ ending_bytes ending) ≡ ends_line b bs
 ends-before b [] LineFeed h = rw h refl
 ends-before b [] Return h = refl
 ends-before b [] Both h = refl
 ends-before b (c ∷ bs) ending h = refl
 
-after-next : (b : ℕ) (bs : List ℕ) (ending : Ending) → StandsAfter (b ∷ bs) ending → StandsAfter bs ending
+after-next : (b : ℕ) (bs : List ℕ) (ending : Ending) → NoFeedAfter (b ∷ bs) ending → NoFeedAfter bs ending
 after-next b [] LineFeed h = refl
 after-next b (c ∷ bs) LineFeed h = h
 after-next b bs Return h = tt
 after-next b bs Both h = tt
 
 -- an ending begins one line more
-split-ended : (text : List ℕ) (ending : Ending) → StandsAfter text ending →
+split-ended : (text : List ℕ) (ending : Ending) → NoFeedAfter text ending →
     split_lines (text ++ ending_bytes ending) ≡ split_lines text ++ [] ∷ []
 split-ended [] LineFeed h = refl
 split-ended [] Return h = refl
@@ -126,7 +126,7 @@ step-inside bytes p le = go (nat_lt p.index (length bytes)) refl
 
 -- after an ending
 placed-ended : (bytes : List ℕ) (p : Point) (ending : Ending) (i : ℕ) → Placed bytes p → i ≤ length bytes →
-    take i bytes ≡ take p.index bytes ++ ending_bytes ending → StandsAfter (take p.index bytes) ending →
+    take i bytes ≡ take p.index bytes ++ ending_bytes ending → NoFeedAfter (take p.index bytes) ending →
     splits_pair bytes i ≡ false →
     Placed bytes (record { line = p.line + 1; column = 1; index = i; vs = 0 })
 placed-ended bytes p ending i placed le taken after apart =
@@ -194,9 +194,9 @@ placed-column bytes p h lt e more = record {
         h.within
 
 -- the last column of a tab, or a byte of one column
-pub same-behind : (b : ℕ) (p : Point) → 1 ≤ p.column → ((b == 9) && not (p.column % 4 == 0)) ≡ false →
+pub same-following : (b : ℕ) (p : Point) → 1 ≤ p.column → ((b == 9) && not (p.column % 4 == 0)) ≡ false →
     past_byte b p ≡ record p { column = p.column + 1; index = p.index + 1; vs = 0 }
-same-behind b p some h =
+same-following b p some h =
     ap (λ (c : ℕ). record { line = p.line; column = c; index = p.index + 1; vs = 0 })
     (go (b == 9) (p.column % 4 == 0) refl h)
   where
@@ -232,9 +232,9 @@ no_return-before bytes p h lt e = return-before bytes p.index h.index ∙ go (na
     go : (x : Bool) → nat_lt 0 p.index ≡ x → (x && (slice_index bytes (p.index - 1) == 13)) ≡ false
     go false k = refl
     go true k =
-        let behind : (p.index - 1) + 1 ≡ p.index = grind (arith, nat_tests) in
+        let following : (p.index - 1) + 1 ≡ p.index = grind (arith, nat_tests) in
         let feed : (slice_index bytes ((p.index - 1) + 1) == 10) ≡
-        true = ap (λ (j : ℕ). slice_index bytes j == 10) behind
+        true = ap (λ (j : ℕ). slice_index bytes j == 10) following
         ∙ ap (λ (b : ℕ). b == 10) e in
         apart (slice_index bytes (p.index - 1) == 13) (slice_index bytes ((p.index - 1) + 1) == 10)
         (ap (λ (x : Bool). x && is_pair bytes (p.index - 1)) (sym k) ∙ h.apart) feed
@@ -243,7 +243,7 @@ placed-feed : (bytes : List ℕ) (p : Point) → Placed bytes p → p.index < le
     Placed bytes (record { line = p.line + 1; column = 1; index = p.index + 1; vs = 0 })
 placed-feed bytes p h lt e =
     placed-ended bytes p LineFeed (p.index + 1) h (omega arith) (take-next bytes p.index 10 lt e)
-    (no_return-before bytes p h lt e) (apart-behind bytes p.index (ap (λ (b : ℕ). b == 13) e))
+    (no_return-before bytes p h lt e) (apart-following bytes p.index (ap (λ (b : ℕ). b == 13) e))
 
 placed-return : (bytes : List ℕ) (p : Point) → Placed bytes p → p.index < length bytes →
     slice_index bytes p.index ≡ 13 → (slice_index bytes (p.index + 1) == 10) ≡ false →
@@ -266,7 +266,8 @@ placed-both : (bytes : List ℕ) (p : Point) → Placed bytes p → slice_index 
 placed-both bytes p h e k =
     placed-ended bytes p Both (p.index + 2) h (omega (arith, lt))
     (taken ∙ append_assoc (take p.index bytes) (13 ∷ []) (10 ∷ [])) tt
-    (subst (λ (i : ℕ). splits_pair bytes i ≡ false) next (apart-behind bytes (p.index + 1) (ap (λ (b : ℕ). b == 13) k)))
+    (subst (λ (i : ℕ). splits_pair bytes i ≡ false) next
+    (apart-following bytes (p.index + 1) (ap (λ (b : ℕ). b == 13) k)))
   where
     lt : p.index + 1 < length bytes
     lt = byte-inside bytes (p.index + 1) 10 k (omega arith)
@@ -313,10 +314,10 @@ placed-next bytes p h le =
     go false false z false e f g k =
         placed-past bytes p (slice_index bytes p.index) _ h lt refl
         (ap (λ (x : Bool). x || (slice_index bytes p.index == 13)) e ∙ f)
-        (same-behind (slice_index bytes p.index) p (omega (arith, h.column)) k)
+        (same-following (slice_index bytes p.index) p (omega (arith, h.column)) k)
 
-pub index-behind : (bytes : List ℕ) (p : Point) → p.index ≤ (next_point bytes p).index
-index-behind bytes p =
+pub index-following : (bytes : List ℕ) (p : Point) → p.index ≤ (next_point bytes p).index
+index-following bytes p =
     go (is_ending (slice_index bytes p.index)) (is_pair bytes p.index)
     ((slice_index bytes p.index == 9) && not (p.column % 4 == 0))
   where
@@ -336,7 +337,7 @@ unfolding walked
 placed-walked bytes zero le = record { index = le; within = refl; line = refl; column = refl; apart = refl }
 placed-walked bytes (suc n) le =
     placed-next bytes (walked bytes n)
-    (placed-walked bytes n (omega (arith, le, index-behind bytes (walked bytes n)))) le
+    (placed-walked bytes n (omega (arith, le, index-following bytes (walked bytes n)))) le
 
 -- A point within the text that one reaches has its line and column right, and is inside no ending.
 pub reached-placed : (bytes : List ℕ) (p : Point) → IsReached bytes p → p.index ≤ length bytes →

@@ -9,10 +9,10 @@ use Rattle.md_engine.specs.declared.event.Name.TheVariants as n
 use Rattle.md_events.specs.Events.Places.{is_placed}
 use Rattle.md_events.specs.Events.Nested.{pair, around}
 use Rattle.md_events.specs.Events.Inline.{pieces}
-use Rattle.md_events.specs.Events.Endings.{endings_stand}
+use Rattle.md_events.specs.Events.Endings.{endings_are_right}
 use Rattle.md_events.specs.Events.Grammar.{keeps_grammar, unread_text}
-use Rattle.md_events.specs.Events.Pieces.{pieces_stand}
-use Rattle.md_events.specs.Events.Tiles.{parts_stand, chunks_stand}
+use Rattle.md_events.specs.Events.Pieces.{are_valid_pieces}
+use Rattle.md_events.specs.Events.Tiles.{are_whole_parts, chunks_in_parts}
 use Rattle.md_events.proofs.EventRowParts.{at, within_tab, chunk, string_chunk}
 
 -- How the lists are written.
@@ -82,21 +82,21 @@ note_label p q r s t =
 
 record Missing : Type 0 where
   -- a paragraph with nothing inside: "a"
-  empty_paragraph : parts_stand (codes "a") (pair n.Paragraph (on 0) (on 1)) ≡ false
+  empty_paragraph : are_whole_parts (codes "a") (pair n.Paragraph (on 0) (on 1)) ≡ false
   -- a paragraph of two lines with nothing inside: "a\nb"
   bare_paragraph : keeps_grammar unread_text (pair n.Paragraph (on 0) (at 2 2 3)) ≡ false
   -- a heading text without a chunk: "# a"
-  empty_heading_text : parts_stand (codes "# a") (
+  empty_heading_text : are_whole_parts (codes "# a") (
       around n.HeadingAtx (on 0) (on 3) (pair n.HeadingAtxSequence (on 0) (on 1) ++ pair n.SpaceOrTab (on 1) (on 2)
       ++ pair n.HeadingAtxText (on 2) (on 3))) ≡ false
   -- a thematic break after its bytes, with nothing inside: "***"
-  break_behind_its_bytes : keeps_grammar unread_text (
+  break_after_its_bytes : keeps_grammar unread_text (
       pair n.SpaceOrTab (on 0) (on 3) ++ pair n.ThematicBreak (on 3) (on 3)) ≡ false
   -- a quote with a break, both after their bytes: "> ***"
-  quote_behind_its_bytes : keeps_grammar unread_text (
+  quote_after_its_bytes : keeps_grammar unread_text (
       pair n.SpaceOrTab (on 0) (on 5) ++ around n.BlockQuote (on 5) (on 5) (pair n.ThematicBreak (on 5) (on 5))) ≡ false
   -- a thematic break without a sequence: "***"
-  bare_break : pieces_stand (codes "***") (pieces (pair n.ThematicBreak (on 0) (on 3))) ≡ false
+  bare_break : are_valid_pieces (codes "***") (pieces (pair n.ThematicBreak (on 0) (on 3))) ≡ false
   -- an ATX heading without its sequence: "a"
   heading_without_sequence : keeps_grammar unread_text (
       around n.HeadingAtx (on 0) (on 1) (part n.HeadingAtxText (on 0) (on 1))) ≡ false
@@ -140,7 +140,7 @@ record Missing : Type 0 where
       around n.GfmFootnoteDefinition (on 0) (on 1) (around n.GfmFootnoteDefinitionPrefix (on 0) (on 1)
       (pair n.DefinitionMarker (on 0) (on 1)))) ≡ false
   -- a footnote's label with an empty text: "[^]:"
-  footnote_without_text : parts_stand (codes "[^]:") (
+  footnote_without_text : are_whole_parts (codes "[^]:") (
       around n.GfmFootnoteDefinition (on 0) (on 4) (around n.GfmFootnoteDefinitionPrefix (on 0) (on 4)
       (around n.GfmFootnoteDefinitionLabel (on 0) (on 3) (pair n.GfmFootnoteDefinitionLabelMarker (on 0) (on 1)
       ++ pair n.GfmFootnoteDefinitionMarker (on 1) (on 2) ++ pair n.GfmFootnoteDefinitionLabelString (on 2) (on 2)
@@ -174,7 +174,7 @@ record Missing : Type 0 where
       ++ pair n.LineEnding (at 2 2 3) (at 3 1 4) ++ around n.GfmTableBody (at 3 1 4) (at 3 2 5)
       (around n.GfmTableRow (at 3 1 4) (at 3 2 5) (pair n.SpaceOrTab (at 3 1 4) (at 3 2 5))))) ≡ false
   -- a cell with nothing inside: "|\n-"
-  empty_cell : pieces_stand (codes "|" ++ 10 ∷ codes "-") (pieces (
+  empty_cell : are_valid_pieces (codes "|" ++ 10 ∷ codes "-") (pieces (
       around n.GfmTable (on 0) (at 2 2 3) (around n.GfmTableHead (on 0) (at 2 2 3) (around n.GfmTableRow (on 0) (on 1)
       (around n.GfmTableCell (on 0) (on 1) (pair n.GfmTableCellDivider (on 0) (on 1))
       ++ pair n.GfmTableCell (on 1) (on 1)) ++ pair n.LineEnding (on 1) (at 2 1 2)
@@ -192,8 +192,8 @@ missing = record {
   empty_paragraph = refl;
   bare_paragraph = refl;
   empty_heading_text = refl;
-  break_behind_its_bytes = refl;
-  quote_behind_its_bytes = refl;
+  break_after_its_bytes = refl;
+  quote_after_its_bytes = refl;
   bare_break = refl;
   heading_without_sequence = refl;
   setext_without_underline = refl;
@@ -328,7 +328,7 @@ record Misplaced : Type 0 where
       around n.ListUnordered (on 0) (at 2 1 4) (around n.ListItem (on 0) (on 3) (bullet (on 0) (on 1) (on 2)
       ++ paragraph (on 2) (on 3)) ++ pair n.LineEnding (on 3) (at 2 1 4))) ≡ false
   -- an item's value after its marker: ".1"
-  value_behind_marker : keeps_grammar unread_text (
+  value_after_marker : keeps_grammar unread_text (
       around n.ListOrdered (on 0) (on 2) (around n.ListItem (on 0) (on 2) (around n.ListItemPrefix (on 0) (on 2)
       (pair n.ListItemMarker (on 0) (on 1) ++ pair n.ListItemValue (on 1) (on 2))))) ≡ false
   -- an item with two prefixes: "- - a"
@@ -355,7 +355,7 @@ record Misplaced : Type 0 where
       ++ part n.GfmTableCellText (on 2) (on 3))) ++ pair n.LineEnding (on 3) (at 2 1 4)
       ++ delimiters (at 2 1 4) (at 2 2 5)))) ≡ false
   -- frontmatter after a paragraph: "a\n---\n---"
-  frontmatter_behind : keeps_grammar unread_text (
+  frontmatter_after : keeps_grammar unread_text (
       paragraph (on 0) (on 1) ++ pair n.LineEnding (on 1) (at 2 1 2) ++ around n.Frontmatter (at 2 1 2) (at 3 4 9)
       (front_fence (at 2 1 2) (at 2 4 5) ++ pair n.LineEnding (at 2 4 5) (at 3 1 6)
       ++ front_fence (at 3 1 6) (at 3 4 9))) ≡ false
@@ -365,7 +365,7 @@ record Misplaced : Type 0 where
       ++ around n.Frontmatter (on 2) (at 2 4 9) (front_fence (on 2) (on 5) ++ pair n.LineEnding (on 5) (at 2 1 6)
       ++ front_fence (at 2 1 6) (at 2 4 9)))) ≡ false
   -- a byte order mark after a paragraph: "a\n(mark)"
-  mark_behind : keeps_grammar unread_text (
+  mark_after : keeps_grammar unread_text (
       paragraph (on 0) (on 1) ++ pair n.LineEnding (on 1) (at 2 1 2) ++ pair n.ByteOrderMark (at 2 1 2) (at 2 4 5)) ≡
       false
 
@@ -399,53 +399,53 @@ misplaced = record {
   item_outside_list = refl;
   two_items_on_a_line = refl;
   list_over_ending = refl;
-  value_behind_marker = refl;
+  value_after_marker = refl;
   two_item_prefixes = refl;
   row_outside = refl;
   two_heads = refl;
   delimiters_in_body = refl;
   two_cell_texts = refl;
-  frontmatter_behind = refl;
+  frontmatter_after = refl;
   frontmatter_in_quote = refl;
-  mark_behind = refl;
+  mark_after = refl;
 }
 
 -- Line endings.
 
 record Endings : Type 0 where
   -- an ending of a blank line after a paragraph: "a\n"
-  blank_ending_behind_paragraph : endings_stand (
+  blank_ending_after_paragraph : endings_are_right (
       paragraph (on 0) (on 1) ++ pair n.BlankLineEnding (on 1) (at 2 1 2)) ≡ false
   -- an ending after a blank line that is not called so: " \n"
-  ending_of_blank_line : endings_stand (
+  ending_of_blank_line : endings_are_right (
       pair n.SpaceOrTab (on 0) (on 1) ++ pair n.LineEnding (on 1) (at 2 1 2)) ≡ false
   -- an ending after a bare prefix that is not called that of a blank line: ">\n>"
-  ending_of_bare_prefix : endings_stand (
+  ending_of_bare_prefix : endings_are_right (
       around n.BlockQuote (on 0) (at 2 2 3) (around n.BlockQuotePrefix (on 0) (on 1)
       (pair n.BlockQuoteMarker (on 0) (on 1)) ++ pair n.LineEnding (on 1) (at 2 1 2)
       ++ around n.BlockQuotePrefix (at 2 1 2) (at 2 2 3) (pair n.BlockQuoteMarker (at 2 1 2) (at 2 2 3)))) ≡ false
   -- an ending of a blank line in fenced code: "```\n\n"
-  blank_ending_in_code : endings_stand (
+  blank_ending_in_code : endings_are_right (
       around n.CodeFenced (on 0) (at 3 1 5) (fence (on 0) (on 3) ++ pair n.LineEnding (on 3) (at 2 1 4)
       ++ pair n.BlankLineEnding (at 2 1 4) (at 3 1 5))) ≡ false
   -- an ending of a blank line after the heading of an item: "- #\n"
-  blank_ending_behind_bare_item : endings_stand (
+  blank_ending_after_bare_item : endings_are_right (
       around n.ListUnordered (on 0) (on 3) (around n.ListItem (on 0) (on 3) (bullet (on 0) (on 1) (on 2)
       ++ around n.HeadingAtx (on 2) (on 3) (pair n.HeadingAtxSequence (on 2) (on 3))))
       ++ pair n.BlankLineEnding (on 3) (at 2 1 4)) ≡ false
   -- an ending over two line endings: "a\n\n"
-  two_endings_in_one : pieces_stand (codes "a" ++ 10 ∷ 10 ∷ []) (pieces (
+  two_endings_in_one : are_valid_pieces (codes "a" ++ 10 ∷ 10 ∷ []) (pieces (
       paragraph (on 0) (on 1) ++ pair n.LineEnding (on 1) (at 3 1 3))) ≡ false
   -- an ending that is called spaces and tabs: "\n"
-  white_ending : pieces_stand (10 ∷ []) (pieces (pair n.SpaceOrTab (on 0) (at 2 1 1))) ≡ false
+  white_ending : are_valid_pieces (10 ∷ []) (pieces (pair n.SpaceOrTab (on 0) (at 2 1 1))) ≡ false
 
 endings : Endings
 endings = record {
-  blank_ending_behind_paragraph = refl;
+  blank_ending_after_paragraph = refl;
   ending_of_blank_line = refl;
   ending_of_bare_prefix = refl;
   blank_ending_in_code = refl;
-  blank_ending_behind_bare_item = refl;
+  blank_ending_after_bare_item = refl;
   two_endings_in_one = refl;
   white_ending = refl;
 }
@@ -454,72 +454,74 @@ endings = record {
 
 record Contents : Type 0 where
   -- a byte order mark over other bytes: "abc"
-  mark_over_letters : pieces_stand (codes "abc") (pieces (pair n.ByteOrderMark (on 0) (on 3))) ≡ false
+  mark_over_letters : are_valid_pieces (codes "abc") (pieces (pair n.ByteOrderMark (on 0) (on 3))) ≡ false
   -- a marker of a quote over a space: " a"
-  quote_marker_over_space : pieces_stand (codes " a") (pieces (
+  quote_marker_over_space : are_valid_pieces (codes " a") (pieces (
       around n.BlockQuote (on 0) (on 2) (around n.BlockQuotePrefix (on 0) (on 1)
       (pair n.BlockQuoteMarker (on 0) (on 1)) ++ paragraph (on 1) (on 2)))) ≡ false
   -- an item's marker over two bytes: "--"
-  two_bytes_of_marker : pieces_stand (codes "--") (pieces (
+  two_bytes_of_marker : are_valid_pieces (codes "--") (pieces (
       around n.ListUnordered (on 0) (on 2) (around n.ListItem (on 0) (on 2) (around n.ListItemPrefix (on 0) (on 2)
       (pair n.ListItemMarker (on 0) (on 2)))))) ≡ false
   -- an item's value over a letter: "a."
-  letters_as_value : pieces_stand (codes "a.") (pieces (
+  letters_as_value : are_valid_pieces (codes "a.") (pieces (
       around n.ListOrdered (on 0) (on 2) (around n.ListItem (on 0) (on 2) (around n.ListItemPrefix (on 0) (on 2)
       (pair n.ListItemValue (on 0) (on 1) ++ pair n.ListItemMarker (on 1) (on 2)))))) ≡ false
   -- an item's value over ten digits: "0123456789."
-  ten_digits : pieces_stand (codes "0123456789.") (pieces (
+  ten_digits : are_valid_pieces (codes "0123456789.") (pieces (
       around n.ListOrdered (on 0) (on 11) (around n.ListItem (on 0) (on 11) (around n.ListItemPrefix (on 0) (on 11)
       (pair n.ListItemValue (on 0) (on 10) ++ pair n.ListItemMarker (on 10) (on 11)))))) ≡ false
   -- a heading's sequence over a letter: "a"
-  letter_as_heading : pieces_stand (codes "a") (pieces (
+  letter_as_heading : are_valid_pieces (codes "a") (pieces (
       around n.HeadingAtx (on 0) (on 1) (pair n.HeadingAtxSequence (on 0) (on 1)))) ≡ false
   -- an underline of `#`: "a\n##"
-  hashes_as_underline : pieces_stand (codes "a" ++ 10 ∷ codes "##") (pieces (
+  hashes_as_underline : are_valid_pieces (codes "a" ++ 10 ∷ codes "##") (pieces (
       around n.HeadingSetext (on 0) (at 2 3 4) (part n.HeadingSetextText (on 0) (on 1)
       ++ pair n.LineEnding (on 1) (at 2 1 2) ++ around n.HeadingSetextUnderline (at 2 1 2) (at 2 3 4)
       (pair n.HeadingSetextUnderlineSequence (at 2 1 2) (at 2 3 4))))) ≡ false
   -- an underline of `=` and `-`: "a\n=-"
-  mixed_underline : pieces_stand (codes "a" ++ 10 ∷ codes "=-") (pieces (
+  mixed_underline : are_valid_pieces (codes "a" ++ 10 ∷ codes "=-") (pieces (
       around n.HeadingSetext (on 0) (at 2 3 4) (part n.HeadingSetextText (on 0) (on 1)
       ++ pair n.LineEnding (on 1) (at 2 1 2) ++ around n.HeadingSetextUnderline (at 2 1 2) (at 2 3 4)
       (pair n.HeadingSetextUnderlineSequence (at 2 1 2) (at 2 3 4))))) ≡ false
   -- a break's sequence with a space in it: "* **"
-  break_over_spaces : pieces_stand (codes "* **") (pieces (
+  break_over_spaces : are_valid_pieces (codes "* **") (pieces (
       around n.ThematicBreak (on 0) (on 4) (pair n.ThematicBreakSequence (on 0) (on 4)))) ≡ false
   -- a fence of two backticks: "``"
-  two_backticks : pieces_stand (codes "``") (pieces (around n.CodeFenced (on 0) (on 2) (fence (on 0) (on 2)))) ≡ false
+  two_backticks : are_valid_pieces (codes "``")
+      (pieces (around n.CodeFenced (on 0) (on 2) (fence (on 0) (on 2)))) ≡ false
   -- a fence of backticks and tildes: "``~"
-  mixed_fence : pieces_stand (codes "``~") (pieces (around n.CodeFenced (on 0) (on 3) (fence (on 0) (on 3)))) ≡ false
+  mixed_fence : are_valid_pieces (codes "``~")
+      (pieces (around n.CodeFenced (on 0) (on 3) (fence (on 0) (on 3)))) ≡ false
   -- a fence of math of one dollar: "$"
-  one_dollar : pieces_stand (codes "$") (pieces (
+  one_dollar : are_valid_pieces (codes "$") (pieces (
       around n.MathFlow (on 0) (on 1) (around n.MathFlowFence (on 0) (on 1)
       (pair n.MathFlowFenceSequence (on 0) (on 1))))) ≡ false
   -- a line of code over two lines: "```\na\nb"
-  code_over_lines : pieces_stand (codes "```" ++ 10 ∷ codes "a" ++ 10 ∷ codes "b") (pieces (
+  code_over_lines : are_valid_pieces (codes "```" ++ 10 ∷ codes "a" ++ 10 ∷ codes "b") (pieces (
       around n.CodeFenced (on 0) (at 3 2 7) (fence (on 0) (on 3) ++ pair n.LineEnding (on 3) (at 2 1 4)
       ++ pair n.CodeFlowChunk (at 2 1 4) (at 3 2 7)))) ≡ false
   -- a fence of frontmatter of two bytes: "--\n---"
-  short_frontmatter : pieces_stand (codes "--" ++ 10 ∷ codes "---") (pieces (
+  short_frontmatter : are_valid_pieces (codes "--" ++ 10 ∷ codes "---") (pieces (
       around n.Frontmatter (on 0) (at 2 4 6) (around n.FrontmatterFence (on 0) (on 2)
       (pair n.FrontmatterSequence (on 0) (on 2)) ++ pair n.LineEnding (on 2) (at 2 1 3)
       ++ front_fence (at 2 1 3) (at 2 4 6)))) ≡ false
   -- a title's markers over letters: "[a]:b xx"
-  letter_as_title_marker : pieces_stand (codes "[a]:b xx") (pieces (
+  letter_as_title_marker : are_valid_pieces (codes "[a]:b xx") (pieces (
       around n.Definition (on 0) (on 8) (label (on 0) (on 1) (on 2) (on 3) ++ pair n.DefinitionMarker (on 3) (on 4)
       ++ destination (on 4) (on 5) ++ pair n.SpaceOrTab (on 5) (on 6) ++ around n.DefinitionTitle (on 6) (on 8)
       (pair n.DefinitionTitleMarker (on 6) (on 7) ++ pair n.DefinitionTitleMarker (on 7) (on 8))))) ≡ false
   -- a divider over a letter: "ab\n-"
-  letter_as_divider : pieces_stand (codes "ab" ++ 10 ∷ codes "-") (pieces (
+  letter_as_divider : are_valid_pieces (codes "ab" ++ 10 ∷ codes "-") (pieces (
       around n.GfmTable (on 0) (at 2 2 4) (around n.GfmTableHead (on 0) (at 2 2 4) (around n.GfmTableRow (on 0) (on 2)
       (around n.GfmTableCell (on 0) (on 2) (pair n.GfmTableCellDivider (on 0) (on 1)
       ++ part n.GfmTableCellText (on 1) (on 2))) ++ pair n.LineEnding (on 2) (at 2 1 3)
       ++ delimiters (at 2 1 3) (at 2 2 4))))) ≡ false
   -- spaces and tabs over nothing: "a"
-  nothing_as_white : pieces_stand (codes "a") (pieces (
+  nothing_as_white : are_valid_pieces (codes "a") (pieces (
       pair n.SpaceOrTab (on 0) (on 0) ++ paragraph (on 0) (on 1))) ≡ false
   -- a text part that ends within a tab: "#\ta\t"
-  text_ends_in_tab : pieces_stand (codes "#" ++ 9 ∷ codes "a" ++ 9 ∷ []) (pieces (
+  text_ends_in_tab : are_valid_pieces (codes "#" ++ 9 ∷ codes "a" ++ 9 ∷ []) (pieces (
       around n.HeadingAtx (on 0) (at 1 9 4) (pair n.HeadingAtxSequence (on 0) (on 1)
       ++ pair n.SpaceOrTab (on 1) (at 1 5 2) ++ part n.HeadingAtxText (at 1 5 2) (within_tab 1 7 3 1)
       ++ pair n.SpaceOrTab (within_tab 1 7 3 1) (at 1 9 4)))) ≡ false
@@ -550,35 +552,35 @@ contents = record {
 
 record Unread : Type 0 where
   -- text that no layer is asked for: "a"
-  unlinked : chunks_stand 0 (around n.Paragraph (on 0) (on 1) (pair n.Data (on 0) (on 1))) ≡ false
+  unlinked : chunks_in_parts 0 (around n.Paragraph (on 0) (on 1) (pair n.Data (on 0) (on 1))) ≡ false
   -- text that is called spaces and tabs: "a"
-  white : parts_stand (codes "a") (around n.Paragraph (on 0) (on 1) (pair n.SpaceOrTab (on 0) (on 1))) ≡ false
+  white : are_whole_parts (codes "a") (around n.Paragraph (on 0) (on 1) (pair n.SpaceOrTab (on 0) (on 1))) ≡ false
   -- a chunk inside a container prefix: "a"
-  inner_chunk : chunks_stand 0 (
+  inner_chunk : chunks_in_parts 0 (
       around n.Paragraph (on 0) (on 1) (around n.BlockQuotePrefix (on 0) (on 1) (chunk (on 0) (on 1)))) ≡ false
   -- a chunk outside of text parts: "a"
-  chunk_outside : chunks_stand 0 (chunk (on 0) (on 1)) ≡ false
+  chunk_outside : chunks_in_parts 0 (chunk (on 0) (on 1)) ≡ false
   -- a chunk over two lines: "a\nb"
-  lines : parts_stand (codes "a" ++ 10 ∷ codes "b") (part n.Paragraph (on 0) (at 2 2 3)) ≡ false
+  lines : are_whole_parts (codes "a" ++ 10 ∷ codes "b") (part n.Paragraph (on 0) (at 2 2 3)) ≡ false
   -- a chunk that does not reach over the ending of its line: "a\nb"
-  short : parts_stand (codes "a" ++ 10 ∷ codes "b") (
+  short : are_whole_parts (codes "a" ++ 10 ∷ codes "b") (
       around n.Paragraph (on 0) (at 2 2 3) (chunk (on 0) (on 1) ++ pair n.LineEnding (on 1) (at 2 1 2)
       ++ chunk (at 2 1 2) (at 2 2 3))) ≡ false
   -- a chunk that begins between CR and LF: "a\r\nb"
-  between_cr_and_lf : parts_stand (codes "a" ++ 13 ∷ 10 ∷ codes "b") (
+  between_cr_and_lf : are_whole_parts (codes "a" ++ 13 ∷ 10 ∷ codes "b") (
       around n.Paragraph (on 0) (at 2 2 4) (chunk (on 0) (at 2 1 2) ++ chunk (at 2 1 2) (at 2 2 4))) ≡ false
   -- a paragraph that begins one byte before its first chunk: " a"
-  late_chunk : parts_stand (codes " a") (
+  late_chunk : are_whole_parts (codes " a") (
       around n.Paragraph (on 0) (on 2) (pair n.SpaceOrTab (on 0) (on 1) ++ chunk (on 1) (on 2))) ≡ false
   -- a paragraph that begins one byte before its first chunk, with nothing between: " a"
-  early_part : parts_stand (codes " a") (around n.Paragraph (on 0) (on 2) (chunk (on 1) (on 2))) ≡ false
+  early_part : are_whole_parts (codes " a") (around n.Paragraph (on 0) (on 2) (chunk (on 1) (on 2))) ≡ false
   -- two chunks on one line: "ab"
-  two_chunks_on_a_line : parts_stand (codes "ab") (
+  two_chunks_on_a_line : are_whole_parts (codes "ab") (
       around n.Paragraph (on 0) (on 2) (chunk (on 0) (on 1) ++ chunk (on 1) (on 2))) ≡ false
   -- a string in the place of a text: "a"
-  other_kind : parts_stand (codes "a") (around n.Paragraph (on 0) (on 1) (string_chunk (on 0) (on 1))) ≡ false
+  other_kind : are_whole_parts (codes "a") (around n.Paragraph (on 0) (on 1) (string_chunk (on 0) (on 1))) ≡ false
   -- a chunk over nothing: "a"
-  empty_chunk : pieces_stand (codes "a") (pieces (
+  empty_chunk : are_valid_pieces (codes "a") (pieces (
       around n.Paragraph (on 0) (on 1) (chunk (on 0) (on 1) ++ chunk (on 1) (on 1)))) ≡ false
 
 unread : Unread
@@ -609,7 +611,7 @@ record Points : Type 0 where
   -- a point on the line before its own: "a\nb"
   earlier_line : is_placed (codes "a" ++ 10 ∷ codes "b") (at 1 3 2) ≡ false
   -- a point after the text: "a"
-  behind_text : is_placed (codes "a") (at 1 3 2) ≡ false
+  after_text : is_placed (codes "a") (at 1 3 2) ≡ false
   -- the LF of a CR LF, which is one ending
   pair_cut : is_placed (13 ∷ 10 ∷ []) (at 2 1 1) ≡ false
 
@@ -619,6 +621,6 @@ points = record {
   whole_tab_cut = refl;
   tab_as_column = refl;
   earlier_line = refl;
-  behind_text = refl;
+  after_text = refl;
   pair_cut = refl;
 }

@@ -8,9 +8,9 @@ use Rattle.md_engine.specs.declared.tokenizer.Line.{Line}
 use Rattle.md_engine.specs.Meaning.{Cell}
 use Rattle.md_events.specs.Ahead.{begins_white, point_after, white_end, white_rest}
 use Rattle.md_events.specs.Events.Places.{at_or_before, past_byte, past_text}
-use Rattle.md_meaning.specs.Rest.{Rest, behind, behind_indent, cut_tab, indent, is_white, lose, tab_columns}
+use Rattle.md_meaning.specs.Rest.{Rest, following, after_indent, cut_tab, indent, is_white, lose, tab_columns}
 use Rattle.md_meaning.specs.Rest.{white_columns, without_column}
-use Rattle.md_events.proofs.FeedLines.{Stops, before-byte, before-column, behind_last, byte-one, cell, columns_more}
+use Rattle.md_events.proofs.FeedLines.{Stops, before-byte, before-column, after_last, byte-one, cell, columns_more}
 use Rattle.md_events.proofs.FeedLines.{next_column, past-next, point_after-append, spread, spread-end, stops-white}
 use Rattle.md_events.proofs.FeedLines.{tab-end, tab_cells, tab_end, tab_end-last, tab_end-next, tab_end-stop}
 use Rattle.md_events.proofs.NestedLemmas.{at_or_before-refl, at_or_before-trans}
@@ -31,10 +31,10 @@ Cut zero p = p.vs ≡ 0
 Cut (suc n) p = (0 < p.vs) × (n ≡ columns_more p)
 
 -- a rest of a line begins at a point of a text, and this is after it
-pub record RestAt (text behind : List ℕ) (r : Rest) (p : Point) : Type 0 where
+pub record RestAt (text following : List ℕ) (r : Rest) (p : Point) : Type 0 where
   pub column : p.column ≡ r.column + 1
   pub cut : Cut r.spaces p
-  pub text_is : drop p.index text ≡ cut_tab r.spaces ++ r.bytes ++ behind
+  pub text_is : drop p.index text ≡ cut_tab r.spaces ++ r.bytes ++ following
 
 -- where the line ends
 abbrev pub past_cut : ℕ → Point → Point
@@ -60,38 +60,38 @@ abbrev pub without_first : Rest → Rest
 without_first r = without_column r.column r.spaces r.bytes
 
 -- whitespace comes first: one cell of it, and after it the rest without a column
-pub record HasColumn (line : Line) (text behind : List ℕ) (r : Rest) (p : Point) : Type 0 where
+pub record HasColumn (line : Line) (text following : List ℕ) (r : Rest) (p : Point) : Type 0 where
   pub byte : ℕ
   pub at : Point
   pub white : is_white byte ≡ true
   pub cells : rest_cells line r p ≡ cell byte at line ∷ rest_cells line (without_first r) at
   pub columns : indent r ≡ suc (indent (without_first r))
-  pub stands : RestAt text behind (without_first r) at
+  pub valid : RestAt text following (without_first r) at
   pub onward : IsTrue (at_or_before p at)
 
 abbrev rest : ℕ → ℕ → List ℕ → Rest
 rest column spaces bytes = record { column = column; spaces = spaces; bytes = bytes }
 
 -- of a cut tab
-cut-column : (line : Line) (text behind : List ℕ) (column n : ℕ) (bytes : List ℕ) (p : Point) →
-    RestAt text behind (rest column (suc n) bytes) p → HasColumn line text behind (rest column (suc n) bytes) p
-cut-column line text behind column zero bytes p is = record {
+cut-column : (line : Line) (text following : List ℕ) (column n : ℕ) (bytes : List ℕ) (p : Point) →
+    RestAt text following (rest column (suc n) bytes) p → HasColumn line text following (rest column (suc n) bytes) p
+cut-column line text following column zero bytes p is = record {
   byte = 32;
-  at = behind_last p;
+  at = after_last p;
   white = refl;
-  cells = ap (λ (q : Point). cell 32 (behind_last p) line ∷ spread line bytes q) (sym (tab_end-last p));
+  cells = ap (λ (q : Point). cell 32 (after_last p) line ∷ spread line bytes q) (sym (tab_end-last p));
   columns =
       let same : white_columns (column + 1) bytes ≡
       white_columns (column + 1 + 0) bytes = ap (λ (c : ℕ). white_columns c bytes) (omega arith) in
       omega arith;
-  stands = record {
+  valid = record {
     column = omega (arith, is.column);
     cut = refl;
-    text_is = past-next p.index text 9 (bytes ++ behind) is.text_is;
+    text_is = past-next p.index text 9 (bytes ++ following) is.text_is;
   };
-  onward = before-byte p (behind_last p) (omega arith);
+  onward = before-byte p (after_last p) (omega arith);
 }
-cut-column line text behind column (suc n) bytes p is = record {
+cut-column line text following column (suc n) bytes p is = record {
   byte = 32;
   at = next_column p;
   white = refl;
@@ -102,7 +102,7 @@ cut-column line text behind column (suc n) bytes p is = record {
       let same : white_columns (column + suc (suc n)) bytes ≡
       white_columns (column + 1 + suc n) bytes = ap (λ (c : ℕ). white_columns c bytes) (omega arith) in
       omega arith;
-  stands = record {
+  valid = record {
     column = omega (arith, is.column);
     cut = (omega arith, let left = is.cut.1 in omega arith);
     text_is = is.text_is;
@@ -110,9 +110,9 @@ cut-column line text behind column (suc n) bytes p is = record {
   onward = before-column p;
 }
 
-space-column : (line : Line) (text behind : List ℕ) (column : ℕ) (bytes : List ℕ) (p : Point) →
-    RestAt text behind (rest column 0 (32 ∷ bytes)) p → HasColumn line text behind (rest column 0 (32 ∷ bytes)) p
-space-column line text behind column bytes p is = record {
+space-column : (line : Line) (text following : List ℕ) (column : ℕ) (bytes : List ℕ) (p : Point) →
+    RestAt text following (rest column 0 (32 ∷ bytes)) p → HasColumn line text following (rest column 0 (32 ∷ bytes)) p
+space-column line text following column bytes p is = record {
   byte = 32;
   at = past_byte 32 p;
   white = refl;
@@ -121,18 +121,18 @@ space-column line text behind column bytes p is = record {
       let same : white_columns (column + 0 + 1) bytes ≡
       white_columns (column + 1 + 0) bytes = ap (λ (c : ℕ). white_columns c bytes) (omega arith) in
       omega arith;
-  stands = record {
+  valid = record {
     column = omega (arith, is.column);
     cut = refl;
-    text_is = past-next p.index text 32 (bytes ++ behind) is.text_is;
+    text_is = past-next p.index text 32 (bytes ++ following) is.text_is;
   };
   onward = before-byte p (past_byte 32 p) (omega arith);
 }
 
 -- of a tab: its first column is fed as the tab, and so many more are left
-tab-column : (line : Line) (text behind : List ℕ) (column : ℕ) (bytes : List ℕ) (p : Point) →
-    RestAt text behind (rest column 0 (9 ∷ bytes)) p → HasColumn line text behind (rest column 0 (9 ∷ bytes)) p
-tab-column line text behind column bytes p is = go (columns_more p) refl (let at = is.column in omega arith)
+tab-column : (line : Line) (text following : List ℕ) (column : ℕ) (bytes : List ℕ) (p : Point) →
+    RestAt text following (rest column 0 (9 ∷ bytes)) p → HasColumn line text following (rest column 0 (9 ∷ bytes)) p
+tab-column line text following column bytes p is = go (columns_more p) refl (let at = is.column in omega arith)
   where
     r : Rest
     r = rest column 0 (9 ∷ bytes)
@@ -154,14 +154,14 @@ tab-column line text behind column bytes p is = go (columns_more p) refl (let at
         ap (λ (k : ℕ). tab_cells line k 9 p ++ spread line bytes (past_byte 9 p)) e
         ∙ ap (λ (q : Point). tab_cells line n 9 p ++ spread line bytes q) (sym (stop n e))
 
-    go : (n : ℕ) → columns_more p ≡ n → n ≡ tab_columns column - 1 → HasColumn line text behind r p
+    go : (n : ℕ) → columns_more p ≡ n → n ≡ tab_columns column - 1 → HasColumn line text following r p
     go zero e f =
-        let q = behind_last p in
-        let stands : RestAt text behind
+        let q = after_last p in
+        let valid : RestAt text following
         (rest (column + 1) 0 bytes) q = record {
           column = omega (arith, is.column);
           cut = refl;
-          text_is = past-next p.index text 9 (bytes ++ behind) is.text_is;
+          text_is = past-next p.index text 9 (bytes ++ following) is.text_is;
         } in
         record {
           byte = 9;
@@ -171,12 +171,12 @@ tab-column line text behind column bytes p is = go (columns_more p) refl (let at
               with_columns 0 e ∙ ap (λ (x : Point). cell 9 q line ∷ spread line bytes x) (sym (tab_end-last p))
               ∙ ap (λ (k : ℕ). cell 9 q line ∷ cells_by line k bytes q) f;
           columns = columns_are;
-          stands = subst (λ (k : ℕ). RestAt text behind (rest (column + 1) k bytes) q) f stands;
+          valid = subst (λ (k : ℕ). RestAt text following (rest (column + 1) k bytes) q) f valid;
           onward = before-byte p q (omega arith);
         }
     go (suc n) e f =
         let q = next_column p in
-        let stands : RestAt text behind
+        let valid : RestAt text following
         (rest (column + 1) (suc n) bytes) q = record {
           column = omega (arith, is.column);
           cut = (omega arith, omega (arith, e));
@@ -192,36 +192,38 @@ tab-column line text behind column bytes p is = go (columns_more p) refl (let at
               (sym (tab_end-next n p))
               ∙ ap (λ (k : ℕ). cell 9 q line ∷ cells_by line k bytes q) f;
           columns = columns_are;
-          stands = subst (λ (k : ℕ). RestAt text behind (rest (column + 1) k bytes) q) f stands;
+          valid = subst (λ (k : ℕ). RestAt text following (rest (column + 1) k bytes) q) f valid;
           onward = before-column p;
         }
 
 -- where there is an indent
-pub column-first : (line : Line) (text behind : List ℕ) (r : Rest) (p : Point) → RestAt text behind r p → 0 < indent r →
-    HasColumn line text behind r p
-column-first line text behind r p is = go r.column r.spaces r.bytes is
+pub column-first : (line : Line) (text following : List ℕ) (r : Rest) (p : Point) → RestAt text following r p →
+    0 < indent r →
+    HasColumn line text following r p
+column-first line text following r p is = go r.column r.spaces r.bytes is
   where
-    go : (column spaces : ℕ) (bytes : List ℕ) → RestAt text behind (rest column spaces bytes) p →
-        0 < indent (rest column spaces bytes) → HasColumn line text behind (rest column spaces bytes) p
-    go column (suc n) bytes h lt = cut-column line text behind column n bytes p h
+    go : (column spaces : ℕ) (bytes : List ℕ) → RestAt text following (rest column spaces bytes) p →
+        0 < indent (rest column spaces bytes) → HasColumn line text following (rest column spaces bytes) p
+    go column (suc n) bytes h lt = cut-column line text following column n bytes p h
     go column zero [] h lt = absurd (omega (arith, lt))
     go column zero (b ∷ bs) h lt = by (b == 9) refl (b == 32) refl
       where
         Has : ℕ → Type 0
-        Has c = RestAt text behind (rest column 0 (c ∷ bs)) p → HasColumn line text behind (rest column 0 (c ∷ bs)) p
+        Has c = RestAt text following (rest column 0 (c ∷ bs)) p →
+            HasColumn line text following (rest column 0 (c ∷ bs)) p
 
         by : (t : Bool) → (b == 9) ≡ t → (s : Bool) → (b == 32) ≡ s →
-            HasColumn line text behind (rest column zero (b ∷ bs)) p
-        by true e s f = subst Has (sym (eqb-true b 9 e)) (tab-column line text behind column bs p) h
-        by false e true f = subst Has (sym (eqb-true b 32 f)) (space-column line text behind column bs p) h
+            HasColumn line text following (rest column zero (b ∷ bs)) p
+        by true e s f = subst Has (sym (eqb-true b 9 e)) (tab-column line text following column bs p) h
+        by false e true f = subst Has (sym (eqb-true b 32 f)) (space-column line text following column bs p) h
         by false e false f =
             let none : white_columns (column + 0) (b ∷ bs) ≡ 0 = rw (e, f) refl in absurd (omega (arith, lt, none))
 
 -- the line ends where it did
-pub column-end : (line : Line) (text behind : List ℕ) (r : Rest) (p : Point) → RestAt text behind r p →
-    (first : HasColumn line text behind r p) → past_rest (without_first r) first.at ≡ past_rest r p
-column-end line text behind r p is first =
-    sym (rest-end line (without_first r) first.at (omega (arith, first.stands.column)))
+pub column-end : (line : Line) (text following : List ℕ) (r : Rest) (p : Point) → RestAt text following r p →
+    (first : HasColumn line text following r p) → past_rest (without_first r) first.at ≡ past_rest r p
+column-end line text following r p is first =
+    sym (rest-end line (without_first r) first.at (omega (arith, first.valid.column)))
     ∙ sym (ap (λ (l : List Cell). point_after l p) first.cells)
     ∙ rest-end line r p (omega (arith, is.column))
 
@@ -284,33 +286,35 @@ white-length (suc room) (c ∷ cs) = go (is_white c.byte) (white-length room cs)
     go false le = omega arith
 
 -- so many columns of whitespace are taken, as many as there are: after them the rest without its indent
-pub record HasIndent (line : Line) (text behind : List ℕ) (room : ℕ) (r : Rest) (p : Point) (stop : List Cell)
+pub record HasIndent (line : Line) (text following : List ℕ) (room : ℕ) (r : Rest) (p : Point) (stop : List Cell)
     (left : Rest) : Type 0 where
   pub cells : white_rest room (rest_cells line r p ++ stop) ≡
       rest_cells line left (white_end room (rest_cells line r p ++ stop) p) ++ stop
   pub none : indent left ≡ 0
-  pub stands : RestAt text behind left (white_end room (rest_cells line r p ++ stop) p)
+  pub valid : RestAt text following left (white_end room (rest_cells line r p ++ stop) p)
   pub ends : past_rest left (white_end room (rest_cells line r p ++ stop) p) ≡ past_rest r p
   pub onward : IsTrue (at_or_before p (white_end room (rest_cells line r p ++ stop) p))
 
-indent-walk : (line : Line) (text behind : List ℕ) (n room : ℕ) (r : Rest) (p : Point) (stop : List Cell) →
-    RestAt text behind r p → Stops stop → indent r ≡ n → n ≤ room → HasIndent line text behind room r p stop (lose n r)
-indent-walk line text behind zero room r p stop is k e le =
+indent-walk : (line : Line) (text following : List ℕ) (n room : ℕ) (r : Rest) (p : Point) (stop : List Cell) →
+    RestAt text following r p → Stops stop → indent r ≡ n → n ≤ room →
+    HasIndent line text following room r p stop (lose n r)
+indent-walk line text following zero room r p stop is k e le =
     let white = bare-cells line r p stop e k in
     let end : white_end room (rest_cells line r p ++ stop) p ≡
     p = none-end room (rest_cells line r p ++ stop) p white in
     record {
       cells =
-          none-rest room (rest_cells line r p ++ stop) white ∙ ap (λ (q : Point). rest_cells line r q ++ stop) (sym end);
+          none-rest room (rest_cells line r p ++ stop) white
+          ∙ ap (λ (q : Point). rest_cells line r q ++ stop) (sym end);
       none = e;
-      stands = subst (RestAt text behind r) (sym end) is;
+      valid = subst (RestAt text following r) (sym end) is;
       ends = ap (past_rest r) end;
       onward = subst (λ (q : Point). IsTrue (at_or_before p q)) (sym end) (at_or_before-refl p);
     }
-indent-walk line text behind (suc n) zero r p stop is k e le = absurd (omega (arith, le))
-indent-walk line text behind (suc n) (suc room) r p stop is k e le =
-    let first = column-first line text behind r p is (omega (arith, e)) in
-    let further = indent-walk line text behind n room (without_first r) first.at stop first.stands k
+indent-walk line text following (suc n) zero r p stop is k e le = absurd (omega (arith, le))
+indent-walk line text following (suc n) (suc room) r p stop is k e le =
+    let first = column-first line text following r p is (omega (arith, e)) in
+    let further = indent-walk line text following n room (without_first r) first.at stop first.valid k
     (omega (arith, e, first.columns)) (omega (arith, le)) in
     let cs = rest_cells line (without_first r) first.at ++ stop in
     let cells : rest_cells line r p ++ stop ≡
@@ -324,45 +328,48 @@ indent-walk line text behind (suc n) (suc room) r p stop is k e le =
           ∙ further.cells
           ∙ ap (λ (q : Point). rest_cells line (lose n (without_first r)) q ++ stop) (sym end);
       none = further.none;
-      stands = subst (RestAt text behind (lose n (without_first r))) (sym end) further.stands;
-      ends = ap (past_rest (lose n (without_first r))) end ∙ further.ends ∙ column-end line text behind r p is first;
+      valid = subst (RestAt text following (lose n (without_first r))) (sym end) further.valid;
+      ends = ap (past_rest (lose n (without_first r))) end ∙ further.ends ∙ column-end line text following r p is first;
       onward =
           subst (λ (q : Point). IsTrue (at_or_before p q)) (sym end)
           (at_or_before-trans p first.at (white_end room cs first.at) first.onward further.onward);
     }
 
-pub indent-taken : (line : Line) (text behind : List ℕ) (room : ℕ) (r : Rest) (p : Point) (stop : List Cell) →
-    RestAt text behind r p → Stops stop → indent r ≤ room → HasIndent line text behind room r p stop (behind_indent r)
-indent-taken line text behind room r p stop is k le = indent-walk line text behind (indent r) room r p stop is k refl le
+pub indent-taken : (line : Line) (text following : List ℕ) (room : ℕ) (r : Rest) (p : Point) (stop : List Cell) →
+    RestAt text following r p → Stops stop → indent r ≤ room →
+    HasIndent line text following room r p stop (after_indent r)
+indent-taken line text following room r p stop is k le =
+    indent-walk line text following (indent r) room r p stop is k refl le
 
 -- where there is more of it, whitespace is left
-pub indent-over : (line : Line) (text behind : List ℕ) (room : ℕ) (r : Rest) (p : Point) (stop : List Cell) →
-    RestAt text behind r p → room < indent r → begins_white (white_rest room (rest_cells line r p ++ stop)) ≡ true
-indent-over line text behind zero r p stop is lt =
-    let first = column-first line text behind r p is lt in
+pub indent-over : (line : Line) (text following : List ℕ) (room : ℕ) (r : Rest) (p : Point) (stop : List Cell) →
+    RestAt text following r p → room < indent r → begins_white (white_rest room (rest_cells line r p ++ stop)) ≡ true
+indent-over line text following zero r p stop is lt =
+    let first = column-first line text following r p is lt in
     ap (λ (l : List Cell). begins_white (white_rest 0 (l ++ stop))) first.cells ∙ first.white
-indent-over line text behind (suc room) r p stop is lt =
-    let first = column-first line text behind r p is (omega (arith, lt)) in
+indent-over line text following (suc room) r p stop is lt =
+    let first = column-first line text following r p is (omega (arith, lt)) in
     let cs = rest_cells line (without_first r) first.at ++ stop in
     ap (λ (l : List Cell). begins_white (white_rest (suc room) (l ++ stop))) first.cells
     ∙ ap (λ (t : Bool). begins_white (cond t (white_rest room cs) (cell first.byte first.at line ∷ cs))) first.white
-    ∙ indent-over line text behind room (without_first r) first.at stop first.stands (omega (arith, lt, first.columns))
+    ∙ indent-over line text following room (without_first r) first.at stop first.valid
+    (omega (arith, lt, first.columns))
 
 -- an indent has no more columns than there are cells
-indent-size : (line : Line) (text behind : List ℕ) (n : ℕ) (r : Rest) (p : Point) → RestAt text behind r p →
+indent-size : (line : Line) (text following : List ℕ) (n : ℕ) (r : Rest) (p : Point) → RestAt text following r p →
     indent r ≡ n → n ≤ length (rest_cells line r p)
-indent-size line text behind zero r p is e = omega arith
-indent-size line text behind (suc n) r p is e =
-    let first = column-first line text behind r p is (omega (arith, e)) in
+indent-size line text following zero r p is e = omega arith
+indent-size line text following (suc n) r p is e =
+    let first = column-first line text following r p is (omega (arith, e)) in
     let size : length (rest_cells line r p) ≡
     suc (length (rest_cells line (without_first r) first.at)) = ap length first.cells in
-    let more = indent-size line text behind n (without_first r) first.at first.stands
+    let more = indent-size line text following n (without_first r) first.at first.valid
     (omega (arith, e, first.columns)) in
     omega (arith, size, more)
 
-pub indent-length : (line : Line) (text behind : List ℕ) (r : Rest) (p : Point) → RestAt text behind r p →
+pub indent-length : (line : Line) (text following : List ℕ) (r : Rest) (p : Point) → RestAt text following r p →
     indent r ≤ length (rest_cells line r p)
-indent-length line text behind r p is = indent-size line text behind (indent r) r p is refl
+indent-length line text following r p is = indent-size line text following (indent r) r p is refl
 
 -- What is left has no ending where the line has none.
 
@@ -384,7 +391,7 @@ pub lose-no_ending : (n : ℕ) (r : Rest) → NoEnding r.bytes → NoEnding (los
 lose-no_ending zero r h = h
 lose-no_ending (suc n) r h = lose-no_ending n (without_first r) (without-no_ending r.column r.spaces r.bytes h)
 
-pub behind-no_ending : (n : ℕ) (r : Rest) → NoEnding r.bytes → NoEnding (behind n r).bytes
-behind-no_ending n r h = no_ending-drop n r.bytes h
+pub following-no_ending : (n : ℕ) (r : Rest) → NoEnding r.bytes → NoEnding (following n r).bytes
+following-no_ending n r h = no_ending-drop n r.bytes h
 
 -- The text.

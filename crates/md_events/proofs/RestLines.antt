@@ -9,7 +9,7 @@ use Rattle.md_engine.specs.declared.event.Point.{Point}
 use Rattle.md_engine.specs.declared.tokenizer.Line.{Line}
 use Rattle.md_engine.specs.Meaning.{Cell}
 use Rattle.md_meaning.specs.Bytes.{is_end}
-use Rattle.md_meaning.specs.Rest.{Rest, behind_indent, cut_tab, has_small_indent, indent, is_blank, is_white, lose}
+use Rattle.md_meaning.specs.Rest.{Rest, after_indent, cut_tab, has_small_indent, indent, is_blank, is_white, lose}
 use Rattle.md_meaning.specs.Rest.{tab_columns, trim_start}
 use Rattle.md_meaning.proofs.TextsLemmas.{NoEnding}
 use Rattle.md_events.specs.Ahead.{from_ending, line_bytes, line_cells, line_end, point_after}
@@ -188,9 +188,9 @@ trim-lose zero r = refl
 trim-lose (suc n) r = trim-lose n (without_first r) ∙ trim-without r
 
 -- where no indent is left, the bytes after it are all but the whitespace in front
-pub indent-trims : (r : Rest) → indent (behind_indent r) ≡ 0 → (behind_indent r).bytes ≡ trim_start r.bytes
+pub indent-trims : (r : Rest) → indent (after_indent r) ≡ 0 → (after_indent r).bytes ≡ trim_start r.bytes
 indent-trims r none =
-    sym (bare-trims (behind_indent r).spaces (behind_indent r).bytes (bare (behind_indent r) none))
+    sym (bare-trims (after_indent r).spaces (after_indent r).bytes (bare (after_indent r) none))
     ∙ trim-lose (indent r) r
   where
     bare-trims : (spaces : ℕ) (bytes : List ℕ) → Bare spaces bytes → trim_start bytes ≡ bytes

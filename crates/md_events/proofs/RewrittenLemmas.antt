@@ -22,9 +22,9 @@ pub held-set : (events : List Event) (done read : ℕ) (e : Event) → done ≤ 
     take (read + 1 - done) (drop done (set events read e)) ≡ take (read - done) (drop done events) ++ e ∷ []
 held-set events done read e le within =
     let new : List Event = set events read e in
-    let behind : drop read new ≡ e ∷ drop (read + 1) events = drop-set events read e within in
+    let following : drop read new ≡ e ∷ drop (read + 1) events = drop-set events read e within in
     let front : drop read new ≡ e ∷ drop 1 (drop read new) =
-    behind ∙ ap (λ (l : List Event). e ∷ l) (sym (ap (drop 1) behind)) in
+    following ∙ ap (λ (l : List Event). e ∷ l) (sym (ap (drop 1) following)) in
     let at : read ≡ done + (read - done) = omega arith in
     held-more new done read e le front
     ∙ ap (λ (l : List Event). l ++ e ∷ [])
@@ -34,7 +34,8 @@ held-set events done read e le within =
 
 -- so many events more are held
 pub held-many : (events : List Event) (done read count : ℕ) → done ≤ read →
-    take (read + count - done) (drop done events) ≡ take (read - done) (drop done events) ++ take count (drop read events)
+    take (read + count - done) (drop done events) ≡ take (read - done) (drop done events)
+    ++ take count (drop read events)
 held-many events done read count le =
     let k = read - done in
     let at : drop k (drop done events) ≡ drop read events = drop-drop k done events
@@ -60,9 +61,9 @@ pub made-longer : (events more : List Event) (end many : ℕ) → end ≡ length
 made-longer events more end many is = ap (λ (l : List Event). l ++ more) (take_all (end + many) events (omega arith))
 
 -- then so is what is after it
-pub moved-behind : (events new : List Event) (done read many : ℕ) → done ≤ read →
+pub moved-following : (events new : List Event) (done read many : ℕ) → done ≤ read →
     drop (done + many) new ≡ drop done events → drop (read + many) new ≡ drop read events
-moved-behind events new done read many le moved =
+moved-following events new done read many le moved =
     ap (λ (n : ℕ). drop n new) (omega arith)
     ∙ sym (drop-drop (read - done) (done + many) new)
     ∙ ap (drop (read - done)) moved

@@ -4,11 +4,12 @@ use Rattle.std.specs.Prelude.{Option, Some, None, option_map, nat_lt}
 use Rattle.md_engine.specs.declared.event.Point.{Point}
 use Rattle.md_engine.specs.declared.event.Event.{Event}
 use Rattle.md_engine.specs.declared.event.Name.TheVariants as n
-use Rattle.md_events.proofs.BlocksLemmas.{read-told}
+use Rattle.md_events.proofs.BlocksLemmas.{read-recorded}
 use Rattle.md_meaning.specs.Texts.{trim_each}
 use Rattle.md_events.specs.Events.Nested.{around, pair}
-use Rattle.md_events.specs.Events.Spelled.{AsHeading, HeadingSetextLeaf, HeadingSoFar, OfHeadingSetext, OpenLeaf, Reading}
-use Rattle.md_events.specs.Events.Spelled.{Text, at_ending, begun, fresh, next_line, noted, on_leaf, read, text_to}
+use Rattle.md_events.specs.Events.Spelled.{AsHeading, HeadingSetextLeaf, HeadingSoFar, OfHeadingSetext, OpenLeaf}
+use Rattle.md_events.specs.Events.Spelled.{Reading, Text, at_ending, begun, fresh, next_line, noted, on_leaf, read}
+use Rattle.md_events.specs.Events.Spelled.{text_to}
 use Rattle.md_meaning.proofs.TextsLemmas.{IsOfLines, split-lines}
 use Rattle.md_events.proofs.SpelledLemmas.{Between, QuietOrPrefix, Roles, read-from, read-within, text_after}
 
@@ -20,7 +21,7 @@ pub read-setext_text : (bytes : List ℕ) (r : Reading) (p q : Point) (inside : 
     record r { leaf = Some (HeadingSetextLeaf (record { markers = []; text = trim_each lines })) }
 read-setext_text bytes r p q inside lines none opened between is =
     let text : Text = text_after bytes (begun p) inside in
-    read-told bytes r n.HeadingSetextText AsHeading p q inside refl none between
+    read-recorded bytes r n.HeadingSetextText AsHeading p q inside refl none between
     ∙ ap
     (λ (o : Option OpenLeaf).
     record r {

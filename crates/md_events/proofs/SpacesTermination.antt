@@ -14,7 +14,7 @@ use Rattle.md_engine.specs.declared.state.State.{State}
 use Rattle.md_engine.specs.declared.event.Name.TheVariants.{SpaceOrTab}
 use Rattle.md_engine.specs.declared.tokenizer.Scratch.{Scratch}
 use Rattle.md_engine.specs.Scheme.{Ends, EndsLater, Fits, Good, Grown, Reaches, Scheme, Position, after_all, seen}
-use Rattle.md_engine.specs.Scheme.{position, spot_at, stands, state_number, work}
+use Rattle.md_engine.specs.Scheme.{position, spot_at, valid, state_number, work}
 use Rattle.md_engine.specs.Run.{Remains, plain}
 use Rattle.md_engine.specs.World.{Setting, World, after, looks}
 use Rattle.md_engine.proofs.Falls.{later}
@@ -30,10 +30,10 @@ abbrev pub Does : Scheme → StateName → World → Transition → Type 0
 Does T n w a = Good T n w a.to a.world × (a.world.setting ≡ w.setting)
 
 -- the same of a state and a world that are known to be those
-pub does-stands : (T : Scheme) (name : StateName) (w : World) (a : Transition) (s : State) (w' : World) → s ≡ a.to →
-    w' ≡ a.world → Does T name w a → stands T w' (plain s)
-does-stands T name w a s w' e k d =
-    let P : World → Type 0 = λ x. stands T x (plain s) in
+pub does-valid : (T : Scheme) (name : StateName) (w : World) (a : Transition) (s : State) (w' : World) → s ≡ a.to →
+    w' ≡ a.world → Does T name w a → valid T w' (plain s)
+does-valid T name w a s w' e k d =
+    let P : World → Type 0 = λ x. valid T x (plain s) in
     subst P (sym k) (rw e d.0.0)
 
 pub does-fall : (T : Scheme) (name : StateName) (w : World) (a : Transition) (s : State) (w' : World) → s ≡ a.to →
@@ -53,7 +53,8 @@ does-remain T name w a s w' e k d =
     subst P (sym k) (rw e d.0.2)
 
 -- what is here may be read, where a test that nothing passes holds of it
-pub seen-in : (x : Position) (t : Option ℕ → Bool) → t None ≡ false → t (seen x) ≡ true → x.point.index < x.setting.limit
+pub seen-in : (x : Position) (t : Option ℕ → Bool) → t None ≡ false → t (seen x) ≡ true → x.point.index <
+    x.setting.limit
 seen-in x t n e = go (nat_lt x.point.index x.setting.limit) refl
   where
     go : (b : Bool) → nat_lt x.point.index x.setting.limit ≡ b → x.point.index < x.setting.limit
@@ -95,12 +96,13 @@ pub rest-size : (s : Scratch) → IsRest s → s.size ≡ 0
 rest-size s e = ap (λ (t : Scratch). t.size) e
 
 -- a construct that ends after the cell that is here
-pub accepts-behind : (T : Scheme) (n : StateName) (w : World) (P Q : Scratch → Type 0) (events : List Event)
+pub accepts-following : (T : Scheme) (n : StateName) (w : World) (P Q : Scratch → Type 0) (events : List Event)
     (s : Scratch) →
     w.point.index < w.setting.limit → Ends P Q (position w) (after_all T w.frames) → P s →
     Good T n w Ok (record w { events = events; point = after w.setting w.point; scratch = s })
-accepts-behind T n w P Q events s inside e is =
-    let less = weighs w.setting.limit 0 (state_number T (Next n) (position w)) 0 (T.level n) (omega arith) (omega arith) in (
+accepts-following T n w P Q events s inside e is =
+    let less = weighs w.setting.limit 0 (state_number T (Next n) (position w)) 0 (T.level n) (omega arith)
+    (omega arith) in (
       e.ok s (after w.setting w.point) w.setting is (grown-same w.setting) (takes w.setting w.point inside),
       omega (arith, less),
       tt,
@@ -167,7 +169,8 @@ white_else : (T own : Scheme) (name next : StateName) (w : World) (events : List
     ((q : Point) (t : Setting) → Grown w.setting t → Reaches t.limit w.point q →
     own.ready next (spot_at t q (calmed s)) (after_all T w.frames)) →
     own.level next ≤ own.level name → 0 < own.level name →
-    ((t : Setting) → Grown w.setting t → (own.rank next (spot_at t w.point (calmed s))).number < (own.tries next).number) →
+    ((t : Setting) → Grown w.setting t → (own.rank next (spot_at t w.point (calmed s))).number <
+    (own.tries next).number) →
     (own.tries next).number < (own.rank name (position w)).number →
     Does T name w (white_then (record w { events = events; scratch = s }) min max (Next next) Nok)
 white_else T own name next w events s min max white fn fx none refuse r le pos low lt = (
@@ -195,7 +198,8 @@ pub white_try : (T own : Scheme) (name next : StateName) (w : World) (events : L
     ((q : Point) (t : Setting) → Grown w.setting t → Reaches t.limit w.point q →
     own.ready next (spot_at t q (calmed s)) (after_all T w.frames)) →
     own.level next ≤ own.level name → 0 < own.level name →
-    ((t : Setting) → Grown w.setting t → (own.rank next (spot_at t w.point (calmed s))).number < (own.tries next).number) →
+    ((t : Setting) → Grown w.setting t → (own.rank next (spot_at t w.point (calmed s))).number <
+    (own.tries next).number) →
     (own.tries next).number < (own.rank name (position w)).number →
     Does T name w (white_then (record w { events = events; scratch = s }) min max (Next next) Nok)
 white_try T own name next w events s min max P Q white fn fx none calm ends =
@@ -210,7 +214,8 @@ pub white_try_later : (T own : Scheme) (name next : StateName) (w : World) (even
     ((q : Point) (t : Setting) → Grown w.setting t → Reaches t.limit w.point q →
     own.ready next (spot_at t q (calmed s)) (after_all T w.frames)) →
     own.level next ≤ own.level name → 0 < own.level name →
-    ((t : Setting) → Grown w.setting t → (own.rank next (spot_at t w.point (calmed s))).number < (own.tries next).number) →
+    ((t : Setting) → Grown w.setting t → (own.rank next (spot_at t w.point (calmed s))).number <
+    (own.tries next).number) →
     (own.tries next).number < (own.rank name (position w)).number →
     Does T name w (white_then (record w { events = events; scratch = s }) min max (Next next) Nok)
 white_try_later T own name next w events s min max P Q white fn fx none calm ends =

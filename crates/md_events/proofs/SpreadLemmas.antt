@@ -1,6 +1,7 @@
 -- What is known of a line by the first byte that is neither a marker nor whitespace.
-use Rattle.std.proofs.Common.{◌≡◌, ℕ, zero, suc, ◌+◌, ◌-◌, ◌<◌, ◌≤◌, ◌⊎◌, inl, inr, Bool, true, false, cond, not, ◌&&◌, ◌||◌}
-use Rattle.std.proofs.Common.{List, [], ◌∷◌, length, nat_eq, nat_lt, Option, Some, None, refl, sym, ◌∙◌, ap, arith}
+use Rattle.std.proofs.Common.{◌≡◌, ℕ, zero, suc, ◌+◌, ◌-◌, ◌<◌, ◌≤◌, ◌⊎◌, inl, inr, Bool, true, false, cond, not, ◌&&◌}
+use Rattle.std.proofs.Common.{◌||◌, List, [], ◌∷◌, length, nat_eq, nat_lt, Option, Some, None, refl, sym, ◌∙◌, ap}
+use Rattle.std.proofs.Common.{arith}
 use Rattle.std.specs.Prelude.{slice_index, slice_range}
 use Rattle.std.specs.List.{list_all}
 use Rattle.std.proofs.lemmas.Bool.{eqb-true, or_parts}
@@ -15,7 +16,8 @@ use Rattle.md_engine.proofs.Points.{cells-fall}
 use Rattle.md_engine.specs.Sees.{Sees}
 use Rattle.md_meaning.specs.Rest.{is_white}
 use Rattle.md_events.specs.Ahead.{line_bytes}
-use Rattle.md_events.specs.Look.{as_seen, behind_code, first_behind, first_other, is_other, looks_behind, sees_other}
+use Rattle.md_events.specs.Look.{as_seen, following_code, first_following, first_other, is_other, looks_after}
+use Rattle.md_events.specs.Look.{sees_other}
 use Rattle.md_events.specs.Spaces.{sees_white}
 use Rattle.md_events.proofs.LookLemmas.{Along, IsWhiteAt, dark-at, left_at, none-left, white-at}
 use Rattle.md_events.proofs.PlainSteps.{range-next, range-none}
@@ -43,7 +45,7 @@ first-other bytes marker zero from limit n low at h = go (nat_lt n limit) refl
 first-other bytes marker (suc d) from limit n low at h =
     go (nat_lt from limit) refl
     (first-other bytes marker d (from + 1) limit n low (omega (arith, at)) (record {
-      behind = omega (arith, at);
+      following = omega (arith, at);
       each = λ k le lt. h.each k (omega (arith, le)) lt;
       ends = h.ends;
     }))
@@ -72,10 +74,11 @@ pub other-seen : (w : World) (marker n : ℕ) (b : Bool) → w.setting.limit ≤
 unfolding sees_other
 other-seen w marker n b low h lt is =
     let here : nat_lt n w.setting.limit ≡ true = grind (arith, nat_tests) in
-    let behind = h.behind in
+    let following = h.following in
     is ∙ ap (λ (y : Bool). is_other (cond y (Some (slice_index w.setting.bytes n)) None)) (sym here)
     ∙ ap is_other
-    (sym (first-other w.setting.bytes marker (n - w.point.index) w.point.index w.setting.limit n low (omega (arith, behind)) h))
+    (sym (first-other w.setting.bytes marker (n - w.point.index) w.point.index w.setting.limit n low
+    (omega (arith, following)) h))
 
 pub other-unknown : (w : World) (marker n : ℕ) (b : Bool) → w.setting.limit ≤ length w.setting.bytes →
     EndsRun w.setting.bytes marker w.point.index w.setting.limit n → w.setting.limit ≤ n → b ≡ false →
@@ -83,10 +86,11 @@ pub other-unknown : (w : World) (marker n : ℕ) (b : Bool) → w.setting.limit 
 unfolding sees_other
 other-unknown w marker n b low h le is =
     let past : nat_lt n w.setting.limit ≡ false = grind (arith, nat_tests) in
-    let behind = h.behind in
+    let following = h.following in
     is ∙ ap (λ (y : Bool). is_other (cond y (Some (slice_index w.setting.bytes n)) None)) (sym past)
     ∙ ap is_other
-    (sym (first-other w.setting.bytes marker (n - w.point.index) w.point.index w.setting.limit n low (omega (arith, behind)) h))
+    (sym (first-other w.setting.bytes marker (n - w.point.index) w.point.index w.setting.limit n low
+    (omega (arith, following)) h))
 
 -- A run with a space for its marker is whitespace alone.
 
@@ -101,52 +105,53 @@ abbrev seen_first : Option ℕ → Option ℕ
 seen_first None = None
 seen_first (Some b) = Some (as_seen b)
 
-behind-white : (bytes : List ℕ) → first_behind bytes ≡ seen_first (first_other 32 bytes)
-behind-white [] = refl
-behind-white (b ∷ bytes) =
-    go (is_white b) (behind-white bytes)
+following-white : (bytes : List ℕ) → first_following bytes ≡ seen_first (first_other 32 bytes)
+following-white [] = refl
+following-white (b ∷ bytes) =
+    go (is_white b) (following-white bytes)
     ∙ ap (λ (x : Bool). seen_first (cond x (first_other 32 bytes) (Some b))) (sym (white-alone b))
   where
-    go : (x : Bool) → first_behind bytes ≡ seen_first (first_other 32 bytes) →
-        cond x (first_behind bytes) (Some (as_seen b)) ≡ seen_first (cond x (first_other 32 bytes) (Some b))
+    go : (x : Bool) → first_following bytes ≡ seen_first (first_other 32 bytes) →
+        cond x (first_following bytes) (Some (as_seen b)) ≡ seen_first (cond x (first_other 32 bytes) (Some b))
     go true h = h
     go false h = refl
 
 -- where whitespace is here, the first byte after it is where its run ends
-behind-first : (w : World) (n : ℕ) → w.setting.limit ≤ length w.setting.bytes →
+following-first : (w : World) (n : ℕ) → w.setting.limit ≤ length w.setting.bytes →
     EndsRun w.setting.bytes 32 w.point.index w.setting.limit n → sees_white w.current ≡ true →
-    seen_first (cond (nat_lt n w.setting.limit) (Some (slice_index w.setting.bytes n)) None) ≡ looks_behind w
-unfolding looks_behind
-behind-first w n low h white =
-    let behind = h.behind in
+    seen_first (cond (nat_lt n w.setting.limit) (Some (slice_index w.setting.bytes n)) None) ≡ looks_after w
+unfolding looks_after
+following-first w n low h white =
+    let following = h.following in
     ap seen_first
     (sym
-    (first-other w.setting.bytes 32 (n - w.point.index) w.point.index w.setting.limit n low (omega (arith, behind)) h))
-    ∙ sym (behind-white (slice_range w.setting.bytes w.point.index w.setting.limit)) ∙ go w.current white
+    (first-other w.setting.bytes 32 (n - w.point.index) w.point.index w.setting.limit n low
+    (omega (arith, following)) h))
+    ∙ sym (following-white (slice_range w.setting.bytes w.point.index w.setting.limit)) ∙ go w.current white
   where
     found : Option ℕ
-    found = first_behind (slice_range w.setting.bytes w.point.index w.setting.limit)
+    found = first_following (slice_range w.setting.bytes w.point.index w.setting.limit)
 
-    go : (o : Option ℕ) → sees_white o ≡ true → found ≡ behind_code o found
+    go : (o : Option ℕ) → sees_white o ≡ true → found ≡ following_code o found
     go None e = cc
     go (Some b) e = ap (λ (x : Bool). cond x found (Some b)) (sym e)
 
-pub behind-seen : (w : World) (n b : ℕ) → w.setting.limit ≤ length w.setting.bytes →
+pub following-seen : (w : World) (n b : ℕ) → w.setting.limit ≤ length w.setting.bytes →
     EndsRun w.setting.bytes 32 w.point.index w.setting.limit n → sees_white w.current ≡ true →
-    n < w.setting.limit → b ≡ as_seen (slice_index w.setting.bytes n) → Some b ≡ looks_behind w
-behind-seen w n b low h white lt is =
+    n < w.setting.limit → b ≡ as_seen (slice_index w.setting.bytes n) → Some b ≡ looks_after w
+following-seen w n b low h white lt is =
     let here : nat_lt n w.setting.limit ≡ true = grind (arith, nat_tests) in
     ap Some is
     ∙ ap (λ (x : Bool). seen_first (cond x (Some (slice_index w.setting.bytes n)) None)) (sym here)
-    ∙ behind-first w n low h white
+    ∙ following-first w n low h white
 
-pub behind-unknown : (w : World) (n : ℕ) → w.setting.limit ≤ length w.setting.bytes →
+pub following-unknown : (w : World) (n : ℕ) → w.setting.limit ≤ length w.setting.bytes →
     EndsRun w.setting.bytes 32 w.point.index w.setting.limit n → sees_white w.current ≡ true →
-    w.setting.limit ≤ n → None ≡ looks_behind w
-behind-unknown w n low h white le =
+    w.setting.limit ≤ n → None ≡ looks_after w
+following-unknown w n low h white le =
     let past : nat_lt n w.setting.limit ≡ false = grind (arith, nat_tests) in
     ap (λ (x : Bool). seen_first (cond x (Some (slice_index w.setting.bytes n)) None)) (sym past)
-    ∙ behind-first w n low h white
+    ∙ following-first w n low h white
 
 -- What is known of the cells.
 
@@ -172,7 +177,7 @@ white-spreads marker b e = or-true (nat_eq b marker) (is_white b) e
 -- a byte that is no whitespace and ends no line is seen as it is, and after it is the next
 record IsDarkAt (x : Setting) (p : Point) : Type 0 where
   seen : seen_at x.bytes p ≡ slice_index x.bytes p.index
-  behind : (after x p).index ≡ p.index + 1
+  following : (after x p).index ≡ p.index + 1
 
 dark-on : (x : Setting) (p : Point) → is_white (slice_index x.bytes p.index) ≡ false →
     is_ending (slice_index x.bytes p.index) ≡ false → IsDarkAt x p
@@ -181,7 +186,7 @@ dark-on x p e f =
     let tab : nat_eq byte 9 ≡ false = (or_parts (nat_eq byte 32) (nat_eq byte 9) e).1 in
     record {
       seen = dark-at x p e ∙ ap (λ (y : Bool). cond y 10 byte) f;
-      behind = rw (f, tab) refl;
+      following = rw (f, tab) refl;
     }
 
 -- the first other byte of the text is on the line that is fed
@@ -243,14 +248,14 @@ other-along feed x marker (suc n) p b f dark le e on =
         let at : IsWhiteAt x p = white-at x p k in
         let less = cells-fall x p lt in
         on-line lt (white-no_ending cell.byte at.white)
-        (next (omega (arith, less)) (left at.behind (rw (white-spreads marker byte k) at is)))
+        (next (omega (arith, less)) (left at.following (rw (white-spreads marker byte k) at is)))
     first false true k j lt is next =
         let same : byte ≡ marker = eqb-true byte marker j in
         let plain : is_ending byte ≡ false = ap is_ending same ∙ dark in
         let at : IsDarkAt x p = dark-on x p k plain in
         let less = cells-fall x p lt in
         on-line lt (ap (λ (c : ℕ). nat_eq c 10) at.seen ∙ ending-no_line byte plain)
-        (next (omega (arith, less)) (left (inr at.behind) (rw j at is)))
+        (next (omega (arith, less)) (left (inr at.following) (rw j at is)))
     first false false k j lt is next =
         let found : Some byte ≡ Some b = rw (j, k) at is in
         let same : byte ≡ b = cc in

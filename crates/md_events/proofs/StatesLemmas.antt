@@ -11,17 +11,17 @@ use Rattle.md_events.specs.Transition.{Transition}
 pub state-is : (t : Transition) (M : State → World → Type 0) (Full : Type 0) (to : State) (new : Tokenizer) →
     (to ≡ t.to → world new ≡ t.world → M to (world new)) → (to ≢ Error → to ≡ t.to) →
     (to ≢ Error → world new ≡ t.world) → OnError to Full → IsState t M Full to new
-state-is t M Full to new means goes leaves full = record {
-  to = goes;
+state-is t M Full to new means proceeds leaves full = record {
+  to = proceeds;
   world = leaves;
-  rule = λ ok. means (goes ok) (leaves ok);
+  rule = λ ok. means (proceeds ok) (leaves ok);
   full = full;
 }
 
 pub sure-state-is : (t : Transition) (M : State → World → Type 0) (to : State) (new : Tokenizer) →
     (to ≡ t.to → world new ≡ t.world → M to (world new)) → to ≡ t.to → world new ≡ t.world → IsSureState t M to new
-sure-state-is t M to new means goes leaves = record {
-  to = goes;
+sure-state-is t M to new means proceeds leaves = record {
+  to = proceeds;
   world = leaves;
-  rule = means goes leaves;
+  rule = means proceeds leaves;
 }

@@ -16,7 +16,7 @@ use Rattle.md_engine.specs.declared.event.Event.{Event}
 use Rattle.md_engine.specs.Place.{IsPlaced}
 use Rattle.md_events.specs.Parts.{AreChunks, ArePlaced, IsChunk}
 use Rattle.md_events.specs.declared.inline.Chunk.{Chunk}
-use Rattle.md_events.specs.Substituted.{Begun, Readings, Substituted, chunk_of, chunks_behind, chunks_from, share, stays}
+use Rattle.md_events.specs.Substituted.{Begun, Readings, Substituted, chunk_of, chunks_after, chunks_from, share, stays}
 use Rattle.md_events.specs.Substituted.{is_plain_prefix, wanted, wanted_at}
 use Rattle.md_events.specs.Events.Prefix.{is_prefix}
 
@@ -31,20 +31,20 @@ chunk-placed bytes e f es h = record {
       (All-tail (λ (e : Event). IsPlaced bytes e.point) e (f ∷ es) h);
 }
 
-behind-placed : (bytes : List ℕ) (wants : Content → Bool) (es : List Event) → ArePlaced bytes es →
-    All (IsChunk bytes) (chunks_behind wants es)
-behind-placed bytes wants [] h = All-nil (IsChunk bytes)
-behind-placed bytes wants (e ∷ []) h = All-nil (IsChunk bytes)
-behind-placed bytes wants (e ∷ f ∷ es) h =
+following-placed : (bytes : List ℕ) (wants : Content → Bool) (es : List Event) → ArePlaced bytes es →
+    All (IsChunk bytes) (chunks_after wants es)
+following-placed bytes wants [] h = All-nil (IsChunk bytes)
+following-placed bytes wants (e ∷ []) h = All-nil (IsChunk bytes)
+following-placed bytes wants (e ∷ f ∷ es) h =
     let next : ArePlaced bytes (f ∷ es) = All-tail (λ (e : Event). IsPlaced bytes e.point) e (f ∷ es) h in
-    go (is_some (wanted wants e)) (is_prefix e.name) (behind-placed bytes wants (f ∷ es) next)
-    (behind-placed bytes wants es (All-tail (λ (e : Event). IsPlaced bytes e.point) f es next))
+    go (is_some (wanted wants e)) (is_prefix e.name) (following-placed bytes wants (f ∷ es) next)
+    (following-placed bytes wants es (All-tail (λ (e : Event). IsPlaced bytes e.point) f es next))
   where
-    go : (x y : Bool) → All (IsChunk bytes) (chunks_behind wants (f ∷ es)) →
-        All (IsChunk bytes) (chunks_behind wants es) →
-        All (IsChunk bytes) (cond x (chunk_of e f ∷ chunks_behind wants es) (cond y (chunks_behind wants (f ∷ es)) []))
+    go : (x y : Bool) → All (IsChunk bytes) (chunks_after wants (f ∷ es)) →
+        All (IsChunk bytes) (chunks_after wants es) →
+        All (IsChunk bytes) (cond x (chunk_of e f ∷ chunks_after wants es) (cond y (chunks_after wants (f ∷ es)) []))
     go true y next rest =
-        All-cons (IsChunk bytes) (chunk_of e f) (chunks_behind wants es) (chunk-placed bytes e f es h) rest
+        All-cons (IsChunk bytes) (chunk_of e f) (chunks_after wants es) (chunk-placed bytes e f es h) rest
     go false true next rest = next
     go false false next rest = All-nil (IsChunk bytes)
 
@@ -58,16 +58,16 @@ chunks-placed bytes wants (e ∷ f ∷ es) h two =
     record {
       some = omega arith;
       each =
-          All-cons (IsChunk bytes) (chunk_of e f) (chunks_behind wants es) (chunk-placed bytes e f es h)
-          (behind-placed bytes wants es (All-tail (λ (e : Event). IsPlaced bytes e.point) f es next));
+          All-cons (IsChunk bytes) (chunk_of e f) (chunks_after wants es) (chunk-placed bytes e f es h)
+          (following-placed bytes wants es (All-tail (λ (e : Event). IsPlaced bytes e.point) f es next));
     }
 
 -- none continue a part at its last event
 pub chunks-end : (wants : Content → Bool) (events : List Event) (at : ℕ) → length events ≤ at + 1 →
-    chunks_behind wants (drop at events) ≡ []
+    chunks_after wants (drop at events) ≡ []
 chunks-end wants events at h = go (drop at events) (omega (arith, length-drop at events))
   where
-    go : (rest : List Event) → length rest ≤ 1 → chunks_behind wants rest ≡ []
+    go : (rest : List Event) → length rest ≤ 1 → chunks_after wants rest ≡ []
     go [] small = refl
     go (e ∷ []) small = refl
     go (e ∷ f ∷ es) small = absurd (omega arith)
@@ -75,22 +75,22 @@ chunks-end wants events at h = go (drop at events) (omega (arith, length-drop at
 -- nor after an event that is neither a chunk nor of a prefix
 pub chunks-stop : (wants : Content → Bool) (events : List Event) (at : ℕ) (d : Event) → at < length events →
     is_some (wanted wants (get_or events at d)) ≡ false → is_prefix (get_or events at d).name ≡ false →
-    chunks_behind wants (drop at events) ≡ []
+    chunks_after wants (drop at events) ≡ []
 chunks-stop wants events at d h none other =
-    ap (chunks_behind wants) (drop_more events at d h) ∙ go (get_or events at d) (drop (at + 1) events) none other
+    ap (chunks_after wants) (drop_more events at d h) ∙ go (get_or events at d) (drop (at + 1) events) none other
   where
     go : (e : Event) (es : List Event) → is_some (wanted wants e) ≡ false → is_prefix e.name ≡ false →
-        chunks_behind wants (e ∷ es) ≡ []
+        chunks_after wants (e ∷ es) ≡ []
     go e [] none other = refl
     go e (f ∷ es) none other =
         ap
         (λ (x : Bool).
-        cond x (chunk_of e f ∷ chunks_behind wants es) (cond (is_prefix e.name) (chunks_behind wants (f ∷ es)) [])) none
-        ∙ ap (λ (x : Bool). cond x (chunks_behind wants (f ∷ es)) []) other
+        cond x (chunk_of e f ∷ chunks_after wants es) (cond (is_prefix e.name) (chunks_after wants (f ∷ es)) [])) none
+        ∙ ap (λ (x : Bool). cond x (chunks_after wants (f ∷ es)) []) other
 
 -- those after events of prefixes that begin no chunk
 pub chunks-past : (wants : Content → Bool) (es : List Event) →
-    chunks_behind wants (drop (prefix_len is_plain_prefix es) es) ≡ chunks_behind wants es
+    chunks_after wants (drop (prefix_len is_plain_prefix es) es) ≡ chunks_after wants es
 chunks-past wants [] = refl
 chunks-past wants (e ∷ es) = by (is_plain_prefix e) refl (chunks-past wants es)
   where
@@ -103,34 +103,34 @@ chunks-past wants (e ∷ es) = by (is_plain_prefix e) refl (chunks-past wants es
     unwanted k (Some l) h = absurd (true≢false (sym h))
 
     go : (e : Event) (es : List Event) → is_prefix e.name ≡ true → is_some (wanted wants e) ≡ false →
-        chunks_behind wants (e ∷ es) ≡ chunks_behind wants es
+        chunks_after wants (e ∷ es) ≡ chunks_after wants es
     go e [] prefix none = refl
     go e (f ∷ es) prefix none =
         ap
         (λ (x : Bool).
-        cond x (chunk_of e f ∷ chunks_behind wants es) (cond (is_prefix e.name) (chunks_behind wants (f ∷ es)) [])) none
-        ∙ ap (λ (x : Bool). cond x (chunks_behind wants (f ∷ es)) []) prefix
+        cond x (chunk_of e f ∷ chunks_after wants es) (cond (is_prefix e.name) (chunks_after wants (f ∷ es)) [])) none
+        ∙ ap (λ (x : Bool). cond x (chunks_after wants (f ∷ es)) []) prefix
 
-    by : (x : Bool) → is_plain_prefix e ≡ x → chunks_behind wants (drop run es) ≡ chunks_behind wants es →
-        chunks_behind wants (drop (cond (is_plain_prefix e) (1 + run) 0) (e ∷ es)) ≡ chunks_behind wants (e ∷ es)
-    by true plain behind =
+    by : (x : Bool) → is_plain_prefix e ≡ x → chunks_after wants (drop run es) ≡ chunks_after wants es →
+        chunks_after wants (drop (cond (is_plain_prefix e) (1 + run) 0) (e ∷ es)) ≡ chunks_after wants (e ∷ es)
+    by true plain following =
         let parts : (is_prefix e.name ≡ true) × (is_none e.link ≡ true) = and_parts (is_prefix e.name)
         (is_none e.link) plain in
         let more : 1 + run ≡ suc run = omega arith in
-        ap (λ x. chunks_behind wants (drop (cond x (1 + run) 0) (e ∷ es))) plain
-        ∙ ap (λ n. chunks_behind wants (drop n (e ∷ es))) more
-        ∙ behind ∙ sym (go e es parts.0 (unwanted e.kind e.link parts.1))
-    by false other behind = ap (λ x. chunks_behind wants (drop (cond x (1 + run) 0) (e ∷ es))) other
+        ap (λ x. chunks_after wants (drop (cond x (1 + run) 0) (e ∷ es))) plain
+        ∙ ap (λ n. chunks_after wants (drop n (e ∷ es))) more
+        ∙ following ∙ sym (go e es parts.0 (unwanted e.kind e.link parts.1))
+    by false other following = ap (λ x. chunks_after wants (drop (cond x (1 + run) 0) (e ∷ es))) other
 
 -- and so at a place
 pub chunks-past-at : (wants : Content → Bool) (events rest : List Event) (at n : ℕ) → rest ≡ drop at events →
     n ≡ prefix_len is_plain_prefix rest →
-    chunks_behind wants (drop (at + n) events) ≡ chunks_behind wants (drop at events)
+    chunks_after wants (drop (at + n) events) ≡ chunks_after wants (drop at events)
 chunks-past-at wants events rest at n is run =
-    sym (ap (chunks_behind wants) (drop-drop n at events))
-    ∙ ap (λ l. chunks_behind wants (drop n l)) (sym is)
-    ∙ ap (λ k. chunks_behind wants (drop k rest)) run
-    ∙ chunks-past wants rest ∙ ap (chunks_behind wants) is
+    sym (ap (chunks_after wants) (drop-drop n at events))
+    ∙ ap (λ l. chunks_after wants (drop n l)) (sym is)
+    ∙ ap (λ k. chunks_after wants (drop k rest)) run
+    ∙ chunks-past wants rest ∙ ap (chunks_after wants) is
 
 -- The events in their places.
 
@@ -146,10 +146,10 @@ SubstitutedBy wants reads left chunks e f es out o = elim o [
   | None ↦ (rest : List Event) × (is : out ≡ e ∷ rest) × Substituted wants reads left chunks (f ∷ es) rest
   | Some content ↦ elim chunks [
     | zero ↦
-        (answer rest : List Event) × (read : reads content (chunk_of e f ∷ chunks_behind wants es) answer)
-        × (is : out ≡ take (share (length (chunks_behind wants es)) answer f.point.index) answer ++ rest)
-        × Substituted wants reads (drop (share (length (chunks_behind wants es)) answer f.point.index) answer)
-        (length (chunks_behind wants es)) es rest
+        (answer rest : List Event) × (read : reads content (chunk_of e f ∷ chunks_after wants es) answer)
+        × (is : out ≡ take (share (length (chunks_after wants es)) answer f.point.index) answer ++ rest)
+        × Substituted wants reads (drop (share (length (chunks_after wants es)) answer f.point.index) answer)
+        (length (chunks_after wants es)) es rest
     | suc more ↦
         (rest : List Event) × (is : out ≡ take (share more left f.point.index) left ++ rest)
         × Substituted wants reads (drop (share more left f.point.index) left) more es rest
@@ -183,23 +183,23 @@ pub leads-chunk : (wants : Content → Bool) (reads : Readings) (events left all
     (all ++ take (share more now f.point.index) now)
 leads-chunk wants reads events left all zero e f es content some leads now more begun out s =
     let placed : List Event = take (share more now f.point.index) now in
-    let many : more ≡ length (chunks_behind wants es) = cc in
-    let stands : SubstitutedBy wants reads left 0 e f es (placed ++ out) (Some content) =
+    let many : more ≡ length (chunks_after wants es) = cc in
+    let valid : SubstitutedBy wants reads left 0 e f es (placed ++ out) (Some content) =
     subst
     (λ (n : ℕ).
-    (answer rest : List Event) × (read : reads content (chunk_of e f ∷ chunks_behind wants es) answer) ×
+    (answer rest : List Event) × (read : reads content (chunk_of e f ∷ chunks_after wants es) answer) ×
     (is : placed ++ out ≡ take (share n answer f.point.index) answer ++ rest) ×
     Substituted wants reads (drop (share n answer f.point.index) answer) n es rest) many
     (now, out, begun.0, refl, s) in
     subst (Substituted wants reads [] 0 events) (sym (append_assoc all placed out))
-    (leads (placed ++ out) (subst (SubstitutedBy wants reads left 0 e f es (placed ++ out)) (sym some) stands))
+    (leads (placed ++ out) (subst (SubstitutedBy wants reads left 0 e f es (placed ++ out)) (sym some) valid))
 leads-chunk wants reads events left all (suc last) e f es content some leads now more begun out s =
     let placed : List Event = take (share more now f.point.index) now in
     let many : more ≡ last = cc in
-    let stands : SubstitutedBy wants reads now (suc more) e f es (placed ++ out) (Some content) = (out, refl, s) in
+    let valid : SubstitutedBy wants reads now (suc more) e f es (placed ++ out) (Some content) = (out, refl, s) in
     let same : SubstitutedBy wants reads left (suc last) e f es (placed ++ out) (Some content) =
     subst (λ (l : List Event). SubstitutedBy wants reads l (suc last) e f es (placed ++ out) (Some content)) begun.0
-    (subst (λ (n : ℕ). SubstitutedBy wants reads now (suc n) e f es (placed ++ out) (Some content)) many stands) in
+    (subst (λ (n : ℕ). SubstitutedBy wants reads now (suc n) e f es (placed ++ out) (Some content)) many valid) in
     subst (Substituted wants reads [] 0 events) (sym (append_assoc all placed out))
     (leads (placed ++ out)
     (subst (SubstitutedBy wants reads left (suc last) e f es (placed ++ out)) (sym some) same))
@@ -246,12 +246,12 @@ leads-events wants reads events left (e ∷ es) all chunks leads =
         Leads wants reads events left chunks (drop run es) ((all ++ e ∷ []) ++ take run es)) →
         let many = prefix_len (stays wants) (e ∷ es) in
         Leads wants reads events left chunks (drop many (e ∷ es)) (all ++ take many (e ∷ es))
-    go None k behind =
+    go None k following =
         let more : 1 + run ≡ suc run = omega arith in
         rw (k, more)
         (subst (Leads wants reads events left chunks (drop run es)) (append_assoc all (e ∷ []) (take run es))
-        (behind (leads-event wants reads events left es all chunks e (inl k) leads)))
-    go (Some wanted) k behind =
+        (following (leads-event wants reads events left es all chunks e (inl k) leads)))
+    go (Some wanted) k following =
         rw k (subst (Leads wants reads events left chunks (e ∷ es)) (sym (append-nil all)) leads)
 
 -- an event that stays, as no chunk begins there, and those after it up to the next chunk
@@ -276,16 +276,16 @@ leads-stays wants reads events left all rest chunks many e first stay count lead
     run = prefix_len (stays wants) es
 
 -- a chunk begins
-pub leads-part : (wants : Content → Bool) (reads : Readings) (events rest left now left_behind all new : List Event)
+pub leads-part : (wants : Content → Bool) (reads : Readings) (events rest left now left_after all new : List Event)
     (chunks many chunks_left : ℕ) (d : Event) (content : Content) →
     1 < length rest → Some content ≡ wanted wants (get_or rest 0 d) →
     Begun (reads content (chunks_from wants rest)) (length (chunks_from wants rest)) left chunks now many →
     chunks_left + 1 ≡ many →
     new ≡ all ++ take (share (many - 1) now (get_or rest 1 d).point.index) now →
-    left_behind ≡ drop (share (many - 1) now (get_or rest 1 d).point.index) now →
-    Leads wants reads events left chunks rest all → Leads wants reads events left_behind chunks_left (drop 2 rest) new
-leads-part wants reads events rest left now left_behind all new chunks many chunks_left d content h some begun one placed
-    behind leads =
+    left_after ≡ drop (share (many - 1) now (get_or rest 1 d).point.index) now →
+    Leads wants reads events left chunks rest all → Leads wants reads events left_after chunks_left (drop 2 rest) new
+leads-part wants reads events rest left now left_after all new chunks many chunks_left d content h some begun one placed
+    following leads =
     let e : Event = get_or rest 0 d in
     let f : Event = get_or rest 1 d in
     let es : List Event = drop 2 rest in
@@ -305,7 +305,7 @@ leads-part wants reads events rest left now left_behind all new chunks many chun
     (all ++ take (share chunks_left now f.point.index) now) =
     leads-chunk wants reads events left all chunks e f es content (sym some)
     (subst (λ (l : List Event). Leads wants reads events left chunks l all) split leads) now chunks_left begins in
-    subst (λ (l : List Event). Leads wants reads events l chunks_left es new) (sym behind)
+    subst (λ (l : List Event). Leads wants reads events l chunks_left es new) (sym following)
     (subst (Leads wants reads events (drop (share (many - 1) now f.point.index) now) chunks_left es) (sym placed)
     (subst
     (λ (n : ℕ).
@@ -324,14 +324,14 @@ pub lists-first : (wants : Content → Bool) (events : List Event) (d : Event) (
     1 < length events → none ≡ [] →
     items ≡ none ++ chunk_of (get_or events 0 d) (get_or events 1 d) ∷ [] →
     n ≡ prefix_len is_plain_prefix (take (length events - 2) (drop 2 events)) →
-    items ++ chunks_behind wants (drop (2 + n) events) ≡ chunks_from wants events
+    items ++ chunks_after wants (drop (2 + n) events) ≡ chunks_from wants events
 lists-first wants events d none items n two empty is run =
     let past = chunks-past-at wants events _ 2 n (to-end events 2) run in
     rw (is, empty)
     (ap (λ l. chunk_of (get_or events 0 d) (get_or events 1 d) ∷ l) past ∙ go events two)
   where
     go : (events : List Event) → 1 < length events →
-        ◌≡◌ {A = List Chunk} (chunk_of (get_or events 0 d) (get_or events 1 d) ∷ chunks_behind wants (drop 2 events))
+        ◌≡◌ {A = List Chunk} (chunk_of (get_or events 0 d) (get_or events 1 d) ∷ chunks_after wants (drop 2 events))
         (chunks_from wants events)
     go [] two = absurd (omega arith)
     go (e ∷ []) two = absurd (omega arith)
@@ -342,19 +342,19 @@ pub lists-more : (wants : Content → Bool) (events : List Event) (at : ℕ) (d 
     (n : ℕ) → at + 1 < length events → is_some (wanted wants (get_or events at d)) ≡ true →
     new ≡ items ++ chunk_of (get_or events at d) (get_or events (at + 1) d) ∷ [] →
     n ≡ prefix_len is_plain_prefix (take (length events - (at + 2)) (drop (at + 2) events)) →
-    items ++ chunks_behind wants (drop at events) ≡ all → new ++ chunks_behind wants (drop (at + 2 + n) events) ≡ all
+    items ++ chunks_after wants (drop at events) ≡ all → new ++ chunks_after wants (drop (at + 2 + n) events) ≡ all
 lists-more wants events at d items new all n two some is run listed =
     let e : Event = get_or events at d in
     let f : Event = get_or events (at + 1) d in
     let es : List Event = drop (at + 2) events in
     let past = chunks-past-at wants events _ (at + 2) n (to-end events (at + 2)) run in
-    let here : chunks_behind wants (drop at events) ≡ chunk_of e f ∷ chunks_behind wants es =
-    ap (chunks_behind wants) (two-left events at d two)
+    let here : chunks_after wants (drop at events) ≡ chunk_of e f ∷ chunks_after wants es =
+    ap (chunks_after wants) (two-left events at d two)
     ∙ ap
     (λ (x : Bool).
-    cond x (chunk_of e f ∷ chunks_behind wants es) (cond (is_prefix e.name) (chunks_behind wants (f ∷ es)) []))
+    cond x (chunk_of e f ∷ chunks_after wants es) (cond (is_prefix e.name) (chunks_after wants (f ∷ es)) []))
     some in
     ap (λ l. new ++ l) past
-    ∙ ap (λ l. l ++ chunks_behind wants es) is
-    ∙ append_assoc items (chunk_of e f ∷ []) (chunks_behind wants es)
+    ∙ ap (λ l. l ++ chunks_after wants es) is
+    ∙ append_assoc items (chunk_of e f ∷ []) (chunks_after wants es)
     ∙ ap (λ l. items ++ l) (sym here) ∙ listed

@@ -17,15 +17,16 @@ use Rattle.md_events.proofs.PartsLemmas.{EachPart, parts-are}
 use Rattle.md_events.proofs.WalkedLemmas.{placed-point}
 
 -- what holds of each part holds of one among them
-pub each-part : (P : Part → Type 0) (before behind : List Part) (part : Part) → EachPart P (before ++ part ∷ behind) →
+pub each-part : (P : Part → Type 0) (before following : List Part) (part : Part) →
+    EachPart P (before ++ part ∷ following) →
     P part
-each-part P [] behind part each = each.0
-each-part P (other ∷ before) behind part each = each-part P before behind part each.1
+each-part P [] following part each = each.0
+each-part P (other ∷ before) following part each = each-part P before following part each.1
 
 -- it may be read
 pub text-part : (document : Document) (part : Part) → IsTextPart document part → IsPart document.bytes part
 text-part document part is =
-    each-part (IsPart document.bytes) is.before is.behind part
+    each-part (IsPart document.bytes) is.before is.following part
     (subst (EachPart (IsPart document.bytes)) is.among (parts-are document.bytes is.blocks is.are.list))
 
 chunk-of : (bytes : List ℕ) → length bytes < 2 ^ 61 → (chunk : Chunk) → chunk_placed bytes chunk ≡ true →
@@ -75,7 +76,8 @@ lines-of bytes sized (chunk ∷ chunks) placed lines whole =
     (list_all (chunk_placed bytes) chunks ≡ true) = and_parts (chunk_placed bytes chunk)
     (list_all (chunk_placed bytes) chunks) placed in
     let line : (is_line bytes chunk ≡ true) ×
-    (list_all (is_line bytes) chunks ≡ true) = and_parts (is_line bytes chunk) (list_all (is_line bytes) chunks) lines in
+    (list_all (is_line bytes) chunks ≡ true) = and_parts (is_line bytes chunk)
+    (list_all (is_line bytes) chunks) lines in
     let ends : (ends_whole chunk ≡ true) ×
     (list_all ends_whole chunks ≡ true) = and_parts (ends_whole chunk) (list_all ends_whole chunks) whole in
     All-cons (IsLine bytes) chunk chunks

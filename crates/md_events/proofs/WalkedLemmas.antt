@@ -1,6 +1,7 @@
 -- Each point of a text is one that one reaches from its first, step by step.
-use Rattle.std.proofs.Common.{◌≡◌, ℕ, zero, suc, ◌+◌, ◌-◌, ◌*◌, ◌%◌, ◌^◌, ◌<◌, ◌≤◌, ◌⊎◌, inl, inr, Bool, true, false, cond}
-use Rattle.std.proofs.Common.{not, ◌&&◌, ◌||◌, List, [], ◌∷◌, length, take, drop, refl, ap, sym, ◌∙◌, subst, arith}
+use Rattle.std.proofs.Common.{◌≡◌, ℕ, zero, suc, ◌+◌, ◌-◌, ◌*◌, ◌%◌, ◌^◌, ◌<◌, ◌≤◌, ◌⊎◌, inl, inr, Bool, true, false}
+use Rattle.std.proofs.Common.{cond, not, ◌&&◌, ◌||◌, List, [], ◌∷◌, length, take, drop, refl, ap, sym, ◌∙◌, subst}
+use Rattle.std.proofs.Common.{arith}
 use Rattle.std.specs.Prelude.{◌==◌, nat_lt, slice_index}
 use Rattle.std.proofs.lemmas.Bool.{and_parts, cases_lt, eqb-true, true≢false}
 use Rattle.std.proofs.lemmas.Bool.Decides.{nat_tests}
@@ -10,10 +11,11 @@ use Rattle.md_engine.proofs.Sound as Sound
 use Rattle.md_meaning.specs.Texts.{first_byte, split_lines}
 use Rattle.md_events.specs.Events.Places.{columns_before, is_placed}
 use Rattle.md_events.proofs.PlacesLemmas.{Placed, at-next, placed-facts}
-use Rattle.md_events.proofs.ReachedLemmas.{index-behind, placed-next, placed-walked, step-inside}
+use Rattle.md_events.proofs.ReachedLemmas.{index-following, placed-next, placed-walked, step-inside}
 
 -- the byte and the virtual spaces show a point of a text
-pub one-point : (bytes : List ℕ) (p q : Point) → Placed bytes p → Placed bytes q → p.index ≡ q.index → p.vs ≡ q.vs → p ≡ q
+pub one-point : (bytes : List ℕ) (p q : Point) → Placed bytes p → Placed bytes q → p.index ≡ q.index →
+    p.vs ≡ q.vs → p ≡ q
 one-point bytes p q h k i v =
     let line : p.line ≡ q.line = h.line ∙ ap (λ (n : ℕ). length (split_lines (take n bytes))) i ∙ sym k.line in
     let columns : columns_before bytes p.index ≡ columns_before bytes q.index = ap (columns_before bytes) i in
@@ -115,10 +117,10 @@ step-upto bytes p q h k (inl less) =
     -- a point is not between a CR and its LF
     apart : is_pair bytes p.index ≡ true → p.index + 1 ≡ q.index → ⊥
     apart pair e =
-        let behind : q.index - 1 ≡ p.index = omega (arith, e) in
+        let following : q.index - 1 ≡ p.index = omega (arith, e) in
         let some : nat_lt 0 q.index ≡ true = grind (arith, nat_tests) in
         true≢false
-        (sym (ap (λ (i : ℕ). is_pair bytes i) behind ∙ pair)
+        (sym (ap (λ (i : ℕ). is_pair bytes i) following ∙ pair)
         ∙ ap (λ (x : Bool). x && is_pair bytes (q.index - 1)) (sym some) ∙ k.apart)
 
     one : (p.index + 1 < q.index) ⊎ (q.index ≤ p.index + 1) → (line column : ℕ) →
@@ -175,9 +177,9 @@ walk bytes q k zero n h upto far = elim (meets bytes (walked bytes n) q h k upto
 walk bytes q k (suc fuel) n h upto far = elim (meets bytes (walked bytes n) q h k upto) [
   | inl before ↦
       let next : Upto (next_point bytes (walked bytes n)) q = step-upto bytes (walked bytes n) q h k before in
-      let stands : Placed bytes (next_point bytes (walked bytes n)) = placed-next bytes (walked bytes n) h
+      let valid : Placed bytes (next_point bytes (walked bytes n)) = placed-next bytes (walked bytes n) h
       (omega (arith, upto-index (next_point bytes (walked bytes n)) q next, k.index)) in
-      walk bytes q k fuel (suc n) stands next
+      walk bytes q k fuel (suc n) valid next
       (omega (
         arith,
         far,
@@ -208,7 +210,7 @@ walked-placed bytes sized zero le = record {
 }
 walked-placed bytes sized (suc n) le =
     Sound.placed-next bytes (walked bytes n)
-    (walked-placed bytes sized n (omega (arith, le, index-behind bytes (walked bytes n))))
+    (walked-placed bytes sized n (omega (arith, le, index-following bytes (walked bytes n))))
     (step-inside bytes (walked bytes n) le)
 
 -- One reaches each point of a text that points have room for.

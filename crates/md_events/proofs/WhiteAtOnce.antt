@@ -14,7 +14,7 @@ use Rattle.md_engine.specs.Going.{SeesOn}
 use Rattle.md_engine.specs.Run.{Remains, RunsHere, reading}
 use Rattle.md_engine.specs.Staying.{Sees, SeesAll, SeesSome}
 use Rattle.md_engine.specs.World.{World, looks}
-use Rattle.md_engine.proofs.Loops.{CameHere, call-sees, came-calls, came-first}
+use Rattle.md_engine.proofs.Loops.{ArrivedHere, call-sees, arrived-calls, arrived-first}
 use Rattle.md_engine.proofs.Walks.{TakesSo, Within, then-seen, then-stays, then-waits}
 use Rattle.md_events.specs.Spaces.{WhiteStep, after_code, begins_white, inside_code, sees_white, start_code}
 use Rattle.md_events.specs.Spaces.{white_transition}
@@ -33,10 +33,11 @@ takes-so w b e h = inside-takes (reading w) b e h
 
 -- it begins,
 pub white-begins : (w : World) → begins_white w ≡ true → w.current ≡ looks w → Within w →
-    CameHere WhiteStep (n.SpaceOrTab its.Start) w (n.SpaceOrTab its.Inside) (entered w SpaceOrTab)
+    ArrivedHere WhiteStep (n.SpaceOrTab its.Start) w (n.SpaceOrTab its.Inside) (entered w SpaceOrTab)
 white-begins w is seen within is_end s v named sees may =
     then-stays WhiteStep is_end s v (n.SpaceOrTab its.Start) (n.SpaceOrTab its.Inside) w (entered w SpaceOrTab)
-    (came-first WhiteStep (n.SpaceOrTab its.Start) w is_end s v named sees may) (ap (start_code w) is) refl within refl
+    (arrived-first WhiteStep (n.SpaceOrTab its.Start) w is_end s v named sees may) (ap (start_code w) is)
+    refl within refl
     seen
 
 -- and waits for more
@@ -66,7 +67,7 @@ white-over u none = go (looks u) refl
 
 pub white-ends : (w y u z : World) → begins_white w ≡ true → w.current ≡ looks w → Within w →
     y ≡ entered w SpaceOrTab → Within y → SeesAll White y u → u.point.index < u.setting.limit → z ≡ reading u →
-    Within z → CameHere WhiteStep (n.SpaceOrTab its.Start) w (n.SpaceOrTab its.After) (exited z SpaceOrTab)
+    Within z → ArrivedHere WhiteStep (n.SpaceOrTab its.Start) w (n.SpaceOrTab its.After) (exited z SpaceOrTab)
 white-ends w y u z is seen within e more all lt sees kept is_end s v named saw may =
     then-stays WhiteStep is_end s v (n.SpaceOrTab its.Inside) (n.SpaceOrTab its.After) z (exited z SpaceOrTab)
     (rw sees (then-seen WhiteStep is_end s v (n.SpaceOrTab its.Inside) White y u takes-so
@@ -75,10 +76,11 @@ white-ends w y u z is seen within e more all lt sees kept is_end s v named saw m
 
 -- where none is here, none is taken
 pub white-none : (w : World) → begins_white w ≡ false → w.current ≡ looks w → Within w →
-    CameHere WhiteStep (n.SpaceOrTab its.Start) w (n.SpaceOrTab its.After) w
+    ArrivedHere WhiteStep (n.SpaceOrTab its.Start) w (n.SpaceOrTab its.After) w
 white-none w is seen within is_end s v named sees may =
     then-stays WhiteStep is_end s v (n.SpaceOrTab its.Start) (n.SpaceOrTab its.After) w w
-    (came-first WhiteStep (n.SpaceOrTab its.Start) w is_end s v named sees may) (ap (start_code w) is) refl within refl
+    (arrived-first WhiteStep (n.SpaceOrTab its.Start) w is_end s v named sees may) (ap (start_code w) is)
+    refl within refl
     seen
 
 -- Each state keeps the text, and what stays sees what is here.
@@ -110,10 +112,10 @@ same-step a to new e k = ap₂ (λ (s : State) (x : World). record { to = s; wor
 
 -- so a call is a run, from wherever one came
 pub white-called : (first : StateName) (state : WhiteState) (old w : World) (to : State) (new : World) →
-    CameHere WhiteStep first old (n.SpaceOrTab state) w → to ≡ (white_transition state w).to →
+    ArrivedHere WhiteStep first old (n.SpaceOrTab state) w → to ≡ (white_transition state w).to →
     new ≡ (white_transition state w).world → to ≢ Error → Within w → RunsHere WhiteStep first old to new
-white-called first state old w to new came e k fine within =
-    came-calls WhiteStep first (n.SpaceOrTab state) old w to new came
+white-called first state old w to new arrived e k fine within =
+    arrived-calls WhiteStep first (n.SpaceOrTab state) old w to new arrived
     (same-step (white_transition state w) to new e k) fine (ap (λ (x : World). x.setting) k ∙ (white-keeps state w).1)
     within
 

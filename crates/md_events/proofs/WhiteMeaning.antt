@@ -12,12 +12,12 @@ use Rattle.md_engine.specs.declared.state.space_or_tab.State.TheVariants as its
 use Rattle.md_engine.specs.declared.state.State.{State}
 use Rattle.md_engine.specs.declared.state.State.TheVariants.{Next}
 use Rattle.md_engine.specs.declared.tokenizer.Frame.{Frame}
-use Rattle.md_engine.specs.Meaning.{Accepts, Behaviour, Cell, Feed, Here, Steps, goes, here, resume}
+use Rattle.md_engine.specs.Meaning.{Accepts, Behaviour, Cell, Feed, Here, Steps, proceeds, here, resume}
 use Rattle.md_engine.specs.World.{World, after}
 use Rattle.md_engine.specs.Sees.{Sees, ahead, cell_here}
 use Rattle.md_engine.proofs.StepOf.{moves, passes, steps-as}
-use Rattle.md_events.specs.Ahead.{HasWhite, WhiteMeans, after_white, begins_white, inside_white, white_at, white_end, white_rest}
-use Rattle.md_events.specs.Ahead.{white_size}
+use Rattle.md_events.specs.Ahead.{HasWhite, WhiteMeans, after_white, begins_white, inside_white, white_at, white_end}
+use Rattle.md_events.specs.Ahead.{white_rest, white_size}
 use Rattle.md_events.specs.Events.Nested.{enter, exit}
 use Rattle.md_meaning.specs.Rest.{is_white}
 use Rattle.md_events.specs.Spaces.{after_code, asking, calmed, inside_code, sees_white, start_code, white_transition}
@@ -141,8 +141,8 @@ white-some zero (c ∷ cs) le e = absurd (omega arith)
 white-some (suc room) (c ∷ cs) le e = rw e (omega arith)
 
 -- after all whitespace that comes first, up to so much
-abbrev pub behind_white : ℕ → List Cell → Here → Here
-behind_white max cells h =
+abbrev pub following_white : ℕ → List Cell → Here → Here
+following_white max cells h =
     let p = white_end max cells h.point in
     record h {
       events = h.events ++ enter SpaceOrTab h.point ∷ exit SpaceOrTab p ∷ [];
@@ -152,7 +152,7 @@ behind_white max cells h =
 
 white-taken : (cells : List Cell) (h : Here) (min max : ℕ) → begins_white cells ≡ true → 1 ≤ max → min ≤ 1 →
     white_at cells (record h { scratch = asking min max 0 h.scratch }) ≡
-    Accepts (behind_white max cells h) (white_rest max cells)
+    Accepts (following_white max cells h) (white_rest max cells)
 unfolding white_at inside_white after_white
 white-taken cells h min max s most least =
     let some : 1 ≤ white_size max cells = white-some max cells most s in
@@ -165,7 +165,7 @@ white-taken cells h min max s most least =
 pub white-tried : (B : Behaviour) (feed : Feed) (f : Frame) (events : List Event) (cells : List Cell) (h : Here)
     (min max : ℕ) →
     HasWhite B → begins_white cells ≡ true → 1 ≤ max → min ≤ 1 → f.is_check ≡ false →
-    goes B f.ok (white_rest max cells) (behind_white max cells h) ≡
+    proceeds B f.ok (white_rest max cells) (following_white max cells h) ≡
     resume B feed events f (B (n.SpaceOrTab its.Start) cells (record h { scratch = asking min max 0 h.scratch }))
 white-tried B feed f events cells h min max has s most least k =
     rw (has.each its.Start, white-taken cells h min max s most least, k) refl

@@ -20,7 +20,7 @@ pub mod Endings
 pub mod Prefix
 pub mod Tiles
 pub mod Spelled
-pub mod Told
+pub mod Recorded
 pub mod Blocks
 pub mod Throughout
 pub mod On

@@ -23,5 +23,5 @@ columns_in_front at =
     else 0
 
 -- the columns after the bytes: those of a tab that the part ends within
-abbrev pub columns_behind : Position → ℕ
-columns_behind at = if nat_lt 0 at.start.vs && (at.start.index == at.end.index) then 0 else at.end.vs
+abbrev pub columns_after : Position → ℕ
+columns_after at = if nat_lt 0 at.start.vs && (at.start.index == at.end.index) then 0 else at.end.vs

@@ -12,27 +12,27 @@ first_seen [] = None
 first_seen (c ∷ cs) = Some c.byte
 
 -- the byte of the first cell after whitespace
-abbrev pub seen_behind : List Cell → Option ℕ
-seen_behind [] = None
-seen_behind (c ∷ cs) = if is_white c.byte then seen_behind cs else Some c.byte
+abbrev pub seen_after : List Cell → Option ℕ
+seen_after [] = None
+seen_after (c ∷ cs) = if is_white c.byte then seen_after cs else Some c.byte
 
 -- a byte as a state sees it
 abbrev pub as_seen : ℕ → ℕ
 as_seen b = if is_ending b then 10 else b
 
 -- the first byte after whitespace, as a state sees it
-abbrev pub first_behind : List ℕ → Option ℕ
-first_behind [] = None
-first_behind (b ∷ bytes) = if is_white b then first_behind bytes else Some (as_seen b)
+abbrev pub first_following : List ℕ → Option ℕ
+first_following [] = None
+first_following (b ∷ bytes) = if is_white b then first_following bytes else Some (as_seen b)
 
 -- by what is here, and by what is first after whitespace
-abbrev pub behind_code : Option ℕ → Option ℕ → Option ℕ
-behind_code None found = None
-behind_code (Some b) found = if is_white b then found else Some b
+abbrev pub following_code : Option ℕ → Option ℕ → Option ℕ
+following_code None found = None
+following_code (Some b) found = if is_white b then found else Some b
 
 -- what a tokenizer sees first after whitespace, as far as the text may be read now
-unfoldable pub looks_behind : World → Option ℕ
-looks_behind w = behind_code w.current (first_behind (slice_range w.setting.bytes w.point.index w.setting.limit))
+unfoldable pub looks_after : World → Option ℕ
+looks_after w = following_code w.current (first_following (slice_range w.setting.bytes w.point.index w.setting.limit))
 
 -- whether a construct may begin here that is after whitespace, by whether it begins with a byte: it may where that byte
 -- is not known

@@ -9,7 +9,7 @@ use Rattle.md_events.specs.Transition.{entered, exited, taken}
 pub record IsOneSpace (w : World) : Type 0 where
   pub here : looks w ≡ Some 32
   pub next : (after w.setting w.point).index < w.setting.limit
-  pub behind : sees_white (looks_at w.setting (after w.setting w.point)) ≡ false
+  pub following : sees_white (looks_at w.setting (after w.setting w.point)) ≡ false
 
 -- it was taken as whitespace, and what follows it is seen
 abbrev pub spaced : World → World

@@ -12,7 +12,8 @@ use Rattle.md_events.specs.Transition.{Transition}
 
 -- What a state promises: its answer and the tokenizer that it leaves are those of its transition, and they mean what
 -- the state means in the rule of its construct; or it answers want of memory, and this is why.
-pub record IsState (t : Transition) (Means : State → World → Type 0) (Full : Type 0) (answer : State) (new : Tokenizer) :
+pub record IsState (t : Transition) (Means : State → World → Type 0) (Full : Type 0) (answer : State)
+    (new : Tokenizer) :
     Type 0 where
   pub to : answer ≢ Error → answer ≡ t.to
   pub world : answer ≢ Error → world_of new ≡ t.world
@@ -20,7 +21,8 @@ pub record IsState (t : Transition) (Means : State → World → Type 0) (Full :
   pub full : OnError answer Full
 
 -- The same of a state that wants no memory.
-pub record IsSureState (t : Transition) (Means : State → World → Type 0) (answer : State) (new : Tokenizer) : Type 0 where
+pub record IsSureState (t : Transition) (Means : State → World → Type 0) (answer : State)
+    (new : Tokenizer) : Type 0 where
   pub to : answer ≡ t.to
   pub world : world_of new ≡ t.world
   pub rule : Means answer (world_of new)

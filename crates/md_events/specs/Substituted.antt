@@ -44,19 +44,19 @@ abbrev pub chunk_of : Event → Event → Chunk
 chunk_of e f = record { first = e.point; after = f.point }
 
 -- the chunks that continue a part, after its first: between them are container prefixes alone
-abbrev pub chunks_behind : (Content → Bool) → List Event → List Chunk
-chunks_behind wants [] = []
-chunks_behind wants (e ∷ []) = []
-chunks_behind wants (e ∷ f ∷ es) =
-    if is_some (wanted wants e) then chunk_of e f ∷ chunks_behind wants es
-    else if is_prefix e.name then chunks_behind wants (f ∷ es)
+abbrev pub chunks_after : (Content → Bool) → List Event → List Chunk
+chunks_after wants [] = []
+chunks_after wants (e ∷ []) = []
+chunks_after wants (e ∷ f ∷ es) =
+    if is_some (wanted wants e) then chunk_of e f ∷ chunks_after wants es
+    else if is_prefix e.name then chunks_after wants (f ∷ es)
     else []
 
 -- the chunks of the part that begins with some events
 abbrev pub chunks_from : (Content → Bool) → List Event → List Chunk
 chunks_from wants [] = []
 chunks_from wants (e ∷ []) = []
-chunks_from wants (e ∷ f ∷ es) = chunk_of e f ∷ chunks_behind wants es
+chunks_from wants (e ∷ f ∷ es) = chunk_of e f ∷ chunks_after wants es
 
 abbrev pub belongs_by : ℕ → Kind → ℕ → Bool
 belongs_by end Enter index = nat_lt index end
@@ -86,10 +86,10 @@ Substituted wants reads left chunks (e ∷ f ∷ es) out = elim (wanted wants e)
   | None ↦ (rest : List Event) × (is : out ≡ e ∷ rest) × Substituted wants reads left chunks (f ∷ es) rest
   | Some content ↦ elim chunks [
     | zero ↦
-        (answer rest : List Event) × (read : reads content (chunk_of e f ∷ chunks_behind wants es) answer)
-        × (is : out ≡ take (share (length (chunks_behind wants es)) answer f.point.index) answer ++ rest)
-        × Substituted wants reads (drop (share (length (chunks_behind wants es)) answer f.point.index) answer)
-        (length (chunks_behind wants es)) es rest
+        (answer rest : List Event) × (read : reads content (chunk_of e f ∷ chunks_after wants es) answer)
+        × (is : out ≡ take (share (length (chunks_after wants es)) answer f.point.index) answer ++ rest)
+        × Substituted wants reads (drop (share (length (chunks_after wants es)) answer f.point.index) answer)
+        (length (chunks_after wants es)) es rest
     | suc more ↦
         (rest : List Event) × (is : out ≡ take (share more left f.point.index) left ++ rest)
         × Substituted wants reads (drop (share more left f.point.index) left) more es rest
@@ -105,8 +105,8 @@ EachAsked wants asked chunks (e ∷ f ∷ es) = elim (wanted wants e) [
   | None ↦ EachAsked wants asked chunks (f ∷ es)
   | Some content ↦ elim chunks [
     | zero ↦
-        asked content (chunk_of e f ∷ chunks_behind wants es)
-        × EachAsked wants asked (length (chunks_behind wants es)) es
+        asked content (chunk_of e f ∷ chunks_after wants es)
+        × EachAsked wants asked (length (chunks_after wants es)) es
     | suc more ↦ EachAsked wants asked more es
   ]
 ]

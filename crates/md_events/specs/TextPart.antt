@@ -64,5 +64,5 @@ pub record IsTextPart (document : Document) (part : Part) : Type 0 where
   pub are : AreBlocks document blocks
   -- it is among the text parts of these blocks
   pub before : List Part
-  pub behind : List Part
-  pub among : parts blocks ≡ before ++ part ∷ behind
+  pub following : List Part
+  pub among : parts blocks ≡ before ++ part ∷ following

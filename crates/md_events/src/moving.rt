@@ -45,7 +45,7 @@ pub fn append(events: &mut Vec<Event>, more: &[Event]) -> Result<(), Message>
 fn copy_piece(events: &mut [Event], to: usize, from: &[Event])
     requires { to + length from.now ≤ length events.old }
     ensures copied { take (to + length from.now) events.new ≡ take to events.old ++ from.now }
-    ensures behind { drop (to + length from.now) events.new ≡ drop (to + length from.now) events.old }
+    ensures following { drop (to + length from.now) events.new ≡ drop (to + length from.now) events.old }
     ensures many { length events.new ≡ length events.old }
 {
     events[to..to + from.len()].copy_from_slice(from);
@@ -59,7 +59,7 @@ fn move_pieces_down(events: &mut [Event], to: usize, from: usize, end: usize)
     requires { (to < from) × (from ≤ end) × (end ≤ length events.old) }
     ensures moved { take (to + (end - from)) events.new ≡
         take to events.old ++ take (end - from) (drop from events.old) }
-    ensures behind { drop end events.new ≡ drop end events.old }
+    ensures following { drop end events.new ≡ drop end events.old }
     ensures many { length events.new ≡ length events.old }
 {
     let gap = from - to;
@@ -77,7 +77,7 @@ pub fn move_down(events: &mut [Event], to: usize, from: usize, end: usize)
     requires { (to ≤ from) × (from ≤ end) × (end ≤ length events.old) }
     ensures moved { take (to + (end - from)) events.new ≡
         take to events.old ++ take (end - from) (drop from events.old) }
-    ensures behind { drop end events.new ≡ drop end events.old }
+    ensures following { drop end events.new ≡ drop end events.old }
     ensures many { length events.new ≡ length events.old }
 {
     if to == from {

@@ -1,7 +1,8 @@
 // What the names of events denote: blocks, containers, text parts, and prefixes of containers.
 
 ghost use Rattle.std.specs.Prelude.{◌≡◌};
-ghost use Rattle.md_events.specs.Events.Blocks.{has_other_parts, is_block, is_container, is_heading_or_break, is_literal};
+ghost use Rattle.md_events.specs.Events.Blocks.{has_other_parts, is_block, is_container, is_heading_or_break};
+ghost use Rattle.md_events.specs.Events.Blocks.{is_literal};
 ghost use Rattle.md_events.specs.Events.Prefix.{is_prefix};
 ghost use Rattle.md_events.specs.Events.Spelled.{role};
 ghost use Rattle.md_events.specs.Events.Tiles.{is_part};

@@ -30,19 +30,23 @@ const NOTHING: Event = Event {
 /// Growth is not expected to continue as in fewer events than this.
 const SAMPLE: usize = 8;
 
-/// How many events to make room for where `need` are to be written and `behind` others have to be moved, after `read`
-/// were read. Room was made for `added` before, and now `lacking` more are needed.
+/// How many events to make room for where `need` are to be written and `following` others have to be moved, after
+/// `read` were read. Room was made for `added` before, and now `lacking` more are needed.
 ///
 /// It is as many as the others take if they grow as those did, at most a quarter of their number the first time and
 /// then half of it, and at least a sixteenth of it, so that in all the moves are linear in the events.
-fn room_for(need: usize, lacking: usize, added: usize, read: usize, behind: usize) -> usize
+fn room_for(need: usize, lacking: usize, added: usize, read: usize, following: usize) -> usize
     ensures enough { need ≤ result }
     ensures some { 0 < result }
 {
     let grown = added.saturating_add(lacking);
-    let expected = behind.saturating_mul(grown) / read.max(SAMPLE);
-    let most = if added == 0 { behind / 4 } else { behind / 2 };
-    need.max(expected.min(most)).max(behind / 16).max(LEAST)
+    let expected = following.saturating_mul(grown) / read.max(SAMPLE);
+    let most = if added == 0 {
+        following / 4
+    } else {
+        following / 2
+    };
+    need.max(expected.min(most)).max(following / 16).max(LEAST)
 }
 
 /// A list that is read from its front on, and written again in the places that were read. What was read is held before

@@ -1,7 +1,7 @@
 // Parts of the text, lent from it.
 
 ghost use Rattle.std.specs.Prelude.{◌≡◌, ◌+◌, ◌-◌, ◌%◌, ◌<◌, ◌^◌, slice_range};
-ghost use Rattle.md_events.specs.Lent.{columns_behind, columns_in_front, lent, whole_from};
+ghost use Rattle.md_events.specs.Lent.{columns_after, columns_in_front, lent, whole_from};
 
 use md_engine::event::Point;
 
@@ -27,7 +27,7 @@ impl<'a> Slice<'a> {
     pub fn from_position(bytes: &'a [u8], position: Position) -> Slice<'a>
         ensures before { result.before ≡ columns_in_front position }
         ensures bytes { result.bytes.now ≡ lent bytes.now (whole_from position.start) position.end.index }
-        ensures after { result.after ≡ columns_behind position }
+        ensures after { result.after ≡ columns_after position }
     {
         let Position { start, end } = position;
         if start.vs > 0 && start.index == end.index {

@@ -12,7 +12,7 @@ ghost use Rattle.md_engine.specs.World.{world};
 ghost use Rattle.md_engine.specs.declared.state.Name.{Name as StateName};
 ghost use Rattle.md_engine.specs.declared.state.State.{State};
 ghost use Rattle.md_engine.specs.declared.state.space_or_tab.State.{State as WhiteState};
-ghost use Rattle.md_events.specs.Look.{as_seen, looks_behind, sees_other};
+ghost use Rattle.md_events.specs.Look.{as_seen, looks_after, sees_other};
 ghost use Rattle.md_events.specs.OneSpace.{IsOneSpace, spaced};
 ghost use Rattle.md_events.specs.Spaces.{WhiteNeeds, WhiteStep, any_size, begins_white};
 ghost use Rattle.md_events.specs.Spaces.{sees_white, small_indent, white_then};
@@ -60,9 +60,9 @@ fn as_seen(byte: u8) -> u8
 
 /// The byte here or, where that is whitespace, the first byte after the whitespace, as far as the text may be read now;
 /// none where that is not known, or where the text ends.
-#[tactic(auto, unfolding(crate::specs::Look::looks_behind))]
-pub fn look_behind(tokenizer: &mut Tokenizer) -> Option<u8>
-    ensures behind { result ≡ looks_behind (world tokenizer.old) }
+#[tactic(auto, unfolding(crate::specs::Look::looks_after))]
+pub fn look_after_white(tokenizer: &mut Tokenizer) -> Option<u8>
+    ensures following { result ≡ looks_after (world tokenizer.old) }
     ensures same { world tokenizer.new ≡ world tokenizer.old }
 {
     if !is_space_or_tab(tokenizer.current) {
@@ -274,7 +274,8 @@ fn start_at_once(tokenizer: &mut Tokenizer) -> State
 /// Calls a state of whitespace; all of it is taken at once.
 pub fn call_at_once(tokenizer: &mut Tokenizer, state: WhiteState) -> State
     requires { IsAt WhiteNeeds (StateName.SpaceOrTab state) (world tokenizer.old) }
-    ensures { IsRun WhiteStep (StateName.SpaceOrTab state) (world tokenizer.old) (IsFull tokenizer.new) result tokenizer.new }
+    ensures { IsRun WhiteStep (StateName.SpaceOrTab state) (world tokenizer.old) (IsFull tokenizer.new) result
+        tokenizer.new }
 {
     match state {
         WhiteState::Start => start_at_once(tokenizer),

@@ -10,8 +10,8 @@ ghost use Rattle.md_engine.specs.declared.event.Content.{Content};
 ghost use Rattle.md_events.specs.Lined.{BeginsWith, EachLine, ReadsLines, lined};
 ghost use Rattle.md_events.specs.Parts.{AreChunks, ArePlaced};
 ghost use Rattle.md_events.specs.Rewritten.{given_of, held_of, left_of, written_of};
-ghost use Rattle.md_events.specs.Substituted.{Asked, Begun, EachAsked, Readings, Substituted, belongs, chunk_of, chunks_from, is_plain_prefix};
-ghost use Rattle.md_events.specs.Substituted.{share, stays, wanted};
+ghost use Rattle.md_events.specs.Substituted.{Asked, Begun, EachAsked, Readings, Substituted, belongs, chunk_of};
+ghost use Rattle.md_events.specs.Substituted.{chunks_from, is_plain_prefix, share, stays, wanted};
 
 use crate::inline::Chunk;
 pub use crate::names::is_prefix;

@@ -15,8 +15,8 @@ use Rattle.md_meaning.specs.Preamble.{front_of}
 use Rattle.md_meaning.specs.Alert.{alert_at}
 use Rattle.md_meaning.specs.Containers.{quote_taken, item_continues, footnote_continues, opens_quote, opens_item}
 use Rattle.md_meaning.specs.Containers.{opens_footnote}
-use Rattle.md_meaning.specs.Leaves.{break_at, heading_at, code_at, code_goes_on, fence_at, fence_goes_on, html_at}
-use Rattle.md_meaning.specs.Leaves.{html_goes_on, starts, table_goes_on, underline_depth, underlined, table_at}
+use Rattle.md_meaning.specs.Leaves.{break_at, heading_at, code_at, code_continued, fence_at, fence_continued, html_at}
+use Rattle.md_meaning.specs.Leaves.{html_continued, starts, table_continued, underline_depth, underlined, table_at}
 use Rattle.md_meaning.specs.Step.{fresh_line, text_line, all_continued, stopped}
 use Rattle.md_events.specs.Events.Nested.{around, pair}
 use Rattle.md_exact.specs.Blocks.{exact}
@@ -173,11 +173,11 @@ alert_underline_events =
     (chunk (at 2 1 13) (at 2 2 14))
 
 -- "> [!note] x\n"
-abbrev text_behind_alert_text : List ℕ
-text_behind_alert_text = codes "> [!note] x" ++ 10 ∷ []
+abbrev text_after_alert_text : List ℕ
+text_after_alert_text = codes "> [!note] x" ++ 10 ∷ []
 
-abbrev text_behind_alert_events : List Event
-text_behind_alert_events =
+abbrev text_after_alert_events : List Event
+text_after_alert_events =
     around n.BlockQuote (at 1 1 0) (at 1 12 11)
     (around n.BlockQuotePrefix (at 1 1 0) (at 1 3 2)
     (pair n.BlockQuoteMarker (at 1 1 0) (at 1 2 1)
@@ -236,7 +236,7 @@ record AreAlerts : Type 0 where
   alert_in_quote : exact given.ALERTS alert_in_quote_text ≡ alert_in_quote_events
   late_alert : exact given.ALERTS late_alert_text ≡ late_alert_events
   alert_underline : exact given.ALERTS alert_underline_text ≡ alert_underline_events
-  text_behind_alert : exact given.ALERTS text_behind_alert_text ≡ text_behind_alert_events
+  text_after_alert : exact given.ALERTS text_after_alert_text ≡ text_after_alert_events
   alert_again : exact given.ALERTS alert_again_text ≡ alert_again_events
   alert_off : exact given.ALL alert_off_text ≡ alert_off_events
 
@@ -245,7 +245,8 @@ unfolding begins_raw begins_basic after_value after_assignment after_attribute e
     html_kind html_ends is_raw_name is_basic_name is_raw_end enclosed enclosed_lines label_at balanced destination_at
     title_at definition_at cut_at_most cut_definitions pieces row_cells delimiter_columns is_head shut_paragraph
     front_of alert_at quote_taken item_continues footnote_continues opens_quote opens_item opens_footnote break_at
-    heading_at code_at code_goes_on fence_at fence_goes_on html_at html_goes_on starts table_goes_on underline_depth
+    heading_at code_at code_continued fence_at fence_continued html_at html_continued starts table_continued
+    underline_depth
     underlined table_at fresh_line text_line all_continued stopped
 are-exact = record {
   alert = refl;
@@ -256,7 +257,7 @@ are-exact = record {
   alert_in_quote = refl;
   late_alert = refl;
   alert_underline = refl;
-  text_behind_alert = refl;
+  text_after_alert = refl;
   alert_again = refl;
   alert_off = refl;
 }

@@ -15,18 +15,18 @@ use Rattle.md_meaning.specs.Preamble.{front_of}
 use Rattle.md_meaning.specs.Alert.{alert_at}
 use Rattle.md_meaning.specs.Containers.{quote_taken, item_continues, footnote_continues, opens_quote, opens_item}
 use Rattle.md_meaning.specs.Containers.{opens_footnote}
-use Rattle.md_meaning.specs.Leaves.{break_at, heading_at, code_at, code_goes_on, fence_at, fence_goes_on, html_at}
-use Rattle.md_meaning.specs.Leaves.{html_goes_on, starts, table_goes_on, underline_depth, underlined, table_at}
+use Rattle.md_meaning.specs.Leaves.{break_at, heading_at, code_at, code_continued, fence_at, fence_continued, html_at}
+use Rattle.md_meaning.specs.Leaves.{html_continued, starts, table_continued, underline_depth, underlined, table_at}
 use Rattle.md_meaning.specs.Step.{fresh_line, text_line, all_continued, stopped}
 use Rattle.md_events.specs.Events.Nested.{around, pair}
 use Rattle.md_exact.specs.Blocks.{exact}
 use Rattle.md_events.proofs.EventRowParts.{at, chunk}
 use Rattle.md_events.proofs.ContainerRows.{lazy_text, lazy_events, prefix_text, prefix_events, ordered_text}
 use Rattle.md_events.proofs.ContainerRows.{ordered_events, items_text, nested_text, nested_events, left_fence_text}
-use Rattle.md_events.proofs.ContainerRows.{left_fence_events, shared_tab_text, shared_tab_events, tabs_text, tabs_events}
-use Rattle.md_events.proofs.ContainerRows.{definition_text, definition_events, footnote_text, footnote_events}
-use Rattle.md_events.proofs.ContainerRows.{cut_chunk_text, cut_chunk_events, behind_definition_text}
-use Rattle.md_events.proofs.ContainerRows.{behind_definition_events, lazy_head_text, lazy_head_events}
+use Rattle.md_events.proofs.ContainerRows.{left_fence_events, shared_tab_text, shared_tab_events, tabs_text}
+use Rattle.md_events.proofs.ContainerRows.{tabs_events, definition_text, definition_events, footnote_text}
+use Rattle.md_events.proofs.ContainerRows.{footnote_events, cut_chunk_text, cut_chunk_events, after_definition_text}
+use Rattle.md_events.proofs.ContainerRows.{after_definition_events, lazy_head_text, lazy_head_events}
 
 -- "- a\n+ b"
 abbrev items_events : List Event
@@ -59,7 +59,7 @@ record AreContainers : Type 0 where
   definition : exact given.ALL definition_text ≡ definition_events
   footnote : exact given.ALL footnote_text ≡ footnote_events
   cut_chunk : exact given.ALL cut_chunk_text ≡ cut_chunk_events
-  behind_definition : exact given.ALL behind_definition_text ≡ behind_definition_events
+  following_definition : exact given.ALL after_definition_text ≡ after_definition_events
   lazy_head : exact given.ALL lazy_head_text ≡ lazy_head_events
 
 are-exact : AreContainers
@@ -67,7 +67,8 @@ unfolding begins_raw begins_basic after_value after_assignment after_attribute e
     html_kind html_ends is_raw_name is_basic_name is_raw_end enclosed enclosed_lines label_at balanced destination_at
     title_at definition_at cut_at_most cut_definitions pieces row_cells delimiter_columns is_head shut_paragraph
     front_of alert_at quote_taken item_continues footnote_continues opens_quote opens_item opens_footnote break_at
-    heading_at code_at code_goes_on fence_at fence_goes_on html_at html_goes_on starts table_goes_on underline_depth
+    heading_at code_at code_continued fence_at fence_continued html_at html_continued starts table_continued
+    underline_depth
     underlined table_at fresh_line text_line all_continued stopped
 are-exact = record {
   lazy = refl;
@@ -81,6 +82,6 @@ are-exact = record {
   definition = refl;
   footnote = refl;
   cut_chunk = refl;
-  behind_definition = refl;
+  following_definition = refl;
   lazy_head = refl;
 }

@@ -15,8 +15,8 @@ use Rattle.md_meaning.specs.Preamble.{front_of}
 use Rattle.md_meaning.specs.Alert.{alert_at}
 use Rattle.md_meaning.specs.Containers.{quote_taken, item_continues, footnote_continues, opens_quote, opens_item}
 use Rattle.md_meaning.specs.Containers.{opens_footnote}
-use Rattle.md_meaning.specs.Leaves.{break_at, heading_at, code_at, code_goes_on, fence_at, fence_goes_on, html_at}
-use Rattle.md_meaning.specs.Leaves.{html_goes_on, starts, table_goes_on, underline_depth, underlined, table_at}
+use Rattle.md_meaning.specs.Leaves.{break_at, heading_at, code_at, code_continued, fence_at, fence_continued, html_at}
+use Rattle.md_meaning.specs.Leaves.{html_continued, starts, table_continued, underline_depth, underlined, table_at}
 use Rattle.md_meaning.specs.Step.{fresh_line, text_line, all_continued, stopped}
 use Rattle.md_events.specs.Events.Nested.{around, pair}
 use Rattle.md_exact.specs.Blocks.{exact}
@@ -153,13 +153,13 @@ quote_heading_events =
     (chunk (at 2 1 6) (at 2 2 7))
 
 -- "> x\n> a|b\n> :-:|-\n>  1 \\| 2 |\ny"
-abbrev table_behind_text_text : List ℕ
-table_behind_text_text =
+abbrev table_after_text_text : List ℕ
+table_after_text_text =
     codes "> x" ++ 10 ∷ codes "> a|b" ++ 10 ∷ codes "> :-:|-" ++ 10 ∷ codes ">  1 " ++ 92 ∷ codes "| 2 |"
     ++ 10 ∷ codes "y"
 
-abbrev table_behind_text_events : List Event
-table_behind_text_events =
+abbrev table_after_text_events : List Event
+table_after_text_events =
     around n.BlockQuote (at 1 1 0) (at 4 12 29)
     (around n.BlockQuotePrefix (at 1 1 0) (at 1 3 2)
     (pair n.BlockQuoteMarker (at 1 1 0) (at 1 2 1)
@@ -211,11 +211,11 @@ table_behind_text_events =
     (chunk (at 5 1 30) (at 5 2 31))
 
 -- "- a\n\n\tb\n      \n\nc"
-abbrev code_behind_text : List ℕ
-code_behind_text = codes "- a" ++ 10 ∷ 10 ∷ 9 ∷ codes "b" ++ 10 ∷ codes "      " ++ 10 ∷ 10 ∷ codes "c"
+abbrev code_after_text : List ℕ
+code_after_text = codes "- a" ++ 10 ∷ 10 ∷ 9 ∷ codes "b" ++ 10 ∷ codes "      " ++ 10 ∷ 10 ∷ codes "c"
 
-abbrev code_behind_events : List Event
-code_behind_events =
+abbrev code_after_events : List Event
+code_after_events =
     around n.ListUnordered (at 1 1 0) (at 5 1 15)
     (around n.ListItem (at 1 1 0) (at 5 1 15)
     (around n.ListItemPrefix (at 1 1 0) (at 1 3 2)
@@ -413,8 +413,8 @@ record AreLists : Type 0 where
   lists_apart : exact given.ALL lists_apart_text ≡ lists_apart_events
   left_quote : exact given.ALL left_quote_text ≡ left_quote_events
   quote_heading : exact given.ALL quote_heading_text ≡ quote_heading_events
-  table_behind_text : exact given.ALL table_behind_text_text ≡ table_behind_text_events
-  code_behind : exact given.ALL code_behind_text ≡ code_behind_events
+  table_after_text : exact given.ALL table_after_text_text ≡ table_after_text_events
+  code_after : exact given.ALL code_after_text ≡ code_after_events
   closed_fence : exact given.ALL closed_fence_text ≡ closed_fence_events
   tab_item : exact given.ALL tab_item_text ≡ tab_item_events
   footnote_lines : exact given.ALL footnote_lines_text ≡ footnote_lines_events
@@ -426,7 +426,8 @@ unfolding begins_raw begins_basic after_value after_assignment after_attribute e
     html_kind html_ends is_raw_name is_basic_name is_raw_end enclosed enclosed_lines label_at balanced destination_at
     title_at definition_at cut_at_most cut_definitions pieces row_cells delimiter_columns is_head shut_paragraph
     front_of alert_at quote_taken item_continues footnote_continues opens_quote opens_item opens_footnote break_at
-    heading_at code_at code_goes_on fence_at fence_goes_on html_at html_goes_on starts table_goes_on underline_depth
+    heading_at code_at code_continued fence_at fence_continued html_at html_continued starts table_continued
+    underline_depth
     underlined table_at fresh_line text_line all_continued stopped
 are-exact = record {
   blank_code = refl;
@@ -435,8 +436,8 @@ are-exact = record {
   lists_apart = refl;
   left_quote = refl;
   quote_heading = refl;
-  table_behind_text = refl;
-  code_behind = refl;
+  table_after_text = refl;
+  code_after = refl;
   closed_fence = refl;
   tab_item = refl;
   footnote_lines = refl;

@@ -15,8 +15,8 @@ use Rattle.md_meaning.specs.Preamble.{front_of}
 use Rattle.md_meaning.specs.Alert.{alert_at}
 use Rattle.md_meaning.specs.Containers.{quote_taken, item_continues, footnote_continues, opens_quote, opens_item}
 use Rattle.md_meaning.specs.Containers.{opens_footnote}
-use Rattle.md_meaning.specs.Leaves.{break_at, heading_at, code_at, code_goes_on, fence_at, fence_goes_on, html_at}
-use Rattle.md_meaning.specs.Leaves.{html_goes_on, starts, table_goes_on, underline_depth, underlined, table_at}
+use Rattle.md_meaning.specs.Leaves.{break_at, heading_at, code_at, code_continued, fence_at, fence_continued, html_at}
+use Rattle.md_meaning.specs.Leaves.{html_continued, starts, table_continued, underline_depth, underlined, table_at}
 use Rattle.md_meaning.specs.Step.{fresh_line, text_line, all_continued, stopped}
 use Rattle.md_events.specs.Events.Nested.{around, pair}
 use Rattle.md_exact.specs.Blocks.{exact}
@@ -347,7 +347,8 @@ unfolding begins_raw begins_basic after_value after_assignment after_attribute e
     html_kind html_ends is_raw_name is_basic_name is_raw_end enclosed enclosed_lines label_at balanced destination_at
     title_at definition_at cut_at_most cut_definitions pieces row_cells delimiter_columns is_head shut_paragraph
     front_of alert_at quote_taken item_continues footnote_continues opens_quote opens_item opens_footnote break_at
-    heading_at code_at code_goes_on fence_at fence_goes_on html_at html_goes_on starts table_goes_on underline_depth
+    heading_at code_at code_continued fence_at fence_continued html_at html_continued starts table_continued
+    underline_depth
     underlined table_at fresh_line text_line all_continued stopped
 are-exact = record {
   code_in_quote = refl;

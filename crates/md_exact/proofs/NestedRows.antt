@@ -15,8 +15,8 @@ use Rattle.md_meaning.specs.Preamble.{front_of}
 use Rattle.md_meaning.specs.Alert.{alert_at}
 use Rattle.md_meaning.specs.Containers.{quote_taken, item_continues, footnote_continues, opens_quote, opens_item}
 use Rattle.md_meaning.specs.Containers.{opens_footnote}
-use Rattle.md_meaning.specs.Leaves.{break_at, heading_at, code_at, code_goes_on, fence_at, fence_goes_on, html_at}
-use Rattle.md_meaning.specs.Leaves.{html_goes_on, starts, table_goes_on, underline_depth, underlined, table_at}
+use Rattle.md_meaning.specs.Leaves.{break_at, heading_at, code_at, code_continued, fence_at, fence_continued, html_at}
+use Rattle.md_meaning.specs.Leaves.{html_continued, starts, table_continued, underline_depth, underlined, table_at}
 use Rattle.md_meaning.specs.Step.{fresh_line, text_line, all_continued, stopped}
 use Rattle.md_events.specs.Events.Nested.{around, pair}
 use Rattle.md_exact.specs.Blocks.{exact}
@@ -285,11 +285,11 @@ headings_in_items_events =
     ++ pair n.LineEnding (at 4 4 17) (at 5 1 18)))
 
 -- "> a\n---"
-abbrev break_behind_quote_text : List ℕ
-break_behind_quote_text = codes "> a" ++ 10 ∷ codes "---"
+abbrev break_after_quote_text : List ℕ
+break_after_quote_text = codes "> a" ++ 10 ∷ codes "---"
 
-abbrev break_behind_quote_events : List Event
-break_behind_quote_events =
+abbrev break_after_quote_events : List Event
+break_after_quote_events =
     around n.BlockQuote (at 1 1 0) (at 1 4 3)
     (around n.BlockQuotePrefix (at 1 1 0) (at 1 3 2)
     (pair n.BlockQuoteMarker (at 1 1 0) (at 1 2 1)
@@ -423,7 +423,7 @@ record AreNested : Type 0 where
   table_in_item : exact given.ALL table_in_item_text ≡ table_in_item_events
   table_and_quote : exact given.ALL table_and_quote_text ≡ table_and_quote_events
   headings_in_items : exact given.ALL headings_in_items_text ≡ headings_in_items_events
-  break_behind_quote : exact given.ALL break_behind_quote_text ≡ break_behind_quote_events
+  break_after_quote : exact given.ALL break_after_quote_text ≡ break_after_quote_events
   definition_in_quote : exact given.ALL definition_in_quote_text ≡ definition_in_quote_events
   list_in_footnote : exact given.ALL list_in_footnote_text ≡ list_in_footnote_events
   math_in_footnote : exact given.ALL math_in_footnote_text ≡ math_in_footnote_events
@@ -433,7 +433,8 @@ unfolding begins_raw begins_basic after_value after_assignment after_attribute e
     html_kind html_ends is_raw_name is_basic_name is_raw_end enclosed enclosed_lines label_at balanced destination_at
     title_at definition_at cut_at_most cut_definitions pieces row_cells delimiter_columns is_head shut_paragraph
     front_of alert_at quote_taken item_continues footnote_continues opens_quote opens_item opens_footnote break_at
-    heading_at code_at code_goes_on fence_at fence_goes_on html_at html_goes_on starts table_goes_on underline_depth
+    heading_at code_at code_continued fence_at fence_continued html_at html_continued starts table_continued
+    underline_depth
     underlined table_at fresh_line text_line all_continued stopped
 are-exact = record {
   items_in_quote = refl;
@@ -444,7 +445,7 @@ are-exact = record {
   table_in_item = refl;
   table_and_quote = refl;
   headings_in_items = refl;
-  break_behind_quote = refl;
+  break_after_quote = refl;
   definition_in_quote = refl;
   list_in_footnote = refl;
   math_in_footnote = refl;

@@ -15,7 +15,7 @@ use Rattle.md_meaning.proofs.TextsLemmas.{NoEnding}
 use Rattle.md_events.specs.Ahead.{white_end}
 use Rattle.md_events.specs.Events.Places.{columns_from, past_byte, past_text}
 use Rattle.md_events.proofs.AheadLemmas.{none-end}
-use Rattle.md_events.proofs.FeedLines.{Stops, behind_last, cell, columns_more, next_column, past_text-whole, spread}
+use Rattle.md_events.proofs.FeedLines.{Stops, after_last, cell, columns_more, next_column, past_text-whole, spread}
 use Rattle.md_events.proofs.FeedLines.{tab_cells}
 use Rattle.md_events.proofs.InlineLemmas.{past-index}
 use Rattle.md_events.proofs.LostColumns.{column-step, lose-bare}
@@ -23,34 +23,34 @@ use Rattle.md_events.proofs.PlacesLemmas.{Placed, at-next, placed-text}
 use Rattle.md_events.proofs.ReachedLemmas.{placed-next}
 use Rattle.md_events.proofs.RestCells.{Cut, HasColumn, RestAt, bare-cells, column-first, rest_cells, without_first}
 use Rattle.md_exact.specs.Places.{TextLine, past, place, whole}
-use Rattle.md_exact.proofs.PlaceLemmas.{StandsIn, before-is, line_start, placed-place, past-column, no_ending-take}
+use Rattle.md_exact.proofs.PlaceLemmas.{LineOf, before-is, line_start, placed-place, past-column, no_ending-take}
 
 -- a line of the text, which begins at a point of it
-pub record LineIn (text behind : List ℕ) (line : TextLine) : Type 0 where
-  pub stands : StandsIn text behind line
+pub record LineIn (text following : List ℕ) (line : TextLine) : Type 0 where
+  pub valid : LineOf text following line
   pub plain : NoEnding line.bytes
   pub begins : Placed text (line_start line)
 
 -- a rest of it is at a point of it
-pub record OnLine (text behind : List ℕ) (line : TextLine) (r : Rest) (p : Point) : Type 0 where
-  pub stands : RestAt text behind r p
+pub record OnLine (text following : List ℕ) (line : TextLine) (r : Rest) (p : Point) : Type 0 where
+  pub valid : RestAt text following r p
   pub placed : Placed text p
   pub onward : line.index ≤ p.index
   pub number : p.line ≡ line.number
 
 -- that point is its place
-pub place-on : (text behind : List ℕ) (line : TextLine) (r : Rest) (p : Point) → LineIn text behind line →
-    OnLine text behind line r p → place line r ≡ p
-place-on text behind line r p is on =
-    let index = before-is text behind line r p is.stands on.stands on.onward on.placed.index in
-    placed-place text behind line r p is.stands is.plain is.begins on.stands on.placed on.onward (omega (arith, index))
+pub place-on : (text following : List ℕ) (line : TextLine) (r : Rest) (p : Point) → LineIn text following line →
+    OnLine text following line r p → place line r ≡ p
+place-on text following line r p is on =
+    let index = before-is text following line r p is.valid on.valid on.onward on.placed.index in
+    placed-place text following line r p is.valid is.plain is.begins on.valid on.placed on.onward (omega (arith, index))
     on.number
 
 -- all of a line
-pub whole-on : (text behind : List ℕ) (line : TextLine) → LineIn text behind line →
-    OnLine text behind line (whole line) (line_start line)
-whole-on text behind line is = record {
-  stands = record { column = refl; cut = refl; text_is = is.stands.text_is };
+pub whole-on : (text following : List ℕ) (line : TextLine) → LineIn text following line →
+    OnLine text following line (whole line) (line_start line)
+whole-on text following line is = record {
+  valid = record { column = refl; cut = refl; text_is = is.valid.text_is };
   placed = is.begins;
   onward = omega arith;
   number = refl;
@@ -66,20 +66,20 @@ inside (suc index) (c ∷ bytes) b rest e = let more = inside index bytes b rest
 
 -- the point after a column of a tab, and after a space
 tab-point : (text : List ℕ) (p : Point) → slice_index text p.index ≡ 9 →
-    next_point text p ≡ cond (not (p.column % 4 == 0)) (next_column p) (behind_last p)
+    next_point text p ≡ cond (not (p.column % 4 == 0)) (next_column p) (after_last p)
 tab-point text p is = rw is refl
 
 within-point : (text : List ℕ) (n : ℕ) (p : Point) → slice_index text p.index ≡ 9 → suc n ≡ columns_more p →
     next_point text p ≡ next_column p
 within-point text n p is e =
     let more : not (p.column % 4 == 0) ≡ true = grind (arith, nat_tests) in
-    tab-point text p is ∙ ap (λ (t : Bool). cond t (next_column p) (behind_last p)) more
+    tab-point text p is ∙ ap (λ (t : Bool). cond t (next_column p) (after_last p)) more
 
 last-point : (text : List ℕ) (p : Point) → slice_index text p.index ≡ 9 → 0 ≡ columns_more p →
-    next_point text p ≡ behind_last p
+    next_point text p ≡ after_last p
 last-point text p is e =
     let none : not (p.column % 4 == 0) ≡ false = grind (arith, nat_tests) in
-    tab-point text p is ∙ ap (λ (t : Bool). cond t (next_column p) (behind_last p)) none
+    tab-point text p is ∙ ap (λ (t : Bool). cond t (next_column p) (after_last p)) none
 
 space-point : (text : List ℕ) (p : Point) → slice_index text p.index ≡ 32 → 1 ≤ p.column →
     next_point text p ≡ past_byte 32 p
@@ -102,15 +102,15 @@ record IsNext (text : List ℕ) (p at : Point) : Type 0 where
   inside : p.index < length text
   further : at.index ≤ p.index + 1
 
-column-next : (cell_line : Line) (text behind : List ℕ) (r : Rest) (p : Point) → RestAt text behind r p →
-    0 < indent r → (first : HasColumn cell_line text behind r p) → IsNext text p first.at
-column-next cell_line text behind r p is lt first =
+column-next : (cell_line : Line) (text following : List ℕ) (r : Rest) (p : Point) → RestAt text following r p →
+    0 < indent r → (first : HasColumn cell_line text following r p) → IsNext text p first.at
+column-next cell_line text following r p is lt first =
     go r.column r.spaces r.bytes is lt (ap (first_after p) first.cells)
   where
     at : Point
     at = first.at
 
-    last : (bytes : List ℕ) → drop p.index text ≡ 9 ∷ bytes → 0 ≡ columns_more p → behind_last p ≡ at →
+    last : (bytes : List ℕ) → drop p.index text ≡ 9 ∷ bytes → 0 ≡ columns_more p → after_last p ≡ at →
         IsNext text p at
     last bytes is none e =
         subst (IsNext text p) e (record {
@@ -128,23 +128,23 @@ column-next cell_line text behind r p is lt first =
           further = omega arith;
         })
 
-    go : (column spaces : ℕ) (bytes : List ℕ) → RestAt text behind (rest column spaces bytes) p →
+    go : (column spaces : ℕ) (bytes : List ℕ) → RestAt text following (rest column spaces bytes) p →
         0 < indent (rest column spaces bytes) → first_after p (rest_cells cell_line (rest column spaces bytes) p) ≡ at →
         IsNext text p at
-    go column (suc zero) bytes h lt e = last (bytes ++ behind) h.text_is h.cut.1 e
-    go column (suc (suc n)) bytes h lt e = within n (bytes ++ behind) h.text_is h.cut.1 e
+    go column (suc zero) bytes h lt e = last (bytes ++ following) h.text_is h.cut.1 e
+    go column (suc (suc n)) bytes h lt e = within n (bytes ++ following) h.text_is h.cut.1 e
     go column zero [] h lt e = absurd (omega (arith, lt))
     go column zero (b ∷ bs) h lt e = by (b == 9) refl (b == 32) refl h e
       where
         Has : ℕ → Type 0
         Has c =
-            RestAt text behind (rest column 0 (c ∷ bs)) p →
+            RestAt text following (rest column 0 (c ∷ bs)) p →
             first_after p (rest_cells cell_line (rest column 0 (c ∷ bs)) p) ≡ at → IsNext text p at
 
-        tab : (k : ℕ) → k ≡ columns_more p → drop p.index text ≡ 9 ∷ bs ++ behind →
+        tab : (k : ℕ) → k ≡ columns_more p → drop p.index text ≡ 9 ∷ bs ++ following →
             first_after p (tab_cells cell_line k 9 p ++ spread cell_line bs (past_byte 9 p)) ≡ at → IsNext text p at
-        tab zero k is e = last (bs ++ behind) is k e
-        tab (suc n) k is e = within n (bs ++ behind) is k e
+        tab zero k is e = last (bs ++ following) is k e
+        tab (suc n) k is e = within n (bs ++ following) is k e
 
         by : (t : Bool) → (b == 9) ≡ t → (s : Bool) → (b == 32) ≡ s → Has b
         by true f s g = subst Has (sym (eqb-true b 9 f)) (λ is. tab (columns_more p) refl is.text_is)
@@ -153,86 +153,87 @@ column-next cell_line text behind r p is lt first =
             (λ is e.
             subst (IsNext text p) e (record {
               is = sym
-                  (space-point text p (at-next p.index text 32 (bs ++ behind) is.text_is) (omega (arith, is.column)));
-              inside = inside p.index text 32 (bs ++ behind) is.text_is;
+                  (space-point text p (at-next p.index text 32 (bs ++ following) is.text_is)
+                  (omega (arith, is.column)));
+              inside = inside p.index text 32 (bs ++ following) is.text_is;
               further = omega arith;
             }))
         by false f false g =
             let none : white_columns (column + 0) (b ∷ bs) ≡ 0 = rw (f, g) refl in absurd (omega (arith, lt, none))
 
-pub column-on : (cell_line : Line) (text behind : List ℕ) (line : TextLine) (r : Rest) (p : Point) →
-    OnLine text behind line r p → 0 < indent r → (first : HasColumn cell_line text behind r p) →
-    OnLine text behind line (without_first r) first.at
-column-on cell_line text behind line r p on lt first =
-    let next = column-next cell_line text behind r p on.stands lt first in
-    let step = column-step cell_line text behind r p on.stands lt first in
+pub column-on : (cell_line : Line) (text following : List ℕ) (line : TextLine) (r : Rest) (p : Point) →
+    OnLine text following line r p → 0 < indent r → (first : HasColumn cell_line text following r p) →
+    OnLine text following line (without_first r) first.at
+column-on cell_line text following line r p on lt first =
+    let next = column-next cell_line text following r p on.valid lt first in
+    let step = column-step cell_line text following r p on.valid lt first in
     let fits : (next_point text p).index ≤ length text = subst (λ (q : Point). q.index ≤ length text) next.is
     (omega (arith, next.inside, next.further)) in
     record {
-      stands = first.stands;
+      valid = first.valid;
       placed = subst (Placed text) (sym next.is) (placed-next text p on.placed fits);
       onward = omega (arith, on.onward, step.white.index);
       number = step.white.line ∙ on.number;
     }
 
 -- so many, or as many as there are
-pub lose-on : (cell_line : Line) (text behind : List ℕ) (line : TextLine) (m : ℕ) (r : Rest) (p : Point)
+pub lose-on : (cell_line : Line) (text following : List ℕ) (line : TextLine) (m : ℕ) (r : Rest) (p : Point)
     (stop : List Cell) →
-    OnLine text behind line r p → Stops stop →
-    OnLine text behind line (lose m r) (white_end m (rest_cells cell_line r p ++ stop) p)
-lose-on cell_line text behind line zero r p stop on k =
-    subst (OnLine text behind line r) (sym (none (rest_cells cell_line r p ++ stop))) on
+    OnLine text following line r p → Stops stop →
+    OnLine text following line (lose m r) (white_end m (rest_cells cell_line r p ++ stop) p)
+lose-on cell_line text following line zero r p stop on k =
+    subst (OnLine text following line r) (sym (none (rest_cells cell_line r p ++ stop))) on
   where
     none : (cells : List Cell) → white_end 0 cells p ≡ p
     none [] = refl
     none (c ∷ cs) = refl
-lose-on cell_line text behind line (suc m) r p stop on k =
-    go (indent r) refl (λ first h. lose-on cell_line text behind line m (without_first r) first.at stop h k)
+lose-on cell_line text following line (suc m) r p stop on k =
+    go (indent r) refl (λ first h. lose-on cell_line text following line m (without_first r) first.at stop h k)
   where
     cells : List Cell
     cells = rest_cells cell_line r p ++ stop
 
     go : (n : ℕ) → indent r ≡ n →
-        ((first : HasColumn cell_line text behind r p) → OnLine text behind line (without_first r) first.at →
-        OnLine text behind line (lose m (without_first r))
+        ((first : HasColumn cell_line text following r p) → OnLine text following line (without_first r) first.at →
+        OnLine text following line (lose m (without_first r))
         (white_end m (rest_cells cell_line (without_first r) first.at ++ stop) first.at)) →
-        OnLine text behind line (lose (suc m) r) (white_end (suc m) cells p)
+        OnLine text following line (lose (suc m) r) (white_end (suc m) cells p)
     go zero e more =
         let dark = bare-cells cell_line r p stop e k in
-        subst (λ (s : Rest). OnLine text behind line s (white_end (suc m) cells p)) (sym (lose-bare (suc m) r e))
-        (subst (OnLine text behind line r) (sym (none-end (suc m) cells p dark)) on)
+        subst (λ (s : Rest). OnLine text following line s (white_end (suc m) cells p)) (sym (lose-bare (suc m) r e))
+        (subst (OnLine text following line r) (sym (none-end (suc m) cells p dark)) on)
     go (suc n) e more =
         let lt : 0 < indent r = omega (arith, e) in
-        let first = column-first cell_line text behind r p on.stands lt in
+        let first = column-first cell_line text following r p on.valid lt in
         let left : List Cell = rest_cells cell_line (without_first r) first.at ++ stop in
         let same : cells ≡ cell first.byte first.at cell_line ∷ left = ap (λ (l : List Cell). l ++ stop) first.cells in
         let end : white_end (suc m) cells p ≡
         white_end m left first.at = ap (λ (l : List Cell). white_end (suc m) l p) same
         ∙ ap (λ (t : Bool). cond t (white_end m left first.at) p) first.white in
-        subst (OnLine text behind line (lose m (without_first r))) (sym end)
-        (more first (column-on cell_line text behind line r p on lt first))
+        subst (OnLine text following line (lose m (without_first r))) (sym end)
+        (more first (column-on cell_line text following line r p on lt first))
 
 -- all of an indent that has no more columns than so many
-pub indent-on : (cell_line : Line) (text behind : List ℕ) (line : TextLine) (n room : ℕ) (r : Rest) (p : Point)
+pub indent-on : (cell_line : Line) (text following : List ℕ) (line : TextLine) (n room : ℕ) (r : Rest) (p : Point)
     (stop : List Cell) →
-    OnLine text behind line r p → Stops stop → indent r ≡ n → n ≤ room →
-    OnLine text behind line (lose n r) (white_end room (rest_cells cell_line r p ++ stop) p)
-indent-on cell_line text behind line zero room r p stop on k e le =
-    subst (OnLine text behind line r)
+    OnLine text following line r p → Stops stop → indent r ≡ n → n ≤ room →
+    OnLine text following line (lose n r) (white_end room (rest_cells cell_line r p ++ stop) p)
+indent-on cell_line text following line zero room r p stop on k e le =
+    subst (OnLine text following line r)
     (sym (none-end room (rest_cells cell_line r p ++ stop) p (bare-cells cell_line r p stop e k))) on
-indent-on cell_line text behind line (suc n) zero r p stop on k e le = absurd (omega (arith, le))
-indent-on cell_line text behind line (suc n) (suc room) r p stop on k e le =
+indent-on cell_line text following line (suc n) zero r p stop on k e le = absurd (omega (arith, le))
+indent-on cell_line text following line (suc n) (suc room) r p stop on k e le =
     let lt : 0 < indent r = omega (arith, e) in
-    let first = column-first cell_line text behind r p on.stands lt in
+    let first = column-first cell_line text following r p on.valid lt in
     let left : List Cell = rest_cells cell_line (without_first r) first.at ++ stop in
     let cells : rest_cells cell_line r p ++ stop ≡
     cell first.byte first.at cell_line ∷ left = ap (λ (l : List Cell). l ++ stop) first.cells in
     let end : white_end (suc room) (rest_cells cell_line r p ++ stop) p ≡
     white_end room left first.at = ap (λ (l : List Cell). white_end (suc room) l p) cells
     ∙ ap (λ (t : Bool). cond t (white_end room left first.at) p) first.white in
-    subst (OnLine text behind line (lose n (without_first r))) (sym end)
-    (indent-on cell_line text behind line n room (without_first r) first.at stop
-    (column-on cell_line text behind line r p on lt first) k (omega (arith, e, first.columns)) (omega (arith, le)))
+    subst (OnLine text following line (lose n (without_first r))) (sym end)
+    (indent-on cell_line text following line n room (without_first r) first.at stop
+    (column-on cell_line text following line r p on lt first) k (omega (arith, e, first.columns)) (omega (arith, le)))
 
 -- Bytes.
 
@@ -241,20 +242,21 @@ past-line [] p = refl
 past-line (b ∷ bs) p = past-line bs (past_byte b p)
 
 -- so many further, where no tab is cut
-pub past-on : (text behind : List ℕ) (line : TextLine) (n : ℕ) (r : Rest) (p : Point) → OnLine text behind line r p →
-    r.spaces ≡ 0 → NoEnding r.bytes → OnLine text behind line (past n r) (past_text (take n r.bytes) p)
-past-on text behind line n r p on none plain = record {
-  stands = record {
+pub past-on : (text following : List ℕ) (line : TextLine) (n : ℕ) (r : Rest) (p : Point) →
+    OnLine text following line r p →
+    r.spaces ≡ 0 → NoEnding r.bytes → OnLine text following line (past n r) (past_text (take n r.bytes) p)
+past-on text following line n r p on none plain = record {
+  valid = record {
     column =
-        past-column front p (omega (arith, on.stands.column))
-        ∙ ap (λ (c : ℕ). columns_from c front + 1) (omega (arith, on.stands.column, none));
-    cut = past_text-whole front p (whole_at r.spaces none on.stands.cut);
+        past-column front p (omega (arith, on.valid.column))
+        ∙ ap (λ (c : ℕ). columns_from c front + 1) (omega (arith, on.valid.column, none));
+    cut = past_text-whole front p (whole_at r.spaces none on.valid.cut);
     text_is =
         ap (λ (i : ℕ). drop i text) (past-index front p) ∙ sym (drop-drop (length front) p.index text)
         ∙ ap (drop (length front)) parts
-        ∙ drop-append_seam front (drop n r.bytes ++ behind);
+        ∙ drop-append_seam front (drop n r.bytes ++ following);
   };
-  placed = placed-text text p front (drop n r.bytes ++ behind) on.placed parts (no_ending-take n r.bytes plain);
+  placed = placed-text text p front (drop n r.bytes ++ following) on.placed parts (no_ending-take n r.bytes plain);
   onward = let index = past-index front p in omega (arith, on.onward, index);
   number = past-line front p ∙ on.number;
 }
@@ -266,8 +268,8 @@ past-on text behind line n r p on none plain = record {
     whole_at zero e cut = cut
     whole_at (suc k) e cut = absurd (omega (arith, e))
 
-    parts : drop p.index text ≡ front ++ (drop n r.bytes ++ behind)
+    parts : drop p.index text ≡ front ++ (drop n r.bytes ++ following)
     parts =
-        on.stands.text_is ∙ ap (λ (k : ℕ). cut_tab k ++ r.bytes ++ behind) none
-        ∙ ap (λ (l : List ℕ). l ++ behind) (sym (take-append-drop n r.bytes))
-        ∙ append_assoc front (drop n r.bytes) behind
+        on.valid.text_is ∙ ap (λ (k : ℕ). cut_tab k ++ r.bytes ++ following) none
+        ∙ ap (λ (l : List ℕ). l ++ following) (sym (take-append-drop n r.bytes))
+        ∙ append_assoc front (drop n r.bytes) following

@@ -24,13 +24,13 @@ use Rattle.md_exact.proofs.OnLine.{LineIn, OnLine, place-on}
 use Rattle.md_exact.proofs.PlaceLemmas.{cut_len, length-cut}
 
 -- What is left of a text at a rest.
-rest-length : (text behind : List ℕ) (r : Rest) (p : Point) → RestAt text behind r p →
-    length text - p.index ≡ cut_len r.spaces + length r.bytes + length behind
-rest-length text behind r p at =
+rest-length : (text following : List ℕ) (r : Rest) (p : Point) → RestAt text following r p →
+    length text - p.index ≡ cut_len r.spaces + length r.bytes + length following
+rest-length text following r p at =
     sym (length-drop p.index text) ∙ ap (λ (l : List ℕ). length l) at.text_is
-    ∙ length-append (cut_tab r.spaces ++ r.bytes) behind
-    ∙ ap (λ (n : ℕ). n + length behind) (length-append (cut_tab r.spaces) r.bytes)
-    ∙ ap (λ (n : ℕ). n + length r.bytes + length behind) (length-cut r.spaces)
+    ∙ length-append (cut_tab r.spaces ++ r.bytes) following
+    ∙ ap (λ (n : ℕ). n + length following) (length-append (cut_tab r.spaces) r.bytes)
+    ∙ ap (λ (n : ℕ). n + length r.bytes + length following) (length-cut r.spaces)
 
 -- the virtual spaces in a tab are fewer than its columns
 few : (bytes : List ℕ) (p : Point) → Placed bytes p → 0 < p.vs → p.vs < 4 - columns_before bytes p.index % 4
@@ -75,15 +75,16 @@ both false true f g = g refl
 both false false f g = refl
 
 -- Two rests begin at one point where they are left alike.
-pub same-on : (text behind : List ℕ) (r s : Rest) (p q : Point) → RestAt text behind r p → RestAt text behind s q →
+pub same-on : (text following : List ℕ) (r s : Rest) (p q : Point) → RestAt text following r p →
+    RestAt text following s q →
     Placed text p → Placed text q → is_same r s ≡ same_place p q
-same-on text behind r s p q at at' placed placed' = both (is_same r s) (same_place p q) forward backward
+same-on text following r s p q at at' placed placed' = both (is_same r s) (same_place p q) forward backward
   where
-    left : length text - p.index ≡ cut_len r.spaces + length r.bytes + length behind
-    left = rest-length text behind r p at
+    left : length text - p.index ≡ cut_len r.spaces + length r.bytes + length following
+    left = rest-length text following r p at
 
-    left' : length text - q.index ≡ cut_len s.spaces + length s.bytes + length behind
-    left' = rest-length text behind s q at'
+    left' : length text - q.index ≡ cut_len s.spaces + length s.bytes + length following
+    left' = rest-length text following s q at'
 
     forward : is_same r s ≡ true → same_place p q ≡ true
     forward e =
@@ -98,8 +99,8 @@ same-on text behind r s p q at at' placed placed' = both (is_same r s) (same_pla
         (same-vs text r.spaces p q placed placed' index at.cut
         (subst (λ (k : ℕ). Cut k q) (sym spaces) at'.cut)))
       where
-        alike : (c d : ℕ) → length text - p.index ≡ c + length r.bytes + length behind →
-            length text - q.index ≡ d + length s.bytes + length behind → length r.bytes ≡ length s.bytes → c ≡ d →
+        alike : (c d : ℕ) → length text - p.index ≡ c + length r.bytes + length following →
+            length text - q.index ≡ d + length s.bytes + length following → length r.bytes ≡ length s.bytes → c ≡ d →
             p.index ≤ length text → q.index ≤ length text → p.index ≡ q.index
         alike c d e f g h le le' = omega arith
 
@@ -116,38 +117,40 @@ same-on text behind r s p q at at' placed placed' = both (is_same r s) (same_pla
         (alike (cut_len r.spaces) (cut_len s.spaces) left left' index cut))
         (eq-eqb r.spaces s.spaces spaces)
       where
-        alike : (c d : ℕ) → length text - p.index ≡ c + length r.bytes + length behind →
-            length text - q.index ≡ d + length s.bytes + length behind → p.index ≡ q.index → c ≡ d →
+        alike : (c d : ℕ) → length text - p.index ≡ c + length r.bytes + length following →
+            length text - q.index ≡ d + length s.bytes + length following → p.index ≡ q.index → c ≡ d →
             length r.bytes ≡ length s.bytes
         alike c d e f g h = omega arith
 
 -- So a piece, whitespace, a part and a text part are those between the two points.
-pub piece-on : (text behind : List ℕ) (line : TextLine) (name : Name) (r s : Rest) (p q : Point) →
-    LineIn text behind line → OnLine text behind line r p → OnLine text behind line s q →
+pub piece-on : (text following : List ℕ) (line : TextLine) (name : Name) (r s : Rest) (p q : Point) →
+    LineIn text following line → OnLine text following line r p → OnLine text following line s q →
     piece line name r s ≡ pair_unless_empty name p q
-piece-on text behind line name r s p q is on on' =
+piece-on text following line name r s p q is on on' =
     ap (λ (x : Bool). cond x [] (part line name r s []))
-    (same-on text behind r s p q on.stands on'.stands on.placed on'.placed)
+    (same-on text following r s p q on.valid on'.valid on.placed on'.placed)
     ∙ ap₂ (λ (a b : Point). cond (same_place p q) [] (around name a b []))
-    (place-on text behind line r p is on) (place-on text behind line s q is on')
+    (place-on text following line r p is on) (place-on text following line s q is on')
 
-pub white-on : (text behind : List ℕ) (line : TextLine) (r s : Rest) (p q : Point) → LineIn text behind line →
-    OnLine text behind line r p → OnLine text behind line s q → white line r s ≡ pair_unless_empty n.SpaceOrTab p q
-white-on text behind line r s p q is on on' = piece-on text behind line n.SpaceOrTab r s p q is on on'
+pub white-on : (text following : List ℕ) (line : TextLine) (r s : Rest) (p q : Point) → LineIn text following line →
+    OnLine text following line r p → OnLine text following line s q → white line r s ≡
+    pair_unless_empty n.SpaceOrTab p q
+white-on text following line r s p q is on on' = piece-on text following line n.SpaceOrTab r s p q is on on'
 
-pub part-on : (text behind : List ℕ) (line : TextLine) (name : Name) (r s : Rest) (p q : Point) (inside : List Event) →
-    LineIn text behind line → OnLine text behind line r p → OnLine text behind line s q →
+pub part-on : (text following : List ℕ) (line : TextLine) (name : Name) (r s : Rest) (p q : Point)
+    (inside : List Event) →
+    LineIn text following line → OnLine text following line r p → OnLine text following line s q →
     part line name r s inside ≡ around name p q inside
-part-on text behind line name r s p q inside is on on' =
-    ap₂ (λ (a b : Point). around name a b inside) (place-on text behind line r p is on)
-    (place-on text behind line s q is on')
+part-on text following line name r s p q inside is on on' =
+    ap₂ (λ (a b : Point). around name a b inside) (place-on text following line r p is on)
+    (place-on text following line s q is on')
 
-pub text_part-on : (text behind : List ℕ) (line : TextLine) (content : Content) (name : Name) (r s : Rest)
+pub text_part-on : (text following : List ℕ) (line : TextLine) (content : Content) (name : Name) (r s : Rest)
     (p q : Point) →
-    LineIn text behind line → OnLine text behind line r p → OnLine text behind line s q →
+    LineIn text following line → OnLine text following line r p → OnLine text following line s q →
     text_part line content name r s ≡ cond (same_place p q) [] (around name p q (chunk content p q))
-text_part-on text behind line content name r s p q is on on' =
+text_part-on text following line content name r s p q is on on' =
     ap (λ (x : Bool). cond x [] (part line name r s (chunk content (place line r) (place line s))))
-    (same-on text behind r s p q on.stands on'.stands on.placed on'.placed)
+    (same-on text following r s p q on.valid on'.valid on.placed on'.placed)
     ∙ ap₂ (λ (a b : Point). cond (same_place p q) [] (around name a b (chunk content a b)))
-    (place-on text behind line r p is on) (place-on text behind line s q is on')
+    (place-on text following line r p is on) (place-on text following line s q is on')

@@ -15,9 +15,9 @@ use Rattle.md_events.proofs.RestCells.{RestAt}
 use Rattle.md_exact.specs.Places.{TextLine, place}
 
 -- a line is in a text, with this after its bytes
-pub record StandsIn (text behind : List ℕ) (line : TextLine) : Type 0 where
+pub record LineOf (text following : List ℕ) (line : TextLine) : Type 0 where
   pub index : line.index ≤ length text
-  pub text_is : drop line.index text ≡ line.bytes ++ behind
+  pub text_is : drop line.index text ≡ line.bytes ++ following
 
 -- the bytes of a cut tab
 abbrev pub cut_len : ℕ → ℕ
@@ -32,21 +32,21 @@ length-cut (suc n) =
 abbrev pub before : TextLine → Rest → ℕ
 before line r = length line.bytes - length r.bytes - cut_len r.spaces
 
-pub before-is : (text behind : List ℕ) (line : TextLine) (r : Rest) (p : Point) → StandsIn text behind line →
-    RestAt text behind r p → line.index ≤ p.index → p.index ≤ length text → p.index ≡ line.index + before line r
-before-is text behind line r p line_at at onward inside =
-    let whole : length text - line.index ≡ length line.bytes + length behind =
+pub before-is : (text following : List ℕ) (line : TextLine) (r : Rest) (p : Point) → LineOf text following line →
+    RestAt text following r p → line.index ≤ p.index → p.index ≤ length text → p.index ≡ line.index + before line r
+before-is text following line r p line_at at onward inside =
+    let whole : length text - line.index ≡ length line.bytes + length following =
     sym (length-drop line.index text) ∙ ap (λ (l : List ℕ). length l) line_at.text_is
-    ∙ length-append line.bytes behind in
-    let rest : length text - p.index ≡ cut_len r.spaces + length r.bytes + length behind =
+    ∙ length-append line.bytes following in
+    let rest : length text - p.index ≡ cut_len r.spaces + length r.bytes + length following =
     sym (length-drop p.index text) ∙ ap (λ (l : List ℕ). length l) at.text_is
-    ∙ length-append (cut_tab r.spaces ++ r.bytes) behind
-    ∙ ap (λ (n : ℕ). n + length behind) (length-append (cut_tab r.spaces) r.bytes)
-    ∙ ap (λ (n : ℕ). n + length r.bytes + length behind) (length-cut r.spaces) in
+    ∙ length-append (cut_tab r.spaces ++ r.bytes) following
+    ∙ ap (λ (n : ℕ). n + length following) (length-append (cut_tab r.spaces) r.bytes)
+    ∙ ap (λ (n : ℕ). n + length r.bytes + length following) (length-cut r.spaces) in
     by p.index line.index (cut_len r.spaces) whole rest inside onward
   where
-    by : (i j c : ℕ) → length text - j ≡ length line.bytes + length behind →
-        length text - i ≡ c + length r.bytes + length behind → i ≤ length text → j ≤ i →
+    by : (i j c : ℕ) → length text - j ≡ length line.bytes + length following →
+        length text - i ≡ c + length r.bytes + length following → i ≤ length text → j ≤ i →
         i ≡ j + (length line.bytes - length r.bytes - c)
     by i j c e f inside onward = omega arith
 
@@ -55,12 +55,12 @@ abbrev pub columns_at : TextLine → ℕ → ℕ
 columns_at line size = columns_from line.column (take size line.bytes)
 
 -- A rest that is at a point has that point as its place, if the columns of the line before it are known there.
-pub place-is : (text behind : List ℕ) (line : TextLine) (r : Rest) (p : Point) → StandsIn text behind line →
-    RestAt text behind r p → line.index ≤ p.index → p.index ≤ length text → p.line ≡ line.number →
+pub place-is : (text following : List ℕ) (line : TextLine) (r : Rest) (p : Point) → LineOf text following line →
+    RestAt text following r p → line.index ≤ p.index → p.index ≤ length text → p.line ≡ line.number →
     p.column ≡ columns_at line (p.index - line.index) + p.vs + 1 → place line r ≡ p
-place-is text behind line r p line_at at onward inside number columns =
+place-is text following line r p line_at at onward inside number columns =
     let index : line.index + before line r ≡ p.index =
-    sym (before-is text behind line r p line_at at onward inside) in
+    sym (before-is text following line r p line_at at onward inside) in
     let size : p.index - line.index ≡ before line r = omega (arith, index) in
     let cut : r.column - columns_at line (before line r) ≡ p.vs =
     ap (λ (n : ℕ). r.column - columns_at line n) (sym size) ∙ left (columns_at line (p.index - line.index)) columns in
@@ -97,17 +97,17 @@ past-column (b ∷ bs) p some =
     less n = omega arith
 
 -- the columns of a line before so many of its bytes are those of the text there
-pub columns-in : (text behind : List ℕ) (line : TextLine) (size : ℕ) → StandsIn text behind line →
+pub columns-in : (text following : List ℕ) (line : TextLine) (size : ℕ) → LineOf text following line →
     NoEnding line.bytes → Placed text (line_start line) → size ≤ length line.bytes →
     columns_before text (line.index + size) ≡ columns_at line size
-columns-in text behind line size line_at plain placed le =
+columns-in text following line size line_at plain placed le =
     let front : List ℕ = take size line.bytes in
     let q : Point = past_text front (line_start line) in
-    let next : drop line.index text ≡ front ++ (drop size line.bytes ++ behind) =
-    line_at.text_is ∙ ap (λ (l : List ℕ). l ++ behind) (sym (take-append-drop size line.bytes))
-    ∙ append_assoc front (drop size line.bytes) behind in
+    let next : drop line.index text ≡ front ++ (drop size line.bytes ++ following) =
+    line_at.text_is ∙ ap (λ (l : List ℕ). l ++ following) (sym (take-append-drop size line.bytes))
+    ∙ append_assoc front (drop size line.bytes) following in
     let there : Placed text q =
-    placed-text text (line_start line) front (drop size line.bytes ++ behind) placed next
+    placed-text text (line_start line) front (drop size line.bytes ++ following) placed next
     (no_ending-take size line.bytes plain) in
     let index : q.index ≡ line.index + size =
     past-index front (line_start line) ∙ ap (λ (n : ℕ). line.index + n) (length-take size line.bytes ∙ least) in
@@ -130,13 +130,13 @@ columns-in text behind line size line_at plain placed le =
     by before column vs e f g = omega arith
 
 -- So a rest that is at a point of the text, on a line that begins at one, has it as its place.
-pub placed-place : (text behind : List ℕ) (line : TextLine) (r : Rest) (p : Point) → StandsIn text behind line →
-    NoEnding line.bytes → Placed text (line_start line) → RestAt text behind r p → Placed text p →
+pub placed-place : (text following : List ℕ) (line : TextLine) (r : Rest) (p : Point) → LineOf text following line →
+    NoEnding line.bytes → Placed text (line_start line) → RestAt text following r p → Placed text p →
     line.index ≤ p.index → p.index ≤ line.index + length line.bytes → p.line ≡ line.number → place line r ≡ p
-placed-place text behind line r p line_at plain begin at placed onward inside number =
+placed-place text following line r p line_at plain begin at placed onward inside number =
     let size : line.index + (p.index - line.index) ≡ p.index = omega arith in
-    place-is text behind line r p line_at at onward placed.index number
+    place-is text following line r p line_at at onward placed.index number
     (placed.column
     ∙ ap (λ (n : ℕ). n + p.vs + 1)
     (ap (columns_before text) (sym size)
-    ∙ columns-in text behind line (p.index - line.index) line_at plain begin (omega arith)))
+    ∙ columns-in text following line (p.index - line.index) line_at plain begin (omega arith)))

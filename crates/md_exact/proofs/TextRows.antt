@@ -15,8 +15,8 @@ use Rattle.md_meaning.specs.Preamble.{front_of}
 use Rattle.md_meaning.specs.Alert.{alert_at}
 use Rattle.md_meaning.specs.Containers.{quote_taken, item_continues, footnote_continues, opens_quote, opens_item}
 use Rattle.md_meaning.specs.Containers.{opens_footnote}
-use Rattle.md_meaning.specs.Leaves.{break_at, heading_at, code_at, code_goes_on, fence_at, fence_goes_on, html_at}
-use Rattle.md_meaning.specs.Leaves.{html_goes_on, starts, table_goes_on, underline_depth, underlined, table_at}
+use Rattle.md_meaning.specs.Leaves.{break_at, heading_at, code_at, code_continued, fence_at, fence_continued, html_at}
+use Rattle.md_meaning.specs.Leaves.{html_continued, starts, table_continued, underline_depth, underlined, table_at}
 use Rattle.md_meaning.specs.Step.{fresh_line, text_line, all_continued, stopped}
 use Rattle.md_events.specs.Events.Nested.{around, pair}
 use Rattle.md_exact.specs.Blocks.{exact}
@@ -149,11 +149,11 @@ break_or_underline_events =
     (pair n.HeadingSetextUnderlineSequence (at 5 1 14) (at 5 3 16)))
 
 -- "    a\n      \nb"
-abbrev white_behind_code_text : List ℕ
-white_behind_code_text = codes "    a" ++ 10 ∷ codes "      " ++ 10 ∷ codes "b"
+abbrev white_after_code_text : List ℕ
+white_after_code_text = codes "    a" ++ 10 ∷ codes "      " ++ 10 ∷ codes "b"
 
-abbrev white_behind_code_events : List Event
-white_behind_code_events =
+abbrev white_after_code_events : List Event
+white_after_code_events =
     around n.CodeIndented (at 1 1 0) (at 1 6 5)
     (pair n.SpaceOrTab (at 1 1 0) (at 1 5 4)
     ++ pair n.CodeFlowChunk (at 1 5 4) (at 1 6 5))
@@ -319,11 +319,11 @@ definition_and_heading_events =
     (pair n.HeadingSetextUnderlineSequence (at 3 1 9) (at 3 2 10)))
 
 -- "a\n    b\n\n    c"
-abbrev code_behind_text_text : List ℕ
-code_behind_text_text = codes "a" ++ 10 ∷ codes "    b" ++ 10 ∷ 10 ∷ codes "    c"
+abbrev code_after_text_text : List ℕ
+code_after_text_text = codes "a" ++ 10 ∷ codes "    b" ++ 10 ∷ 10 ∷ codes "    c"
 
-abbrev code_behind_text_events : List Event
-code_behind_text_events =
+abbrev code_after_text_events : List Event
+code_after_text_events =
     around n.Paragraph (at 1 1 0) (at 2 6 7)
     (chunk (at 1 1 0) (at 2 1 2)
     ++ chunk (at 2 1 2) (at 2 6 7))
@@ -446,7 +446,7 @@ record AreTexts : Type 0 where
   html_kinds : exact given.ALL html_kinds_text ≡ html_kinds_events
   endings : exact given.ALL endings_text ≡ endings_events
   break_or_underline : exact given.ALL break_or_underline_text ≡ break_or_underline_events
-  white_behind_code : exact given.ALL white_behind_code_text ≡ white_behind_code_events
+  white_after_code : exact given.ALL white_after_code_text ≡ white_after_code_events
   frontmatter_mark : exact given.ALL frontmatter_mark_text ≡ frontmatter_mark_events
   open_front : exact given.ALL open_front_text ≡ open_front_events
   plus_front : exact given.ALL plus_front_text ≡ plus_front_events
@@ -454,7 +454,7 @@ record AreTexts : Type 0 where
   other_fence : exact given.ALL other_fence_text ≡ other_fence_events
   definition_and_table : exact given.ALL definition_and_table_text ≡ definition_and_table_events
   definition_and_heading : exact given.ALL definition_and_heading_text ≡ definition_and_heading_events
-  code_behind_text : exact given.ALL code_behind_text_text ≡ code_behind_text_events
+  code_after_text : exact given.ALL code_after_text_text ≡ code_after_text_events
   html_and_text : exact given.ALL html_and_text_text ≡ html_and_text_events
   titles : exact given.ALL titles_text ≡ titles_events
   one_pipe : exact given.ALL one_pipe_text ≡ one_pipe_events
@@ -465,7 +465,8 @@ unfolding begins_raw begins_basic after_value after_assignment after_attribute e
     html_kind html_ends is_raw_name is_basic_name is_raw_end enclosed enclosed_lines label_at balanced destination_at
     title_at definition_at cut_at_most cut_definitions pieces row_cells delimiter_columns is_head shut_paragraph
     front_of alert_at quote_taken item_continues footnote_continues opens_quote opens_item opens_footnote break_at
-    heading_at code_at code_goes_on fence_at fence_goes_on html_at html_goes_on starts table_goes_on underline_depth
+    heading_at code_at code_continued fence_at fence_continued html_at html_continued starts table_continued
+    underline_depth
     underlined table_at fresh_line text_line all_continued stopped
 are-exact = record {
   setext_refused = refl;
@@ -473,7 +474,7 @@ are-exact = record {
   html_kinds = refl;
   endings = refl;
   break_or_underline = refl;
-  white_behind_code = refl;
+  white_after_code = refl;
   frontmatter_mark = refl;
   open_front = refl;
   plus_front = refl;
@@ -481,7 +482,7 @@ are-exact = record {
   other_fence = refl;
   definition_and_table = refl;
   definition_and_heading = refl;
-  code_behind_text = refl;
+  code_after_text = refl;
   html_and_text = refl;
   titles = refl;
   one_pipe = refl;

@@ -17,7 +17,7 @@ use Rattle.md_events.specs.Events.Nested.{pair}
 use Rattle.md_events.specs.Events.Places.{first_point}
 use Rattle.md_exact.specs.Leaves.{content_line, fence, heading_line, joined, leaf, runs_line, table}
 use Rattle.md_exact.specs.Places.{TextLine, ending, line_end, lines_from, part, past, piece, white, whole}
-use Rattle.md_exact.specs.Rows.{BehindCode, Blank, Delimiter, First, FirstText, Further, FurtherText, Head, Role, Row}
+use Rattle.md_exact.specs.Rows.{AfterCode, Blank, Delimiter, First, FirstText, Further, FurtherText, Head, Role, Row}
 use Rattle.md_exact.specs.Rows.{Underline, is_blank_role, rows_of}
 use Rattle.md_exact.specs.Texts.{text}
 
@@ -63,17 +63,17 @@ front_row line = record {
 -- Leaves.
 
 -- whether a line continues the leaf of the line before it
-abbrev pub goes_on : Role → Bool
-goes_on (Further leaf) = true
-goes_on FurtherText = true
-goes_on Underline = true
-goes_on Delimiter = true
-goes_on role = false
+abbrev pub is_continued : Role → Bool
+is_continued (Further leaf) = true
+is_continued FurtherText = true
+is_continued Underline = true
+is_continued Delimiter = true
+is_continued role = false
 
 -- a line before others that are put together: one with the first of them, if that continues it
 abbrev pub onto : Row → List (List Row) → List (List Row)
 onto row ((next ∷ rows) ∷ groups) =
-    if goes_on next.role then (row ∷ next ∷ rows) ∷ groups else (row ∷ []) ∷ (next ∷ rows) ∷ groups
+    if is_continued next.role then (row ∷ next ∷ rows) ∷ groups else (row ∷ []) ∷ (next ∷ rows) ∷ groups
 onto row groups = (row ∷ []) ∷ groups
 
 -- the lines of each leaf
@@ -89,13 +89,13 @@ leaf_events options (Opened (OpenCode lines)) rows = leaf n.CodeIndented (conten
 leaf_events options (Opened (OpenFence o lines)) rows = fence options o rows
 leaf_events options (Opened (OpenHtml kind lines)) rows = leaf n.HtmlFlow (content_line n.HtmlFlowData 0) rows
 leaf_events options (Finished (Html lines)) rows = leaf n.HtmlFlow (content_line n.HtmlFlowData 0) rows
-leaf_events options came rows = []
+leaf_events options became rows = []
 
 -- any, by what its first line is: a blank line after code is cut like a line of it
 abbrev pub events_by : ParseOptions → Role → List Row → List Event
 events_by options Blank rows = joined (content_line n.SpaceOrTab 0) rows
-events_by options BehindCode rows = joined (content_line n.SpaceOrTab 4) rows
-events_by options (First came) rows = leaf_events options came rows
+events_by options AfterCode rows = joined (content_line n.SpaceOrTab 4) rows
+events_by options (First became) rows = leaf_events options became rows
 events_by options Head rows = table rows
 events_by options role rows = text options rows
 

@@ -10,7 +10,7 @@ use Rattle.md_engine.specs.declared.event.Point.{Point}
 use Rattle.md_meaning.specs.Ascii.{backslash, colon, dollar, hash, hyphen, pipe}
 use Rattle.md_meaning.specs.Leaves.{closes, first_word, heading_text}
 use Rattle.md_meaning.specs.Lines.{begins_with}
-use Rattle.md_meaning.specs.Rest.{Rest, behind_indent, is_blank, lose, run_len, trim_end}
+use Rattle.md_meaning.specs.Rest.{Rest, after_indent, is_blank, lose, run_len, trim_end}
 use Rattle.md_meaning.specs.State.{Opening}
 use Rattle.md_meaning.specs.Texts.{first_byte}
 use Rattle.md_events.specs.Events.Nested.{around}
@@ -60,7 +60,7 @@ leaf name inside (row ∷ rows) = span name (row ∷ rows) (last_end (row ∷ ro
 abbrev pub runs : ℕ → Name → TextLine → Rest → List Event
 runs zero name line r = []
 runs (suc size) name line r =
-    let marks = behind_indent r in
+    let marks = after_indent r in
     let after = past (run_len (first_byte marks.bytes) marks.bytes) marks in
     white line r marks ++ piece line name marks after ++ runs size name line after
 
@@ -73,19 +73,19 @@ runs_line name line r = runs (length r.bytes) name line r
 -- the opening run after its indent, the text, and perhaps a closing run after whitespace
 abbrev pub heading_line : TextLine → Rest → List Event
 heading_line line r =
-    let opening = behind_indent r in
-    let behind_opening = past (run_len hash opening.bytes) opening in
-    let text = behind_indent behind_opening in
-    let behind_text = past (length (heading_text behind_opening.bytes)) text in
-    let closing = behind_indent behind_text in
-    let behind_closing = past (run_len hash closing.bytes) closing in
+    let opening = after_indent r in
+    let after_opening = past (run_len hash opening.bytes) opening in
+    let text = after_indent after_opening in
+    let after_text = past (length (heading_text after_opening.bytes)) text in
+    let closing = after_indent after_text in
+    let after_closing = past (run_len hash closing.bytes) closing in
     white line r opening
-    ++ piece line n.HeadingAtxSequence opening behind_opening
-    ++ white line behind_opening text
-    ++ text_part line Text n.HeadingAtxText text behind_text
-    ++ white line behind_text closing
-    ++ piece line n.HeadingAtxSequence closing behind_closing
-    ++ white line behind_closing (line_end line)
+    ++ piece line n.HeadingAtxSequence opening after_opening
+    ++ white line after_opening text
+    ++ text_part line Text n.HeadingAtxText text after_text
+    ++ white line after_text closing
+    ++ piece line n.HeadingAtxSequence closing after_closing
+    ++ white line after_closing (line_end line)
 
 -- Code, HTML and math (CommonMark 4.4 to 4.6).
 
@@ -108,28 +108,28 @@ fence_part m line r inside =
 -- after the run of an opening fence: for code the first word and what follows it, for math all as one
 abbrev pub info_parts : ℕ → TextLine → Rest → List Event
 info_parts m line r =
-    let text = behind_indent r in
-    let behind_word = past (length (first_word text.bytes)) text in
-    let meta = behind_indent behind_word in
+    let text = after_indent r in
+    let after_word = past (length (first_word text.bytes)) text in
+    let meta = after_indent after_word in
     white line r text
     ++ (if m == dollar then text_part line String n.MathFlowFenceMeta text (line_end line)
-    else text_part line String n.CodeFencedFenceInfo text behind_word
-    ++ white line behind_word meta
+    else text_part line String n.CodeFencedFenceInfo text after_word
+    ++ white line after_word meta
     ++ text_part line String n.CodeFencedFenceMeta meta (line_end line))
 
 -- a further line after this opening fence: a closing fence after its indent, or content
 abbrev pub fenced_line : ParseOptions → Opening → TextLine → Rest → List Event
 fenced_line options o line r =
     if closes options o r
-    then white line r (behind_indent r)
-    ++ fence_part o.marker line (behind_indent r) (λ after. white line after (line_end line))
+    then white line r (after_indent r)
+    ++ fence_part o.marker line (after_indent r) (λ after. white line after (line_end line))
     else content_line (for_marker o.marker n.CodeFlowChunk n.MathFlowChunk) o.indent line r
 
 -- all lines: the indent of the opening fence is before the leaf
 abbrev pub fence : ParseOptions → Opening → List Row → List Event
 fence options o [] = []
 fence options o (row ∷ rows) =
-    let first = record row { rest = behind_indent row.rest } in
+    let first = record row { rest = after_indent row.rest } in
     white row.line row.rest first.rest
     ++ span (for_marker o.marker n.CodeFenced n.MathFlow) (first ∷ rows) (last_end (first ∷ rows))
     (fence_part o.marker row.line first.rest (info_parts o.marker row.line)
@@ -168,7 +168,7 @@ cell_dashes line r s =
 abbrev pub cell_content : Inner → ℕ → TextLine → Rest → Rest → List Event
 cell_content inner size line r s =
     let bytes = take size r.bytes in
-    let begin = behind_indent r in
+    let begin = after_indent r in
     let end = past (length (trim_end bytes)) r in
     if is_blank bytes then white line r s else white line r begin ++ inner line begin end ++ white line end s
 
@@ -192,7 +192,7 @@ cells (suc size) name inner line r =
 abbrev pub row_line : Name → Name → Inner → TextLine → Rest → List Event
 row_line name cell inner line r =
     part line name r (line_end line)
-    (white line r (behind_indent r) ++ cells (length r.bytes) cell inner line (behind_indent r))
+    (white line r (after_indent r) ++ cells (length r.bytes) cell inner line (after_indent r))
 
 -- a row of texts, as the head and those of the body, and a delimiter row
 abbrev pub text_row : TextLine → Rest → List Event

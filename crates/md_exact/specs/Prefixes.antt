@@ -10,7 +10,7 @@ use Rattle.md_meaning.specs.declared.alert.AlertKind.{AlertKind}
 use Rattle.md_meaning.specs.Alert.{marker_of}
 use Rattle.md_meaning.specs.Ascii.{dot, right_parenthesis}
 use Rattle.md_meaning.specs.Containers.{Taken, continues, opens}
-use Rattle.md_meaning.specs.Rest.{Rest, behind_indent, lose}
+use Rattle.md_meaning.specs.Rest.{Rest, after_indent, lose}
 use Rattle.md_meaning.specs.State.{Container, InQuote, InItem, InFootnote, Path, At, Within, spot}
 use Rattle.md_meaning.specs.Step.{is_concrete, is_open_text}
 use Rattle.md_meaning.specs.Tree.{Block, Item, Blocks, End, More}
@@ -24,10 +24,10 @@ containers (Within before container p) = container ∷ containers p
 
 -- the open containers that continue, each with the rest after its prefix: each is asked, from the outermost in, until
 -- one does not
-abbrev pub gone_on : ParseOptions → Path → Rest → List Taken
-gone_on options (At s) r = []
-gone_on options (Within before container p) r = elim (continues options container r) [
-  | Some t ↦ t ∷ gone_on options p t.rest
+abbrev pub taken_prefixes : ParseOptions → Path → Rest → List Taken
+taken_prefixes options (At s) r = []
+taken_prefixes options (Within before container p) r = elim (continues options container r) [
+  | Some t ↦ t ∷ taken_prefixes options p t.rest
   | None ↦ []
 ]
 
@@ -47,9 +47,9 @@ new_containers options p all r =
     else opened options (all && is_open_text (spot p).leaf) (length r.bytes) r
 
 -- the rest after all of these
-abbrev pub behind_all : Rest → List Taken → Rest
-behind_all r [] = r
-behind_all r (t ∷ ts) = behind_all t.rest ts
+abbrev pub following_all : Rest → List Taken → Rest
+following_all r [] = r
+following_all r (t ∷ ts) = following_all t.rest ts
 
 -- Prefixes, from a rest to the one after them.
 
@@ -57,7 +57,7 @@ behind_all r (t ∷ ts) = behind_all t.rest ts
 abbrev pub alert_part : TextLine → Option AlertKind → Rest → Rest → List Event
 alert_part line None r s = []
 alert_part line (Some kind) r s =
-    let bracket = behind_indent r in
+    let bracket = after_indent r in
     let after = past (length (marker_of kind)) bracket in
     white line r bracket ++ piece line n.BlockQuoteMarker bracket after ++ white line after s
 
@@ -65,19 +65,19 @@ alert_part line (Some kind) r s =
 -- marker of its kind
 abbrev pub quote_prefix : TextLine → Option AlertKind → Rest → Rest → List Event
 quote_prefix line kind r s =
-    let marker = behind_indent r in
+    let marker = after_indent r in
     let after = past 1 marker in
-    let behind_column = lose 1 after in
+    let after_column = lose 1 after in
     white line r marker
     ++ part line n.BlockQuotePrefix marker s
     (piece line n.BlockQuoteMarker marker after
-    ++ white line after behind_column
-    ++ alert_part line kind behind_column s)
+    ++ white line after after_column
+    ++ alert_part line kind after_column s)
 
 -- of an item that opens: the digits and the marker after its indent, and the whitespace that belongs to it
 abbrev pub item_prefix : TextLine → List ℕ → Rest → Rest → List Event
 item_prefix line digits r s =
-    let value = behind_indent r in
+    let value = after_indent r in
     let marker = past (length digits) value in
     let after = past 1 marker in
     white line r value
@@ -87,7 +87,7 @@ item_prefix line digits r s =
 -- of a footnote definition that opens: `[^`, its label, `]:` and the whitespace after that
 abbrev pub footnote_prefix : TextLine → List ℕ → Rest → Rest → List Event
 footnote_prefix line label r s =
-    let bracket = behind_indent r in
+    let bracket = after_indent r in
     let hat = past 1 bracket in
     let text = past 1 hat in
     let close = past (length label) text in

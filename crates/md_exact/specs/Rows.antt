@@ -7,7 +7,7 @@ use Rattle.md_engine.specs.declared.event.Event.{Event}
 use Rattle.md_engine.specs.declared.event.Name.{Name}
 use Rattle.md_engine.specs.declared.event.Name.TheVariants as n
 use Rattle.md_engine.specs.declared.event.Point.{Point}
-use Rattle.md_meaning.specs.Leaves.{LeafResult, NoText, Text, goes_on, starts, table_at, underline_depth}
+use Rattle.md_meaning.specs.Leaves.{LeafResult, NoText, Text, is_continued, starts, table_at, underline_depth}
 use Rattle.md_meaning.specs.Rest.{Rest, is_blank}
 use Rattle.md_meaning.specs.State.{Container, InQuote, InItem, InFootnote, Leaf, NoLeaf, OpenParagraph, OpenCode}
 use Rattle.md_meaning.specs.State.{Path, cut, spot, texts}
@@ -15,7 +15,7 @@ use Rattle.md_meaning.specs.Step.{step, with_lazy}
 use Rattle.md_meaning.specs.Tree.{End}
 use Rattle.md_events.specs.Events.Nested.{exit}
 use Rattle.md_exact.specs.Places.{TextLine, line_end, place, whole}
-use Rattle.md_exact.specs.Prefixes.{begins, behind_all, containers, further_prefixes, gone_on, list_name}
+use Rattle.md_exact.specs.Prefixes.{begins, following_all, containers, further_prefixes, taken_prefixes, list_name}
 use Rattle.md_exact.specs.Prefixes.{new_containers}
 
 -- What a line is, after the prefixes of its containers.
@@ -32,7 +32,7 @@ pub data Role : Type 0 where
   Head : Role
   Delimiter : Role
   -- a blank line after indented code, which does not belong to it (CommonMark 4.4)
-  BehindCode : Role
+  AfterCode : Role
 
 -- A line by what is open.
 
@@ -52,7 +52,7 @@ fresh_role options leaf r = first_or FirstText (starts options NoText r)
 -- any, where it meets this leaf: one more line of it, or blank, or what begins there
 abbrev pub role_on : ParseOptions → Leaf → Rest → Role
 role_on options leaf r =
-    if is_some (goes_on options leaf r) then Further leaf else if is_blank r.bytes then Blank
+    if is_some (is_continued options leaf r) then Further leaf else if is_blank r.bytes then Blank
     else fresh_role options leaf r
 
 -- A line by what the next line is: text is a head before a delimiter row, and a blank line in code belongs to it only
@@ -60,7 +60,7 @@ role_on options leaf r =
 abbrev pub role_before : Role → Rest → Role → Role
 role_before Delimiter r role = Head
 role_before (Further leaf) r role = role
-role_before next r (Further (OpenCode lines)) = if is_blank r.bytes then BehindCode else Further (OpenCode lines)
+role_before next r (Further (OpenCode lines)) = if is_blank r.bytes then AfterCode else Further (OpenCode lines)
 role_before next r role = role
 
 -- A line that was read.
@@ -90,7 +90,7 @@ next_role (row ∷ rows) = row.role
 -- whether it is a blank line that no leaf takes
 abbrev pub is_blank_role : Role → Bool
 is_blank_role Blank = true
-is_blank_role BehindCode = true
+is_blank_role AfterCode = true
 is_blank_role _ = false
 
 -- whether the first of some containers is an item with this marker
@@ -100,12 +100,12 @@ begin_with_item marker cs = false
 
 -- whether the next block in the container that has so many around it is an item with this marker: blank lines may be
 -- before it
-abbrev pub list_goes_on : ℕ → ℕ → List Row → Bool
-list_goes_on depth marker [] = false
-list_goes_on depth marker (row ∷ rows) =
+abbrev pub list_continued : ℕ → ℕ → List Row → Bool
+list_continued depth marker [] = false
+list_continued depth marker (row ∷ rows) =
     (row.stays == depth)
     && (if nat_lt depth (length row.held) then begin_with_item marker (drop depth row.held)
-    else is_blank_role row.role && list_goes_on depth marker rows)
+    else is_blank_role row.role && list_continued depth marker rows)
 
 -- the name around a container
 abbrev pub container_name : Container → Name
@@ -116,7 +116,7 @@ container_name (InFootnote label) = n.GfmFootnoteDefinition
 -- the end of a list after its last item
 abbrev pub list_ends : ℕ → Container → Point → List Row → List Event
 list_ends depth (InItem digits marker width starts_blank) p below =
-    if list_goes_on depth marker below then [] else exit (list_name marker) p ∷ []
+    if list_continued depth marker below then [] else exit (list_name marker) p ∷ []
 list_ends depth container p below = []
 
 -- the ends of these containers, the innermost first; the outermost has so many around it
@@ -131,11 +131,11 @@ ends_from depth (c ∷ cs) p below =
 -- (CommonMark 5.1), and any other meets the leaf where all continue and none opens
 abbrev pub row_of : ParseOptions → Path → TextLine → List Row → Row
 row_of options p line below =
-    let on = gone_on options p (whole line) in
+    let on = taken_prefixes options p (whole line) in
     let all = length on == length (containers p) in
-    let inner = behind_all (whole line) on in
+    let inner = following_all (whole line) on in
     let new = new_containers options p all inner in
-    let rest = behind_all inner new in
+    let rest = following_all inner new in
     let none_opens = length new == 0 in
     let lazy = not all && none_opens && is_some (with_lazy options (spot p).leaf rest) in
     let leaf = if all && none_opens then (spot p).leaf else NoLeaf in

@@ -14,7 +14,7 @@ use Rattle.md_engine.specs.declared.event.Name.TheVariants as n
 use Rattle.md_meaning.specs.Ascii.{less_than}
 use Rattle.md_meaning.specs.Definition.{after_gap, definition_at, destination_at, label_at, title_after, title_closer}
 use Rattle.md_meaning.specs.Enclosed.{enclosed_lines}
-use Rattle.md_meaning.specs.Rest.{Rest, behind_indent}
+use Rattle.md_meaning.specs.Rest.{Rest, after_indent}
 use Rattle.md_meaning.specs.Texts.{first_byte, trim_further}
 use Rattle.md_exact.specs.Leaves.{first_end, last_end, leaf, onto_next, runs_line, span, start}
 use Rattle.md_exact.specs.Places.{chunk, is_same, line_end, next_line, past, piece, white}
@@ -86,18 +86,18 @@ text_span c name rows ends = around_chunks (chunks c rows ends)
 -- Definitions (CommonMark 4.7).
 
 -- after the label, the destination and the title that is next, and after whitespace with at most one ending
-abbrev pub behind_label : List Row → List Row
-behind_label rows = elim (label_at (lines_left rows)) [ Some label ↦ left rows label.rest | None ↦ [] ]
+abbrev pub after_label : List Row → List Row
+after_label rows = elim (label_at (lines_left rows)) [ Some label ↦ left rows label.rest | None ↦ [] ]
 
-abbrev pub behind_destination : List Row → List Row
-behind_destination [] = []
-behind_destination (row ∷ rows) = elim (destination_at row.rest.bytes) [
+abbrev pub after_destination : List Row → List Row
+after_destination [] = []
+after_destination (row ∷ rows) = elim (destination_at row.rest.bytes) [
   | Some d ↦ ahead (row ∷ rows) (length rows) (length d.rest)
   | None ↦ []
 ]
 
-abbrev pub behind_title : List Row → List Row
-behind_title rows =
+abbrev pub after_title : List Row → List Row
+after_title rows =
     let b = next_byte rows in
     elim (title_closer b) [
       | Some closer ↦ elim (enclosed_lines b closer (lines_left (on_first (past 1) rows))) [
@@ -107,8 +107,8 @@ behind_title rows =
       | None ↦ []
     ]
 
-abbrev pub behind_gap : List Row → List Row
-behind_gap rows = left rows (after_gap (lines_left rows))
+abbrev pub following_gap : List Row → List Row
+following_gap rows = left rows (after_gap (lines_left rows))
 
 -- whether a title follows a destination
 abbrev pub has_title : List Row → Bool
@@ -133,17 +133,17 @@ destination_part rows ends =
 -- where the definition at the front of these rows ends
 abbrev pub definition_end : List Row → List Row
 definition_end rows =
-    let behind = behind_destination (behind_gap (on_first (past 1) (behind_label rows))) in
-    if has_title behind then behind_title (behind_gap behind) else behind
+    let following = after_destination (following_gap (on_first (past 1) (after_label rows))) in
+    if has_title following then after_title (following_gap following) else following
 
 -- the definition, to the end of its last line: its label, `:`, its destination, and perhaps its title
 abbrev pub definition : List Row → List Event
 definition rows =
-    let label = behind_label rows in
+    let label = after_label rows in
     let value = on_first (past 1) label in
-    let from = behind_gap value in
-    let to = behind_destination from in
-    let title = behind_gap to in
+    let from = following_gap value in
+    let to = after_destination from in
+    let title = following_gap to in
     let end = definition_end rows in
     span n.Definition rows (first_end end)
     (enclosed_part n.DefinitionLabel n.DefinitionLabelMarker n.DefinitionLabelString rows label
@@ -159,7 +159,7 @@ definition rows =
 abbrev pub text_events : (List Row → List Event) → ℕ → List Row → List Event
 text_events remain zero rows = remain rows
 text_events remain (suc n) rows =
-    let first = on_first behind_indent rows in
+    let first = on_first after_indent rows in
     let end = definition_end first in
     if is_some (definition_at (lines_left first))
     then gap rows first ++ definition first ++ onto_next end ++ text_events remain n (drop 1 end)

@@ -15,12 +15,13 @@ pub sound-tried : (bytes : List ℕ) (p : Point) (limit : ℕ) (events : List Ev
     IsSound bytes p limit events (frames ++ f ∷ []) skips
 sound-tried bytes p limit events f frames skips h k len =
     sound-moved bytes f.point p limit events (frames ++ f ∷ []) skips
-    (sound-begun bytes f.point limit events f frames skips (sound-moved bytes p f.point limit events frames skips h k) refl
+    (sound-begun bytes f.point limit events f frames skips
+    (sound-moved bytes p f.point limit events frames skips h k) refl
     len) h.placed
 
 -- after a line feed the next line begins
-abbrev pub behind_feed : Point → Point
-behind_feed p = record { line = p.line + 1; column = 1; index = p.index + 1; vs = 0 }
+abbrev pub after_feed : Point → Point
+after_feed p = record { line = p.line + 1; column = 1; index = p.index + 1; vs = 0 }
 
-pub feed-next : (bytes : List ℕ) (p : Point) → slice_index bytes p.index ≡ 10 → next_point bytes p ≡ behind_feed p
+pub feed-next : (bytes : List ℕ) (p : Point) → slice_index bytes p.index ≡ 10 → next_point bytes p ≡ after_feed p
 feed-next bytes p e = rw e refl

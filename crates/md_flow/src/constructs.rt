@@ -1,7 +1,7 @@
 // States of constructs by their names: what a table calls, and what it takes at once.
 
 ghost use Rattle.std.specs.Prelude.{◌≡◌, ◌≢◌, IfSome, None};
-ghost use Rattle.md_engine.specs.Scheme.{stands};
+ghost use Rattle.md_engine.specs.Scheme.{valid};
 ghost use Rattle.md_engine.specs.World.{looks, world};
 ghost use Rattle.md_engine.specs.declared.state.Name.{Name as StateName};
 ghost use Rattle.md_engine.specs.declared.state.State.{State};
@@ -22,7 +22,7 @@ use md_tables::gfm_table;
 #[inline(always)]
 pub fn call(tokenizer: &mut Tokenizer, name: StateName) -> State
     requires current { (world tokenizer.old).current ≡ looks (world tokenizer.old) }
-    requires stands { stands flow_table_scheme (world tokenizer.old) (State.Next name) }
+    requires valid { valid flow_table_scheme (world tokenizer.old) (State.Next name) }
     ensures to { result ≢ State.Error →
         result ≡
         (construct_transition name

@@ -13,12 +13,12 @@
 
 ghost use Rattle.std.specs.Prelude.{◌≡◌, ◌≢◌, ◌<◌, length, true};
 ghost use Rattle.md_engine.specs.Full.{IsFull, OnError};
-ghost use Rattle.md_engine.specs.Scheme.{stands};
+ghost use Rattle.md_engine.specs.Scheme.{valid};
 ghost use Rattle.md_engine.specs.World.{looks, world};
 ghost use Rattle.md_engine.specs.declared.state.Name.{Name as StateName};
 ghost use Rattle.md_engine.specs.declared.state.State.{State};
 ghost use Rattle.md_engine.specs.declared.state.document.State.{State as DocumentState};
-ghost use Rattle.md_registry.specs.Flow.{behind_all};
+ghost use Rattle.md_registry.specs.Flow.{following_all};
 ghost use Rattle.md_registry.specs.Flow.{new_before_transition};
 ghost use Rattle.proof_frame.specs.EndingName.{ending_name};
 ghost use Rattle.md_registry.specs.LineFlags.{asking, begun_line, ended_on, next_container, kept_containers};
@@ -116,8 +116,8 @@ fn pass_over(tokenizer: &mut Tokenizer)
 
 /// The state where all containers continued: none is tried where a leaf is open in which none opens.
 #[inline(always)]
-fn behind_all(tokenizer: &Tokenizer) -> DocumentState
-    ensures { result ≡ behind_all (bars_containers (world tokenizer.now).flags.leaf) }
+fn following_all(tokenizer: &Tokenizer) -> DocumentState
+    ensures { result ≡ following_all (bars_containers (world tokenizer.now).flags.leaf) }
 {
     if choices::bars_containers(tokenizer.flags.leaf) {
         DocumentState::ContainersAfter
@@ -134,7 +134,7 @@ fn behind_all(tokenizer: &Tokenizer) -> DocumentState
 ///     ^
 /// ```
 #[inline(always)]
-#[tactic(auto, using(md_registry::proofs::FlowSteps::document_rule), unfolding(md_events::specs::Look::looks_behind))]
+#[tactic(auto, using(md_registry::proofs::FlowSteps::document_rule), unfolding(md_events::specs::Look::looks_after))]
 pub fn container_existing_before(tokenizer: &mut Tokenizer) -> State
     requires { IsAt NeedsNothing (StateName.Document DocumentState.ContainerExistingBefore) (world tokenizer.old) }
     ensures { IsDocumentState DocumentState.ContainerExistingBefore (world tokenizer.old) result tokenizer.new }
@@ -144,17 +144,17 @@ pub fn container_existing_before(tokenizer: &mut Tokenizer) -> State
         return State::Retry(StateName::Document(DocumentState::ContainersAfter));
     }
     match next_container(tokenizer) {
-        None => State::Retry(StateName::Document(behind_all(tokenizer))),
+        None => State::Retry(StateName::Document(following_all(tokenizer))),
         Some(container) => {
             ask(tokenizer, container);
-            if !choices::may_go_on(tokenizer, container.kind) {
+            if !choices::may_continue(tokenizer, container.kind) {
                 return State::Retry(StateName::Document(choices::first_opener()));
             }
             or_error!(tokenizer.attempt(
                 State::Next(StateName::Document(DocumentState::ContainerExistingAfter)),
                 State::Next(StateName::Document(choices::first_opener()))
             ));
-            State::Retry(choices::goes_on_with(container.kind))
+            State::Retry(choices::continues_with(container.kind))
         }
     }
 }
@@ -268,7 +268,7 @@ pub fn before_opener(tokenizer: &mut Tokenizer, state: DocumentState) -> State
 
 /// Before a container of a kind that may open: where it does not, the next kind is tried.
 #[inline(always)]
-#[tactic(auto, unfolding(md_events::specs::Look::looks_behind))]
+#[tactic(auto, unfolding(md_events::specs::Look::looks_after))]
 pub(crate) fn try_new(tokenizer: &mut Tokenizer, kind: ContainerKind) -> State
     ensures to { result ≢ State.Error → result ≡ (new_before_transition kind (world tokenizer.old)).to }
     ensures world { result ≢ State.Error →
@@ -323,7 +323,7 @@ pub fn containers_after(tokenizer: &mut Tokenizer) -> State
     ensures { IsSureDocumentState DocumentState.ContainersAfter (world tokenizer.old) result tokenizer.new }
 {
     begin_line(tokenizer);
-    if choices::goes_inside(tokenizer.flags.leaf) {
+    if choices::continues_inside(tokenizer.flags.leaf) {
         State::Retry(StateName::Document(DocumentState::FlowInside))
     } else {
         State::Retry(StateName::Flow(FlowState::Start))
@@ -461,8 +461,8 @@ pub fn flow_end(tokenizer: &mut Tokenizer) -> State
             let name = ending_name(tokenizer.flags.blank);
             let point = tokenizer.point;
             take_ending(tokenizer);
-            let behind = tokenizer.point;
-            or_error!(add_part(tokenizer, name, None, point, behind));
+            let following = tokenizer.point;
+            or_error!(add_part(tokenizer, name, None, point, following));
             tokenizer.flags.blank = false;
             tokenizer.flags.continued = 0;
             tokenizer.flags.line_end = len;
@@ -498,7 +498,7 @@ pub fn call(tokenizer: &mut Tokenizer, state: DocumentState) -> State
 /// Calls a state of the table.
 fn call_state(tokenizer: &mut Tokenizer, name: StateName) -> State
     requires current { (world tokenizer.old).current ≡ looks (world tokenizer.old) }
-    requires stands { stands document_table_scheme (world tokenizer.old) (State.Next name) }
+    requires valid { valid document_table_scheme (world tokenizer.old) (State.Next name) }
     ensures to { result ≢ State.Error → result ≡ (document_transition name (world tokenizer.old)).to }
     ensures world { result ≢ State.Error →
         world tokenizer.new ≡ (document_transition name (world tokenizer.old)).world }

@@ -31,7 +31,7 @@ use md_engine::state::document::State as DocumentState;
 use md_engine::state::flow::State as FlowState;
 use md_engine::state::{Name as StateName, State};
 use md_engine::tokenizer::{HeldLeaf, Tokenizer};
-use md_events::space_or_tab::look_behind;
+use md_events::space_or_tab::look_after_white;
 use md_leaves::blank_line;
 use md_registry::choices::{self, FirstLeaf};
 
@@ -75,7 +75,7 @@ pub fn blank_line_before(tokenizer: &mut Tokenizer) -> State
     if blank_line::ends_line(tokenizer.current) {
         return State::Retry(StateName::Flow(FlowState::BlankLineAfter));
     }
-    if !blank_line::may_begin(look_behind(tokenizer)) {
+    if !blank_line::may_begin(look_after_white(tokenizer)) {
         return State::Retry(StateName::Flow(choices::first_trial()));
     }
     or_error!(tokenizer.attempt(

@@ -36,10 +36,10 @@ sees-here feed w t none s e = go w.current refl e s.next
     go (Some b) c e k = (b, c, k, e)
 
 -- a byte of the line is elsewhere
-pub line-goes : (feed : Feed) (w : World) → Sees feed w → ends_line w.current ≡ false →
+pub line-proceeds : (feed : Feed) (w : World) → Sees feed w → ends_line w.current ≡ false →
     (b : ℕ) × (w.current ≡ Some b) × (feed w.point ≡ cell_here feed w b ∷ feed (after w.setting w.point)) ×
     (nat_eq b 10 ≡ false)
-line-goes feed w s e =
+line-proceeds feed w s e =
     let saw = sees-here feed w (λ (o : Option ℕ). not (ends_line o)) refl s (ap not e) in
     (saw.0, saw.1, saw.2, go (nat_eq saw.0 10) saw.3)
   where
@@ -50,7 +50,7 @@ line-goes feed w s e =
 pub end-here : (feed : Feed) (w : World) (x : Bool) → Sees feed w → ends_line w.current ≡ x →
     is_end (line_bytes (feed w.point)) ≡ x
 end-here feed w true s e = rw (ends-seen feed w s e).line refl
-end-here feed w false s e = let saw = line-goes feed w s e in rw (saw.2, saw.3) refl
+end-here feed w false s e = let saw = line-proceeds feed w s e in rw (saw.2, saw.3) refl
 
 -- What comes first.
 
@@ -104,7 +104,7 @@ letter-dark b e = go (nat_lt 32 b) refl
 -- a byte that is no whitespace is seen as it is, and the next one is after it
 pub record SeesDark (x : Setting) (p : Point) (b : ℕ) : Type 0 where
   pub byte : slice_index x.bytes p.index ≡ b
-  pub behind : (after x p).index ≡ p.index + 1
+  pub following : (after x p).index ≡ p.index + 1
 
 pub sees-dark : (x : Setting) (p : Point) (b : ℕ) → 32 < b → looks_at x p ≡ Some b → SeesDark x p b
 sees-dark x p b dark e = go (nat_lt p.index x.limit) e
@@ -115,7 +115,7 @@ sees-dark x p b dark e = go (nat_lt p.index x.limit) e
     plain : (y z : Bool) → is_ending byte ≡ y → nat_eq byte 9 ≡ z →
         cond y 10 (cond (z && nat_lt 0 p.vs) 32 byte) ≡ b → SeesDark x p b
     plain true z k l is = absurd (omega (arith, is, dark))
-    plain false false k l is = record { byte = is; behind = rw (k, l) refl }
+    plain false false k l is = record { byte = is; following = rw (k, l) refl }
     plain false true k l is = tab (nat_lt 0 p.vs) is
       where
         nine : byte ≡ 9
@@ -157,7 +157,7 @@ pub name-more : (x : Setting) (p : Point) (b start : ℕ) → 32 < b → looks_a
     lent x.bytes start (after x p).index ≡ lent x.bytes start p.index ++ b ∷ []
 name-more x p b start dark e le =
     let saw = sees-dark x p b dark e in
-    rw saw.behind (lent-more x.bytes start p.index b le (omega (arith, dark)) saw.byte)
+    rw saw.following (lent-more x.bytes start p.index b le (omega (arith, dark)) saw.byte)
 
 -- one that begins here is empty
 pub name-none : (text : List ℕ) (i : ℕ) → lent text i i ≡ []
@@ -188,7 +188,7 @@ pub letters-more : (w : World) (b : ℕ) → is_ascii_alphabetic b ≡ true → 
 letters-more w b e c here at =
     let dark : 32 < b = letter-dark b e in
     let saw = sees-dark w.setting w.point b dark (sym c ∙ here) in (
-      omega (arith, at.0, saw.behind),
+      omega (arith, at.0, saw.following),
       ap are_letters (name-more w.setting w.point b w.scratch.start dark (sym c ∙ here) at.0)
           ∙ all-more is_ascii_alphabetic (name_here w) b at.1 e,
     )

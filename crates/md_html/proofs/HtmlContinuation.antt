@@ -24,9 +24,9 @@ use Rattle.md_html.specs.Html.{IsStop, blank_move, cleared, close_code, continua
 use Rattle.md_html.specs.Html.{in_letters, further_code, html_transition, inside_move, line_before_code, marked, moved}
 use Rattle.md_html.specs.Html.{name_here, name_text, raw_end_move, raw_open_code, sees_letter, shut, stop_move, stop_of}
 use Rattle.md_html.specs.Html.{text_move, twice_move}
-use Rattle.md_html.specs.HtmlRule.{HasHtml, closes, ends_by, entering, further_at, further_begun, goes_on, line_at}
+use Rattle.md_html.specs.HtmlRule.{HasHtml, closes, ends_by, entering, further_at, further_begun, is_continued, line_at}
 use Rattle.md_html.specs.HtmlRule.{line_done, nonblank_at, refuses, stops}
-use Rattle.md_html.proofs.HtmlBytes.{begins-current, begins-letter, end-here, letter-dark, line-goes}
+use Rattle.md_html.proofs.HtmlBytes.{begins-current, begins-letter, end-here, letter-dark, line-proceeds}
 use Rattle.md_html.proofs.HtmlBytes.{name-more, name-none, sees-here}
 use Rattle.md_leaves.proofs.LeafSteps.{Ended, ends-seen}
 use Rattle.md_html.proofs.HtmlEnds.{ends-again, ends-none, ends-one, ends-open, ends-past, ends-skip}
@@ -41,8 +41,8 @@ use Rattle.md_events.proofs.AheadLemmas.{white-no_ending}
 -- A line that is taken to its end.
 
 -- what is open after a line, by whether it held its end
-abbrev open_behind : Bool → HeldLeaf → HeldLeaf
-open_behind ends leaf = cond ends held_leaf.None leaf
+abbrev open_following : Bool → HeldLeaf → HeldLeaf
+open_following ends leaf = cond ends held_leaf.None leaf
 
 closes-more : (leaf : HeldLeaf) (c : Cell) (cs : List Cell) (h : Here) → nat_eq c.byte 10 ≡ false →
     closes leaf (c ∷ cs) h ≡ closes leaf cs (record h { point = c.after })
@@ -55,19 +55,19 @@ closes-end : (leaf : HeldLeaf) (cells : List Cell) (h : Here) → Ended cells �
 closes-end leaf cells h e = rw (e.line, e.ending) (simp append_assoc)
 
 -- one more byte of it, of which so much was read before
-goes-on-more : (front : List ℕ) (x : Bool) (c : Cell) (cs : List Cell) (h : Here) → nat_eq c.byte 10 ≡ false →
+proceeds-on-more : (front : List ℕ) (x : Bool) (c : Cell) (cs : List Cell) (h : Here) → nat_eq c.byte 10 ≡ false →
     ends_by h.scratch.marker (front ++ c.byte ∷ line_bytes cs) ≡ x →
-    goes_on front (c ∷ cs) h ≡ closes (open_behind x h.flags.leaf) cs (record h { point = c.after })
-goes-on-more front x c cs h e f = rw (e, f) refl
+    is_continued front (c ∷ cs) h ≡ closes (open_following x h.flags.leaf) cs (record h { point = c.after })
+proceeds-on-more front x c cs h e f = rw (e, f) refl
 
 -- What a state of a line's text does.
 
 -- it continues here
 stays_on : (B : Behaviour) (feed : Feed) (from to : HtmlState) (w : World) (s : Scratch) (front more : List ℕ) →
     s.marker ≡ w.scratch.marker → cleared s ≡ cleared w.scratch →
-    B (n.HtmlFlow from) (feed w.point) (here w) ≡ goes_on front (feed w.point) (here w) →
+    B (n.HtmlFlow from) (feed w.point) (here w) ≡ is_continued front (feed w.point) (here w) →
     B (n.HtmlFlow to) (feed w.point) (here (record w { scratch = s })) ≡
-    goes_on more (feed w.point) (here (record w { scratch = s })) →
+    is_continued more (feed w.point) (here (record w { scratch = s })) →
     ends_by w.scratch.marker (front ++ line_bytes (feed w.point)) ≡
     ends_by w.scratch.marker (more ++ line_bytes (feed w.point)) →
     Steps B feed (Next (n.HtmlFlow from)) w (Retry (n.HtmlFlow to)) (record w { scratch = s })
@@ -77,30 +77,30 @@ stays_on B feed from to w s front more m k old new e =
 -- it takes what is here
 takes_on : (B : Behaviour) (feed : Feed) (from to : HtmlState) (w : World) (s : Scratch) (front more : List ℕ) (b : ℕ) →
     s.marker ≡ w.scratch.marker → cleared s ≡ cleared w.scratch →
-    B (n.HtmlFlow from) (feed w.point) (here w) ≡ goes_on front (feed w.point) (here w) →
+    B (n.HtmlFlow from) (feed w.point) (here w) ≡ is_continued front (feed w.point) (here w) →
     B (n.HtmlFlow to) (feed (after w.setting w.point)) (here (record (taken w) { scratch = s })) ≡
-    goes_on more (feed (after w.setting w.point)) (here (record (taken w) { scratch = s })) →
+    is_continued more (feed (after w.setting w.point)) (here (record (taken w) { scratch = s })) →
     feed w.point ≡ cell_here feed w b ∷ feed (after w.setting w.point) → nat_eq b 10 ≡ false →
     ends_by w.scratch.marker (front ++ b ∷ line_bytes (feed (after w.setting w.point))) ≡
     ends_by w.scratch.marker (more ++ line_bytes (feed (after w.setting w.point))) →
     Steps B feed (Next (n.HtmlFlow from)) w (Next (n.HtmlFlow to)) (record (taken w) { scratch = s })
 takes_on B feed from to w s front more b m k old new saw line e =
     passes B feed _ _ w (record (taken w) { scratch = s }) refl refl
-    (old ∙ ap (λ (x : List Cell). goes_on front x (here w)) saw
-    ∙ goes-on-more front _ (cell_here feed w b) (feed (after w.setting w.point)) (here w) line e
+    (old ∙ ap (λ (x : List Cell). is_continued front x (here w)) saw
+    ∙ proceeds-on-more front _ (cell_here feed w b) (feed (after w.setting w.point)) (here w) line e
     ∙ rw (m, k) refl ∙ sym new)
 
 -- it takes the end of the block
 shut_means : (B : Behaviour) (feed : Feed) (from : HtmlState) (w : World) (front : List ℕ) (b : ℕ) →
     HasHtml B w.setting.bytes w.setting.options →
-    B (n.HtmlFlow from) (feed w.point) (here w) ≡ goes_on front (feed w.point) (here w) →
+    B (n.HtmlFlow from) (feed w.point) (here w) ≡ is_continued front (feed w.point) (here w) →
     feed w.point ≡ cell_here feed w b ∷ feed (after w.setting w.point) → nat_eq b 10 ≡ false →
     ends_by w.scratch.marker (front ++ b ∷ line_bytes (feed (after w.setting w.point))) ≡ true →
     Steps B feed (Next (n.HtmlFlow from)) w (moved w (shut w.scratch)).to (moved w (shut w.scratch)).world
 shut_means B feed from w front b has old saw line e =
     passes B feed _ _ w (moved w (shut w.scratch)).world refl refl
-    (old ∙ ap (λ (x : List Cell). goes_on front x (here w)) saw
-    ∙ goes-on-more front true (cell_here feed w b) (feed (after w.setting w.point)) (here w) line e
+    (old ∙ ap (λ (x : List Cell). is_continued front x (here w)) saw
+    ∙ proceeds-on-more front true (cell_here feed w b) (feed (after w.setting w.point)) (here w) line e
     ∙ sym (has.each its.ContinuationClose _ _))
 
 -- the line ends here, and its text with it
@@ -177,7 +177,7 @@ in_text_means B feed w true has s e =
     ended_means B feed its.Continuation w has s e
     (has.each its.Continuation _ _ ∙ rw ((ends-seen feed w s e).line, ends-none w.scratch.marker) refl)
 in_text_means B feed w false has s e =
-    let saw = line-goes feed w s e in
+    let saw = line-proceeds feed w s e in
     text_means B feed w saw.0 (is_current w.scratch.marker w.current) has saw.2 saw.3
     (sym (ap (is_current w.scratch.marker) saw.1))
 
@@ -190,7 +190,7 @@ continuation_means B feed w has s = in_text_means B feed w _ has s refl
 -- after one of the two bytes with which an end of this marker begins
 twice_means : (B : Behaviour) (feed : Feed) (from : HtmlState) (w : World) (m : ℕ) (x : Bool) →
     HasHtml B w.setting.bytes w.setting.options → Sees feed w → w.scratch.marker ≡ m → (m ≡ 45) ⊎ (m ≡ 93) →
-    B (n.HtmlFlow from) (feed w.point) (here w) ≡ goes_on (m ∷ []) (feed w.point) (here w) →
+    B (n.HtmlFlow from) (feed w.point) (here w) ≡ is_continued (m ∷ []) (feed w.point) (here w) →
     is_current m w.current ≡ x → Steps B feed (Next (n.HtmlFlow from)) w (moved w (twice_move w.scratch x)).to
     (moved w (twice_move w.scratch x)).world
 twice_means B feed from w m true has s is two old e =
@@ -358,7 +358,7 @@ close_means : (B : Behaviour) (feed : Feed) (w : World) (x : Bool) → HasHtml B
 close_means B feed w true has s e =
     ended_means B feed its.ContinuationClose w has s e (has.each its.ContinuationClose _ _)
 close_means B feed w false has s e =
-    let saw = line-goes feed w s e in
+    let saw = line-proceeds feed w s e in
     passes B feed _ _ w (close_code w false).world refl refl
     (has.each its.ContinuationClose _ _ ∙ ap (λ (x : List Cell). closes w.flags.leaf x (here w)) saw.2
     ∙ closes-more w.flags.leaf (cell_here feed w saw.0) (feed (after w.setting w.point)) (here w) saw.3
@@ -386,7 +386,7 @@ line-empty cells h e = rw e refl
 
 line-text : (cells : List Cell) (h : Here) → is_end (line_bytes cells) ≡ false →
     line_at cells h ≡
-    goes_on [] cells (record (entering h) { scratch = marked (stop_of h.flags.leaf) h.scratch })
+    is_continued [] cells (record (entering h) { scratch = marked (stop_of h.flags.leaf) h.scratch })
 unfolding line_at
 line-text cells h e = rw e refl
 
@@ -473,7 +473,7 @@ blank_means B feed w false true has s e f =
     ∙ blank-white (cell_here feed w saw.0) (feed (after w.setting w.point)) (here w) saw.3
     ∙ sym (has.each its.BlankLineBefore _ _))
 blank_means B feed w false false has s e f =
-    let saw = line-goes feed w s e in
+    let saw = line-proceeds feed w s e in
     passes B feed _ _ w (moved w (blank_move w.scratch false false)).world refl refl
     (has.each its.BlankLineBefore _ _ ∙ ap (λ (x : List Cell). nonblank_at x (here w)) saw.2
     ∙ blank-dark (cell_here feed w saw.0) (feed (after w.setting w.point)) (here w) saw.3

@@ -15,10 +15,10 @@ use Rattle.md_engine.specs.Meaning.{Cell}
 use Rattle.md_meaning.specs.Html.{HtmlKind, Complete, html_ends, html_kind}
 use Rattle.md_meaning.specs.Leaves.{ParagraphContext, html_at, html_by, html_line, is_text}
 use Rattle.md_meaning.specs.Rest.{Rest, has_small_indent, indent, is_blank, is_white, trim_start}
-use Rattle.md_meaning.specs.Rest.{behind_indent as rest_behind}
+use Rattle.md_meaning.specs.Rest.{after_indent as rest_after}
 use Rattle.md_meaning.proofs.TextsLemmas.{NoEnding}
 use Rattle.md_html.specs.Html.{ends_in_front, is_open_text}
-use Rattle.md_html.specs.HtmlLine.{behind_indent, html_goes, html_keeps, html_keeps_on, kind_at, left_by, left_of}
+use Rattle.md_html.specs.HtmlLine.{after_indent, html_continues, html_keeps, html_keeps_on, kind_at, left_by, left_of}
 use Rattle.md_html.specs.HtmlRule.{allowed, left}
 use Rattle.md_html.proofs.HtmlSpread.{Blind, Wide, blind-trim, byte, ended, ends-blind, kind-none, of-white, white}
 use Rattle.md_html.proofs.HtmlSpread.{wide-kind, wider}
@@ -59,12 +59,12 @@ spread-wide line (b ∷ bs) p = go (b == 9) refl (spread-wide line bs (past_byte
 -- The kind.
 
 -- What follows a small indent by cells is what follows all whitespace by bytes.
-pub behind-wide : (options : ParseOptions) (line : Line) (text past : List ℕ) (r : Rest) (p : Point)
+pub following-wide : (options : ParseOptions) (line : Line) (text past : List ℕ) (r : Rest) (p : Point)
     (stop : List Cell) →
     RestAt text past r p → NoEnding r.bytes → Stops stop → length (rest_cells line r p ++ stop) < 2 ^ 63 →
     has_small_indent options r ≡ true →
-    Wide (trim_start r.bytes) (behind_indent options (rest_cells line r p ++ stop))
-behind-wide options line text past r p stop is h k short small =
+    Wide (trim_start r.bytes) (after_indent options (rest_cells line r p ++ stop))
+following-wide options line text past r p stop is h k short small =
     subst (Wide (trim_start r.bytes)) (sym bytes)
     (subst (λ (l : List ℕ). Wide l (bytes_of (spread line b.bytes q))) (indent-trims r taken.none)
     (spread-wide line b.bytes q))
@@ -73,7 +73,7 @@ behind-wide options line text past r p stop is h k short small =
     room = small_indent options
 
     b : Rest
-    b = rest_behind r
+    b = rest_after r
 
     q : Point
     q = white_end room (rest_cells line r p ++ stop) p
@@ -85,7 +85,7 @@ behind-wide options line text past r p stop is h k short small =
         (small-room options r (length (rest_cells line r p)) small (indent-length line text past r p is)
         (omega (arith, size, short)))
 
-    bytes : behind_indent options (rest_cells line r p ++ stop) ≡ bytes_of (spread line b.bytes q)
+    bytes : after_indent options (rest_cells line r p ++ stop) ≡ bytes_of (spread line b.bytes q)
     bytes =
         ap line_bytes taken.cells
         ∙ ap bytes_of (rest-line line b q stop (lose-no_ending (indent r) r h) k)
@@ -102,13 +102,13 @@ white-none (c ∷ cs) w =
 pub kind-cells : (options : ParseOptions) (line : Line) (text past : List ℕ) (r : Rest) (p : Point)
     (stop : List Cell) →
     RestAt text past r p → NoEnding r.bytes → Stops stop → length (rest_cells line r p ++ stop) < 2 ^ 63 →
-    html_kind (behind_indent options (rest_cells line r p ++ stop)) ≡
+    html_kind (after_indent options (rest_cells line r p ++ stop)) ≡
     cond (has_small_indent options r) (html_kind (trim_start r.bytes)) None
 kind-cells options line text past r p stop is h k short = go (has_small_indent options r) refl
   where
     go : (x : Bool) → has_small_indent options r ≡ x →
-        html_kind (behind_indent options (rest_cells line r p ++ stop)) ≡ cond x (html_kind (trim_start r.bytes)) None
-    go true small = sym (wide-kind (behind-wide options line text past r p stop is h k short small))
+        html_kind (after_indent options (rest_cells line r p ++ stop)) ≡ cond x (html_kind (trim_start r.bytes)) None
+    go true small = sym (wide-kind (following-wide options line text past r p stop is h k short small))
     go false large =
         white-none (white_rest (small_indent options) (rest_cells line r p ++ stop))
         (indent-over line text past (small_indent options) r p stop is (large-room options r large))
@@ -198,11 +198,11 @@ pub left-cells : (options : ParseOptions) (line : Line) (text past : List ℕ) (
     (stop : List Cell) (kind : HtmlKind) →
     RestAt text past r p → NoEnding r.bytes → Stops stop → length (rest_cells line r p ++ stop) < 2 ^ 63 →
     has_small_indent options r ≡ true →
-    left kind (behind_indent options (rest_cells line r p ++ stop)) ≡ left kind r.bytes
+    left kind (after_indent options (rest_cells line r p ++ stop)) ≡ left kind r.bytes
 left-cells options line text past r p stop kind is h k short small =
     let blind = ends-blind kind in
     ap (λ (x : Bool). cond x held_leaf.None (held_leaf.Html kind))
-    (sym (blind.same _ _ (behind-wide options line text past r p stop is h k short small))
+    (sym (blind.same _ _ (following-wide options line text past r p stop is h k short small))
     ∙ blind-trim (html_ends kind) blind r.bytes)
 
 -- after a first line
@@ -221,7 +221,7 @@ keeps-cells options on line text past r p stop is h k short some = go (kind_at o
     go None e f = cc
     go (Some kind) e f =
         let found = kind-found options on line text past r p stop kind is h k short e in
-        ap (λ (o : Option HtmlKind). left_by o (behind_indent options cells)) e
+        ap (λ (o : Option HtmlKind). left_by o (after_indent options cells)) e
         ∙ left-cells options line text past r p stop kind is h k short found.0
         ∙ ap (λ (o : Option HtmlKind). left_by o r.bytes) (sym found.1)
 
@@ -254,7 +254,7 @@ keeps_on-cells (held_leaf.Html kind) line r p stop h k =
 keeps_on-cells _ line r p stop h k = refl
 
 -- A further line continues by the cells where it does by the bytes.
-pub goes-cells : (on : HeldLeaf) (line : Line) (r : Rest) (p : Point) (stop : List Cell) → NoEnding r.bytes →
-    Stops stop → html_goes on (rest_cells line r p ++ stop) ≡ not (ends_in_front on && is_blank r.bytes)
-goes-cells on line r p stop h k =
+pub proceeds-cells : (on : HeldLeaf) (line : Line) (r : Rest) (p : Point) (stop : List Cell) → NoEnding r.bytes →
+    Stops stop → html_continues on (rest_cells line r p ++ stop) ≡ not (ends_in_front on && is_blank r.bytes)
+proceeds-cells on line r p stop h k =
     ap (λ (x : Bool). not (ends_in_front on && x)) (blank-cells line r p stop h k)

@@ -20,34 +20,34 @@ use Rattle.md_meaning.specs.Html.{HtmlKind, Basic, Complete}
 use Rattle.md_meaning.specs.Html.{html_ends, html_kind}
 use Rattle.md_meaning.specs.Lines.{begins_with}
 use Rattle.md_html.specs.Html.{Move, Stops, Takes, TakesAs, Turns, TurnsAs, cleared, is_open_text, moved}
-use Rattle.md_html.specs.HtmlRule.{HasHtml, allowed, closes, html_behaves, left, opens, opens_behind, opens_by, refuses}
+use Rattle.md_html.specs.HtmlRule.{HasHtml, allowed, closes, html_behaves, left, opens, opens_after, opens_by, refuses}
 use Rattle.md_html.specs.HtmlRule.{tag_by}
 use Rattle.md_events.specs.Ahead.{line_bytes}
 
 -- A move.
 
 -- what it becomes, here and after what is here
-abbrev pub comes : List ℕ → ParseOptions → List Cell → List Cell → Point → Here → Move → Outcome
-comes text options cells rest q h (Takes state s) =
+abbrev pub becomes : List ℕ → ParseOptions → List Cell → List Cell → Point → Here → Move → Outcome
+becomes text options cells rest q h (Takes state s) =
     html_behaves text options state rest (record h { point = q; scratch = s })
-comes text options cells rest q h (Turns state s) = html_behaves text options state cells (record h { scratch = s })
-comes text options cells rest q h (TakesAs leaf state s) =
+becomes text options cells rest q h (Turns state s) = html_behaves text options state cells (record h { scratch = s })
+becomes text options cells rest q h (TakesAs leaf state s) =
     html_behaves text options state rest
     (record h { point = q; scratch = s; flags = record h.flags { leaf = leaf } })
-comes text options cells rest q h (TurnsAs leaf state s) =
+becomes text options cells rest q h (TurnsAs leaf state s) =
     html_behaves text options state cells (record h { scratch = s; flags = record h.flags { leaf = leaf } })
-comes text options cells rest q h Stops = refuses h
+becomes text options cells rest q h Stops = refuses h
 
 -- the same in a world
-abbrev pub comes_in : Feed → World → Move → Outcome
-comes_in feed w m =
-    comes w.setting.bytes w.setting.options (feed w.point) (feed (after w.setting w.point)) (after w.setting w.point)
+abbrev pub becomes_in : Feed → World → Move → Outcome
+becomes_in feed w m =
+    becomes w.setting.bytes w.setting.options (feed w.point) (feed (after w.setting w.point)) (after w.setting w.point)
     (here w) m
 
 -- a state that becomes what its move becomes takes one step
 pub moved-steps : (B : Behaviour) (feed : Feed) (state : HtmlState) (w : World) (m : Move) →
     HasHtml B w.setting.bytes w.setting.options →
-    html_behaves w.setting.bytes w.setting.options state (feed w.point) (here w) ≡ comes_in feed w m →
+    html_behaves w.setting.bytes w.setting.options state (feed w.point) (here w) ≡ becomes_in feed w m →
     Steps B feed (Next (n.HtmlFlow state)) w (moved w m).to (moved w m).world
 moved-steps B feed state w (Takes next s) has same =
     passes B feed _ _ w (moved w (Takes next s)).world refl refl
@@ -68,9 +68,9 @@ moved-steps B feed state w Stops has same =
 pub record MovesBy (text : List ℕ) (options : ParseOptions) (state : HtmlState) (h : Here) (move : Option ℕ → Move)
     : Type 0 where
   pub none : (rest : List Cell) (q : Point) →
-      html_behaves text options state [] h ≡ comes text options [] rest q h (move None)
+      html_behaves text options state [] h ≡ becomes text options [] rest q h (move None)
   pub some : (c : Cell) (cs : List Cell) →
-      html_behaves text options state (c ∷ cs) h ≡ comes text options (c ∷ cs) cs c.after h (move (Some c.byte))
+      html_behaves text options state (c ∷ cs) h ≡ becomes text options (c ∷ cs) cs c.after h (move (Some c.byte))
 
 pub by-moves : (B : Behaviour) (feed : Feed) (state : HtmlState) (w : World) (move : Option ℕ → Move) →
     HasHtml B w.setting.bytes w.setting.options → Sees feed w →
@@ -79,7 +79,7 @@ pub by-moves : (B : Behaviour) (feed : Feed) (state : HtmlState) (w : World) (mo
 by-moves B feed state w move has s f = moved-steps B feed state w (move w.current) has (go w.current s.next)
   where
     go : (o : Option ℕ) → feed w.point ≡ ahead feed w o →
-        html_behaves w.setting.bytes w.setting.options state (feed w.point) (here w) ≡ comes_in feed w (move o)
+        html_behaves w.setting.bytes w.setting.options state (feed w.point) (here w) ≡ becomes_in feed w (move o)
     go None e = rw e (f.none (feed (after w.setting w.point)) (after w.setting w.point))
     go (Some b) e = rw e (f.some (cell_here feed w b) (feed (after w.setting w.point)))
 
@@ -159,11 +159,11 @@ unfolding opens
 opens-same line cells h s same = by-same (allowed h.flags.leaf (html_kind line)) line cells h s same
 
 -- so much of the line is in front
-pub behind-taken : (front : List ℕ) (c : Cell) (cs : List Cell) (h : Here) (s : Scratch) →
+pub following-taken : (front : List ℕ) (c : Cell) (cs : List Cell) (h : Here) (s : Scratch) →
     nat_eq c.byte 10 ≡ false → cleared s ≡ cleared h.scratch →
-    opens_behind front (c ∷ cs) h ≡
-    opens_behind (front ++ c.byte ∷ []) cs (record h { point = c.after; scratch = s })
-behind-taken front c cs h s e same =
+    opens_after front (c ∷ cs) h ≡
+    opens_after (front ++ c.byte ∷ []) cs (record h { point = c.after; scratch = s })
+following-taken front c cs h s e same =
     ap (λ (l : List ℕ). opens (front ++ l) (c ∷ cs) h) (line-more c cs e)
     ∙ opens-taken (front ++ c.byte ∷ line_bytes cs) c cs h s e same
     ∙ ap (λ (l : List ℕ). opens l cs (record h { point = c.after; scratch = s }))

@@ -37,7 +37,7 @@ name-kept x b e tag (le, letter, bytes) =
     let dark = tag-dark b tag in
     let saw = sees-dark x.setting x.point b dark e in
     let more = name-more x.setting x.point b x.scratch.start dark e le in (
-      omega (arith, saw.behind),
+      omega (arith, saw.following),
       ap (λ (l : List ℕ). has_letter l (looks_at x.setting (after x.setting x.point))) more
           ∙ letter-kept (name_of x) b _ (ap (has_letter (name_of x)) (sym e) ∙ letter),
       ap (list_all is_tag_byte) more ∙ all-more is_tag_byte (name_of x) b bytes tag,

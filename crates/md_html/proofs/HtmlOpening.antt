@@ -25,11 +25,11 @@ use Rattle.md_html.specs.Html.{Stops, Takes, Turns, before_move, by_byte, cdata_
 use Rattle.md_html.specs.Html.{close_start_move, comment_move, declaration_byte, html_transition, indent_move, marked}
 use Rattle.md_html.specs.Html.{open_byte, self_closing_move, sees_letter, start_code, takes_as}
 use Rattle.md_html.specs.HtmlRule.{HasHtml, closes, ends_by, html_at, html_behaves, in_indent, line_begun, opens}
-use Rattle.md_html.specs.HtmlRule.{opens_behind, refuses, tag_begin, tag_by}
+use Rattle.md_html.specs.HtmlRule.{opens_after, refuses, tag_begin, tag_by}
 use Rattle.md_html.proofs.HtmlKinds.{Decided, cdata-known, cdata-more, cdata-none, cdata_front, close-none}
 use Rattle.md_html.proofs.HtmlKinds.{comment-known, comment-none, declaration-known, declaration-none}
 use Rattle.md_html.proofs.HtmlKinds.{instruction-known, may_declare, may_open, open-none, start-none}
-use Rattle.md_html.proofs.HtmlMoves.{MovesBy, begins-line, behind-taken, closes-taken, comes, by-moves, interrupts}
+use Rattle.md_html.proofs.HtmlMoves.{MovesBy, begins-line, following-taken, closes-taken, becomes, by-moves, interrupts}
 use Rattle.md_html.proofs.HtmlMoves.{not-ending, opens-none, opens-same, opens-some, opens-taken, with-line}
 use Rattle.md_html.proofs.HtmlBytes.{name-none}
 use Rattle.md_events.specs.Ahead.{line_bytes, white_rest}
@@ -41,22 +41,23 @@ use Rattle.md_events.proofs.AheadLemmas.{none-rest, white-no_ending}
 -- After some of the line.
 
 -- what is here begins no kind
-behind-stops : (front : List ℕ) (t : ℕ → Bool) (cells : List Cell) (h : Here) →
+following-stops : (front : List ℕ) (t : ℕ → Bool) (cells : List Cell) (h : Here) →
     ((rest : List ℕ) → begins t rest ≡ false → html_kind (front ++ rest) ≡ None) →
-    begins t (line_bytes cells) ≡ false → opens_behind front cells h ≡ refuses h
-behind-stops front t cells h none e =
+    begins t (line_bytes cells) ≡ false → opens_after front cells h ≡ refuses h
+following-stops front t cells h none e =
     opens-none (front ++ line_bytes cells) cells h (none (line_bytes cells) e)
 
 -- it decides the kind, and this is left of the rule
-behind-decides : (kind : HtmlKind) (front known before : List ℕ) (c : Cell) (cs : List Cell) (h : Here) (s : Scratch) →
+following-decides : (kind : HtmlKind) (front known before : List ℕ) (c : Cell) (cs : List Cell) (h : Here)
+    (s : Scratch) →
     nat_eq c.byte 10 ≡ false → cleared s ≡ cleared h.scratch → interrupts kind ≡ true → front ++ c.byte ∷ [] ≡ known →
     Decided kind known before (line_bytes cs) →
-    opens_behind front (c ∷ cs) h ≡
+    opens_after front (c ∷ cs) h ≡
     closes (cond (html_ends kind (before ++ line_bytes cs)) held_leaf.None (held_leaf.Html kind)) cs
     (record h { point = c.after; scratch = s; flags = record h.flags { leaf = held_leaf.Html kind } })
-behind-decides kind front known before c cs h s ne same is last d =
-    behind-taken front c cs h s ne same
-    ∙ ap (λ (l : List ℕ). opens_behind l cs (record h { point = c.after; scratch = s })) last
+following-decides kind front known before c cs h s ne same is last d =
+    following-taken front c cs h s ne same
+    ∙ ap (λ (l : List ℕ). opens_after l cs (record h { point = c.after; scratch = s })) last
     ∙ opens-some kind (known ++ line_bytes cs) cs (record h { point = c.after; scratch = s }) is d.kind
     ∙ ap
     (λ (x : Bool).
@@ -164,7 +165,7 @@ indent-moves text options h = record {
     stays : (c : Cell) (cs : List Cell) (x y : Bool) → is_white c.byte ≡ x → nat_lt s.size (small_indent options) ≡ y →
         x && y ≡ false →
         html_behaves text options its.Indent (c ∷ cs) h ≡
-        comes text options (c ∷ cs) cs c.after h (Turns its.Before (cleared s))
+        becomes text options (c ∷ cs) cs c.after h (Turns its.Before (cleared s))
     stays c cs x y e f stop =
         ap (λ (l : List Cell). opens (line_bytes l) (c ∷ cs) h)
         (rest-same c cs s.size (small_indent options) x y e f stop)
@@ -172,7 +173,7 @@ indent-moves text options h = record {
 
     go : (c : Cell) (cs : List Cell) (x y : Bool) → is_white c.byte ≡ x → nat_lt s.size (small_indent options) ≡ y →
         html_behaves text options its.Indent (c ∷ cs) h ≡
-        comes text options (c ∷ cs) cs c.after h (indent_move s (x && y))
+        becomes text options (c ∷ cs) cs c.after h (indent_move s (x && y))
     go c cs true true e f =
         ap (λ (l : List Cell). opens (line_bytes l) (c ∷ cs) h) (rest-more c cs s.size (small_indent options) e f)
         ∙ opens-taken (line_bytes (white_rest (small_indent options - (s.size + 1)) cs)) c cs h
@@ -189,23 +190,23 @@ before-moves text options h = record {
   where
     go : (c : Cell) (cs : List Cell) (x : Bool) → nat_eq c.byte 60 ≡ x →
         html_behaves text options its.Before (c ∷ cs) h ≡
-        comes text options (c ∷ cs) cs c.after h (before_move h.scratch x)
+        becomes text options (c ∷ cs) cs c.after h (before_move h.scratch x)
     go c cs true e =
-        behind-taken [] c cs h h.scratch (not-ending (λ (b : ℕ). b == 60) c.byte refl e) refl
-        ∙ ap (λ (b : ℕ). opens_behind (b ∷ []) cs (record h { point = c.after })) (eqb-true c.byte 60 e)
+        following-taken [] c cs h h.scratch (not-ending (λ (b : ℕ). b == 60) c.byte refl e) refl
+        ∙ ap (λ (b : ℕ). opens_after (b ∷ []) cs (record h { point = c.after })) (eqb-true c.byte 60 e)
     go c cs false e =
-        behind-stops [] (λ (b : ℕ). b == 60) (c ∷ cs) h start-none (begins-line (λ (b : ℕ). b == 60) c cs refl ∙ e)
+        following-stops [] (λ (b : ℕ). b == 60) (c ∷ cs) h start-none (begins-line (λ (b : ℕ). b == 60) c cs refl ∙ e)
 
 -- After `<`.
 
 -- a name begins here
 name-begins : (text : List ℕ) (closing : Bool) (cells : List Cell) (h : Here) (s : Scratch) →
     cleared s ≡ cleared h.scratch →
-    opens_behind (tag_begin closing) cells h ≡
-    opens_behind (tag_begin closing ++ lent text h.point.index h.point.index) cells (record h { scratch = s })
+    opens_after (tag_begin closing) cells h ≡
+    opens_after (tag_begin closing ++ lent text h.point.index h.point.index) cells (record h { scratch = s })
 name-begins text closing cells h s same =
     opens-same (tag_begin closing ++ line_bytes cells) cells h s same
-    ∙ ap (λ (l : List ℕ). opens_behind l cells (record h { scratch = s }))
+    ∙ ap (λ (l : List ℕ). opens_after l cells (record h { scratch = s }))
     (sym (append-nil (tag_begin closing))
     ∙ ap (λ (l : List ℕ). tag_begin closing ++ l) (sym (name-none text h.point.index)))
 
@@ -223,26 +224,26 @@ open-moves text options h = record {
     go : (c : Cell) (cs : List Cell) (x y z v : Bool) → nat_eq c.byte 33 ≡ x → nat_eq c.byte 47 ≡ y →
         nat_eq c.byte 63 ≡ z → is_ascii_alphabetic c.byte ≡ v →
         html_behaves text options its.Open (c ∷ cs) h ≡
-        comes text options (c ∷ cs) cs c.after h
+        becomes text options (c ∷ cs) cs c.after h
         (cond x (Takes its.DeclarationOpen s)
         (cond y (Takes its.TagCloseStart s)
         (cond z (takes_as Instruction its.ContinuationDeclarationInside s)
         (cond v (Turns its.TagName (record (cleared s) { start = h.point.index })) Stops))))
     go c cs true y z v e f g l =
-        behind-taken (60 ∷ []) c cs h s (not-ending (λ (b : ℕ). b == 33) c.byte refl e) refl
-        ∙ ap (λ (b : ℕ). opens_behind (60 ∷ b ∷ []) cs (record h { point = c.after })) (eqb-true c.byte 33 e)
+        following-taken (60 ∷ []) c cs h s (not-ending (λ (b : ℕ). b == 33) c.byte refl e) refl
+        ∙ ap (λ (b : ℕ). opens_after (60 ∷ b ∷ []) cs (record h { point = c.after })) (eqb-true c.byte 33 e)
     go c cs false true z v e f g l =
-        behind-taken (60 ∷ []) c cs h s (not-ending (λ (b : ℕ). b == 47) c.byte refl f) refl
-        ∙ ap (λ (b : ℕ). opens_behind (60 ∷ b ∷ []) cs (record h { point = c.after })) (eqb-true c.byte 47 f)
+        following-taken (60 ∷ []) c cs h s (not-ending (λ (b : ℕ). b == 47) c.byte refl f) refl
+        ∙ ap (λ (b : ℕ). opens_after (60 ∷ b ∷ []) cs (record h { point = c.after })) (eqb-true c.byte 47 f)
     go c cs false false true v e f g l =
-        behind-decides Instruction (60 ∷ []) (codes "<?") (codes "?") c cs h (marked 63 s)
+        following-decides Instruction (60 ∷ []) (codes "<?") (codes "?") c cs h (marked 63 s)
         (not-ending (λ (b : ℕ). b == 63) c.byte refl g) refl refl
         (ap (λ (b : ℕ). 60 ∷ b ∷ []) (eqb-true c.byte 63 g)) (instruction-known (line_bytes cs))
         ∙ left-by Instruction cs h c.after (marked 63 s) (ends-instruction (63 ∷ line_bytes cs))
     go c cs false false false true e f g l =
         name-begins text false (c ∷ cs) h (record (cleared s) { start = h.point.index }) refl
     go c cs false false false false e f g l =
-        behind-stops (60 ∷ []) may_open (c ∷ cs) h open-none
+        following-stops (60 ∷ []) may_open (c ∷ cs) h open-none
         (begins-line may_open c cs refl
         ∙ ap₂ (λ (x y : Bool). x || y) e (ap₂ (λ (x y : Bool). x || y) f (ap₂ (λ (x y : Bool). x || y) g l)))
 
@@ -261,22 +262,22 @@ declaration-moves text options h = record {
     go : (c : Cell) (cs : List Cell) (x y z : Bool) → nat_eq c.byte 45 ≡ x → nat_eq c.byte 91 ≡ y →
         is_ascii_alphabetic c.byte ≡ z →
         html_behaves text options its.DeclarationOpen (c ∷ cs) h ≡
-        comes text options (c ∷ cs) cs c.after h
+        becomes text options (c ∷ cs) cs c.after h
         (cond x (Takes its.CommentOpenInside s)
         (cond y (Takes its.CdataOpenInside (cleared s)) (cond z (takes_as Declaration its.Continuation s) Stops)))
     go c cs true y z e f l =
-        behind-taken (codes "<!") c cs h s (not-ending (λ (b : ℕ). b == 45) c.byte refl e) refl
-        ∙ ap (λ (b : ℕ). opens_behind (60 ∷ 33 ∷ b ∷ []) cs (record h { point = c.after })) (eqb-true c.byte 45 e)
+        following-taken (codes "<!") c cs h s (not-ending (λ (b : ℕ). b == 45) c.byte refl e) refl
+        ∙ ap (λ (b : ℕ). opens_after (60 ∷ 33 ∷ b ∷ []) cs (record h { point = c.after })) (eqb-true c.byte 45 e)
     go c cs false true z e f l =
-        behind-taken (codes "<!") c cs h (cleared s) (not-ending (λ (b : ℕ). b == 91) c.byte refl f) refl
-        ∙ ap (λ (b : ℕ). opens_behind (60 ∷ 33 ∷ b ∷ []) cs (record h { point = c.after; scratch = cleared s }))
+        following-taken (codes "<!") c cs h (cleared s) (not-ending (λ (b : ℕ). b == 91) c.byte refl f) refl
+        ∙ ap (λ (b : ℕ). opens_after (60 ∷ 33 ∷ b ∷ []) cs (record h { point = c.after; scratch = cleared s }))
         (eqb-true c.byte 91 f)
     go c cs false false true e f l =
-        behind-decides Declaration (codes "<!") (60 ∷ 33 ∷ c.byte ∷ []) [] c cs h (marked 62 s)
+        following-decides Declaration (codes "<!") (60 ∷ 33 ∷ c.byte ∷ []) [] c cs h (marked 62 s)
         (not-ending is_ascii_alphabetic c.byte refl l) refl refl refl (declaration-known c.byte (line_bytes cs) l)
         ∙ left-by Declaration cs h c.after (marked 62 s) (ends-declaration (line_bytes cs))
     go c cs false false false e f l =
-        behind-stops (codes "<!") may_declare (c ∷ cs) h declaration-none
+        following-stops (codes "<!") may_declare (c ∷ cs) h declaration-none
         (begins-line may_declare c cs refl ∙ ap₂ (λ (x y : Bool). x || y) e (ap₂ (λ (x y : Bool). x || y) f l))
 
 comment-moves : (text : List ℕ) (options : ParseOptions) (h : Here) →
@@ -288,14 +289,14 @@ comment-moves text options h = record {
   where
     go : (c : Cell) (cs : List Cell) (x : Bool) → nat_eq c.byte 45 ≡ x →
         html_behaves text options its.CommentOpenInside (c ∷ cs) h ≡
-        comes text options (c ∷ cs) cs c.after h (comment_move h.scratch x)
+        becomes text options (c ∷ cs) cs c.after h (comment_move h.scratch x)
     go c cs true e =
-        behind-decides Comment (codes "<!-") (codes "<!--") (codes "--") c cs h (marked 45 h.scratch)
+        following-decides Comment (codes "<!-") (codes "<!--") (codes "--") c cs h (marked 45 h.scratch)
         (not-ending (λ (b : ℕ). b == 45) c.byte refl e) refl refl
         (ap (λ (b : ℕ). 60 ∷ 33 ∷ 45 ∷ b ∷ []) (eqb-true c.byte 45 e)) (comment-known (line_bytes cs))
         ∙ left-by Comment cs h c.after (marked 45 h.scratch) (ends-comment (45 ∷ 45 ∷ line_bytes cs))
     go c cs false e =
-        behind-stops (codes "<!-") (λ (b : ℕ). b == 45) (c ∷ cs) h comment-none
+        following-stops (codes "<!-") (λ (b : ℕ). b == 45) (c ∷ cs) h comment-none
         (begins-line (λ (b : ℕ). b == 45) c cs refl ∙ e)
 
 -- After `<![`, and no more of `CDATA[` than all but its last byte.
@@ -321,26 +322,26 @@ cdata-moves text options h le = record {
 
     go : (c : Cell) (cs : List Cell) (x y : Bool) → nat_eq c.byte (cdata_byte s.size) ≡ x → nat_lt s.size 5 ≡ y →
         html_behaves text options its.CdataOpenInside (c ∷ cs) h ≡
-        comes text options (c ∷ cs) cs c.after h (cdata_move s x y)
+        becomes text options (c ∷ cs) cs c.after h (cdata_move s x y)
     go c cs true true e f =
         let few : s.size ≤ 4 = grind (arith, nat_tests) in
-        behind-taken (cdata_front s.size) c cs h (record s { size = s.size + 1 })
+        following-taken (cdata_front s.size) c cs h (record s { size = s.size + 1 })
         (not-ending (λ (b : ℕ). b == cdata_byte s.size) c.byte (cdata-apart s.size le) e) refl
         ∙ ap
         (λ (l : List ℕ).
-        opens_behind l cs (record h { point = c.after; scratch = record s { size = s.size + 1 } }))
+        opens_after l cs (record h { point = c.after; scratch = record s { size = s.size + 1 } }))
         (ap (λ (b : ℕ). cdata_front s.size ++ b ∷ []) (eqb-true c.byte (cdata_byte s.size) e)
         ∙ cdata-more s.size few)
     go c cs true false e f =
         let last : s.size ≡ 5 = grind (arith, nat_tests) in
-        behind-decides Cdata (cdata_front s.size) (codes "<![CDATA[") [] c cs h (marked 93 s)
+        following-decides Cdata (cdata_front s.size) (codes "<![CDATA[") [] c cs h (marked 93 s)
         (not-ending (λ (b : ℕ). b == cdata_byte s.size) c.byte (cdata-apart s.size le) e) refl refl
         (ap (λ (b : ℕ). cdata_front s.size ++ b ∷ []) (eqb-true c.byte (cdata_byte s.size) e)
         ∙ ap (λ (size : ℕ). cdata_front size ++ cdata_byte size ∷ []) last)
         (cdata-known (line_bytes cs))
         ∙ left-by Cdata cs h c.after (marked 93 s) (ends-cdata (line_bytes cs))
     go c cs false y e f =
-        behind-stops (cdata_front s.size) (λ (b : ℕ). b == cdata_byte s.size) (c ∷ cs) h
+        following-stops (cdata_front s.size) (λ (b : ℕ). b == cdata_byte s.size) (c ∷ cs) h
         (λ (rest : List ℕ) k. cdata-none s.size rest le k)
         (begins-line (λ (b : ℕ). b == cdata_byte s.size) c cs (cdata-apart s.size le) ∙ e)
 
@@ -355,11 +356,11 @@ close-moves text options h = record {
   where
     go : (c : Cell) (cs : List Cell) (x : Bool) → is_ascii_alphabetic c.byte ≡ x →
         html_behaves text options its.TagCloseStart (c ∷ cs) h ≡
-        comes text options (c ∷ cs) cs c.after h (close_start_move h.scratch h.point.index x)
+        becomes text options (c ∷ cs) cs c.after h (close_start_move h.scratch h.point.index x)
     go c cs true e =
         name-begins text true (c ∷ cs) h (record (cleared h.scratch) { start = h.point.index; seen = true }) refl
     go c cs false e =
-        behind-stops (codes "</") is_ascii_alphabetic (c ∷ cs) h close-none
+        following-stops (codes "</") is_ascii_alphabetic (c ∷ cs) h close-none
         (begins-line is_ascii_alphabetic c cs refl ∙ e)
 
 -- After the slash of a tag of kind 6.
@@ -370,7 +371,7 @@ self-moves text options h = record { none = λ rest q. refl; some = λ c cs. go 
   where
     go : (c : Cell) (cs : List Cell) (x : Bool) → nat_eq c.byte 62 ≡ x →
         html_behaves text options its.BasicSelfClosing (c ∷ cs) h ≡
-        comes text options (c ∷ cs) cs c.after h (self_closing_move h.scratch x)
+        becomes text options (c ∷ cs) cs c.after h (self_closing_move h.scratch x)
     go c cs true e =
         ap (λ (x : Bool). tag_by Basic x (c ∷ cs) h) (with-line 62 c cs refl ∙ e)
         ∙ closes-taken (held_leaf.Html Basic) c cs h (cleared h.scratch)

@@ -299,9 +299,9 @@ wide-raw xs ys h =
 wide-basic : (xs ys : List ℕ) → Wide xs ys → begins_basic xs ≡ begins_basic ys
 unfolding begins_basic
 wide-basic xs ys h =
-    let behind = wide-after is_tag_byte false tag-white h in
+    let following = wide-after is_tag_byte false tag-white h in
     ap₂ (λ (s t : Bool). s && t) (ap is_basic_name (wide-taken is_tag_byte tag-white h))
-    (ap₂ (λ (s t : Bool). s || t) (wide-ends_name behind) (wide-starts nat_eq (codes "/>") refl behind))
+    (ap₂ (λ (s t : Bool). s || t) (wide-ends_name following) (wide-starts nat_eq (codes "/>") refl following))
 
 alphabetic-white : OfWhite is_ascii_alphabetic false
 alphabetic-white = of-white is_ascii_alphabetic false refl refl
@@ -319,11 +319,11 @@ wide-complete : {xs ys : List ℕ} → Wide xs ys → begins_complete xs ≡ beg
 unfolding begins_complete
 wide-complete ended = refl
 wide-complete (byte b bs cs d h) =
-    let behind = wide-after is_tag_byte false tag-white h in
+    let following = wide-after is_tag_byte false tag-white h in
     ap₂ (λ (closing opening : Bool). cond (b == 47) closing (is_ascii_alphabetic b && opening))
     (ap₂ (λ (s t : Bool). s && t) (wide-begins is_ascii_alphabetic false alphabetic-white h)
-    (wide-closes (wide-trim behind)))
-    (wide-opening _ _ behind)
+    (wide-closes (wide-trim following)))
+    (wide-opening _ _ following)
 wide-complete (white a b bs cs p q h) = complete-none a bs p ∙ sym (complete-none b cs q)
 wide-complete (wider a b bs cs p q h) = complete-none a bs p ∙ sym (complete-none b cs q)
 

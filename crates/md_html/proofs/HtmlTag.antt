@@ -18,10 +18,10 @@ use Rattle.md_meaning.specs.Rest.{is_blank, is_white, trim_start}
 use Rattle.md_html.specs.Html.{Stops, Takes, Turns, by_byte, cleared, closing_move, complete_after_move, end_move}
 use Rattle.md_html.specs.Html.{html_transition, marked, name_after_byte, name_before_byte, name_byte, quoted_byte}
 use Rattle.md_html.specs.Html.{unquoted_byte, value_before_byte}
-use Rattle.md_html.specs.HtmlRule.{HasHtml, behind_white, html_behaves, refuses, tag_by, then_opening}
+use Rattle.md_html.specs.HtmlRule.{HasHtml, following_white, html_behaves, refuses, tag_by, then_opening}
 use Rattle.md_html.proofs.HtmlKinds.{after-more, after-same}
-use Rattle.md_html.proofs.HtmlMoves.{MovesBy, begins-line, comes, by-moves, line-done, line-more, not-ending, tag-same}
-use Rattle.md_html.proofs.HtmlMoves.{tag-taken, with-line}
+use Rattle.md_html.proofs.HtmlMoves.{MovesBy, begins-line, becomes, by-moves, line-done, line-more, not-ending}
+use Rattle.md_html.proofs.HtmlMoves.{tag-same, tag-taken, with-line}
 use Rattle.md_html.proofs.HtmlTags.{assignment-more, assignment-none, assignment-sign, closes-none, opening-attribute}
 use Rattle.md_html.proofs.HtmlTags.{opening-last, opening-more, opening-slash, optional-none, trim-none}
 use Rattle.md_html.proofs.HtmlTags.{value-bare, value-empty, value-none, value-quoted}
@@ -56,7 +56,7 @@ closing-moves text options h = record {
   where
     go : (c : Cell) (cs : List Cell) (x : Bool) → is_white c.byte ≡ x →
         html_behaves text options its.CompleteClosingTagAfter (c ∷ cs) h ≡
-        comes text options (c ∷ cs) cs c.after h (closing_move h.scratch x)
+        becomes text options (c ∷ cs) cs c.after h (closing_move h.scratch x)
     go c cs true e =
         let ne = not-ending is_white c.byte refl e in
         tag-takes _ _ c cs h h.scratch ne refl
@@ -82,26 +82,26 @@ before-moves text options h = record {
     go : (c : Cell) (cs : List Cell) (x y z : Bool) → is_white c.byte ≡ x → nat_eq c.byte 47 ≡ y →
         begins_attribute c.byte && h.scratch.seen ≡ z →
         html_behaves text options its.CompleteAttributeNameBefore (c ∷ cs) h ≡
-        comes text options (c ∷ cs) cs c.after h
+        becomes text options (c ∷ cs) cs c.after h
         (cond x (Takes its.CompleteAttributeNameBefore (record s { seen = true }))
         (cond y (Takes its.CompleteEnd (cleared s))
         (cond z (Takes its.CompleteAttributeName (cleared s)) (Turns its.CompleteEnd (cleared s)))))
     go c cs true y z e f g =
         let ne = not-ending is_white c.byte refl e in
         tag-takes _ _ c cs h (record s { seen = true }) ne refl
-        (ap (λ (l : List ℕ). ends_opening (behind_white s.seen l)) (line-more c cs ne)
+        (ap (λ (l : List ℕ). ends_opening (following_white s.seen l)) (line-more c cs ne)
         ∙ opening-more s.seen c.byte (line_bytes cs) e)
     go c cs false true z e f g =
         let ne = not-ending (λ (b : ℕ). b == 47) c.byte refl f in
         tag-takes _ _ c cs h (cleared s) ne refl
-        (ap (λ (l : List ℕ). ends_opening (behind_white s.seen l))
+        (ap (λ (l : List ℕ). ends_opening (following_white s.seen l))
         (line-more c cs ne ∙ ap (λ (b : ℕ). b ∷ line_bytes cs) (eqb-true c.byte 47 f))
         ∙ opening-slash s.seen (line_bytes cs))
     go c cs false false true e f g =
         let both = and_parts (begins_attribute c.byte) s.seen g in
         let ne = not-ending begins_attribute c.byte refl both.0 in
         tag-takes _ _ c cs h (cleared s) ne refl
-        (ap₂ (λ (k : Bool) (l : List ℕ). ends_opening (behind_white k l)) both.1 (line-more c cs ne)
+        (ap₂ (λ (k : Bool) (l : List ℕ). ends_opening (following_white k l)) both.1 (line-more c cs ne)
         ∙ opening-attribute c.byte (line_bytes cs) both.0)
     go c cs false false false e f g =
         tag-turns _ _ (c ∷ cs) h (cleared s) refl
@@ -119,7 +119,7 @@ name-moves text options h = record {
   where
     go : (c : Cell) (cs : List Cell) (x : Bool) → is_attribute_byte c.byte ≡ x →
         html_behaves text options its.CompleteAttributeName (c ∷ cs) h ≡
-        comes text options (c ∷ cs) cs c.after h
+        becomes text options (c ∷ cs) cs c.after h
         (cond x (Takes its.CompleteAttributeName h.scratch)
         (Turns its.CompleteAttributeNameAfter (cleared h.scratch)))
     go c cs true e =
@@ -145,19 +145,19 @@ name_after-moves text options h = record {
 
     go : (c : Cell) (cs : List Cell) (x y : Bool) → is_white c.byte ≡ x → nat_eq c.byte 61 ≡ y →
         html_behaves text options its.CompleteAttributeNameAfter (c ∷ cs) h ≡
-        comes text options (c ∷ cs) cs c.after h
+        becomes text options (c ∷ cs) cs c.after h
         (cond x (Takes its.CompleteAttributeNameAfter (record s { seen = true }))
         (cond y (Takes its.CompleteAttributeValueBefore (cleared s)) (Turns its.CompleteAttributeNameBefore s)))
     go c cs true y e f =
         let ne = not-ending is_white c.byte refl e in
         tag-takes _ _ c cs h (record s { seen = true }) ne refl
-        (ap (λ (l : List ℕ). then_opening (after_assignment (behind_white s.seen l))) (line-more c cs ne)
+        (ap (λ (l : List ℕ). then_opening (after_assignment (following_white s.seen l))) (line-more c cs ne)
         ∙ assignment-more s.seen c.byte (line_bytes cs) e)
     go c cs false true e f =
         let sign : c.byte ≡ 61 = eqb-true c.byte 61 f in
         let ne = not-ending (λ (b : ℕ). b == 61) c.byte refl f in
         tag-takes _ _ c cs h (cleared s) ne refl
-        (ap (λ (l : List ℕ). then_opening (after_assignment (behind_white s.seen l)))
+        (ap (λ (l : List ℕ). then_opening (after_assignment (following_white s.seen l)))
         (line-more c cs ne ∙ ap (λ (b : ℕ). b ∷ line_bytes cs) sign)
         ∙ ap then_opening (assignment-sign s.seen (line_bytes cs)))
     go c cs false false e f =
@@ -187,7 +187,7 @@ value-moves text options h = record {
     go : (c : Cell) (cs : List Cell) (x y z v : Bool) → nat_eq c.byte 10 ≡ x → is_white c.byte ≡ y →
         nat_eq c.byte 34 || nat_eq c.byte 39 ≡ z → is_value_byte c.byte ≡ v →
         html_behaves text options its.CompleteAttributeValueBefore (c ∷ cs) h ≡
-        comes text options (c ∷ cs) cs c.after h
+        becomes text options (c ∷ cs) cs c.after h
         (cond x Stops
         (cond y (Takes its.CompleteAttributeValueBefore s)
         (cond z (Takes its.CompleteAttributeValueQuoted (marked c.byte s))
@@ -222,7 +222,7 @@ quoted-moves text options h = record {
 
     go : (c : Cell) (cs : List Cell) (x y : Bool) → nat_eq c.byte 10 ≡ x → nat_eq c.byte h.scratch.marker ≡ y →
         html_behaves text options its.CompleteAttributeValueQuoted (c ∷ cs) h ≡
-        comes text options (c ∷ cs) cs c.after h
+        becomes text options (c ∷ cs) cs c.after h
         (cond x Stops
         (cond y (Takes its.CompleteAttributeValueQuotedAfter (cleared s)) (Takes its.CompleteAttributeValueQuoted s)))
     go c cs true y ne e =
@@ -249,7 +249,7 @@ unquoted-moves text options h = record {
 
     go : (c : Cell) (cs : List Cell) (x y : Bool) → nat_eq c.byte 10 ≡ x → is_value_byte c.byte ≡ y →
         html_behaves text options its.CompleteAttributeValueUnquoted (c ∷ cs) h ≡
-        comes text options (c ∷ cs) cs c.after h
+        becomes text options (c ∷ cs) cs c.after h
         (cond (not x && y) (Takes its.CompleteAttributeValueUnquoted s)
         (Turns its.CompleteAttributeNameBefore (cleared s)))
     go c cs true y ne e =
@@ -273,7 +273,7 @@ end-moves text options h = record { none = λ rest q. refl; some = λ c cs. go c
   where
     go : (c : Cell) (cs : List Cell) (x : Bool) → nat_eq c.byte 62 ≡ x →
         html_behaves text options its.CompleteEnd (c ∷ cs) h ≡
-        comes text options (c ∷ cs) cs c.after h (end_move h.scratch x)
+        becomes text options (c ∷ cs) cs c.after h (end_move h.scratch x)
     go c cs true e =
         let ne = not-ending (λ (b : ℕ). b == 62) c.byte refl e in
         tag-takes _ _ c cs h h.scratch ne refl
@@ -281,16 +281,16 @@ end-moves text options h = record { none = λ rest q. refl; some = λ c cs. go c
         ∙ ap (λ (t : Bool). t && is_blank (cond t (line_bytes cs) (c.byte ∷ line_bytes cs))) e)
     go c cs false e = tag-stops _ (c ∷ cs) h (closes-none (line_bytes (c ∷ cs)) (with-line 62 c cs refl ∙ e))
 
-behind-moves : (text : List ℕ) (options : ParseOptions) (h : Here) →
+following-moves : (text : List ℕ) (options : ParseOptions) (h : Here) →
     MovesBy text options its.CompleteAfter h (λ o. complete_after_move h.scratch (ends_line o) (sees_white o))
-behind-moves text options h = record {
+following-moves text options h = record {
   none = λ rest q. refl;
   some = λ c cs. go c cs (nat_eq c.byte 10) (is_white c.byte) refl refl;
 }
   where
     go : (c : Cell) (cs : List Cell) (x y : Bool) → nat_eq c.byte 10 ≡ x → is_white c.byte ≡ y →
         html_behaves text options its.CompleteAfter (c ∷ cs) h ≡
-        comes text options (c ∷ cs) cs c.after h (complete_after_move h.scratch x y)
+        becomes text options (c ∷ cs) cs c.after h (complete_after_move h.scratch x y)
     go c cs true y ne e = ap (λ (l : List ℕ). tag_by Complete (is_blank l) (c ∷ cs) h) (line-done c cs ne)
     go c cs false true ne e =
         tag-takes _ _ c cs h h.scratch ne refl
@@ -384,4 +384,4 @@ pub after_means : (B : Behaviour) (feed : Feed) (w : World) → HasHtml B w.sett
     (html_transition its.CompleteAfter w).world
 after_means B feed w has s =
     by-moves B feed _ w (λ o. complete_after_move w.scratch (ends_line o) (sees_white o)) has s
-    (behind-moves _ _ (here w))
+    (following-moves _ _ (here w))

@@ -20,11 +20,11 @@ use Rattle.md_meaning.specs.Rest.{is_parted, is_white, trim_start}
 use Rattle.md_leaves.proofs.LeafSteps.{sees-one}
 use Rattle.md_html.specs.Html.{Stops, Takes, cleared, complete_name_code, ends_tag_name, has_letter, html_transition}
 use Rattle.md_html.specs.Html.{is_open_text, moved, name_code, name_here, sees_tag_byte, tag_name_move, turns_as}
-use Rattle.md_html.specs.HtmlRule.{HasHtml, closes, opens_behind, refuses, tag_begin, tag_by}
+use Rattle.md_html.specs.HtmlRule.{HasHtml, closes, opens_after, refuses, tag_begin, tag_by}
 use Rattle.md_html.proofs.HtmlKinds.{IsTagName, closing-kind, letter-tag, opening-kind, raw-ends}
-use Rattle.md_html.proofs.HtmlMoves.{begins-line, behind-taken, comes_in, line-done, line-more, moved-steps, not-ending}
-use Rattle.md_html.proofs.HtmlMoves.{opens-basic, opens-complete, opens-none, opens-some, opens-text, tag-same}
-use Rattle.md_html.proofs.HtmlMoves.{tag-taken, with-line}
+use Rattle.md_html.proofs.HtmlMoves.{begins-line, following-taken, becomes_in, line-done, line-more, moved-steps}
+use Rattle.md_html.proofs.HtmlMoves.{not-ending, opens-basic, opens-complete, opens-none, opens-some, opens-text}
+use Rattle.md_html.proofs.HtmlMoves.{tag-same, tag-taken, with-line}
 use Rattle.md_html.proofs.HtmlBytes.{name-more}
 use Rattle.md_html.proofs.HtmlNames.{tag-dark}
 use Rattle.md_html.proofs.HtmlOpening.{ends-raw}
@@ -34,14 +34,14 @@ use Rattle.md_events.specs.Spaces.{is_current}
 
 -- What follows the name.
 
-record Behind (o : Option ℕ) (more : List ℕ) : Type 0 where
+record Following (o : Option ℕ) (more : List ℕ) : Type 0 where
   pub tag : begins is_tag_byte more ≡ sees_tag_byte o
   pub ends : ends_name more ≡ ends_tag_name o
   pub slash : begins_with 47 more ≡ is_current 47 o
 
-behind-ahead : (feed : Feed) (w : World) (o : Option ℕ) → Behind o (line_bytes (ahead feed w o))
-behind-ahead feed w None = record { tag = refl; ends = refl; slash = refl }
-behind-ahead feed w (Some b) = record {
+following-ahead : (feed : Feed) (w : World) (o : Option ℕ) → Following o (line_bytes (ahead feed w o))
+following-ahead feed w None = record { tag = refl; ends = refl; slash = refl }
+following-ahead feed w (Some b) = record {
   tag = begins-line is_tag_byte c cs refl;
   ends = go (nat_eq b 10) refl;
   slash = with-line 47 c cs refl;
@@ -57,8 +57,8 @@ behind-ahead feed w (Some b) = record {
     go true e = ap ends_name (line-done c cs e) ∙ rw e refl
     go false e = ap ends_name (line-more c cs e) ∙ rw e refl
 
-behind-seen : (feed : Feed) (w : World) → Sees feed w → Behind w.current (line_bytes (feed w.point))
-behind-seen feed w s = rw s.next (behind-ahead feed w w.current)
+following-seen : (feed : Feed) (w : World) → Sees feed w → Following w.current (line_bytes (feed w.point))
+following-seen feed w s = rw s.next (following-ahead feed w w.current)
 
 -- whether `/>` does
 abbrev self_ends : List ℕ → Bool
@@ -163,7 +163,7 @@ slash-ends (b ∷ bs) e = let slash : b ≡ 47 = eqb-true b 47 e in rw slash ref
 -- a name of a tag, with what follows it
 record Named (feed : Feed) (w : World) : Type 0 where
   pub is : IsTagName (name_here w)
-  pub behind : Behind w.current (line_bytes (feed w.point))
+  pub following : Following w.current (line_bytes (feed w.point))
   pub apart : begins is_tag_byte (line_bytes (feed w.point)) ≡ false
 
 abbrev more_here : Feed → World → List ℕ
@@ -180,11 +180,11 @@ kind-here feed w d = tag-kind w.scratch.seen (name_here w) (more_here feed w) d.
 
 -- what may not be after a name
 stops-here : (feed : Feed) (w : World) → Named feed w → ends_tag_name w.current || is_current 47 w.current ≡ false →
-    opens_behind (tag_begin w.scratch.seen ++ name_here w) (feed w.point) (here w) ≡ refuses (here w)
+    opens_after (tag_begin w.scratch.seen ++ name_here w) (feed w.point) (here w) ≡ refuses (here w)
 stops-here feed w d e =
     let parts = or_parts (ends_tag_name w.current) (is_current 47 w.current) e in
-    let ends : ends_name (more_here feed w) ≡ false = d.behind.ends ∙ parts.0 in
-    let slash : begins_with 47 (more_here feed w) ≡ false = d.behind.slash ∙ parts.1 in
+    let ends : ends_name (more_here feed w) ≡ false = d.following.ends ∙ parts.0 in
+    let slash : begins_with 47 (more_here feed w) ≡ false = d.following.slash ∙ parts.1 in
     opens-none (line_here feed w) (feed w.point) (here w)
     (kind-here feed w d
     ∙ ap (λ (x : Bool). tag_code w.scratch.seen (is_raw_name (name_here w)) (is_basic_name (name_here w)) x
@@ -196,8 +196,8 @@ stops-here feed w d e =
 -- a name of kind 1, in an opening tag
 raw-here : (feed : Feed) (w : World) → Named feed w → w.scratch.seen ≡ false → is_raw_name (name_here w) ≡ true →
     ends_name (more_here feed w) ≡ true →
-    opens_behind (tag_begin w.scratch.seen ++ name_here w) (feed w.point) (here w) ≡
-    comes_in feed w (turns_as Raw its.Continuation w.scratch)
+    opens_after (tag_begin w.scratch.seen ++ name_here w) (feed w.point) (here w) ≡
+    becomes_in feed w (turns_as Raw its.Continuation w.scratch)
 raw-here feed w d opens raw ends =
     opens-some Raw (line_here feed w) (feed w.point) (here w) refl
     (kind-here feed w d
@@ -212,8 +212,8 @@ raw-here feed w d opens raw ends =
 -- a name of kind 6 before a slash
 slash-here : (feed : Feed) (w : World) → Named feed w → Sees feed w → is_current 47 w.current ≡ true →
     is_basic_name (name_here w) ≡ true →
-    opens_behind (tag_begin w.scratch.seen ++ name_here w) (feed w.point) (here w) ≡
-    comes_in feed w (Takes its.BasicSelfClosing (cleared w.scratch))
+    opens_after (tag_begin w.scratch.seen ++ name_here w) (feed w.point) (here w) ≡
+    becomes_in feed w (Takes its.BasicSelfClosing (cleared w.scratch))
 slash-here feed w d s e basic =
     opens-basic (self_ends (more_here feed w)) (line_here feed w) (feed w.point) (here w)
     (kind-here feed w d
@@ -221,7 +221,7 @@ slash-here feed w d s e basic =
     (λ (x y : Bool).
     tag_code w.scratch.seen (is_raw_name (name_here w)) x y (self_ends (more_here feed w))
     (completes w.scratch.seen (more_here feed w)))
-    basic (slash-ends (more_here feed w) (d.behind.slash ∙ e))
+    basic (slash-ends (more_here feed w) (d.following.slash ∙ e))
     ∙ code-slash w.scratch.seen (is_raw_name (name_here w)) (self_ends (more_here feed w))
     (completes w.scratch.seen (more_here feed w))
     (λ k. ap (completes w.scratch.seen) line ∙ completes-slash w.scratch.seen (line_bytes cs) (sym self ∙ k)))
@@ -252,8 +252,8 @@ slash-here feed w d s e basic =
 basic-here : (feed : Feed) (w : World) → Named feed w →
     not w.scratch.seen && not false && is_raw_name (name_here w) ≡ false → ends_name (more_here feed w) ≡ true →
     is_basic_name (name_here w) ≡ true →
-    opens_behind (tag_begin w.scratch.seen ++ name_here w) (feed w.point) (here w) ≡
-    comes_in feed w (turns_as Basic its.ContinuationClose w.scratch)
+    opens_after (tag_begin w.scratch.seen ++ name_here w) (feed w.point) (here w) ≡
+    becomes_in feed w (turns_as Basic its.ContinuationClose w.scratch)
 basic-here feed w d raw ends basic =
     opens-basic true (line_here feed w) (feed w.point) (here w)
     (kind-here feed w d
@@ -266,8 +266,8 @@ basic-here feed w d raw ends basic =
 complete-here : (feed : Feed) (w : World) (closing text : Bool) → w.scratch.seen ≡ closing →
     is_open_text w.flags.leaf ≡ text →
     html_kind (line_here feed w) ≡ cond (completes w.scratch.seen (more_here feed w)) (Some Complete) None →
-    opens_behind (tag_begin w.scratch.seen ++ name_here w) (feed w.point) (here w) ≡
-    comes_in feed w (complete_name_code w.scratch closing text)
+    opens_after (tag_begin w.scratch.seen ++ name_here w) (feed w.point) (here w) ≡
+    becomes_in feed w (complete_name_code w.scratch closing text)
 complete-here feed w closing true is on kind =
     opens-text (completes w.scratch.seen (more_here feed w)) (line_here feed w) (feed w.point) (here w) kind on
 complete-here feed w true false is on kind =
@@ -293,15 +293,15 @@ or-left false y e f = let bad : true ≡ false = sym e ∙ f in cc
 name-here : (feed : Feed) (w : World) (slash raw basic : Bool) → Named feed w → Sees feed w →
     ends_tag_name w.current || is_current 47 w.current ≡ true → is_current 47 w.current ≡ slash →
     not w.scratch.seen && not slash && is_raw_name (name_here w) ≡ raw → is_basic_name (name_here w) ≡ basic →
-    opens_behind (tag_begin w.scratch.seen ++ name_here w) (feed w.point) (here w) ≡
-    comes_in feed w (name_code w.scratch w.flags.leaf slash raw basic)
+    opens_after (tag_begin w.scratch.seen ++ name_here w) (feed w.point) (here w) ≡
+    becomes_in feed w (name_code w.scratch w.flags.leaf slash raw basic)
 name-here feed w slash true basic d s ends e f g =
     let parts = raw-parts w.scratch.seen slash (is_raw_name (name_here w)) f in
     raw-here feed w d parts.0 parts.2
-    (d.behind.ends ∙ or-left (ends_tag_name w.current) (is_current 47 w.current) ends (e ∙ parts.1))
+    (d.following.ends ∙ or-left (ends_tag_name w.current) (is_current 47 w.current) ends (e ∙ parts.1))
 name-here feed w true false true d s ends e f g = slash-here feed w d s e g
 name-here feed w false false true d s ends e f g =
-    basic-here feed w d f (d.behind.ends ∙ or-left (ends_tag_name w.current) (is_current 47 w.current) ends e) g
+    basic-here feed w d f (d.following.ends ∙ or-left (ends_tag_name w.current) (is_current 47 w.current) ends e) g
 name-here feed w slash false false d s ends e f g =
     complete-here feed w w.scratch.seen (is_open_text w.flags.leaf) refl refl
     (kind-here feed w d
@@ -309,27 +309,27 @@ name-here feed w slash false false d s ends e f g =
     (self_ends (more_here feed w)) (completes w.scratch.seen (more_here feed w))) g
     ∙ code-complete w.scratch.seen slash (is_raw_name (name_here w)) (ends_name (more_here feed w))
     (self_ends (more_here feed w)) (completes w.scratch.seen (more_here feed w)) f
-    (λ k. slash-ends (more_here feed w) (d.behind.slash ∙ e ∙ k)))
+    (λ k. slash-ends (more_here feed w) (d.following.slash ∙ e ∙ k)))
 
 -- one more byte of it
 name-takes : (feed : Feed) (w : World) → Sees feed w → w.current ≡ looks w → w.scratch.start ≤ w.point.index →
     sees_tag_byte w.current ≡ true →
-    opens_behind (tag_begin w.scratch.seen ++ name_here w) (feed w.point) (here w) ≡
-    comes_in feed w (Takes its.TagName w.scratch)
+    opens_after (tag_begin w.scratch.seen ++ name_here w) (feed w.point) (here w) ≡
+    becomes_in feed w (Takes its.TagName w.scratch)
 name-takes feed w s sight le e = go w.current sight s.next e
   where
     go : (o : Option ℕ) → o ≡ looks w → feed w.point ≡ ahead feed w o → sees_tag_byte o ≡ true →
-        opens_behind (tag_begin w.scratch.seen ++ name_here w) (feed w.point) (here w) ≡
-        comes_in feed w (Takes its.TagName w.scratch)
+        opens_after (tag_begin w.scratch.seen ++ name_here w) (feed w.point) (here w) ≡
+        becomes_in feed w (Takes its.TagName w.scratch)
     go None sight next e = cc
     go (Some b) sight next e =
         let front = tag_begin w.scratch.seen ++ name_here w in
-        ap (λ (l : List Cell). opens_behind front l (here w)) next
-        ∙ behind-taken front (cell_here feed w b) (feed (after w.setting w.point)) (here w) w.scratch
+        ap (λ (l : List Cell). opens_after front l (here w)) next
+        ∙ following-taken front (cell_here feed w b) (feed (after w.setting w.point)) (here w) w.scratch
         (not-ending is_tag_byte b refl e) refl
         ∙ ap
         (λ (l : List ℕ).
-        opens_behind l (feed (after w.setting w.point)) (record (here w) { point = after w.setting w.point }))
+        opens_after l (feed (after w.setting w.point)) (record (here w) { point = after w.setting w.point }))
         (append_assoc (tag_begin w.scratch.seen) (name_here w) (b ∷ [])
         ∙ ap (λ (l : List ℕ). tag_begin w.scratch.seen ++ l)
         (sym (name-more w.setting w.point b w.scratch.start (tag-dark b e) (sym sight) le)))
@@ -355,8 +355,8 @@ tag_name_by B feed w false y has s sight le letter bytes e f = go y f
     d : Named feed w
     d = record {
       is = name-read w.current (name_here w) (ap (has_letter (name_here w)) sight ∙ letter) bytes e;
-      behind = behind-seen feed w s;
-      apart = (behind-seen feed w s).tag ∙ e;
+      following = following-seen feed w s;
+      apart = (following-seen feed w s).tag ∙ e;
     }
 
     go : (y : Bool) → ends_tag_name w.current || is_current 47 w.current ≡ y →

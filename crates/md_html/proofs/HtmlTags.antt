@@ -9,7 +9,7 @@ use Rattle.md_meaning.specs.Html.{begins_attribute, closes_tag, ends_opening, is
 use Rattle.md_meaning.specs.Lines.{begins_with}
 use Rattle.md_meaning.specs.Rest.{is_blank, is_white, trim_start}
 use Rattle.md_meaning.proofs.HtmlLemmas.{after_attributes-some}
-use Rattle.md_html.specs.HtmlRule.{behind_white, then_opening}
+use Rattle.md_html.specs.HtmlRule.{following_white, then_opening}
 use Rattle.md_html.proofs.HtmlKinds.{after-more, after-same}
 use Rattle.md_events.proofs.RestLines.{trim-white}
 
@@ -19,9 +19,9 @@ pub trim-none : (bytes : List ℕ) → begins is_white bytes ≡ false → trim_
 trim-none bytes e = after-same is_white bytes e
 
 -- after whitespace that was taken or not
-pub trim-behind : (seen : Bool) (bytes : List ℕ) → trim_start (behind_white seen bytes) ≡ trim_start bytes
-trim-behind true bytes = trim-white 32 bytes refl
-trim-behind false bytes = refl
+pub trim-following : (seen : Bool) (bytes : List ℕ) → trim_start (following_white seen bytes) ≡ trim_start bytes
+trim-following true bytes = trim-white 32 bytes refl
+trim-following false bytes = refl
 
 -- The end of a tag.
 
@@ -86,19 +86,20 @@ opening-white xs ys e f same =
     go (Some more) = refl
 
 -- one more space or tab
-begins-behind : (seen : Bool) (b : ℕ) (bs : List ℕ) → is_white b ≡ true →
-    begins is_white (behind_white seen (b ∷ bs)) ≡ true
-begins-behind true b bs e = refl
-begins-behind false b bs e = e
+begins-following : (seen : Bool) (b : ℕ) (bs : List ℕ) → is_white b ≡ true →
+    begins is_white (following_white seen (b ∷ bs)) ≡ true
+begins-following true b bs e = refl
+begins-following false b bs e = e
 
-behind-more : (seen : Bool) (b : ℕ) (bs : List ℕ) → is_white b ≡ true →
-    trim_start (behind_white seen (b ∷ bs)) ≡ trim_start (behind_white true bs)
-behind-more seen b bs e = trim-behind seen (b ∷ bs) ∙ trim-white b bs e ∙ sym (trim-behind true bs)
+following-more : (seen : Bool) (b : ℕ) (bs : List ℕ) → is_white b ≡ true →
+    trim_start (following_white seen (b ∷ bs)) ≡ trim_start (following_white true bs)
+following-more seen b bs e = trim-following seen (b ∷ bs) ∙ trim-white b bs e ∙ sym (trim-following true bs)
 
 pub opening-more : (seen : Bool) (b : ℕ) (bs : List ℕ) → is_white b ≡ true →
-    ends_opening (behind_white seen (b ∷ bs)) ≡ ends_opening (behind_white true bs)
+    ends_opening (following_white seen (b ∷ bs)) ≡ ends_opening (following_white true bs)
 opening-more seen b bs e =
-    opening-white (behind_white seen (b ∷ bs)) (32 ∷ bs) (begins-behind seen b bs e) refl (behind-more seen b bs e)
+    opening-white (following_white seen (b ∷ bs)) (32 ∷ bs) (begins-following seen b bs e) refl
+    (following-more seen b bs e)
 
 -- The next attribute.
 
@@ -134,24 +135,25 @@ opening-attribute b bs e =
 -- where none follows
 pub opening-last : (seen : Bool) (bytes : List ℕ) → begins is_white bytes ≡ false →
     begins begins_attribute bytes && seen ≡ false →
-    ends_opening (behind_white seen bytes) ≡ closes_tag (after_optional 47 bytes)
+    ends_opening (following_white seen bytes) ≡ closes_tag (after_optional 47 bytes)
 opening-last seen bytes e f =
-    opening-none (behind_white seen bytes) (by seen f)
-    ∙ ap (λ (l : List ℕ). closes_tag (after_optional 47 l)) (trim-behind seen bytes ∙ trim-none bytes e)
+    opening-none (following_white seen bytes) (by seen f)
+    ∙ ap (λ (l : List ℕ). closes_tag (after_optional 47 l)) (trim-following seen bytes ∙ trim-none bytes e)
   where
     and-true : (x : Bool) → x && true ≡ false → x ≡ false
     and-true true e = e
     and-true false e = refl
 
     by : (seen : Bool) → begins begins_attribute bytes && seen ≡ false →
-        begins is_white (behind_white seen bytes) && begins begins_attribute (trim_start (behind_white seen bytes)) ≡
+        begins is_white (following_white seen bytes) && begins begins_attribute
+        (trim_start (following_white seen bytes)) ≡
         false
     by true f =
-        ap (begins begins_attribute) (trim-behind true bytes ∙ trim-none bytes e)
+        ap (begins begins_attribute) (trim-following true bytes ∙ trim-none bytes e)
         ∙ and-true (begins begins_attribute bytes) f
     by false f = ap (λ (x : Bool). x && begins begins_attribute (trim_start bytes)) e
 
-pub opening-slash : (seen : Bool) (bs : List ℕ) → ends_opening (behind_white seen (47 ∷ bs)) ≡ closes_tag bs
+pub opening-slash : (seen : Bool) (bs : List ℕ) → ends_opening (following_white seen (47 ∷ bs)) ≡ closes_tag bs
 opening-slash seen bs = opening-last seen (47 ∷ bs) refl refl
 
 pub optional-none : (m : ℕ) (bytes : List ℕ) → begins_with m bytes ≡ false → after_optional m bytes ≡ bytes
@@ -173,45 +175,45 @@ unassigned rest e =
 
 -- more whitespace
 pub assignment-more : (seen : Bool) (b : ℕ) (bs : List ℕ) → is_white b ≡ true →
-    then_opening (after_assignment (behind_white seen (b ∷ bs))) ≡
-    then_opening (after_assignment (behind_white true bs))
-assignment-more seen b bs e = go (begins_with 61 (trim_start (behind_white true bs))) refl
+    then_opening (after_assignment (following_white seen (b ∷ bs))) ≡
+    then_opening (after_assignment (following_white true bs))
+assignment-more seen b bs e = go (begins_with 61 (trim_start (following_white true bs))) refl
   where
     xs : List ℕ
-    xs = behind_white seen (b ∷ bs)
+    xs = following_white seen (b ∷ bs)
 
-    same : trim_start xs ≡ trim_start (behind_white true bs)
-    same = behind-more seen b bs e
+    same : trim_start xs ≡ trim_start (following_white true bs)
+    same = following-more seen b bs e
 
-    go : (x : Bool) → begins_with 61 (trim_start (behind_white true bs)) ≡ x →
-        then_opening (after_assignment xs) ≡ then_opening (after_assignment (behind_white true bs))
+    go : (x : Bool) → begins_with 61 (trim_start (following_white true bs)) ≡ x →
+        then_opening (after_assignment xs) ≡ then_opening (after_assignment (following_white true bs))
     go true k =
         ap then_opening
         (assigned xs (ap (begins_with 61) same ∙ k)
         ∙ ap (λ (l : List ℕ). after_value (trim_start (after_optional 61 l))) same
-        ∙ sym (assigned (behind_white true bs) k))
+        ∙ sym (assigned (following_white true bs) k))
     go false k =
         ap then_opening (unassigned xs (ap (begins_with 61) same ∙ k))
         ∙ opening-more seen b bs e
-        ∙ sym (ap then_opening (unassigned (behind_white true bs) k))
+        ∙ sym (ap then_opening (unassigned (following_white true bs) k))
 
 -- `=`
 pub assignment-sign : (seen : Bool) (bs : List ℕ) →
-    after_assignment (behind_white seen (61 ∷ bs)) ≡ after_value (trim_start bs)
+    after_assignment (following_white seen (61 ∷ bs)) ≡ after_value (trim_start bs)
 assignment-sign seen bs =
-    assigned (behind_white seen (61 ∷ bs)) (ap (begins_with 61) trimmed)
+    assigned (following_white seen (61 ∷ bs)) (ap (begins_with 61) trimmed)
     ∙ ap (λ (l : List ℕ). after_value (trim_start (after_optional 61 l))) trimmed
   where
-    trimmed : trim_start (behind_white seen (61 ∷ bs)) ≡ 61 ∷ bs
-    trimmed = trim-behind seen (61 ∷ bs) ∙ trim-none (61 ∷ bs) refl
+    trimmed : trim_start (following_white seen (61 ∷ bs)) ≡ 61 ∷ bs
+    trimmed = trim-following seen (61 ∷ bs) ∙ trim-none (61 ∷ bs) refl
 
 -- none
 pub assignment-none : (seen : Bool) (bytes : List ℕ) → begins is_white bytes ≡ false → begins_with 61 bytes ≡ false →
-    then_opening (after_assignment (behind_white seen bytes)) ≡ ends_opening (behind_white seen bytes)
+    then_opening (after_assignment (following_white seen bytes)) ≡ ends_opening (following_white seen bytes)
 assignment-none seen bytes e f =
     ap then_opening
-    (unassigned (behind_white seen bytes)
-    (ap (begins_with 61) (trim-behind seen bytes ∙ trim-none bytes e) ∙ f))
+    (unassigned (following_white seen bytes)
+    (ap (begins_with 61) (trim-following seen bytes ∙ trim-none bytes e) ∙ f))
 
 -- Values.
 

@@ -14,7 +14,7 @@ use Rattle.md_meaning.specs.Html.{html_ends, html_kind}
 use Rattle.md_meaning.specs.Leaves.{ends_at_blank}
 use Rattle.md_meaning.specs.Rest.{is_blank}
 use Rattle.md_html.specs.Html.{cleared, ends_in_front, is_html, stop_byte, stop_of}
-use Rattle.md_html.specs.HtmlLine.{behind_indent, html_adds, html_adds_on, html_goes, html_keeps, html_keeps_on}
+use Rattle.md_html.specs.HtmlLine.{after_indent, html_adds, html_adds_on, html_continues, html_keeps, html_keeps_on}
 use Rattle.md_html.specs.HtmlLine.{kind_at, left_of}
 use Rattle.md_html.specs.HtmlRule.{allowed, closes, ends_by, entering, further_at, further_begun, html_at, left}
 use Rattle.md_html.specs.HtmlRule.{line_at, line_begun, line_done, nonblank_at, opens, opens_by}
@@ -55,15 +55,15 @@ begun None line cells h is = ap (λ (s : Scratch). Refuses s h.flags) (clear h.s
 begun (Some kind) line cells h is = rw (clear h.scratch is) (simp append_assoc)
 
 first-line : (options : ParseOptions) (cells : List Cell) (h : Here) → IsRest h.scratch →
-    html_at options cells h ≡ begun_by (kind_at options h.flags.leaf cells) (behind_indent options cells) cells h
+    html_at options cells h ≡ begun_by (kind_at options h.flags.leaf cells) (after_indent options cells) cells h
 unfolding html_at opens
 first-line options cells h is = go options.constructs.html_flow refl
   where
     line : List ℕ
-    line = behind_indent options cells
+    line = after_indent options cells
 
     go : (on : Bool) → options.constructs.html_flow ≡ on →
-        html_at options cells h ≡ begun_by (kind_at options h.flags.leaf cells) (behind_indent options cells) cells h
+        html_at options cells h ≡ begun_by (kind_at options h.flags.leaf cells) (after_indent options cells) cells h
     go false e = rw e refl
     go true e =
         rw (e, full-room (small_indent options) h.scratch.size (rest-size h.scratch is))
@@ -74,7 +74,7 @@ pub html-refused : (options : ParseOptions) (cells : List Cell) (h : Here) → I
     kind_at options h.flags.leaf cells ≡ None → html_at options cells h ≡ Refuses h.scratch h.flags
 html-refused options cells h is none =
     first-line options cells h is
-    ∙ ap (λ (o : Option HtmlKind). begun_by o (behind_indent options cells) cells h) none
+    ∙ ap (λ (o : Option HtmlKind). begun_by o (after_indent options cells) cells h) none
 
 -- and one that begins one is taken
 pub html-took : (options : ParseOptions) (kind : HtmlKind) (cells : List Cell) (h : Here) → IsRest h.scratch →
@@ -125,9 +125,9 @@ keeps-empty _ on = cc
 -- A further line.
 
 -- a line with text does not end
-text-goes : (line : List ℕ) → is_blank line ≡ false → is_end line ≡ false
-text-goes [] e = cc
-text-goes (b ∷ bytes) e = refl
+text-proceeds : (line : List ℕ) → is_blank line ≡ false → is_end line ≡ false
+text-proceeds [] e = cc
+text-proceeds (b ∷ bytes) e = refl
 
 -- a line with text is taken after its begin, and so is an empty one
 text-taken : (leaf : HeldLeaf) (cells : List Cell) (h : Here) → IsRest h.scratch →
@@ -166,7 +166,7 @@ unfolding further_at line_at
 further-line cells h e k = rw (e, k) refl
 
 -- a blank one is refused where its kind ends before it,
-pub further-refused : (cells : List Cell) (h : Here) → IsRest h.scratch → html_goes h.flags.leaf cells ≡ false →
+pub further-refused : (cells : List Cell) (h : Here) → IsRest h.scratch → html_continues h.flags.leaf cells ≡ false →
     further_at cells h ≡ Refuses h.scratch h.flags
 further-refused cells h is e =
     let both = and_parts (ends_in_front h.flags.leaf) (is_blank (line_bytes cells)) (not-false _ e) in
@@ -174,7 +174,7 @@ further-refused cells h is e =
 
 -- and any other is taken
 pub further-took : (cells : List Cell) (h : Here) → is_html h.flags.leaf ≡ true → IsRest h.scratch →
-    html_goes h.flags.leaf cells ≡ true →
+    html_continues h.flags.leaf cells ≡ true →
     further_at cells h ≡
     line_taken (html_adds_on cells h.point) (html_keeps_on h.flags.leaf cells) cells h
 further-took cells h on is e =
@@ -192,7 +192,7 @@ further-took cells h on is e =
         further_at cells h ≡ with-leaf (html_keeps_on leaf cells)
     go true true end f b k both = let bad : true ≡ false = rw (f, b) at both in cc
     go true false end f b k both =
-        further-text cells h f b ∙ text-taken leaf cells h is (text-goes (line_bytes cells) b)
+        further-text cells h f b ∙ text-taken leaf cells h is (text-proceeds (line_bytes cells) b)
         ∙ ap with-leaf (sym (keeps-front leaf (line_bytes cells) on f))
     go false blank true f b k both =
         let empty : line_bytes cells ≡ [] = ap (map (λ (c : Cell). c.byte)) (ended cells k).line in

@@ -542,8 +542,8 @@ in_letters x =
     (x.scratch.start ≤ x.point.index) × (are_letters (name_text x.setting.bytes x.scratch x.point.index) ≡ true)
 
 -- after the byte with which an end begins, or more of it
-abbrev pub behind_stop : ℕ → Position → After → Type 0
-behind_stop m x K = (x.scratch.marker ≡ m) × in_html x K
+abbrev pub after_stop : ℕ → Position → After → Type 0
+after_stop m x K = (x.scratch.marker ≡ m) × in_html x K
 
 abbrev pub IsStop : ℕ → Type 0
 IsStop m = (m ≡ 45) ⊎ ((m ≡ 63) ⊎ (m ≡ 93))
@@ -571,10 +571,10 @@ html_ready (n.HtmlFlow its.Start) x K = rest_ready x K
 html_ready (n.HtmlFlow its.TagName) x K = in_name x K
 html_ready (n.HtmlFlow its.CdataOpenInside) x K = (x.scratch.size ≤ 5) × in_html x K
 html_ready (n.HtmlFlow its.ContinuationStart) x K = rest_ready x K
-html_ready (n.HtmlFlow its.ContinuationCommentInside) x K = behind_stop 45 x K
-html_ready (n.HtmlFlow its.ContinuationCdataInside) x K = behind_stop 93 x K
-html_ready (n.HtmlFlow its.ContinuationRawTagOpen) x K = behind_stop 60 x K
-html_ready (n.HtmlFlow its.ContinuationRawEndTag) x K = in_letters x × behind_stop 60 x K
+html_ready (n.HtmlFlow its.ContinuationCommentInside) x K = after_stop 45 x K
+html_ready (n.HtmlFlow its.ContinuationCdataInside) x K = after_stop 93 x K
+html_ready (n.HtmlFlow its.ContinuationRawTagOpen) x K = after_stop 60 x K
+html_ready (n.HtmlFlow its.ContinuationRawEndTag) x K = in_letters x × after_stop 60 x K
 html_ready (n.HtmlFlow its.ContinuationDeclarationInside) x K = IsStop x.scratch.marker × in_html x K
 html_ready _ x K = in_html x K
 

@@ -20,13 +20,13 @@ use Rattle.md_events.specs.Spaces.{small_indent}
 -- The first line.
 
 -- what follows the indent
-abbrev pub behind_indent : ParseOptions → List Cell → List ℕ
-behind_indent options cells = line_bytes (white_rest (small_indent options) cells)
+abbrev pub after_indent : ParseOptions → List Cell → List ℕ
+after_indent options cells = line_bytes (white_rest (small_indent options) cells)
 
 -- the kind that begins here, where the line meets this leaf
 abbrev pub kind_at : ParseOptions → HeldLeaf → List Cell → Option HtmlKind
 kind_at options on cells =
-    if options.constructs.html_flow then allowed on (html_kind (behind_indent options cells)) else None
+    if options.constructs.html_flow then allowed on (html_kind (after_indent options cells)) else None
 
 -- what is open after the line
 abbrev pub left_by : Option HtmlKind → List ℕ → HeldLeaf
@@ -34,7 +34,7 @@ left_by None line = held_leaf.None
 left_by (Some kind) line = left kind line
 
 abbrev pub html_keeps : ParseOptions → HeldLeaf → List Cell → HeldLeaf
-html_keeps options on cells = left_by (kind_at options on cells) (behind_indent options cells)
+html_keeps options on cells = left_by (kind_at options on cells) (after_indent options cells)
 
 -- what it adds
 abbrev pub html_adds : List Cell → Point → List Event
@@ -43,8 +43,8 @@ html_adds cells p = around HtmlFlow p (line_end cells p) (pair HtmlFlowData p (l
 -- A further line.
 
 -- whether it continues this leaf
-abbrev pub html_goes : HeldLeaf → List Cell → Bool
-html_goes on cells = not (ends_in_front on && is_blank (line_bytes cells))
+abbrev pub html_continues : HeldLeaf → List Cell → Bool
+html_continues on cells = not (ends_in_front on && is_blank (line_bytes cells))
 
 -- what is open after it
 abbrev pub left_of : HeldLeaf → List ℕ → HeldLeaf

@@ -68,8 +68,8 @@ unfoldable pub opens : List ℕ → List Cell → Here → Outcome
 opens line cells h = opens_by (allowed h.flags.leaf (html_kind line)) line cells h
 
 -- after so much of the line from its `<` on
-abbrev pub opens_behind : List ℕ → List Cell → Here → Outcome
-opens_behind front cells h = opens (front ++ line_bytes cells) cells h
+abbrev pub opens_after : List ℕ → List Cell → Here → Outcome
+opens_after front cells h = opens (front ++ line_bytes cells) cells h
 
 -- in the indent: so many columns may be there
 abbrev pub in_indent : ParseOptions → List Cell → Here → Outcome
@@ -96,9 +96,9 @@ tag_by kind true cells h = closes (held_leaf.Html kind) cells h
 tag_by kind false cells h = refuses h
 
 -- after whitespace, if some was taken
-abbrev pub behind_white : Bool → List ℕ → List ℕ
-behind_white true bytes = 32 ∷ bytes
-behind_white false bytes = bytes
+abbrev pub following_white : Bool → List ℕ → List ℕ
+following_white true bytes = 32 ∷ bytes
+following_white false bytes = bytes
 
 -- whether the rest of an opening tag follows what this becomes
 abbrev pub then_opening : Option (List ℕ) → Bool
@@ -117,8 +117,8 @@ ends_by m line =
     else holds_word (m ∷ []) line
 
 -- after so much of it
-abbrev pub goes_on : List ℕ → List Cell → Here → Outcome
-goes_on front cells h =
+abbrev pub is_continued : List ℕ → List Cell → Here → Outcome
+is_continued front cells h =
     closes (if ends_by h.scratch.marker (front ++ line_bytes cells) then held_leaf.None else h.flags.leaf) cells h
 
 -- all of an end but its `>`
@@ -157,24 +157,24 @@ further_at cells h =
 abbrev pub html_behaves : List ℕ → ParseOptions → HtmlState → List Cell → Here → Outcome
 html_behaves text options its.Start cells h = html_at options cells h
 html_behaves text options its.Indent cells h = in_indent options cells h
-html_behaves text options its.Before cells h = opens_behind [] cells h
-html_behaves text options its.Open cells h = opens_behind (codes "<") cells h
-html_behaves text options its.DeclarationOpen cells h = opens_behind (codes "<!") cells h
-html_behaves text options its.CommentOpenInside cells h = opens_behind (codes "<!-") cells h
+html_behaves text options its.Before cells h = opens_after [] cells h
+html_behaves text options its.Open cells h = opens_after (codes "<") cells h
+html_behaves text options its.DeclarationOpen cells h = opens_after (codes "<!") cells h
+html_behaves text options its.CommentOpenInside cells h = opens_after (codes "<!-") cells h
 html_behaves text options its.CdataOpenInside cells h =
-    opens_behind (codes "<![" ++ take h.scratch.size (codes "CDATA[")) cells h
-html_behaves text options its.TagCloseStart cells h = opens_behind (codes "</") cells h
+    opens_after (codes "<![" ++ take h.scratch.size (codes "CDATA[")) cells h
+html_behaves text options its.TagCloseStart cells h = opens_after (codes "</") cells h
 html_behaves text options its.TagName cells h =
-    opens_behind (tag_begin h.scratch.seen ++ name_text text h.scratch h.point.index) cells h
+    opens_after (tag_begin h.scratch.seen ++ name_text text h.scratch h.point.index) cells h
 html_behaves text options its.BasicSelfClosing cells h = tag_by Basic (begins_with 62 (line_bytes cells)) cells h
 html_behaves text options its.CompleteClosingTagAfter cells h =
     tag_by Complete (closes_tag (trim_start (line_bytes cells))) cells h
 html_behaves text options its.CompleteAttributeNameBefore cells h =
-    tag_by Complete (ends_opening (behind_white h.scratch.seen (line_bytes cells))) cells h
+    tag_by Complete (ends_opening (following_white h.scratch.seen (line_bytes cells))) cells h
 html_behaves text options its.CompleteAttributeName cells h =
     tag_by Complete (then_opening (after_assignment (after is_attribute_byte (line_bytes cells)))) cells h
 html_behaves text options its.CompleteAttributeNameAfter cells h =
-    tag_by Complete (then_opening (after_assignment (behind_white h.scratch.seen (line_bytes cells)))) cells h
+    tag_by Complete (then_opening (after_assignment (following_white h.scratch.seen (line_bytes cells)))) cells h
 html_behaves text options its.CompleteAttributeValueBefore cells h =
     tag_by Complete (then_opening (after_value (trim_start (line_bytes cells)))) cells h
 html_behaves text options its.CompleteAttributeValueQuoted cells h =
@@ -185,16 +185,16 @@ html_behaves text options its.CompleteAttributeValueQuotedAfter cells h =
     tag_by Complete (ends_opening (line_bytes cells)) cells h
 html_behaves text options its.CompleteEnd cells h = tag_by Complete (closes_tag (line_bytes cells)) cells h
 html_behaves text options its.CompleteAfter cells h = tag_by Complete (is_blank (line_bytes cells)) cells h
-html_behaves text options its.Continuation cells h = goes_on [] cells h
+html_behaves text options its.Continuation cells h = is_continued [] cells h
 html_behaves text options its.ContinuationStart cells h = further_at cells h
 html_behaves text options its.ContinuationStartNonLazy cells h = line_at cells h
 html_behaves text options its.ContinuationBefore cells h = line_at cells h
-html_behaves text options its.ContinuationCommentInside cells h = goes_on (codes "-") cells h
-html_behaves text options its.ContinuationRawTagOpen cells h = goes_on (codes "<") cells h
+html_behaves text options its.ContinuationCommentInside cells h = is_continued (codes "-") cells h
+html_behaves text options its.ContinuationRawTagOpen cells h = is_continued (codes "<") cells h
 html_behaves text options its.ContinuationRawEndTag cells h =
-    goes_on (codes "</" ++ name_text text h.scratch h.point.index) cells h
-html_behaves text options its.ContinuationCdataInside cells h = goes_on (codes "]") cells h
-html_behaves text options its.ContinuationDeclarationInside cells h = goes_on (stops h.scratch.marker) cells h
+    is_continued (codes "</" ++ name_text text h.scratch h.point.index) cells h
+html_behaves text options its.ContinuationCdataInside cells h = is_continued (codes "]") cells h
+html_behaves text options its.ContinuationDeclarationInside cells h = is_continued (stops h.scratch.marker) cells h
 html_behaves text options its.ContinuationClose cells h = closes h.flags.leaf cells h
 html_behaves text options its.ContinuationAfter cells h = line_done cells h
 html_behaves text options its.BlankLineBefore cells h = nonblank_at cells h

@@ -45,7 +45,7 @@ mod parts;
 mod tag;
 
 use crate::html_flow::parts::{
-    begin_behind, begin_here, cdata_byte, cleared, end_data, ends_in_front, is_open_text, marked,
+    begin_after, begin_here, cdata_byte, cleared, end_data, ends_in_front, is_open_text, marked,
     name_here, refuse, sees_letter, sees_tag_byte, shut, stop_of,
 };
 pub use crate::html_flow::tag::{
@@ -163,7 +163,7 @@ pub fn open(tokenizer: &mut Tokenizer) -> State
             tokenizer.consume();
             State::Next(StateName::HtmlFlow(HtmlState::TagCloseStart))
         }
-        Some(b'?') => begin_behind(
+        Some(b'?') => begin_after(
             tokenizer,
             HtmlKind::Instruction,
             HtmlState::ContinuationDeclarationInside,
@@ -203,7 +203,7 @@ pub fn declaration_open(tokenizer: &mut Tokenizer) -> State
             tokenizer.scratch = cleared(tokenizer.scratch);
             State::Next(StateName::HtmlFlow(HtmlState::CdataOpenInside))
         }
-        current if sees_letter(current) => begin_behind(
+        current if sees_letter(current) => begin_after(
             tokenizer,
             HtmlKind::Declaration,
             HtmlState::Continuation,
@@ -224,7 +224,7 @@ pub fn comment_open_inside(tokenizer: &mut Tokenizer) -> State
     ensures { IsSureHtmlState HtmlState.CommentOpenInside (world tokenizer.old) result tokenizer.new }
 {
     if tokenizer.current == Some(b'-') {
-        begin_behind(
+        begin_after(
             tokenizer,
             HtmlKind::Comment,
             HtmlState::ContinuationDeclarationInside,
@@ -252,7 +252,7 @@ pub fn cdata_open_inside(tokenizer: &mut Tokenizer) -> State
         tokenizer.scratch.size += 1;
         State::Next(StateName::HtmlFlow(HtmlState::CdataOpenInside))
     } else {
-        begin_behind(tokenizer, HtmlKind::Cdata, HtmlState::Continuation)
+        begin_after(tokenizer, HtmlKind::Cdata, HtmlState::Continuation)
     }
 }
 

@@ -6,26 +6,26 @@ use Rattle.md_engine.specs.Meaning.{Accepts, Cell, Here, Refuses}
 use Rattle.md_leaves.specs.Blank.{may_begin}
 use Rattle.md_leaves.specs.BlankRule.{blank_at}
 use Rattle.md_events.specs.Ahead.{line_bytes}
-use Rattle.md_events.specs.Look.{first_seen, seen_behind}
+use Rattle.md_events.specs.Look.{first_seen, seen_after}
 use Rattle.md_events.specs.Spaces.{ends_line}
 use Rattle.md_meaning.specs.Rest.{is_blank, is_white}
 use Rattle.md_events.proofs.AheadLemmas.{white-no_ending}
 
 -- that byte is one of its line, and not white
-not-blank : (cells : List Cell) (b : ℕ) → seen_behind cells ≡ Some b → may_begin b ≡ false →
+not-blank : (cells : List Cell) (b : ℕ) → seen_after cells ≡ Some b → may_begin b ≡ false →
     is_blank (line_bytes cells) ≡ false
 not-blank [] b seen e = cc
 not-blank (c ∷ cs) b seen e = go (is_white c.byte) refl seen (λ k. not-blank cs b k e)
   where
-    go : (x : Bool) → is_white c.byte ≡ x → cond x (seen_behind cs) (Some c.byte) ≡ Some b →
-        (seen_behind cs ≡ Some b → is_blank (line_bytes cs) ≡ false) → is_blank (line_bytes (c ∷ cs)) ≡ false
+    go : (x : Bool) → is_white c.byte ≡ x → cond x (seen_after cs) (Some c.byte) ≡ Some b →
+        (seen_after cs ≡ Some b → is_blank (line_bytes cs) ≡ false) → is_blank (line_bytes (c ∷ cs)) ≡ false
     go true k is next = rw (white-no_ending c.byte k, k) (next is)
     go false k is next =
         let same : c.byte ≡ b = cc in
         let on : nat_eq c.byte 10 ≡ false = rw same e in
         rw (on, k) refl
 
-pub blank-refused : (cells : List Cell) (h : Here) (b : ℕ) → seen_behind cells ≡ Some b → may_begin b ≡ false →
+pub blank-refused : (cells : List Cell) (h : Here) (b : ℕ) → seen_after cells ≡ Some b → may_begin b ≡ false →
     blank_at cells h ≡ Refuses h.scratch h.flags
 unfolding blank_at
 blank-refused cells h b seen e = rw (not-blank cells b seen e) refl

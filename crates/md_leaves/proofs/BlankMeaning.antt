@@ -11,7 +11,8 @@ use Rattle.md_engine.specs.declared.state.State.{State}
 use Rattle.md_engine.specs.declared.state.State.TheVariants.{Nok, Next}
 use Rattle.md_engine.specs.declared.tokenizer.Frame.{Frame}
 use Rattle.md_engine.specs.declared.tokenizer.Scratch.{Scratch}
-use Rattle.md_engine.specs.Meaning.{Accepts, Behaviour, Cell, Feed, Here, Outcome, Refuses, Steps, goes, here, resume}
+use Rattle.md_engine.specs.Meaning.{Accepts, Behaviour, Cell, Feed, Here, Outcome, Refuses, Steps, proceeds, here}
+use Rattle.md_engine.specs.Meaning.{resume}
 use Rattle.md_engine.specs.World.{World}
 use Rattle.md_engine.specs.Sees.{Sees, ahead}
 use Rattle.md_engine.proofs.StepOf.{steps-as, begins_only, passes}
@@ -21,12 +22,12 @@ use Rattle.md_events.specs.Ahead.{begins_white, from_ending, line_bytes, line_en
 use Rattle.md_events.specs.Events.Nested.{enter, exit}
 use Rattle.md_meaning.specs.Rest.{is_blank, is_white}
 use Rattle.md_events.specs.Spaces.{IsRest, any_size, asking, calmed, ends_line, sees_white}
-use Rattle.md_events.proofs.WhiteMeaning.{begins-seen, behind_white, white-tried}
+use Rattle.md_events.proofs.WhiteMeaning.{begins-seen, following_white, white-tried}
 use Rattle.md_events.proofs.AheadLemmas.{white-no_ending}
 
 -- after whitespace that began here, with these events before it
-abbrev went_on : List Event → Here → ℕ → List Cell → Here
-went_on events h room cells = record h {
+abbrev was_continued : List Event → Here → ℕ → List Cell → Here
+was_continued events h room cells = record h {
   events = events ++ exit SpaceOrTab (white_end room cells h.point) ∷ [];
   point = white_end room cells h.point;
 }
@@ -41,7 +42,7 @@ blank_left events cells h =
 
 -- the rest of a line whose whitespace has begun is blank if the line ends after the whitespace
 blank-run : (room : ℕ) (events : List Event) (cells : List Cell) (h : Here) → length cells ≤ room →
-    blank_left events cells h ≡ after_blank (white_rest room cells) (went_on events h room cells)
+    blank_left events cells h ≡ after_blank (white_rest room cells) (was_continued events h room cells)
 unfolding after_blank
 blank-run room events [] h le = refl
 blank-run zero events (c ∷ cs) h le = absurd (omega arith)
@@ -51,9 +52,9 @@ blank-run (suc room) events (c ∷ cs) h le =
   where
     go : (x y : Bool) → is_white c.byte ≡ x → nat_eq c.byte 10 ≡ y →
         blank_left events cs (record h { point = c.after }) ≡
-        after_blank (white_rest room cs) (went_on events (record h { point = c.after }) room cs) →
+        after_blank (white_rest room cs) (was_continued events (record h { point = c.after }) room cs) →
         blank_left events (c ∷ cs) h ≡
-        after_blank (white_rest (suc room) (c ∷ cs)) (went_on events h (suc room) (c ∷ cs))
+        after_blank (white_rest (suc room) (c ∷ cs)) (was_continued events h (suc room) (c ∷ cs))
     go true y s e ih = rw (white-no_ending c.byte s, s) ih
     go false true s e ih = rw (s, e) refl
     go false false s e ih = rw (s, e, s) refl
@@ -80,7 +81,7 @@ blank-white B feed has cells h f events short s r k ok =
     (record h { events = es; point = white_end any_size cells h.point; scratch = t }))
     (append_assoc h.events (enter SpaceOrTab h.point ∷ []) _) (sym same)
     ∙ sym (has.each its.After _ _)
-    ∙ ap (λ (x : State). goes B x (white_rest any_size cells) (behind_white any_size cells h)) (sym ok)
+    ∙ ap (λ (x : State). proceeds B x (white_rest any_size cells) (following_white any_size cells h)) (sym ok)
     ∙ white-tried B feed f events cells h 1 any_size has.white s (omega arith) (omega arith) k
 
 none-ahead : (feed : Feed) (w : World) (h : Here) (o : Option ℕ) → sees_white o ≡ false →

@@ -15,7 +15,7 @@ use Rattle.md_leaves.specs.Heading.{without_size}
 use Rattle.md_leaves.proofs.HeadingTermination.{rest-without}
 use Rattle.md_events.specs.Spaces.{is_current, rest_ready}
 use Rattle.md_events.specs.Transition.{entered}
-use Rattle.md_events.proofs.SpacesTermination.{Does, accepts-behind, rest-size, seen-in}
+use Rattle.md_events.proofs.SpacesTermination.{Does, accepts-following, rest-size, seen-in}
 
 pub record BomFits (T : Scheme) : Type 1 where
   pub each : (state : BomState) → Fits T bom_scheme (n.Bom state)
@@ -48,7 +48,7 @@ bom_inside_ends T w true true has r e f =
     )
 bom_inside_ends T w true false has r e f =
     let inside = seen-in (position w) (is_current (mark_at w.scratch.size)) refl e in (
-      accepts-behind T (n.Bom its.Inside) w _ _ (inside_code w true false).world.events
+      accepts-following T (n.Bom its.Inside) w _ _ (inside_code w true false).world.events
           (without_size w.scratch) inside r.1 r.0.rest,
       refl,
     )

@@ -22,17 +22,17 @@ use Rattle.md_leaves.specs.Break.{BreakInvariant, at_break_code, before_code, be
 use Rattle.md_leaves.specs.Break.{break_transition, is_marker, marked_code, one_run_after_code}
 use Rattle.md_leaves.specs.Break.{one_run_code, sequence_code, without_marker}
 use Rattle.md_leaves.specs.BreakRule.{Apart, BreakMeans, HasBreak, Marks, White, at_break}
-use Rattle.md_leaves.specs.BreakRule.{before_marker, behind_one_run, in_break, in_one_run}
+use Rattle.md_leaves.specs.BreakRule.{before_marker, after_one_run, in_break, in_one_run}
 use Rattle.md_leaves.specs.HeadingSetext.{turns_nothing}
 use Rattle.md_leaves.specs.HeadingSetextRule.{is_underline}
 use Rattle.md_leaves.proofs.BreakLemmas.{apart-mark, before-mark, before-other, in_break-mark, in_break-other}
 use Rattle.md_leaves.proofs.BreakLemmas.{marker-no_ending, marker-no_white, marks-at_none, marks-end, marks-none}
 use Rattle.md_leaves.proofs.BreakLemmas.{marks-white, takes-white}
-use Rattle.md_leaves.proofs.BreakOneRun.{behind-by, in_one_white, no-underline, one-mark, one_run-end, one_run-mark}
+use Rattle.md_leaves.proofs.BreakOneRun.{following-by, in_one_white, no-underline, one-mark, one_run-end, one_run-mark}
 use Rattle.md_leaves.proofs.BreakOneRun.{one_run-none, one_run-white, takes-one_white}
 use Rattle.md_leaves.proofs.BreakTermination.{marked-calm, rest-marker}
 use Rattle.md_leaves.proofs.LeafStart.{HasStart, start-steps}
-use Rattle.md_leaves.proofs.LeafSteps.{sees-one, sees-other_white, white_frame, behind-joined, white-run}
+use Rattle.md_leaves.proofs.LeafSteps.{sees-one, sees-other_white, white_frame, following-joined, white-run}
 use Rattle.md_events.specs.Ahead.{line_bytes, white_rest}
 use Rattle.md_events.specs.Events.Nested.{enter, exit}
 use Rattle.md_meaning.specs.Rest.{is_white}
@@ -40,12 +40,12 @@ use Rattle.md_events.specs.Spaces.{IsRest, any_size, ends_line, is_current, sees
 use Rattle.md_events.proofs.LookLemmas.{first-seen}
 use Rattle.md_events.proofs.WhiteMeaning.{begins-seen, white-tried}
 
-abbrev behind_marks : Here → Here
-behind_marks h = record h { events = h.events ++ exit parts.ThematicBreakSequence h.point ∷ [] }
+abbrev after_marks : Here → Here
+after_marks h = record h { events = h.events ++ exit parts.ThematicBreakSequence h.point ∷ [] }
 
 -- neither a marker nor whitespace is here
 marks-stop : (feed : Feed) (w : World) (h : Here) (o : Option ℕ) → is_current h.scratch.marker o ≡ false →
-    sees_white o ≡ false → in_break Marks (ahead feed w o) h ≡ at_break (ahead feed w o) (behind_marks h)
+    sees_white o ≡ false → in_break Marks (ahead feed w o) h ≡ at_break (ahead feed w o) (after_marks h)
 unfolding at_break
 marks-stop feed w h None e f = marks-at_none h
 marks-stop feed w h (Some b) e f = marks-end (cell_here feed w b) (feed (after w.setting w.point)) h f e ∙ rw f refl
@@ -76,7 +76,7 @@ sequence_means B options feed w true y has s r mark e f =
     ∙ sym (has.each its.Sequence _ _))
 sequence_means B options feed w false true has s r mark e f =
     let saw = sees-other_white feed w w.scratch.marker s e f in
-    let h : Here = behind_marks (here w) in
+    let h : Here = after_marks (here w) in
     let frame : Frame = white_frame (Next (n.ThematicBreak its.AtBreak)) w h.events in
     begins B feed _ _ w (sequence_code w false true).world
     (exit parts.ThematicBreakSequence w.point ∷ []) frame refl refl
@@ -86,14 +86,14 @@ sequence_means B options feed w false true has s r mark e f =
     (record h { events = h.events ++ enter SpaceOrTab h.point ∷ [] }) takes-white
     (marker-no_white w.scratch.marker mark) (omega (arith, s.short))
     ∙ ap (at_break (white_rest any_size (feed w.point)))
-    (behind-joined any_size (feed w.point) h (marked-calm w.scratch r))
+    (following-joined any_size (feed w.point) h (marked-calm w.scratch r))
     ∙ sym (has.each its.AtBreak _ _)
     ∙ white-tried B feed frame h.events (feed w.point) h 0 any_size has.white (begins-seen feed w s ∙ f) (omega arith)
     (omega arith) refl)
 sequence_means B options feed w false false has s r mark e f =
     moves B feed _ _ w (sequence_code w false false).world (exit parts.ThematicBreakSequence w.point ∷ []) refl refl
     (has.each its.Sequence _ _ ∙ ap (λ (x : List Cell). in_break Marks x (here w)) s.next
-    ∙ marks-stop feed w (here w) w.current e f ∙ ap (λ (x : List Cell). at_break x (behind_marks (here w))) (sym s.next)
+    ∙ marks-stop feed w (here w) w.current e f ∙ ap (λ (x : List Cell). at_break x (after_marks (here w))) (sym s.next)
     ∙ sym (has.each its.AtBreak _ _))
 
 -- no whitespace is before a marker
@@ -264,7 +264,7 @@ before_means B feed w has s r = go w.current s.next
 
 -- neither a marker nor whitespace is here
 run-stops : (feed : Feed) (w : World) (h : Here) (o : Option ℕ) → is_current h.scratch.marker o ≡ false →
-    sees_white o ≡ false → in_one_run (ahead feed w o) h ≡ behind_one_run (ahead feed w o) (behind_marks h)
+    sees_white o ≡ false → in_one_run (ahead feed w o) h ≡ after_one_run (ahead feed w o) (after_marks h)
 run-stops feed w h None e f = one_run-none h
 run-stops feed w h (Some b) e f = one_run-end (cell_here feed w b) (feed (after w.setting w.point)) h f e
 
@@ -295,17 +295,17 @@ one_run_means B options feed w true y has s r mark e f =
     ∙ sym (has.each its.OneRun _ _))
 one_run_means B options feed w false true has s r mark e f =
     let saw = sees-other_white feed w w.scratch.marker s e f in
-    let h : Here = behind_marks (here w) in
+    let h : Here = after_marks (here w) in
     let frame : Frame = white_frame (Next (n.ThematicBreak its.OneRunAfter)) w h.events in
     begins B feed _ _ w (one_run_code w false true).world
     (exit parts.ThematicBreakSequence w.point ∷ []) frame refl refl
     (has.each its.OneRun _ _
     ∙ to-one_white (feed w.point) (cell_here feed w saw.0) (feed (after w.setting w.point)) (here w) saw.1 saw.3 saw.2
-    ∙ white-run _ in_one_white behind_one_run any_size (feed w.point)
+    ∙ white-run _ in_one_white after_one_run any_size (feed w.point)
     (record h { events = h.events ++ enter SpaceOrTab h.point ∷ [] }) takes-one_white
     (marker-no_white w.scratch.marker mark) (omega (arith, s.short))
-    ∙ ap (behind_one_run (white_rest any_size (feed w.point)))
-    (behind-joined any_size (feed w.point) h (marked-calm w.scratch r))
+    ∙ ap (after_one_run (white_rest any_size (feed w.point)))
+    (following-joined any_size (feed w.point) h (marked-calm w.scratch r))
     ∙ sym (has.each its.OneRunAfter _ _)
     ∙ white-tried B feed frame h.events (feed w.point) h 0 any_size has.white (begins-seen feed w s ∙ f) (omega arith)
     (omega arith) refl)
@@ -313,7 +313,7 @@ one_run_means B options feed w false false has s r mark e f =
     moves B feed _ _ w (one_run_code w false false).world (exit parts.ThematicBreakSequence w.point ∷ []) refl refl
     (has.each its.OneRun _ _ ∙ ap (λ (x : List Cell). in_one_run x (here w)) s.next
     ∙ run-stops feed w (here w) w.current e f
-    ∙ ap (λ (x : List Cell). behind_one_run x (behind_marks (here w))) (sym s.next)
+    ∙ ap (λ (x : List Cell). after_one_run x (after_marks (here w))) (sym s.next)
     ∙ sym (has.each its.OneRunAfter _ _))
 
 one_run_after_means : (B : Behaviour) (options : ParseOptions) (feed : Feed) (w : World) (x : Bool) →
@@ -321,10 +321,10 @@ one_run_after_means : (B : Behaviour) (options : ParseOptions) (feed : Feed) (w 
     Steps B feed (Next (n.ThematicBreak its.OneRunAfter)) w (one_run_after_code w x).to (one_run_after_code w x).world
 one_run_after_means B options feed w true has s e =
     passes B feed _ _ w (one_run_after_code w true).world refl refl
-    (has.each its.OneRunAfter _ _ ∙ behind-by (feed w.point) (here w) true (ap ends_line (first-seen feed w s) ∙ e))
+    (has.each its.OneRunAfter _ _ ∙ following-by (feed w.point) (here w) true (ap ends_line (first-seen feed w s) ∙ e))
 one_run_after_means B options feed w false has s e =
     passes B feed _ _ w w refl refl
-    (has.each its.OneRunAfter _ _ ∙ behind-by (feed w.point) (here w) false (ap ends_line (first-seen feed w s) ∙ e)
+    (has.each its.OneRunAfter _ _ ∙ following-by (feed w.point) (here w) false (ap ends_line (first-seen feed w s) ∙ e)
     ∙ sym (has.each its.AtBreak _ _))
 
 has_start : (B : Behaviour) (options : ParseOptions) → HasBreak B options →

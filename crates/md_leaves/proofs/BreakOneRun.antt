@@ -8,7 +8,7 @@ use Rattle.md_engine.specs.declared.configuration.ParseOptions.{ParseOptions}
 use Rattle.md_engine.specs.declared.event.Name.TheVariants.{SpaceOrTab, ThematicBreakSequence}
 use Rattle.md_engine.specs.Meaning.{Cell, Here, Outcome, Refuses}
 use Rattle.md_leaves.specs.Break.{is_marker, without_marker}
-use Rattle.md_leaves.specs.BreakRule.{Apart, Marks, White, at_break, before_marker, behind_one_run, in_break}
+use Rattle.md_leaves.specs.BreakRule.{Apart, Marks, White, at_break, before_marker, after_one_run, in_break}
 use Rattle.md_leaves.specs.BreakRule.{in_one_run}
 use Rattle.md_leaves.specs.HeadingSetext.{turns_nothing}
 use Rattle.md_leaves.specs.HeadingSetext as setext
@@ -83,37 +83,37 @@ in_one_white cells h =
     cond (is_blank (line_bytes cells)) (Refuses (without_marker h.scratch) h.flags) (in_break White cells h)
 
 -- after it, by whether the line ends here
-pub behind-by : (cells : List Cell) (h : Here) (x : Bool) → ends_line (first_seen cells) ≡ x →
-    behind_one_run cells h ≡ cond x (Refuses (without_marker h.scratch) h.flags) (at_break cells h)
-unfolding behind_one_run
-behind-by cells h x e = ap (λ (y : Bool). cond y (Refuses (without_marker h.scratch) h.flags) (at_break cells h)) e
+pub following-by : (cells : List Cell) (h : Here) (x : Bool) → ends_line (first_seen cells) ≡ x →
+    after_one_run cells h ≡ cond x (Refuses (without_marker h.scratch) h.flags) (at_break cells h)
+unfolding after_one_run
+following-by cells h x e = ap (λ (y : Bool). cond y (Refuses (without_marker h.scratch) h.flags) (at_break cells h)) e
 
 -- where something else follows whitespace
 one_white-ends : (c : Cell) (cs : List Cell) (h : Here) → is_white h.scratch.marker ≡ false →
     is_white c.byte ≡ false →
     in_one_white (c ∷ cs) h ≡
-    behind_one_run (c ∷ cs) (record h { events = h.events ++ exit SpaceOrTab h.point ∷ [] })
+    after_one_run (c ∷ cs) (record h { events = h.events ++ exit SpaceOrTab h.point ∷ [] })
 unfolding in_one_white
 one_white-ends c cs h apart white = go (nat_eq c.byte 10) refl
   where
     new : Here
     new = record h { events = h.events ++ exit SpaceOrTab h.point ∷ [] }
 
-    go : (x : Bool) → nat_eq c.byte 10 ≡ x → in_one_white (c ∷ cs) h ≡ behind_one_run (c ∷ cs) new
+    go : (x : Bool) → nat_eq c.byte 10 ≡ x → in_one_white (c ∷ cs) h ≡ after_one_run (c ∷ cs) new
     go true e =
         let blank : is_blank (line_bytes (c ∷ cs)) ≡ true = rw e refl in
         ap (λ (y : Bool). cond y (Refuses (without_marker h.scratch) h.flags) (in_break White (c ∷ cs) h)) blank
-        ∙ sym (behind-by (c ∷ cs) new true e)
+        ∙ sym (following-by (c ∷ cs) new true e)
     go false e =
         ap (λ (y : Bool). cond y (Refuses (without_marker h.scratch) h.flags) (in_break White (c ∷ cs) h))
         (blank-none c cs white e)
         ∙ takes-white.stop c cs h apart white
-        ∙ sym (behind-by (c ∷ cs) new false e)
+        ∙ sym (following-by (c ∷ cs) new false e)
 
 -- and where nothing does
 one_white-none : (h : Here) →
-    in_one_white [] h ≡ behind_one_run [] (record h { events = h.events ++ exit SpaceOrTab h.point ∷ [] })
-unfolding in_one_white behind_one_run
+    in_one_white [] h ≡ after_one_run [] (record h { events = h.events ++ exit SpaceOrTab h.point ∷ [] })
+unfolding in_one_white after_one_run
 one_white-none h = refl
 
 -- one column of whitespace more
@@ -125,7 +125,7 @@ one_white-more c cs h apart white =
     (takes-white.more c cs h apart white)
 
 -- it is taken byte by byte, where the marker is none
-pub takes-one_white : TakesWhite (λ s. is_white s.marker ≡ false) in_one_white behind_one_run
+pub takes-one_white : TakesWhite (λ s. is_white s.marker ≡ false) in_one_white after_one_run
 takes-one_white = record {
   more = λ c cs h apart white. one_white-more c cs h apart white;
   stop = λ c cs h apart white. one_white-ends c cs h apart white;
@@ -147,29 +147,29 @@ one_run-white c cs h white other =
 pub one_run-end : (c : Cell) (cs : List Cell) (h : Here) → is_white c.byte ≡ false →
     nat_eq c.byte h.scratch.marker ≡ false →
     in_one_run (c ∷ cs) h ≡
-    behind_one_run (c ∷ cs) (record h { events = h.events ++ exit ThematicBreakSequence h.point ∷ [] })
+    after_one_run (c ∷ cs) (record h { events = h.events ++ exit ThematicBreakSequence h.point ∷ [] })
 unfolding at_break
 one_run-end c cs h white other = go (nat_eq c.byte 10) refl
   where
     new : Here
     new = record h { events = h.events ++ exit ThematicBreakSequence h.point ∷ [] }
 
-    go : (x : Bool) → nat_eq c.byte 10 ≡ x → in_one_run (c ∷ cs) h ≡ behind_one_run (c ∷ cs) new
+    go : (x : Bool) → nat_eq c.byte 10 ≡ x → in_one_run (c ∷ cs) h ≡ after_one_run (c ∷ cs) new
     go true e =
         let blank : is_blank (line_bytes (c ∷ cs)) ≡ true = rw e refl in
         run-by (c ∷ cs) h true (run-blank h.scratch.marker c cs other ∙ blank)
-        ∙ sym (behind-by (c ∷ cs) new true e)
+        ∙ sym (following-by (c ∷ cs) new true e)
     go false e =
         run-by (c ∷ cs) h false (run-blank h.scratch.marker c cs other ∙ blank-none c cs white e)
         ∙ marks-end c cs h white other
         ∙ sym
         (ap (λ (x : Bool). cond x (Refuses (without_marker h.scratch) h.flags) (in_break Apart (c ∷ cs) new)) white)
-        ∙ sym (behind-by (c ∷ cs) new false e)
+        ∙ sym (following-by (c ∷ cs) new false e)
 
 -- and where the text ends
 pub one_run-none : (h : Here) →
-    in_one_run [] h ≡ behind_one_run [] (record h { events = h.events ++ exit ThematicBreakSequence h.point ∷ [] })
-unfolding in_one_run behind_one_run
+    in_one_run [] h ≡ after_one_run [] (record h { events = h.events ++ exit ThematicBreakSequence h.point ∷ [] })
+unfolding in_one_run after_one_run
 one_run-none h = refl
 
 -- After the indent, at a marker.

@@ -12,10 +12,10 @@ use Rattle.md_engine.specs.Going.{SeesOn}
 use Rattle.md_engine.specs.Run.{Remains, Runs, reading}
 use Rattle.md_engine.specs.Staying.{SeesSome, stayed}
 use Rattle.md_engine.specs.World.{World, looks}
-use Rattle.md_engine.proofs.Loops.{CameTo}
+use Rattle.md_engine.proofs.Loops.{ArrivedAt}
 use Rattle.md_engine.proofs.StayLemmas.{seen-inside}
 use Rattle.md_engine.proofs.Walks.{TakesSo, Within, then-seen, then-stays, then-waits, within-more}
-use Rattle.md_leaves.specs.Heading.{at_break_code, before_code, behind_part, data_code, heading_transition, sees_text}
+use Rattle.md_leaves.specs.Heading.{at_break_code, before_code, after_part, data_code, heading_transition, sees_text}
 use Rattle.md_leaves.specs.Heading.{sequence_further_code, sequence_open_code, text_begun, without_size}
 use Rattle.md_leaves.specs.HeadingCalls.{HeadingStep, begins_text}
 use Rattle.md_events.specs.Events.Nested.{exit}
@@ -62,11 +62,11 @@ abbrev pub at_text : World → World
 at_text w = record w { scratch = text_begun w.point w.scratch }
 
 pub text-begins : (is_end : Bool) (s : State) (v w : World) →
-    CameTo HeadingStep is_end s v (n.HeadingAtx its.AtBreak) w → begins_text w.current ≡ true →
-    w.current ≡ looks w → Within w → CameTo HeadingStep is_end s v (n.HeadingAtx its.Data) (at_text w)
-text-begins is_end s v w came is seen within =
+    ArrivedAt HeadingStep is_end s v (n.HeadingAtx its.AtBreak) w → begins_text w.current ≡ true →
+    w.current ≡ looks w → Within w → ArrivedAt HeadingStep is_end s v (n.HeadingAtx its.Data) (at_text w)
+text-begins is_end s v w arrived is seen within =
     let b = both (sees_text w.current) (is_current 35 w.current) is in
-    then-stays HeadingStep is_end s v (n.HeadingAtx its.AtBreak) (n.HeadingAtx its.Data) w (at_text w) came
+    then-stays HeadingStep is_end s v (n.HeadingAtx its.AtBreak) (n.HeadingAtx its.Data) w (at_text w) arrived
     (stepped (heading_transition its.AtBreak w) (Retry (n.HeadingAtx its.Data)) (at_text w)
     (ap₂ (λ (x y : Bool). at_break_code w x y (ends_line w.current)) b.0 b.1)) refl within refl seen
 
@@ -77,19 +77,19 @@ takes-so w b e h =
     (data-takes (reading w) b e h)
 
 pub text-taken : (is_end : Bool) (s : State) (v w u : World) →
-    CameTo HeadingStep is_end s v (n.HeadingAtx its.Data) w → w.current ≡ looks w → Within w →
+    ArrivedAt HeadingStep is_end s v (n.HeadingAtx its.Data) w → w.current ≡ looks w → Within w →
     SeesSome Line w u → u.point.index < u.setting.limit →
-    CameTo HeadingStep is_end s v (n.HeadingAtx its.Data) (reading u)
-text-taken is_end s v w u came seen within some lt =
-    then-seen HeadingStep is_end s v (n.HeadingAtx its.Data) Line w u (takes-so) came seen within some lt
+    ArrivedAt HeadingStep is_end s v (n.HeadingAtx its.Data) (reading u)
+text-taken is_end s v w u arrived seen within some lt =
+    then-seen HeadingStep is_end s v (n.HeadingAtx its.Data) Line w u (takes-so) arrived seen within some lt
 
 -- and waits for more.
 pub text-waits : (is_end : Bool) (s : State) (v w u : World) →
-    CameTo HeadingStep is_end s v (n.HeadingAtx its.Data) w → w.current ≡ looks w → Within w →
+    ArrivedAt HeadingStep is_end s v (n.HeadingAtx its.Data) w → w.current ≡ looks w → Within w →
     SeesSome Line w u → w.point.index < w.setting.limit → u.setting.limit ≤ u.point.index →
     Runs HeadingStep is_end s v (Next (n.HeadingAtx its.Data)) u
-text-waits is_end s v w u came seen within some lt le =
-    then-waits HeadingStep is_end s v (n.HeadingAtx its.Data) Line w u (takes-so) came seen within some lt le
+text-waits is_end s v w u arrived seen within some lt le =
+    then-waits HeadingStep is_end s v (n.HeadingAtx its.Data) Line w u (takes-so) arrived seen within some lt le
 
 -- text that begins may be read
 pub begins-inside : (w : World) → w.current ≡ looks w → begins_text w.current ≡ true → w.point.index < w.setting.limit
@@ -106,12 +106,12 @@ ahead (inr h) = h
 
 -- The opening sequence begins,
 pub sequence-begins : (is_end : Bool) (s : State) (v w : World) →
-    CameTo HeadingStep is_end s v (n.HeadingAtx its.Before) w → is_current 35 w.current ≡ true →
+    ArrivedAt HeadingStep is_end s v (n.HeadingAtx its.Before) w → is_current 35 w.current ≡ true →
     w.current ≡ looks w → Within w →
-    CameTo HeadingStep is_end s v (n.HeadingAtx its.SequenceOpen) (entered w HeadingAtxSequence)
-sequence-begins is_end s v w came is seen within =
+    ArrivedAt HeadingStep is_end s v (n.HeadingAtx its.SequenceOpen) (entered w HeadingAtxSequence)
+sequence-begins is_end s v w arrived is seen within =
     let u = entered w HeadingAtxSequence in
-    then-stays HeadingStep is_end s v (n.HeadingAtx its.Before) (n.HeadingAtx its.SequenceOpen) w u came
+    then-stays HeadingStep is_end s v (n.HeadingAtx its.Before) (n.HeadingAtx its.SequenceOpen) w u arrived
     (stepped (heading_transition its.Before w) (Retry (n.HeadingAtx its.SequenceOpen)) u (ap (before_code w) is)) refl
     within refl seen
 
@@ -122,20 +122,22 @@ sequence-takes w b e h =
     (stayed (UpTo 35 6) w) (open-takes (reading w) b e h)
 
 pub sequence-taken : (is_end : Bool) (s : State) (v w u : World) →
-    CameTo HeadingStep is_end s v (n.HeadingAtx its.SequenceOpen) w → w.current ≡ looks w → Within w →
+    ArrivedAt HeadingStep is_end s v (n.HeadingAtx its.SequenceOpen) w → w.current ≡ looks w → Within w →
     SeesSome (UpTo 35 6) w u → u.point.index < u.setting.limit →
-    CameTo HeadingStep is_end s v (n.HeadingAtx its.SequenceOpen) (reading u)
-sequence-taken is_end s v w u came seen within some lt =
-    then-seen HeadingStep is_end s v (n.HeadingAtx its.SequenceOpen) (UpTo 35 6) w u (sequence-takes) came seen within
+    ArrivedAt HeadingStep is_end s v (n.HeadingAtx its.SequenceOpen) (reading u)
+sequence-taken is_end s v w u arrived seen within some lt =
+    then-seen HeadingStep is_end s v (n.HeadingAtx its.SequenceOpen) (UpTo 35 6) w u
+    (sequence-takes) arrived seen within
     some lt
 
 -- and waits for more.
 pub sequence-waits : (is_end : Bool) (s : State) (v w u : World) →
-    CameTo HeadingStep is_end s v (n.HeadingAtx its.SequenceOpen) w → w.current ≡ looks w → Within w →
+    ArrivedAt HeadingStep is_end s v (n.HeadingAtx its.SequenceOpen) w → w.current ≡ looks w → Within w →
     SeesSome (UpTo 35 6) w u → w.point.index < w.setting.limit → u.setting.limit ≤ u.point.index →
     Runs HeadingStep is_end s v (Next (n.HeadingAtx its.SequenceOpen)) u
-sequence-waits is_end s v w u came seen within some lt le =
-    then-waits HeadingStep is_end s v (n.HeadingAtx its.SequenceOpen) (UpTo 35 6) w u (sequence-takes) came seen within
+sequence-waits is_end s v w u arrived seen within some lt le =
+    then-waits HeadingStep is_end s v (n.HeadingAtx its.SequenceOpen) (UpTo 35 6) w u
+    (sequence-takes) arrived seen within
     some lt le
 
 -- a sequence that begins may be read
@@ -152,27 +154,27 @@ abbrev pub opening_ended : World → World
 opening_ended w = record (exited w HeadingAtxSequence) { scratch = without_size w.scratch }
 
 pub opening-ends : (is_end : Bool) (s : State) (v w : World) →
-    CameTo HeadingStep is_end s v (n.HeadingAtx its.SequenceOpen) w → w.current ≡ looks w → Within w →
+    ArrivedAt HeadingStep is_end s v (n.HeadingAtx its.SequenceOpen) w → w.current ≡ looks w → Within w →
     IsOneSpace w →
-    CameTo HeadingStep is_end s v (n.HeadingAtx its.AtBreak) (spaced (opening_ended w))
-opening-ends is_end s v w came seen within one =
+    ArrivedAt HeadingStep is_end s v (n.HeadingAtx its.AtBreak) (spaced (opening_ended w))
+opening-ends is_end s v w arrived seen within one =
     let here : w.current ≡ Some 32 = seen ∙ one.here in
     let x : World = opening_ended w in
     let u : World = (white_then x 1 any_size (Next (n.HeadingAtx its.AtBreak)) Nok).world in
     space-run HeadingStep is_end s v (n.HeadingAtx its.AtBreak) x
     (λ state y to new e. stepped (white_transition state y) to new e)
-    (then-stays HeadingStep is_end s v (n.HeadingAtx its.SequenceOpen) (n.SpaceOrTab white.Start) w u came
+    (then-stays HeadingStep is_end s v (n.HeadingAtx its.SequenceOpen) (n.SpaceOrTab white.Start) w u arrived
     (stepped (heading_transition its.SequenceOpen w) (Retry (n.SpaceOrTab white.Start)) u
     (ap
     (λ (o : Option ℕ).
     sequence_open_code w (is_current 35 o && nat_lt w.scratch.size 6) (sees_text o) (sees_white o)) here)) refl within
     refl seen) seen
     (within-more w.frames w.events (exit HeadingAtxSequence w.point ∷ []) within)
-    (record { here = one.here; next = one.next; behind = one.behind })
+    (record { here = one.here; next = one.next; following = one.following })
 
 -- What a single call leaves.
 part-remains : (w x : World) (y : Bool) → x.point ≡ w.point → x.current ≡ w.current → x.setting ≡ w.setting →
-    Remains (behind_part x y).to w (behind_part x y).world × ((behind_part x y).world.setting ≡ w.setting)
+    Remains (after_part x y).to w (after_part x y).world × ((after_part x y).world.setting ≡ w.setting)
 part-remains w x true there same text = ((there, same), text)
 part-remains w x false there same text = ((there, same), text)
 

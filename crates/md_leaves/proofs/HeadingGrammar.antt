@@ -34,13 +34,13 @@ hashes-leads text x [] p h outer = refl
 hashes-leads text x (b ∷ bs) p h outer = rw (hash-runs b bs p h) refl
 
 -- What is left after whitespace, a sequence and whitespace, each of which may be there or not.
-abbrev behind_three : Bool → Bool → Bool → Expression → Expression
-behind_three white hashes more x =
+abbrev after_three : Bool → Bool → Bool → Expression → Expression
+after_three white hashes more x =
     maybe more n.SpaceOrTab (maybe hashes n.HeadingAtxSequence (maybe white n.SpaceOrTab x))
 
 three-leads : (text x : Expression) (white hashes more : List ℕ) (p : Point) → AllPass is_white white →
     AllPass is_hash hashes → AllPass is_white more → begins is_white (hashes ++ more) ≡ false →
-    Leads text (x ∷ []) (behind_three (is_some white) (is_some hashes) (is_some more) x ∷ [])
+    Leads text (x ∷ []) (after_three (is_some white) (is_some hashes) (is_some more) x ∷ [])
     (line_runs Apart (white ++ (hashes ++ more)) p)
 three-leads text x white hashes more p w h m apart =
     let q = past_text white p in
@@ -65,12 +65,12 @@ each-of f h false = (and_parts (f true) (f false) h).1
 
 -- what is left of a heading after the whitespace that follows its opening sequence
 abbrev opened : Bool → Bool → Expression
-opened indent gap = behind_three indent true gap (inside Nothing n.HeadingAtx)
+opened indent gap = after_three indent true gap (inside Nothing n.HeadingAtx)
 
 -- the heading may end there
 abbrev title_ends : Bool → Bool → Bool → Bool → Bool → Bool → Bool
 title_ends indent gap some white hashes more =
-    may_end (behind_three white hashes more (maybe some n.HeadingAtxText (opened indent gap)))
+    may_end (after_three white hashes more (maybe some n.HeadingAtxText (opened indent gap)))
 
 -- whatever is there
 title-ends : (indent gap some white hashes more : Bool) → title_ends indent gap some white hashes more ≡ true
@@ -133,4 +133,4 @@ title-word text line p some events h on = record {
     named = maybe some n.HeadingAtxText spaced
 
     left : Expression
-    left = behind_three (is_some s.white) (is_some s.hashes) (is_some s.more) named
+    left = after_three (is_some s.white) (is_some s.hashes) (is_some s.more) named

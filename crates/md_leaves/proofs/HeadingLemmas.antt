@@ -8,27 +8,27 @@ use Rattle.md_engine.specs.declared.event.Name.TheVariants.{HeadingAtxSequence}
 use Rattle.md_engine.specs.declared.tokenizer.Scratch.{Scratch}
 use Rattle.md_engine.specs.Meaning.{Cell, Here, Refuses}
 use Rattle.md_leaves.specs.Heading.{text_begun, text_ended, without_size}
-use Rattle.md_leaves.specs.HeadingRule.{at_break, before_opening, behind_opening, in_hashes, in_opening, in_text}
+use Rattle.md_leaves.specs.HeadingRule.{at_break, before_opening, after_opening, in_hashes, in_opening, in_text}
 use Rattle.md_leaves.specs.HeadingRule.{is_heading, is_opening}
 use Rattle.md_events.specs.Ahead.{begins_white, line_bytes, white_rest}
 use Rattle.md_events.specs.Events.Nested.{enter, exit}
 use Rattle.md_events.specs.Spaces.{IsRest, any_size}
 use Rattle.md_meaning.specs.Rest.{is_white, run_len}
 use Rattle.md_events.proofs.AheadLemmas.{white-no_ending}
-use Rattle.md_events.proofs.WhiteMeaning.{behind_white}
+use Rattle.md_events.proofs.WhiteMeaning.{following_white}
 
 -- After the opening sequence.
 
 -- whitespace is taken
 pub opening-gap : (cells : List Cell) (h : Here) → begins_white cells ≡ true →
-    behind_opening cells h ≡ at_break (white_rest any_size cells) (behind_white any_size cells h)
-unfolding behind_opening
+    after_opening cells h ≡ at_break (white_rest any_size cells) (following_white any_size cells h)
+unfolding after_opening
 opening-gap cells h e = rw e refl
 
 -- where none is, the text
 pub opening-no_gap : (cells : List Cell) (h : Here) → begins_white cells ≡ false →
-    behind_opening cells h ≡ at_break cells h
-unfolding behind_opening
+    after_opening cells h ≡ at_break cells h
+unfolding after_opening
 opening-no_gap cells h e = rw e refl
 
 -- no text has begun
@@ -100,15 +100,15 @@ few : (n : ℕ) → n ≤ 6 → nat_le (n + 0) 6 ≡ true
 few n le = grind (arith, nat_tests)
 
 -- it has ended here
-abbrev pub behind_sequence : Here → Here
-behind_sequence h = record h {
+abbrev pub after_sequence : Here → Here
+after_sequence h = record h {
   events = h.events ++ exit HeadingAtxSequence h.point ∷ [];
   scratch = without_size h.scratch;
 }
 
 -- after it whitespace or the line's end is
 pub opening-white : (c : Cell) (cs : List Cell) (h : Here) → is_white c.byte ≡ true → h.scratch.size ≤ 6 →
-    in_opening (c ∷ cs) h ≡ behind_opening (c ∷ cs) (behind_sequence h)
+    in_opening (c ∷ cs) h ≡ after_opening (c ∷ cs) (after_sequence h)
 unfolding in_opening
 opening-white c cs h white le =
     rw (
@@ -120,13 +120,13 @@ opening-white c cs h white le =
     ) refl
 
 pub opening-ends : (c : Cell) (cs : List Cell) (h : Here) → nat_eq c.byte 10 ≡ true → h.scratch.size ≤ 6 →
-    in_opening (c ∷ cs) h ≡ behind_opening (c ∷ cs) (behind_sequence h)
+    in_opening (c ∷ cs) h ≡ after_opening (c ∷ cs) (after_sequence h)
 unfolding in_opening
 opening-ends c cs h ending le =
     let none : nat_eq c.byte 35 ≡ false = rw (eqb-true c.byte 10 ending) refl in
     rw (ending, few h.scratch.size le, none) refl
 
-pub opening-none : (h : Here) → h.scratch.size ≤ 6 → in_opening [] h ≡ behind_opening [] (behind_sequence h)
+pub opening-none : (h : Here) → h.scratch.size ≤ 6 → in_opening [] h ≡ after_opening [] (after_sequence h)
 unfolding in_opening
 opening-none h le = rw (few h.scratch.size le) refl
 

@@ -14,20 +14,20 @@ use Rattle.md_engine.specs.declared.state.State.{State}
 use Rattle.md_engine.specs.declared.state.State.TheVariants.{Next}
 use Rattle.md_engine.specs.declared.tokenizer.Frame.{Frame}
 use Rattle.md_engine.specs.declared.tokenizer.Scratch.{Scratch}
-use Rattle.md_engine.specs.Meaning.{Accepts, Behaviour, Cell, Feed, Here, Refuses, Steps, goes, here}
+use Rattle.md_engine.specs.Meaning.{Accepts, Behaviour, Cell, Feed, Here, Refuses, Steps, proceeds, here}
 use Rattle.md_engine.specs.Place.{first_point}
 use Rattle.md_engine.specs.Scheme.{After, position}
 use Rattle.md_engine.specs.World.{World, after, looks}
 use Rattle.md_engine.specs.Sees.{Sees, ahead, cell_here}
 use Rattle.md_engine.proofs.StepOf.{steps-as, begins, moves, passes}
-use Rattle.md_leaves.specs.Heading.{HeadingInvariant, at_break_code, before_code, behind_part, data_code}
+use Rattle.md_leaves.specs.Heading.{HeadingInvariant, at_break_code, before_code, after_part, data_code}
 use Rattle.md_leaves.specs.Heading.{heading_ready, heading_transition, sees_text, sequence_further_code}
-use Rattle.md_leaves.specs.Heading.{sequence_open_code, text_begun, text_behind, text_ended, text_from, without_size}
-use Rattle.md_leaves.specs.HeadingRule.{HasHeading, HeadingMeans, before_opening, behind_opening, in_opening, in_text}
+use Rattle.md_leaves.specs.Heading.{sequence_open_code, text_begun, text_following, text_ended, text_from, without_size}
+use Rattle.md_leaves.specs.HeadingRule.{HasHeading, HeadingMeans, before_opening, after_opening, in_opening, in_text}
 use Rattle.md_leaves.specs.HeadingRuns.{text_events}
 use Rattle.md_leaves.proofs.LeafStart.{HasStart, start-steps}
 use Rattle.md_leaves.proofs.LeafSteps.{sees-one, white_frame}
-use Rattle.md_leaves.proofs.HeadingLemmas.{before-hash, before-other, behind_sequence, break-text, break-white}
+use Rattle.md_leaves.proofs.HeadingLemmas.{before-hash, before-other, after_sequence, break-text, break-white}
 use Rattle.md_leaves.proofs.HeadingLemmas.{opening-ends, opening-full, opening-gap, opening-more, opening-no_gap}
 use Rattle.md_leaves.proofs.HeadingLemmas.{opening-none, opening-text, opening-white, rest-ended}
 use Rattle.md_events.specs.Ahead.{from_ending, line_end}
@@ -55,7 +55,12 @@ or-left false false e k = cc
 has_start : (B : Behaviour) (options : ParseOptions) (bytes : List ℕ) → HasHeading B options bytes →
     HasStart B options parts.HeadingAtx options.constructs.heading_atx before_opening (n.HeadingAtx its.Start)
     (n.HeadingAtx its.Before)
-has_start B options bytes has = record { white = has.white; start_is = has.each its.Start; next_is = has.each its.Before }
+has_start B options bytes has = record {
+  white = has.white;
+  start_is = has.each its.Start;
+  next_is =
+      has.each its.Before;
+}
 
 -- After the indent.
 
@@ -65,9 +70,9 @@ hash-no_ending b e = rw (eqb-true b 35 e) refl
 rest-same : (s : Scratch) → IsRest s → without_size s ≡ s
 rest-same s r = ap without_size r ∙ sym r
 
-hash-goes_on : (o : Option ℕ) → is_current 35 o ≡ true → ends_line o ≡ false
-hash-goes_on None e = cc
-hash-goes_on (Some b) e = hash-no_ending b e
+hash-is_continued : (o : Option ℕ) → is_current 35 o ≡ true → ends_line o ≡ false
+hash-is_continued None e = cc
+hash-is_continued (Some b) e = hash-no_ending b e
 
 other-ahead : (feed : Feed) (w : World) (h : Here) (o : Option ℕ) → is_current 35 o ≡ false →
     before_opening (ahead feed w o) h ≡ Refuses h.scratch h.flags
@@ -92,27 +97,27 @@ heading_before_means B options bytes feed w false has s r e =
 -- After the opening sequence.
 
 -- what is left after it where it ends
-behind_means : (B : Behaviour) (options : ParseOptions) (bytes : List ℕ) (feed : Feed) (w : World) (x : Bool) →
+following_means : (B : Behaviour) (options : ParseOptions) (bytes : List ℕ) (feed : Feed) (w : World) (x : Bool) →
     HasHeading B options bytes → Sees feed w → IsRest (without_size w.scratch) → sees_white w.current ≡ x →
-    goes B (Next (n.HeadingAtx its.SequenceOpen)) (feed w.point) (here w) ≡
-    behind_opening (feed w.point) (behind_sequence (here w)) →
+    proceeds B (Next (n.HeadingAtx its.SequenceOpen)) (feed w.point) (here w) ≡
+    after_opening (feed w.point) (after_sequence (here w)) →
     (let left : Transition =
-    behind_part (record (exited w parts.HeadingAtxSequence) { scratch = without_size w.scratch }) x in
+    after_part (record (exited w parts.HeadingAtxSequence) { scratch = without_size w.scratch }) x in
     Steps B feed (Next (n.HeadingAtx its.SequenceOpen)) w left.to left.world)
-behind_means B options bytes feed w true has s r e same =
-    let h : Here = behind_sequence (here w) in
+following_means B options bytes feed w true has s r e same =
+    let h : Here = after_sequence (here w) in
     let frame : Frame = white_frame (Next (n.HeadingAtx its.AtBreak)) w h.events in
     begins B feed _ _ w
-    (behind_part (record (exited w parts.HeadingAtxSequence) { scratch = without_size w.scratch }) true).world
+    (after_part (record (exited w parts.HeadingAtxSequence) { scratch = without_size w.scratch }) true).world
     (exit parts.HeadingAtxSequence w.point ∷ []) frame refl refl
     (same ∙ opening-gap (feed w.point) h (begins-seen feed w s ∙ e) ∙ sym (has.each its.AtBreak _ _)
     ∙ white-tried B feed frame h.events (feed w.point) h 1 any_size has.white (begins-seen feed w s ∙ e) (omega arith)
     (omega arith) refl)
-behind_means B options bytes feed w false has s r e same =
+following_means B options bytes feed w false has s r e same =
     moves B feed _ _ w
-    (behind_part (record (exited w parts.HeadingAtxSequence) { scratch = without_size w.scratch }) false).world
+    (after_part (record (exited w parts.HeadingAtxSequence) { scratch = without_size w.scratch }) false).world
     (exit parts.HeadingAtxSequence w.point ∷ []) refl refl
-    (same ∙ opening-no_gap (feed w.point) (behind_sequence (here w)) (begins-seen feed w s ∙ e)
+    (same ∙ opening-no_gap (feed w.point) (after_sequence (here w)) (begins-seen feed w s ∙ e)
     ∙ sym (has.each its.AtBreak _ _))
 
 -- The opening sequence.
@@ -134,12 +139,12 @@ opening-refuses feed w h (Some b) e f = go (nat_eq b 35) refl e
     go false k e = opening-text (cell_here feed w b) (feed (after w.setting w.point)) h k apart.1 apart.0
 
 opening-stops : (feed : Feed) (w : World) (h : Here) (o : Option ℕ) → sees_text o ≡ false → h.scratch.size ≤ 6 →
-    in_opening (ahead feed w o) h ≡ behind_opening (ahead feed w o) (behind_sequence h)
+    in_opening (ahead feed w o) h ≡ after_opening (ahead feed w o) (after_sequence h)
 opening-stops feed w h None e le = opening-none h le
 opening-stops feed w h (Some b) e le = go (nat_eq b 10) refl
   where
     go : (x : Bool) → nat_eq b 10 ≡ x →
-        in_opening (ahead feed w (Some b)) h ≡ behind_opening (ahead feed w (Some b)) (behind_sequence h)
+        in_opening (ahead feed w (Some b)) h ≡ after_opening (ahead feed w (Some b)) (after_sequence h)
     go true k = opening-ends (cell_here feed w b) (feed (after w.setting w.point)) h k le
     go false k =
         opening-white (cell_here feed w b) (feed (after w.setting w.point)) h
@@ -160,7 +165,7 @@ sequence_open_means B options bytes feed w false true z has s r le e f g =
     passes B feed _ _ w (sequence_open_code w false true z).world refl refl
     (has.each its.SequenceOpen _ _ ∙ rw s.next (opening-refuses feed w (here w) w.current e f))
 sequence_open_means B options bytes feed w false false z has s r le e f g =
-    behind_means B options bytes feed w z has s r g
+    following_means B options bytes feed w z has s r g
     (has.each its.SequenceOpen _ _ ∙ rw s.next (opening-stops feed w (here w) w.current f le))
 
 -- At the text.
@@ -242,7 +247,7 @@ text-passes front more c cs h e same =
     let rest : from_ending (c ∷ cs) ≡ from_ending cs = rw e refl in
     ap₂ (λ (p : Point) (l : List ℕ). Accepts
     (record h {
-      events = h.events ++ text_behind h.events h.scratch l ++ exit parts.HeadingAtx p ∷ [];
+      events = h.events ++ text_following h.events h.scratch l ++ exit parts.HeadingAtx p ∷ [];
       point = p;
       scratch = text_ended h.scratch;
     })
@@ -251,7 +256,7 @@ text-passes front more c cs h e same =
     ∙ ap (Accepts
     (record h {
       events =
-          h.events ++ text_behind h.events h.scratch (more ++ whole_line c.after cs) ++ exit parts.HeadingAtx q ∷ [];
+          h.events ++ text_following h.events h.scratch (more ++ whole_line c.after cs) ++ exit parts.HeadingAtx q ∷ [];
       point = q;
       scratch = text_ended h.scratch;
     }))
@@ -275,7 +280,7 @@ text-ends : (feed : Feed) (w : World) (front : List ℕ) (h : Here) (o : Option 
     in_text front (ahead feed w o) h ≡
     Accepts
     (record h {
-      events = h.events ++ text_behind h.events h.scratch front ++ exit parts.HeadingAtx h.point ∷ [];
+      events = h.events ++ text_following h.events h.scratch front ++ exit parts.HeadingAtx h.point ∷ [];
       scratch = text_ended h.scratch;
     })
     (ahead feed w o)
@@ -292,7 +297,7 @@ sequence_further_means B options feed w true has s c le e =
     passes B feed _ _ w (sequence_further_code w true).world refl refl
     (has.each its.SequenceFurther _ _
     ∙ ap (λ (l : List Cell). in_text (line_taken w.setting.bytes w.scratch w.point) l (here w)) s.next
-    ∙ text-more feed w (here w) w.current refl le c (hash-goes_on w.current e)
+    ∙ text-more feed w (here w) w.current refl le c (hash-is_continued w.current e)
     ∙ sym (has.each its.SequenceFurther _ _))
 sequence_further_means B options feed w false has s c le e =
     passes B feed _ _ w w refl refl (has.each its.SequenceFurther _ _ ∙ sym (has.each its.Data _ _))
@@ -303,9 +308,10 @@ data_means : (B : Behaviour) (options : ParseOptions) (feed : Feed) (w : World) 
     Steps B feed (Next (n.HeadingAtx its.Data)) w (data_code w x).to (data_code w x).world
 data_means B options feed w true has s c le e =
     moves B feed _ _ w (data_code w true).world
-    (text_behind w.events w.scratch (line_taken w.setting.bytes w.scratch w.point) ++ exit parts.HeadingAtx w.point ∷ [])
+    (text_following w.events w.scratch (line_taken w.setting.bytes w.scratch w.point)
+    ++ exit parts.HeadingAtx w.point ∷ [])
     refl
-    (append_assoc w.events (text_behind w.events w.scratch (line_taken w.setting.bytes w.scratch w.point))
+    (append_assoc w.events (text_following w.events w.scratch (line_taken w.setting.bytes w.scratch w.point))
     (exit parts.HeadingAtx w.point ∷ []))
     (has.each its.Data _ _
     ∙ rw s.next (text-ends feed w (line_taken w.setting.bytes w.scratch w.point) (here w) w.current e))

@@ -1,6 +1,6 @@
 -- A heading is and ends in any table that has it.
-use Rattle.std.proofs.Common.{◌≡◌, ℕ, ◌<◌, ◌≤◌, Bool, true, false, cond, ◌&&◌, nat_lt, Option, Some, None, List, refl, arith}
-use Rattle.std.proofs.Common.{ap, sym, ◌∙◌}
+use Rattle.std.proofs.Common.{◌≡◌, ℕ, ◌<◌, ◌≤◌, Bool, true, false, cond, ◌&&◌, nat_lt, Option, Some, None, List, refl}
+use Rattle.std.proofs.Common.{arith, ap, sym, ◌∙◌}
 use Rattle.std.proofs.lemmas.Bool.{and_parts, eqb-true}
 use Rattle.std.proofs.lemmas.Bool.Decides.{nat_tests}
 use Rattle.md_engine.specs.declared.event.Event.{Event}
@@ -16,15 +16,16 @@ use Rattle.md_engine.specs.World.{Setting, World, after, looks}
 use Rattle.md_engine.proofs.Falls.{later, later_at, seen_grows}
 use Rattle.md_engine.proofs.Local.{accepts, consumes, refuses, turns}
 use Rattle.md_engine.proofs.Points.{stays, takes}
-use Rattle.md_leaves.specs.Heading.{IsInText, at_break_code, before_code, behind_part, data_code, heading_ready}
+use Rattle.md_leaves.specs.Heading.{IsInText, at_break_code, before_code, after_part, data_code, heading_ready}
 use Rattle.md_leaves.specs.Heading.{heading_scheme, heading_transition, sees_text, sequence_further_code}
 use Rattle.md_leaves.specs.Heading.{sequence_open_code, text_added, text_begun, text_ended, without_size}
 use Rattle.md_leaves.proofs.LeafStart.{FitsStart, good-start}
 use Rattle.md_events.specs.Lent.{whole_from}
 use Rattle.md_events.specs.Spaces.{IsRest, calmed, ends_line, is_current, rest_ready, sees_white, any_size}
 use Rattle.md_events.specs.Transition.{entered, exited, taken}
-use Rattle.md_events.proofs.LineTaken.{whole-behind}
-use Rattle.md_events.proofs.SpacesTermination.{Does, WhiteFits, inside-line, rest-calm, rest-none, rest-size, seen-in, white_try}
+use Rattle.md_events.proofs.LineTaken.{whole-following}
+use Rattle.md_events.proofs.SpacesTermination.{Does, WhiteFits, inside-line, rest-calm, rest-none, rest-size, seen-in}
+use Rattle.md_events.proofs.SpacesTermination.{white_try}
 
 -- the states in its text
 abbrev IsTextState : HeadingState → Type 0
@@ -78,18 +79,18 @@ still-white w t s up e = go (seen (position w)) refl e
     go (Some b) is e = ap sees_text (seen_grows (position w) t s b up is) ∙ white-no_text (Some b) e
 
 -- after a run of the line, from a state whose rank is above that of what follows
-good-behind : (T : Scheme) (w : World) (name : StateName) (events : List Event) (s : Scratch) (x : Bool) →
+good-following : (T : Scheme) (w : World) (name : StateName) (events : List Event) (s : Scratch) (x : Bool) →
     HeadingFits T → Fits T heading_scheme name → IsRest s → Ends IsRest IsRest (position w) (after_all T w.frames) →
     sees_white (seen (position w)) ≡ x → 1 < (heading_scheme.rank name (position w)).number →
     (cond (sees_text (seen (position w))) (ranked 2 refl) (ranked 0 refl)).number <
     (heading_scheme.rank name (position w)).number →
-    Does T name w (behind_part (record w { events = events; scratch = s }) x)
-good-behind T w name events s true has fits r ends e lt less =
+    Does T name w (after_part (record w { events = events; scratch = s }) x)
+good-following T w name events s true has fits r ends e lt less =
     white_try T heading_scheme name (n.HeadingAtx its.AtBreak) w events s 1 any_size IsRest IsRest has.white fits
     (has.each its.AtBreak) (rest-none s r) (λ some. rest-calm s r) ends
     (λ q t up way. (rest-calm s r, later_at _ _ (position w) _ q t _ up way ends))
     (omega arith) (omega arith) (λ t up. rw (still-white w t (calmed s) up e) (omega arith)) lt
-good-behind T w name events s false has fits r ends e lt less = (
+good-following T w name events s false has fits r ends e lt less = (
   turns T heading_scheme name (n.HeadingAtx its.AtBreak) w events s fits (has.each its.AtBreak)
       (r, later IsRest IsRest (position w) (after_all T w.frames) w.point s (stays w.setting.limit w.point) ends)
       (omega arith) less,
@@ -119,7 +120,7 @@ sequence_open_ends T w true y z has r e f g =
 sequence_open_ends T w false true z has r e f g =
     (refuses T _ w _ _ w.events (without_size w.scratch) r.1 r.0.rest, refl)
 sequence_open_ends T w false false z has r e f g =
-    good-behind T w (n.HeadingAtx its.SequenceOpen) (exited w parts.HeadingAtxSequence).events
+    good-following T w (n.HeadingAtx its.SequenceOpen) (exited w parts.HeadingAtxSequence).events
     (without_size w.scratch) z has (has.each its.SequenceOpen) r.0.rest r.1 g (omega arith) (rw f (omega arith))
 
 -- where its text begins
@@ -165,14 +166,14 @@ heading_at_break_ends T w false y false has r e =
 start-taken : (w : World) (o : Option ℕ) → o ≡ looks w → ends_line o ≡ false → w.scratch.start ≤ whole_from w.point →
     w.scratch.start ≤ whole_from (after w.setting w.point)
 start-taken w None c e le = cc
-start-taken w (Some b) c e le = omega (arith, le, whole-behind w.setting w.point b e (sym c))
+start-taken w (Some b) c e le = omega (arith, le, whole-following w.setting w.point b e (sym c))
 
 -- in its text one byte more is taken
-text-goes_on : (T : Scheme) (state : HeadingState) (w : World) → HeadingFits T → IsTextState state →
+text-is_continued : (T : Scheme) (state : HeadingState) (w : World) → HeadingFits T → IsTextState state →
     IsInText (position w) → Ends IsRest IsRest (position w) (after_all T w.frames) → w.current ≡ looks w →
     ends_line w.current ≡ false →
     Does T (n.HeadingAtx state) w (record { to = Next (n.HeadingAtx state); world = taken w })
-text-goes_on T its.SequenceFurther w has text r ends c e =
+text-is_continued T its.SequenceFurther w has text r ends c e =
     let inside = inside-line w c e in (
       consumes T heading_scheme _ _ w w.events w.scratch (has.each its.SequenceFurther)
           (has.each its.SequenceFurther) inside (
@@ -182,7 +183,7 @@ text-goes_on T its.SequenceFurther w has text r ends c e =
           (omega arith),
       refl,
     )
-text-goes_on T its.Data w has text r ends c e =
+text-is_continued T its.Data w has text r ends c e =
     let inside = inside-line w c e in (
       consumes T heading_scheme _ _ w w.events w.scratch (has.each its.Data) (has.each its.Data) inside (
         record { begun = start-taken w w.current c e r.begun; rest = r.rest },
@@ -191,20 +192,23 @@ text-goes_on T its.Data w has text r ends c e =
           (omega arith),
       refl,
     )
-text-goes_on T state w has text r ends c e = absurd text
+text-is_continued T state w has text r ends c e = absurd text
 
-hash-goes_on : (o : Option ℕ) → is_current 35 o ≡ true → ends_line o ≡ false
-hash-goes_on None e = cc
-hash-goes_on (Some b) e = let is : b ≡ 35 = eqb-true b 35 e in rw is refl
+hash-is_continued : (o : Option ℕ) → is_current 35 o ≡ true → ends_line o ≡ false
+hash-is_continued None e = cc
+hash-is_continued (Some b) e = let is : b ≡ 35 = eqb-true b 35 e in rw is refl
 
 sequence_further_ends : (T : Scheme) (w : World) (x : Bool) → HeadingFits T →
     IsInText (position w) → Ends IsRest IsRest (position w) (after_all T w.frames) → w.current ≡ looks w →
     is_current 35 w.current ≡ x → Does T (n.HeadingAtx its.SequenceFurther) w (sequence_further_code w x)
 sequence_further_ends T w true has r ends c e =
-    text-goes_on T its.SequenceFurther w has tt r ends c (hash-goes_on w.current e)
+    text-is_continued T its.SequenceFurther w has tt r ends c (hash-is_continued w.current e)
 sequence_further_ends T w false has r ends c e = (
-  turns T heading_scheme _ _ w w.events w.scratch (has.each its.SequenceFurther) (has.each its.Data)
-      (r, later IsRest IsRest (position w) (after_all T w.frames) w.point w.scratch (stays w.setting.limit w.point) ends)
+  turns T heading_scheme _ _ w w.events w.scratch (has.each its.SequenceFurther) (has.each its.Data) (
+    r,
+    later IsRest IsRest (position w) (after_all T w.frames) w.point w.scratch
+        (stays w.setting.limit w.point) ends,
+  )
       (omega arith) (omega arith),
   refl,
 )
@@ -212,9 +216,12 @@ sequence_further_ends T w false has r ends c e = (
 data_ends : (T : Scheme) (w : World) (x : Bool) → HeadingFits T →
     IsInText (position w) → Ends IsRest IsRest (position w) (after_all T w.frames) → w.current ≡ looks w →
     ends_line w.current ≡ x → Does T (n.HeadingAtx its.Data) w (data_code w x)
-data_ends T w true has r ends c e =
-    (accepts T _ w IsRest IsRest (exited (text_added w) parts.HeadingAtx).events (text_ended w.scratch) ends r.rest, refl)
-data_ends T w false has r ends c e = text-goes_on T its.Data w has tt r ends c e
+data_ends T w true has r ends c e = (
+  accepts T _ w IsRest IsRest (exited (text_added w) parts.HeadingAtx).events (text_ended w.scratch)
+      ends r.rest,
+  refl,
+)
+data_ends T w false has r ends c e = text-is_continued T its.Data w has tt r ends c e
 
 -- each state of a heading
 pub heading_terminates : (T : Scheme) (state : HeadingState) (w : World) → HeadingFits T →

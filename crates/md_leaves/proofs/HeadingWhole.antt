@@ -10,7 +10,7 @@ use Rattle.md_engine.specs.declared.event.Point.{Point}
 use Rattle.md_engine.specs.declared.tokenizer.Scratch.{Scratch}
 use Rattle.md_engine.specs.Meaning.{Accepts, Cell, Here, Outcome, Refuses}
 use Rattle.md_engine.specs.Place.{first_point}
-use Rattle.md_leaves.specs.HeadingRule.{at_break, before_opening, behind_opening, gap_inside, hashes_inside, heading_at}
+use Rattle.md_leaves.specs.HeadingRule.{at_break, before_opening, after_opening, gap_inside, hashes_inside, heading_at}
 use Rattle.md_leaves.specs.HeadingRule.{heading_inside, in_hashes, in_text, is_heading, is_heading_line, text_inside}
 use Rattle.md_leaves.proofs.HeadingLemmas.{before-is, before-no, break-text, opening-gap, opening-no_gap, rest-ended}
 use Rattle.md_leaves.proofs.HeadingLemmas.{sequence_begun}
@@ -23,7 +23,7 @@ use Rattle.md_events.proofs.AheadLemmas.{none-rest, white-all, white-ending, whi
 use Rattle.md_events.proofs.NestedLemmas.{last_point-append}
 use Rattle.md_events.proofs.RestCells.{white-length}
 use Rattle.md_events.proofs.SpacesTermination.{rest-calm}
-use Rattle.md_events.proofs.WhiteMeaning.{behind_white}
+use Rattle.md_events.proofs.WhiteMeaning.{following_white}
 
 -- a heading that was begun here
 
@@ -39,8 +39,8 @@ taken_line inside cells h =
     (from_ending cells)
 
 -- what is in it after its indent
-abbrev behind_indent : List Cell → Point → List Event
-behind_indent cells p = enter HeadingAtxSequence p ∷ hashes_inside cells p
+abbrev after_indent : List Cell → Point → List Event
+after_indent cells p = enter HeadingAtxSequence p ∷ hashes_inside cells p
 
 -- the rest of the line is taken, with these events and the end
 abbrev ended_line : List Event → List Cell → Here → Outcome
@@ -64,22 +64,23 @@ unfolding in_text
 text-taken cells h at e = break-text cells h e ∙ rw (at.last, rest-ended h.scratch at.rest) refl
 
 gap-taken : (cells : List Cell) (h : Here) → IsAtLast h → length cells ≤ any_size →
-    behind_opening cells h ≡ ended_line (gap_inside cells h.point) cells h
+    after_opening cells h ≡ ended_line (gap_inside cells h.point) cells h
 gap-taken cells h at le = go (begins_white cells) refl
   where
     q : Point
     q = white_end any_size cells h.point
 
-    behind : IsAtLast (behind_white any_size cells h)
-    behind = record {
+    following : IsAtLast (following_white any_size cells h)
+    following = record {
       rest = rest-calm h.scratch at.rest;
       last = last_point-append first_point h.events (enter SpaceOrTab h.point ∷ exit SpaceOrTab q ∷ []);
     }
 
-    go : (x : Bool) → begins_white cells ≡ x → behind_opening cells h ≡ ended_line (gap_inside cells h.point) cells h
+    go : (x : Bool) → begins_white cells ≡ x → after_opening cells h ≡ ended_line (gap_inside cells h.point) cells h
     go true s =
         opening-gap cells h s
-        ∙ text-taken (white_rest any_size cells) (behind_white any_size cells h) behind (white-all any_size cells le)
+        ∙ text-taken (white_rest any_size cells) (following_white any_size cells h) following
+        (white-all any_size cells le)
         ∙ rw (
           white-ending any_size cells,
           white-line_end any_size cells h.point,
@@ -91,7 +92,7 @@ gap-taken cells h at le = go (begins_white cells) refl
 
 -- after its sequence
 sequence-taken : (cells : List Cell) (h : Here) → IsRest h.scratch → length cells ≤ any_size →
-    behind_opening cells (record h { events = h.events ++ exit HeadingAtxSequence h.point ∷ [] }) ≡
+    after_opening cells (record h { events = h.events ++ exit HeadingAtxSequence h.point ∷ [] }) ≡
     ended_line (exit HeadingAtxSequence h.point ∷ gap_inside cells h.point) cells h
 sequence-taken cells h is le =
     gap-taken cells (record h { events = h.events ++ exit HeadingAtxSequence h.point ∷ [] })
@@ -115,20 +116,20 @@ hashes-taken (c ∷ cs) h is le =
 
 opening-taken : (cells : List Cell) (h : Here) → IsRest h.scratch → length cells ≤ any_size →
     is_heading (line_bytes cells) ≡ true →
-    before_opening cells h ≡ ended_line (behind_indent cells h.point) cells h
+    before_opening cells h ≡ ended_line (after_indent cells h.point) cells h
 opening-taken cells h is le e =
     before-is cells h e ∙ hashes-taken cells (sequence_begun h) is le ∙ (simp append_assoc)
 
 taken-none : (cells : List Cell) (h : Here) →
-    ended_line (behind_indent cells h.point) cells (entered_here HeadingAtx h) ≡
-    taken_line (behind_indent cells h.point) cells h
+    ended_line (after_indent cells h.point) cells (entered_here HeadingAtx h) ≡
+    taken_line (after_indent cells h.point) cells h
 taken-none cells h = simp append_assoc
 
 taken-white : (room : ℕ) (cells : List Cell) (h : Here) → calmed h.scratch ≡ h.scratch →
     let rest = white_rest room cells in
     let q = white_end room cells h.point in
-    ended_line (behind_indent rest q) rest (behind_white room cells (entered_here HeadingAtx h)) ≡
-    taken_line (pair SpaceOrTab h.point q ++ behind_indent rest q) cells h
+    ended_line (after_indent rest q) rest (following_white room cells (entered_here HeadingAtx h)) ≡
+    taken_line (pair SpaceOrTab h.point q ++ after_indent rest q) cells h
 taken-white room cells h calm =
     rw (white-ending room cells, white-line_end room cells h.point, calm) (simp append_assoc)
 
@@ -148,11 +149,11 @@ heading-taken options cells h is le e = go (begins_white cells) refl
     go true s =
         at-white HeadingAtx _ before_opening options cells h parts.0 s
         ∙ opening-taken (white_rest (small_indent options) cells)
-        (behind_white (small_indent options) cells (entered_here HeadingAtx h)) (rest-calm h.scratch is)
+        (following_white (small_indent options) cells (entered_here HeadingAtx h)) (rest-calm h.scratch is)
         (omega (arith, le, white-length (small_indent options) cells)) parts.1
         ∙ taken-white (small_indent options) cells h (rest-calm h.scratch is ∙ sym is)
         ∙ ap (λ (es : List Event). taken_line es cells h)
-        (sym (indented-white behind_indent (small_indent options) cells h.point s))
+        (sym (indented-white after_indent (small_indent options) cells h.point s))
     go false s =
         at-none HeadingAtx _ before_opening options cells h parts.0 s
         ∙ opening-taken cells (entered_here HeadingAtx h) is le
@@ -160,7 +161,7 @@ heading-taken options cells h is le e = go (begins_white cells) refl
         ∙ parts.1)
         ∙ taken-none cells h
         ∙ ap (λ (es : List Event). taken_line es cells h)
-        (sym (indented-none behind_indent (small_indent options) cells h.point s))
+        (sym (indented-none after_indent (small_indent options) cells h.point s))
 
 -- any other line is refused
 pub heading-refused : (options : ParseOptions) (cells : List Cell) (h : Here) → calmed h.scratch ≡ h.scratch →
@@ -173,7 +174,7 @@ heading-refused options cells h calm e = by options.constructs.heading_atx refl
     go on none true s =
         at-white HeadingAtx _ before_opening options cells h on s
         ∙ before-no (white_rest (small_indent options) cells)
-        (behind_white (small_indent options) cells (entered_here HeadingAtx h)) none
+        (following_white (small_indent options) cells (entered_here HeadingAtx h)) none
         ∙ ap (λ (t : Scratch). Refuses t h.flags) calm
     go on none false s =
         at-none HeadingAtx _ before_opening options cells h on s

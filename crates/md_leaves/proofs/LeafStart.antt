@@ -21,37 +21,38 @@ use Rattle.md_leaves.proofs.LeafSteps.{white_frame}
 use Rattle.md_meaning.specs.Rest.{is_white}
 use Rattle.md_events.specs.Ahead.{HasWhite, begins_white, line_bytes, line_cells, white_end, white_rest}
 use Rattle.md_events.specs.Events.Nested.{enter, pair}
-use Rattle.md_events.specs.Look.{first_seen, seen_behind}
+use Rattle.md_events.specs.Look.{first_seen, seen_after}
 use Rattle.md_events.specs.Spaces.{IsRest, rest_ready, sees_white, small_indent}
 use Rattle.md_events.specs.Transition.{entered}
 use Rattle.md_events.proofs.AheadLemmas.{none-end, none-rest, small-some}
 use Rattle.md_events.proofs.LookLemmas.{rest-begins}
 use Rattle.md_events.proofs.SpacesTermination.{Does, WhiteFits, rest-calm, rest-none, white_try}
-use Rattle.md_events.proofs.WhiteMeaning.{begins-seen, behind_white, white-tried}
+use Rattle.md_events.proofs.WhiteMeaning.{begins-seen, following_white, white-tried}
 
 -- What is left of it: where it is off,
-pub at-off : (name : Name) (on : Bool) (behind : List Cell → Here → Outcome) (options : ParseOptions)
+pub at-off : (name : Name) (on : Bool) (following : List Cell → Here → Outcome) (options : ParseOptions)
     (cells : List Cell) (h : Here) →
-    on ≡ false → start_at name on behind options cells h ≡ Refuses h.scratch h.flags
+    on ≡ false → start_at name on following options cells h ≡ Refuses h.scratch h.flags
 unfolding start_at
-at-off name on behind options cells h off = rw off refl
+at-off name on following options cells h off = rw off refl
 
 -- after whitespace,
-pub at-white : (name : Name) (on : Bool) (behind : List Cell → Here → Outcome) (options : ParseOptions)
+pub at-white : (name : Name) (on : Bool) (following : List Cell → Here → Outcome) (options : ParseOptions)
     (cells : List Cell) (h : Here) →
     on ≡ true → begins_white cells ≡ true →
-    start_at name on behind options cells h ≡
-    behind (white_rest (small_indent options) cells) (behind_white (small_indent options) cells (entered_here name h))
+    start_at name on following options cells h ≡
+    following (white_rest (small_indent options) cells)
+    (following_white (small_indent options) cells (entered_here name h))
 unfolding start_at
-at-white name on behind options cells h is s = rw (is, s) refl
+at-white name on following options cells h is s = rw (is, s) refl
 
 -- and where there is none.
-pub at-none : (name : Name) (on : Bool) (behind : List Cell → Here → Outcome) (options : ParseOptions)
+pub at-none : (name : Name) (on : Bool) (following : List Cell → Here → Outcome) (options : ParseOptions)
     (cells : List Cell) (h : Here) →
     on ≡ true → begins_white cells ≡ false →
-    start_at name on behind options cells h ≡ behind cells (entered_here name h)
+    start_at name on following options cells h ≡ following cells (entered_here name h)
 unfolding start_at
-at-none name on behind options cells h is s = rw (is, s) refl
+at-none name on following options cells h is s = rw (is, s) refl
 
 -- What is in one that takes its line: with no indent,
 pub indented-none : (inside : List Cell → Point → List Event) (room : ℕ) (cells : List Cell) (p : Point) →
@@ -82,7 +83,7 @@ indented-white inside room cells p e =
 -- that begins with such a byte, or with whitespace.
 pub rule-refused : (may : ℕ → Bool) (on : Bool) (rule : List ℕ → Bool) (room : ℕ) (cells : List Cell) (b : ℕ) →
     rule [] ≡ false → ((c : ℕ) (bytes : List ℕ) → may c ≡ false → rule (c ∷ bytes) ≡ false) →
-    ((c : ℕ) → is_white c ≡ true → may c ≡ false) → seen_behind cells ≡ Some b → may b ≡ false →
+    ((c : ℕ) → is_white c ≡ true → may c ≡ false) → seen_after cells ≡ Some b → may b ≡ false →
     on && rule (line_bytes (white_rest room cells)) ≡ false
 rule-refused may on rule room cells b none other white seen e = by on
   where
@@ -107,39 +108,40 @@ rule-refused may on rule room cells b none other white seen e = by on
 
 -- The rule has it at its first state, and what is left of it after the indent at the next.
 pub record HasStart (B : Behaviour) (options : ParseOptions) (name : Name) (on : Bool)
-    (behind : List Cell → Here → Outcome) (start next : StateName) : Type 0 where
+    (following : List Cell → Here → Outcome) (start next : StateName) : Type 0 where
   pub white : HasWhite B
-  pub start_is : (cells : List Cell) (h : Here) → B start cells h ≡ start_at name on behind options cells h
-  pub next_is : (cells : List Cell) (h : Here) → B next cells h ≡ behind cells h
+  pub start_is : (cells : List Cell) (h : Here) → B start cells h ≡ start_at name on following options cells h
+  pub next_is : (cells : List Cell) (h : Here) → B next cells h ≡ following cells h
 
 -- Its first state takes one step of it, if it has it there.
-pub start-steps_here : (B : Behaviour) (feed : Feed) (name : Name) (on : Bool) (behind : List Cell → Here → Outcome)
+pub start-steps_here : (B : Behaviour) (feed : Feed) (name : Name) (on : Bool) (following : List Cell → Here → Outcome)
     (start next : StateName) (w : World) (x y : Bool) →
-    HasWhite B → B start (feed w.point) (here w) ≡ start_at name on behind w.setting.options (feed w.point) (here w) →
-    ((cells : List Cell) (h : Here) → B next cells h ≡ behind cells h) →
+    HasWhite B → B start (feed w.point) (here w) ≡ start_at name on following w.setting.options
+    (feed w.point) (here w) →
+    ((cells : List Cell) (h : Here) → B next cells h ≡ following cells h) →
     Sees feed w → on ≡ x → sees_white w.current ≡ y →
     Steps B feed (Next start) w (start_code name next w x y).to (start_code name next w x y).world
-start-steps_here B feed name on behind start next w false y has_white start_is next_is s e f =
-    passes B feed _ _ w w refl refl (start_is ∙ at-off name on behind _ (feed w.point) (here w) e)
-start-steps_here B feed name on behind start next w true true has_white start_is next_is s e f =
+start-steps_here B feed name on following start next w false y has_white start_is next_is s e f =
+    passes B feed _ _ w w refl refl (start_is ∙ at-off name on following _ (feed w.point) (here w) e)
+start-steps_here B feed name on following start next w true true has_white start_is next_is s e f =
     let h : Here = entered_here name (here w) in
     let frame : Frame = white_frame (Next next) w h.events in
     let white : begins_white (feed w.point) ≡ true = begins-seen feed w s ∙ f in
     begins B feed _ _ w (start_code name next w true true).world (enter name w.point ∷ []) frame refl refl
-    (start_is ∙ at-white name on behind _ (feed w.point) (here w) e white ∙ sym (next_is _ _)
+    (start_is ∙ at-white name on following _ (feed w.point) (here w) e white ∙ sym (next_is _ _)
     ∙ white-tried B feed frame h.events (feed w.point) h 0 (small_indent w.setting.options) has_white white
     (small-some w.setting.options) (omega arith) refl)
-start-steps_here B feed name on behind start next w true false has_white start_is next_is s e f =
+start-steps_here B feed name on following start next w true false has_white start_is next_is s e f =
     moves B feed _ _ w (start_code name next w true false).world (enter name w.point ∷ []) refl refl
-    (start_is ∙ at-none name on behind _ (feed w.point) (here w) e (begins-seen feed w s ∙ f) ∙ sym (next_is _ _))
+    (start_is ∙ at-none name on following _ (feed w.point) (here w) e (begins-seen feed w s ∙ f) ∙ sym (next_is _ _))
 
 -- The same of one that has it everywhere.
-pub start-steps : (B : Behaviour) (feed : Feed) (name : Name) (on : Bool) (behind : List Cell → Here → Outcome)
+pub start-steps : (B : Behaviour) (feed : Feed) (name : Name) (on : Bool) (following : List Cell → Here → Outcome)
     (start next : StateName) (w : World) (x y : Bool) →
-    HasStart B w.setting.options name on behind start next → Sees feed w → on ≡ x → sees_white w.current ≡ y →
+    HasStart B w.setting.options name on following start next → Sees feed w → on ≡ x → sees_white w.current ≡ y →
     Steps B feed (Next start) w (start_code name next w x y).to (start_code name next w x y).world
-start-steps B feed name on behind start next w x y has s e f =
-    start-steps_here B feed name on behind start next w x y has.white (has.start_is _ _) has.next_is s e f
+start-steps B feed name on following start next w x y has s e f =
+    start-steps_here B feed name on following start next w x y has.white (has.start_is _ _) has.next_is s e f
 
 -- A table has both states: the next one asks no more than the first, and ranks below it.
 pub record FitsStart (T own : Scheme) (start next : StateName) : Type 1 where

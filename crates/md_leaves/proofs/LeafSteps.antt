@@ -15,7 +15,7 @@ use Rattle.md_events.specs.Ahead.{from_ending, line_bytes, line_cells, white_end
 use Rattle.md_events.specs.Events.Nested.{enter, exit}
 use Rattle.md_meaning.specs.Rest.{is_white}
 use Rattle.md_events.specs.Spaces.{calmed, ends_line, is_current, sees_white}
-use Rattle.md_events.proofs.WhiteMeaning.{behind_white}
+use Rattle.md_events.proofs.WhiteMeaning.{following_white}
 
 -- what is seen of a byte that passes a test
 pub sees-one : (feed : Feed) (w : World) (t : Option ℕ → Bool) → t None ≡ false → Sees feed w → t w.current ≡ true →
@@ -83,38 +83,40 @@ here_after room cells h = record h {
 }
 
 -- after whitespace that was begun here, its events written in another way
-pub behind-joined : (room : ℕ) (cells : List Cell) (h : Here) → calmed h.scratch ≡ h.scratch →
-    here_after room cells (record h { events = h.events ++ enter SpaceOrTab h.point ∷ [] }) ≡ behind_white room cells h
+pub following-joined : (room : ℕ) (cells : List Cell) (h : Here) → calmed h.scratch ≡ h.scratch →
+    here_after room cells (record h { events = h.events ++ enter SpaceOrTab h.point ∷ [] }) ≡
+    following_white room cells h
 unfolding here_after
-behind-joined room cells h same =
+following-joined room cells h same =
     ap₂
     (λ (es : List Event) (t : Scratch).
     let r : Here = record h { events = es; point = white_end room cells h.point; scratch = t } in r)
     (append_assoc h.events (enter SpaceOrTab h.point ∷ []) _) (sym same)
 
 -- A rule that takes whitespace byte by byte while its scratch passes a test, and what is left after it.
-pub record TakesWhite (P : Scratch → Type 0) (inside behind : List Cell → Here → Outcome) : Type 0 where
+pub record TakesWhite (P : Scratch → Type 0) (inside following : List Cell → Here → Outcome) : Type 0 where
   pub more : (c : Cell) (cs : List Cell) (h : Here) → P h.scratch → is_white c.byte ≡ true →
       inside (c ∷ cs) h ≡ inside cs (record h { point = c.after })
   pub stop : (c : Cell) (cs : List Cell) (h : Here) → P h.scratch → is_white c.byte ≡ false →
-      inside (c ∷ cs) h ≡ behind (c ∷ cs) (record h { events = h.events ++ exit SpaceOrTab h.point ∷ [] })
+      inside (c ∷ cs) h ≡ following (c ∷ cs) (record h { events = h.events ++ exit SpaceOrTab h.point ∷ [] })
   pub none : (h : Here) → P h.scratch →
-      inside [] h ≡ behind [] (record h { events = h.events ++ exit SpaceOrTab h.point ∷ [] })
+      inside [] h ≡ following [] (record h { events = h.events ++ exit SpaceOrTab h.point ∷ [] })
 
 -- after a run of whitespace, however long
-pub white-run : (P : Scratch → Type 0) (inside behind : List Cell → Here → Outcome) (room : ℕ) (cells : List Cell)
+pub white-run : (P : Scratch → Type 0) (inside following : List Cell → Here → Outcome) (room : ℕ) (cells : List Cell)
     (h : Here) →
-    TakesWhite P inside behind → P h.scratch → length cells ≤ room →
-    inside cells h ≡ behind (white_rest room cells) (here_after room cells h)
+    TakesWhite P inside following → P h.scratch → length cells ≤ room →
+    inside cells h ≡ following (white_rest room cells) (here_after room cells h)
 unfolding here_after
-white-run P inside behind room [] h takes is le = takes.none h is
-white-run P inside behind zero (c ∷ cs) h takes is le = absurd (omega arith)
-white-run P inside behind (suc room) (c ∷ cs) h takes is le =
-    go (is_white c.byte) refl (white-run P inside behind room cs (record h { point = c.after }) takes is (omega arith))
+white-run P inside following room [] h takes is le = takes.none h is
+white-run P inside following zero (c ∷ cs) h takes is le = absurd (omega arith)
+white-run P inside following (suc room) (c ∷ cs) h takes is le =
+    go (is_white c.byte) refl (white-run P inside following room cs (record h { point = c.after }) takes is
+    (omega arith))
   where
     go : (x : Bool) → is_white c.byte ≡ x →
         inside cs (record h { point = c.after }) ≡
-        behind (white_rest room cs) (here_after room cs (record h { point = c.after })) →
-        inside (c ∷ cs) h ≡ behind (white_rest (suc room) (c ∷ cs)) (here_after (suc room) (c ∷ cs) h)
+        following (white_rest room cs) (here_after room cs (record h { point = c.after })) →
+        inside (c ∷ cs) h ≡ following (white_rest (suc room) (c ∷ cs)) (here_after (suc room) (c ∷ cs) h)
     go true s on = takes.more c cs h is s ∙ on ∙ rw s refl
     go false k on = takes.stop c cs h is k ∙ rw k refl

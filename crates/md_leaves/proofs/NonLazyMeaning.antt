@@ -65,25 +65,25 @@ non_lazy_start_means B none feed w false has s e =
 
 -- After the ending.
 
-behind-lazy : (none : Line) (cells : List Cell) (h : Here) → is_lazy none cells ≡ true →
+following-lazy : (none : Line) (cells : List Cell) (h : Here) → is_lazy none cells ≡ true →
     after_ending none cells h ≡ Refuses h.scratch h.flags
 unfolding after_ending
-behind-lazy none cells h e = rw e refl
+following-lazy none cells h e = rw e refl
 
-behind-other : (none : Line) (cells : List Cell) (h : Here) → is_lazy none cells ≡ false →
+following-other : (none : Line) (cells : List Cell) (h : Here) → is_lazy none cells ≡ false →
     after_ending none cells h ≡ Accepts h cells
 unfolding after_ending
-behind-other none cells h e = rw e refl
+following-other none cells h e = rw e refl
 
 pub non_lazy_after_means : (B : Behaviour) (none : Line) (feed : Feed) (w : World) (x : Bool) → HasNonLazy B none →
     line_of none (feed w.point) ≡ w.setting.line → w.setting.line.lazy ≡ x →
     Steps B feed (Next (n.NonLazyContinuation its.After)) w (after_code w x).to (after_code w x).world
 non_lazy_after_means B none feed w true has said e =
     passes B feed _ _ w w refl refl
-    (has.each its.After _ _ ∙ behind-lazy none (feed w.point) (here w) (ap (λ (l : Line). l.lazy) said ∙ e))
+    (has.each its.After _ _ ∙ following-lazy none (feed w.point) (here w) (ap (λ (l : Line). l.lazy) said ∙ e))
 non_lazy_after_means B none feed w false has said e =
     passes B feed _ _ w w refl refl
-    (has.each its.After _ _ ∙ behind-other none (feed w.point) (here w) (ap (λ (l : Line). l.lazy) said ∙ e))
+    (has.each its.After _ _ ∙ following-other none (feed w.point) (here w) (ap (λ (l : Line). l.lazy) said ∙ e))
 
 -- each state of the check takes one step of what it means, where the next line is the one that the parent speaks of
 pub non_lazy_means : (B : Behaviour) (none : Line) (feed : Feed) (state : NonLazyState) (w : World) →

@@ -15,7 +15,7 @@ use Rattle.md_events.specs.Events.Places.{past_byte, past_text}
 use Rattle.md_events.proofs.FeedLines.{past-next}
 use Rattle.md_events.proofs.PlacesLemmas.{at-next}
 use Rattle.md_events.proofs.PointOrder.{reached-column}
-use Rattle.md_events.proofs.ReachedLemmas.{same-behind}
+use Rattle.md_events.proofs.ReachedLemmas.{same-following}
 
 -- a point of a text has a column from 1 on
 pub column-some : (bytes : List ℕ) (p : Point) → IsPlaced bytes p → 1 ≤ p.column
@@ -46,7 +46,7 @@ byte-by : (bytes : List ℕ) (b : ℕ) (p : Point) → IsByte bytes b p → (x :
     IsPlaced bytes (past_byte b p)
 byte-by bytes b p is false e more =
     let next : next_point bytes p ≡ past_byte b p =
-    rw (is.byte, is.line, e) (sym (same-behind b p (column-some bytes p is.placed) e)) in
+    rw (is.byte, is.line, e) (sym (same-following b p (column-some bytes p is.placed) e)) in
     subst (IsPlaced bytes) next (placed-next bytes p is.placed is.inside)
 byte-by bytes b p is true e more =
     let parts = and_parts (b == 9) (not (p.column % 4 == 0)) e in
@@ -110,10 +110,10 @@ on-front bytes xs ys p on = record {
   line = no_ending-front xs ys on.line;
 }
 
-pub on-behind : (bytes xs ys : List ℕ) (p : Point) → IsOnLine bytes (xs ++ ys) p →
+pub on-following : (bytes xs ys : List ℕ) (p : Point) → IsOnLine bytes (xs ++ ys) p →
     IsOnLine bytes ys (past_text xs p)
-on-behind bytes [] ys p on = on
-on-behind bytes (x ∷ xs) ys p on = on-behind bytes xs ys (past_byte x p) (on-next bytes x (xs ++ ys) p on)
+on-following bytes [] ys p on = on
+on-following bytes (x ∷ xs) ys p on = on-following bytes xs ys (past_byte x p) (on-next bytes x (xs ++ ys) p on)
 
 -- its point leaves room to continue
 pub record HasRoom (p : Point) : Type 0 where

@@ -1,7 +1,7 @@
 -- Two places on one line of a text: no byte between them ends a line, and a place is known by its bytes.
-use Rattle.std.proofs.Common.{◌≡◌, ℕ, zero, suc, ◌+◌, ◌-◌, ◌%◌, ◌<◌, ◌≤◌, ◌⊎◌, inl, inr, Bool, true, false, cond, ◌&&◌, ◌||◌}
-use Rattle.std.proofs.Common.{nat_lt, length-drop, not, List, [], ◌∷◌, ◌++◌, length, take, drop, refl, sym, ◌∙◌, ap, subst, arith}
-use Rattle.std.proofs.Common.{append-nil, length-append}
+use Rattle.std.proofs.Common.{◌≡◌, ℕ, zero, suc, ◌+◌, ◌-◌, ◌%◌, ◌<◌, ◌≤◌, ◌⊎◌, inl, inr, Bool, true, false, cond, ◌&&◌}
+use Rattle.std.proofs.Common.{◌||◌, nat_lt, length-drop, not, List, [], ◌∷◌, ◌++◌, length, take, drop, refl, sym, ◌∙◌}
+use Rattle.std.proofs.Common.{ap, subst, arith, append-nil, length-append}
 use Rattle.std.specs.Prelude.{◌==◌, slice_index}
 use Rattle.std.specs.List.{list_any}
 use Rattle.std.proofs.Math.Logic.{∥∥₁_elim}
@@ -13,7 +13,7 @@ use Rattle.md_engine.specs.declared.event.Point.{Point}
 use Rattle.md_engine.specs.declared.tokenizer.Scratch.{Scratch}
 use Rattle.md_engine.specs.Place.{IsPlaced, IsReached, is_pair, next_point, walked}
 use Rattle.md_leaves.specs.OnLine.{IsOnLine}
-use Rattle.md_leaves.proofs.OnLine.{column-some, on-behind, on-next}
+use Rattle.md_leaves.proofs.OnLine.{column-some, on-following, on-next}
 use Rattle.md_meaning.proofs.TextsLemmas.{NoEnding}
 use Rattle.md_meaning.specs.Lines.{is_ending, without_ending}
 use Rattle.md_events.specs.Events.Places.{past_byte, past_text}
@@ -22,7 +22,7 @@ use Rattle.md_events.specs.WholeLine.{line_taken}
 use Rattle.md_events.proofs.InlineLemmas.{past-index, past_text-append}
 use Rattle.md_events.proofs.LineTaken.{taken-slice}
 use Rattle.md_events.proofs.PointOrder.{Before, placed-same, walk-before}
-use Rattle.md_events.proofs.ReachedLemmas.{same-behind}
+use Rattle.md_events.proofs.ReachedLemmas.{same-following}
 use Rattle.md_events.proofs.FeedLines.{past_text-whole}
 
 -- Lines never go back.
@@ -145,7 +145,7 @@ past-plain (b ∷ bs) p e some none =
     let q = past_byte b p in
     let n = length bs in
     let here : q ≡ further 1 p =
-    same-behind b p some (ap (λ (x : Bool). x && not (p.column % 4 == 0)) parts.0) in
+    same-following b p some (ap (λ (x : Bool). x && not (p.column % 4 == 0)) parts.0) in
     let more : 1 ≤ q.column = subst (λ (r : Point). 1 ≤ r.column) (sym here) (omega (arith, some)) in
     let column : p.column + 1 + n ≡ p.column + suc n = omega arith in
     let index : p.index + 1 + n ≡ p.index + suc n = omega arith in
@@ -175,12 +175,13 @@ end-back bytes xs ys p q on e k f at none =
     let all = past_text (xs ++ ys) p in
     let whole : z.vs ≡ 0 = past_text-whole xs p e in
     let placed : IsPlaced bytes all =
-    (on-behind bytes (xs ++ ys) [] p (subst (λ (l : List ℕ). IsOnLine bytes l p) (sym (append-nil (xs ++ ys))) on)).placed in
+    (on-following bytes (xs ++ ys) [] p (subst (λ (l : List ℕ). IsOnLine bytes l p) (sym (append-nil (xs ++ ys)))
+    on)).placed in
     let same : all ≡ q =
     placed-same bytes all q placed k
     (omega (arith, past-index (xs ++ ys) p, at, length-append xs ys)) (past_text-whole (xs ++ ys) p e ∙ sym f) in
     let plain : past_text ys z ≡ further (length ys) z =
-    past-plain ys z whole (column-some bytes z (on-behind bytes xs ys p on).placed) none in
+    past-plain ys z whole (column-some bytes z (on-following bytes xs ys p on).placed) none in
     back-further (length ys) z q whole (sym plain ∙ sym (past_text-append xs ys p) ∙ same)
 
 -- a piece of a line is within its text

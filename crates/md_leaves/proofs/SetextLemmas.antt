@@ -9,7 +9,7 @@ use Rattle.md_engine.specs.declared.tokenizer.held_leaf.HeldLeaf.TheVariants as 
 use Rattle.md_engine.specs.declared.tokenizer.Scratch.{Scratch}
 use Rattle.md_engine.specs.Meaning.{Accepts, Cell, Here, Outcome, Refuses}
 use Rattle.md_leaves.specs.HeadingSetext.{is_marker, without_marker}
-use Rattle.md_leaves.specs.HeadingSetextRule.{before_run, behind_run, in_run, is_run, runs}
+use Rattle.md_leaves.specs.HeadingSetextRule.{before_run, after_run, in_run, is_run, runs}
 use Rattle.md_leaves.specs.MarkRuns.{White}
 use Rattle.md_leaves.proofs.BreakLemmas.{white-apart}
 use Rattle.md_leaves.proofs.HeadingLemmas.{run_len-one, run_len-other}
@@ -66,23 +66,23 @@ in_white-more m c cs h apart white = rw (white-no_ending c.byte white, white-apa
 
 -- where it ends, the line ends, or something else is
 in_white-ends : (m : ℕ) (c : Cell) (cs : List Cell) (h : Here) → is_white c.byte ≡ false →
-    in_white m (c ∷ cs) h ≡ behind_run (c ∷ cs) (record h { events = h.events ++ exit SpaceOrTab h.point ∷ [] })
-unfolding in_white behind_run
+    in_white m (c ∷ cs) h ≡ after_run (c ∷ cs) (record h { events = h.events ++ exit SpaceOrTab h.point ∷ [] })
+unfolding in_white after_run
 in_white-ends m c cs h white = go (nat_eq c.byte 10) refl
   where
     go : (x : Bool) → nat_eq c.byte 10 ≡ x →
-        in_white m (c ∷ cs) h ≡ behind_run (c ∷ cs) (record h { events = h.events ++ exit SpaceOrTab h.point ∷ [] })
+        in_white m (c ∷ cs) h ≡ after_run (c ∷ cs) (record h { events = h.events ++ exit SpaceOrTab h.point ∷ [] })
     go true e = rw e refl
     go false e = rw (e, white) refl
 
 -- and where the text ends
 in_white-none : (m : ℕ) (h : Here) →
-    in_white m [] h ≡ behind_run [] (record h { events = h.events ++ exit SpaceOrTab h.point ∷ [] })
-unfolding in_white behind_run
+    in_white m [] h ≡ after_run [] (record h { events = h.events ++ exit SpaceOrTab h.point ∷ [] })
+unfolding in_white after_run
 in_white-none m h = refl
 
 -- it is taken byte by byte
-pub takes-white : (m : ℕ) → is_white m ≡ false → TakesWhite (λ s. ⊤) (in_white m) behind_run
+pub takes-white : (m : ℕ) → is_white m ≡ false → TakesWhite (λ s. ⊤) (in_white m) after_run
 takes-white m apart = record {
   more = λ c cs h is white. in_white-more m c cs h apart white;
   stop = λ c cs h is white. in_white-ends m c cs h white;
@@ -90,8 +90,8 @@ takes-white m apart = record {
 }
 
 -- after the run
-abbrev pub behind_sequence : Here → Here
-behind_sequence h = record h {
+abbrev pub after_sequence : Here → Here
+after_sequence h = record h {
   events = h.events ++ exit HeadingSetextUnderlineSequence h.point ∷ [];
   scratch = without_marker h.scratch;
 }
@@ -101,7 +101,7 @@ pub in_run-white : (c : Cell) (cs : List Cell) (h : Here) → is_white c.byte �
     nat_eq c.byte h.scratch.marker ≡ false →
     in_run (c ∷ cs) h ≡
     in_white h.scratch.marker (c ∷ cs)
-    (record (behind_sequence h) { events = (behind_sequence h).events ++ enter SpaceOrTab h.point ∷ [] })
+    (record (after_sequence h) { events = (after_sequence h).events ++ enter SpaceOrTab h.point ∷ [] })
 unfolding in_run in_white
 in_run-white c cs h white other =
     rw (white-no_ending c.byte white, is_run-other h.scratch.marker c.byte (line_bytes cs) other, other)
@@ -109,17 +109,17 @@ in_run-white c cs h white other =
 
 -- where the run ends and no whitespace is
 pub in_run-ends : (c : Cell) (cs : List Cell) (h : Here) → is_white c.byte ≡ false →
-    nat_eq c.byte h.scratch.marker ≡ false → in_run (c ∷ cs) h ≡ behind_run (c ∷ cs) (behind_sequence h)
-unfolding in_run behind_run
+    nat_eq c.byte h.scratch.marker ≡ false → in_run (c ∷ cs) h ≡ after_run (c ∷ cs) (after_sequence h)
+unfolding in_run after_run
 in_run-ends c cs h white other = go (nat_eq c.byte 10) refl
   where
-    go : (x : Bool) → nat_eq c.byte 10 ≡ x → in_run (c ∷ cs) h ≡ behind_run (c ∷ cs) (behind_sequence h)
+    go : (x : Bool) → nat_eq c.byte 10 ≡ x → in_run (c ∷ cs) h ≡ after_run (c ∷ cs) (after_sequence h)
     go true e = rw e refl
     go false e = rw (e, is_run-other h.scratch.marker c.byte (line_bytes cs) other, white) refl
 
 -- and where the text ends
-pub in_run-none : (h : Here) → in_run [] h ≡ behind_run [] (behind_sequence h)
-unfolding in_run behind_run
+pub in_run-none : (h : Here) → in_run [] h ≡ after_run [] (after_sequence h)
+unfolding in_run after_run
 in_run-none h = refl
 
 -- After the indent.

@@ -19,11 +19,11 @@ use Rattle.md_engine.specs.Sees.{Sees, ahead, cell_here}
 use Rattle.md_engine.proofs.StepOf.{steps-as, begins, moves, passes}
 use Rattle.md_leaves.specs.HeadingSetext.{SetextInvariant, after_code, before_code, inside_code, is_marker}
 use Rattle.md_leaves.specs.HeadingSetext.{setext_ready, setext_transition, without_marker}
-use Rattle.md_leaves.specs.HeadingSetextRule.{SetextMeans, HasSetext, before_run, behind_run, in_run}
+use Rattle.md_leaves.specs.HeadingSetextRule.{SetextMeans, HasSetext, before_run, after_run, in_run}
 use Rattle.md_leaves.proofs.BreakTermination.{marked-calm, rest-marker}
 use Rattle.md_leaves.proofs.LeafStart.{start-steps_here}
-use Rattle.md_leaves.proofs.LeafSteps.{behind-joined, sees-one, sees-other_white, white-run, white_frame}
-use Rattle.md_leaves.proofs.SetextLemmas.{before-mark, before-none, before-other, behind_sequence, in_run-ends}
+use Rattle.md_leaves.proofs.LeafSteps.{following-joined, sees-one, sees-other_white, white-run, white_frame}
+use Rattle.md_leaves.proofs.SetextLemmas.{before-mark, before-none, before-other, after_sequence, in_run-ends}
 use Rattle.md_leaves.proofs.SetextLemmas.{in_run-mark, in_run-none, in_run-white, in_white, marker-no_ending}
 use Rattle.md_leaves.proofs.SetextLemmas.{marker-no_white, takes-white}
 use Rattle.md_events.specs.Ahead.{white_rest}
@@ -76,7 +76,7 @@ before_means B options feed w has s r = go w.current s.next
 
 -- neither the marker nor whitespace is here
 run-stops : (feed : Feed) (w : World) (h : Here) (o : Option ℕ) → is_current h.scratch.marker o ≡ false →
-    sees_white o ≡ false → in_run (ahead feed w o) h ≡ behind_run (ahead feed w o) (behind_sequence h)
+    sees_white o ≡ false → in_run (ahead feed w o) h ≡ after_run (ahead feed w o) (after_sequence h)
 run-stops feed w h None e f = in_run-none h
 run-stops feed w h (Some b) e f = in_run-ends (cell_here feed w b) (feed (after w.setting w.point)) h f e
 
@@ -96,7 +96,7 @@ inside_means B options feed w true y has s r mark e f =
 inside_means B options feed w false true has s r mark e f =
     let saw = sees-other_white feed w w.scratch.marker s e f in
     let m = w.scratch.marker in
-    let h : Here = behind_sequence (here w) in
+    let h : Here = after_sequence (here w) in
     let begun : Here = record h { events = h.events ++ enter SpaceOrTab h.point ∷ [] } in
     let frame : Frame = white_frame (Next (n.HeadingSetext its.After)) w h.events in
     begins B feed _ _ w (inside_code w false true).world
@@ -104,10 +104,10 @@ inside_means B options feed w false true has s r mark e f =
     (has.each its.Inside _ _ ∙ ap (λ (x : List Cell). in_run x (here w)) saw.1
     ∙ in_run-white (cell_here feed w saw.0) (feed (after w.setting w.point)) (here w) saw.3 saw.2
     ∙ ap (λ (x : List Cell). in_white m x begun) (sym saw.1)
-    ∙ white-run _ (in_white m) behind_run any_size (feed w.point) begun (takes-white m (marker-no_white m mark)) tt
+    ∙ white-run _ (in_white m) after_run any_size (feed w.point) begun (takes-white m (marker-no_white m mark)) tt
     (omega (arith, s.short))
-    ∙ ap (behind_run (white_rest any_size (feed w.point)))
-    (behind-joined any_size (feed w.point) h (marked-calm (without_marker w.scratch) r))
+    ∙ ap (after_run (white_rest any_size (feed w.point)))
+    (following-joined any_size (feed w.point) h (marked-calm (without_marker w.scratch) r))
     ∙ sym (has.each its.After _ _)
     ∙ white-tried B feed frame h.events (feed w.point) h 0 any_size has.white (begins-seen feed w s ∙ f) (omega arith)
     (omega arith) refl)
@@ -115,27 +115,27 @@ inside_means B options feed w false false has s r mark e f =
     moves B feed _ _ w (inside_code w false false).world (exit HeadingSetextUnderlineSequence w.point ∷ []) refl refl
     (has.each its.Inside _ _ ∙ ap (λ (x : List Cell). in_run x (here w)) s.next
     ∙ run-stops feed w (here w) w.current e f
-    ∙ ap (λ (x : List Cell). behind_run x (behind_sequence (here w))) (sym s.next) ∙ sym (has.each its.After _ _))
+    ∙ ap (λ (x : List Cell). after_run x (after_sequence (here w))) (sym s.next) ∙ sym (has.each its.After _ _))
 
 -- After the run and whitespace.
 
 -- where the line ends
-behind-ends : (cells : List Cell) (h : Here) → ends_line (first_seen cells) ≡ true →
-    behind_run cells h ≡
+following-ends : (cells : List Cell) (h : Here) → ends_line (first_seen cells) ≡ true →
+    after_run cells h ≡
     Accepts
     (record h {
       events = h.events ++ exit HeadingSetextUnderline h.point ∷ [];
       flags = record h.flags { leaf = held_leaf.None };
     })
     cells
-unfolding behind_run
-behind-ends cells h e = rw e refl
+unfolding after_run
+following-ends cells h e = rw e refl
 
 -- and where it continues
-behind-other : (cells : List Cell) (h : Here) → ends_line (first_seen cells) ≡ false →
-    behind_run cells h ≡ Refuses h.scratch h.flags
-unfolding behind_run
-behind-other cells h e = rw e refl
+following-other : (cells : List Cell) (h : Here) → ends_line (first_seen cells) ≡ false →
+    after_run cells h ≡ Refuses h.scratch h.flags
+unfolding after_run
+following-other cells h e = rw e refl
 
 -- the state there
 after_means : (B : Behaviour) (options : ParseOptions) (feed : Feed) (w : World) (x : Bool) → HasSetext B options →
@@ -143,10 +143,10 @@ after_means : (B : Behaviour) (options : ParseOptions) (feed : Feed) (w : World)
     Steps B feed (Next (n.HeadingSetext its.After)) w (after_code w x).to (after_code w x).world
 after_means B options feed w true has s e =
     moves B feed _ _ w (after_code w true).world (exit HeadingSetextUnderline w.point ∷ []) refl refl
-    (has.each its.After _ _ ∙ behind-ends (feed w.point) (here w) (ap ends_line (first-seen feed w s) ∙ e))
+    (has.each its.After _ _ ∙ following-ends (feed w.point) (here w) (ap ends_line (first-seen feed w s) ∙ e))
 after_means B options feed w false has s e =
     passes B feed _ _ w w refl refl
-    (has.each its.After _ _ ∙ behind-other (feed w.point) (here w) (ap ends_line (first-seen feed w s) ∙ e))
+    (has.each its.After _ _ ∙ following-other (feed w.point) (here w) (ap ends_line (first-seen feed w s) ∙ e))
 
 -- each state of an underline takes one step of its rule
 setext_steps : (B : Behaviour) (feed : Feed) (state : SetextState) (w : World) → HasSetext B w.setting.options →

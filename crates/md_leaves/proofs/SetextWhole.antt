@@ -19,10 +19,10 @@ use Rattle.md_leaves.proofs.BreakTermination.{rest-marker, rest-white}
 use Rattle.md_leaves.proofs.LeafStart.{at-none, at-off, at-white, indented-none, indented-white, rule-refused}
 use Rattle.md_events.specs.Ahead.{begins_white, from_ending, line_bytes, line_cells, line_end, white_end, white_rest}
 use Rattle.md_events.specs.Events.Nested.{around, pair}
-use Rattle.md_events.specs.Look.{seen_behind}
+use Rattle.md_events.specs.Look.{seen_after}
 use Rattle.md_events.specs.Spaces.{IsRest, calmed, small_indent}
 use Rattle.md_events.proofs.AheadLemmas.{none-rest, white-ending, white-line_end}
-use Rattle.md_events.proofs.WhiteMeaning.{behind_white}
+use Rattle.md_events.proofs.WhiteMeaning.{following_white}
 
 -- the whole line is a part, with this inside, and no leaf is open after it
 abbrev pub taken_line : List Event → List Cell → Here → Outcome
@@ -37,8 +37,8 @@ taken_line inside cells h =
     (from_ending cells)
 
 -- what is in it after its indent
-abbrev behind_indent : List Cell → Point → List Event
-behind_indent cells p = runs Apart (first_cell cells) (line_cells cells) p
+abbrev after_indent : List Cell → Point → List Event
+after_indent cells p = runs Apart (first_cell cells) (line_cells cells) p
 
 -- After the indent an underline is taken to the end of the line,
 before-is : (cells : List Cell) (h : Here) → is_underline (line_bytes cells) ≡ true →
@@ -65,7 +65,7 @@ taken-none cells h is = rw (rest-marker h.scratch is) (simp append_assoc)
 -- and with one
 taken-white : (room : ℕ) (cells : List Cell) (h : Here) → IsRest h.scratch →
     underlined Apart (first_cell (white_rest room cells)) (white_rest room cells)
-    (behind_white room cells (entered_here HeadingSetextUnderline h)) ≡
+    (following_white room cells (entered_here HeadingSetextUnderline h)) ≡
     taken_line
     (pair SpaceOrTab h.point (white_end room cells h.point)
     ++ runs Apart (first_cell (white_rest room cells)) (line_cells (white_rest room cells))
@@ -74,7 +74,7 @@ taken-white room cells h is =
     rw (white-ending room cells, white-line_end room cells h.point, rest-white h.scratch is) (simp append_assoc)
 
 -- A line where another byte than a marker is first after whitespace is no underline.
-pub setext-looked : (options : ParseOptions) (cells : List Cell) (b : ℕ) → seen_behind cells ≡ Some b →
+pub setext-looked : (options : ParseOptions) (cells : List Cell) (b : ℕ) → seen_after cells ≡ Some b →
     may_begin b ≡ false → is_underline_line options cells ≡ false
 setext-looked options cells b seen e =
     rule-refused may_begin options.constructs.heading_setext is_underline (small_indent options) cells b refl
@@ -108,15 +108,15 @@ setext-took options cells h is e = go (begins_white cells) refl
         setext_at options cells h ≡ taken_line (underline_inside options cells h.point) cells h
     go true s =
         at-white HeadingSetextUnderline _ before_run options cells h on s
-        ∙ before-is left (behind_white room cells (entered_here HeadingSetextUnderline h)) parts.1
+        ∙ before-is left (following_white room cells (entered_here HeadingSetextUnderline h)) parts.1
         ∙ taken-white room cells h is
-        ∙ ap (λ (es : List Event). taken_line es cells h) (sym (indented-white behind_indent room cells h.point s))
+        ∙ ap (λ (es : List Event). taken_line es cells h) (sym (indented-white after_indent room cells h.point s))
     go false s =
         at-none HeadingSetextUnderline _ before_run options cells h on s
         ∙ before-is cells (entered_here HeadingSetextUnderline h)
         (sym (ap (λ (r : List Cell). is_underline (line_bytes r)) (none-rest room cells s)) ∙ parts.1)
         ∙ taken-none cells h is
-        ∙ ap (λ (es : List Event). taken_line es cells h) (sym (indented-none behind_indent room cells h.point s))
+        ∙ ap (λ (es : List Event). taken_line es cells h) (sym (indented-none after_indent room cells h.point s))
 
 -- and any other line is refused.
 pub setext-refused : (options : ParseOptions) (cells : List Cell) (h : Here) → IsRest h.scratch →
@@ -140,7 +140,7 @@ setext-refused options cells h is e =
         setext_at options cells h ≡ Refuses h.scratch h.flags
     go on none true s =
         at-white HeadingSetextUnderline _ before_run options cells h on s
-        ∙ before-no left (behind_white room cells (entered_here HeadingSetextUnderline h)) none
+        ∙ before-no left (following_white room cells (entered_here HeadingSetextUnderline h)) none
         ∙ ap (λ (t : Scratch). Refuses (calmed t) h.flags) is ∙ ap (λ (t : Scratch). Refuses t h.flags) (sym is)
     go on none false s =
         at-none HeadingSetextUnderline _ before_run options cells h on s

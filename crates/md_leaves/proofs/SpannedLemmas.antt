@@ -12,7 +12,7 @@ use Rattle.md_engine.specs.declared.event.Point.{Point}
 use Rattle.md_engine.specs.Place.{IsPlaced}
 use Rattle.md_leaves.specs.declared.spans.Place.{Place}
 use Rattle.md_leaves.specs.declared.spans.Place.TheVariants.{Between, Inside, Outside}
-use Rattle.md_leaves.specs.Spanned.{Begins, Ends, GoesOn, Stays, Turn, given, given_by, goes_on, has_lines}
+use Rattle.md_leaves.specs.Spanned.{Begins, Ends, IsContinued, Stays, Turn, given, given_by, is_continued, has_lines}
 use Rattle.md_leaves.specs.Spanned.{is_blank_ending, is_code_line, passes_on, is_renamed, links_back, name_at, passes}
 use Rattle.md_leaves.specs.Spanned.{place_after, place_by, renamed, spanned, spanned_from, turn, turn_by}
 use Rattle.md_leaves.specs.Turned.{HoldNoUnderline, is_no_underline, is_underline}
@@ -27,8 +27,8 @@ pub stays-given : (place : Place) (e : Event) (es : List Event) → has_lines (r
 stays-given place e es h =
     ap
     (λ (x : Bool).
-    given_by (turn_by e.kind x (links_back e.link)) place (goes_on es) e
-    ++ spanned_from (place_by (turn_by e.kind x (links_back e.link)) place (goes_on es)) es)
+    given_by (turn_by e.kind x (links_back e.link)) place (is_continued es) e
+    ++ spanned_from (place_by (turn_by e.kind x (links_back e.link)) place (is_continued es)) es)
     h
 
 -- which is its own unless it is renamed
@@ -126,9 +126,9 @@ one-point P e h = All-cons (AtPoint P) e [] h (All-nil (AtPoint P))
 given-points : (P : Point → Type 0) (t : Turn) (place : Place) (further : Bool) (e : Event) → P e.point →
     All (AtPoint P) (given_by t place further e)
 given-points P Begins place further e h = one-point P e h
-given-points P GoesOn Outside further e h = one-point P e h
-given-points P GoesOn Inside further e h = one-point P e h
-given-points P GoesOn Between further e h = All-nil (AtPoint P)
+given-points P IsContinued Outside further e h = one-point P e h
+given-points P IsContinued Inside further e h = one-point P e h
+given-points P IsContinued Between further e h = All-nil (AtPoint P)
 given-points P Ends place true e h = All-nil (AtPoint P)
 given-points P Ends place false e h = one-point P e h
 given-points P Stays place further e h = one-point P (renamed place e) h
@@ -138,7 +138,7 @@ spanned-points : (P : Point → Type 0) (place : Place) (es : List Event) → Al
 spanned-points P place [] h = All-nil (AtPoint P)
 spanned-points P place (e ∷ es) h =
     All-append (AtPoint P) (given place e es) (spanned_from (place_after place e es) es)
-    (given-points P (turn e) place (goes_on es) e (All-head (AtPoint P) e es h))
+    (given-points P (turn e) place (is_continued es) e (All-head (AtPoint P) e es h))
     (spanned-points P (place_after place e es) es (All-tail (AtPoint P) e es h))
 
 -- placed events stay placed
@@ -189,9 +189,9 @@ renamed-plain Between e h = go (is_blank_ending e.name)
 pub plain-given : (t : Turn) (place : Place) (further : Bool) (e : Event) → is_underline e.name ≡ false →
     HoldNoUnderline (given_by t place further e)
 plain-given Begins place further e h = (h, tt)
-plain-given GoesOn Outside further e h = (h, tt)
-plain-given GoesOn Inside further e h = (h, tt)
-plain-given GoesOn Between further e h = tt
+plain-given IsContinued Outside further e h = (h, tt)
+plain-given IsContinued Inside further e h = (h, tt)
+plain-given IsContinued Between further e h = tt
 plain-given Ends place true e h = tt
 plain-given Ends place false e h = (h, tt)
 plain-given Stays place further e h = (renamed-plain place e h, tt)

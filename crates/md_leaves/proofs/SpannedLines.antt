@@ -8,7 +8,7 @@ use Rattle.md_engine.specs.declared.event.Kind.{Kind}
 use Rattle.md_engine.specs.declared.event.Kind.TheVariants.{Enter, Exit}
 use Rattle.md_leaves.specs.declared.spans.Place.{Place}
 use Rattle.md_leaves.specs.declared.spans.Place.TheVariants.{Between, Inside, Outside}
-use Rattle.md_leaves.specs.Spanned.{Begins, Ends, GoesOn, Turn, begins_further, given_by, goes_on, has_lines}
+use Rattle.md_leaves.specs.Spanned.{Begins, Ends, IsContinued, Turn, begins_further, given_by, is_continued, has_lines}
 use Rattle.md_leaves.specs.Spanned.{links_back, passes, place_by, renamed, spanned_from, turn, turn_by}
 use Rattle.md_leaves.proofs.SpannedLemmas.{passes-given, stays-given}
 use Rattle.md_events.specs.Events.Blocks.{is_block}
@@ -69,9 +69,9 @@ blocks-lines [] h = tt
 blocks-lines (e ∷ es) h = (no_block-line (role e.name) h.0, blocks-lines es h.1)
 
 -- what is of no block is passed by a look ahead
-pub goes_on-past : (gap rest : List Event) → NoBlocks gap → goes_on (gap ++ rest) ≡ goes_on rest
-goes_on-past [] rest h = refl
-goes_on-past (e ∷ gap) rest h = rw h.0 (goes_on-past gap rest h.1)
+pub is_continued-past : (gap rest : List Event) → NoBlocks gap → is_continued (gap ++ rest) ≡ is_continued rest
+is_continued-past [] rest h = refl
+is_continued-past (e ∷ gap) rest h = rw h.0 (is_continued-past gap rest h.1)
 
 -- Lines.
 
@@ -90,16 +90,16 @@ pub record IsEnd (e : Event) : Type 0 where
   pub lines : has_lines (role e.name) ≡ true
 
 -- the begin of a further line is seen from before it
-further-seen : (e : Event) (es : List Event) → IsFurther e → goes_on (e ∷ es) ≡ true
+further-seen : (e : Event) (es : List Event) → IsFurther e → is_continued (e ∷ es) ≡ true
 further-seen e es is =
     let block : is_block (role e.name) ≡ true = lines-block (role e.name) is.lines in
     rw (block, is.kind, is.lines, is.link) refl
 
 by-turn : (place : Place) (e : Event) (es : List Event) (t : Turn) → turn e ≡ t →
     spanned_from place (e ∷ es) ≡
-    given_by t place (goes_on es) e ++ spanned_from (place_by t place (goes_on es)) es
+    given_by t place (is_continued es) e ++ spanned_from (place_by t place (is_continued es)) es
 by-turn place e es t is =
-    ap (λ (t : Turn). given_by t place (goes_on es) e ++ spanned_from (place_by t place (goes_on es)) es) is
+    ap (λ (t : Turn). given_by t place (is_continued es) e ++ spanned_from (place_by t place (is_continued es)) es) is
 
 turn-is : (e : Event) (kind : Kind) (further : Bool) → e.kind ≡ kind → has_lines (role e.name) ≡ true →
     links_back e.link ≡ further → turn e ≡ turn_by kind true further
@@ -113,20 +113,20 @@ line-begins place e es is = by-turn place e es Begins (turn-is e Enter false is.
 -- a further line begins: nothing is left of its begin
 pub further-begins : (e : Event) (es : List Event) → IsFurther e →
     spanned_from Between (e ∷ es) ≡ spanned_from Inside es
-further-begins e es is = by-turn Between e es GoesOn (turn-is e Enter true is.kind is.lines is.link)
+further-begins e es is = by-turn Between e es IsContinued (turn-is e Enter true is.kind is.lines is.link)
 
 end-turn : (e : Event) → IsEnd e → turn e ≡ Ends
 end-turn e is = turn-is e Exit (links_back e.link) is.kind is.lines refl
 
 -- a line ends, and so does its block
-pub block-ends : (place : Place) (e : Event) (es : List Event) → IsEnd e → goes_on es ≡ false →
+pub block-ends : (place : Place) (e : Event) (es : List Event) → IsEnd e → is_continued es ≡ false →
     spanned_from place (e ∷ es) ≡ e ∷ spanned_from Outside es
 block-ends place e es is last =
     by-turn place e es Ends (end-turn e is)
     ∙ ap (λ (on : Bool). given_by Ends place on e ++ spanned_from (place_by Ends place on) es) last
 
 -- a line ends, and its block continues: nothing is left of its end
-pub line-ends : (place : Place) (e : Event) (es : List Event) → IsEnd e → goes_on es ≡ true →
+pub line-ends : (place : Place) (e : Event) (es : List Event) → IsEnd e → is_continued es ≡ true →
     spanned_from place (e ∷ es) ≡ spanned_from Between es
 line-ends place e es is on =
     by-turn place e es Ends (end-turn e is)
@@ -138,7 +138,7 @@ pub lines-joined : (place : Place) (e : Event) (gap : List Event) (f : Event) (r
     spanned_from place (e ∷ (gap ++ f ∷ rest)) ≡ map (renamed Between) gap ++ spanned_from Inside rest
 lines-joined place e gap f rest end free further =
     line-ends place e (gap ++ f ∷ rest) end
-    (goes_on-past gap (f ∷ rest) free ∙ further-seen f rest further)
+    (is_continued-past gap (f ∷ rest) free ∙ further-seen f rest further)
     ∙ spanned-stays Between gap (f ∷ rest) (blocks-lines gap free)
     ∙ ap (λ (l : List Event). map (renamed Between) gap ++ l) (further-begins f rest further)
 
@@ -153,7 +153,7 @@ line-joined inside e gap f rest plain end free further =
 
 -- The last line: it ends as it did.
 pub line-last : (inside : List Event) (e : Event) (rest : List Event) → NoLines inside → IsEnd e →
-    goes_on rest ≡ false →
+    is_continued rest ≡ false →
     spanned_from Inside (inside ++ e ∷ rest) ≡ inside ++ e ∷ spanned_from Outside rest
 line-last inside e rest plain end last =
     spanned-inside inside (e ∷ rest) plain ∙ ap (λ (l : List Event). inside ++ l) (block-ends Inside e rest end last)
@@ -161,8 +161,8 @@ line-last inside e rest plain end last =
 -- Texts side by side.
 
 -- Nor is what begins or ends another block.
-pub goes_on-other : (e : Event) (es : List Event) → is_block (role e.name) ≡ true → begins_further e ≡ false →
-    goes_on (e ∷ es) ≡ false
-goes_on-other e es block other = rw (block, other) refl
+pub is_continued-other : (e : Event) (es : List Event) → is_block (role e.name) ≡ true → begins_further e ≡ false →
+    is_continued (e ∷ es) ≡ false
+is_continued-other e es block other = rw (block, other) refl
 
 -- Points.

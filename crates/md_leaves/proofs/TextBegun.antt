@@ -56,14 +56,14 @@ pub text-on : (bytes : List ℕ) (s : Scratch) (p q : Point) → IsPlaced bytes 
     p.index ≡ s.start → IsOnLine bytes (without_ending (line_taken bytes s q)) p
 text-on bytes s p q h k at =
     let size : ℕ = whole_from q - s.start in
-    let behind : List ℕ = drop s.start bytes in
-    let long : ℕ = prefix_len (λ (b : ℕ). not (is_ending b)) (take size behind) in
-    let rest : List ℕ = drop long (take size behind) ++ drop size behind in
-    let taken : take size behind ≡ line_taken bytes s q = taken-slice bytes s q k in
-    let here : drop s.start bytes ≡ without_ending (take size behind) ++ rest =
-    sym (sym (append_assoc (take long (take size behind)) (drop long (take size behind)) (drop size behind))
-    ∙ ap (λ (l : List ℕ). l ++ drop size behind) (take-append-drop long (take size behind))
-    ∙ take-append-drop size behind) in
+    let following : List ℕ = drop s.start bytes in
+    let long : ℕ = prefix_len (λ (b : ℕ). not (is_ending b)) (take size following) in
+    let rest : List ℕ = drop long (take size following) ++ drop size following in
+    let taken : take size following ≡ line_taken bytes s q = taken-slice bytes s q k in
+    let here : drop s.start bytes ≡ without_ending (take size following) ++ rest =
+    sym (sym (append_assoc (take long (take size following)) (drop long (take size following)) (drop size following))
+    ∙ ap (λ (l : List ℕ). l ++ drop size following) (take-append-drop long (take size following))
+    ∙ take-append-drop size following) in
     record {
       placed = h;
       rest = rest;

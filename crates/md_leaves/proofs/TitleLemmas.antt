@@ -130,9 +130,10 @@ pub title-text : (line : List ℕ) → take (length (text_of line)) (drop (front
 title-text line =
     let x = parted line in
     let front = x.indent ++ (x.hashes ++ x.gap) in
-    let behind : drop (front_len line) line ≡ text_of line ++ x.back = ap (drop (front_len line)) (parts-front line x)
+    let following : drop (front_len line) line ≡ text_of line ++ x.back =
+    ap (drop (front_len line)) (parts-front line x)
     ∙ drop_at front (text_of line ++ x.back) (front_len line) (sym x.front) in
-    ap (take (length (text_of line))) behind ∙ take_at (text_of line) x.back (length (text_of line)) refl
+    ap (take (length (text_of line))) following ∙ take_at (text_of line) x.back (length (text_of line)) refl
 
 pub title-fits : (line : List ℕ) → front_len line + length (text_of line) ≤ length line
 title-fits line =
@@ -190,8 +191,8 @@ trim-white (b ∷ bs) rest w e =
 pub text-again : (line : List ℕ) (x : Parted line) → heading_text (text_of line ++ x.back) ≡ text_of line
 text-again line x =
     let rest = text_of line ++ x.back in
-    ap text_in (trim-white [] rest (All-nil (λ (b : ℕ). is_white b ≡ true)) x.behind_gap)
-    ∙ ap text_in (sym (trim-white x.gap rest x.gap_is x.behind_gap))
+    ap text_in (trim-white [] rest (All-nil (λ (b : ℕ). is_white b ≡ true)) x.following_gap)
+    ∙ ap text_in (sym (trim-white x.gap rest x.gap_is x.following_gap))
     ∙ sym x.text_is
 
 -- the events that a heading adds: the runs before its text, and what is added from the text on
@@ -218,7 +219,7 @@ title-resolved line p q es heads =
     ∙ ap (λ (s : List Event). line_runs Apart x.indent p ++ s) (
     before-opening x.hashes p1 _ (hashes-some line x.hashes x.depth heads) x.hashes_are
     ∙ ap (λ (s : List Event). line_runs Apart x.hashes p1 ++ s)
-    (opened-white x.gap p2 _ x.gap_is ∙ ap (λ (s : List Event). line_runs Apart x.gap p2 ++ s) behind)
+    (opened-white x.gap p2 _ x.gap_is ∙ ap (λ (s : List Event). line_runs Apart x.gap p2 ++ s) following)
     )))
   where
     x : Parted line
@@ -242,14 +243,14 @@ title-resolved line p q es heads =
     chunk : Option Chunk
     chunk = chunk_unless_empty (length (text_of line)) p3 end
 
-    behind : resolved Opened (linked_data chunk ++ (line_runs Apart x.back end ++ ended q es)) ≡
+    following : resolved Opened (linked_data chunk ++ (line_runs Apart x.back end ++ ended q es)) ≡
         linked_text chunk ++ (line_runs Apart x.back end ++ ended q (resolved Outside es))
-    behind =
+    following =
         rw (ap (λ (l : List ℕ). line_runs Apart l end) s.is
         ∙ three-runs s.white s.hashes s.more end s.white_is s.hashes_are s.more_is s.apart)
         (simp append_assoc
         (ends-text (text_of line) s.white s.hashes s.more p3 q es s.white_is s.hashes_are s.more_is s.apart
-        (rw s.is at x.behind_gap)))
+        (rw s.is at x.following_gap)))
 
 -- Around the text are whitespace and `#` alone.
 
@@ -273,8 +274,8 @@ front-marks line =
     let x = parted line in
     rw (parts-take line x) (marks-three x.indent x.hashes x.gap x.indent_is x.hashes_are x.gap_is)
 
-pub behind-marks : (line : List ℕ) → AllPass is_mark (drop (front_len line + length (text_of line)) line)
-behind-marks line =
+pub following-marks : (line : List ℕ) → AllPass is_mark (drop (front_len line + length (text_of line)) line)
+following-marks line =
     let x = parted line in
     let s = x.shape in
     rw (parts-drop line x, s.is) (marks-three s.white s.hashes s.more s.white_is s.hashes_are s.more_is)

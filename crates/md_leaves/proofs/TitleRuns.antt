@@ -8,7 +8,7 @@ use Rattle.std.proofs.lemmas.List.Elements.{All-head, All-tail}
 use Rattle.md_engine.specs.declared.event.Event.{Event}
 use Rattle.md_engine.specs.declared.event.Name.TheVariants as n
 use Rattle.md_engine.specs.declared.event.Point.{Point}
-use Rattle.md_leaves.specs.HeadingRuns.{Apart, Hashes, Run, White, begun, closes, goes_on, line_runs, opens}
+use Rattle.md_leaves.specs.HeadingRuns.{Apart, Hashes, Run, White, begun, closes, is_continued, line_runs, opens}
 use Rattle.md_leaves.specs.HeadingText.{Before, Opened, Within, resolved}
 use Rattle.md_meaning.specs.Bytes.{begins}
 use Rattle.md_meaning.specs.Rest.{is_white}
@@ -34,7 +34,7 @@ begun-white b e = rw e refl
 pub begun-hash : (b : ℕ) → (b == 35) ≡ true → begun b ≡ Hashes
 begun-hash b e = ap begun (eqb-true b 35 e)
 
-begun-is : (run : Run) (b : ℕ) → goes_on run b ≡ true → begun b ≡ run
+begun-is : (run : Run) (b : ℕ) → is_continued run b ≡ true → begun b ≡ run
 begun-is Apart b e = absurd (false≢true e)
 begun-is White b e = begun-white b e
 begun-is Hashes b e = go (is_white b) refl
@@ -44,34 +44,35 @@ begun-is Hashes b e = go (is_white b) refl
     go false k = rw k refl
 
 -- a run that ends before other bytes
-run-left : (run : Run) (xs ys : List ℕ) (p : Point) → AllPass (goes_on run) xs → begins (goes_on run) ys ≡ false →
+run-left : (run : Run) (xs ys : List ℕ) (p : Point) → AllPass (is_continued run) xs →
+    begins (is_continued run) ys ≡ false →
     line_runs run (xs ++ ys) p ≡ closes run (past_text xs p) ++ line_runs Apart ys (past_text xs p)
 run-left run [] [] p h e = sym (append-nil (closes run p))
 run-left run [] (y ∷ ys) p h e =
     rw e (append_assoc (closes run p) (opens (begun y) p) (line_runs (begun y) ys (past_byte y p)))
 run-left run (b ∷ bs) ys p h e =
-    let here : goes_on run b ≡ true = pass-first (goes_on run) b bs h in
-    rw here (run-left run bs ys (past_byte b p) (pass-rest (goes_on run) b bs h) e)
+    let here : is_continued run b ≡ true = pass-first (is_continued run) b bs h in
+    rw here (run-left run bs ys (past_byte b p) (pass-rest (is_continued run) b bs h) e)
 
-run-whole : (run : Run) (b : ℕ) (bs ys : List ℕ) (p : Point) → AllPass (goes_on run) (b ∷ bs) →
-    begins (goes_on run) ys ≡ false →
+run-whole : (run : Run) (b : ℕ) (bs ys : List ℕ) (p : Point) → AllPass (is_continued run) (b ∷ bs) →
+    begins (is_continued run) ys ≡ false →
     line_runs Apart (b ∷ (bs ++ ys)) p ≡
     (opens run p ++ closes run (past_text (b ∷ bs) p)) ++ line_runs Apart ys (past_text (b ∷ bs) p)
 run-whole run b bs ys p h e =
-    rw (begun-is run b (pass-first (goes_on run) b bs h))
+    rw (begun-is run b (pass-first (is_continued run) b bs h))
     (ap (λ (es : List Event). opens run p ++ es)
-    (run-left run bs ys (past_byte b p) (pass-rest (goes_on run) b bs h) e)
+    (run-left run bs ys (past_byte b p) (pass-rest (is_continued run) b bs h) e)
     ∙ sym (append_assoc (opens run p) (closes run (past_text (b ∷ bs) p)) _))
 
-run-alone : (run : Run) (b : ℕ) (bs : List ℕ) (p : Point) → AllPass (goes_on run) (b ∷ bs) →
+run-alone : (run : Run) (b : ℕ) (bs : List ℕ) (p : Point) → AllPass (is_continued run) (b ∷ bs) →
     line_runs Apart (b ∷ bs) p ≡ opens run p ++ closes run (past_text (b ∷ bs) p)
 run-alone run b bs p h =
     ap (λ (l : List ℕ). line_runs Apart (b ∷ l) p) (sym (append-nil bs)) ∙ run-whole run b bs [] p h refl
     ∙ append-nil (opens run p ++ closes run (past_text (b ∷ bs) p))
 
 -- the runs after it are those of what follows
-pub runs-cut : (run : Run) (xs ys : List ℕ) (p : Point) → AllPass (goes_on run) xs →
-    begins (goes_on run) ys ≡ false →
+pub runs-cut : (run : Run) (xs ys : List ℕ) (p : Point) → AllPass (is_continued run) xs →
+    begins (is_continued run) ys ≡ false →
     line_runs Apart (xs ++ ys) p ≡ line_runs Apart xs p ++ line_runs Apart ys (past_text xs p)
 runs-cut run [] ys p h e = refl
 runs-cut run (b ∷ bs) ys p h e =
@@ -84,8 +85,8 @@ pub white-runs : (b : ℕ) (bs : List ℕ) (p : Point) → AllPass is_white (b �
     line_runs Apart (b ∷ bs) p ≡ pair n.SpaceOrTab p (past_text (b ∷ bs) p)
 white-runs b bs p h = run-alone White b bs p h
 
-hashes-on : (bs : List ℕ) → AllPass is_hash bs → AllPass (goes_on Hashes) bs
-hashes-on bs h k d lt = ap (goes_on Hashes) (eqb-true (get_or bs k d) 35 (h k d lt))
+hashes-on : (bs : List ℕ) → AllPass is_hash bs → AllPass (is_continued Hashes) bs
+hashes-on bs h k d lt = ap (is_continued Hashes) (eqb-true (get_or bs k d) 35 (h k d lt))
 
 pub hash-runs : (b : ℕ) (bs : List ℕ) (p : Point) → AllPass is_hash (b ∷ bs) →
     line_runs Apart (b ∷ bs) p ≡ pair n.HeadingAtxSequence p (past_text (b ∷ bs) p)

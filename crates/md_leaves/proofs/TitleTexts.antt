@@ -181,9 +181,9 @@ pub record Parted (line : List ℕ) : Type 0 where
   pub indent_is : AllPass is_white indent
   pub hashes_are : AllPass is_hash hashes
   pub gap_is : AllPass is_white gap
-  pub behind_indent : begins is_white (hashes ++ (gap ++ (text_of line ++ back))) ≡ false
-  pub behind_hashes : begins is_hash (gap ++ (text_of line ++ back)) ≡ false
-  pub behind_gap : begins is_white (text_of line ++ back) ≡ false
+  pub after_indent : begins is_white (hashes ++ (gap ++ (text_of line ++ back))) ≡ false
+  pub after_hashes : begins is_hash (gap ++ (text_of line ++ back)) ≡ false
+  pub following_gap : begins is_white (text_of line ++ back) ≡ false
   pub apart : begins is_white (hashes ++ gap) ≡ false
   pub depth : length hashes ≡ run_len 35 (trim_start line)
   pub text_is : text_of line ≡ heading_text (gap ++ (text_of line ++ back))
@@ -200,12 +200,12 @@ parted line = record {
   indent_is = front-passes is_white line;
   hashes_are = front-passes is_hash (drop k line);
   gap_is = front-passes is_white after;
-  behind_indent = behind_indent;
-  behind_hashes = ap (begins is_hash) (sym (same ∙ from_gap)) ∙ front-stops is_hash (drop k line);
-  behind_gap = ap (begins is_white) (sym end.whole) ∙ front-stops is_white after;
+  after_indent = after_indent;
+  after_hashes = ap (begins is_hash) (sym (same ∙ from_gap)) ∙ front-stops is_hash (drop k line);
+  following_gap = ap (begins is_white) (sym end.whole) ∙ front-stops is_white after;
   apart =
       first-front is_white (hashes ++ gap) (text_of line ++ end.back)
-      (ap (begins is_white) (append_assoc hashes gap (text_of line ++ end.back)) ∙ behind_indent);
+      (ap (begins is_white) (append_assoc hashes gap (text_of line ++ end.back)) ∙ after_indent);
   depth = length-prefix_len is_hash (drop k line);
   text_is = ap heading_text from_gap;
   shape = end.shape;
@@ -247,8 +247,8 @@ parted line = record {
     from_gap : after ≡ gap ++ (text_of line ++ end.back)
     from_gap = sym (take-append-drop (prefix_len is_white after) after) ∙ ap (λ (t : List ℕ). gap ++ t) end.whole
 
-    behind_indent : begins is_white (hashes ++ (gap ++ (text_of line ++ end.back))) ≡ false
-    behind_indent =
+    after_indent : begins is_white (hashes ++ (gap ++ (text_of line ++ end.back))) ≡ false
+    after_indent =
         ap (begins is_white) (sym (from_hashes ∙ ap (λ (t : List ℕ). hashes ++ t) from_gap))
         ∙ front-stops is_white line
 

@@ -12,7 +12,7 @@ use Rattle.md_engine.specs.declared.event.Point.{Point}
 use Rattle.md_engine.specs.Place.{IsPlaced}
 use Rattle.md_leaves.specs.Turned.{BeginsText, HoldNoUnderline, EndsText, EndsUnderline, Stays, Turn, given, given_by}
 use Rattle.md_leaves.specs.Turned.{has_underline, is_no_underline, is_paragraph, is_turned, is_underline, on_after}
-use Rattle.md_leaves.specs.Turned.{on_by, passes, turn, turn_by, turned, turned_from, underline_behind}
+use Rattle.md_leaves.specs.Turned.{on_by, passes, turn, turn_by, turned, turned_from, underline_after}
 use Rattle.md_leaves.proofs.SpannedLemmas.{AtPoint, one-point}
 use Rattle.md_events.specs.Events.Inline.{is_line_ending}
 use Rattle.md_events.specs.Events.Nested.{around, enter, exit, is_enter, is_exit, pair}
@@ -58,11 +58,11 @@ passes-given on e es h =
 -- Events of which none is of an underline.
 
 -- none is after prefixes,
-none-behind : (es : List Event) → HoldNoUnderline es → underline_behind es ≡ false
-none-behind [] h = refl
-none-behind (e ∷ es) h = rw h.0 (go (is_prefix e.name) (is_enter e.kind) (none-behind es h.1))
+none-following : (es : List Event) → HoldNoUnderline es → underline_after es ≡ false
+none-following [] h = refl
+none-following (e ∷ es) h = rw h.0 (go (is_prefix e.name) (is_enter e.kind) (none-following es h.1))
   where
-    go : (x y : Bool) → underline_behind es ≡ false → cond x (underline_behind es) (y && false) ≡ false
+    go : (x y : Bool) → underline_after es ≡ false → cond x (underline_after es) (y && false) ≡ false
     go true y k = k
     go false true k = refl
     go false false k = refl
@@ -71,7 +71,7 @@ none-behind (e ∷ es) h = rw h.0 (go (is_prefix e.name) (is_enter e.kind) (none
 none-has : (es : List Event) → HoldNoUnderline es → has_underline es ≡ false
 none-has [] h = refl
 none-has (e ∷ []) h = refl
-none-has (e ∷ f ∷ es) h = rw (none-behind es h.1.1) (go (is_line_ending e.name))
+none-has (e ∷ f ∷ es) h = rw (none-following es h.1.1) (go (is_line_ending e.name))
   where
     go : (x : Bool) → (x && false) ≡ false
     go true = refl
@@ -220,9 +220,9 @@ pub turned-heading : (p q a b : Point) (inside between under es : List Event) �
     (around n.HeadingSetextText p q inside ++ (between ++ around n.HeadingSetextUnderline a b under))
     ++ turned es
 turned-heading p q a b inside between under es h k l has =
-    begun (turned-ahead q inside behind h ∙ has)
+    begun (turned-ahead q inside following h ∙ has)
     ∙ ap (λ (l : List Event). enter n.HeadingSetext p ∷ enter n.HeadingSetextText p ∷ l)
-    (turned-inside true inside (exit n.Paragraph q) behind h
+    (turned-inside true inside (exit n.Paragraph q) following h
     ∙ ap (λ (l : List Event). inside ++ exit n.HeadingSetextText q ∷ l)
     (turned-passes true between (around n.HeadingSetextUnderline a b under ++ es) k
     ∙ ap (λ (l : List Event). between ++ enter n.HeadingSetextUnderline a ∷ l)
@@ -230,11 +230,11 @@ turned-heading p q a b inside between under es h k l has =
     ∙ regrouped inside between under (turned es) (exit n.HeadingSetextText q) (enter n.HeadingSetextUnderline a)
     (exit n.HeadingSetextUnderline b) (exit n.HeadingSetext b))
   where
-    behind : List Event
-    behind = between ++ (around n.HeadingSetextUnderline a b under ++ es)
+    following : List Event
+    following = between ++ (around n.HeadingSetextUnderline a b under ++ es)
 
     rest : List Event
-    rest = (inside ++ exit n.Paragraph q ∷ []) ++ behind
+    rest = (inside ++ exit n.Paragraph q ∷ []) ++ following
 
     begun : is_turned rest ≡ true →
         turned (enter n.Paragraph p ∷ rest)
@@ -269,7 +269,7 @@ prefixes-unturned (e ∷ front) h = (prefix-passes e h.0, prefixes-unturned fron
 
 -- and a look ahead for an underline passes them
 pub underline-past : (front es : List Event) → ArePrefixes front →
-    underline_behind (front ++ es) ≡ underline_behind es
+    underline_after (front ++ es) ≡ underline_after es
 underline-past [] es h = refl
 underline-past (e ∷ front) es h = rw h.0 (underline-past front es h.1)
 
@@ -295,7 +295,7 @@ turned-underlined p q x y a b inside front under es h k l =
 
 -- no underline begins after the prefixes before these
 abbrev pub Unlined : List Event → Type 0
-Unlined es = underline_behind es ≡ false
+Unlined es = underline_after es ≡ false
 
 -- nor one that ends before anything but an ending
 pub no-ending : (e : Event) (es : List Event) → is_line_ending e.name ≡ false → has_underline (e ∷ es) ≡ false

@@ -69,8 +69,8 @@ in_one_run cells h =
     else in_break Marks cells h
 
 -- after that run, and the whitespace that follows it
-unfoldable pub behind_one_run : List Cell → Here → Outcome
-behind_one_run cells h =
+unfoldable pub after_one_run : List Cell → Here → Outcome
+after_one_run cells h =
     if ends_line (first_seen cells) then Refuses (without_marker h.scratch) h.flags else at_break cells h
 
 -- after the indent: no underline that has nothing to turn
@@ -94,7 +94,7 @@ break_behaves options its.Before cells h = before_marker options cells h
 break_behaves options its.AtBreak cells h = at_break cells h
 break_behaves options its.Sequence cells h = in_break Marks cells h
 break_behaves options its.OneRun cells h = in_one_run cells h
-break_behaves options its.OneRunAfter cells h = behind_one_run cells h
+break_behaves options its.OneRunAfter cells h = after_one_run cells h
 
 pub record HasBreak (B : Behaviour) (options : ParseOptions) : Type 0 where
   pub white : HasWhite B

@@ -46,8 +46,8 @@ text_ended s = record s { start = 0 }
 abbrev pub text_from : Point → Scratch → List ℕ → List Event
 text_from p s line = if (p.vs == 0) && (p.index == s.start) then text_events (without_ending line) p else []
 
-abbrev pub text_behind : List Event → Scratch → List ℕ → List Event
-text_behind events s line = text_from (last_point first_point events) s line
+abbrev pub text_following : List Event → Scratch → List ℕ → List Event
+text_following events s line = text_from (last_point first_point events) s line
 
 -- by whether `#` is here
 abbrev pub before_code : World → Bool → Transition
@@ -55,9 +55,9 @@ before_code w true = record { to = Retry (n.HeadingAtx its.SequenceOpen); world 
 before_code w false = record { to = Nok; world = w }
 
 -- after a run of the line, by whether whitespace is here
-abbrev pub behind_part : World → Bool → Transition
-behind_part w true = white_then w 1 any_size (Next (n.HeadingAtx its.AtBreak)) Nok
-behind_part w false = record { to = Retry (n.HeadingAtx its.AtBreak); world = w }
+abbrev pub after_part : World → Bool → Transition
+after_part w true = white_then w 1 any_size (Next (n.HeadingAtx its.AtBreak)) Nok
+after_part w false = record { to = Retry (n.HeadingAtx its.AtBreak); world = w }
 
 -- by whether one more `#` is taken, and whether text or whitespace is here
 abbrev pub sequence_open_code : World → Bool → Bool → Bool → Transition
@@ -68,7 +68,7 @@ sequence_open_code w true text white =
     }
 sequence_open_code w false true white = record { to = Nok; world = record w { scratch = without_size w.scratch } }
 sequence_open_code w false false white =
-    behind_part (record (exited w HeadingAtxSequence) { scratch = without_size w.scratch }) white
+    after_part (record (exited w HeadingAtxSequence) { scratch = without_size w.scratch }) white
 
 -- after the whitespace that follows the opening sequence, by whether text, `#` or the line's end is here
 abbrev pub at_break_code : World → Bool → Bool → Bool → Transition
@@ -90,7 +90,7 @@ sequence_further_code w false = record { to = Retry (n.HeadingAtx its.Data); wor
 -- the line of a heading has ended: its text is known
 abbrev pub text_added : World → World
 text_added w = record w {
-  events = w.events ++ text_behind w.events w.scratch (line_taken w.setting.bytes w.scratch w.point);
+  events = w.events ++ text_following w.events w.scratch (line_taken w.setting.bytes w.scratch w.point);
 }
 
 -- by whether the line ends here

@@ -14,7 +14,7 @@ use Rattle.md_engine.specs.declared.state.heading_atx.State.TheVariants as its
 use Rattle.md_engine.specs.declared.tokenizer.TheConstants.Scratch.{REST}
 use Rattle.md_engine.specs.Meaning.{Accepts, Behaviour, Cell, Here, Outcome, Refuses}
 use Rattle.md_leaves.specs.LeafStart.{start_at}
-use Rattle.md_leaves.specs.Heading.{HeadingInvariant, text_begun, text_behind, text_ended, text_from, without_size}
+use Rattle.md_leaves.specs.Heading.{HeadingInvariant, text_begun, text_following, text_ended, text_from, without_size}
 use Rattle.md_leaves.specs.Heading.{heading_transition}
 use Rattle.md_events.specs.Ahead.{HasWhite, begins_white, from_ending, line_bytes, line_end, white_end, white_rest}
 use Rattle.md_events.specs.Events.Nested.{enter, exit, pair}
@@ -31,7 +31,8 @@ in_text taken cells h =
     let p = line_end cells h.point in
     Accepts
     (record h {
-      events = h.events ++ text_behind h.events h.scratch (taken ++ whole_line h.point cells) ++ exit HeadingAtx p ∷ [];
+      events = h.events ++ text_following h.events h.scratch (taken ++ whole_line h.point cells)
+          ++ exit HeadingAtx p ∷ [];
       point = p;
       scratch = text_ended h.scratch;
     })
@@ -44,8 +45,8 @@ at_break cells h =
     else in_text [] cells (record h { scratch = text_begun h.point h.scratch })
 
 -- after the opening sequence
-unfoldable pub behind_opening : List Cell → Here → Outcome
-behind_opening cells h =
+unfoldable pub after_opening : List Cell → Here → Outcome
+after_opening cells h =
     let p = white_end any_size cells h.point in
     if begins_white cells
     then at_break (white_rest any_size cells) (record h {
@@ -57,10 +58,10 @@ behind_opening cells h =
 
 -- in the opening sequence, which ends with the last `#`
 abbrev pub in_hashes : List Cell → Here → Outcome
-in_hashes [] h = behind_opening [] (record h { events = h.events ++ exit HeadingAtxSequence h.point ∷ [] })
+in_hashes [] h = after_opening [] (record h { events = h.events ++ exit HeadingAtxSequence h.point ∷ [] })
 in_hashes (c ∷ cs) h =
     if c.byte == 35 then in_hashes cs (record h { point = c.after })
-    else behind_opening (c ∷ cs) (record h { events = h.events ++ exit HeadingAtxSequence h.point ∷ [] })
+    else after_opening (c ∷ cs) (record h { events = h.events ++ exit HeadingAtxSequence h.point ∷ [] })
 
 -- whether a line continues with `#`, at most six with those before it, and then whitespace or the line's end
 abbrev pub is_opening : ℕ → List ℕ → Bool

@@ -24,10 +24,10 @@ abbrev pub begun : ℕ → Run
 begun b = if is_white b then White else Hashes
 
 -- whether a run continues with this byte
-abbrev pub goes_on : Run → ℕ → Bool
-goes_on Apart b = false
-goes_on White b = is_white b
-goes_on Hashes b = not (is_white b)
+abbrev pub is_continued : Run → ℕ → Bool
+is_continued Apart b = false
+is_continued White b = is_white b
+is_continued Hashes b = not (is_white b)
 
 -- the events at the begin and at the end of a run
 abbrev pub opens : Run → Point → List Event
@@ -44,7 +44,7 @@ closes Hashes p = exit HeadingAtxSequence p ∷ []
 abbrev pub line_runs : Run → List ℕ → Point → List Event
 line_runs run [] p = closes run p
 line_runs run (b ∷ bs) p =
-    if goes_on run b then line_runs run bs (past_byte b p)
+    if is_continued run b then line_runs run bs (past_byte b p)
     else closes run p ++ opens (begun b) p ++ line_runs (begun b) bs (past_byte b p)
 
 -- what is text of a heading is read later

@@ -55,8 +55,8 @@ in_run cells h =
     else Refuses (without_marker h.scratch) h.flags
 
 -- after the run, and the whitespace that follows it
-unfoldable pub behind_run : List Cell → Here → Outcome
-behind_run cells h =
+unfoldable pub after_run : List Cell → Here → Outcome
+after_run cells h =
     if ends_line (first_seen cells)
     then Accepts
     (record h {
@@ -88,7 +88,7 @@ abbrev pub setext_behaves : ParseOptions → SetextState → List Cell → Here 
 setext_behaves options its.Start cells h = setext_at options cells h
 setext_behaves options its.Before cells h = before_run cells h
 setext_behaves options its.Inside cells h = in_run cells h
-setext_behaves options its.After cells h = behind_run cells h
+setext_behaves options its.After cells h = after_run cells h
 
 pub record HasSetext (B : Behaviour) (options : ParseOptions) : Type 0 where
   pub white : HasWhite B

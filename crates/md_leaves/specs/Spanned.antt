@@ -54,9 +54,9 @@ abbrev pub begins_further : Event → Bool
 begins_further e = is_enter e.kind && (has_lines (role e.name) && links_back e.link)
 
 -- whether the next block is a further line
-abbrev pub goes_on : List Event → Bool
-goes_on [] = false
-goes_on (e ∷ es) = if is_block (role e.name) then begins_further e else goes_on es
+abbrev pub is_continued : List Event → Bool
+is_continued [] = false
+is_continued (e ∷ es) = if is_block (role e.name) then begins_further e else is_continued es
 
 -- Blocks.
 
@@ -64,13 +64,13 @@ goes_on (e ∷ es) = if is_block (role e.name) then begins_further e else goes_o
 pub data Turn : Type 0 where
   Begins : Turn
   -- a further line begins
-  GoesOn : Turn
+  IsContinued : Turn
   Ends : Turn
   Stays : Turn
 
 abbrev pub turn_by : Kind → Bool → Bool → Turn
 turn_by kind false further = Stays
-turn_by Enter true further = if further then GoesOn else Begins
+turn_by Enter true further = if further then IsContinued else Begins
 turn_by Exit true further = Ends
 
 abbrev pub turn : Event → Turn
@@ -98,22 +98,22 @@ further_begin _ e = e ∷ []
 -- what is given for an event, by whether the next block is a further line
 abbrev pub given_by : Turn → Place → Bool → Event → List Event
 given_by Begins place further e = e ∷ []
-given_by GoesOn place further e = further_begin place e
+given_by IsContinued place further e = further_begin place e
 given_by Ends place further e = if further then [] else e ∷ []
 given_by Stays place further e = renamed place e ∷ []
 
 -- where one is after it
 abbrev pub place_by : Turn → Place → Bool → Place
 place_by Begins place further = Inside
-place_by GoesOn place further = Inside
+place_by IsContinued place further = Inside
 place_by Ends place further = if further then Between else Outside
 place_by Stays place further = place
 
 abbrev pub given : Place → Event → List Event → List Event
-given place e es = given_by (turn e) place (goes_on es) e
+given place e es = given_by (turn e) place (is_continued es) e
 
 abbrev pub place_after : Place → Event → List Event → Place
-place_after place e es = place_by (turn e) place (goes_on es)
+place_after place e es = place_by (turn e) place (is_continued es)
 
 -- whether an event passes a place as it is
 abbrev pub passes : Place → Event → Bool

@@ -26,14 +26,14 @@ is_underline _ = false
 -- What is ahead.
 
 -- whether an underline begins after container prefixes
-abbrev pub underline_behind : List Event → Bool
-underline_behind [] = false
-underline_behind (e ∷ es) =
-    if is_prefix e.name then underline_behind es else is_enter e.kind && is_underline e.name
+abbrev pub underline_after : List Event → Bool
+underline_after [] = false
+underline_after (e ∷ es) =
+    if is_prefix e.name then underline_after es else is_enter e.kind && is_underline e.name
 
 -- whether one follows a paragraph that ends before these events: after its ending
 abbrev pub has_underline : List Event → Bool
-has_underline (e ∷ f ∷ es) = is_line_ending e.name && underline_behind es
+has_underline (e ∷ f ∷ es) = is_line_ending e.name && underline_after es
 has_underline _ = false
 
 -- whether one follows the paragraph that has begun before these events

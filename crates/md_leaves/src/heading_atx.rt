@@ -13,7 +13,7 @@ ghost use Rattle.md_engine.specs.World.{world};
 ghost use Rattle.md_engine.specs.declared.state.Name.{Name as StateName};
 ghost use Rattle.md_engine.specs.declared.state.State.{State};
 ghost use Rattle.md_engine.specs.declared.state.heading_atx.State.{State as HeadingState};
-ghost use Rattle.md_leaves.specs.Heading.{behind_part};
+ghost use Rattle.md_leaves.specs.Heading.{after_part};
 ghost use Rattle.md_leaves.specs.Heading.{heading_transition, may_begin};
 ghost use Rattle.md_leaves.specs.Heading.{text_begun};
 ghost use Rattle.md_leaves.specs.HeadingCalls.{HeadingStep, begins_text};
@@ -87,11 +87,11 @@ pub fn before(tokenizer: &mut Tokenizer) -> State
 }
 
 /// After the opening sequence: takes the whitespace that is here.
-fn go_on(tokenizer: &mut Tokenizer) -> State
+fn proceed(tokenizer: &mut Tokenizer) -> State
     ensures to { result ≢ State.Error →
-        result ≡ (behind_part (world tokenizer.old) (sees_white tokenizer.old.current)).to }
+        result ≡ (after_part (world tokenizer.old) (sees_white tokenizer.old.current)).to }
     ensures world { result ≢ State.Error →
-        world tokenizer.new ≡ (behind_part (world tokenizer.old) (sees_white tokenizer.old.current)).world }
+        world tokenizer.new ≡ (after_part (world tokenizer.old) (sees_white tokenizer.old.current)).world }
     ensures full { OnError result (IsFull tokenizer.new) }
 {
     if is_space_or_tab(tokenizer.current) {
@@ -125,7 +125,7 @@ pub fn sequence_open(tokenizer: &mut Tokenizer) -> State
     match tokenizer.current {
         None | Some(b'\t' | b'\n' | b' ') => {
             or_error!(tokenizer.exit(Name::HeadingAtxSequence));
-            go_on(tokenizer)
+            proceed(tokenizer)
         }
         _ => State::Nok,
     }
@@ -135,7 +135,10 @@ pub fn sequence_open(tokenizer: &mut Tokenizer) -> State
 #[inline(always)]
 fn begin_text(tokenizer: &mut Tokenizer)
     ensures { world tokenizer.new ≡
-        record (world tokenizer.old) { scratch = text_begun (world tokenizer.old).point (world tokenizer.old).scratch } }
+        record (world tokenizer.old) {
+          scratch = text_begun (world tokenizer.old).point
+              (world tokenizer.old).scratch;
+        } }
 {
     tokenizer.scratch.start = whole_from(tokenizer.point);
 }

@@ -3,15 +3,15 @@
 // At the end of the line of a heading all of it is known from where its text begins: the text, a closing sequence, and
 // the whitespace beside that. They are added in one go.
 
-ghost use Rattle.std.specs.Prelude.{◌≡◌, ◌^◌, ◌<◌, ◌≤◌, ◌++◌, ◌==◌, ◌&&◌, None, OnOk, Some, if◌then◌else◌, is_err, length};
-ghost use Rattle.std.specs.Prelude.{true};
+ghost use Rattle.std.specs.Prelude.{◌≡◌, ◌^◌, ◌<◌, ◌≤◌, ◌++◌, ◌==◌, ◌&&◌, None, OnOk, Some, if◌then◌else◌, is_err};
+ghost use Rattle.std.specs.Prelude.{length, true};
 ghost use Rattle.std.specs.List.{list_any, prefix_len};
 ghost use Rattle.md_engine.specs.Full.{Grown, IsFullList};
 ghost use Rattle.md_engine.specs.Place.{IsPlaced, first_point};
 ghost use Rattle.md_engine.specs.World.{world};
 ghost use Rattle.md_engine.specs.declared.event.Name.{Name};
 ghost use Rattle.md_leaves.specs.Heading.{text_added};
-ghost use Rattle.md_leaves.specs.HeadingRuns.{Apart, Hashes, White, chunk_unless_empty, goes_on, line_runs};
+ghost use Rattle.md_leaves.specs.HeadingRuns.{Apart, Hashes, White, chunk_unless_empty, is_continued, line_runs};
 ghost use Rattle.md_leaves.specs.HeadingRuns.{linked_data};
 ghost use Rattle.md_leaves.specs.OnLine.{IsOnLine};
 ghost use Rattle.md_meaning.specs.Lines.{without_ending};
@@ -83,7 +83,7 @@ fn past_text(bytes: &[u8], piece: &[u8], from: Point) -> Point
 
 /// How many bytes the run at the front has: whitespace, or what is none.
 fn run_len(line: &[u8], white: bool) -> usize
-    ensures value { result ≡ prefix_len (goes_on (if white then White else Hashes)) line.now }
+    ensures value { result ≡ prefix_len (is_continued (if white then White else Hashes)) line.now }
     ensures bound { result ≤ length line.now }
 {
     if white {
@@ -116,10 +116,10 @@ fn add_runs(tokenizer: &mut Tokenizer, piece: &[u8], from: Point) -> Result<(), 
     let mut point = from;
     while !rest.is_empty() {
         let white = is_white(rest[0]);
-        let (run, behind) = rest.split_at(run_len(rest, white));
+        let (run, following) = rest.split_at(run_len(rest, white));
         let end = past_text(tokenizer.bytes, run, point);
         add_part(tokenizer, run_name(white), None, point, end)?;
-        rest = behind;
+        rest = following;
         point = end;
     }
     Ok(())

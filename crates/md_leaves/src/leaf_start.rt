@@ -18,11 +18,11 @@ pub(crate) fn start_leaf(
     tokenizer: &mut Tokenizer,
     is_on: bool,
     name: Name,
-    behind: StateName,
+    following: StateName,
 ) -> State
-    ensures to { result ≢ State.Error → result ≡ (start_transition name behind is_on (world tokenizer.old)).to }
+    ensures to { result ≢ State.Error → result ≡ (start_transition name following is_on (world tokenizer.old)).to }
     ensures world { result ≢ State.Error →
-        world tokenizer.new ≡ (start_transition name behind is_on (world tokenizer.old)).world }
+        world tokenizer.new ≡ (start_transition name following is_on (world tokenizer.old)).world }
     ensures full { OnError result (IsFull tokenizer.new) }
 {
     if !is_on {
@@ -31,8 +31,8 @@ pub(crate) fn start_leaf(
     or_error!(tokenizer.enter(name));
     if is_space_or_tab(tokenizer.current) {
         let max = small_indent(tokenizer);
-        space_or_tab_min_max(tokenizer, 0, max, State::Next(behind), State::Nok)
+        space_or_tab_min_max(tokenizer, 0, max, State::Next(following), State::Nok)
     } else {
-        State::Retry(behind)
+        State::Retry(following)
     }
 }

@@ -11,9 +11,9 @@ ghost use Rattle.std.specs.Option.{option_map};
 ghost use Rattle.md_engine.specs.Found.{found_in};
 ghost use Rattle.md_engine.specs.World.{world};
 ghost use Rattle.md_events.specs.Rewritten.{IsFirst, held_of};
-ghost use Rattle.md_leaves.specs.Spanned.{Ends, begins_further, given, given_by, goes_on, has_lines, is_blank_ending};
-ghost use Rattle.md_leaves.specs.Spanned.{is_code_line, is_renamed, links_back, passes, passes_on, place_after};
-ghost use Rattle.md_leaves.specs.Spanned.{place_by};
+ghost use Rattle.md_leaves.specs.Spanned.{Ends, begins_further, given, given_by, is_continued, has_lines};
+ghost use Rattle.md_leaves.specs.Spanned.{is_blank_ending, is_code_line, is_renamed, links_back, passes, passes_on};
+ghost use Rattle.md_leaves.specs.Spanned.{place_after, place_by};
 ghost use Rattle.md_leaves.specs.Turned.{HoldNoUnderline, is_underline};
 ghost use Rattle.md_leaves.specs.Spanned.{renamed, spanned, turn_by};
 ghost use Rattle.md_events.specs.Events.Spelled.{role};
@@ -82,8 +82,8 @@ fn begins_further(event: &Event) -> bool
 }
 
 /// Whether the next block is a further line.
-fn goes_on(events: &[Event]) -> bool
-    ensures { result ≡ goes_on events.now }
+fn is_continued(events: &[Event]) -> bool
+    ensures { result ≡ is_continued events.now }
 {
     let mut at = 0;
     while at < events.len() {
@@ -241,11 +241,11 @@ impl Walk {
     }
 
     /// Whether the next block after the event that is left first is a further line.
-    fn goes_on_behind(&self) -> bool
+    fn is_continued_next(&self) -> bool
         requires { 0 < length (rest_of self.now) }
-        ensures { result ≡ goes_on (drop 1 (rest_of self.now)) }
+        ensures { result ≡ is_continued (drop 1 (rest_of self.now)) }
     {
-        goes_on(&self.all.left()[1..])
+        is_continued(&self.all.left()[1..])
     }
 
     /// Gives an event that no line begins or ends with.
@@ -319,7 +319,7 @@ impl Walk {
         if matches!(event.kind, Kind::Enter) {
             self.begin(event);
         } else {
-            self.end(event, self.goes_on_behind());
+            self.end(event, self.is_continued_next());
         }
         Ok(())
     }

@@ -8,7 +8,7 @@ use Rattle.md_meaning.specs.Rest.{is_blank, is_white}
 use Rattle.md_engine.specs.declared.event.Point.{Point}
 use Rattle.md_engine.specs.Meaning.{Cell}
 use Rattle.md_link_definitions.specs.Chunks.{before_mark, from_mark}
-use Rattle.md_link_definitions.specs.DefinitionRule.{ends_behind}
+use Rattle.md_link_definitions.specs.DefinitionRule.{ends_after}
 use Rattle.md_link_definitions.specs.GapRule.{ending_rest, gap_rest}
 use Rattle.md_link_definitions.specs.Label.{is_bracket}
 use Rattle.md_link_definitions.specs.LabelRule.{LabelParts, label_from, label_parts}
@@ -30,7 +30,7 @@ use Rattle.md_events.proofs.RestCells.{white-length}
 -- After the mark that closes a text.
 
 -- what follows a part: a byte begins there, and fewer cells are left
-pub record Behind (p : Point) (rest cells : List Cell) : Type 0 where
+pub record Following (p : Point) (rest cells : List Cell) : Type 0 where
   pub at : AreAt p rest
   pub fewer : length rest < length cells
 
@@ -49,10 +49,10 @@ closer-at opener closer q d ds marks first =
     go false e is = refl
 
 -- and what follows it
-closer-behind : (opener closer : ℕ) (c : Cell) (cs : List Cell) (d : Cell) (ds : List Cell) →
+closer-following : (opener closer : ℕ) (c : Cell) (cs : List Cell) (d : Cell) (ds : List Cell) →
     AreMarks opener closer → AreWhole c.after cs → from_mark (is_mark opener closer) false cs ≡ d ∷ ds →
-    Behind d.after ds (c ∷ cs)
-closer-behind opener closer c cs d ds marks are e =
+    Following d.after ds (c ∷ cs)
+closer-following opener closer c cs d ds marks are e =
     let is = is_mark opener closer in
     let split : length (before_mark is false cs ++ from_mark is false cs) ≡ length cs =
     ap (λ (l : List Cell). length l) (mark-split is false cs) in
@@ -66,62 +66,62 @@ closer-behind opener closer c cs d ds marks are e =
     }
 
 -- of a label,
-pub label-behind : (p : Point) (cells : List Cell) (t : LabelParts) → AreWhole p cells → label_parts cells ≡ Some t →
-    Behind t.closer.after t.rest cells
+pub label-following : (p : Point) (cells : List Cell) (t : LabelParts) → AreWhole p cells → label_parts cells ≡ Some t →
+    Following t.closer.after t.rest cells
 unfolding label_parts
-label-behind p [] t are e = cc
-label-behind p (c ∷ cs) t are e = go (nat_eq c.byte 91) refl e
+label-following p [] t are e = cc
+label-following p (c ∷ cs) t are e = go (nat_eq c.byte 91) refl e
   where
     text : List Cell
     text = before_mark is_bracket false cs
 
     closed : (d : Cell) (ds : List Cell) (x : Bool) → from_mark is_bracket false cs ≡ d ∷ ds →
         cond x (Some (record { opener = c; text = text; closer = d; rest = ds })) None ≡ Some t →
-        Behind t.closer.after t.rest (c ∷ cs)
+        Following t.closer.after t.rest (c ∷ cs)
     closed d ds true k e =
         let u : LabelParts = record { opener = c; text = text; closer = d; rest = ds } in
         let same : u ≡ t = cc in
-        subst (λ (v : LabelParts). Behind v.closer.after v.rest (c ∷ cs)) same
-        (closer-behind 91 93 c cs d ds (record { opens = refl; closes = refl }) are.1 k)
+        subst (λ (v : LabelParts). Following v.closer.after v.rest (c ∷ cs)) same
+        (closer-following 91 93 c cs d ds (record { opens = refl; closes = refl }) are.1 k)
     closed d ds false k e = let none : (let o : Option LabelParts = None in o) ≡ Some t = e in cc
 
     by : (l : List Cell) → from_mark is_bracket false cs ≡ l → label_from c text l ≡ Some t →
-        Behind t.closer.after t.rest (c ∷ cs)
+        Following t.closer.after t.rest (c ∷ cs)
     by [] k e = let none : (let o : Option LabelParts = None in o) ≡ Some t = e in cc
     by (d ∷ ds) k e = closed d ds _ k e
 
     go : (x : Bool) → nat_eq c.byte 91 ≡ x →
         cond x (label_from c text (from_mark is_bracket false cs)) None ≡ Some t →
-        Behind t.closer.after t.rest (c ∷ cs)
+        Following t.closer.after t.rest (c ∷ cs)
     go true i e = by (from_mark is_bracket false cs) refl e
     go false i e = let none : (let o : Option LabelParts = None in o) ≡ Some t = e in cc
 
 -- and of a title
-pub title-behind : (p : Point) (cells : List Cell) (t : TitleParts) → AreWhole p cells → title_parts cells ≡ Some t →
-    Behind t.closer.after t.rest cells
+pub title-following : (p : Point) (cells : List Cell) (t : TitleParts) → AreWhole p cells → title_parts cells ≡ Some t →
+    Following t.closer.after t.rest cells
 unfolding title_parts
-title-behind p [] t are e = cc
-title-behind p (c ∷ cs) t are e = go (title_closer c.byte) refl e
+title-following p [] t are e = cc
+title-following p (c ∷ cs) t are e = go (title_closer c.byte) refl e
   where
     closed : (closer : ℕ) (text : List Cell) (d : Cell) (ds : List Cell) (x : Bool) →
         title_closer c.byte ≡ Some closer → from_mark (is_mark c.byte closer) false cs ≡ d ∷ ds →
         cond x (Some (record { opener = c; text = text; closer = d; rest = ds })) None ≡ Some t →
-        Behind t.closer.after t.rest (c ∷ cs)
+        Following t.closer.after t.rest (c ∷ cs)
     closed closer text d ds true k l e =
         let u : TitleParts = record { opener = c; text = text; closer = d; rest = ds } in
         let same : u ≡ t = cc in
-        subst (λ (v : TitleParts). Behind v.closer.after v.rest (c ∷ cs)) same
-        (closer-behind c.byte closer c cs d ds (title-marks c.byte closer k) are.1 l)
+        subst (λ (v : TitleParts). Following v.closer.after v.rest (c ∷ cs)) same
+        (closer-following c.byte closer c cs d ds (title-marks c.byte closer k) are.1 l)
     closed closer text d ds false k l e = let none : (let o : Option TitleParts = None in o) ≡ Some t = e in cc
 
     by : (closer : ℕ) (text l : List Cell) → title_closer c.byte ≡ Some closer →
         from_mark (is_mark c.byte closer) false cs ≡ l → parts_closed closer c text l ≡ Some t →
-        Behind t.closer.after t.rest (c ∷ cs)
+        Following t.closer.after t.rest (c ∷ cs)
     by closer text [] k l e = let none : (let o : Option TitleParts = None in o) ≡ Some t = e in cc
     by closer text (d ∷ ds) k l e = closed closer text d ds _ k l e
 
     go : (o : Option ℕ) → title_closer c.byte ≡ o → parts_from o c cs ≡ Some t →
-        Behind t.closer.after t.rest (c ∷ cs)
+        Following t.closer.after t.rest (c ∷ cs)
     go None k e = let none : (let o : Option TitleParts = None in o) ≡ Some t = e in cc
     go (Some closer) k e =
         by closer (before_mark (is_mark c.byte closer) false cs) (from_mark (is_mark c.byte closer) false cs) k refl e
@@ -166,7 +166,7 @@ blank-ends (suc room) p (c ∷ cs) le are =
         let at : p.vs ≡ 0 = whole-at p c are.0 w in rw (w, e, at, w) refl
 
 -- and then the lines after it follow that whitespace
-pub ended-further : (cells : List Cell) → ends_behind cells ≡ true →
+pub ended-further : (cells : List Cell) → ends_after cells ≡ true →
     further (from_ending cells) ≡ further (white_rest any_size cells)
 ended-further cells e =
     ap further (sym (white-ending any_size cells) ∙ here (white_rest any_size cells) e)

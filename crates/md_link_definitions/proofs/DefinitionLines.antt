@@ -13,21 +13,23 @@ use Rattle.md_meaning.specs.Rest.{is_blank, is_parted}
 use Rattle.md_engine.specs.declared.event.Point.{Point}
 use Rattle.md_engine.specs.Meaning.{Cell}
 use Rattle.md_link_definitions.specs.CellLines.{cell_lines}
-use Rattle.md_link_definitions.specs.DefinitionRule.{DefinitionParts, definition_parts, destination_begin, destination_rest}
-use Rattle.md_link_definitions.specs.DefinitionRule.{ends_behind, lone, parts_behind, parts_labelled, parts_rest, parts_with}
-use Rattle.md_link_definitions.specs.DefinitionRule.{title_behind, titled_rest}
-use Rattle.md_link_definitions.specs.DestinationRule.{begins_literal, destination_last, destination_left, destination_size}
-use Rattle.md_link_definitions.specs.DestinationRule.{text_cells, text_first}
+use Rattle.md_link_definitions.specs.DefinitionRule.{DefinitionParts, definition_parts, destination_begin}
+use Rattle.md_link_definitions.specs.DefinitionRule.{destination_rest, ends_after, lone, parts_after, parts_labelled}
+use Rattle.md_link_definitions.specs.DefinitionRule.{parts_rest, parts_with, title_following, titled_rest}
+use Rattle.md_link_definitions.specs.DestinationRule.{begins_literal, destination_last, destination_left}
+use Rattle.md_link_definitions.specs.DestinationRule.{destination_size, text_cells, text_first}
 use Rattle.md_link_definitions.specs.GapRule.{begins_gap, gap_end, gap_rest}
 use Rattle.md_link_definitions.specs.LabelRule.{LabelParts, label_parts}
 use Rattle.md_link_definitions.specs.TitleRule.{TitleParts, title_parts}
 use Rattle.md_link_definitions.specs.WholeCells.{AreWhole, whole_cells}
 use Rattle.md_link_definitions.proofs.CellLineLemmas.{lines-byte, lines-ending, lines-some}
-use Rattle.md_link_definitions.proofs.DefinitionLemmas.{blank-ends, ended-further, gap-length, label-behind, title-behind}
+use Rattle.md_link_definitions.proofs.DefinitionLemmas.{blank-ends, ended-further, gap-length, label-following}
+use Rattle.md_link_definitions.proofs.DefinitionLemmas.{title-following}
 use Rattle.md_link_definitions.proofs.DefinitionWhole.{title-ends}
-use Rattle.md_link_definitions.proofs.DestinationLines.{destination-stands, destination-texts, destination_lines, destination_on}
-use Rattle.md_link_definitions.proofs.DestinationLines.{with_further}
-use Rattle.md_link_definitions.proofs.GapLines.{AreAt, gap-lines, gap-parted, gap-stands, lines-led, white-at, whole-first}
+use Rattle.md_link_definitions.proofs.DestinationLines.{destination-valid, destination-texts, destination_lines}
+use Rattle.md_link_definitions.proofs.DestinationLines.{destination_on, with_further}
+use Rattle.md_link_definitions.proofs.GapLines.{AreAt, gap-lines, gap-parted, gap-valid, lines-led, white-at}
+use Rattle.md_link_definitions.proofs.GapLines.{whole-first}
 use Rattle.md_link_definitions.proofs.LabelLines.{label-lines, label_lines}
 use Rattle.md_link_definitions.proofs.LineCells.{further, lines-first}
 use Rattle.md_link_definitions.proofs.TitleTexts.{title-texts, title_texts}
@@ -39,9 +41,9 @@ use Rattle.md_events.proofs.RestCells.{white-length}
 -- The title.
 
 -- what is said of it
-abbrev pub title_told : Option TitleParts → Option (List (List ℕ))
-title_told None = None
-title_told (Some t) = Some (cell_lines false (whole_cells t.opener.after t.text))
+abbrev pub title_recorded : Option TitleParts → Option (List (List ℕ))
+title_recorded None = None
+title_recorded (Some t) = Some (cell_lines false (whole_cells t.opener.after t.text))
 
 -- one that ends its line, and the lines after it
 abbrev lone_lines : Option TitleParts → Option Lines
@@ -58,12 +60,12 @@ lone-texts t are small =
     (ap (λ (x : List (List ℕ)). Some (record { text = text; rest = x })) (lines-first t.closer.after t.rest are))
     ∙ ap (λ (x : Bool). cond x (Some (record { text = text; rest = further (from_ending t.rest) })) None)
     (blank-ends any_size t.closer.after t.rest small are)
-    ∙ go (ends_behind t.rest) refl
+    ∙ go (ends_after t.rest) refl
   where
     text : List (List ℕ)
     text = cell_lines false (whole_cells t.opener.after t.text)
 
-    go : (x : Bool) → ends_behind t.rest ≡ x →
+    go : (x : Bool) → ends_after t.rest ≡ x →
         cond x (Some (record { text = text; rest = further (from_ending t.rest) })) None ≡
         lone_lines (cond x (Some t) None)
     go true e =
@@ -83,14 +85,14 @@ title-lone p cells at small = texts p cells at ∙ go (title_parts cells) refl
     go : (o : Option TitleParts) → title_parts cells ≡ o → alone (title_texts o) ≡ lone_lines (lone o)
     go None e = refl
     go (Some t) e =
-        let behind = title-behind p cells t at.are e in
-        let fewer = behind.fewer in
-        lone-texts t behind.at.are (omega (arith, fewer))
+        let following = title-following p cells t at.are e in
+        let fewer = following.fewer in
+        lone-texts t following.at.are (omega (arith, fewer))
 
 -- and the one after a gap
 title-gap : (p : Point) (cells : List Cell) (line : List ℕ) (lines : List (List ℕ)) → AreAt p cells →
     length cells ≤ any_size → cell_lines false (whole_cells p cells) ≡ line ∷ lines →
-    title_after line lines ≡ lone_lines (title_behind cells)
+    title_after line lines ≡ lone_lines (title_following cells)
 unfolding found.title_at cell_lines
 title-gap p [] line lines at small e =
     let first : [] ≡ line = cc in
@@ -98,14 +100,14 @@ title-gap p [] line lines at small e =
     ap₂ title_after (sym first) (sym none)
 title-gap p (c ∷ cs) line lines at small e = go (begins_gap (c ∷ cs)) refl
   where
-    go : (x : Bool) → begins_gap (c ∷ cs) ≡ x → title_after line lines ≡ lone_lines (title_behind (c ∷ cs))
+    go : (x : Bool) → begins_gap (c ∷ cs) ≡ x → title_after line lines ≡ lone_lines (title_following (c ∷ cs))
     go true k =
         let parted : is_parted line ≡ true = gap-parted p c cs line lines (at.begins c cs refl) e ∙ k in
         let left = gap-length (c ∷ cs) in
         rw (parted, k)
         (ap (λ (all : List (List ℕ)). found.title_at (after_gap all)) (sym e)
         ∙ gap-lines found.title_at p (c ∷ cs) refl small at.are
-        ∙ title-lone (gap_end (c ∷ cs) p) (gap_rest (c ∷ cs)) (gap-stands p (c ∷ cs) small at.are)
+        ∙ title-lone (gap_end (c ∷ cs) p) (gap_rest (c ∷ cs)) (gap-valid p (c ∷ cs) small at.are)
         (omega (arith, left)))
     go false k =
         let parted : is_parted line ≡ false = gap-parted p c cs line lines (at.begins c cs refl) e ∙ k in
@@ -116,13 +118,13 @@ title-gap p (c ∷ cs) line lines at small e = go (begins_gap (c ∷ cs)) refl
 -- the definition with this label and destination, and this title or none, and the lines after it
 abbrev pub cut_by : List (List ℕ) → List ℕ → Option TitleParts → List Cell → Cut
 cut_by label text title cells = record {
-  defined = record { label = label; destination = text; title = title_told title };
+  defined = record { label = label; destination = text; title = title_recorded title };
   rest = further (white_rest any_size (titled_rest title cells));
 }
 
 abbrev tail_cut : List (List ℕ) → List ℕ → Option TitleParts → List Cell → Option Cut
 tail_cut label text title cells =
-    cond (ends_behind (titled_rest title cells)) (Some (cut_by label text title cells)) None
+    cond (ends_after (titled_rest title cells)) (Some (cut_by label text title cells)) None
 
 -- by the title that was found, if one was
 abbrev titled_cut : List (List ℕ) → List ℕ → Option Lines → List ℕ → List (List ℕ) → Option Cut
@@ -165,12 +167,12 @@ tail-lines : (label : List (List ℕ)) (text : List ℕ) (p : Point) (cells : Li
     length cells ≤ any_size →
     (let line = bytes_of (whole_cells p (line_cells cells)) in
     with_title label (record { text = text; rest = line }) (further (from_ending cells))) ≡
-    tail_cut label text (title_behind cells) cells
+    tail_cut label text (title_following cells) cells
 tail-lines label text p cells at small =
     titled-is label text line lines
     ∙ ap (λ (o : Option Lines). titled_cut label text o line lines)
     (title-gap p cells line lines at small (lines-first p cells at.are))
-    ∙ go (title_behind cells) refl
+    ∙ go (title_following cells) refl
   where
     line : List ℕ
     line = bytes_of (whole_cells p (line_cells cells))
@@ -178,7 +180,7 @@ tail-lines label text p cells at small =
     lines : List (List ℕ)
     lines = further (from_ending cells)
 
-    none : (x : Bool) → ends_behind cells ≡ x →
+    none : (x : Bool) → ends_after cells ≡ x →
         cond x
         (Some (record { defined = record { label = label; destination = text; title = None }; rest = lines }))
         None ≡
@@ -190,7 +192,7 @@ tail-lines label text p cells at small =
         (ended-further cells e)
     none false e = refl
 
-    go : (o : Option TitleParts) → title_behind cells ≡ o →
+    go : (o : Option TitleParts) → title_following cells ≡ o →
         titled_cut label text (lone_lines o) line lines ≡ tail_cut label text o cells
     go None e =
         ap
@@ -199,7 +201,7 @@ tail-lines label text p cells at small =
         (Some (record { defined = record { label = label; destination = text; title = None }; rest = lines }))
         None)
         (blank-ends any_size p cells small at.are)
-        ∙ none (ends_behind cells) refl
+        ∙ none (ends_after cells) refl
     go (Some t) e =
         ap (λ (x : Bool). cond x (Some (cut_by label text (Some t) cells)) None) (sym (title-ends cells t e))
 
@@ -233,7 +235,7 @@ text_bytes d cells p =
 abbrev destination_cut : List (List ℕ) → Point → List Cell → Option Destination → Option Cut
 destination_cut label p cells None = None
 destination_cut label p cells (Some d) =
-    let left = destination_left d cells in tail_cut label (text_bytes d cells p) (title_behind left) left
+    let left = destination_left d cells in tail_cut label (text_bytes d cells p) (title_following left) left
 
 destination-cut : (label : List (List ℕ)) (p : Point) (cells : List Cell) → AreAt p cells → length cells ≤ any_size →
     with_destination label (cell_lines false (whole_cells p cells)) ≡
@@ -247,7 +249,7 @@ destination-cut label p cells at small =
         from_lines label (destination_lines p cells o) ≡ destination_cut label p cells o
     go None e = refl
     go (Some d) e =
-        let there = destination-stands p cells d at e in
+        let there = destination-valid p cells d at e in
         let left = destination_left d cells in
         let fewer = length-drop (destination_size (begins_literal cells) d.text) cells in
         ap (from_text label (text_bytes d cells p ∷ []))
@@ -303,7 +305,7 @@ cut-with : (cells : List Cell) (label : LabelParts) (c : Cell) (cs : List Cell) 
     o ≡
     cut_of (parts_with cells label c cs o)
 cut-with cells label c cs None = refl
-cut-with cells label c cs (Some d) = go (ends_behind (parts_rest all))
+cut-with cells label c cs (Some d) = go (ends_after (parts_rest all))
   where
     all : DefinitionParts
     all = record {
@@ -312,7 +314,7 @@ cut-with cells label c cs (Some d) = go (ends_behind (parts_rest all))
       colon = c;
       more = cs;
       destination = d;
-      title = title_behind (destination_left d (gap_rest cs));
+      title = title_following (destination_left d (gap_rest cs));
     }
 
     go : (x : Bool) →
@@ -326,37 +328,37 @@ cut-with cells label c cs (Some d) = go (ends_behind (parts_rest all))
     go false = refl
 
 -- after the label
-abbrev behind_colon : List (List ℕ) → Option (List (List ℕ)) → Option Cut
-behind_colon label None = None
-behind_colon label (Some more) = with_destination label (after_gap more)
+abbrev following_colon : List (List ℕ) → Option (List (List ℕ)) → Option Cut
+following_colon label None = None
+following_colon label (Some more) = with_destination label (after_gap more)
 
-behind-label : (cells : List Cell) (label : LabelParts) (left : List Cell) → AreAt label.closer.after left →
+following-label : (cells : List Cell) (label : LabelParts) (left : List Cell) → AreAt label.closer.after left →
     length left ≤ any_size →
-    behind_colon (cell_lines false (whole_cells label.opener.after label.text)) (colon_lines left) ≡
-    cut_of (parts_behind cells label left)
+    following_colon (cell_lines false (whole_cells label.opener.after label.text)) (colon_lines left) ≡
+    cut_of (parts_after cells label left)
 unfolding found.destination_at
-behind-label cells label [] at small = refl
-behind-label cells label (c ∷ cs) at small = go (nat_eq c.byte colon) refl
+following-label cells label [] at small = refl
+following-label cells label (c ∷ cs) at small = go (nat_eq c.byte colon) refl
   where
     text : List (List ℕ)
     text = cell_lines false (whole_cells label.opener.after label.text)
 
     go : (x : Bool) → nat_eq c.byte colon ≡ x →
-        behind_colon text (cond x (Some (cell_lines false (whole_cells c.after cs))) None) ≡
+        following_colon text (cond x (Some (cell_lines false (whole_cells c.after cs))) None) ≡
         cut_of
         (cond x (parts_with cells label c cs (found.destination_at (line_bytes (gap_rest cs)))) None)
     go true e =
         let fewer = gap-length cs in
         gap-lines (with_destination text) c.after cs refl (omega arith) at.are.1
         ∙ destination-cut text (gap_end cs c.after) (gap_rest cs)
-        (gap-stands c.after cs (omega arith) at.are.1) (omega (arith, fewer))
+        (gap-valid c.after cs (omega arith) at.are.1) (omega (arith, fewer))
         ∙ cut-with cells label c cs (found.destination_at (line_bytes (gap_rest cs)))
     go false e = refl
 
 -- by the label
 abbrev labelled_cut : Option Lines → Option Cut
 labelled_cut None = None
-labelled_cut (Some label) = behind_colon label.text (after_colon label.rest)
+labelled_cut (Some label) = following_colon label.text (after_colon label.rest)
 
 labelled-is : (lines : List (List ℕ)) → found.definition_at lines ≡ labelled_cut (found.label_at lines)
 unfolding found.definition_at
@@ -364,7 +366,7 @@ labelled-is lines = go (found.label_at lines)
   where
     by : (label : Lines) (o : Option (List (List ℕ))) →
         (elim o [ Some more ↦ with_destination label.text (after_gap more) | None ↦ None ]) ≡
-        behind_colon label.text o
+        following_colon label.text o
     by label None = refl
     by label (Some more) = refl
 
@@ -395,11 +397,11 @@ definition-at cells p left at small =
     go : (o : Option LabelParts) → label_parts left ≡ o → labelled_cut (label_lines o) ≡ cut_of (parts_labelled cells o)
     go None e = refl
     go (Some label) e =
-        let behind = label-behind p left label at.are e in
-        let fewer = behind.fewer in
-        ap (behind_colon (cell_lines false (whole_cells label.opener.after label.text)))
-        (colon-lines label.closer.after label.rest behind.at)
-        ∙ behind-label cells label label.rest behind.at (omega (arith, fewer))
+        let following = label-following p left label at.are e in
+        let fewer = following.fewer in
+        ap (following_colon (cell_lines false (whole_cells label.opener.after label.text)))
+        (colon-lines label.closer.after label.rest following.at)
+        ∙ following-label cells label label.rest following.at (omega (arith, fewer))
 
 -- A definition is found on the lines of cells, of which the first may be indented, where those cells begin with one:
 -- with its label, its destination and its title, and before the lines after it.

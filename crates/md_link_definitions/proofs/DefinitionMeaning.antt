@@ -18,18 +18,19 @@ use Rattle.md_engine.specs.declared.state.State.{State}
 use Rattle.md_engine.specs.declared.state.State.TheVariants.{Nok, Next}
 use Rattle.md_engine.specs.declared.tokenizer.Frame.{Frame}
 use Rattle.md_engine.specs.declared.tokenizer.Scratch.{Scratch}
-use Rattle.md_engine.specs.Meaning.{Accepts, Behaviour, Cell, Fails, Feed, Here, Outcome, Refuses, Steps, goes, here}
-use Rattle.md_engine.specs.Meaning.{resume}
+use Rattle.md_engine.specs.Meaning.{Accepts, Behaviour, Cell, Fails, Feed, Here, Outcome, Refuses, Steps, proceeds}
+use Rattle.md_engine.specs.Meaning.{here, resume}
 use Rattle.md_engine.specs.Scheme.{After, position}
 use Rattle.md_engine.specs.World.{Flags, World, after}
 use Rattle.md_engine.specs.Sees.{Sees, ahead, cell_here}
 use Rattle.md_engine.proofs.StepOf.{begins, begins_only, moves, passes, steps-as}
-use Rattle.md_link_definitions.specs.Definition.{before_code, behind_white, definition_ready, definition_transition, end_code}
-use Rattle.md_link_definitions.specs.Definition.{label_after_code, refused, sees_gap, start_code, title_before_code}
-use Rattle.md_link_definitions.specs.Definition.{title_end_code, tries_part}
-use Rattle.md_link_definitions.specs.DefinitionRule.{DefinitionMeans, HasDefinition, at_end, at_title, at_title_end, before_destination}
-use Rattle.md_link_definitions.specs.DefinitionRule.{before_label, before_title, behind_destination, behind_label, behind_marker}
-use Rattle.md_link_definitions.specs.DefinitionRule.{behind_parts, behind_title, definition_at, definition_behaves, tried}
+use Rattle.md_link_definitions.specs.Definition.{before_code, following_white, definition_ready, definition_transition}
+use Rattle.md_link_definitions.specs.Definition.{end_code, label_after_code, refused, sees_gap, start_code}
+use Rattle.md_link_definitions.specs.Definition.{title_before_code, title_end_code, tries_part}
+use Rattle.md_link_definitions.specs.DefinitionRule.{DefinitionMeans, HasDefinition, at_end, at_title, at_title_end}
+use Rattle.md_link_definitions.specs.DefinitionRule.{before_destination, before_label, before_title, after_destination}
+use Rattle.md_link_definitions.specs.DefinitionRule.{after_label, after_marker, after_parts, after_title, definition_at}
+use Rattle.md_link_definitions.specs.DefinitionRule.{definition_behaves, tried}
 use Rattle.md_link_definitions.specs.DestinationRule.{destination_at}
 use Rattle.md_link_definitions.specs.GapRule.{begins_gap, gap_at, past_white}
 use Rattle.md_link_definitions.specs.LabelRule.{label_at}
@@ -54,16 +55,16 @@ frame_here ok nok w = record { ok = ok; nok = nok; is_check = false; events_len 
 -- what it becomes
 tried-resumed : (B : Behaviour) (feed : Feed) (w : World) (ok nok : State) (o : Outcome)
     (onward : List Cell → Here → Outcome) (otherwise : Scratch → Flags → Outcome) →
-    ((cells : List Cell) (h : Here) → goes B ok cells h ≡ onward cells h) →
+    ((cells : List Cell) (h : Here) → proceeds B ok cells h ≡ onward cells h) →
     ((s : Scratch) (g : Flags) →
-    goes B nok (feed w.point) (record (here w) { scratch = s; flags = g }) ≡ otherwise s g) →
+    proceeds B nok (feed w.point) (record (here w) { scratch = s; flags = g }) ≡ otherwise s g) →
     tried o onward otherwise ≡ resume B feed w.events (frame_here ok nok w) o
 tried-resumed B feed w ok nok (Accepts h rest) onward otherwise a b = sym (a rest h)
 tried-resumed B feed w ok nok (Refuses s g) onward otherwise a b =
     let back : take (length w.events) w.events ≡ w.events = take_all (length w.events) w.events (omega arith) in
     sym
     (ap
-    (λ (x : List Event). goes B nok (feed w.point) (record (here w) { events = x; scratch = s; flags = g })) back
+    (λ (x : List Event). proceeds B nok (feed w.point) (record (here w) { events = x; scratch = s; flags = g })) back
     ∙ b s g)
 tried-resumed B feed w ok nok Fails onward otherwise a b = refl
 
@@ -73,9 +74,9 @@ part_means : (B : Behaviour) (feed : Feed) (options : ParseOptions) (state : Def
     HasDefinition B options →
     definition_behaves options state (feed w.point) (here w) ≡
     tried (B first (feed w.point) (here w)) onward otherwise →
-    ((cells : List Cell) (h : Here) → goes B ok cells h ≡ onward cells h) →
+    ((cells : List Cell) (h : Here) → proceeds B ok cells h ≡ onward cells h) →
     ((s : Scratch) (g : Flags) →
-    goes B nok (feed w.point) (record (here w) { scratch = s; flags = g }) ≡ otherwise s g) →
+    proceeds B nok (feed w.point) (record (here w) { scratch = s; flags = g }) ≡ otherwise s g) →
     Steps B feed (Next (n.Definition state)) w (tries_part w first ok nok).to (tries_part w first ok nok).world
 part_means B feed options state first ok nok w onward otherwise has same a b =
     begins_only B feed _ _ w (tries_part w first ok nok).world (frame_here ok nok w) refl refl
@@ -89,11 +90,11 @@ white_means : (B : Behaviour) (feed : Feed) (options : ParseOptions) (state next
     ((cells : List Cell) (h : Here) →
     definition_behaves options state cells h ≡
     definition_behaves options next (white_rest any_size cells) (past_white cells h)) →
-    Steps B feed (Next (n.Definition state)) w (behind_white w next x).to (behind_white w next x).world
+    Steps B feed (Next (n.Definition state)) w (following_white w next x).to (following_white w next x).world
 white_means B feed options state next w true has s r e same =
     let white : begins_white (feed w.point) ≡ true = begins-seen feed w s ∙ e in
     let frame : Frame = frame_here (Next (n.Definition next)) Nok w in
-    begins_only B feed _ _ w (behind_white w next true).world frame refl refl
+    begins_only B feed _ _ w (following_white w next true).world frame refl refl
     (has.each state _ _ ∙ same (feed w.point) (here w)
     ∙ ap (definition_behaves options next (white_rest any_size (feed w.point)))
     (past-some (feed w.point) (here w) r white)
@@ -140,7 +141,7 @@ start_means B feed options w false white has s r e k =
 
 label-tried : (cells : List Cell) (h : Here) →
     before_label cells h ≡
-    tried (label_at cells (record h { events = h.events ++ enter Definition h.point ∷ [] })) behind_label Refuses
+    tried (label_at cells (record h { events = h.events ++ enter Definition h.point ∷ [] })) after_label Refuses
 unfolding before_label
 label-tried cells h = refl
 
@@ -161,27 +162,27 @@ before_means B feed options w true has s e =
     let nok : State = Next (n.Definition its.LabelNok) in
     begins B feed _ _ w (before_code w true).world (enter Definition w.point ∷ []) (frame_here ok nok v) refl refl
     (has.each its.Before _ _ ∙ label-tried (feed w.point) (here w)
-    ∙ ap (λ (o : Outcome). tried o behind_label Refuses) (sym (has.label.each label.Start _ _))
-    ∙ tried-resumed B feed v ok nok (B (n.Label label.Start) (feed w.point) (here v)) behind_label Refuses
+    ∙ ap (λ (o : Outcome). tried o after_label Refuses) (sym (has.label.each label.Start _ _))
+    ∙ tried-resumed B feed v ok nok (B (n.Label label.Start) (feed w.point) (here v)) after_label Refuses
     (λ cells h. has.each its.LabelAfter cells h) (λ t g. has.each its.LabelNok _ _))
 before_means B feed options w false has s e =
     refused_means B feed options its.Before w has
     (label-tried (feed w.point) (here w)
-    ∙ ap (λ (o : Outcome). tried o behind_label Refuses)
+    ∙ ap (λ (o : Outcome). tried o after_label Refuses)
     (ap (λ (x : List Cell). label_at x (here (entered w Definition))) s.next
     ∙ label-none feed w (here (entered w Definition)) w.current e))
 
 -- After the label.
 
 colon-taken : (c : Cell) (cs : List Cell) (h : Here) → nat_eq c.byte colon ≡ true →
-    behind_label (c ∷ cs) h ≡
-    behind_marker cs (record h { events = h.events ++ pair DefinitionMarker h.point c.after; point = c.after })
-unfolding behind_label
+    after_label (c ∷ cs) h ≡
+    after_marker cs (record h { events = h.events ++ pair DefinitionMarker h.point c.after; point = c.after })
+unfolding after_label
 colon-taken c cs h e = rw e refl
 
 colon-none : (feed : Feed) (w : World) (h : Here) (o : Option ℕ) → is_current colon o ≡ false →
-    behind_label (ahead feed w o) h ≡ Refuses h.scratch h.flags
-unfolding behind_label
+    after_label (ahead feed w o) h ≡ Refuses h.scratch h.flags
+unfolding after_label
 colon-none feed w h None e = refl
 colon-none feed w h (Some b) e = rw e refl
 
@@ -191,7 +192,7 @@ label_after_means : (B : Behaviour) (feed : Feed) (options : ParseOptions) (w : 
     Steps B feed (Next (n.Definition its.LabelAfter)) w (label_after_code w x).to (label_after_code w x).world
 label_after_means B feed options w o false has next e =
     refused_means B feed options its.LabelAfter w has
-    (ap (λ (x : List Cell). behind_label x (here w)) next ∙ colon-none feed w (here w) o e)
+    (ap (λ (x : List Cell). after_label x (here w)) next ∙ colon-none feed w (here w) o e)
 label_after_means B feed options w None true has next e = cc
 label_after_means B feed options w (Some b) true has next e =
     let new : World = (label_after_code w true).world in
@@ -199,38 +200,38 @@ label_after_means B feed options w (Some b) true has next e =
     let added : List Event = pair DefinitionMarker w.point (after w.setting w.point) in
     let same : new.events ≡ w.events ++ added = simp append_assoc in
     moves B feed _ _ w new added refl same
-    (has.each its.LabelAfter _ _ ∙ ap (λ (x : List Cell). behind_label x (here w)) next
+    (has.each its.LabelAfter _ _ ∙ ap (λ (x : List Cell). after_label x (here w)) next
     ∙ colon-taken (cell_here feed w b) left (here w) e
-    ∙ ap (λ (es : List Event). behind_marker left (record (here new) { events = es })) (sym same)
+    ∙ ap (λ (es : List Event). after_marker left (record (here new) { events = es })) (sym same)
     ∙ sym (has.each its.MarkerAfter _ _))
 
 -- The other parts.
 
 -- a gap, and the destination
 marker-tried : (cells : List Cell) (h : Here) →
-    behind_marker cells h ≡
+    after_marker cells h ≡
     tried (gap_at cells h) before_destination
     (λ s g. before_destination cells (record h { scratch = s; flags = g }))
-unfolding behind_marker
+unfolding after_marker
 marker-tried cells h = refl
 
 destination-tried : (cells : List Cell) (h : Here) →
-    before_destination cells h ≡ tried (destination_at cells h) behind_destination Refuses
+    before_destination cells h ≡ tried (destination_at cells h) after_destination Refuses
 unfolding before_destination
 destination-tried cells h = refl
 
 -- a title with the gap before it
-behind-tried : (cells : List Cell) (h : Here) →
-    behind_destination cells h ≡
-    tried (before_title cells h) behind_parts (λ s g. behind_parts cells (record h { scratch = s; flags = g }))
-unfolding behind_destination
-behind-tried cells h = refl
+following-tried : (cells : List Cell) (h : Here) →
+    after_destination cells h ≡
+    tried (before_title cells h) after_parts (λ s g. after_parts cells (record h { scratch = s; flags = g }))
+unfolding after_destination
+following-tried cells h = refl
 
 gap-tried : (cells : List Cell) (h : Here) → before_title cells h ≡ tried (gap_at cells h) at_title Refuses
 unfolding before_title
 gap-tried cells h = refl
 
-title-tried : (cells : List Cell) (h : Here) → at_title cells h ≡ tried (title_at cells h) behind_title Refuses
+title-tried : (cells : List Cell) (h : Here) → at_title cells h ≡ tried (title_at cells h) after_title Refuses
 unfolding at_title
 title-tried cells h = refl
 
@@ -261,13 +262,13 @@ title_before_means B feed options w false has s r e =
 -- Whitespace, and the end of the line.
 
 parts-white : (cells : List Cell) (h : Here) →
-    behind_parts cells h ≡ at_end (white_rest any_size cells) (past_white cells h)
-unfolding behind_parts
+    after_parts cells h ≡ at_end (white_rest any_size cells) (past_white cells h)
+unfolding after_parts
 parts-white cells h = refl
 
 title-white : (cells : List Cell) (h : Here) →
-    behind_title cells h ≡ at_title_end (white_rest any_size cells) (past_white cells h)
-unfolding behind_title
+    after_title cells h ≡ at_title_end (white_rest any_size cells) (past_white cells h)
+unfolding after_title
 title-white cells h = refl
 
 title-ends : (cells : List Cell) (h : Here) → ends_line (first_seen cells) ≡ true →
@@ -275,10 +276,10 @@ title-ends : (cells : List Cell) (h : Here) → ends_line (first_seen cells) ≡
 unfolding at_title_end
 title-ends cells h e = rw e refl
 
-title-goes : (cells : List Cell) (h : Here) → ends_line (first_seen cells) ≡ false →
+title-proceeds : (cells : List Cell) (h : Here) → ends_line (first_seen cells) ≡ false →
     at_title_end cells h ≡ Refuses h.scratch h.flags
 unfolding at_title_end
-title-goes cells h e = rw e refl
+title-proceeds cells h e = rw e refl
 
 -- the state after a title
 title_end_means : (B : Behaviour) (feed : Feed) (options : ParseOptions) (w : World) (x : Bool) →
@@ -291,17 +292,17 @@ title_end_means B feed options w true has s e =
     ∙ title-ends (feed w.point) (here w) (ap ends_line (first-seen feed w s) ∙ e))
 title_end_means B feed options w false has s e =
     refused_means B feed options its.TitleAfterOptionalWhitespace w has
-    (title-goes (feed w.point) (here w) (ap ends_line (first-seen feed w s) ∙ e))
+    (title-proceeds (feed w.point) (here w) (ap ends_line (first-seen feed w s) ∙ e))
 
 all-ends : (cells : List Cell) (h : Here) → ends_line (first_seen cells) ≡ true →
     at_end cells h ≡ Accepts (record h { events = h.events ++ exit Definition h.point ∷ [] }) cells
 unfolding at_end
 all-ends cells h e = rw e refl
 
-all-goes : (cells : List Cell) (h : Here) → ends_line (first_seen cells) ≡ false →
+all-proceeds : (cells : List Cell) (h : Here) → ends_line (first_seen cells) ≡ false →
     at_end cells h ≡ Refuses h.scratch h.flags
 unfolding at_end
-all-goes cells h e = rw e refl
+all-proceeds cells h e = rw e refl
 
 -- and the last one
 end_means : (B : Behaviour) (feed : Feed) (options : ParseOptions) (w : World) (x : Bool) →
@@ -313,10 +314,11 @@ end_means B feed options w true has s e =
     ∙ all-ends (feed w.point) (here w) (ap ends_line (first-seen feed w s) ∙ e))
 end_means B feed options w false has s e =
     refused_means B feed options its.AfterWhitespace w has
-    (all-goes (feed w.point) (here w) (ap ends_line (first-seen feed w s) ∙ e))
+    (all-proceeds (feed w.point) (here w) (ap ends_line (first-seen feed w s) ∙ e))
 
 -- All of them: each state takes one step of what it means.
-definition_steps : (B : Behaviour) (feed : Feed) (state : DefinitionState) (w : World) → HasDefinition B w.setting.options →
+definition_steps : (B : Behaviour) (feed : Feed) (state : DefinitionState) (w : World) →
+    HasDefinition B w.setting.options →
     Sees feed w → IsRest w.scratch →
     Steps B feed (Next (n.Definition state)) w (definition_transition state w).to (definition_transition state w).world
 definition_steps B feed its.Start w has s at = start_means B feed w.setting.options w _ _ has s at refl refl
@@ -337,19 +339,19 @@ definition_steps B feed its.MarkerAfter w has s at =
     (λ cells h. has.each its.DestinationBefore cells h) (λ t g. has.each its.DestinationBefore _ _)
 definition_steps B feed its.DestinationBefore w has s at =
     part_means B feed w.setting.options its.DestinationBefore (n.Destination destination.Start)
-    (Next (n.Definition its.DestinationAfter)) (Next (n.Definition its.DestinationMissing)) w behind_destination Refuses
+    (Next (n.Definition its.DestinationAfter)) (Next (n.Definition its.DestinationMissing)) w after_destination Refuses
     has
     (destination-tried (feed w.point) (here w)
-    ∙ ap (λ (o : Outcome). tried o behind_destination Refuses) (sym (has.destination.each destination.Start _ _)))
+    ∙ ap (λ (o : Outcome). tried o after_destination Refuses) (sym (has.destination.each destination.Start _ _)))
     (λ cells h. has.each its.DestinationAfter cells h) (λ t g. has.each its.DestinationMissing _ _)
 definition_steps B feed its.DestinationAfter w has s at =
     part_means B feed w.setting.options its.DestinationAfter (n.Definition its.TitleBefore)
-    (Next (n.Definition its.After)) (Next (n.Definition its.After)) w behind_parts
-    (λ t g. behind_parts (feed w.point) (record (here w) { scratch = t; flags = g })) has
-    (behind-tried (feed w.point) (here w)
+    (Next (n.Definition its.After)) (Next (n.Definition its.After)) w after_parts
+    (λ t g. after_parts (feed w.point) (record (here w) { scratch = t; flags = g })) has
+    (following-tried (feed w.point) (here w)
     ∙ ap
     (λ (o : Outcome).
-    tried o behind_parts (λ t g. behind_parts (feed w.point) (record (here w) { scratch = t; flags = g })))
+    tried o after_parts (λ t g. after_parts (feed w.point) (record (here w) { scratch = t; flags = g })))
     (sym (has.each its.TitleBefore _ _)))
     (λ cells h. has.each its.After cells h) (λ t g. has.each its.After _ _)
 definition_steps B feed its.DestinationMissing w has s at =
@@ -361,9 +363,9 @@ definition_steps B feed its.TitleBefore w has s at =
     title_before_means B feed w.setting.options w _ has s at refl
 definition_steps B feed its.TitleBeforeMarker w has s at =
     part_means B feed w.setting.options its.TitleBeforeMarker (n.Title title.Start) (Next (n.Definition its.TitleAfter))
-    Nok w behind_title Refuses has
+    Nok w after_title Refuses has
     (title-tried (feed w.point) (here w)
-    ∙ ap (λ (o : Outcome). tried o behind_title Refuses) (sym (has.title.each title.Start _ _)))
+    ∙ ap (λ (o : Outcome). tried o after_title Refuses) (sym (has.title.each title.Start _ _)))
     (λ cells h. has.each its.TitleAfter cells h) (λ t g. refl)
 definition_steps B feed its.TitleAfter w has s at =
     white_means B feed w.setting.options its.TitleAfter its.TitleAfterOptionalWhitespace w _ has s at refl title-white

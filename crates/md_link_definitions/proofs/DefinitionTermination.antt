@@ -17,10 +17,11 @@ use Rattle.md_engine.specs.World.{World, looks}
 use Rattle.md_engine.proofs.Falls.{later, later_at, passed_at, passing_at}
 use Rattle.md_engine.proofs.Local.{accepts, begins_later, begins_try, consumes, refuses, refuses_later, turns}
 use Rattle.md_engine.proofs.Points.{passes-reaches, stays, takes}
-use Rattle.md_link_definitions.specs.Definition.{before_code, behind_white, definition_level, definition_rank, definition_ready}
-use Rattle.md_link_definitions.specs.Definition.{definition_scheme, definition_transition, definition_tries, end_code}
-use Rattle.md_link_definitions.specs.Definition.{label_after_code, start_code, title_before_code, title_before_marker_transition}
-use Rattle.md_link_definitions.specs.Definition.{title_end_code, tries_part}
+use Rattle.md_link_definitions.specs.Definition.{before_code, following_white, definition_level, definition_rank}
+use Rattle.md_link_definitions.specs.Definition.{definition_ready, definition_scheme, definition_transition}
+use Rattle.md_link_definitions.specs.Definition.{definition_tries, end_code, label_after_code, start_code}
+use Rattle.md_link_definitions.specs.Definition.{title_before_code, title_before_marker_transition, title_end_code}
+use Rattle.md_link_definitions.specs.Definition.{tries_part}
 use Rattle.md_link_definitions.specs.Destination.{destination_scheme}
 use Rattle.md_link_definitions.specs.Gap.{gap_scheme}
 use Rattle.md_link_definitions.specs.Label.{label_scheme}
@@ -42,7 +43,7 @@ pub record DefinitionFits (T : Scheme) : Type 1 where
   pub each : (state : DefinitionState) → Fits T definition_scheme (n.Definition state)
 
 -- Whitespace that may be left out, before a state that is ready at rest.
-white-behind : (T : Scheme) (name next : DefinitionState) (w : World) (x : Bool) → DefinitionFits T →
+white-following : (T : Scheme) (name next : DefinitionState) (w : World) (x : Bool) → DefinitionFits T →
     rest_ready (position w) (after_all T w.frames) →
     ((y : Position) (K : After) → rest_ready y K → definition_ready (n.Definition next) y K) →
     definition_level (n.Definition next) ≤ definition_level (n.Definition name) →
@@ -50,13 +51,13 @@ white-behind : (T : Scheme) (name next : DefinitionState) (w : World) (x : Bool)
     ((y : Position) →
     (definition_rank (n.Definition next) y).number < (definition_tries (n.Definition next)).number) →
     (definition_tries (n.Definition next)).number < (definition_rank (n.Definition name) (position w)).number →
-    Does T (n.Definition name) w (behind_white w next x)
-white-behind T name next w true has r ready level some low falls =
+    Does T (n.Definition name) w (following_white w next x)
+white-following T name next w true has r ready level some low falls =
     white_try T definition_scheme (n.Definition name) (n.Definition next) w w.events w.scratch 1 any_size IsRest IsRest
     has.gap.white (has.each name) (has.each next) (rest-none w.scratch r.0) (λ asked. rest-calm w.scratch r.0) r.1
     (λ q t up way. ready _ _ (rest-calm w.scratch r.0, later_at _ _ (position w) _ q t _ up way r.1)) level some
     (λ t up. low _) falls
-white-behind T name next w false has r ready level some low falls =
+white-following T name next w false has r ready level some low falls =
     let less = low (position w) in (
       turns T definition_scheme (n.Definition name) (n.Definition next) w w.events w.scratch (has.each name)
           (has.each next) (ready _ _ r) level (omega (arith, less, falls)),
@@ -91,7 +92,11 @@ part-tried T inner name ok nok first w has part r ready ready_ok ready_nok below
             ok = λ s q t is up way. ready_ok _ K (is, later_at _ _ (position w) K q t s up way r.1);
             ok_level = level_ok;
             ok_rank = λ s t is up. let low = low_ok (spot_at t w.point s) in omega (arith, low);
-            nok = λ s t is up. ready_nok _ K (is, later_at _ _ (position w) K w.point t s up (stays t.limit w.point) r.1);
+            nok = λ s t is up. ready_nok _ K (
+              is,
+              later_at _ _ (position w) K w.point t s up
+                  (stays t.limit w.point) r.1,
+            );
             nok_level = omega arith;
             nok_rank = λ s t is up. let low = low_nok (spot_at t w.point s) in omega (arith, low);
           })
@@ -108,7 +113,8 @@ start_ends T w true true has r =
     white_try_later T definition_scheme _ (n.Definition its.Before) w w.events w.scratch 1 any_size IsRest IsRest
     has.gap.white (has.each its.Start) (has.each its.Before) (rest-none w.scratch r.0)
     (λ some. rest-calm w.scratch r.0) r.1
-    (λ q t up way. (rest-calm w.scratch r.0, passing_at _ _ (position w) _ q t _ up way r.1)) (omega arith) (omega arith)
+    (λ q t up way. (rest-calm w.scratch r.0, passing_at _ _ (position w) _ q t _ up way r.1))
+    (omega arith) (omega arith)
     (λ t up. omega arith) (omega arith)
 start_ends T w true false has r = (
   turns T definition_scheme _ _ w w.events w.scratch (has.each its.Start) (has.each its.Before) r (omega arith)
@@ -186,7 +192,8 @@ title_before_ends T w true has r =
 title_before_ends T w false has r = (refuses T _ w _ _ w.events w.scratch r.1 r.0, refl)
 
 -- before a title
-title_before_marker_ends : (T : Scheme) (w : World) → DefinitionFits T → rest_ready (position w) (after_all T w.frames) →
+title_before_marker_ends : (T : Scheme) (w : World) → DefinitionFits T →
+    rest_ready (position w) (after_all T w.frames) →
     Does T (n.Definition its.TitleBeforeMarker) w (title_before_marker_transition w)
 title_before_marker_ends T w has r =
     let K : After = after_all T w.frames in
@@ -225,7 +232,8 @@ end_ends T w true r = (accepts T _ w _ _ (exited w Definition).events w.scratch 
 end_ends T w false r = (refuses T _ w _ _ w.events w.scratch r.1 r.0, refl)
 
 -- all of them
-pub definition_terminates : (T : Scheme) (state : DefinitionState) (w : World) → DefinitionFits T → w.current ≡ looks w →
+pub definition_terminates : (T : Scheme) (state : DefinitionState) (w : World) → DefinitionFits T →
+    w.current ≡ looks w →
     definition_ready (n.Definition state) (position w) (after_all T w.frames) →
     Does T (n.Definition state) w (definition_transition state w)
 definition_terminates T its.Start w has c r = start_ends T w _ _ has r
@@ -246,12 +254,13 @@ definition_terminates T its.DestinationAfter w has c r =
     (λ y. omega arith) (λ y. omega arith) (omega arith)
 definition_terminates T its.DestinationMissing w has c r = (refuses T _ w _ _ w.events w.scratch r.1 r.0, refl)
 definition_terminates T its.After w has c r =
-    white-behind T its.After its.AfterWhitespace w _ has r (λ y K k. k) (omega arith) (omega arith) (λ y. omega arith)
+    white-following T its.After its.AfterWhitespace w _ has r (λ y K k. k) (omega arith) (omega arith)
+    (λ y. omega arith)
     (omega arith)
 definition_terminates T its.AfterWhitespace w has c r = end_ends T w _ r
 definition_terminates T its.TitleBefore w has c r = title_before_ends T w _ has r
 definition_terminates T its.TitleBeforeMarker w has c r = title_before_marker_ends T w has r
 definition_terminates T its.TitleAfter w has c r =
-    white-behind T its.TitleAfter its.TitleAfterOptionalWhitespace w _ has r (λ y K k. k) (omega arith) (omega arith)
+    white-following T its.TitleAfter its.TitleAfterOptionalWhitespace w _ has r (λ y K k. k) (omega arith) (omega arith)
     (λ y. omega arith) (omega arith)
 definition_terminates T its.TitleAfterOptionalWhitespace w has c r = title_end_ends T w _ r

@@ -12,17 +12,18 @@ use Rattle.md_engine.specs.declared.event.Point.{Point}
 use Rattle.md_engine.specs.declared.tokenizer.Scratch.{Scratch}
 use Rattle.md_engine.specs.Meaning.{Accepts, Cell, Here, Outcome, Refuses}
 use Rattle.md_engine.specs.World.{Flags}
-use Rattle.md_link_definitions.specs.DefinitionRule.{DefinitionParts, at_end, at_title, at_title_end, before_destination}
-use Rattle.md_link_definitions.specs.DefinitionRule.{before_label, before_title, behind_destination, behind_label, behind_marker}
-use Rattle.md_link_definitions.specs.DefinitionRule.{behind_parts, behind_title, definition_at, definition_end, definition_events}
-use Rattle.md_link_definitions.specs.DefinitionRule.{definition_parts, definition_rest, destination_begin, destination_end}
-use Rattle.md_link_definitions.specs.DefinitionRule.{destination_rest, ends_behind, is_literal, label_begin, lone, parts_behind}
-use Rattle.md_link_definitions.specs.DefinitionRule.{parts_end, parts_labelled, parts_rest, parts_with, title_behind, titled_end}
-use Rattle.md_link_definitions.specs.DefinitionRule.{titled_part, titled_rest, tried}
-use Rattle.md_link_definitions.specs.DestinationRule.{begins_literal, destination_by, destination_last, destination_left}
-use Rattle.md_link_definitions.specs.DestinationRule.{destination_part}
-use Rattle.md_link_definitions.specs.GapRule.{begins_ending, begins_gap, ending_end, ending_part, ending_rest, gap_end, gap_part}
-use Rattle.md_link_definitions.specs.GapRule.{gap_rest, past_white, white_part}
+use Rattle.md_link_definitions.specs.DefinitionRule.{DefinitionParts, at_end, at_title, at_title_end}
+use Rattle.md_link_definitions.specs.DefinitionRule.{before_destination, before_label, before_title, after_destination}
+use Rattle.md_link_definitions.specs.DefinitionRule.{after_label, after_marker, after_parts, after_title, definition_at}
+use Rattle.md_link_definitions.specs.DefinitionRule.{definition_end, definition_events, definition_parts}
+use Rattle.md_link_definitions.specs.DefinitionRule.{definition_rest, destination_begin, destination_end}
+use Rattle.md_link_definitions.specs.DefinitionRule.{destination_rest, ends_after, is_literal, label_begin, lone}
+use Rattle.md_link_definitions.specs.DefinitionRule.{parts_after, parts_end, parts_labelled, parts_rest, parts_with}
+use Rattle.md_link_definitions.specs.DefinitionRule.{title_following, titled_end, titled_part, titled_rest, tried}
+use Rattle.md_link_definitions.specs.DestinationRule.{begins_literal, destination_by, destination_last}
+use Rattle.md_link_definitions.specs.DestinationRule.{destination_left, destination_part}
+use Rattle.md_link_definitions.specs.GapRule.{begins_ending, begins_gap, ending_end, ending_part, ending_rest, gap_end}
+use Rattle.md_link_definitions.specs.GapRule.{gap_part, gap_rest, past_white, white_part}
 use Rattle.md_link_definitions.specs.LabelRule.{LabelParts, label_events, label_parts}
 use Rattle.md_link_definitions.specs.TitleRule.{TitleParts, title_events, title_parts}
 use Rattle.md_link_definitions.proofs.DestinationWhole.{destination-is}
@@ -53,9 +54,9 @@ ended_here true cells h =
     Accepts (moved (moved h (white_part cells h.point) p) (exit Definition p ∷ []) p) (white_rest any_size cells)
 ended_here false cells h = Refuses h.scratch h.flags
 
-parts-is : (cells : List Cell) (h : Here) → behind_parts cells h ≡ ended_here (ends_behind cells) cells h
-unfolding behind_parts at_end past_white
-parts-is cells h = go (ends_behind cells)
+parts-is : (cells : List Cell) (h : Here) → after_parts cells h ≡ ended_here (ends_after cells) cells h
+unfolding after_parts at_end past_white
+parts-is cells h = go (ends_after cells)
   where
     p : Point
     p = white_end any_size cells h.point
@@ -77,7 +78,7 @@ ends-dark (c ∷ cs) e = let ten : c.byte ≡ 10 = eqb-true c.byte 10 e in rw te
 
 -- and the definition ends there
 parts-here : (cells : List Cell) (h : Here) → ends_line (first_seen cells) ≡ true →
-    behind_parts cells h ≡ Accepts (moved h (exit Definition h.point ∷ []) h.point) cells
+    after_parts cells h ≡ Accepts (moved h (exit Definition h.point ∷ []) h.point) cells
 parts-here cells h e =
     let dark = ends-dark cells e in
     let same = none-rest any_size cells dark in
@@ -98,9 +99,9 @@ lone_taken (Some t) h =
     (white_rest any_size t.rest)
 
 lone-is : (t : TitleParts) (h : Here) →
-    behind_title t.rest (moved h (title_events t h.point) t.closer.after) ≡ lone_taken (lone (Some t)) h
-unfolding behind_title at_title_end past_white
-lone-is t h = go (ends_behind t.rest)
+    after_title t.rest (moved h (title_events t h.point) t.closer.after) ≡ lone_taken (lone (Some t)) h
+unfolding after_title at_title_end past_white
+lone-is t h = go (ends_after t.rest)
   where
     p : Point
     p = white_end any_size t.rest t.closer.after
@@ -119,10 +120,10 @@ title-is : (cells : List Cell) (h : Here) → IsRest h.scratch →
     at_title cells h ≡ lone_taken (lone (title_parts cells)) h
 unfolding at_title
 title-is cells h is =
-    ap (λ (o : Outcome). tried o behind_title Refuses) (title-whole cells h is)
+    ap (λ (o : Outcome). tried o after_title Refuses) (title-whole cells h is)
     ∙ go (title_parts cells)
   where
-    go : (o : Option TitleParts) → tried (taken_title o h) behind_title Refuses ≡ lone_taken (lone o) h
+    go : (o : Option TitleParts) → tried (taken_title o h) after_title Refuses ≡ lone_taken (lone o) h
     go None = refl
     go (Some t) = lone-is t h
 
@@ -137,11 +138,11 @@ gap-title cells h None = refl
 gap-title cells h (Some t) = refl
 
 before-is : (cells : List Cell) (h : Here) → IsRest h.scratch →
-    before_title cells h ≡ title_taken (title_behind cells) cells h
+    before_title cells h ≡ title_taken (title_following cells) cells h
 unfolding before_title
 before-is cells h is = go (begins_gap cells) refl
   where
-    go : (x : Bool) → begins_gap cells ≡ x → before_title cells h ≡ title_taken (title_behind cells) cells h
+    go : (x : Bool) → begins_gap cells ≡ x → before_title cells h ≡ title_taken (title_following cells) cells h
     go true e =
         ap (λ (o : Outcome). tried o at_title Refuses) (gap-took cells h is e)
         ∙ title-is (gap_rest cells) (moved h (gap_part cells h.point) (gap_end cells h.point)) is
@@ -149,17 +150,17 @@ before-is cells h is = go (begins_gap cells) refl
     go false e = ap (λ (o : Outcome). tried o at_title Refuses) (gap-refused cells h is e) ∙ rw e refl
 
 -- it ends its line
-pub title-ends : (cells : List Cell) (t : TitleParts) → title_behind cells ≡ Some t → ends_behind t.rest ≡ true
+pub title-ends : (cells : List Cell) (t : TitleParts) → title_following cells ≡ Some t → ends_after t.rest ≡ true
 title-ends cells t e = go (begins_gap cells) (title_parts (gap_rest cells)) refl e
   where
-    by : (u : TitleParts) (x : Bool) → ends_behind u.rest ≡ x → cond x (Some u) None ≡ Some t →
-        ends_behind t.rest ≡ true
-    by u true k e = let same : u ≡ t = cc in subst (λ (v : TitleParts). ends_behind v.rest ≡ true) same k
+    by : (u : TitleParts) (x : Bool) → ends_after u.rest ≡ x → cond x (Some u) None ≡ Some t →
+        ends_after t.rest ≡ true
+    by u true k e = let same : u ≡ t = cc in subst (λ (v : TitleParts). ends_after v.rest ≡ true) same k
     by u false k e = let none : (let o : Option TitleParts = None in o) ≡ Some t = e in cc
 
     go : (x : Bool) (o : Option TitleParts) → begins_gap cells ≡ x → cond x (lone o) None ≡ Some t →
-        ends_behind t.rest ≡ true
-    go true (Some u) k e = by u (ends_behind u.rest) refl e
+        ends_after t.rest ≡ true
+    go true (Some u) k e = by u (ends_after u.rest) refl e
     go true None k e = let none : (let o : Option TitleParts = None in o) ≡ Some t = e in cc
     go false o k e = let none : (let o : Option TitleParts = None in o) ≡ Some t = e in cc
 
@@ -175,7 +176,7 @@ tail_events title cells p =
 abbrev tail_taken : Option TitleParts → List Cell → Here → Outcome
 tail_taken title cells h =
     let rest = titled_rest title cells in
-    cond (ends_behind rest)
+    cond (ends_after rest)
     (Accepts
     (moved h (tail_events title cells h.point) (white_end any_size rest (titled_end title h.point)))
     (white_rest any_size rest))
@@ -184,8 +185,8 @@ tail_taken title cells h =
 four : (a g t w x : List Event) → a ++ g ++ t ++ w ++ x ≡ a ++ (g ++ t ++ w ++ x)
 four a g t w x = simp append_assoc
 
-tail-none : (cells : List Cell) (h : Here) → behind_parts cells h ≡ tail_taken None cells h
-tail-none cells h = parts-is cells h ∙ go (ends_behind cells)
+tail-none : (cells : List Cell) (h : Here) → after_parts cells h ≡ tail_taken None cells h
+tail-none cells h = parts-is cells h ∙ go (ends_after cells)
   where
     p : Point
     p = white_end any_size cells h.point
@@ -199,9 +200,9 @@ tail-none cells h = parts-is cells h ∙ go (ends_behind cells)
         (append_assoc h.events (white_part cells h.point) (exit Definition p ∷ []))
     go false = refl
 
-tail-some : (t : TitleParts) (cells : List Cell) (h : Here) → ends_behind t.rest ≡ true →
-    tried (title_taken (Some t) cells h) behind_parts
-    (λ s g. behind_parts cells (record h { scratch = s; flags = g })) ≡
+tail-some : (t : TitleParts) (cells : List Cell) (h : Here) → ends_after t.rest ≡ true →
+    tried (title_taken (Some t) cells h) after_parts
+    (λ s g. after_parts cells (record h { scratch = s; flags = g })) ≡
     tail_taken (Some t) cells h
 tail-some t cells h e =
     let p = white_end any_size t.rest t.closer.after in
@@ -220,17 +221,17 @@ tail-some t cells h e =
     (sym e)
 
 tail-is : (cells : List Cell) (h : Here) → IsRest h.scratch →
-    behind_destination cells h ≡ tail_taken (title_behind cells) cells h
-unfolding behind_destination
+    after_destination cells h ≡ tail_taken (title_following cells) cells h
+unfolding after_destination
 tail-is cells h is =
     ap
-    (λ (o : Outcome). tried o behind_parts (λ s g. behind_parts cells (record h { scratch = s; flags = g })))
+    (λ (o : Outcome). tried o after_parts (λ s g. after_parts cells (record h { scratch = s; flags = g })))
     (before-is cells h is)
-    ∙ go (title_behind cells) refl
+    ∙ go (title_following cells) refl
   where
-    go : (o : Option TitleParts) → title_behind cells ≡ o →
-        tried (title_taken o cells h) behind_parts
-        (λ s g. behind_parts cells (record h { scratch = s; flags = g })) ≡
+    go : (o : Option TitleParts) → title_following cells ≡ o →
+        tried (title_taken o cells h) after_parts
+        (λ s g. after_parts cells (record h { scratch = s; flags = g })) ≡
         tail_taken o cells h
     go None e = tail-none cells h
     go (Some t) e = tail-some t cells h (title-ends cells t e)
@@ -241,18 +242,18 @@ abbrev destination_taken : List Cell → Here → Option Destination → Outcome
 destination_taken cells h None = Refuses h.scratch h.flags
 destination_taken cells h (Some d) =
     let left = destination_left d cells in
-    tail_taken (title_behind left) left
+    tail_taken (title_following left) left
     (moved h (destination_part (begins_literal cells) d.text cells h.point) (destination_last d cells h.point))
 
 whole-destination : (cells : List Cell) (h : Here) → IsRest h.scratch →
     before_destination cells h ≡ destination_taken cells h (found.destination_at (line_bytes cells))
 unfolding before_destination
 whole-destination cells h is =
-    ap (λ (o : Outcome). tried o behind_destination Refuses) (destination-is cells h is)
+    ap (λ (o : Outcome). tried o after_destination Refuses) (destination-is cells h is)
     ∙ go (found.destination_at (line_bytes cells))
   where
     go : (o : Option Destination) →
-        tried (destination_by cells h o) behind_destination Refuses ≡ destination_taken cells h o
+        tried (destination_by cells h o) after_destination Refuses ≡ destination_taken cells h o
     go None = refl
     go (Some d) = tail-is (destination_left d cells) _ is
 
@@ -264,16 +265,16 @@ no-ending (c ∷ cs) p e = (rw e refl, rw e refl, rw e refl)
 
 -- A gap that may be left out.
 whole-gap : (cells : List Cell) (h : Here) → IsRest h.scratch →
-    behind_marker cells h ≡
+    after_marker cells h ≡
     before_destination (gap_rest cells) (moved h (gap_part cells h.point) (gap_end cells h.point))
-unfolding behind_marker
+unfolding after_marker
 whole-gap cells h is = go (begins_gap cells) refl
   where
     otherwise : Scratch → Flags → Outcome
     otherwise s g = before_destination cells (record h { scratch = s; flags = g })
 
     go : (x : Bool) → begins_gap cells ≡ x →
-        behind_marker cells h ≡
+        after_marker cells h ≡
         before_destination (gap_rest cells) (moved h (gap_part cells h.point) (gap_end cells h.point))
     go true e = ap (λ (o : Outcome). tried o before_destination otherwise) (gap-took cells h is e)
     go false e =
@@ -296,8 +297,8 @@ joined a w l m g d t v e x = simp append_assoc
 abbrev at_destination : List Cell → LabelParts → Cell → List Cell → Here → Here
 at_destination cells label c cs h =
     let a = white_end any_size cells h.point in
-    let behind = moved (moved h (white_part cells h.point) a) (enter Definition a ∷ []) a in
-    let named = moved behind (label_events label a) label.closer.after in
+    let following = moved (moved h (white_part cells h.point) a) (enter Definition a ∷ []) a in
+    let named = moved following (label_events label a) label.closer.after in
     let marked = moved named (pair DefinitionMarker label.closer.after c.after) c.after in
     moved marked (gap_part cs c.after) (gap_end cs c.after)
 
@@ -307,7 +308,7 @@ from-destination : (cells : List Cell) (label : LabelParts) (c : Cell) (cs : Lis
     destination_taken (gap_rest cs) (at_destination cells label c cs h) o ≡
     taken_definition (parts_with cells label c cs o) h
 from-destination cells label c cs h None = refl
-from-destination cells label c cs h (Some d) = go (ends_behind (parts_rest all))
+from-destination cells label c cs h (Some d) = go (ends_after (parts_rest all))
   where
     all : DefinitionParts
     all = record {
@@ -316,7 +317,7 @@ from-destination cells label c cs h (Some d) = go (ends_behind (parts_rest all))
       colon = c;
       more = cs;
       destination = d;
-      title = title_behind (destination_left d (gap_rest cs));
+      title = title_following (destination_left d (gap_rest cs));
     }
 
     found : Here
@@ -345,11 +346,11 @@ from-destination cells label c cs h (Some d) = go (ends_behind (parts_rest all))
 -- after the label
 from-label : (cells : List Cell) (label : LabelParts) (left : List Cell) (h : Here) → IsRest h.scratch →
     (let a = white_end any_size cells h.point in
-    behind_label left
+    after_label left
     (moved (moved (moved h (white_part cells h.point) a) (enter Definition a ∷ []) a) (label_events label a)
     label.closer.after)) ≡
-    taken_definition (parts_behind cells label left) h
-unfolding behind_label
+    taken_definition (parts_after cells label left) h
+unfolding after_label
 from-label cells label [] h is = refl
 from-label cells label (c ∷ cs) h is = go (nat_eq c.byte colon) refl
   where
@@ -362,7 +363,7 @@ from-label cells label (c ∷ cs) h is = go (nat_eq c.byte colon) refl
         label.closer.after
 
     go : (x : Bool) → nat_eq c.byte colon ≡ x →
-        behind_label (c ∷ cs) named ≡ taken_definition (parts_behind cells label (c ∷ cs)) h
+        after_label (c ∷ cs) named ≡ taken_definition (parts_after cells label (c ∷ cs)) h
     go true e =
         rw e
         (whole-gap cs (moved named (pair DefinitionMarker label.closer.after c.after) c.after) is
@@ -377,12 +378,12 @@ unfolding before_label past_white definition_parts
 from-white cells h is =
     let a = white_end any_size cells h.point in
     let there = moved (moved h (white_part cells h.point) a) (enter Definition a ∷ []) a in
-    ap (λ (o : Outcome). tried o behind_label Refuses) (label-whole (white_rest any_size cells) there is)
+    ap (λ (o : Outcome). tried o after_label Refuses) (label-whole (white_rest any_size cells) there is)
     ∙ go (label_parts (white_rest any_size cells))
   where
     go : (o : Option LabelParts) →
         (let a = white_end any_size cells h.point in
-        tried (taken_label o (moved (moved h (white_part cells h.point) a) (enter Definition a ∷ []) a)) behind_label
+        tried (taken_label o (moved (moved h (white_part cells h.point) a) (enter Definition a ∷ []) a)) after_label
         Refuses) ≡
         taken_definition (parts_labelled cells o) h
     go None = refl

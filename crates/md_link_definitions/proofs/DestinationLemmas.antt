@@ -14,9 +14,9 @@ use Rattle.md_engine.specs.declared.event.Point.{Point}
 use Rattle.md_engine.specs.Meaning.{Accepts, Cell, Feed, Here, Refuses}
 use Rattle.md_engine.specs.World.{World, after}
 use Rattle.md_engine.specs.Sees.{ahead, cell_here}
-use Rattle.md_link_definitions.specs.Destination.{Begin, Closes, Escapes, Literal, Neither, Opens, Other, Piece, Raw, Stops}
-use Rattle.md_link_definitions.specs.Destination.{begins}
-use Rattle.md_link_definitions.specs.Destination.{enclosed_piece, is_escaped, raw_piece, with_size, without_size}
+use Rattle.md_link_definitions.specs.Destination.{Begin, Closes, Escapes, Literal, Neither, Opens, Other, Piece, Raw}
+use Rattle.md_link_definitions.specs.Destination.{Stops, begins, enclosed_piece, is_escaped, raw_piece, with_size}
+use Rattle.md_link_definitions.specs.Destination.{without_size}
 use Rattle.md_link_definitions.specs.DestinationRule.{before_literal, destination_at, in_literal, in_raw, literal_begin}
 use Rattle.md_link_definitions.specs.DestinationRule.{literal_by}
 use Rattle.md_link_definitions.specs.DestinationRule.{literal_end, raw_begin, raw_end, text_begin, text_end, text_part}
@@ -115,17 +115,17 @@ abbrev ended : List ℕ → Point → Point → List Event
 ended text p q = text_end q
 
 -- after a byte of the text
-behind-byte : (c : Cell) (cs : List Cell) (h : Here) (b : ℕ) (x : Enclosed) →
+following-byte : (c : Cell) (cs : List Cell) (h : Here) (b : ℕ) (x : Enclosed) →
     literal_by ended (c ∷ cs) h (with_byte b x) ≡ literal_by ended cs (record h { point = c.after }) x
-behind-byte c cs h b (Closed text rest) = refl
-behind-byte c cs h b Open = refl
-behind-byte c cs h b Broken = refl
+following-byte c cs h b (Closed text rest) = refl
+following-byte c cs h b Open = refl
+following-byte c cs h b Broken = refl
 
 -- a byte that a backslash takes
 pub literal-escaped : (c : Cell) (cs : List Cell) (h : Here) → nat_eq c.byte 10 ≡ false →
     in_literal true (c ∷ cs) h ≡ in_literal false cs (record h { point = c.after })
 unfolding in_literal enclosed
-literal-escaped c cs h e = rw e (behind-byte c cs h c.byte (enclosed less_than greater_than false (line_bytes cs)))
+literal-escaped c cs h e = rw e (following-byte c cs h c.byte (enclosed less_than greater_than false (line_bytes cs)))
 
 -- a backslash,
 pub literal-backslash : (c : Cell) (cs : List Cell) (h : Here) → nat_eq c.byte 92 ≡ true →
@@ -133,14 +133,14 @@ pub literal-backslash : (c : Cell) (cs : List Cell) (h : Here) → nat_eq c.byte
 unfolding in_literal enclosed
 literal-backslash c cs h e =
     rw (not-same c.byte 92 10 e refl, not-same c.byte 92 62 e refl, not-same c.byte 92 60 e refl, e)
-    (behind-byte c cs h c.byte (enclosed less_than greater_than true (line_bytes cs)))
+    (following-byte c cs h c.byte (enclosed less_than greater_than true (line_bytes cs)))
 
 -- and another byte of the text
 pub literal-other : (c : Cell) (cs : List Cell) (h : Here) → EnclosedMeans c.byte Other →
     in_literal false (c ∷ cs) h ≡ in_literal false cs (record h { point = c.after })
 unfolding in_literal enclosed
 literal-other c cs h (x, y, z, t) =
-    rw (t, y, x, z) (behind-byte c cs h c.byte (enclosed less_than greater_than false (line_bytes cs)))
+    rw (t, y, x, z) (following-byte c cs h c.byte (enclosed less_than greater_than false (line_bytes cs)))
 
 -- the text ends before a `>`,
 pub literal-closes : (c : Cell) (cs : List Cell) (h : Here) → nat_eq c.byte 62 ≡ true →

@@ -16,15 +16,17 @@ use Rattle.md_engine.specs.declared.event.Point.{Point}
 use Rattle.md_engine.specs.Meaning.{Cell}
 use Rattle.md_link_definitions.specs.CellLines.{cell_lines}
 use Rattle.md_link_definitions.specs.Chunks.{before_mark, from_mark}
-use Rattle.md_link_definitions.specs.DestinationRule.{begins_literal, destination_last, destination_left, text_cells, text_first}
+use Rattle.md_link_definitions.specs.DestinationRule.{begins_literal, destination_last, destination_left, text_cells}
+use Rattle.md_link_definitions.specs.DestinationRule.{text_first}
 use Rattle.md_link_definitions.specs.Title.{is_mark}
 use Rattle.md_link_definitions.specs.WholeCells.{AreWhole, whole_cells}
 use Rattle.md_link_definitions.proofs.DestinationLemmas.{line-ends, line-more, raw-cons, raw-ends, raw-no_ending}
-use Rattle.md_link_definitions.proofs.DestinationWhole.{found-literal, found-neither, found-none, found-raw, literal_found}
-use Rattle.md_link_definitions.proofs.DestinationWhole.{raw_found}
+use Rattle.md_link_definitions.proofs.DestinationWhole.{found-literal, found-neither, found-none, found-raw}
+use Rattle.md_link_definitions.proofs.DestinationWhole.{literal_found, raw_found}
 use Rattle.md_link_definitions.proofs.GapLines.{AreAt, whole-first}
-use Rattle.md_link_definitions.proofs.LineCells.{bytes-length, enclosed-marks, enclosed_by, further, line-no_feed, line-split}
-use Rattle.md_link_definitions.proofs.LineCells.{line-stops, lines-first, lines-behind, mark-split, no_feed-split, whole-split}
+use Rattle.md_link_definitions.proofs.LineCells.{bytes-length, enclosed-marks, enclosed_by, further, line-no_feed}
+use Rattle.md_link_definitions.proofs.LineCells.{line-split, line-stops, lines-first, lines-following, mark-split}
+use Rattle.md_link_definitions.proofs.LineCells.{no_feed-split, whole-split}
 use Rattle.md_link_definitions.proofs.WholeCellLemmas.{IsMarkFirst, NoWhite, mark-at, no-white, rest-are, whole-after}
 use Rattle.md_link_definitions.proofs.WholeCellLemmas.{whole-before, whole-from}
 use Rattle.md_link_definitions.proofs.SpreadLines.{whole-append}
@@ -55,7 +57,7 @@ destination_lines p cells (Some d) =
 -- What is found on the line is what is found before the cells, and a byte begins after it.
 pub record OnLine (p : Point) (cells : List Cell) (found o : Option Destination) : Type 0 where
   pub lines : with_further (further (from_ending cells)) found ≡ destination_lines p cells o
-  pub stands : (d : Destination) → o ≡ Some d → AreAt (destination_last d cells p) (destination_left d cells)
+  pub valid : (d : Destination) → o ≡ Some d → AreAt (destination_last d cells p) (destination_left d cells)
 
 -- Between angle brackets.
 
@@ -140,9 +142,9 @@ literal-lines p c cs text (d ∷ ds) lines e cut = rw at (go (nat_eq d.byte grea
     known : LiteralCells c d text (ds ++ lines) cs
     known = literal-cells c d text (ds ++ lines) cs cut.cells
 
-    behind : cell_lines false (whole_cells d.after (ds ++ lines)) ≡ bytes_of (whole_cells d.after ds) ∷ further lines
-    behind =
-        lines-behind d.after ds lines cut.none.1 cut.stops (whole-append ds lines d.after cut.first.are.1 cut.are)
+    following : cell_lines false (whole_cells d.after (ds ++ lines)) ≡ bytes_of (whole_cells d.after ds) ∷ further lines
+    following =
+        lines-following d.after ds lines cut.none.1 cut.stops (whole-append ds lines d.after cut.first.are.1 cut.are)
 
     to : List (List ℕ) → Option Lines
     to rest = Some (record { text = bytes_of (whole_cells c.after text) ∷ []; rest = rest })
@@ -151,22 +153,22 @@ literal-lines p c cs text (d ∷ ds) lines e cut = rw at (go (nat_eq d.byte grea
         with_further (further lines)
         (literal_found (enclosed_by greater_than (whole_cells c.after text) (d ∷ whole_cells d.after ds))) ≡
         destination_lines p (c ∷ cs) (literal_found (enclosed_by greater_than text (d ∷ ds)))
-    go true k = rw (k, e, known.front, known.past, known.left) (ap to (sym behind))
+    go true k = rw (k, e, known.front, known.past, known.left) (ap to (sym following))
     go false k = rw k refl
 
 -- and a byte begins after it
-literal-stands : (p : Point) (c : Cell) (cs text rest lines : List Cell) (d : Destination) →
+literal-valid : (p : Point) (c : Cell) (cs text rest lines : List Cell) (d : Destination) →
     nat_eq c.byte less_than ≡ true → IsCut c cs text rest lines →
     literal_found (enclosed_by greater_than text rest) ≡ Some d →
     AreAt (destination_last d (c ∷ cs) p) (destination_left d (c ∷ cs))
-literal-stands p c cs text [] lines d e cut is = cc
-literal-stands p c cs text (x ∷ xs) lines d e cut is = go (nat_eq x.byte greater_than) refl
+literal-valid p c cs text [] lines d e cut is = cc
+literal-valid p c cs text (x ∷ xs) lines d e cut is = go (nat_eq x.byte greater_than) refl
   where
     known : LiteralCells c x text (xs ++ lines) cs
     known = literal-cells c x text (xs ++ lines) cs cut.cells
 
-    behind : nat_eq x.byte greater_than ≡ true → AreAt x.after (xs ++ lines)
-    behind k =
+    following : nat_eq x.byte greater_than ≡ true → AreAt x.after (xs ++ lines)
+    following k =
         let mark : x.byte ≡ greater_than = eqb-true x.byte greater_than k in
         record {
           begins = λ y ys same.
@@ -181,7 +183,7 @@ literal-stands p c cs text (x ∷ xs) lines d e cut is = go (nat_eq x.byte great
         let some : Some found ≡ Some d = rw k at is in
         let same : found ≡ d = cc in
         subst (λ (t : Destination). AreAt (destination_last t (c ∷ cs) p) (destination_left t (c ∷ cs))) same
-        (rw (e, known.past, known.left) (behind k))
+        (rw (e, known.past, known.left) (following k))
     go false k =
         let none : (let o : Option Destination = None in o) ≡ Some d = rw k at is in cc
 
@@ -321,13 +323,13 @@ raw-nested : (p : Point) (cells text rest : List Cell) (more : List ℕ) (nests 
     OnLine p cells
     (if_nested nests (bytes_of text) (bytes_of (whole_cells (point_after text p) (line_cells rest))))
     (if_nested nests (bytes_of text) more)
-raw-nested p cells text rest more false e known = record { lines = refl; stands = λ d k. cc }
+raw-nested p cells text rest more false e known = record { lines = refl; valid = λ d k. cc }
 raw-nested p cells text rest more true e known = record {
-  lines = rw (e, front, left, known.whole) (ap to (sym behind));
-  stands = λ d k.
+  lines = rw (e, front, left, known.whole) (ap to (sym following));
+  valid = λ d k.
       let same : found ≡ d = cc in
       subst (λ (t : Destination). AreAt (destination_last t cells p) (destination_left t cells)) same
-      (rw (e, front, left) stand);
+      (rw (e, front, left) are_valid);
 }
   where
     found : Destination
@@ -343,15 +345,15 @@ raw-nested p cells text rest more true e known = record {
         ap (drop (length (bytes_of text))) (sym known.split)
         ∙ drop_at text rest (length (bytes_of text)) (sym (bytes-length text))
 
-    stand : AreAt (point_after text p) rest
-    stand = record { begins = λ c cs k. known.at; are = known.are }
+    are_valid : AreAt (point_after text p) rest
+    are_valid = record { begins = λ c cs k. known.at; are = known.are }
 
     to : List (List ℕ) → Option Lines
     to lines = Some (record { text = bytes_of text ∷ []; rest = lines })
 
-    behind : cell_lines false (whole_cells (point_after text p) rest) ≡
+    following : cell_lines false (whole_cells (point_after text p) rest) ≡
         bytes_of (whole_cells (point_after text p) (line_cells rest)) ∷ further (from_ending cells)
-    behind =
+    following =
         lines-first (point_after text p) rest known.are
         ∙ ap
         (λ (l : List Cell). bytes_of (whole_cells (point_after text p) (line_cells rest)) ∷ further l)
@@ -367,7 +369,7 @@ on-line-as p cells found f o q e k on = subst (λ (x : Option Destination). OnLi
 
 -- nothing is found
 on-none : (p : Point) (cells : List Cell) → OnLine p cells None None
-on-none p cells = record { lines = refl; stands = λ d k. cc }
+on-none p cells = record { lines = refl; valid = λ d k. cc }
 
 -- a text without angle brackets
 raw-on : (p : Point) (cells text rest : List Cell) → begins_literal cells ≡ false → RawLine p cells text rest →
@@ -389,7 +391,7 @@ literal-on p c cs text rest e cut = record {
   lines =
       let on_line : nat_eq c.byte 10 ≡ false = rw (eqb-true c.byte less_than e) refl in
       rw on_line (literal-lines p c cs text rest (from_ending cs) e cut);
-  stands = λ d k. literal-stands p c cs text rest (from_ending cs) d e cut k;
+  valid = λ d k. literal-valid p c cs text rest (from_ending cs) d e cut k;
 }
 
 -- The definition finds on the line of some cells what is before them.
@@ -460,7 +462,7 @@ destination-texts p cells at =
     ap destination_on (lines-first p cells at.are) ∙ (destination-lines p cells at).lines
 
 -- After it a byte begins.
-pub destination-stands : (p : Point) (cells : List Cell) (d : Destination) → AreAt p cells →
+pub destination-valid : (p : Point) (cells : List Cell) (d : Destination) → AreAt p cells →
     definition.destination_at (line_bytes cells) ≡ Some d →
     AreAt (destination_last d cells p) (destination_left d cells)
-destination-stands p cells d at e = (destination-lines p cells at).stands d e
+destination-valid p cells d at e = (destination-lines p cells at).valid d e

@@ -15,14 +15,14 @@ use Rattle.md_engine.specs.Scheme.{After, position}
 use Rattle.md_engine.specs.World.{World, after}
 use Rattle.md_engine.specs.Sees.{Sees, ahead, cell_here}
 use Rattle.md_engine.proofs.StepOf.{moves, passes, steps-as}
-use Rattle.md_link_definitions.specs.Destination.{DestinationInvariant, Begin, Closes, Escapes, Literal, Neither, Opens, Other, Piece, Raw, Stops}
-use Rattle.md_link_definitions.specs.Destination.{begins}
-use Rattle.md_link_definitions.specs.Destination.{destination_ready, destination_transition, enclosed_before_code, enclosed_code}
-use Rattle.md_link_definitions.specs.Destination.{enclosed_piece, escape_code, is_escaped, raw_code, raw_piece, start_code}
-use Rattle.md_link_definitions.specs.Destination.{text_entered, text_exited, with_size, without_size}
-use Rattle.md_link_definitions.specs.DestinationRule.{DestinationMeans, HasDestination, before_literal, destination_at, destination_behaves}
-use Rattle.md_link_definitions.specs.DestinationRule.{in_literal, in_raw}
-use Rattle.md_link_definitions.specs.DestinationRule.{literal_begin, literal_end, raw_begin, raw_end, text_begin, text_end}
+use Rattle.md_link_definitions.specs.Destination.{DestinationInvariant, Begin, Closes, Escapes, Literal, Neither, Opens}
+use Rattle.md_link_definitions.specs.Destination.{Other, Piece, Raw, Stops, begins, destination_ready}
+use Rattle.md_link_definitions.specs.Destination.{destination_transition, enclosed_before_code, enclosed_code}
+use Rattle.md_link_definitions.specs.Destination.{enclosed_piece, escape_code, is_escaped, raw_code, raw_piece}
+use Rattle.md_link_definitions.specs.Destination.{start_code, text_entered, text_exited, with_size, without_size}
+use Rattle.md_link_definitions.specs.DestinationRule.{DestinationMeans, HasDestination, before_literal, destination_at}
+use Rattle.md_link_definitions.specs.DestinationRule.{destination_behaves, in_literal, in_raw, literal_begin}
+use Rattle.md_link_definitions.specs.DestinationRule.{literal_end, raw_begin, raw_end, text_begin, text_end}
 use Rattle.md_link_definitions.proofs.DestinationLemmas.{before-closes, before-text, begin-is, begins-literal}
 use Rattle.md_link_definitions.proofs.DestinationLemmas.{begins-neither, escaped-enclosed, escaped-raw, begins-none}
 use Rattle.md_link_definitions.proofs.DestinationLemmas.{begins-raw, enclosed-is, literal-backslash, literal-bare}
@@ -279,7 +279,8 @@ raw_escape_means B feed w false has s e =
 -- All of them: each state of a destination takes one step of what it means.
 destination_steps : (B : Behaviour) (feed : Feed) (state : DestinationState) (w : World) → HasDestination B →
     Sees feed w → DestinationInvariant (n.Destination state) (position w) →
-    Steps B feed (Next (n.Destination state)) w (destination_transition state w).to (destination_transition state w).world
+    Steps B feed (Next (n.Destination state)) w (destination_transition state w).to
+    (destination_transition state w).world
 destination_steps B feed its.Start w has s at = start_means B feed w _ has s refl
 destination_steps B feed its.EnclosedBefore w has s at = enclosed_before_means B feed w _ has s refl
 destination_steps B feed its.Enclosed w has s at = enclosed_means B feed w _ has s refl
@@ -295,7 +296,8 @@ pub destination_means : (B : Behaviour) (feed : Feed) (state : DestinationState)
 destination_means B feed state w K has s at = destination_steps B feed state w has s at.0
 
 -- what answers as the transition of a state does means what the state means
-pub destination_rule : (state : DestinationState) (w new : World) (to : State) → to ≡ (destination_transition state w).to →
+pub destination_rule : (state : DestinationState) (w new : World) (to : State) → to ≡
+    (destination_transition state w).to →
     new ≡ (destination_transition state w).world → DestinationMeans state w to new
 unfolding DestinationMeans
 destination_rule state w new to e k at B feed has s =

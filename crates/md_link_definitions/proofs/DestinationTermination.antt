@@ -13,15 +13,15 @@ use Rattle.md_engine.specs.World.{World, looks}
 use Rattle.md_engine.proofs.Falls.{later}
 use Rattle.md_engine.proofs.Local.{accepts, consumes, refuses, turns}
 use Rattle.md_engine.proofs.Points.{cells-grow, takes}
-use Rattle.md_link_definitions.specs.Destination.{Begin, Closes, Escapes, IsNested, Literal, Neither, Opens, Other, Piece, Raw}
-use Rattle.md_link_definitions.specs.Destination.{Stops, begins, destination_ready, destination_scheme, destination_transition}
-use Rattle.md_link_definitions.specs.Destination.{enclosed_before_code, enclosed_code, enclosed_piece, escape_code, is_escaped}
-use Rattle.md_link_definitions.specs.Destination.{raw_code, raw_piece, start_code, text_entered, text_exited, with_size}
-use Rattle.md_link_definitions.specs.Destination.{without_size}
+use Rattle.md_link_definitions.specs.Destination.{Begin, Closes, Escapes, IsNested, Literal, Neither, Opens, Other}
+use Rattle.md_link_definitions.specs.Destination.{Piece, Raw, Stops, begins, destination_ready, destination_scheme}
+use Rattle.md_link_definitions.specs.Destination.{destination_transition, enclosed_before_code, enclosed_code}
+use Rattle.md_link_definitions.specs.Destination.{enclosed_piece, escape_code, is_escaped, raw_code, raw_piece}
+use Rattle.md_link_definitions.specs.Destination.{start_code, text_entered, text_exited, with_size, without_size}
 use Rattle.md_link_definitions.proofs.DestinationLemmas.{enclosed-is}
 use Rattle.md_events.specs.Spaces.{IsRest, is_current, rest_ready}
 use Rattle.md_events.specs.Transition.{taken}
-use Rattle.md_events.proofs.SpacesTermination.{Does, accepts-behind, rest-size, seen-in}
+use Rattle.md_events.proofs.SpacesTermination.{Does, accepts-following, rest-size, seen-in}
 
 -- a table that has the states of a destination
 pub record DestinationFits (T : Scheme) : Type 1 where
@@ -111,7 +111,7 @@ enclosed_before_ends : (T : Scheme) (w : World) (x : Bool) → DestinationFits T
     rest_ready (position w) (after_all T w.frames) → is_current greater_than (seen (position w)) ≡ x →
     Does T (n.Destination its.EnclosedBefore) w (enclosed_before_code w x)
 enclosed_before_ends T w true has r e = (
-  accepts-behind T (n.Destination its.EnclosedBefore) w _ _ (enclosed_before_code w true).world.events w.scratch
+  accepts-following T (n.Destination its.EnclosedBefore) w _ _ (enclosed_before_code w true).world.events w.scratch
       (seen-in (position w) (is_current greater_than) refl e) r.1 r.0,
   refl,
 )
@@ -122,7 +122,8 @@ enclosed_before_ends T w false has r e = (
 )
 
 -- between angle brackets
-enclosed_ends : (T : Scheme) (w : World) (p : Piece) → DestinationFits T → rest_ready (position w) (after_all T w.frames) →
+enclosed_ends : (T : Scheme) (w : World) (p : Piece) → DestinationFits T →
+    rest_ready (position w) (after_all T w.frames) →
     enclosed_piece (seen (position w)) ≡ p → Does T (n.Destination its.Enclosed) w (enclosed_code w p)
 enclosed_ends T w Opens has r e = (refuses T _ w _ _ w.events w.scratch r.1 r.0, refl)
 enclosed_ends T w Closes has r e = (
@@ -153,7 +154,8 @@ enclosed_escape_ends : (T : Scheme) (w : World) (x : Bool) → DestinationFits T
     rest_ready (position w) (after_all T w.frames) → is_escaped (enclosed_piece (seen (position w))) ≡ x →
     Does T (n.Destination its.EnclosedEscape) w (escape_code its.Enclosed w x)
 enclosed_escape_ends T w true has r e = (
-  takes-literal T w its.EnclosedEscape its.Enclosed has r (inside-escaped (position w) enclosed_piece refl e) (λ x K a. a),
+  takes-literal T w its.EnclosedEscape its.Enclosed has r
+      (inside-escaped (position w) enclosed_piece refl e) (λ x K a. a),
   refl,
 )
 enclosed_escape_ends T w false has r e = (
@@ -211,7 +213,8 @@ raw_escape_ends T w false has r e = (
 )
 
 -- all of them
-pub destination_terminates : (T : Scheme) (state : DestinationState) (w : World) → DestinationFits T → w.current ≡ looks w →
+pub destination_terminates : (T : Scheme) (state : DestinationState) (w : World) → DestinationFits T →
+    w.current ≡ looks w →
     destination_ready (n.Destination state) (position w) (after_all T w.frames) →
     Does T (n.Destination state) w (destination_transition state w)
 destination_terminates T its.Start w has c r = start_ends T w _ has r (ap begins (sym c))

@@ -13,8 +13,9 @@ use Rattle.md_meaning.specs.Enclosed.{Broken, Closed, Enclosed, Open, enclosed}
 use Rattle.md_engine.specs.declared.tokenizer.Scratch.{Scratch}
 use Rattle.md_engine.specs.Meaning.{Accepts, Cell, Here, Refuses}
 use Rattle.md_link_definitions.specs.Destination.{without_size}
-use Rattle.md_link_definitions.specs.DestinationRule.{before_literal, destination_at, destination_by, in_raw, literal_begin}
-use Rattle.md_link_definitions.specs.DestinationRule.{behind_cells, literal_by, raw_begin, raw_end, text_part}
+use Rattle.md_link_definitions.specs.DestinationRule.{before_literal, destination_at, destination_by, in_raw}
+use Rattle.md_link_definitions.specs.DestinationRule.{literal_begin, after_cells, literal_by, raw_begin, raw_end}
+use Rattle.md_link_definitions.specs.DestinationRule.{text_part}
 use Rattle.md_link_definitions.proofs.DestinationLemmas.{begins-literal, begins-neither, begins-none, begins-raw}
 use Rattle.md_link_definitions.proofs.DestinationLemmas.{line-ends, line-more}
 use Rattle.md_events.specs.Ahead.{line_bytes}
@@ -97,7 +98,7 @@ raw-whole c cs h e is = go (balanced 0 false (take_while is_raw_byte (line_bytes
         destination_by (c ∷ cs) h (raw_found (line_bytes (c ∷ cs)))
     go true k =
         let text = take_while is_raw_byte (line_bytes (c ∷ cs)) in
-        let p = behind_cells (length text) (c ∷ cs) h.point in
+        let p = after_cells (length text) (c ∷ cs) h.point in
         rw (nests ∙ k, k, e)
         (ap₂
         (λ (es : List Event) (t : Scratch).

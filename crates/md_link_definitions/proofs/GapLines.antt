@@ -213,9 +213,9 @@ ending-at p (c ∷ cs) other small are = go (nat_eq c.byte 10) refl
     go false e = rw e (at-other p c cs other are)
 
 -- After a gap a byte begins.
-pub gap-stands : (p : Point) (cells : List Cell) → length cells ≤ any_size → AreWhole p cells →
+pub gap-valid : (p : Point) (cells : List Cell) → length cells ≤ any_size → AreWhole p cells →
     AreAt (gap_end cells p) (gap_rest cells)
-gap-stands p cells small are =
+gap-valid p cells small are =
     let fewer = white-length any_size cells in
     ending-at (white_end any_size cells p) (white_rest any_size cells) (white-all any_size cells small)
     (omega (arith, fewer)) (white-at any_size p cells small are).are

@@ -15,24 +15,24 @@ use Rattle.md_engine.specs.Scheme.{After, position}
 use Rattle.md_engine.specs.World.{World, after}
 use Rattle.md_engine.specs.Sees.{Sees, ahead, cell_here}
 use Rattle.md_engine.proofs.StepOf.{begins, begins_only, moves, passes, steps-as}
-use Rattle.md_link_definitions.specs.Gap.{GapInvariant, after_eol_code, after_first_transition, at_eol_code, gap_ready, gap_transition}
-use Rattle.md_link_definitions.specs.Gap.{start_code, without_seen}
+use Rattle.md_link_definitions.specs.Gap.{GapInvariant, after_eol_code, after_first_transition, at_eol_code, gap_ready}
+use Rattle.md_link_definitions.specs.Gap.{gap_transition, start_code, without_seen}
 use Rattle.md_link_definitions.specs.GapRule.{GapMeans, HasGap, after_first, at_eol, at_line, gap_at, past_white}
 use Rattle.md_events.specs.Ahead.{begins_white, white_rest}
 use Rattle.md_events.specs.Events.Nested.{enter, exit}
 use Rattle.md_events.specs.Spaces.{IsRest, any_size, is_current, sees_white}
 use Rattle.md_events.proofs.AheadLemmas.{none-end, none-rest}
 use Rattle.md_events.proofs.SpacesTermination.{rest-calm}
-use Rattle.md_events.proofs.WhiteMeaning.{begins-seen, behind_white, white-tried}
+use Rattle.md_events.proofs.WhiteMeaning.{begins-seen, following_white, white-tried}
 
 -- Whitespace.
 
 -- at rest, it is as it is after an attempt that took some,
 pub past-some : (cells : List Cell) (h : Here) → IsRest h.scratch → begins_white cells ≡ true →
-    past_white cells h ≡ behind_white any_size cells h
+    past_white cells h ≡ following_white any_size cells h
 unfolding past_white
 past-some cells h is e =
-    rw e (ap (λ (t : Scratch). let r : Here = record (behind_white any_size cells h) { scratch = t } in r)
+    rw e (ap (λ (t : Scratch). let r : Here = record (following_white any_size cells h) { scratch = t } in r)
     (is ∙ sym (rest-calm h.scratch is)))
 
 -- and where there is none nothing is added
@@ -142,7 +142,7 @@ at_eol_means B feed w false false has s e k =
 -- whitespace is here,
 line-white : (cells : List Cell) (h : Here) → IsRest h.scratch → begins_white cells ≡ true →
     at_line cells h ≡
-    Accepts (behind_white any_size cells (record h { events = h.events ++ exit LineEnding h.point ∷ [] }))
+    Accepts (following_white any_size cells (record h { events = h.events ++ exit LineEnding h.point ∷ [] }))
     (white_rest any_size cells)
 unfolding at_line
 line-white cells h is e = ap (λ (g : Here). Accepts g (white_rest any_size cells)) (past-some cells _ is e)

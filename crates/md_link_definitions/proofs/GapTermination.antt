@@ -10,8 +10,8 @@ use Rattle.md_engine.specs.World.{World, looks}
 use Rattle.md_engine.proofs.Falls.{later, later_at}
 use Rattle.md_engine.proofs.Local.{accepts, consumes, refuses, turns}
 use Rattle.md_engine.proofs.Points.{stays, takes}
-use Rattle.md_link_definitions.specs.Gap.{after_eol_code, at_eol_code, gap_ready, gap_scheme, gap_transition, start_code}
-use Rattle.md_link_definitions.specs.Gap.{after_first_transition, with_seen, without_seen}
+use Rattle.md_link_definitions.specs.Gap.{after_eol_code, at_eol_code, gap_ready, gap_scheme, gap_transition}
+use Rattle.md_link_definitions.specs.Gap.{start_code, after_first_transition, with_seen, without_seen}
 use Rattle.md_events.specs.Spaces.{IsRest, any_size, is_current, rest_ready}
 use Rattle.md_events.specs.Transition.{entered, exited}
 use Rattle.md_events.proofs.SpacesTermination.{Does, WhiteFits, rest-calm, rest-none, seen-in, white_try}

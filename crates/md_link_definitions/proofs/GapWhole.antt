@@ -7,8 +7,9 @@ use Rattle.md_engine.specs.declared.event.Point.{Point}
 use Rattle.md_engine.specs.declared.tokenizer.Scratch.{Scratch}
 use Rattle.md_engine.specs.Meaning.{Accepts, Cell, Here, Refuses}
 use Rattle.md_link_definitions.specs.Gap.{with_seen, without_seen}
-use Rattle.md_link_definitions.specs.GapRule.{at_eol, at_line, begins_ending, begins_gap, ending_end, ending_part, ending_rest}
-use Rattle.md_link_definitions.specs.GapRule.{after_first, gap_at, gap_end, gap_part, gap_rest, past_white, white_part}
+use Rattle.md_link_definitions.specs.GapRule.{at_eol, at_line, begins_ending, begins_gap, ending_end, ending_part}
+use Rattle.md_link_definitions.specs.GapRule.{ending_rest, after_first, gap_at, gap_end, gap_part, gap_rest, past_white}
+use Rattle.md_link_definitions.specs.GapRule.{white_part}
 use Rattle.md_link_definitions.proofs.GapMeaning.{at-none, at-some}
 use Rattle.md_events.specs.Ahead.{begins_white, white_end, white_rest}
 use Rattle.md_events.specs.Spaces.{IsRest, any_size}
@@ -17,8 +18,8 @@ use Rattle.md_events.proofs.AheadLemmas.{none-end, none-rest}
 -- After the first whitespace.
 
 -- after the ending that comes first, if one does
-abbrev behind_ending : List Cell → Here → Here
-behind_ending cells h = record h {
+abbrev following_ending : List Cell → Here → Here
+following_ending cells h = record h {
   events = h.events ++ ending_part cells h.point;
   point = ending_end cells h.point;
   scratch = without_seen h.scratch;
@@ -26,18 +27,18 @@ behind_ending cells h = record h {
 
 -- it holds where an ending comes first, or something was taken,
 eol-took : (cells : List Cell) (h : Here) → h.scratch.seen || begins_ending cells ≡ true →
-    at_eol cells h ≡ Accepts (behind_ending cells h) (ending_rest cells)
+    at_eol cells h ≡ Accepts (following_ending cells h) (ending_rest cells)
 unfolding at_eol at_line past_white
 eol-took [] h e = go h.scratch.seen refl e
   where
     go : (x : Bool) → h.scratch.seen ≡ x → x || false ≡ true →
-        at_eol [] h ≡ Accepts (behind_ending [] h) (ending_rest [])
+        at_eol [] h ≡ Accepts (following_ending [] h) (ending_rest [])
     go true k e = rw (k, append-nil) refl
     go false k e = cc
 eol-took (c ∷ cs) h e = go (nat_eq c.byte 10) h.scratch.seen refl refl e
   where
     go : (x y : Bool) → nat_eq c.byte 10 ≡ x → h.scratch.seen ≡ y → y || x ≡ true →
-        at_eol (c ∷ cs) h ≡ Accepts (behind_ending (c ∷ cs) h) (ending_rest (c ∷ cs))
+        at_eol (c ∷ cs) h ≡ Accepts (following_ending (c ∷ cs) h) (ending_rest (c ∷ cs))
     go true y i k e = rw i (simp append_assoc)
     go false true i k e = rw (i, k, append-nil) refl
     go false false i k e = cc

@@ -18,12 +18,14 @@ use Rattle.md_engine.specs.World.{World, after}
 use Rattle.md_engine.specs.Sees.{Sees, ahead, cell_here}
 use Rattle.md_engine.proofs.StepOf.{moves, passes, steps-as}
 use Rattle.md_link_definitions.specs.Chunks.{chunks, string_link}
-use Rattle.md_link_definitions.specs.Label.{LabelInvariant, at_break_code, close_code, counted, eol_after_code, escape_code, inside_code}
-use Rattle.md_link_definitions.specs.Label.{is_bracket, is_escaped, is_full, label_ready, label_transition, most, refused}
-use Rattle.md_link_definitions.specs.Label.{start_code, taken_as, unlabelled}
-use Rattle.md_link_definitions.specs.LabelRule.{LabelMeans, HasLabel, in_label, label_at, label_behaves, label_ended, label_opened}
-use Rattle.md_link_definitions.proofs.LabelLemmas.{TakesNext, label-broken, label-empty, label-ending, label-ends, label-full}
-use Rattle.md_link_definitions.proofs.LabelLemmas.{label-unescaped, label-led, label-line, label-none, label-takes, label-unled}
+use Rattle.md_link_definitions.specs.Label.{LabelInvariant, at_break_code, close_code, counted, eol_after_code}
+use Rattle.md_link_definitions.specs.Label.{escape_code, inside_code, is_bracket, is_escaped, is_full, label_ready}
+use Rattle.md_link_definitions.specs.Label.{label_transition, most, refused, start_code, taken_as, unlabelled}
+use Rattle.md_link_definitions.specs.LabelRule.{LabelMeans, HasLabel, in_label, label_at, label_behaves, label_ended}
+use Rattle.md_link_definitions.specs.LabelRule.{label_opened}
+use Rattle.md_link_definitions.proofs.LabelLemmas.{TakesNext, label-broken, label-empty, label-ending, label-ends}
+use Rattle.md_link_definitions.proofs.LabelLemmas.{label-full, label-unescaped, label-led, label-line, label-none}
+use Rattle.md_link_definitions.proofs.LabelLemmas.{label-takes, label-unled}
 use Rattle.md_events.specs.Events.Nested.{enter, enter_link, exit, pair}
 use Rattle.md_events.specs.Spaces.{IsRest, is_current, sees_white}
 use Rattle.md_events.specs.Transition.{entered_link, exited, taken}
@@ -99,12 +101,12 @@ closes : (B : Behaviour) (feed : Feed) (state : LabelState) (w : World) (led beg
 closes B feed state w led begun true b events has s is bracket le seen rule e =
     let q = after w.setting w.point in
     let ended = chunks begun [] w.point in
-    let behind : List Event = label_ended (cell_here feed w b) w.point in
+    let following : List Event = label_ended (cell_here feed w b) w.point in
     let same = four events (exit DefinitionLabelString w.point) (enter DefinitionLabelMarker w.point)
     (exit DefinitionLabelMarker q) (exit DefinitionLabel q)
-    ∙ ap (λ (es : List Event). es ++ behind) e in
-    moves B feed _ _ w (close_code (record w { events = events }) true).world (ended ++ behind) refl
-    (same ∙ append_assoc w.events ended behind)
+    ∙ ap (λ (es : List Event). es ++ following) e in
+    moves B feed _ _ w (close_code (record w { events = events }) true).world (ended ++ following) refl
+    (same ∙ append_assoc w.events ended following)
     (has.each state _ _ ∙ rule _
     ∙ ap (λ (x : List Cell). in_label led begun false x (here w)) (seen-cells feed w b s is)
     ∙ label-ends led begun (cell_here feed w b) (feed q) (here w) bracket (bracket-apart b bracket) seen le

@@ -18,11 +18,11 @@ use Rattle.md_engine.proofs.Local.{consumes, refuses, refuses_later, turns}
 use Rattle.md_engine.proofs.Points.{takes, takes_past}
 use Rattle.md_link_definitions.specs.Chunks.{string_link}
 use Rattle.md_link_definitions.specs.Label.{IsInLabel, at_break_code, close_code, counted, eol_after_code, escape_code}
-use Rattle.md_link_definitions.specs.Label.{inside_code, is_escaped, is_full, label_ready, label_scheme, label_transition, refused}
-use Rattle.md_link_definitions.specs.Label.{start_code, taken_as, unlabelled}
+use Rattle.md_link_definitions.specs.Label.{inside_code, is_escaped, is_full, label_ready, label_scheme}
+use Rattle.md_link_definitions.specs.Label.{label_transition, refused, start_code, taken_as, unlabelled}
 use Rattle.md_events.specs.Spaces.{IsRest, is_current, sees_white}
 use Rattle.md_events.specs.Transition.{entered_link, exited, taken}
-use Rattle.md_events.proofs.SpacesTermination.{Does, accepts-behind, rest-size, seen-in, seen-some}
+use Rattle.md_events.proofs.SpacesTermination.{Does, accepts-following, rest-size, seen-in, seen-some}
 
 -- a table that has the states of a label
 pub record LabelFits (T : Scheme) : Type 1 where
@@ -65,7 +65,7 @@ close_ends : (T : Scheme) (name : StateName) (w : World) (events : List Event) (
     InText (position w) (after_all T w.frames) → w.point.index < w.setting.limit →
     Does T name w (close_code (record w { events = events }) x)
 close_ends T name w events true r inside = (
-  accepts-behind T name w _ _ (close_code (record w { events = events }) true).world.events (unlabelled w.scratch)
+  accepts-following T name w _ _ (close_code (record w { events = events }) true).world.events (unlabelled w.scratch)
       inside r.1 r.0.rest,
   refl,
 )

@@ -5,8 +5,9 @@ use Rattle.md_engine.specs.declared.tokenizer.Scratch.{Scratch}
 use Rattle.md_engine.specs.Meaning.{Accepts, Cell, Here, Outcome, Refuses}
 use Rattle.md_link_definitions.specs.Chunks.{before_mark, chunks, from_mark}
 use Rattle.md_link_definitions.specs.Label.{is_bracket, unlabelled}
-use Rattle.md_link_definitions.specs.LabelRule.{LabelParts, in_label, is_label_text, label_at, label_closed, label_events}
-use Rattle.md_link_definitions.specs.LabelRule.{label_from, is_text_of, label_ended, label_opened, label_parts}
+use Rattle.md_link_definitions.specs.LabelRule.{LabelParts, in_label, is_label_text, label_at, label_closed}
+use Rattle.md_link_definitions.specs.LabelRule.{label_events, label_from, is_text_of, label_ended, label_opened}
+use Rattle.md_link_definitions.specs.LabelRule.{label_parts}
 use Rattle.md_events.specs.Ahead.{point_after}
 use Rattle.md_events.specs.Spaces.{IsRest}
 
@@ -25,19 +26,19 @@ refused : (h : Here) → IsRest h.scratch → Refuses (unlabelled h.scratch) h.f
 refused h is = ap (λ (s : Scratch). Refuses s h.flags) (unlabelled-rest h.scratch is)
 
 -- after `[`, of which nothing was counted yet
-abbrev behind_opener : Cell → Here → Here
-behind_opener c h = record h { events = h.events ++ label_opened c h.point; point = c.after }
+abbrev after_opener : Cell → Here → Here
+after_opener c h = record h { events = h.events ++ label_opened c h.point; point = c.after }
 
 -- what may be its text
 text-of : (text : List Cell) (c : Cell) (h : Here) → IsRest h.scratch →
-    is_text_of false text (behind_opener c h) ≡ is_label_text text c.after
+    is_text_of false text (after_opener c h) ≡ is_label_text text c.after
 text-of text c h is =
-    ap (λ (s : Scratch). is_text_of false text (behind_opener c (record h { scratch = s }))) is
+    ap (λ (s : Scratch). is_text_of false text (after_opener c (record h { scratch = s }))) is
     ∙ rw zero-add refl
 
 -- by the text, and what follows it
 whole-by : (c : Cell) (text rest : List Cell) (h : Here) → IsRest h.scratch →
-    (let now = behind_opener c h in
+    (let now = after_opener c h in
     cond (is_label_text text c.after)
     (label_closed rest
     (record now {
@@ -57,7 +58,7 @@ whole-by c text [] h is = go (is_label_text text c.after)
 whole-by c text (d ∷ ds) h is = rw (unlabelled-rest h.scratch is) (go (is_label_text text c.after) (nat_eq d.byte 93))
   where
     left : Here
-    left = let now = behind_opener c h in
+    left = let now = after_opener c h in
         record now { events = now.events ++ chunks false text c.after; point = point_after text c.after }
 
     go : (x y : Bool) →

@@ -161,9 +161,9 @@ stops-left [] stops = refl
 stops-left (c ∷ cs) stops = rw stops refl
 
 -- for a line and what comes after it
-pub lines-behind : (p : Point) (line more : List Cell) → NoFeed line → Stops more → AreWhole p (line ++ more) →
+pub lines-following : (p : Point) (line more : List Cell) → NoFeed line → Stops more → AreWhole p (line ++ more) →
     cell_lines false (whole_cells p (line ++ more)) ≡ bytes_of (whole_cells p line) ∷ further more
-lines-behind p line more none stops are =
+lines-following p line more none stops are =
     lines-first p (line ++ more) are
     ∙ ap₂ (λ (x y : List Cell). bytes_of (whole_cells p x) ∷ further y)
     (line_cells-append line more none ∙ ap (λ (l : List Cell). line ++ l) (stops-line more stops) ∙ append-nil line)

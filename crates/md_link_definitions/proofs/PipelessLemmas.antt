@@ -7,8 +7,8 @@ use Rattle.std.proofs.lemmas.List.Folds.{list_all-append}
 use Rattle.md_meaning.specs.Ascii.{pipe}
 use Rattle.md_link_definitions.specs.Head.{is_pipeless}
 
-joined : (front behind : List ℕ) → is_pipeless (front ++ behind) ≡ (is_pipeless front && is_pipeless behind)
-joined front behind = list_all-append (λ b. not (b == pipe)) front behind
+joined : (front following : List ℕ) → is_pipeless (front ++ following) ≡ (is_pipeless front && is_pipeless following)
+joined front following = list_all-append (λ b. not (b == pipe)) front following
 
 -- a line in two parts
 cut : (line : List ℕ) (at : ℕ) → is_pipeless line ≡ (is_pipeless (take at line) && is_pipeless (drop at line))
@@ -23,27 +23,27 @@ twice false y z = refl
 overlap : (line : List ℕ) (m n : ℕ) → m ≤ n →
     is_pipeless line ≡ (is_pipeless (take n line) && is_pipeless (drop m line))
 overlap line m n le =
-    let behind = drop m line in
+    let following = drop m line in
     let k = n - m in
     let sum : m + k ≡ n = omega (arith, le) in
-    let front : is_pipeless (take n line) ≡ (is_pipeless (take m line) && is_pipeless (take k behind)) =
+    let front : is_pipeless (take n line) ≡ (is_pipeless (take m line) && is_pipeless (take k following)) =
     ap (λ (i : ℕ). is_pipeless (take i line)) (sym sum) ∙ ap is_pipeless (take-add m k line)
-    ∙ joined (take m line) (take k behind) in
-    let rest = cut behind k in
+    ∙ joined (take m line) (take k following) in
+    let rest = cut following k in
     cut line m ∙ ap (λ (x : Bool). is_pipeless (take m line) && x) rest
-    ∙ twice (is_pipeless (take m line)) (is_pipeless (take k behind)) (is_pipeless (drop k behind))
+    ∙ twice (is_pipeless (take m line)) (is_pipeless (take k following)) (is_pipeless (drop k following))
     ∙ sym (ap₂ (λ (x y : Bool). x && y) front rest)
 
 -- what lies after an index, as slicing gives it
-behind-whole : (line : List ℕ) (at : ℕ) → take (length line - at) (drop at line) ≡ drop at line
-behind-whole line at =
+following-whole : (line : List ℕ) (at : ℕ) → take (length line - at) (drop at line) ≡ drop at line
+following-whole line at =
     take_all (length line - at) (drop at line) (let size = length-drop at line in omega (arith, size))
 
 -- a line whose front has no pipe, by what lies after an index in it
-pub pipeless-behind : (line : List ℕ) (at n : ℕ) (y : Bool) → at ≤ n → is_pipeless (take n line) ≡ true →
+pub pipeless-following : (line : List ℕ) (at n : ℕ) (y : Bool) → at ≤ n → is_pipeless (take n line) ≡ true →
     y ≡ is_pipeless (take (length line - at) (drop at line)) → y ≡ is_pipeless line
-pipeless-behind line at n y le front behind =
-    behind ∙ ap is_pipeless (behind-whole line at)
+pipeless-following line at n y le front following =
+    following ∙ ap is_pipeless (following-whole line at)
     ∙ sym (overlap line at n le ∙ ap (λ (x : Bool). x && is_pipeless (drop at line)) front)
 
 -- a line whose front has a pipe
@@ -55,8 +55,8 @@ neither true = refl
 neither false = refl
 
 -- a line that has a pipe after an index
-pub pipe-behind : (line : List ℕ) (at n : ℕ) → is_pipeless (take n (drop at line)) ≡ false → is_pipeless line ≡ false
-pipe-behind line at n some =
+pub pipe-following : (line : List ℕ) (at n : ℕ) → is_pipeless (take n (drop at line)) ≡ false → is_pipeless line ≡ false
+pipe-following line at n some =
     cut line at
     ∙ ap (λ (x : Bool). is_pipeless (take at line) && x) (pipe-in-front (drop at line) n some)
     ∙ neither (is_pipeless (take at line))
@@ -64,8 +64,8 @@ pipe-behind line at n some =
 -- bytes without a pipe, and more of them
 pub pipeless-more : (line : List ℕ) (at end : ℕ) → at ≤ end → is_pipeless (take at line) ≡ true →
     is_pipeless (take (end - at) (drop at line)) ≡ true → is_pipeless (take end line) ≡ true
-pipeless-more line at end le front behind =
+pipeless-more line at end le front following =
     let sum : at + (end - at) ≡ end = omega (arith, le) in
     ap (λ (i : ℕ). is_pipeless (take i line)) (sym sum) ∙ ap is_pipeless (take-add at (end - at) line)
     ∙ joined (take at line) (take (end - at) (drop at line))
-    ∙ ap₂ (λ (x y : Bool). x && y) front behind
+    ∙ ap₂ (λ (x y : Bool). x && y) front following

@@ -14,7 +14,7 @@ use Rattle.md_link_definitions.specs.CellLines.{cell_lines}
 use Rattle.md_link_definitions.specs.WholeCells.{AreWhole, whole_cells}
 use Rattle.md_events.specs.Ahead.{point_after}
 use Rattle.md_events.specs.Events.Places.{past_byte, past_text}
-use Rattle.md_events.proofs.FeedLines.{Stops, behind_last, byte-end, byte_cells, cell, columns_more, next_column}
+use Rattle.md_events.proofs.FeedLines.{Stops, after_last, byte-end, byte_cells, cell, columns_more, next_column}
 use Rattle.md_events.proofs.FeedLines.{past_text-whole, spread, spread-end, tab-end, tab_cells, tab_end}
 use Rattle.md_events.proofs.RestCells.{Cut, cells_by, past_cut, past_rest, rest-end, rest_cells}
 use Rattle.md_events.proofs.RestLines.{trim-white}
@@ -93,7 +93,7 @@ byte-begins : (line : Line) (b : ℕ) (p : Point) → nat_eq p.vs 0 ≡ true →
 byte-begins line b p at = go (nat_eq b 9) refl
   where
     tab : (n : ℕ) → (q : Point) × (whole_cells p (tab_cells line n 9 p) ≡ cell 9 q line ∷ [])
-    tab zero = (behind_last p, rw at refl)
+    tab zero = (after_last p, rw at refl)
     tab (suc n) =
         let q = next_column p in
         let within : nat_eq (p.vs + 1) 0 ≡ false = grind (arith, nat_tests) in

@@ -12,7 +12,8 @@ use Rattle.md_engine.specs.Meaning.{Accepts, Cell, Here, Outcome, Refuses}
 use Rattle.md_link_definitions.specs.Chunks.{before_mark, from_mark, string_link}
 use Rattle.md_link_definitions.specs.Title.{IsMarked, is_escaped, is_mark, unmarked}
 use Rattle.md_link_definitions.proofs.CellLineLemmas.{AreMarks, is_other}
-use Rattle.md_link_definitions.specs.TitleRule.{behind_ending, behind_opener, in_text, text_left, title_by, title_end, title_text}
+use Rattle.md_link_definitions.specs.TitleRule.{following_ending, after_opener, in_text, text_left, title_by, title_end}
+use Rattle.md_link_definitions.specs.TitleRule.{title_text}
 use Rattle.md_events.specs.Events.Nested.{enter, enter_link, exit}
 
 -- The marks of a title end no line, and are neither whitespace nor a backslash.
@@ -112,11 +113,11 @@ text-closes begun c cs h e = go (nat_eq c.byte h.scratch.marker_b) refl
 
 -- or are at once after that which opens
 pub opener-closes : (c : Cell) (cs : List Cell) (h : Here) → nat_eq c.byte h.scratch.marker ≡ true →
-    behind_opener (c ∷ cs) h ≡ closed_here [] c cs h
-unfolding behind_opener
+    after_opener (c ∷ cs) h ≡ closed_here [] c cs h
+unfolding after_opener
 opener-closes c cs h e = go (nat_eq c.byte h.scratch.marker_b) refl
   where
-    go : (x : Bool) → nat_eq c.byte h.scratch.marker_b ≡ x → behind_opener (c ∷ cs) h ≡ closed_here [] c cs h
+    go : (x : Bool) → nat_eq c.byte h.scratch.marker_b ≡ x → after_opener (c ∷ cs) h ≡ closed_here [] c cs h
     go true k = rw (k, e) refl
     go false k = rw (k, e, e) refl
 
@@ -134,8 +135,8 @@ text-none begun escaped h = refl
 -- a line ending
 pub text-ending : (c : Cell) (cs : List Cell) (h : Here) →
     is_mark h.scratch.marker_b h.scratch.marker c.byte ≡ false → nat_eq c.byte 10 ≡ true →
-    in_text true false (c ∷ cs) h ≡ behind_ending cs (record h { point = c.after })
-unfolding in_text behind_ending
+    in_text true false (c ∷ cs) h ≡ following_ending cs (record h { point = c.after })
+unfolding in_text following_ending
 text-ending c cs h e k =
     let plain : nat_eq c.byte backslash ≡ false = grind (arith, nat_tests) in
     let is = is_mark h.scratch.marker_b h.scratch.marker in
@@ -185,13 +186,13 @@ line-begins c cs h e = go (nat_eq c.byte h.scratch.marker_b) refl
 
 -- the text begins
 pub text-begins : (c : Cell) (cs : List Cell) (h : Here) → nat_eq c.byte h.scratch.marker ≡ false →
-    behind_opener (c ∷ cs) h ≡
+    after_opener (c ∷ cs) h ≡
     in_text false false (c ∷ cs) (record h { events = h.events ++ enter DefinitionTitleString h.point ∷ [] })
-unfolding behind_opener in_text
+unfolding after_opener in_text
 text-begins c cs h e = go (nat_eq c.byte h.scratch.marker_b) refl
   where
     go : (x : Bool) → nat_eq c.byte h.scratch.marker_b ≡ x →
-        behind_opener (c ∷ cs) h ≡
+        after_opener (c ∷ cs) h ≡
         in_text false false (c ∷ cs) (record h { events = h.events ++ enter DefinitionTitleString h.point ∷ [] })
     go true k = rw (k, e) refl
     go false k =
@@ -200,6 +201,6 @@ text-begins c cs h e = go (nat_eq c.byte h.scratch.marker_b) refl
         rw (k, e) (left-opens c (before_mark is escaped cs) (from_mark is escaped cs) h)
 
 -- and ends at once where nothing follows
-pub begins-none : (h : Here) → behind_opener [] h ≡ Refuses (unmarked h.scratch) h.flags
-unfolding behind_opener
+pub begins-none : (h : Here) → after_opener [] h ≡ Refuses (unmarked h.scratch) h.flags
+unfolding after_opener
 begins-none h = refl

@@ -10,7 +10,8 @@ use Rattle.md_link_definitions.specs.CellLines.{cell_lines, lines_closed}
 use Rattle.md_link_definitions.specs.Chunks.{before_mark, from_mark}
 use Rattle.md_link_definitions.specs.Title.{is_mark}
 use Rattle.md_link_definitions.specs.TitleRule.{TitleParts, parts_closed, parts_from, title_parts}
-use Rattle.md_link_definitions.proofs.CellLineLemmas.{all-enclosed, cells-enclosed, lines-byte, lines-ending, lines-some}
+use Rattle.md_link_definitions.proofs.CellLineLemmas.{all-enclosed, cells-enclosed, lines-byte, lines-ending}
+use Rattle.md_link_definitions.proofs.CellLineLemmas.{lines-some}
 use Rattle.md_link_definitions.proofs.TitleLemmas.{title-marks}
 
 -- the lines of its text, and those after it

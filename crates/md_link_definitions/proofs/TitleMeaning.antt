@@ -17,14 +17,14 @@ use Rattle.md_engine.specs.World.{World, after}
 use Rattle.md_engine.specs.Sees.{Sees, ahead, cell_here}
 use Rattle.md_engine.proofs.StepOf.{moves, passes, steps-as}
 use Rattle.md_link_definitions.specs.Chunks.{string_link}
-use Rattle.md_link_definitions.specs.Title.{TitleInvariant, IsMarked, after_eol_transition, at_break_code, begin_code, closed, escape_code}
-use Rattle.md_link_definitions.specs.Title.{inside_code, is_escaped, is_mark, opened, refused, start_code, title_ready}
-use Rattle.md_link_definitions.specs.Title.{title_transition, unmarked}
-use Rattle.md_link_definitions.specs.TitleRule.{TitleMeans, HasTitle, behind_ending, behind_opener, in_text, text_left, title_at}
-use Rattle.md_link_definitions.specs.TitleRule.{title_behaves, title_end, title_from}
-use Rattle.md_link_definitions.proofs.TitleLemmas.{begins-none, closed_here, escaped-no_ending, line-begins, opener-closes}
-use Rattle.md_link_definitions.proofs.TitleLemmas.{pair-ends, pair-none, text-begins, text-closes, text-ending, text-more}
-use Rattle.md_link_definitions.proofs.TitleLemmas.{text-none, text-opens}
+use Rattle.md_link_definitions.specs.Title.{TitleInvariant, IsMarked, after_eol_transition, at_break_code, begin_code}
+use Rattle.md_link_definitions.specs.Title.{closed, escape_code, inside_code, is_escaped, is_mark, opened, refused}
+use Rattle.md_link_definitions.specs.Title.{start_code, title_ready, title_transition, unmarked}
+use Rattle.md_link_definitions.specs.TitleRule.{TitleMeans, HasTitle, following_ending, after_opener, in_text}
+use Rattle.md_link_definitions.specs.TitleRule.{text_left, title_at, title_behaves, title_end, title_from}
+use Rattle.md_link_definitions.proofs.TitleLemmas.{begins-none, closed_here, escaped-no_ending, line-begins}
+use Rattle.md_link_definitions.proofs.TitleLemmas.{opener-closes, pair-ends, pair-none, text-begins, text-closes}
+use Rattle.md_link_definitions.proofs.TitleLemmas.{text-ending, text-more, text-none, text-opens}
 use Rattle.md_events.specs.Events.Nested.{enter, enter_link, exit, pair}
 use Rattle.md_events.specs.Spaces.{is_current}
 use Rattle.md_events.specs.Transition.{entered, entered_link, exited, taken}
@@ -118,7 +118,7 @@ start_means B feed w (Some b) has e = go (title_closer b) refl
         (has.each its.Start _ _ ∙ same ∙ ap (λ (x : Option ℕ). title_from x c cs (here w)) k)
     go (Some closer) k =
         let new : World = (opened w b (Some closer)).world in
-        let joined : title_from (Some closer) c cs (here w) ≡ behind_opener cs (here new) = simp append_assoc in
+        let joined : title_from (Some closer) c cs (here w) ≡ after_opener cs (here new) = simp append_assoc in
         moves B feed _ _ w new
         (enter DefinitionTitle w.point ∷ pair DefinitionTitleMarker w.point (after w.setting w.point)) refl
         (simp append_assoc)
@@ -149,16 +149,16 @@ begin_means B feed w (Some b) has e = go (nat_eq b w.scratch.marker) refl
         (text-begins c cs (here w) k)
 
 -- after the ending of a line
-behind-line : (cells : List Cell) (h : Here) →
-    behind_ending cells h ≡ in_text false false cells (record h { events = h.events ++ exit Data h.point ∷ [] })
-unfolding behind_ending
-behind-line cells h = refl
+following-line : (cells : List Cell) (h : Here) →
+    following_ending cells h ≡ in_text false false cells (record h { events = h.events ++ exit Data h.point ∷ [] })
+unfolding following_ending
+following-line cells h = refl
 
 after_eol_means : (B : Behaviour) (feed : Feed) (w : World) → HasTitle B → Sees feed w →
     Steps B feed (Next (n.Title its.AfterEol)) w (after_eol_transition w).to (after_eol_transition w).world
 after_eol_means B feed w has s =
     turns-to B feed its.AfterEol its.AtBreak w w.current (exit Data w.point ∷ []) has s.next
-    (behind-line (ahead feed w w.current) (here w))
+    (following-line (ahead feed w w.current) (here w))
 
 -- before a line
 at_break_means : (B : Behaviour) (feed : Feed) (w : World) (o : Option ℕ) → HasTitle B → feed w.point ≡ ahead feed w o →

@@ -16,12 +16,12 @@ use Rattle.md_engine.proofs.Falls.{later, passed}
 use Rattle.md_engine.proofs.Local.{consumes, refuses, refuses_later, turns}
 use Rattle.md_engine.proofs.Points.{takes, takes_past}
 use Rattle.md_link_definitions.specs.Chunks.{string_link}
-use Rattle.md_link_definitions.specs.Title.{after_eol_transition, at_break_code, begin_code, closed, escape_code, inside_code}
-use Rattle.md_link_definitions.specs.Title.{is_escaped, marked, opened, refused, start_code, title_ready, title_scheme}
-use Rattle.md_link_definitions.specs.Title.{title_transition, unmarked}
+use Rattle.md_link_definitions.specs.Title.{after_eol_transition, at_break_code, begin_code, closed, escape_code}
+use Rattle.md_link_definitions.specs.Title.{inside_code, is_escaped, marked, opened, refused, start_code, title_ready}
+use Rattle.md_link_definitions.specs.Title.{title_scheme, title_transition, unmarked}
 use Rattle.md_events.specs.Spaces.{IsRest, is_current, later_ready}
 use Rattle.md_events.specs.Transition.{entered, entered_link, exited, taken}
-use Rattle.md_events.proofs.SpacesTermination.{Does, accepts-behind, seen-in, seen-some}
+use Rattle.md_events.proofs.SpacesTermination.{Does, accepts-following, seen-in, seen-some}
 
 -- a table that has the states of a title
 pub record TitleFits (T : Scheme) : Type 1 where
@@ -39,7 +39,8 @@ marked-rest s opener closer e = ap (λ (t : Scratch). unmarked (marked opener cl
 closes : (T : Scheme) (name : StateName) (w : World) (events : List Event) → Between w (after_all T w.frames) →
     w.point.index < w.setting.limit → Does T name w (closed (record w { events = events }))
 closes T name w events r inside = (
-  accepts-behind T name w IsRest IsRest (closed (record w { events = events })).world.events (unmarked w.scratch) inside
+  accepts-following T name w IsRest IsRest (closed (record w { events = events })).world.events
+      (unmarked w.scratch) inside
       r.1 r.0.rest,
   refl,
 )
@@ -50,12 +51,13 @@ refused-here : (T : Scheme) (name : StateName) (w : World) → Between w (after_
 refused-here T name w r = (refuses T name w _ _ w.events (unmarked w.scratch) r.1 r.0.rest, refl)
 
 -- what is here is taken, and it continues
-goes-behind : (T : Scheme) (name next : TitleState) (w : World) → TitleFits T → Between w (after_all T w.frames) →
+proceeds-following : (T : Scheme) (name next : TitleState) (w : World) → TitleFits T →
+    Between w (after_all T w.frames) →
     w.point.index < w.setting.limit →
     (Between (taken w) (after_all T w.frames) →
     title_ready (n.Title next) (position (taken w)) (after_all T w.frames)) →
     Does T (n.Title name) w (record { to = Next (n.Title next); world = taken w })
-goes-behind T name next w has r inside ready = (
+proceeds-following T name next w has r inside ready = (
   consumes T title_scheme _ _ w w.events w.scratch (has.each name) (has.each next) inside
       (ready (r.0, later _ _ (position w) _ _ _ (takes w.setting w.point inside) r.1)) (omega arith),
   refl,
@@ -131,15 +133,18 @@ inside_ends T w (Some b) has r e =
     go true opener ending escape k l m i =
         rw k (closes T (n.Title its.Inside) w (exited (exited w Data) DefinitionTitleString).events r inside)
     go false true ending escape k l m i = rw (k, l) (refused-here T (n.Title its.Inside) w r)
-    go false false true escape k l m i = rw (k, l, m) (goes-behind T its.Inside its.AfterEol w has r inside (λ x. x))
-    go false false false true k l m i = rw (k, l, m, i) (goes-behind T its.Inside its.Escape w has r inside (λ x. x))
-    go false false false false k l m i = rw (k, l, m, i) (goes-behind T its.Inside its.Inside w has r inside (λ x. x))
+    go false false true escape k l m i = rw (k, l, m)
+        (proceeds-following T its.Inside its.AfterEol w has r inside (λ x. x))
+    go false false false true k l m i = rw (k, l, m, i)
+        (proceeds-following T its.Inside its.Escape w has r inside (λ x. x))
+    go false false false false k l m i = rw (k, l, m, i)
+        (proceeds-following T its.Inside its.Inside w has r inside (λ x. x))
 
 -- after a backslash
 escape_ends : (T : Scheme) (w : World) (x : Bool) → TitleFits T → Between w (after_all T w.frames) →
     is_escaped w.scratch (seen (position w)) ≡ x → Does T (n.Title its.Escape) w (escape_code w x)
 escape_ends T w true has r e =
-    goes-behind T its.Escape its.Inside w has r (seen-in (position w) (is_escaped w.scratch) refl e) (λ x. x)
+    proceeds-following T its.Escape its.Inside w has r (seen-in (position w) (is_escaped w.scratch) refl e) (λ x. x)
 escape_ends T w false has r e = (
   turns T title_scheme _ _ w w.events w.scratch (has.each its.Escape) (has.each its.Inside) r (omega arith)
       (omega arith),

@@ -12,7 +12,8 @@ use Rattle.md_link_definitions.specs.TitleRule.{TitleParts, parts_closed, parts_
 use Rattle.md_link_definitions.specs.WholeCells.{AreWhole, whole_cells}
 use Rattle.md_link_definitions.proofs.TitleLemmas.{title-marks}
 use Rattle.md_link_definitions.proofs.TitleLines.{parts_lines, title-lines}
-use Rattle.md_link_definitions.proofs.WholeCellLemmas.{IsMarkFirst, NoWhite, mark-at, no-white, rest-are, whole-before, whole-from}
+use Rattle.md_link_definitions.proofs.WholeCellLemmas.{IsMarkFirst, NoWhite, mark-at, no-white, rest-are, whole-before}
+use Rattle.md_link_definitions.proofs.WholeCellLemmas.{whole-from}
 use Rattle.md_events.specs.Ahead.{point_after}
 
 -- the lines of its text, and those after it

@@ -6,8 +6,8 @@ use Rattle.md_engine.specs.declared.tokenizer.Scratch.{Scratch}
 use Rattle.md_engine.specs.Meaning.{Accepts, Cell, Here, Outcome, Refuses}
 use Rattle.md_link_definitions.specs.Chunks.{before_mark, from_mark}
 use Rattle.md_link_definitions.specs.Title.{is_mark, marked, unmarked}
-use Rattle.md_link_definitions.specs.TitleRule.{TitleParts, behind_cell, behind_opener, parts_closed, parts_from, title_at}
-use Rattle.md_link_definitions.specs.TitleRule.{title_by, title_events, title_from, title_parts, title_text}
+use Rattle.md_link_definitions.specs.TitleRule.{TitleParts, after_cell, after_opener, parts_closed, parts_from}
+use Rattle.md_link_definitions.specs.TitleRule.{title_at, title_by, title_events, title_from, title_parts, title_text}
 use Rattle.md_events.specs.Spaces.{IsRest}
 
 -- what a title that was found becomes
@@ -22,19 +22,19 @@ unmarked-rest s opener closer e = ap (λ (t : Scratch). unmarked (marked opener 
 
 -- by the text, and what follows it
 whole-by : (closer : ℕ) (c : Cell) (text rest : List Cell) (h : Here) → IsRest h.scratch →
-    title_by title_text text rest (behind_cell c closer h) ≡ taken_title (parts_closed closer c text rest) h
+    title_by title_text text rest (after_cell c closer h) ≡ taken_title (parts_closed closer c text rest) h
 whole-by closer c text [] h is = ap (λ (s : Scratch). Refuses s h.flags) (unmarked-rest h.scratch c.byte closer is)
 whole-by closer c text (d ∷ ds) h is = go (nat_eq d.byte closer) refl
   where
     go : (x : Bool) → nat_eq d.byte closer ≡ x →
-        title_by title_text text (d ∷ ds) (behind_cell c closer h) ≡ taken_title (parts_closed closer c text (d ∷ ds)) h
+        title_by title_text text (d ∷ ds) (after_cell c closer h) ≡ taken_title (parts_closed closer c text (d ∷ ds)) h
     go true e = rw (e, unmarked-rest h.scratch c.byte closer is) (simp append_assoc)
     go false e = rw e (ap (λ (s : Scratch). Refuses s h.flags) (unmarked-rest h.scratch c.byte closer is))
 
 -- after the opening mark
 whole-opened : (closer : ℕ) (c : Cell) (cs : List Cell) (h : Here) → IsRest h.scratch →
-    behind_opener cs (behind_cell c closer h) ≡ taken_title (parts_from (Some closer) c cs) h
-unfolding behind_opener
+    after_opener cs (after_cell c closer h) ≡ taken_title (parts_from (Some closer) c cs) h
+unfolding after_opener
 whole-opened closer c cs h is =
     let mark = is_mark c.byte closer in whole-by closer c (before_mark mark false cs) (from_mark mark false cs) h is
 

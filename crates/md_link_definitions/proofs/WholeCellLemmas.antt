@@ -152,8 +152,8 @@ rest-are is false p (c ∷ cs) are = go (rest-are is (nat_eq c.byte 92) c.after 
 abbrev pub texts_closed : ℕ → Point → List Cell → List Cell → Option Lines
 texts_closed closer p text [] = None
 texts_closed closer p text (c ∷ cs) =
-    let behind = cell_lines false (whole_cells c.after cs) in
-    cond (nat_eq c.byte closer) (Some (record { text = cell_lines false (whole_cells p text); rest = behind })) None
+    let following = cell_lines false (whole_cells c.after cs) in
+    cond (nat_eq c.byte closer) (Some (record { text = cell_lines false (whole_cells p text); rest = following })) None
 
 -- where the text is known
 texts-closed : (is : ℕ → Bool) (closer : ℕ) (p q : Point) (text rest : List Cell) → NoWhite is → IsMarkFirst is q rest →

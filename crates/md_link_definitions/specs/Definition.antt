@@ -30,16 +30,16 @@ abbrev pub white_first : World → DefinitionState → Transition
 white_first w next = white_then w 1 any_size (Next (n.Definition next)) Nok
 
 -- by whether whitespace is here
-abbrev pub behind_white : World → DefinitionState → Bool → Transition
-behind_white w next true = white_first w next
-behind_white w next false = turned w next
+abbrev pub following_white : World → DefinitionState → Bool → Transition
+following_white w next true = white_first w next
+following_white w next false = turned w next
 
 abbrev pub refused : World → Transition
 refused w = record { to = Nok; world = w }
 
 -- by whether definitions are on, and whether whitespace is here
 abbrev pub start_code : World → Bool → Bool → Transition
-start_code w true white = behind_white w its.Before white
+start_code w true white = following_white w its.Before white
 start_code w false white = refused w
 
 -- by whether `[` is here, where the definition begins
@@ -113,13 +113,13 @@ abbrev pub title_before_marker_transition : World → Transition
 title_before_marker_transition w = tries_part w (n.Title title.Start) (Next (n.Definition its.TitleAfter)) Nok
 
 abbrev pub title_after_transition : World → Transition
-title_after_transition w = behind_white w its.TitleAfterOptionalWhitespace (sees_white w.current)
+title_after_transition w = following_white w its.TitleAfterOptionalWhitespace (sees_white w.current)
 
 abbrev pub title_after_optional_whitespace_transition : World → Transition
 title_after_optional_whitespace_transition w = title_end_code w (ends_line w.current)
 
 abbrev pub after_transition : World → Transition
-after_transition w = behind_white w its.AfterWhitespace (sees_white w.current)
+after_transition w = following_white w its.AfterWhitespace (sees_white w.current)
 
 abbrev pub after_whitespace_transition : World → Transition
 after_whitespace_transition w = end_code w (ends_line w.current)

@@ -16,7 +16,8 @@ use Rattle.md_engine.specs.Sees.{IsStep}
 use Rattle.md_engine.specs.World.{Flags, World}
 use Rattle.md_link_definitions.specs.DestinationRule.{HasDestination, begins_literal, destination_at, destination_last}
 use Rattle.md_link_definitions.specs.DestinationRule.{destination_left, destination_part}
-use Rattle.md_link_definitions.specs.GapRule.{HasGap, begins_gap, gap_at, gap_end, gap_part, gap_rest, past_white, white_part}
+use Rattle.md_link_definitions.specs.GapRule.{HasGap, begins_gap, gap_at, gap_end, gap_part, gap_rest, past_white}
+use Rattle.md_link_definitions.specs.GapRule.{white_part}
 use Rattle.md_link_definitions.specs.LabelRule.{HasLabel, LabelParts, label_at, label_events, label_parts}
 use Rattle.md_link_definitions.specs.TitleRule.{HasTitle, TitleParts, title_at, title_events, title_parts}
 use Rattle.md_events.specs.Ahead.{line_bytes, white_end, white_rest}
@@ -48,48 +49,48 @@ at_end cells h =
     else Refuses h.scratch h.flags
 
 -- after its parts, before whitespace
-unfoldable pub behind_parts : List Cell → Here → Outcome
-behind_parts cells h = at_end (white_rest any_size cells) (past_white cells h)
+unfoldable pub after_parts : List Cell → Here → Outcome
+after_parts cells h = at_end (white_rest any_size cells) (past_white cells h)
 
 -- a title ends its line, up to whitespace
 unfoldable pub at_title_end : List Cell → Here → Outcome
 at_title_end cells h = if ends_line (first_seen cells) then Accepts h cells else Refuses h.scratch h.flags
 
-unfoldable pub behind_title : List Cell → Here → Outcome
-behind_title cells h = at_title_end (white_rest any_size cells) (past_white cells h)
+unfoldable pub after_title : List Cell → Here → Outcome
+after_title cells h = at_title_end (white_rest any_size cells) (past_white cells h)
 
 -- the title
 unfoldable pub at_title : List Cell → Here → Outcome
-at_title cells h = tried (title_at cells h) behind_title Refuses
+at_title cells h = tried (title_at cells h) after_title Refuses
 
 -- and the gap before it
 unfoldable pub before_title : List Cell → Here → Outcome
 before_title cells h = tried (gap_at cells h) at_title Refuses
 
 -- a title, if one is there
-unfoldable pub behind_destination : List Cell → Here → Outcome
-behind_destination cells h = or_none behind_parts (before_title cells h) cells h
+unfoldable pub after_destination : List Cell → Here → Outcome
+after_destination cells h = or_none after_parts (before_title cells h) cells h
 
 -- the destination
 unfoldable pub before_destination : List Cell → Here → Outcome
-before_destination cells h = tried (destination_at cells h) behind_destination Refuses
+before_destination cells h = tried (destination_at cells h) after_destination Refuses
 
 -- a gap, if one is there
-unfoldable pub behind_marker : List Cell → Here → Outcome
-behind_marker cells h = or_none before_destination (gap_at cells h) cells h
+unfoldable pub after_marker : List Cell → Here → Outcome
+after_marker cells h = or_none before_destination (gap_at cells h) cells h
 
 -- the colon
-unfoldable pub behind_label : List Cell → Here → Outcome
-behind_label [] h = Refuses h.scratch h.flags
-behind_label (c ∷ cs) h =
+unfoldable pub after_label : List Cell → Here → Outcome
+after_label [] h = Refuses h.scratch h.flags
+after_label (c ∷ cs) h =
     if c.byte == colon
-    then behind_marker cs (record h { events = h.events ++ pair DefinitionMarker h.point c.after; point = c.after })
+    then after_marker cs (record h { events = h.events ++ pair DefinitionMarker h.point c.after; point = c.after })
     else Refuses h.scratch h.flags
 
 -- the label, at whose `[` the definition begins
 unfoldable pub before_label : List Cell → Here → Outcome
 before_label cells h =
-    tried (label_at cells (record h { events = h.events ++ enter Definition h.point ∷ [] })) behind_label Refuses
+    tried (label_at cells (record h { events = h.events ++ enter Definition h.point ∷ [] })) after_label Refuses
 
 -- the whole rule, if definitions are on: any indent, a label, a colon, a destination, and perhaps a title
 unfoldable pub definition_at : ParseOptions → List Cell → Here → Outcome
@@ -101,17 +102,17 @@ definition_at options cells h =
 abbrev pub definition_behaves : ParseOptions → DefinitionState → List Cell → Here → Outcome
 definition_behaves options its.Start cells h = definition_at options cells h
 definition_behaves options its.Before cells h = before_label cells h
-definition_behaves options its.LabelAfter cells h = behind_label cells h
+definition_behaves options its.LabelAfter cells h = after_label cells h
 definition_behaves options its.LabelNok cells h = Refuses h.scratch h.flags
-definition_behaves options its.MarkerAfter cells h = behind_marker cells h
+definition_behaves options its.MarkerAfter cells h = after_marker cells h
 definition_behaves options its.DestinationBefore cells h = before_destination cells h
-definition_behaves options its.DestinationAfter cells h = behind_destination cells h
+definition_behaves options its.DestinationAfter cells h = after_destination cells h
 definition_behaves options its.DestinationMissing cells h = Refuses h.scratch h.flags
-definition_behaves options its.After cells h = behind_parts cells h
+definition_behaves options its.After cells h = after_parts cells h
 definition_behaves options its.AfterWhitespace cells h = at_end cells h
 definition_behaves options its.TitleBefore cells h = before_title cells h
 definition_behaves options its.TitleBeforeMarker cells h = at_title cells h
-definition_behaves options its.TitleAfter cells h = behind_title cells h
+definition_behaves options its.TitleAfter cells h = after_title cells h
 definition_behaves options its.TitleAfterOptionalWhitespace cells h = at_title_end cells h
 
 pub record HasDefinition (B : Behaviour) (options : ParseOptions) : Type 0 where
@@ -191,21 +192,21 @@ definition_events d p =
     ++ titled_part d.title (destination_rest d) (destination_end d) ++ white_part (parts_rest d) (parts_end d))
 
 -- whether the line ends after whitespace
-abbrev pub ends_behind : List Cell → Bool
-ends_behind cells = ends_line (first_seen (white_rest any_size cells))
+abbrev pub ends_after : List Cell → Bool
+ends_after cells = ends_line (first_seen (white_rest any_size cells))
 
 -- a title that ends its line
 abbrev pub lone : Option TitleParts → Option TitleParts
 lone None = None
-lone (Some t) = if ends_behind t.rest then Some t else None
+lone (Some t) = if ends_after t.rest then Some t else None
 
 -- the title after a destination that these cells follow, if one is there
-abbrev pub title_behind : List Cell → Option TitleParts
-title_behind cells = if begins_gap cells then lone (title_parts (gap_rest cells)) else None
+abbrev pub title_following : List Cell → Option TitleParts
+title_following cells = if begins_gap cells then lone (title_parts (gap_rest cells)) else None
 
 -- a definition whose line ends after its parts
 abbrev pub ended : DefinitionParts → Option DefinitionParts
-ended d = if ends_behind (parts_rest d) then Some d else None
+ended d = if ends_after (parts_rest d) then Some d else None
 
 -- the definition from these cells on, with this label and colon, by the destination after them
 abbrev pub parts_with : List Cell → LabelParts → Cell → List Cell → Option Destination → Option DefinitionParts
@@ -217,19 +218,19 @@ parts_with cells label c cs (Some found) =
       colon = c;
       more = cs;
       destination = found;
-      title = title_behind (destination_left found (gap_rest cs));
+      title = title_following (destination_left found (gap_rest cs));
     })
 
 -- by what follows the label
-abbrev pub parts_behind : List Cell → LabelParts → List Cell → Option DefinitionParts
-parts_behind cells label [] = None
-parts_behind cells label (c ∷ cs) =
+abbrev pub parts_after : List Cell → LabelParts → List Cell → Option DefinitionParts
+parts_after cells label [] = None
+parts_after cells label (c ∷ cs) =
     if c.byte == colon then parts_with cells label c cs (found_destination (line_bytes (gap_rest cs))) else None
 
 -- by the label
 abbrev pub parts_labelled : List Cell → Option LabelParts → Option DefinitionParts
 parts_labelled cells None = None
-parts_labelled cells (Some label) = parts_behind cells label label.rest
+parts_labelled cells (Some label) = parts_after cells label label.rest
 
 -- the definition that these cells begin with, if they begin with one
 unfoldable pub definition_parts : List Cell → Option DefinitionParts

@@ -120,19 +120,19 @@ begins_literal [] = false
 begins_literal (c ∷ cs) = c.byte == less_than
 
 -- after so many cells
-abbrev pub behind_cells : ℕ → List Cell → Point → Point
-behind_cells n cells p = point_after (take n cells) p
+abbrev pub after_cells : ℕ → List Cell → Point → Point
+after_cells n cells p = point_after (take n cells) p
 
 -- The events of a destination with this text that is first: between angle brackets,
 abbrev pub literal_part : List ℕ → List Cell → Point → List Event
 literal_part text cells p =
-    let q = behind_cells 1 cells p in
-    let r = behind_cells (suc (length text)) cells p in
-    literal_begin p q ++ text_part text q r ++ literal_end r (behind_cells (suc (suc (length text))) cells p)
+    let q = after_cells 1 cells p in
+    let r = after_cells (suc (length text)) cells p in
+    literal_begin p q ++ text_part text q r ++ literal_end r (after_cells (suc (suc (length text))) cells p)
 
 -- and without them
 abbrev pub raw_part : List ℕ → List Cell → Point → List Event
-raw_part text cells p = raw_begin p ++ raw_end (behind_cells (length text) cells p)
+raw_part text cells p = raw_begin p ++ raw_end (after_cells (length text) cells p)
 
 -- By whether it is between angle brackets: its events, and how many cells it takes.
 abbrev pub destination_part : Bool → List ℕ → List Cell → Point → List Event
@@ -151,7 +151,7 @@ destination_by cells h (Some d) =
     Accepts
     (record h {
       events = h.events ++ destination_part (begins_literal cells) d.text cells h.point;
-      point = behind_cells size cells h.point;
+      point = after_cells size cells h.point;
     })
     (drop size cells)
 
@@ -161,12 +161,12 @@ text_cells true text cells = take (length text) (drop 1 cells)
 text_cells false text cells = take (length text) cells
 
 abbrev pub text_first : Bool → List Cell → Point → Point
-text_first true cells p = behind_cells 1 cells p
+text_first true cells p = after_cells 1 cells p
 text_first false cells p = p
 
 -- where it ends, and what follows it
 abbrev pub destination_last : Destination → List Cell → Point → Point
-destination_last d cells p = behind_cells (destination_size (begins_literal cells) d.text) cells p
+destination_last d cells p = after_cells (destination_size (begins_literal cells) d.text) cells p
 
 abbrev pub destination_left : Destination → List Cell → List Cell
 destination_left d cells = drop (destination_size (begins_literal cells) d.text) cells

@@ -15,8 +15,8 @@ abbrev pub open_text : Progress → ParagraphLine → OpenText
 open_text at k = record { progress = at; columns = head_columns k.text; indent = k.indent }
 
 -- what is held of a text after one more line, where the line meets this leaf
-abbrev pub text_behind : HeldLeaf → Rest → HeldLeaf
-text_behind on r = held_leaf.Text (open_text (step (progress_of on) (trim_start r.bytes)) (kept r))
+abbrev pub text_following : HeldLeaf → Rest → HeldLeaf
+text_following on r = held_leaf.Text (open_text (step (progress_of on) (trim_start r.bytes)) (kept r))
 
 -- the rest of a line that begins at this column, from 0, perhaps within a tab, by the bytes that begin on it
 abbrev pub begun_rest : ℕ → Bool → List ℕ → Rest

@@ -36,26 +36,26 @@ title_on [] = Left
 title_on (b ∷ bs) = title_with b bs (title_closer b)
 
 -- after a destination
-abbrev pub behind_destination : List ℕ → Progress
-behind_destination rest =
+abbrev pub after_destination : List ℕ → Progress
+after_destination rest =
     if is_blank rest then Untitled else if is_parted rest then title_on (trim_start rest) else Left
 
 -- by the destination that is next, if one is
 abbrev pub destination_by : Option Destination → Progress
 destination_by None = Left
-destination_by (Some d) = behind_destination d.rest
+destination_by (Some d) = after_destination d.rest
 
 -- where a destination is next
 abbrev pub destination_on : List ℕ → Progress
 destination_on line = destination_by (destination_at line)
 
 -- after the `:`
-abbrev pub behind_colon : List ℕ → Progress
-behind_colon rest = if is_blank rest then BeforeDestination else destination_on (trim_start rest)
+abbrev pub following_colon : List ℕ → Progress
+following_colon rest = if is_blank rest then BeforeDestination else destination_on (trim_start rest)
 
 -- after the `]`
-abbrev pub behind_label : List ℕ → Progress
-behind_label rest = if begins_with colon rest then behind_colon (after_optional colon rest) else Left
+abbrev pub after_label : List ℕ → Progress
+after_label rest = if begins_with colon rest then following_colon (after_optional colon rest) else Left
 
 -- whether this text of a label, or what was before it, is more than spaces and tabs
 abbrev pub is_filled : Bool → List ℕ → Bool
@@ -68,7 +68,7 @@ has_room size text = nat_le (size + length text) 999
 -- by how the text of a label continues, with so many bytes before it
 abbrev pub label_by : ℕ → Bool → List ℕ → Enclosed → Progress
 label_by size filled line (Closed text rest) =
-    if is_filled filled text && has_room size text then behind_label rest else Left
+    if is_filled filled text && has_room size text then after_label rest else Left
 label_by size filled line Open =
     if has_room size line then InLabel (size + length line) (is_filled filled line) else Left
 label_by size filled line Broken = Left

@@ -49,8 +49,8 @@ title_by events text (c ∷ cs) h =
     else Refuses (unmarked h.scratch) h.flags
 
 -- after the opening mark
-unfoldable pub behind_opener : List Cell → Here → Outcome
-behind_opener cells h =
+unfoldable pub after_opener : List Cell → Here → Outcome
+after_opener cells h =
     let is = is_mark h.scratch.marker_b h.scratch.marker in
     title_by title_text (before_mark is false cells) (from_mark is false cells) h
 
@@ -61,12 +61,12 @@ in_text begun escaped cells h =
     title_by (text_left begun) (before_mark is escaped cells) (from_mark is escaped cells) h
 
 -- after the ending of a line
-unfoldable pub behind_ending : List Cell → Here → Outcome
-behind_ending cells h = in_text false false cells (record h { events = h.events ++ exit Data h.point ∷ [] })
+unfoldable pub following_ending : List Cell → Here → Outcome
+following_ending cells h = in_text false false cells (record h { events = h.events ++ exit Data h.point ∷ [] })
 
 -- after this cell, which is the opening mark
-abbrev pub behind_cell : Cell → ℕ → Here → Here
-behind_cell c closer h = record h {
+abbrev pub after_cell : Cell → ℕ → Here → Here
+after_cell c closer h = record h {
   events = h.events ++ enter DefinitionTitle h.point ∷ pair DefinitionTitleMarker h.point c.after;
   point = c.after;
   scratch = marked c.byte closer h.scratch;
@@ -75,7 +75,7 @@ behind_cell c closer h = record h {
 -- by what closes a title that begins with this cell, if one does
 abbrev pub title_from : Option ℕ → Cell → List Cell → Here → Outcome
 title_from None c cs h = Refuses h.scratch h.flags
-title_from (Some closer) c cs h = behind_opener cs (behind_cell c closer h)
+title_from (Some closer) c cs h = after_opener cs (after_cell c closer h)
 
 -- the whole rule: an opening mark, and a text up to the mark that closes it
 unfoldable pub title_at : List Cell → Here → Outcome
@@ -85,8 +85,8 @@ title_at (c ∷ cs) h = title_from (title_closer c.byte) c cs h
 -- what is left at each state
 abbrev pub title_behaves : TitleState → List Cell → Here → Outcome
 title_behaves its.Start cells h = title_at cells h
-title_behaves its.Begin cells h = behind_opener cells h
-title_behaves its.AfterEol cells h = behind_ending cells h
+title_behaves its.Begin cells h = after_opener cells h
+title_behaves its.AfterEol cells h = following_ending cells h
 title_behaves its.AtBreak cells h = in_text false false cells h
 title_behaves its.Inside cells h = in_text true false cells h
 title_behaves its.Escape cells h = in_text true true cells h

@@ -15,7 +15,7 @@ ghost use Rattle.md_engine.specs.World.{world};
 ghost use Rattle.md_engine.specs.declared.state.Name.{Name as StateName};
 ghost use Rattle.md_engine.specs.declared.state.State.{State};
 ghost use Rattle.md_engine.specs.declared.state.definition.State.{State as DefinitionState};
-ghost use Rattle.md_link_definitions.specs.Definition.{behind_white};
+ghost use Rattle.md_link_definitions.specs.Definition.{following_white};
 ghost use Rattle.md_link_definitions.specs.Definition.{tries_part};
 ghost use Rattle.md_events.specs.Spaces.{ends_line, sees_white};
 ghost use Rattle.md_events.specs.Transition.{IsAt, NeedsNothing};
@@ -50,12 +50,12 @@ fn try_part(tokenizer: &mut Tokenizer, first: StateName, ok: State, nok: State) 
 }
 
 /// Takes whitespace, if some is here, and continues after it.
-fn behind_white(tokenizer: &mut Tokenizer, next: DefinitionState) -> State
+fn following_white(tokenizer: &mut Tokenizer, next: DefinitionState) -> State
     ensures to { result ≢ State.Error →
-        result ≡ (behind_white (world tokenizer.old) next (sees_white (world tokenizer.old).current)).to }
+        result ≡ (following_white (world tokenizer.old) next (sees_white (world tokenizer.old).current)).to }
     ensures world { result ≢ State.Error →
         world tokenizer.new ≡
-        (behind_white (world tokenizer.old) next (sees_white (world tokenizer.old).current)).world }
+        (following_white (world tokenizer.old) next (sees_white (world tokenizer.old).current)).world }
     ensures full { OnError result (IsFull tokenizer.new) }
 {
     if is_space_or_tab(tokenizer.current) {
@@ -81,7 +81,7 @@ pub fn start(tokenizer: &mut Tokenizer) -> State
     ensures { IsDefinitionState DefinitionState.Start (world tokenizer.old) result tokenizer.new }
 {
     if tokenizer.options.constructs.definition {
-        behind_white(tokenizer, DefinitionState::Before)
+        following_white(tokenizer, DefinitionState::Before)
     } else {
         State::Nok
     }
@@ -268,7 +268,7 @@ pub fn title_after(tokenizer: &mut Tokenizer) -> State
     requires { IsAt NeedsNothing (StateName.Definition DefinitionState.TitleAfter) (world tokenizer.old) }
     ensures { IsDefinitionState DefinitionState.TitleAfter (world tokenizer.old) result tokenizer.new }
 {
-    behind_white(tokenizer, DefinitionState::TitleAfterOptionalWhitespace)
+    following_white(tokenizer, DefinitionState::TitleAfterOptionalWhitespace)
 }
 
 /// After a title and the whitespace that follows it.
@@ -281,7 +281,8 @@ pub fn title_after(tokenizer: &mut Tokenizer) -> State
 pub fn title_after_optional_whitespace(tokenizer: &mut Tokenizer) -> State
     requires { IsAt NeedsNothing
         (StateName.Definition DefinitionState.TitleAfterOptionalWhitespace) (world tokenizer.old) }
-    ensures { IsSureDefinitionState DefinitionState.TitleAfterOptionalWhitespace (world tokenizer.old) result tokenizer.new }
+    ensures { IsSureDefinitionState DefinitionState.TitleAfterOptionalWhitespace (world tokenizer.old) result
+        tokenizer.new }
 {
     if ends_line(tokenizer.current) {
         State::Ok
@@ -303,7 +304,7 @@ pub fn after(tokenizer: &mut Tokenizer) -> State
     requires { IsAt NeedsNothing (StateName.Definition DefinitionState.After) (world tokenizer.old) }
     ensures { IsDefinitionState DefinitionState.After (world tokenizer.old) result tokenizer.new }
 {
-    behind_white(tokenizer, DefinitionState::AfterWhitespace)
+    following_white(tokenizer, DefinitionState::AfterWhitespace)
 }
 
 /// After the parts of the definition and the whitespace that follows them.

@@ -3,7 +3,7 @@
 
 ghost use Rattle.std.specs.Prelude.{◌≡◌, ◌^◌, ◌<◌, length};
 ghost use Rattle.md_meaning.specs.Rest.{indent};
-ghost use Rattle.md_link_definitions.specs.OpenText.{begun_rest, text_behind};
+ghost use Rattle.md_link_definitions.specs.OpenText.{begun_rest, text_following};
 ghost use Rattle.md_link_definitions.specs.Progress as stepped;
 
 use crate::head::head_columns;
@@ -41,9 +41,9 @@ fn further(leaf: HeldLeaf, text: &[u8]) -> Progress
 
 /// What is held of a text after one more line, which begins at this column, from 0, perhaps within a tab; the line
 /// meets this leaf. Most lines begin with no whitespace.
-pub fn text_behind(leaf: HeldLeaf, column: usize, cut: bool, line: &[u8]) -> HeldLeaf
+pub fn text_following(leaf: HeldLeaf, column: usize, cut: bool, line: &[u8]) -> HeldLeaf
     requires { length line.now < 2 ^ 61 }
-    ensures { result ≡ text_behind leaf (begun_rest column cut line.now) }
+    ensures { result ≡ text_following leaf (begun_rest column cut line.now) }
 {
     let (indent, text) = if cut || begins_white(line) {
         (indent(column, cut, line), trim_start(line))

@@ -38,8 +38,8 @@ fn are_few_plain(bytes: &[u8]) -> bool
     if bytes.len() < 8 {
         return are_plain_each(bytes);
     }
-    let (front, behind) = bytes.split_at(8);
-    are_plain_at_once(front) && are_plain_each(behind)
+    let (front, following) = bytes.split_at(8);
+    are_plain_at_once(front) && are_plain_each(following)
 }
 
 /// The same: 16 are compared at once, as often as there are so many.
@@ -48,11 +48,11 @@ fn are_plain(bytes: &[u8]) -> bool
 {
     let mut rest = bytes;
     while rest.len() >= 16 {
-        let (front, behind) = rest.split_at(16);
+        let (front, following) = rest.split_at(16);
         if !are_plain_at_once(front) {
             return false;
         }
-        rest = behind;
+        rest = following;
     }
     are_few_plain(rest)
 }

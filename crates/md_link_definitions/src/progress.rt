@@ -38,8 +38,8 @@ fn title_on(line: &[u8]) -> Progress
 }
 
 /// After a line, by what follows the destination on it.
-fn behind_destination(rest: &[u8]) -> Progress
-    ensures { result ≡ progress.behind_destination rest.now }
+fn after_destination(rest: &[u8]) -> Progress
+    ensures { result ≡ progress.after_destination rest.now }
 {
     if is_blank(rest) {
         Progress::Untitled
@@ -58,14 +58,14 @@ fn destination_on(line: &[u8]) -> Progress
         return Progress::Untitled;
     }
     match destination_at(line) {
-        Some(destination) => behind_destination(destination.rest),
+        Some(destination) => after_destination(destination.rest),
         None => Progress::Left,
     }
 }
 
 /// After a line, by what follows the `:` on it.
-fn behind_colon(rest: &[u8]) -> Progress
-    ensures { result ≡ progress.behind_colon rest.now }
+fn following_colon(rest: &[u8]) -> Progress
+    ensures { result ≡ progress.following_colon rest.now }
 {
     if is_blank(rest) {
         Progress::BeforeDestination
@@ -75,11 +75,11 @@ fn behind_colon(rest: &[u8]) -> Progress
 }
 
 /// After a line, by what follows the `]` on it.
-fn behind_label(rest: &[u8]) -> Progress
-    ensures { result ≡ progress.behind_label rest.now }
+fn after_label(rest: &[u8]) -> Progress
+    ensures { result ≡ progress.after_label rest.now }
 {
     if begins_with(b':', rest) {
-        behind_colon(after_optional(b':', rest))
+        following_colon(after_optional(b':', rest))
     } else {
         Progress::Left
     }
@@ -105,7 +105,7 @@ fn label_from(size: usize, filled: bool, line: &[u8]) -> Progress
 {
     match up_to_mark(b'[', b']', line) {
         Enclosed::Closed(text, rest) if is_filled(filled, text) && has_room(size, text) => {
-            behind_label(rest)
+            after_label(rest)
         }
         Enclosed::Open if has_room(size, line) => {
             Progress::InLabel(size + line.len(), is_filled(filled, line))

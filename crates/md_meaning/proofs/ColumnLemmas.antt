@@ -12,13 +12,13 @@ use Rattle.md_meaning.specs.Containers.{with_kind, footnote_label, item_by, item
 use Rattle.md_meaning.specs.Containers.{may_interrupt, opens, opens_footnote, opens_item, opens_quote, quote_taken}
 use Rattle.md_meaning.specs.Html.{HtmlKind, html_kind}
 use Rattle.md_meaning.specs.Leaves.{ParagraphContext, LeafResult, Finished, LazyText, NoText, Opened, Text, break_at}
-use Rattle.md_meaning.specs.Leaves.{code_at, code_goes_on, code_line, fence_at, fence_from, fence_goes_on, goes_on}
-use Rattle.md_meaning.specs.Leaves.{heading_at, heading_lines, heading_text, html_at, html_by, html_goes_on, is_free}
-use Rattle.md_meaning.specs.Leaves.{is_rule, is_run, starts, table_at, table_by, table_goes_on, underline_depth}
-use Rattle.md_meaning.specs.Leaves.{underlined, underlined_by, with_line}
+use Rattle.md_meaning.specs.Leaves.{code_at, code_continued, code_line, fence_at, fence_from, fence_continued}
+use Rattle.md_meaning.specs.Leaves.{is_continued, heading_at, heading_lines, heading_text, html_at, html_by}
+use Rattle.md_meaning.specs.Leaves.{html_continued, is_free, is_rule, is_run, starts, table_at, table_by}
+use Rattle.md_meaning.specs.Leaves.{table_continued, underline_depth, underlined, underlined_by, with_line}
 use Rattle.md_meaning.specs.Lines.{begins_with}
 use Rattle.md_meaning.specs.Preamble.{rest_at}
-use Rattle.md_meaning.specs.Rest.{Rest, behind, behind_indent, indent, is_blank, is_parted, is_small, line_of, lose}
+use Rattle.md_meaning.specs.Rest.{Rest, following, after_indent, indent, is_blank, is_parted, is_small, line_of, lose}
 use Rattle.md_meaning.specs.Rest.{run_len, trim, trim_start, white_columns}
 use Rattle.md_meaning.specs.State.{At, Container, InFootnote, InItem, InQuote, ParagraphLine, Leaf, NoLeaf, OpenCode}
 use Rattle.md_meaning.specs.State.{OpenFence, OpenHtml, OpenParagraph, OpenTable, Opening, Path, Innermost, Within}
@@ -74,10 +74,10 @@ lose-alike (suc n) c d (b ∷ bytes) h =
     go true space other = space
     go false space other = other
 
-behind_indent-alike : (c d : ℕ) (bytes : List ℕ) → NoTab bytes →
-    Alike (behind_indent (rest_at c bytes)) (behind_indent (rest_at d bytes))
-behind_indent-alike c d bytes h =
-    subst (λ (j : ℕ). Alike (behind_indent (rest_at c bytes)) (lose j (rest_at d bytes))) (indent-any c d bytes h)
+after_indent-alike : (c d : ℕ) (bytes : List ℕ) → NoTab bytes →
+    Alike (after_indent (rest_at c bytes)) (after_indent (rest_at d bytes))
+after_indent-alike c d bytes h =
+    subst (λ (j : ℕ). Alike (after_indent (rest_at c bytes)) (lose j (rest_at d bytes))) (indent-any c d bytes h)
     (lose-alike (indent (rest_at c bytes)) c d bytes h)
 
 line_of-alike : (r s : Rest) → Alike r s → line_of r ≡ line_of s
@@ -108,14 +108,14 @@ first-alike o p q s (taken container c d bytes h) k = taken container c d bytes 
 -- what is taken by the indent and by the rest after it
 at_indent : (F : ℕ → Rest → Option Taken) → ((k : ℕ) (r s : Rest) → Alike r s → BothTaken (F k r) (F k s)) →
     (c d : ℕ) (bytes : List ℕ) → NoTab bytes →
-    BothTaken (F (indent (rest_at c bytes)) (behind_indent (rest_at c bytes)))
-    (F (indent (rest_at d bytes)) (behind_indent (rest_at d bytes)))
+    BothTaken (F (indent (rest_at c bytes)) (after_indent (rest_at c bytes)))
+    (F (indent (rest_at d bytes)) (after_indent (rest_at d bytes)))
 at_indent F f c d bytes h =
     subst
     (λ (j : ℕ).
-    BothTaken (F (indent (rest_at c bytes)) (behind_indent (rest_at c bytes))) (F j (lose j (rest_at d bytes))))
+    BothTaken (F (indent (rest_at c bytes)) (after_indent (rest_at c bytes))) (F j (lose j (rest_at d bytes))))
     (indent-any c d bytes h)
-    (f (indent (rest_at c bytes)) (behind_indent (rest_at c bytes)) (lose (indent (rest_at c bytes)) (rest_at d bytes))
+    (f (indent (rest_at c bytes)) (after_indent (rest_at c bytes)) (lose (indent (rest_at c bytes)) (rest_at d bytes))
     (lose-alike (indent (rest_at c bytes)) c d bytes h))
 
 abbrev pub quote_from : ParseOptions → Option AlertKind → ℕ → Rest → Option Taken
@@ -152,13 +152,13 @@ pub alert-any : (options : ParseOptions) (c d : ℕ) (bytes : List ℕ) → NoTa
     alert_at options (rest_at c bytes) ≡ alert_at options (rest_at d bytes)
 unfolding alert_at
 alert-any options c d bytes h =
-    ap (λ (k : ℕ). alert_from options k (behind_indent (rest_at c bytes)).bytes) (indent-any c d bytes h)
+    ap (λ (k : ℕ). alert_from options k (after_indent (rest_at c bytes)).bytes) (indent-any c d bytes h)
     ∙ ap (alert_from options (indent (rest_at d bytes)))
-    (bytes-alike (behind_indent (rest_at c bytes)) (behind_indent (rest_at d bytes)) (behind_indent-alike c d bytes h))
+    (bytes-alike (after_indent (rest_at c bytes)) (after_indent (rest_at d bytes)) (after_indent-alike c d bytes h))
 
-behind-alike : (n : ℕ) (r s : Rest) → Alike r s → Alike (behind_indent (behind n r)) (behind_indent (behind n s))
-behind-alike n r s (alike c d bytes h) =
-    behind_indent-alike (c + n) (d + n) (drop n bytes) (no_tab-drop n bytes h)
+following-alike : (n : ℕ) (r s : Rest) → Alike r s → Alike (after_indent (following n r)) (after_indent (following n s))
+following-alike n r s (alike c d bytes h) =
+    after_indent-alike (c + n) (d + n) (drop n bytes) (no_tab-drop n bytes h)
 
 with_kind-alike : (options : ParseOptions) (o p : Option Taken) → BothTaken o p →
     BothTaken (with_kind options o) (with_kind options p)
@@ -176,7 +176,7 @@ with_kind-alike options o p (taken container c d bytes h) =
     go None = taken container c d bytes h
     go (Some kind) =
         taken-alike (InQuote (Some kind)) _ _
-        (behind-alike (length (marker_of kind)) _ _ (behind_indent-alike c d bytes h))
+        (following-alike (length (marker_of kind)) _ _ (after_indent-alike c d bytes h))
 
 item_continues-alike : (digits : List ℕ) (marker width : ℕ) (starts_blank : Bool) (c d : ℕ) (bytes : List ℕ) →
     NoTab bytes →
@@ -289,7 +289,7 @@ footnote_by-alike (Some l) c d bytes h =
     let n : ℕ = length l.label + 4 in
     when (nat_le 1 (length l.label) && nat_le (length l.label) 999 && begins_with 58 l.after) _ _
     (taken-alike (InFootnote l.label) _ _
-    (behind_indent-alike (c + n) (d + n) (drop n bytes) (no_tab-drop n bytes h)))
+    (after_indent-alike (c + n) (d + n) (drop n bytes) (no_tab-drop n bytes h)))
 
 abbrev pub footnote_from : ParseOptions → ℕ → Rest → Option Taken
 footnote_from options columns from =
@@ -395,10 +395,10 @@ abbrev code_on : List Line → List ℕ → ℕ → Line → Option LeafResult
 code_on lines bytes k line =
     if is_blank bytes || nat_le 4 k then Some (Opened (OpenCode (lines ++ line ∷ []))) else None
 
-code_goes_on-any : (lines : List Line) (c d : ℕ) (bytes : List ℕ) → NoTab bytes →
-    code_goes_on lines (rest_at c bytes) ≡ code_goes_on lines (rest_at d bytes)
-unfolding code_goes_on
-code_goes_on-any lines c d bytes h =
+code_continued-any : (lines : List Line) (c d : ℕ) (bytes : List ℕ) → NoTab bytes →
+    code_continued lines (rest_at c bytes) ≡ code_continued lines (rest_at d bytes)
+unfolding code_continued
+code_continued-any lines c d bytes h =
     ap (λ (k : ℕ). code_on lines bytes k (code_line (rest_at c bytes))) (indent-any c d bytes h)
     ∙ ap (code_on lines bytes (indent (rest_at d bytes))) (lost-any 4 c d bytes h)
 
@@ -409,39 +409,39 @@ fence_on options o lines bytes k line =
     then Finished (fence_block o lines true)
     else Opened (OpenFence o (lines ++ line ∷ []))
 
-fence_goes_on-any : (options : ParseOptions) (o : Opening) (lines : List Line) (c d : ℕ) (bytes : List ℕ) →
-    NoTab bytes → fence_goes_on options o lines (rest_at c bytes) ≡ fence_goes_on options o lines (rest_at d bytes)
-unfolding fence_goes_on
-fence_goes_on-any options o lines c d bytes h =
+fence_continued-any : (options : ParseOptions) (o : Opening) (lines : List Line) (c d : ℕ) (bytes : List ℕ) →
+    NoTab bytes → fence_continued options o lines (rest_at c bytes) ≡ fence_continued options o lines (rest_at d bytes)
+unfolding fence_continued
+fence_continued-any options o lines c d bytes h =
     ap (λ (k : ℕ). fence_on options o lines bytes k (line_of (lose o.indent (rest_at c bytes))))
     (indent-any c d bytes h)
     ∙ ap (fence_on options o lines bytes (indent (rest_at d bytes))) (lost-any o.indent c d bytes h)
 
-html_goes_on-any : (kind : HtmlKind) (lines : List Line) (c d : ℕ) (bytes : List ℕ) →
-    html_goes_on kind lines (rest_at c bytes) ≡ html_goes_on kind lines (rest_at d bytes)
-unfolding html_goes_on
-html_goes_on-any kind lines c d bytes = refl
+html_continued-any : (kind : HtmlKind) (lines : List Line) (c d : ℕ) (bytes : List ℕ) →
+    html_continued kind lines (rest_at c bytes) ≡ html_continued kind lines (rest_at d bytes)
+unfolding html_continued
+html_continued-any kind lines c d bytes = refl
 
-table_goes_on-any : (options : ParseOptions) (delimiter : List ℕ) (rows : List (List (List ℕ))) (c d : ℕ)
+table_continued-any : (options : ParseOptions) (delimiter : List ℕ) (rows : List (List (List ℕ))) (c d : ℕ)
     (bytes : List ℕ) →
     NoTab bytes →
-    table_goes_on options delimiter rows (rest_at c bytes) ≡ table_goes_on options delimiter rows (rest_at d bytes)
-unfolding table_goes_on
-table_goes_on-any options delimiter rows c d bytes h =
+    table_continued options delimiter rows (rest_at c bytes) ≡ table_continued options delimiter rows (rest_at d bytes)
+unfolding table_continued
+table_continued-any options delimiter rows c d bytes h =
     ap
     (λ (o : Option LeafResult).
     if is_blank bytes || is_some o then None else Some (Opened (OpenTable delimiter (rows ++ row_cells bytes ∷ []))))
     (starts-any options NoText c d bytes h)
 
-goes_on-any : (options : ParseOptions) (leaf : Leaf) (c d : ℕ) (bytes : List ℕ) → NoTab bytes →
-    goes_on options leaf (rest_at c bytes) ≡ goes_on options leaf (rest_at d bytes)
-goes_on-any options NoLeaf c d bytes h = refl
-goes_on-any options (OpenParagraph lines) c d bytes h = refl
-goes_on-any options (OpenCode lines) c d bytes h = code_goes_on-any lines c d bytes h
-goes_on-any options (OpenFence o lines) c d bytes h =
-    ap (λ (x : LeafResult). Some x) (fence_goes_on-any options o lines c d bytes h)
-goes_on-any options (OpenHtml kind lines) c d bytes h = html_goes_on-any kind lines c d bytes
-goes_on-any options (OpenTable delimiter rows) c d bytes h = table_goes_on-any options delimiter rows c d bytes h
+is_continued-any : (options : ParseOptions) (leaf : Leaf) (c d : ℕ) (bytes : List ℕ) → NoTab bytes →
+    is_continued options leaf (rest_at c bytes) ≡ is_continued options leaf (rest_at d bytes)
+is_continued-any options NoLeaf c d bytes h = refl
+is_continued-any options (OpenParagraph lines) c d bytes h = refl
+is_continued-any options (OpenCode lines) c d bytes h = code_continued-any lines c d bytes h
+is_continued-any options (OpenFence o lines) c d bytes h =
+    ap (λ (x : LeafResult). Some x) (fence_continued-any options o lines c d bytes h)
+is_continued-any options (OpenHtml kind lines) c d bytes h = html_continued-any kind lines c d bytes
+is_continued-any options (OpenTable delimiter rows) c d bytes h = table_continued-any options delimiter rows c d bytes h
 
 underline_depth-any : (options : ParseOptions) (c d : ℕ) (bytes : List ℕ) → NoTab bytes →
     underline_depth options (rest_at c bytes) ≡ underline_depth options (rest_at d bytes)
@@ -539,11 +539,11 @@ on_or_fresh-any options s None c d bytes h = fresh_line-any options (shut option
 
 -- with what an open leaf that is no paragraph becomes
 leaf_on-any : (options : ParseOptions) (s : Innermost) (leaf : Leaf) (c d : ℕ) (bytes : List ℕ) → NoTab bytes →
-    on_or_fresh options s (rest_at c bytes) (goes_on options leaf (rest_at c bytes)) ≡
-    on_or_fresh options s (rest_at d bytes) (goes_on options leaf (rest_at d bytes))
+    on_or_fresh options s (rest_at c bytes) (is_continued options leaf (rest_at c bytes)) ≡
+    on_or_fresh options s (rest_at d bytes) (is_continued options leaf (rest_at d bytes))
 leaf_on-any options s leaf c d bytes h =
-    ap (on_or_fresh options s (rest_at c bytes)) (goes_on-any options leaf c d bytes h)
-    ∙ on_or_fresh-any options s (goes_on options leaf (rest_at d bytes)) c d bytes h
+    ap (on_or_fresh options s (rest_at c bytes)) (is_continued-any options leaf c d bytes h)
+    ∙ on_or_fresh-any options s (is_continued options leaf (rest_at d bytes)) c d bytes h
 
 leaf_line_by-any : (options : ParseOptions) (s : Innermost) (leaf : Leaf) (c d : ℕ) (bytes : List ℕ) → NoTab bytes →
     leaf_line_by options s (rest_at c bytes) leaf ≡ leaf_line_by options s (rest_at d bytes) leaf

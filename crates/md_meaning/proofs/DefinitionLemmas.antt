@@ -174,11 +174,11 @@ pub length-definition_at : (lines : List (List ℕ)) (cut : Cut) → definition_
 unfolding definition_at
 length-definition_at lines cut e = go (label_at lines) refl e
   where
-    behind : (label : Lines) → label_at lines ≡ Some label → (more : Option (List (List ℕ))) →
+    following : (label : Lines) → label_at lines ≡ Some label → (more : Option (List (List ℕ))) →
         after_colon label.rest ≡ more →
         (elim more [ Some more ↦ with_destination label.text (after_gap more) | None ↦ None ]) ≡ Some cut →
         length cut.rest < length lines
-    behind label g (Some more) h f =
+    following label g (Some more) h f =
         omega (
           arith,
           length-label_at lines label g,
@@ -186,7 +186,7 @@ length-definition_at lines cut e = go (label_at lines) refl e
           length-after_gap more,
           length-with_destination label.text (after_gap more) cut f,
         )
-    behind label g None h f = cc
+    following label g None h f = cc
 
     go : (label : Option Lines) → label_at lines ≡ label → (elim label [
       | Some label ↦ elim (after_colon label.rest) [
@@ -196,7 +196,7 @@ length-definition_at lines cut e = go (label_at lines) refl e
       | None ↦ None
     ]) ≡ Some cut → length cut.rest < length lines
     go None g f = cc
-    go (Some label) g f = behind label g (after_colon label.rest) refl f
+    go (Some label) g f = following label g (after_colon label.rest) refl f
 
 -- at most so many definitions after the first
 abbrev then_cut : ℕ → List (List ℕ) → Option Cut → List Defined × List (List ℕ)

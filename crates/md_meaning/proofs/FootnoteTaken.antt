@@ -3,7 +3,7 @@ use Rattle.std.proofs.Common.{ℕ, ◌+◌, false, List, [], ◌∷◌, length, 
 use Rattle.std.proofs.lemmas.List.{length-drop}
 use Rattle.md_engine.specs.declared.configuration.ParseOptions.{ParseOptions}
 use Rattle.md_meaning.specs.Containers.{Labelled, footnote_by, footnote_label}
-use Rattle.md_meaning.specs.Rest.{Rest, behind, indent}
+use Rattle.md_meaning.specs.Rest.{Rest, following, indent}
 use Rattle.md_meaning.proofs.ColumnLemmas.{footnote_from}
 use Rattle.md_meaning.proofs.TakenLemmas.{Leaves, LeavesFewer, length-lose}
 use Rattle.md_meaning.proofs.FindsLemmas.{none-found, some-found, when-found}
@@ -20,6 +20,6 @@ footnote-leaves options k column spaces (b ∷ bytes) =
     go None = none-found (Leaves _)
     go (Some l) =
         let n : ℕ = length l.label + 4 in
-        let from : Rest = behind n (record { column = column; spaces = spaces; bytes = b ∷ bytes }) in
+        let from : Rest = following n (record { column = column; spaces = spaces; bytes = b ∷ bytes }) in
         when-found (Leaves _) _ _
         (λ e. some-found (Leaves _) _ (omega (arith, length-lose (indent from) from, length-drop n (b ∷ bytes))))

@@ -3,7 +3,7 @@ use Rattle.std.proofs.Common.{ℕ, ◌+◌, Bool, List, [], ◌∷◌, length, O
 use Rattle.std.proofs.lemmas.List.{length-drop}
 use Rattle.md_engine.specs.declared.configuration.ParseOptions.{ParseOptions}
 use Rattle.md_meaning.specs.Containers.{Marker, item_by, item_padding, list_marker}
-use Rattle.md_meaning.specs.Rest.{Rest, behind}
+use Rattle.md_meaning.specs.Rest.{Rest, following}
 use Rattle.md_meaning.proofs.ColumnLemmas.{item_from}
 use Rattle.md_meaning.proofs.TakenLemmas.{Leaves, LeavesFewer, length-lose}
 use Rattle.md_meaning.proofs.FindsLemmas.{none-found, some-found, when-found}
@@ -22,7 +22,7 @@ item-leaves options interrupting k column spaces (b ∷ bytes) =
     go None = none-found (Leaves _)
     go (Some marker) =
         let n : ℕ = length marker.digits + 1 in
-        let after : Rest = behind n (record { column = column; spaces = spaces; bytes = b ∷ bytes }) in
+        let after : Rest = following n (record { column = column; spaces = spaces; bytes = b ∷ bytes }) in
         when-found (Leaves _) _ _
         (λ e.
         some-found (Leaves _) _ (omega (arith, length-lose (item_padding after) after, length-drop n (b ∷ bytes))))

@@ -18,7 +18,7 @@ use Rattle.md_meaning.specs.State.{InItem}
 use Rattle.md_meaning.specs.Tree.{Blocks, End, Item, ListOf, More}
 use Rattle.md_meaning.specs.Wrapped.{IsItemOf, NestsInItem, itemised}
 use Rattle.md_meaning.proofs.PrefixedLines.{first-line}
-use Rattle.md_meaning.proofs.WrapLaw.{GoesOn, Opens, Wrap, Wraps, labels-alone, wrap-law}
+use Rattle.md_meaning.proofs.WrapLaw.{IsContinued, Opens, Wrap, Wraps, labels-alone, wrap-law}
 
 -- an item of width 2 whose first line is not blank
 abbrev item_wrap : Wrap
@@ -50,9 +50,9 @@ item-opens options b bytes on white =
     refl
 
 -- it continues, whether the line is blank or not
-item-goes_on : (options : ParseOptions) (line : List ℕ) → GoesOn options item_wrap line
+item-is_continued : (options : ParseOptions) (line : List ℕ) → IsContinued options item_wrap line
 unfolding item_continues
-item-goes_on options line =
+item-is_continued options line =
     ap (λ (t : Bool). cond t (Some (record { container = InItem [] plus 2 false; rest = rest_at 2 line })) None)
     (go (is_blank line) (white_columns 2 line))
   where
@@ -68,7 +68,7 @@ item-wraps options b bytes on white = record {
   no_front = λ bytes. refl;
   is_prefix = (refl, (refl, tt));
   opens = item-opens options b bytes on white;
-  goes_on = item-goes_on options;
+  is_continued = item-is_continued options;
 }
 
 -- `+ ` before the first line of a text without tabs, mark and frontmatter, and two spaces before each other, put its

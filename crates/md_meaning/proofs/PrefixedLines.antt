@@ -68,11 +68,11 @@ full_lines_of-prefixed : (first further : List ℕ) (lines : List (List ℕ)) �
     full_lines_of (concat (prefixed first further lines)) ≡ prefixed first further lines
 full_lines_of-prefixed first further [] h e = refl
 full_lines_of-prefixed first further (line ∷ lines) h e =
-    let behind : List (List ℕ) = map (λ l. further ++ l) lines in
-    ap full_lines_of (append_assoc first line (concat behind))
-    ∙ full_lines_of-prefix first (line ++ concat behind) h
+    let following : List (List ℕ) = map (λ l. further ++ l) lines in
+    ap full_lines_of (append_assoc first line (concat following))
+    ∙ full_lines_of-prefix first (line ++ concat following) h
     ∙ ap (onto first) e
-    ∙ onto-line first line behind
+    ∙ onto-line first line following
 
 -- a prefix comes after an ending, and no line feed
 not_fed : (further : List ℕ) (lines : List (List ℕ)) → IsLinePrefix further →
@@ -104,8 +104,8 @@ splits-ended : (further : List ℕ) (b : ℕ) (bytes : List ℕ) → IsLinePrefi
     Splits further ((b ∷ []) ∷ full_lines_of bytes) (b == 10)
 splits-ended further b bytes p h e =
     let lines : List (List ℕ) = full_lines_of bytes in
-    let behind : List ℕ = concat (map (λ l. further ++ l) lines) in (
-      ap (λ (t : Bool). cond t ((b ∷ []) ∷ full_lines_of behind) (onto_first b (full_lines_of behind)))
+    let following : List ℕ = concat (map (λ l. further ++ l) lines) in (
+      ap (λ (t : Bool). cond t ((b ∷ []) ∷ full_lines_of following) (onto_first b (full_lines_of following)))
           (ends-before_prefix further b bytes lines p e)
           ∙ ap (λ (ls : List (List ℕ)). (b ∷ []) ∷ ls)
           (subst (λ (ls : List (List ℕ)). full_lines_of (concat ls) ≡ ls) (prefixed-all further lines)
@@ -118,12 +118,12 @@ splits-inside : (further : List ℕ) (b : ℕ) (bytes : List ℕ) →
     Splits further (onto_first b (full_lines_of bytes)) (b == 10)
 splits-inside further b bytes h e =
     let lines : List (List ℕ) = prefixed [] further (full_lines_of bytes) in
-    let behind : List ℕ = concat lines in
-    let same : ends_line b behind ≡ false = ap (λ (z : Bool). (b == 10) || ((b == 13) && not z)) h.1 ∙ e in
+    let following : List ℕ = concat lines in
+    let same : ends_line b following ≡ false = ap (λ (z : Bool). (b == 10) || ((b == 13) && not z)) h.1 ∙ e in
     subst (λ (ls : List (List ℕ)). (full_lines_of (concat ls) ≡ ls) × (begins_with 10 (concat ls) ≡ (b == 10)))
     (sym (prefixed-onto further b (full_lines_of bytes))) (
       ap full_lines_of (concat-onto b lines)
-          ∙ ap (λ (t : Bool). cond t ((b ∷ []) ∷ full_lines_of behind) (onto_first b (full_lines_of behind))) same
+          ∙ ap (λ (t : Bool). cond t ((b ∷ []) ∷ full_lines_of following) (onto_first b (full_lines_of following))) same
           ∙ ap (onto_first b) h.0,
       ap (begins_with 10) (concat-onto b lines),
     )

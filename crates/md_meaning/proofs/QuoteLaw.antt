@@ -16,7 +16,7 @@ use Rattle.md_meaning.specs.Wrapped.{IsQuoteOf, NestsInQuote, quoted}
 use Rattle.md_meaning.proofs.AlertLemmas.{no-alert}
 use Rattle.md_meaning.proofs.PrefixedLines.{NoTabs, no_tab-lines, some-line}
 use Rattle.md_meaning.proofs.ColumnLemmas.{NoTab, alert-any}
-use Rattle.md_meaning.proofs.WrapLaw.{GoesOn, Opens, Wrap, Wraps, labels-alone, wrap-law}
+use Rattle.md_meaning.proofs.WrapLaw.{IsContinued, Opens, Wrap, Wraps, labels-alone, wrap-law}
 
 abbrev quote_wrap : Wrap
 quote_wrap = record { container = InQuote None; first = greater_than ∷ space ∷ []; further = greater_than ∷ space ∷ [] }
@@ -27,9 +27,9 @@ quote-opens : (options : ParseOptions) (line : List ℕ) → options.constructs.
 unfolding opens_quote quote_taken alert_at
 quote-opens options line on no_alert = rw (on, or-true (not options.constructs.code_indented), no_alert) refl
 
-quote-goes_on : (options : ParseOptions) (line : List ℕ) → GoesOn options quote_wrap line
+quote-is_continued : (options : ParseOptions) (line : List ℕ) → IsContinued options quote_wrap line
 unfolding quote_taken
-quote-goes_on options line = rw (or-true (not options.constructs.code_indented)) refl
+quote-is_continued options line = rw (or-true (not options.constructs.code_indented)) refl
 
 quote-wraps : (options : ParseOptions) (line : List ℕ) → options.constructs.block_quote ≡ true →
     alert_at options (rest_at 2 line) ≡ None → Wraps options quote_wrap line
@@ -39,7 +39,7 @@ quote-wraps options line on no_alert = record {
   no_front = λ bytes. refl;
   is_prefix = (refl, (refl, tt));
   opens = quote-opens options line on no_alert;
-  goes_on = quote-goes_on options;
+  is_continued = quote-is_continued options;
 }
 
 -- `> ` before each line of a text without tabs, mark and frontmatter, whose first line is no marker of a kind, puts its

@@ -7,7 +7,7 @@ use Rattle.md_meaning.specs.declared.alert.AlertKind.{AlertKind}
 use Rattle.md_meaning.specs.Alert.{alert_at, marker_of}
 use Rattle.md_meaning.specs.Containers.{Taken, taken_as, with_kind}
 use Rattle.md_meaning.specs.Preamble.{rest_at}
-use Rattle.md_meaning.specs.Rest.{Rest, behind, behind_indent, indent, lose}
+use Rattle.md_meaning.specs.Rest.{Rest, following, after_indent, indent, lose}
 use Rattle.md_meaning.specs.State.{InQuote}
 use Rattle.md_meaning.proofs.ColumnLemmas.{quote_from}
 use Rattle.md_meaning.proofs.TakenLemmas.{Leaves, LeavesFewer, length-lose}
@@ -34,8 +34,8 @@ kind-leaves options (Some t) n h = go (alert_at options t.rest)
     go : (a : Option AlertKind) → LeavesFewer (Some (taken_as t a)) n
     go None = h
     go (Some kind) =
-        let marker : Rest = behind_indent t.rest in
-        let after : Rest = behind (length (marker_of kind)) marker in
+        let marker : Rest = after_indent t.rest in
+        let after : Rest = following (length (marker_of kind)) marker in
         some-found (Leaves n) _
         (omega (
           arith,

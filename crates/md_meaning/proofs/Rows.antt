@@ -18,8 +18,8 @@ use Rattle.md_meaning.specs.State.{shut_paragraph}
 use Rattle.md_meaning.specs.Preamble.{front_of}
 use Rattle.md_meaning.specs.Containers.{quote_taken, item_continues, footnote_continues, opens_quote, opens_item}
 use Rattle.md_meaning.specs.Containers.{opens_footnote}
-use Rattle.md_meaning.specs.Leaves.{break_at, heading_at, code_at, code_goes_on, fence_at, fence_goes_on, html_at}
-use Rattle.md_meaning.specs.Leaves.{html_goes_on, starts, table_goes_on, underline_depth, underlined, table_at}
+use Rattle.md_meaning.specs.Leaves.{break_at, heading_at, code_at, code_continued, fence_at, fence_continued, html_at}
+use Rattle.md_meaning.specs.Leaves.{html_continued, starts, table_continued, underline_depth, underlined, table_at}
 use Rattle.md_meaning.specs.Step.{fresh_line, text_line, all_continued, stopped}
 use Rattle.md_meaning.specs.Meaning.{tree}
 
@@ -98,7 +98,7 @@ record Rows : Type 0 where
   alert_note : tree alerting (text_of (codes "> [!note]  " ∷ codes "> a" ∷ [])) ≡
       blocks (alert kind.Note (paragraph a ∷ []) ∷ [])
   alert_not_lazy : tree alerting (text_of (codes "> [!NOTE]" ∷ b ∷ [])) ≡ blocks (alert kind.Note [] ∷ paragraph b ∷ [])
-  alert_no_text_behind : tree alerting (codes "> [!NOTE] a") ≡ blocks (quote (paragraph (codes "[!NOTE] a") ∷ []) ∷ [])
+  alert_no_text_after : tree alerting (codes "> [!NOTE] a") ≡ blocks (quote (paragraph (codes "[!NOTE] a") ∷ []) ∷ [])
   alert_first_line_alone : tree alerting (text_of (codes "> a" ∷ codes "> [!TIP]" ∷ [])) ≡
       blocks (quote (paragraph_2 a (codes "[!TIP]") ∷ []) ∷ [])
   alert_one_marker : tree alerting (text_of (codes "> [!NOTE]" ∷ codes "> [!TIP]" ∷ [])) ≡
@@ -123,7 +123,7 @@ record Rows : Type 0 where
   blank_item : tree plain (text_of (codes "-" ∷ [] ∷ codes "  a" ∷ [])) ≡
       blocks (bullets (bullet [] ∷ []) ∷ paragraph a ∷ [])
   number_two : tree plain (text_of (a ∷ codes "2. b" ∷ [])) ≡ blocks (paragraph_2 a (codes "2. b") ∷ [])
-  number_behind_quote : tree plain (text_of (codes "> a" ∷ codes "2. b" ∷ [])) ≡
+  number_after_quote : tree plain (text_of (codes "> a" ∷ codes "2. b" ∷ [])) ≡
       blocks (quote (paragraph a ∷ []) ∷ ListOf 46 (blocks (Item 46 (50 ∷ []) (blocks (paragraph b ∷ [])) ∷ [])) ∷ [])
   break_no_item : tree plain (codes "* * *") ≡ blocks (Break ∷ [])
   -- tabs
@@ -168,7 +168,7 @@ record Rows : Type 0 where
   underline_as_line : tree plain (text_of (codes "[a]: b" ∷ codes "=" ∷ c ∷ codes "=" ∷ [])) ≡
       blocks (Definition (a ∷ []) b None ∷ Heading 1 (codes "=" ∷ c ∷ []) ∷ [])
   -- tables
-  table_behind_text : tree extended (text_of (a ∷ codes "b | c" ∷ codes "-|-" ∷ codes "| a" ∷ [])) ≡
+  table_after_text : tree extended (text_of (a ∷ codes "b | c" ∷ codes "-|-" ∷ codes "| a" ∷ [])) ≡
       blocks (paragraph a ∷ Table (codes "-|-") ((b ∷ c ∷ []) ∷ (a ∷ []) ∷ []) ∷ [])
   head_before_definition : tree extended (text_of (codes "[a]:b" ∷ codes ":-" ∷ [])) ≡
       blocks (Table (codes ":-") ((codes "[a]:b" ∷ []) ∷ []) ∷ [])
@@ -182,7 +182,8 @@ unfolding is_raw_name is_basic_name begins_raw begins_basic after_value after_as
     begins_complete kind_after html_kind is_raw_end html_ends enclosed enclosed_lines label_at balanced destination_at
     title_at definition_at cut_at_most cut_definitions pieces row_cells is_head delimiter_columns shut_paragraph
     front_of alert_at quote_taken item_continues footnote_continues opens_quote opens_item opens_footnote break_at
-    heading_at code_at code_goes_on fence_at fence_goes_on html_at html_goes_on starts table_goes_on underline_depth
+    heading_at code_at code_continued fence_at fence_continued html_at html_continued starts table_continued
+    underline_depth
     underlined table_at fresh_line text_line all_continued stopped
 rows = record {
   lazy = refl;
@@ -192,7 +193,7 @@ rows = record {
   blank_in_quote = refl;
   alert_note = refl;
   alert_not_lazy = refl;
-  alert_no_text_behind = refl;
+  alert_no_text_after = refl;
   alert_first_line_alone = refl;
   alert_one_marker = refl;
   alert_small_indent = refl;
@@ -205,7 +206,7 @@ rows = record {
   nested_items = refl;
   blank_item = refl;
   number_two = refl;
-  number_behind_quote = refl;
+  number_after_quote = refl;
   break_no_item = refl;
   cut_tab = refl;
   tab_in_item = refl;
@@ -226,7 +227,7 @@ rows = record {
   tag_lazy = refl;
   definition = refl;
   underline_as_line = refl;
-  table_behind_text = refl;
+  table_after_text = refl;
   head_before_definition = refl;
   lazy_head = refl;
   endings = refl;

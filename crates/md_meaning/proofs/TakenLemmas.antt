@@ -3,7 +3,7 @@ use Rattle.std.proofs.Common.{ℕ, zero, suc, ◌+◌, ◌-◌, ◌%◌, ◌<◌
 use Rattle.std.proofs.Common.{length, Option, arith}
 use Rattle.md_meaning.specs.Containers.{Taken}
 use Rattle.md_meaning.specs.Preamble.{rest_at}
-use Rattle.md_meaning.specs.Rest.{Rest, behind_indent, indent, lose, without_column}
+use Rattle.md_meaning.specs.Rest.{Rest, after_indent, indent, lose, without_column}
 use Rattle.md_meaning.proofs.FindsLemmas.{Finds}
 
 length-without_column : (column spaces : ℕ) (bytes : List ℕ) →
@@ -38,6 +38,6 @@ abbrev pub LeavesFewer : Option Taken → ℕ → Type 0
 LeavesFewer o n = Finds o (Leaves n)
 
 -- what is taken after an indent leaves fewer bytes than the line has
-pub behind-leaves : (o : Option Taken) (r : Rest) → LeavesFewer o (length (behind_indent r).bytes) →
+pub following-leaves : (o : Option Taken) (r : Rest) → LeavesFewer o (length (after_indent r).bytes) →
     LeavesFewer o (length r.bytes)
-behind-leaves o r h = λ t e. omega (arith, h t e, length-lose (indent r) r)
+following-leaves o r h = λ t e. omega (arith, h t e, length-lose (indent r) r)

@@ -82,8 +82,8 @@ abbrev pub Opens : ParseOptions → Wrap → List ℕ → Type 0
 Opens options w line = opens options false (rest_at 0 (w.first ++ line)) ≡ takes w w.first line
 
 -- it continues before this line
-abbrev pub GoesOn : ParseOptions → Wrap → List ℕ → Type 0
-GoesOn options w line = continues options w.container (rest_at 0 (w.further ++ line)) ≡ takes w w.further line
+abbrev pub IsContinued : ParseOptions → Wrap → List ℕ → Type 0
+IsContinued options w line = continues options w.container (rest_at 0 (w.further ++ line)) ≡ takes w w.further line
 
 -- The first prefix begins neither a mark nor frontmatter, and opens the container before this line; with the further
 -- one it continues before every line.
@@ -93,7 +93,7 @@ pub record Wraps (options : ParseOptions) (w : Wrap) (line : List ℕ) : Type 0 
   pub no_front : (bytes : List ℕ) → front_marker (w.first ++ bytes) ≡ None
   pub is_prefix : IsLinePrefix w.further
   pub opens : Opens options w line
-  pub goes_on : (other : List ℕ) → GoesOn options w other
+  pub is_continued : (other : List ℕ) → IsContinued options w other
 
 -- The lines in the container.
 
@@ -107,22 +107,22 @@ step-first options w line it_opens h =
     (opened-step options (length line) (rest_at (length w.first) line) (omega arith)
     ∙ step-any options (At (spot_of End)) (length w.first) 0 line h)
 
-step-inside : (options : ParseOptions) (w : Wrap) (p : Path) (line : List ℕ) → GoesOn options w line → NoTab line →
+step-inside : (options : ParseOptions) (w : Wrap) (p : Path) (line : List ℕ) → IsContinued options w line → NoTab line →
     step options (Within End w.container p) (rest_at 0 (w.further ++ line)) ≡
     Within End w.container (step options p (rest_at 0 line))
-step-inside options w p line goes h =
-    ap (step_by options End w.container p (rest_at 0 (w.further ++ line))) goes
+step-inside options w p line proceeds h =
+    ap (step_by options End w.container p (rest_at 0 (w.further ++ line))) proceeds
     ∙ ap (Within End w.container) (step-any options p (length w.further) 0 line h)
 
 steps-inside : (options : ParseOptions) (w : Wrap) (p : Path) (lines : List (List ℕ)) →
-    ((line : List ℕ) → GoesOn options w line) → NoTabs lines →
+    ((line : List ℕ) → IsContinued options w line) → NoTabs lines →
     steps options (Within End w.container p) (map (rest_at 0) (map (λ l. w.further ++ l) lines)) ≡
     Within End w.container (steps options p (map (rest_at 0) lines))
-steps-inside options w p [] goes h = refl
-steps-inside options w p (line ∷ lines) goes h =
+steps-inside options w p [] proceeds h = refl
+steps-inside options w p (line ∷ lines) proceeds h =
     ap (λ (q : Path). steps options q (map (rest_at 0) (map (λ l. w.further ++ l) lines)))
-    (step-inside options w p line (goes line) h.0)
-    ∙ steps-inside options w (step options p (rest_at 0 line)) lines goes h.1
+    (step-inside options w p line (proceeds line) h.0)
+    ∙ steps-inside options w (step options p (rest_at 0 line)) lines proceeds h.1
 
 after_lines-prefixed : (options : ParseOptions) (w : Wrap) (line : List ℕ) (lines : List (List ℕ)) →
     Wraps options w line → NoTabs (line ∷ lines) →
@@ -131,7 +131,7 @@ after_lines-prefixed : (options : ParseOptions) (w : Wrap) (line : List ℕ) (li
 after_lines-prefixed options w line lines wraps h =
     ap (λ (q : Path). steps options q (map (rest_at 0) (map (λ l. w.further ++ l) lines)))
     (step-first options w line wraps.opens h.0)
-    ∙ steps-inside options w (step options (At (spot_of End)) (rest_at 0 line)) lines wraps.goes_on h.1
+    ∙ steps-inside options w (step options (At (spot_of End)) (rest_at 0 line)) lines wraps.is_continued h.1
 
 -- Whole texts.
 
@@ -139,8 +139,8 @@ has_mark-prefixed : (first further : List ℕ) (lines : List (List ℕ)) →
     ((bytes : List ℕ) → has_mark (first ++ bytes) ≡ false) → has_mark (concat (prefixed first further lines)) ≡ false
 has_mark-prefixed first further [] no_mark = refl
 has_mark-prefixed first further (line ∷ lines) no_mark =
-    let behind : List ℕ = concat (map (λ l. further ++ l) lines) in
-    ap has_mark (append_assoc first line behind) ∙ no_mark (line ++ behind)
+    let following : List ℕ = concat (map (λ l. further ++ l) lines) in
+    ap has_mark (append_assoc first line following) ∙ no_mark (line ++ following)
 
 front_of-prefixed : (options : ParseOptions) (first further : List ℕ) (lines : List (List ℕ)) →
     ((bytes : List ℕ) → front_marker (first ++ bytes) ≡ None) →

@@ -7,7 +7,7 @@ use Rattle.md_engine.specs.declared.configuration.ParseOptions.{ParseOptions}
 use Rattle.md_meaning.specs.declared.alert.AlertKind.{AlertKind}
 use Rattle.md_meaning.specs.declared.alert.AlertKind.TheVariants as kind
 use Rattle.md_meaning.specs.Preamble.{rest_at}
-use Rattle.md_meaning.specs.Rest.{Rest, behind_indent, has_small_indent, is_blank}
+use Rattle.md_meaning.specs.Rest.{Rest, after_indent, has_small_indent, is_blank}
 
 abbrev pub kinds : List AlertKind
 kinds = kind.Note ∷ kind.Tip ∷ kind.Important ∷ kind.Warning ∷ kind.Caution ∷ []
@@ -41,7 +41,7 @@ is_marker bytes = is_some (first_kind (λ kind. str_eq_ignore_ascii_case (marker
 unfoldable pub alert_at : ParseOptions → Rest → Option AlertKind
 alert_at options r =
     if options.constructs.alerts && has_small_indent options r
-    then first_kind (λ kind. is_marked kind (behind_indent r).bytes) kinds
+    then first_kind (λ kind. is_marked kind (after_indent r).bytes) kinds
     else None
 
 -- the kind of the first line of a text, if it is such a marker

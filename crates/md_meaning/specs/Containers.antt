@@ -7,8 +7,8 @@ use Rattle.md_engine.specs.declared.configuration.ParseOptions.{ParseOptions}
 use Rattle.md_meaning.specs.declared.alert.AlertKind.{AlertKind}
 use Rattle.md_meaning.specs.Alert.{alert_at, marker_of}
 use Rattle.md_meaning.specs.Lines.{begins_with}
-use Rattle.md_meaning.specs.Rest.{Rest, is_white, is_blank, is_parted, indent, has_small_indent, lose, behind_indent}
-use Rattle.md_meaning.specs.Rest.{behind}
+use Rattle.md_meaning.specs.Rest.{Rest, is_white, is_blank, is_parted, indent, has_small_indent, lose, after_indent}
+use Rattle.md_meaning.specs.Rest.{following}
 use Rattle.md_meaning.specs.State.{Container, InQuote, InItem, InFootnote}
 use Rattle.md_meaning.specs.Leaves.{is_rule}
 use Rattle.md_meaning.specs.Ascii.{asterisk, backslash, caret, colon, dot, greater_than, hyphen, left_bracket, plus}
@@ -22,9 +22,9 @@ pub record Taken : Type 0 where
 -- a quote's prefix: a small indent, `>`, and one column of whitespace if there is one (CommonMark 5.1)
 unfoldable pub quote_taken : ParseOptions → Option AlertKind → Rest → Option Taken
 quote_taken options kind r =
-    let marker = behind_indent r in
+    let marker = after_indent r in
     if has_small_indent options r && begins_with greater_than marker.bytes
-    then Some (record { container = InQuote kind; rest = lose 1 (behind 1 marker) })
+    then Some (record { container = InQuote kind; rest = lose 1 (following 1 marker) })
     else None
 
 -- a nonblank line continues an item if it is indented by its width; a blank line does, unless it comes directly after a
@@ -53,7 +53,7 @@ abbrev pub taken_as : Taken → Option AlertKind → Taken
 taken_as t None = t
 taken_as t (Some kind) = record {
   container = InQuote (Some kind);
-  rest = behind_indent (behind (length (marker_of kind)) (behind_indent t.rest));
+  rest = after_indent (following (length (marker_of kind)) (after_indent t.rest));
 }
 
 abbrev pub with_kind : ParseOptions → Option Taken → Option Taken
@@ -77,9 +77,9 @@ abbrev pub is_bullet : ℕ → Bool
 is_bullet b = (b == asterisk) || (b == plus) || (b == hyphen)
 
 -- the `.` or `)` after digits
-abbrev pub marker_behind : List ℕ → List ℕ → Option Marker
-marker_behind digits [] = None
-marker_behind digits (b ∷ bytes) =
+abbrev pub marker_following : List ℕ → List ℕ → Option Marker
+marker_following digits [] = None
+marker_following digits (b ∷ bytes) =
     if (b == dot) || (b == right_parenthesis) then Some (record { digits = digits; byte = b }) else None
 
 -- a bullet, or 1 to 9 digits and then `.` or `)`
@@ -89,7 +89,7 @@ list_marker (b ∷ bytes) =
     let digits = take_while is_digit (b ∷ bytes) in
     if is_bullet b then Some (record { digits = []; byte = b })
     else if nat_le 1 (length digits) && nat_le (length digits) 9
-    then marker_behind digits (drop (length digits) (b ∷ bytes))
+    then marker_following digits (drop (length digits) (b ∷ bytes))
     else None
 
 -- the columns after the marker that belong to the item: none before a blank rest, 1 of 5 or more
@@ -119,12 +119,12 @@ item_with options interrupting before from after marker =
 abbrev pub item_by : ParseOptions → Bool → ℕ → Rest → Option Marker → Option Taken
 item_by options interrupting before from None = None
 item_by options interrupting before from (Some marker) =
-    item_with options interrupting before from (behind (length marker.digits + 1) from) marker
+    item_with options interrupting before from (following (length marker.digits + 1) from) marker
 
 -- a small indent, a marker, and whitespace or the end of the line (CommonMark 5.2)
 unfoldable pub opens_item : ParseOptions → Bool → Rest → Option Taken
 opens_item options interrupting r =
-    let from = behind_indent r in
+    let from = after_indent r in
     if options.constructs.list_item && has_small_indent options r
     then item_by options interrupting (indent r) from (list_marker from.bytes)
     else None
@@ -155,13 +155,13 @@ abbrev pub footnote_by : Rest → Option Labelled → Option Taken
 footnote_by from None = None
 footnote_by from (Some l) =
     if nat_le 1 (length l.label) && nat_le (length l.label) 999 && begins_with colon l.after
-    then Some (record { container = InFootnote l.label; rest = behind_indent (behind (length l.label + 4) from) })
+    then Some (record { container = InFootnote l.label; rest = after_indent (following (length l.label + 4) from) })
     else None
 
 -- a small indent, `[^`, a label of 1 to 999 bytes, `]:`, and all whitespace after it (own choice, as on GitHub)
 unfoldable pub opens_footnote : ParseOptions → Rest → Option Taken
 opens_footnote options r =
-    let from = behind_indent r in
+    let from = after_indent r in
     if options.constructs.gfm_footnote_definition && has_small_indent options r
     && starts_with nat_eq from.bytes (left_bracket ∷ caret ∷ [])
     then footnote_by from (footnote_label false (drop 2 from.bytes))

@@ -94,8 +94,8 @@ code_at options against r =
     else None
 
 -- a line that is neither blank nor indented by 4 columns ends it
-unfoldable pub code_goes_on : List Line → Rest → Option LeafResult
-code_goes_on lines r =
+unfoldable pub code_continued : List Line → Rest → Option LeafResult
+code_continued lines r =
     if is_blank r.bytes || nat_le 4 (indent r) then Some (Opened (OpenCode (lines ++ code_line r ∷ []))) else None
 
 -- Fenced code (CommonMark 4.5) and math (own choice, as on GitHub).
@@ -120,8 +120,8 @@ nonempty (b ∷ bytes) = Some (b ∷ bytes)
 abbrev pub first_word : List ℕ → List ℕ
 first_word text = take_while (λ b. not (is_white b)) text
 
-abbrev pub behind_word : List ℕ → List ℕ
-behind_word text = trim_start (drop (length (first_word text)) text)
+abbrev pub after_word : List ℕ → List ℕ
+after_word text = trim_start (drop (length (first_word text)) text)
 
 -- an opening fence; math has no info, and its meta is the whole rest
 abbrev pub opening : ℕ → ℕ → ℕ → List ℕ → Opening
@@ -130,7 +130,7 @@ opening m size columns text = record {
   size = size;
   indent = columns;
   info = if m == dollar then None else nonempty (first_word text);
-  meta = nonempty (if m == dollar then text else behind_word text);
+  meta = nonempty (if m == dollar then text else after_word text);
 }
 
 abbrev pub fence_from : ParseOptions → ℕ → List ℕ → Option LeafResult
@@ -154,8 +154,8 @@ closes options o r =
     has_small_indent options r && nat_le o.size size && is_blank (drop size text)
 
 -- other lines lose at most the indent of the opening fence
-unfoldable pub fence_goes_on : ParseOptions → Opening → List Line → Rest → LeafResult
-fence_goes_on options o lines r =
+unfoldable pub fence_continued : ParseOptions → Opening → List Line → Rest → LeafResult
+fence_continued options o lines r =
     if closes options o r then Finished (fence_block o lines true)
     else Opened (OpenFence o (lines ++ line_of (lose o.indent r) ∷ []))
 
@@ -188,8 +188,8 @@ html_at options against r =
     if options.constructs.html_flow && has_small_indent options r
     then html_by against r (html_kind (trim_start r.bytes)) else None
 
-unfoldable pub html_goes_on : HtmlKind → List Line → Rest → Option LeafResult
-html_goes_on kind lines r = if ends_at_blank kind && is_blank r.bytes then None else Some (html_line kind lines r)
+unfoldable pub html_continued : HtmlKind → List Line → Rest → Option LeafResult
+html_continued kind lines r = if ends_at_blank kind && is_blank r.bytes then None else Some (html_line kind lines r)
 
 -- The order of the trials.
 
@@ -203,19 +203,19 @@ starts options against r =
 -- Table (GFM 4.10).
 
 -- a blank line ends it, and so does a line that starts another leaf; any other line is a row
-unfoldable pub table_goes_on : ParseOptions → List ℕ → List (List (List ℕ)) → Rest → Option LeafResult
-table_goes_on options delimiter rows r =
+unfoldable pub table_continued : ParseOptions → List ℕ → List (List (List ℕ)) → Rest → Option LeafResult
+table_continued options delimiter rows r =
     if is_blank r.bytes || is_some (starts options NoText r) then None
     else Some (Opened (OpenTable delimiter (rows ++ row_cells r.bytes ∷ [])))
 
 -- what an open leaf becomes with this line; none if it ends before it
-abbrev pub goes_on : ParseOptions → Leaf → Rest → Option LeafResult
-goes_on options NoLeaf r = None
-goes_on options (OpenParagraph lines) r = None
-goes_on options (OpenCode lines) r = code_goes_on lines r
-goes_on options (OpenFence o lines) r = Some (fence_goes_on options o lines r)
-goes_on options (OpenHtml kind lines) r = html_goes_on kind lines r
-goes_on options (OpenTable delimiter rows) r = table_goes_on options delimiter rows r
+abbrev pub is_continued : ParseOptions → Leaf → Rest → Option LeafResult
+is_continued options NoLeaf r = None
+is_continued options (OpenParagraph lines) r = None
+is_continued options (OpenCode lines) r = code_continued lines r
+is_continued options (OpenFence o lines) r = Some (fence_continued options o lines r)
+is_continued options (OpenHtml kind lines) r = html_continued kind lines r
+is_continued options (OpenTable delimiter rows) r = table_continued options delimiter rows r
 
 -- A paragraph that a line turns into something else.
 

@@ -82,12 +82,12 @@ lose zero r = r
 lose (suc n) r = lose n (without_column r.column r.spaces r.bytes)
 
 -- without all of its indent
-abbrev pub behind_indent : Rest → Rest
-behind_indent r = lose (indent r) r
+abbrev pub after_indent : Rest → Rest
+after_indent r = lose (indent r) r
 
 -- after so many bytes that are neither spaces nor tabs
-abbrev pub behind : ℕ → Rest → Rest
-behind n r = record { column = r.column + n; spaces = 0; bytes = drop n r.bytes }
+abbrev pub following : ℕ → Rest → Rest
+following n r = record { column = r.column + n; spaces = 0; bytes = drop n r.bytes }
 
 -- as a line of code, HTML or math
 abbrev pub line_of : Rest → Line

@@ -9,19 +9,19 @@ use Rattle.md_meaning.specs.State.{Container, ParagraphLine, Leaf, NoLeaf, OpenP
 use Rattle.md_meaning.specs.State.{Innermost, Path, At, Within, spot, at_spot, then_block}
 use Rattle.md_meaning.specs.State.{then_leaf, shut, container_block, closed, kept}
 use Rattle.md_meaning.specs.Containers.{Taken, continues, opens}
-use Rattle.md_meaning.specs.Leaves.{LeafResult, Opened, Finished, NoText, Text, LazyText, starts, goes_on}
+use Rattle.md_meaning.specs.Leaves.{LeafResult, Opened, Finished, NoText, Text, LazyText, starts, is_continued}
 use Rattle.md_meaning.specs.Leaves.{underline_depth, underlined, table_at, with_line}
 
 abbrev pub spot_of : Blocks → Innermost
 spot_of bs = record { here = bs; leaf = NoLeaf }
 
 -- what a leaf became, after these blocks
-abbrev pub came : Blocks → LeafResult → Innermost
-came bs (Opened leaf) = record { here = bs; leaf = leaf }
-came bs (Finished block) = spot_of (then_block bs block)
+abbrev pub became : Blocks → LeafResult → Innermost
+became bs (Opened leaf) = record { here = bs; leaf = leaf }
+became bs (Finished block) = spot_of (then_block bs block)
 
 abbrev pub fresh_by : Blocks → Rest → Option LeafResult → Innermost
-fresh_by bs r (Some c) = came bs c
+fresh_by bs r (Some c) = became bs c
 fresh_by bs r None = with_line bs [] r
 
 -- a rest where no leaf is open: a blank one does nothing, and what starts no other leaf is a paragraph
@@ -34,7 +34,7 @@ row_or_text bs lines r None = with_line bs lines r
 
 -- a rest that is no underline: another leaf, a delimiter row, or a line of the paragraph
 abbrev pub text_by : ParseOptions → Blocks → List ParagraphLine → Rest → Option LeafResult → Innermost
-text_by options bs lines r (Some c) = came (then_leaf options bs (OpenParagraph lines)) c
+text_by options bs lines r (Some c) = became (then_leaf options bs (OpenParagraph lines)) c
 text_by options bs lines r None = row_or_text bs lines r (table_at options bs lines r)
 
 -- An underline is none of the leaves that are tried before it; a break may look like one, and is tried after it.
@@ -50,13 +50,13 @@ text_line options bs lines r =
 
 -- a leaf that ends before the line is closed, and the line is read after it
 abbrev pub on_or_fresh : ParseOptions → Innermost → Rest → Option LeafResult → Innermost
-on_or_fresh options s r (Some c) = came s.here c
+on_or_fresh options s r (Some c) = became s.here c
 on_or_fresh options s r None = fresh_line options (shut options s) r
 
 abbrev pub leaf_line_by : ParseOptions → Innermost → Rest → Leaf → Innermost
 leaf_line_by options s r NoLeaf = fresh_line options s.here r
 leaf_line_by options s r (OpenParagraph lines) = text_line options s.here lines r
-leaf_line_by options s r leaf = on_or_fresh options s r (goes_on options leaf r)
+leaf_line_by options s r leaf = on_or_fresh options s r (is_continued options leaf r)
 
 -- a rest in the innermost container, where all containers continued and none opened
 abbrev pub leaf_line : ParseOptions → Innermost → Rest → Innermost

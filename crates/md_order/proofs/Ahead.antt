@@ -16,7 +16,7 @@ use Rattle.md_events.specs.Events.Blocks.{is_block}
 use Rattle.md_events.specs.Events.Nested.{enter, is_enter}
 use Rattle.md_events.specs.Events.Spelled.{role}
 use Rattle.md_tables.specs.Heads.{is_table}
-use Rattle.md_tables.specs.Tabled.{behind, bound_of, in_front, next, tabled, tabled_from}
+use Rattle.md_tables.specs.Tabled.{following, bound_of, in_front, next, tabled, tabled_from}
 use Rattle.md_tables.specs.declared.cells.Stage.TheVariants as row
 use Rattle.md_tables.specs.declared.tables.Bound.{Bound}
 use Rattle.md_tables.specs.declared.tables.Bound.TheVariants.{BeginsRow, BeginsTable, EndsDelimiter, EndsTable, Other}
@@ -105,7 +105,7 @@ table-hides bytes e es block item = go (bound_of e)
   where
     go : (b : Bound) →
         IsHidden bytes
-        ((in_front in_table.Outside b e.point ++ (e ∷ []) ++ behind in_table.Outside b e.point)
+        ((in_front in_table.Outside b e.point ++ (e ∷ []) ++ following in_table.Outside b e.point)
         ++ tabled_from (next in_table.Outside b) row.Outside es)
     go BeginsTable = block-hides bytes e _ block item
     go EndsTable = block-hides bytes e _ block item

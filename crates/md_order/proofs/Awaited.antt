@@ -11,13 +11,13 @@ use Rattle.md_engine.specs.declared.event.Name.TheVariants as n
 use Rattle.md_leaves.specs.HeadingText.{begins, is_heading}
 use Rattle.md_leaves.specs.Turned.{BeginsText, EndsText, EndsUnderline, Stays, Turn, has_underline, is_paragraph}
 use Rattle.md_leaves.specs.Turned.{is_turned, is_underline, on_by, passes as is_unturned, turn, turn_by}
-use Rattle.md_leaves.specs.Turned.{underline_behind}
+use Rattle.md_leaves.specs.Turned.{underline_after}
 use Rattle.md_events.specs.Events.Inline.{is_line_ending}
 use Rattle.md_events.specs.Events.Nested.{is_enter, is_exit}
 use Rattle.md_events.specs.Events.Prefix.{is_prefix}
 use Rattle.md_tables.specs.Tabled.{begins_table, bound_of}
-use Rattle.md_order.specs.Alone.{HoldNoBlock, InEnding, InParagraph, InUnderline, MayStand, Nothing, Open, closed_by}
-use Rattle.md_order.specs.Alone.{closes, is_set, open_behind, opened_by}
+use Rattle.md_order.specs.Alone.{HoldNoBlock, InEnding, InParagraph, InUnderline, MayBeHere, Nothing, Open, closed_by}
+use Rattle.md_order.specs.Alone.{closes, is_set, open_following, opened_by}
 use Rattle.md_order.specs.Left.{MayBeLeft, MayStay}
 use Rattle.md_order.proofs.Names.{bare-unturned, tableless, unset-bare, unset-item}
 use Rattle.md_order.proofs.Stay.{closed-ending, stay-drop, stay-opens}
@@ -33,10 +33,10 @@ pub record IsFree (e : Event) : Type 0 where
 -- All events are such up to the end of an underline, or to the begin of a paragraph, where one looks again.
 
 abbrev Until : Turn → Type 0 → Type 0
-Until BeginsText behind = Unit {0}
-Until EndsUnderline behind = Unit {0}
-Until EndsText behind = behind
-Until Stays behind = behind
+Until BeginsText following = Unit {0}
+Until EndsUnderline following = Unit {0}
+Until EndsText following = following
+Until Stays following = following
 
 abbrev pub Awaited : List Event → Type 0
 Awaited [] = Unit {0}
@@ -100,10 +100,10 @@ underline-awaited (e ∷ es) h = go (closes InUnderline e) refl (λ k. underline
         (more (subst (λ (x : Bool). HoldNoBlock (cond x Nothing InUnderline) es) is h.1))
 
 -- Between the line ending after the text and the underline.
-behind-awaited : (es : List Event) → MayStay (with_items true) es → underline_behind es ≡ true → Awaited es
-behind-awaited [] stay h = absurd (let no : false ≡ true = h in cc)
-behind-awaited (e ∷ es) stay h =
-    go (is_prefix e.name) refl h (λ k. behind-awaited es (stay-drop (with_items true) (e ∷ es) stay 1) k)
+following-awaited : (es : List Event) → MayStay (with_items true) es → underline_after es ≡ true → Awaited es
+following-awaited [] stay h = absurd (let no : false ≡ true = h in cc)
+following-awaited (e ∷ es) stay h =
+    go (is_prefix e.name) refl h (λ k. following-awaited es (stay-drop (with_items true) (e ∷ es) stay 1) k)
   where
     begun : (kind : Kind) (name : Name) → (is_enter kind && is_underline name) ≡ true →
         (is_enter kind ≡ true → is_set name ≡ true → MayBeLeft (with_items true) (opened_by name) es) →
@@ -116,22 +116,22 @@ behind-awaited (e ∷ es) stay h =
     begun Exit name is opens = absurd (let no : false ≡ true = is in cc)
 
     go : (x : Bool) → is_prefix e.name ≡ x →
-        cond x (underline_behind es) (is_enter e.kind && is_underline e.name) ≡ true →
-        (underline_behind es ≡ true → Awaited es) → Awaited (e ∷ es)
+        cond x (underline_after es) (is_enter e.kind && is_underline e.name) ≡ true →
+        (underline_after es ≡ true → Awaited es) → Awaited (e ∷ es)
     go true is here more = awaited-on e es (prefix-unset e.name is) (more here)
     go false is here more =
         begun e.kind e.name here (λ a b. stay-opens (with_items true) e es stay a b)
 
 -- Before that line ending.
 
-in-ending : (f : Event) → MayStand InEnding f → is_set f.name ≡ false
-in-ending f stands = go (closes InEnding f) refl
+in-ending : (f : Event) → MayBeHere InEnding f → is_set f.name ≡ false
+in-ending f valid = go (closes InEnding f) refl
   where
     go : (x : Bool) → closes InEnding f ≡ x → is_set f.name ≡ false
     go true is =
         ending-unset f.name
         (sym (closed-ending f.name) ∙ (and_parts (is_exit f.kind) (closed_by InEnding f.name) is).1)
-    go false is = stands is
+    go false is = valid is
 
 has-awaited : (es : List Event) → HoldNoBlock Nothing es → has_underline es ≡ true → Awaited es
 has-awaited [] h has = absurd (let no : false ≡ true = has in cc)
@@ -139,10 +139,10 @@ has-awaited (e ∷ []) h has = absurd (let no : false ≡ true = has in cc)
 has-awaited (e ∷ f ∷ es) h has =
     awaited-on e (f ∷ es) (ending-unset e.name parts.0)
     (awaited-on f es (in-ending f inside.0)
-    (behind-awaited es (open_behind InEnding f, inr inside.1) parts.1))
+    (following-awaited es (open_following InEnding f, inr inside.1) parts.1))
   where
-    parts : (is_line_ending e.name ≡ true) × (underline_behind es ≡ true)
-    parts = and_parts (is_line_ending e.name) (underline_behind es) has
+    parts : (is_line_ending e.name ≡ true) × (underline_after es ≡ true)
+    parts = and_parts (is_line_ending e.name) (underline_after es) has
 
     inside : HoldNoBlock InEnding (f ∷ es)
     inside = subst (λ (o : Open). HoldNoBlock o (f ∷ es)) (ending-opens e.kind e.name parts.0 h.0) h.1

@@ -17,8 +17,8 @@ use Rattle.md_events.specs.Events.Tiles.{is_data}
 use Rattle.md_order.specs.declared.wanted.Wanted.{Wanted}
 use Rattle.md_order.specs.Alone.{InHeading, Open, is_set, opened_by}
 use Rattle.md_order.specs.InOrder.{set_if}
-use Rattle.md_order.specs.Left.{MayBeLeft, MayStay, Standing, heading_len, left_in}
-use Rattle.md_order.proofs.Passed.{behind_heads, heads-past, items-none, items-pass}
+use Rattle.md_order.specs.Left.{MayBeLeft, MayStay, Situation, heading_len, left_in}
+use Rattle.md_order.proofs.Passed.{after_heads, heads-past, items-none, items-pass}
 use Rattle.md_order.proofs.Stay.{IsQuiet, heading-on, heading-quiet, quiet-inside, stay-opens}
 
 abbrev pub AreQuiet : Wanted → List Event → Type 0
@@ -39,7 +39,7 @@ quiet-items w bytes place (e ∷ xs) es h =
     ∙ ap (λ (l : List Event). e ∷ l) (quiet-items w bytes place xs es h.1)
 
 quiet-past : (w : Wanted) (on : Bool) (xs ys : List Event) → AreQuiet w xs →
-    behind_heads w on (xs ++ ys) ≡ xs ++ behind_heads w on ys
+    after_heads w on (xs ++ ys) ≡ xs ++ after_heads w on ys
 quiet-past w on [] ys h = refl
 quiet-past w on (e ∷ xs) ys h =
     heads-past w on e (xs ++ ys) h.0.1 h.0.2 ∙ ap (λ (l : List Event). e ∷ l) (quiet-past w on xs ys h.1)
@@ -281,22 +281,22 @@ pub heading-given : (w : Wanted) (e : Event) (es : List Event) → w.atx ≡ tru
 heading-given w e es on h stay =
     resolved-quiet w Outside (e ∷ take (heading_len es) es) tt (heading-front w e es on h stay)
 
-pub heading-step : (w : Wanted) (bytes : List ℕ) (at : Standing) (e : Event) (es : List Event) → w.atx ≡ true →
+pub heading-step : (w : Wanted) (bytes : List ℕ) (at : Situation) (e : Event) (es : List Event) → w.atx ≡ true →
     begins is_heading e ≡ true → MayStay w (e ∷ es) →
     left_in w bytes at (e ∷ es)
     ≡ headings_resolved (take (suc (heading_len es)) (e ∷ es))
     ++ left_in w bytes at (drop (suc (heading_len es)) (e ∷ es))
 heading-step w bytes at e es on h stay =
-    ap (λ (x : Bool). behind_heads w at.on (set_if x headings_resolved (lists (e ∷ es)))) on
-    ∙ ap (λ (l : List Event). behind_heads w at.on (resolved Outside (lists (e ∷ l))))
+    ap (λ (x : Bool). after_heads w at.on (set_if x headings_resolved (lists (e ∷ es)))) on
+    ∙ ap (λ (l : List Event). after_heads w at.on (resolved Outside (lists (e ∷ l))))
     (sym (take-append-drop n es))
-    ∙ ap (λ (l : List Event). behind_heads w at.on (resolved Outside l))
+    ∙ ap (λ (l : List Event). after_heads w at.on (resolved Outside l))
     (quiet-items w bytes at.items front (drop n es) (heading-front w e es on h stay))
-    ∙ ap (behind_heads w at.on)
+    ∙ ap (after_heads w at.on)
     (resolved-cut (lists (drop n es)) (heading-follows w bytes at.items es) Outside front)
     ∙ quiet-past w at.on (resolved Outside front) (resolved Outside (lists (drop n es)))
     (heading-given w e es on h stay)
-    ∙ ap (λ (x : Bool). resolved Outside front ++ behind_heads w at.on (set_if x headings_resolved (lists (drop n es))))
+    ∙ ap (λ (x : Bool). resolved Outside front ++ after_heads w at.on (set_if x headings_resolved (lists (drop n es))))
     (sym on)
   where
     n : ℕ

@@ -15,7 +15,7 @@ use Rattle.md_leaves.specs.Turned.{given_by, is_turned, on_by, passes as is_untu
 use Rattle.md_events.specs.Events.Spelled.{role}
 use Rattle.md_tables.specs.Tabled.{begins_table, bound_of, tabled}
 use Rattle.md_order.specs.Alone.{HoldNoBlock, Nothing}
-use Rattle.md_order.specs.Left.{MayStay, Standing, heading_len, is_passed, left_in, table_len}
+use Rattle.md_order.specs.Left.{MayStay, Situation, heading_len, is_passed, left_in, table_len}
 use Rattle.md_order.proofs.HeadStep.{heading-step}
 use Rattle.md_order.proofs.Items.{item-step}
 use Rattle.md_order.proofs.Names.{item-bare}
@@ -30,13 +30,13 @@ use Rattle.md_order.proofs.Awaited.{Awaits, IsFree, none-open, passed-awaits, tu
 
 -- What is given for the events that are left, with lists or without, and that the first is the second with lists.
 
-abbrev at : ListPlace → Bool → Standing
+abbrev at : ListPlace → Bool → Situation
 at place on = record { items = place; on = on }
 
-abbrev left : Bool → List ℕ → Standing → List Event → List Event
+abbrev left : Bool → List ℕ → Situation → List Event → List Event
 left i bytes s es = left_in (with_items i) bytes s es
 
-abbrev Agree : List ℕ → Standing → List Event → Type 0
+abbrev Agree : List ℕ → Situation → List Event → Type 0
 Agree bytes s es = left true bytes s es ≡ listed_from bytes s.items (left false bytes s es)
 
 -- It is so if both give the same events of no item first, and it is so for the rest.

@@ -15,7 +15,7 @@ use Rattle.md_tables.specs.Tabled.{begins_table, bound_of, tabled}
 use Rattle.md_tables.proofs.TabledWalk.{passes-given as tabled-passes}
 use Rattle.md_order.specs.declared.wanted.Wanted.{Wanted}
 use Rattle.md_order.specs.InOrder.{set_if}
-use Rattle.md_order.specs.Left.{Standing, is_passed, left_in}
+use Rattle.md_order.specs.Left.{Situation, is_passed, left_in}
 use Rattle.md_order.proofs.Names.{IsBare, bare-unturned, tableless}
 
 -- One resolver, if it is wanted, gives an event of none of its blocks as it is.
@@ -60,11 +60,11 @@ tables-none false = refl
 
 -- The resolvers after that of headings, and after that of items.
 
-abbrev pub behind_heads : Wanted → Bool → List Event → List Event
-behind_heads w on es = set_if w.tables tabled (set_if w.setext (turned_from on) es)
+abbrev pub after_heads : Wanted → Bool → List Event → List Event
+after_heads w on es = set_if w.tables tabled (set_if w.setext (turned_from on) es)
 
-abbrev pub behind_items : Wanted → Bool → List Event → List Event
-behind_items w on es = behind_heads w on (set_if w.atx (resolved Outside) es)
+abbrev pub after_items : Wanted → Bool → List Event → List Event
+after_items w on es = after_heads w on (set_if w.atx (resolved Outside) es)
 
 -- An event that passes them.
 pub record Passes (w : Wanted) (e : Event) : Type 0 where
@@ -81,15 +81,15 @@ bare-passes w e h = record {
 
 pub heads-past : (w : Wanted) (on : Bool) (e : Event) (es : List Event) → (w.setext ≡ true → is_unturned e ≡ true) →
     (w.tables ≡ true → begins_table (bound_of e) ≡ false) →
-    behind_heads w on (e ∷ es) ≡ e ∷ behind_heads w on es
+    after_heads w on (e ∷ es) ≡ e ∷ after_heads w on es
 heads-past w on e es turn table =
     ap (set_if w.tables tabled) (turns-pass w.setext on e es turn)
     ∙ tables-pass w.tables e (set_if w.setext (turned_from on) es) table
 
 pub items-past : (w : Wanted) (on : Bool) (e : Event) (es : List Event) → Passes w e →
-    behind_items w on (e ∷ es) ≡ e ∷ behind_items w on es
+    after_items w on (e ∷ es) ≡ e ∷ after_items w on es
 items-past w on e es h =
-    ap (behind_heads w on) (heads-pass w.atx e es h.head)
+    ap (after_heads w on) (heads-pass w.atx e es h.head)
     ∙ heads-past w on e (set_if w.atx (resolved Outside) es) h.turn h.table
 
 -- An event of no block that is set passes all.
@@ -106,10 +106,10 @@ not-all : (x : Bool) → not x ≡ true → x ≡ false
 not-all true h = absurd (let no : false ≡ true = h in cc)
 not-all false h = refl
 
-pub passed-one : (w : Wanted) (bytes : List ℕ) (at : Standing) (e : Event) (es : List Event) →
+pub passed-one : (w : Wanted) (bytes : List ℕ) (at : Situation) (e : Event) (es : List Event) →
     is_passed w e ≡ true → left_in w bytes at (e ∷ es) ≡ e ∷ left_in w bytes at es
 passed-one w bytes at e es h =
-    ap (behind_items w at.on)
+    ap (after_items w at.on)
     (items-pass w.items bytes at.items e es (and-none w.items (is_item (role e.name)) (first).0))
     ∙ items-past w at.on e (set_if w.items (listed_from bytes at.items) es)
     (record {
@@ -141,7 +141,7 @@ passed-one w bytes at e es h =
 
 -- So do all before the next that does not.
 
-passed-run : (w : Wanted) (bytes : List ℕ) (at : Standing) (es : List Event) →
+passed-run : (w : Wanted) (bytes : List ℕ) (at : Situation) (es : List Event) →
     left_in w bytes at es
     ≡ take (prefix_len (is_passed w) es) es ++ left_in w bytes at (drop (prefix_len (is_passed w) es) es)
 passed-run w bytes at [] = refl
@@ -160,7 +160,7 @@ passed-run w bytes at (e ∷ es) = go (is_passed w e) refl (passed-run w bytes a
         ∙ ap (λ (m : ℕ). take m (e ∷ es) ++ left_in w bytes at (drop m (e ∷ es)))
         (let one : suc n ≡ 1 + n = omega arith in one)
 
-pub passed-many : (w : Wanted) (bytes : List ℕ) (at : Standing) (es : List Event) (n : ℕ) →
+pub passed-many : (w : Wanted) (bytes : List ℕ) (at : Situation) (es : List Event) (n : ℕ) →
     n ≡ prefix_len (is_passed w) es → left_in w bytes at es ≡ take n es ++ left_in w bytes at (drop n es)
 passed-many w bytes at es n count =
     passed-run w bytes at es

@@ -9,13 +9,13 @@ use Rattle.md_engine.specs.declared.event.Name.TheVariants as n
 use Rattle.md_containers.specs.Listed.{Begins, Ends, Place, Stays, Turn, given, given_by, is_item, list_begin, list_end}
 use Rattle.md_containers.specs.Listed.{list_name, listed_from, marker_ahead, next_item, place_after, turn}
 use Rattle.md_leaves.specs.HeadingText.{Before, Outside, begins, is_heading, resolved}
-use Rattle.md_leaves.specs.Turned.{has_underline, is_paragraph, is_turned, is_underline, underline_behind}
+use Rattle.md_leaves.specs.Turned.{has_underline, is_paragraph, is_turned, is_underline, underline_after}
 use Rattle.md_leaves.proofs.TurnedLemmas.{no-ending}
 use Rattle.md_events.specs.Events.Inline.{is_line_ending}
 use Rattle.md_events.specs.Events.Nested.{enter, is_enter, is_exit}
 use Rattle.md_events.specs.Events.Prefix.{is_prefix}
 use Rattle.md_events.specs.Events.Spelled.{is_ordered, role}
-use Rattle.md_order.specs.Alone.{HoldNoBlock, InEnding, InParagraph, MayStand, Nothing, Open, closed_by, closes}
+use Rattle.md_order.specs.Alone.{HoldNoBlock, InEnding, InParagraph, MayBeHere, Nothing, Open, closed_by, closes}
 use Rattle.md_order.specs.Alone.{opened_by}
 use Rattle.md_order.specs.InOrder.{set_if}
 use Rattle.md_order.proofs.Names.{prefix-heading, prefix-item, unset-bare, unset-item}
@@ -103,23 +103,23 @@ item-starts bytes place e es more h = go (turn e.kind (role e.name))
 
 -- What is seen after an event that is no prefix is known from that event.
 
-plain-unlined : (e : Event) (es : List Event) → IsPlain e.name → underline_behind (e ∷ es) ≡ false
+plain-unlined : (e : Event) (es : List Event) → IsPlain e.name → underline_after (e ∷ es) ≡ false
 plain-unlined e es h = rw h.prefix (and_right (is_enter e.kind) (is_underline e.name) h.underline)
 
 starts-unlined : (a : Bool) (es : List Event) → StartsPlain es →
-    (underline_behind (set_if a (resolved Outside) es) ≡ false)
+    (underline_after (set_if a (resolved Outside) es) ≡ false)
     × (has_underline (set_if a (resolved Outside) es) ≡ false)
 starts-unlined a es h =
     let same : set_if a (resolved Outside) es ≡ h.first ∷ heads_rest a h.first h.rest =
     ap (set_if a (resolved Outside)) h.is ∙ heads-first a h.first h.rest in (
-      ap underline_behind same ∙ plain-unlined h.first (heads_rest a h.first h.rest) h.plain,
+      ap underline_after same ∙ plain-unlined h.first (heads_rest a h.first h.rest) h.plain,
       ap has_underline same ∙ no-ending h.first (heads_rest a h.first h.rest) h.plain.ending,
     )
 
 -- So an item hides what follows it,
 item-hides : (a i : Bool) (bytes : List ℕ) (place : Place) (e : Event) (es : List Event) →
     is_item (role e.name) ≡ true →
-    (underline_behind (ahead a i bytes place (e ∷ es)) ≡ false)
+    (underline_after (ahead a i bytes place (e ∷ es)) ≡ false)
     × (has_underline (ahead a i bytes place (e ∷ es)) ≡ false)
 item-hides a true bytes place e es h =
     starts-unlined a (listed_from bytes place (e ∷ es))
@@ -138,26 +138,26 @@ other-first a i bytes place e es h =
 -- Looks for an underline.
 
 underline-ahead : (a i : Bool) (bytes : List ℕ) (place : Place) (es : List Event) →
-    underline_behind (ahead a i bytes place es) ≡ underline_behind es
-underline-ahead a i bytes place [] = ap underline_behind (ahead-none a i bytes place)
+    underline_after (ahead a i bytes place es) ≡ underline_after es
+underline-ahead a i bytes place [] = ap underline_after (ahead-none a i bytes place)
 underline-ahead a i bytes place (e ∷ es) =
     go (is_prefix e.name) refl (is_item (role e.name)) refl (underline-ahead a i bytes place es)
   where
     other : is_prefix e.name ≡ false → (zs : List Event) →
-        underline_behind (e ∷ zs) ≡ (is_enter e.kind && is_underline e.name)
+        underline_after (e ∷ zs) ≡ (is_enter e.kind && is_underline e.name)
     other is zs = rw is refl
 
     go : (x : Bool) → is_prefix e.name ≡ x → (y : Bool) → is_item (role e.name) ≡ y →
-        underline_behind (ahead a i bytes place es) ≡ underline_behind es →
-        underline_behind (ahead a i bytes place (e ∷ es)) ≡ underline_behind (e ∷ es)
+        underline_after (ahead a i bytes place es) ≡ underline_after es →
+        underline_after (ahead a i bytes place (e ∷ es)) ≡ underline_after (e ∷ es)
     go true is y item more =
-        ap underline_behind
+        ap underline_after
         (ahead-pass a i bytes place e es (prefix-item e.name is) (prefix-heading e.name is))
         ∙ ap (λ (x : Bool). cond (is_prefix e.name) x (is_enter e.kind && is_underline e.name)) more
     go false is true item more =
         (item-hides a i bytes place e es item).0 ∙ sym (plain-unlined e es (item-plain e.name item))
     go false is false item more =
-        ap underline_behind (other-first a i bytes place e es item)
+        ap underline_after (other-first a i bytes place e es item)
         ∙ other is (heads_rest a e (set_if i (listed_from bytes place) es)) ∙ sym (other is es)
 
 -- after the end of a paragraph
@@ -172,29 +172,29 @@ ending-heading _ h = absurd (let no : false ≡ true = h in cc)
 -- a line ending that is where nothing is open begins there
 pub ending-opens : (kind : Kind) (name : Name) → is_line_ending name ≡ true →
     (is_exit kind ≡ true → opened_by name ≡ Nothing) → cond (is_enter kind) (opened_by name) Nothing ≡ InEnding
-ending-opens Enter n.LineEnding h stands = refl
-ending-opens Exit n.LineEnding h stands = sym (stands refl)
-ending-opens kind _ h stands = absurd (let no : false ≡ true = h in cc)
+ending-opens Enter n.LineEnding h valid = refl
+ending-opens Exit n.LineEnding h valid = sym (valid refl)
+ending-opens kind _ h valid = absurd (let no : false ≡ true = h in cc)
 
-in-ending : (f : Event) → MayStand InEnding f → (is_item (role f.name) ≡ false) × (is_heading f.name ≡ false)
-in-ending f stands = go (closes InEnding f) refl
+in-ending : (f : Event) → MayBeHere InEnding f → (is_item (role f.name) ≡ false) × (is_heading f.name ≡ false)
+in-ending f valid = go (closes InEnding f) refl
   where
     go : (x : Bool) → closes InEnding f ≡ x → (is_item (role f.name) ≡ false) × (is_heading f.name ≡ false)
     go true is =
         let ending : is_line_ending f.name ≡ true =
         sym (closed-ending f.name) ∙ (and_parts (is_exit f.kind) (closed_by InEnding f.name) is).1 in
         (ending-item f.name ending, ending-heading f.name ending)
-    go false is = (unset-item f.name (stands is), (unset-bare f.name (stands is)).heading)
+    go false is = (unset-item f.name (valid is), (unset-bare f.name (valid is)).heading)
 
 has-ahead : (a i : Bool) (bytes : List ℕ) (place : Place) (es : List Event) → HoldNoBlock Nothing es →
     has_underline (ahead a i bytes place es) ≡ has_underline es
 has-ahead a i bytes place [] h = ap has_underline (ahead-none a i bytes place)
 has-ahead a i bytes place (e ∷ es) h = go (is_line_ending e.name) refl (is_item (role e.name)) refl
   where
-    behind : (es : List Event) → HoldNoBlock InEnding es → is_line_ending e.name ≡ true →
+    following : (es : List Event) → HoldNoBlock InEnding es → is_line_ending e.name ≡ true →
         has_underline (e ∷ ahead a i bytes place es) ≡ has_underline (e ∷ es)
-    behind [] k is = ap (λ (l : List Event). has_underline (e ∷ l)) (ahead-none a i bytes place)
-    behind (f ∷ es) k is =
+    following [] k is = ap (λ (l : List Event). has_underline (e ∷ l)) (ahead-none a i bytes place)
+    following (f ∷ es) k is =
         ap (λ (l : List Event). has_underline (e ∷ l))
         (ahead-pass a i bytes place f es (in-ending f k.0).0 (in-ending f k.0).1)
         ∙ ap (λ (x : Bool). is_line_ending e.name && x) (underline-ahead a i bytes place es)
@@ -204,7 +204,7 @@ has-ahead a i bytes place (e ∷ es) h = go (is_line_ending e.name) refl (is_ite
     go true is y item =
         ap has_underline
         (ahead-pass a i bytes place e es (ending-item e.name is) (ending-heading e.name is))
-        ∙ behind es
+        ∙ following es
         (subst (λ (o : Open). HoldNoBlock o es) (ending-opens e.kind e.name is h.0) h.1) is
     go false is true item = (item-hides a i bytes place e es item).1 ∙ sym (no-ending e es is)
     go false is false item =

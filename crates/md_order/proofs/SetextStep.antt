@@ -15,9 +15,9 @@ use Rattle.md_tables.specs.Tabled.{begins_table, bound_by, bound_of, tabled}
 use Rattle.md_order.specs.declared.wanted.Wanted.{Wanted}
 use Rattle.md_order.specs.Alone.{InParagraph, Open, is_set, opened_by}
 use Rattle.md_order.specs.InOrder.{set_if}
-use Rattle.md_order.specs.Left.{MayBeLeft, MayStay, Standing, left_in}
+use Rattle.md_order.specs.Left.{MayBeLeft, MayStay, Situation, left_in}
 use Rattle.md_order.proofs.Names.{tableless}
-use Rattle.md_order.proofs.Passed.{behind_heads, tables-pass}
+use Rattle.md_order.proofs.Passed.{after_heads, tables-pass}
 use Rattle.md_order.proofs.SetextLook.{ahead, ahead-pass, turned-ahead}
 use Rattle.md_order.proofs.Stay.{one-setext, stay-opens}
 
@@ -60,7 +60,7 @@ tables-past x (e ∷ xs) ys h =
 -- The look ahead.
 
 -- at a paragraph
-look-same : (w : Wanted) (bytes : List ℕ) (at : Standing) (es : List Event) → w.setext ≡ true →
+look-same : (w : Wanted) (bytes : List ℕ) (at : Situation) (es : List Event) → w.setext ≡ true →
     MayBeLeft w InParagraph es → is_turned (ahead w.atx w.items bytes at.items es) ≡ is_turned es
 look-same w bytes at es on (inl one) =
     let others = one-setext w one on in
@@ -90,13 +90,13 @@ paragraph-begun Exit n.Paragraph h = absurd (let no : EndsText ≡ BeginsText = 
 paragraph-begun Exit n.HeadingSetextUnderline h = absurd (let no : EndsUnderline ≡ BeginsText = h in cc)
 paragraph-begun kind _ h = absurd (let no : Stays ≡ BeginsText = h in cc)
 
-pub setext-step : (w : Wanted) (bytes : List ℕ) (at : Standing) (e : Event) (es : List Event) → w.setext ≡ true →
+pub setext-step : (w : Wanted) (bytes : List ℕ) (at : Situation) (e : Event) (es : List Event) → w.setext ≡ true →
     is_unturned e ≡ false → MayStay w (e ∷ es) →
     left_in w bytes at (e ∷ es)
     ≡ given_by (turn e) at.on (is_turned es) e
     ++ left_in w bytes (record at { on = on_by (turn e) at.on (is_turned es) }) es
 setext-step w bytes at e es on h stay =
-    ap (behind_heads w at.on) (ahead-pass w.atx w.items bytes at.items e es text.item text.heading)
+    ap (after_heads w at.on) (ahead-pass w.atx w.items bytes at.items e es text.item text.heading)
     ∙ ap (λ (x : Bool). set_if w.tables tabled (set_if x (turned_from at.on) (e ∷ left))) on
     ∙ ap (λ (l : List Event). set_if w.tables tabled (l ++ turned_from (on_by (turn e) at.on (is_turned left)) left))
     same.given

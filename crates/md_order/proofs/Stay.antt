@@ -16,8 +16,8 @@ use Rattle.md_events.specs.Events.Spelled.{role}
 use Rattle.md_tables.specs.Heads.{is_table}
 use Rattle.md_tables.specs.Tabled.{begins_table, bound_of}
 use Rattle.md_order.specs.declared.wanted.Wanted.{Wanted}
-use Rattle.md_order.specs.Alone.{HoldNoBlock, InEnding, InHeading, InParagraph, InTable, InUnderline, MayStand}
-use Rattle.md_order.specs.Alone.{Nothing, Open, closed_by, closes, is_one, is_set, open_behind, opened_by}
+use Rattle.md_order.specs.Alone.{HoldNoBlock, InEnding, InHeading, InParagraph, InTable, InUnderline, MayBeHere}
+use Rattle.md_order.specs.Alone.{Nothing, Open, closed_by, closes, is_one, is_set, open_following, opened_by}
 use Rattle.md_order.specs.Left.{MayBeLeft, MayStay}
 use Rattle.md_order.proofs.Names.{bare-unturned, tableless, unset-bare, unset-item}
 
@@ -27,7 +27,7 @@ stay-next w e es h = go h.1
   where
     go : MayBeLeft w h.0 (e ∷ es) → MayStay w es
     go (inl one) = (Nothing, inl one)
-    go (inr hold) = (open_behind h.0 e, inr hold.1)
+    go (inr hold) = (open_following h.0 e, inr hold.1)
 
 pub stay-drop : (w : Wanted) (es : List Event) → MayStay w es → (n : ℕ) → MayStay w (drop n es)
 stay-drop w es h zero = h
@@ -49,16 +49,17 @@ pub stay-opens : (w : Wanted) (e : Event) (es : List Event) → MayStay w (e ∷
 stay-opens w e es h begins here = go h.0 h.1
   where
     never : (leaf : Open) → (closes leaf e ≡ false → is_set e.name ≡ false) → MayBeLeft w (opened_by e.name) es
-    never leaf stands = absurd (let no : true ≡ false = sym here ∙ stands (no-close leaf e begins) in cc)
+    never leaf valid = absurd (let no : true ≡ false = sym here ∙ valid (no-close leaf e begins) in cc)
 
-    holding : (leaf : Open) → MayStand leaf e → HoldNoBlock (open_behind leaf e) es → MayBeLeft w (opened_by e.name) es
-    holding Nothing stands hold =
+    holding : (leaf : Open) → MayBeHere leaf e → HoldNoBlock (open_following leaf e) es →
+        MayBeLeft w (opened_by e.name) es
+    holding Nothing valid hold =
         inr (subst (λ (x : Bool). HoldNoBlock (cond x (opened_by e.name) Nothing) es) begins hold)
-    holding InHeading stands hold = never InHeading stands
-    holding InParagraph stands hold = never InParagraph stands
-    holding InUnderline stands hold = never InUnderline stands
-    holding InTable stands hold = never InTable stands
-    holding InEnding stands hold = never InEnding stands
+    holding InHeading valid hold = never InHeading valid
+    holding InParagraph valid hold = never InParagraph valid
+    holding InUnderline valid hold = never InUnderline valid
+    holding InTable valid hold = never InTable valid
+    holding InEnding valid hold = never InEnding valid
 
     go : (leaf : Open) → MayBeLeft w leaf (e ∷ es) → MayBeLeft w (opened_by e.name) es
     go leaf (inl one) = inl one
@@ -147,13 +148,13 @@ pub quiet-inside : (w : Wanted) (e : Event) (es : List Event) → w.atx ≡ true
 quiet-inside w e es on h = go h
   where
     by : (x : Bool) → closes InHeading e ≡ x → (closes InHeading e ≡ false → is_set e.name ≡ false) → IsQuiet w e
-    by true is stands =
+    by true is valid =
         heading-quiet w e
         (sym (closed-heading e.name) ∙ (and_parts (is_exit e.kind) (closed_by InHeading e.name) is).1)
-    by false is stands = (
-      λ k. unset-item e.name (stands is),
-      λ k. bare-unturned e (unset-bare e.name (stands is)),
-      λ k. tableless e.kind e.name (unset-bare e.name (stands is)).table,
+    by false is valid = (
+      λ k. unset-item e.name (valid is),
+      λ k. bare-unturned e (unset-bare e.name (valid is)),
+      λ k. tableless e.kind e.name (unset-bare e.name (valid is)).table,
     )
 
     go : MayBeLeft w InHeading (e ∷ es) → IsQuiet w e

@@ -5,7 +5,7 @@ use Rattle.md_engine.specs.declared.event.Event.{Event}
 use Rattle.md_engine.specs.declared.event.Name.{Name}
 use Rattle.md_engine.specs.declared.event.Name.TheVariants as n
 use Rattle.md_events.specs.Events.Nested.{is_exit}
-use Rattle.md_tables.specs.Cells.{begins_inner, ends_divider, ends_row, first_is, goes_on, has_white, is_divider}
+use Rattle.md_tables.specs.Cells.{begins_inner, ends_divider, ends_row, first_is, is_continued, has_white, is_divider}
 use Rattle.md_tables.specs.Cells.{is_inner, is_last, is_row, is_white, row_ends}
 use Rattle.md_tables.specs.Heads.{is_table}
 use Rattle.md_tables.specs.declared.cells.RowKind.{RowKind}
@@ -60,20 +60,20 @@ second-like test _ _ AtEnd w = refl
 second-like test _ _ (Same e xs ys h) w = first-like test xs ys h
 second-like test _ _ (Dark e xs ys h) w = absurd (let no : false ≡ true = sym h.white ∙ w in cc)
 
-behind-like : (test : Event → Bool) (xs ys : List Event) → Like xs ys → has_white ys ≡ true →
+following-like : (test : Event → Bool) (xs ys : List Event) → Like xs ys → has_white ys ≡ true →
     first_is test (drop 2 xs) ≡ first_is test (drop 2 ys)
-behind-like test _ _ AtEnd w = refl
-behind-like test _ _ (Same e xs ys h) w =
+following-like test _ _ AtEnd w = refl
+following-like test _ _ (Same e xs ys h) w =
     second-like test xs ys h
     (and_parts (is_white e.name) (first_is (λ f. is_white f.name) ys) (sym (white-first e ys) ∙ w)).1
-behind-like test _ _ (Dark e xs ys h) w = absurd (let no : false ≡ true = sym (dark-white e ys h) ∙ w in cc)
+following-like test _ _ (Dark e xs ys h) w = absurd (let no : false ≡ true = sym (dark-white e ys h) ∙ w in cc)
 
 row-like : (xs ys : List Event) → Like xs ys → row_ends xs ≡ row_ends ys
 row-like xs ys h = rw (white-like xs ys h) (go (has_white ys) refl)
   where
     go : (x : Bool) → has_white ys ≡ x →
         first_is ends_row (cond x (drop 2 xs) xs) ≡ first_is ends_row (cond x (drop 2 ys) ys)
-    go true w = behind-like ends_row xs ys h w
+    go true w = following-like ends_row xs ys h w
     go false w = first-like ends_row xs ys h
 
 -- an event of no pipe is not the last pipe
@@ -85,12 +85,12 @@ last-like _ _ AtEnd = refl
 last-like _ _ (Same e xs ys h) = ap (λ (x : Bool). ends_divider e && x) (row-like xs ys h)
 last-like _ _ (Dark e xs ys h) = no-pipe e xs h ∙ sym (no-pipe e ys h)
 
-on-like : (k : RowKind) (xs ys : List Event) → Like xs ys → goes_on k xs ≡ goes_on k ys
+on-like : (k : RowKind) (xs ys : List Event) → Like xs ys → is_continued k xs ≡ is_continued k ys
 on-like Text xs ys h = rw (white-like xs ys h) (go (has_white ys) refl)
   where
     go : (x : Bool) → has_white ys ≡ x →
         (x && first_is (begins_inner Text) (drop 2 xs)) ≡ (x && first_is (begins_inner Text) (drop 2 ys))
-    go true w = behind-like (begins_inner Text) xs ys h w
+    go true w = following-like (begins_inner Text) xs ys h w
     go false w = refl
 on-like Delimiter xs ys h = first-like (begins_inner Delimiter) xs ys h
 

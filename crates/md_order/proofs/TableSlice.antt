@@ -12,7 +12,7 @@ use Rattle.md_events.specs.Events.Nested.{is_enter, is_exit}
 use Rattle.md_tables.specs.Cells.{Step, begins_divider, ends_inner, ends_row, ends_with}
 use Rattle.md_tables.specs.Cells.{inside_step, is_divider, is_inner, step}
 use Rattle.md_tables.specs.Heads.{is_table}
-use Rattle.md_tables.specs.Tabled.{behind, bound_by, bound_of, in_front, next, tabled, tabled_from, with_cells}
+use Rattle.md_tables.specs.Tabled.{following, bound_by, bound_of, in_front, next, tabled, tabled_from, with_cells}
 use Rattle.md_tables.specs.declared.cells.RowKind.{RowKind}
 use Rattle.md_tables.specs.declared.cells.Stage.{Stage}
 use Rattle.md_tables.specs.declared.cells.Stage.TheVariants as row
@@ -35,8 +35,8 @@ abbrev pub rest : List Event → List Event
 rest [] = []
 rest (e ∷ es) = cond (ends_table e) es (rest es)
 
-abbrev pub goes_on : Event → Bool
-goes_on e = not (ends_table e)
+abbrev pub is_continued : Event → Bool
+is_continued e = not (ends_table e)
 
 -- they are so many
 pub slice-is : (es : List Event) → take (table_len es) es ≡ slice es
@@ -44,10 +44,10 @@ slice-is [] = refl
 slice-is (e ∷ es) = go (ends_table e) (slice-is es)
   where
     go : (x : Bool) → take (table_len es) es ≡ slice es →
-        take (suc (cond (not x) (1 + prefix_len goes_on es) 0)) (e ∷ es) ≡ e ∷ cond x [] (slice es)
+        take (suc (cond (not x) (1 + prefix_len is_continued es) 0)) (e ∷ es) ≡ e ∷ cond x [] (slice es)
     go true h = refl
     go false h =
-        let one : 1 + prefix_len goes_on es ≡ suc (prefix_len goes_on es) = omega arith in
+        let one : 1 + prefix_len is_continued es ≡ suc (prefix_len is_continued es) = omega arith in
         ap (λ (m : ℕ). e ∷ take m es) one ∙ ap (λ (l : List Event). e ∷ l) h
 
 pub rest-is : (es : List Event) → drop (table_len es) es ≡ rest es
@@ -55,10 +55,10 @@ rest-is [] = refl
 rest-is (e ∷ es) = go (ends_table e) (rest-is es)
   where
     go : (x : Bool) → drop (table_len es) es ≡ rest es →
-        drop (suc (cond (not x) (1 + prefix_len goes_on es) 0)) (e ∷ es) ≡ cond x es (rest es)
+        drop (suc (cond (not x) (1 + prefix_len is_continued es) 0)) (e ∷ es) ≡ cond x es (rest es)
     go true h = refl
     go false h =
-        let one : 1 + prefix_len goes_on es ≡ suc (prefix_len goes_on es) = omega arith in
+        let one : 1 + prefix_len is_continued es ≡ suc (prefix_len is_continued es) = omega arith in
         ap (λ (m : ℕ). drop m es) one ∙ h
 
 -- What follows them: nothing if no table ends.
@@ -113,7 +113,7 @@ end-step stage e xs ys h =
     go (row.Inner k) = rw (no_inner k) refl
     go row.Gap = refl
     go (row.Last k) = refl
-    go row.Behind = refl
+    go row.Following = refl
 
 end-cells : (section : Section) (stage : Stage) (e : Event) (xs ys : List Event) → ends_table e ≡ true →
     with_cells section stage e xs ≡ with_cells section stage e ys
@@ -140,20 +140,20 @@ pub tabled-slice : (es ys : List Event) (section : Section) (stage : Stage) → 
 tabled-slice [] ys section stage h = ap (tabled_from section stage) h ∙ sym (ap tabled h)
 tabled-slice (e ∷ es) ys section stage h = go (ends_table e) refl (λ s t k. tabled-slice es ys s t (h k))
   where
-    behind_it : Section
-    behind_it = next section (bound_of e)
+    after_it : Section
+    after_it = next section (bound_of e)
 
     itself : Step → List Event
-    itself c = in_front section (bound_of e) e.point ++ c.given ++ behind section (bound_of e) e.point
+    itself c = in_front section (bound_of e) e.point ++ c.given ++ following section (bound_of e) e.point
 
     cells : List Event → Step
     cells zs = with_cells section stage e zs
 
     ended : ends_table e ≡ true →
-        itself (cells ys) ++ tabled_from behind_it (cells ys).stage ys
-        ≡ (itself (cells []) ++ tabled_from behind_it (cells []).stage []) ++ tabled ys
+        itself (cells ys) ++ tabled_from after_it (cells ys).stage ys
+        ≡ (itself (cells []) ++ tabled_from after_it (cells []).stage []) ++ tabled ys
     ended is =
-        ap (λ (c : Step). itself c ++ tabled_from behind_it c.stage ys) (end-cells section stage e ys [] is)
+        ap (λ (c : Step). itself c ++ tabled_from after_it c.stage ys) (end-cells section stage e ys [] is)
         ∙ ap (λ (b : Bound). itself (cells []) ++ tabled_from (next section b) (cells []).stage ys)
         (end-bound e.kind e.name is)
         ∙ ap (λ (s : Section). itself (cells []) ++ tabled_from s (cells []).stage ys) (end-next section)
@@ -167,10 +167,10 @@ tabled-slice (e ∷ es) ys section stage h = go (ends_table e) refl (λ s t k. t
         ≡ tabled_from section stage (e ∷ cond x [] (slice es)) ++ tabled ys
     go true is more = ended is
     go false is more =
-        ap (λ (c : Step). itself c ++ tabled_from behind_it c.stage (slice es ++ ys))
+        ap (λ (c : Step). itself c ++ tabled_from after_it c.stage (slice es ++ ys))
         (cells-same section stage e (slice es ++ ys) (slice es)
         (looks-like (slice es ++ ys) (slice es) (slice-like es ys (h is))))
-        ∙ ap (λ (l : List Event). itself (cells (slice es)) ++ l) (more behind_it (cells (slice es)).stage is)
+        ∙ ap (λ (l : List Event). itself (cells (slice es)) ++ l) (more after_it (cells (slice es)).stage is)
         ∙ sym
-        (append_assoc (itself (cells (slice es))) (tabled_from behind_it (cells (slice es)).stage (slice es))
+        (append_assoc (itself (cells (slice es))) (tabled_from after_it (cells (slice es)).stage (slice es))
         (tabled ys))

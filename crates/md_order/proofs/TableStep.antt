@@ -18,7 +18,7 @@ use Rattle.md_tables.specs.declared.tables.Section.TheVariants as in_table
 use Rattle.md_order.specs.declared.wanted.Wanted.{Wanted}
 use Rattle.md_order.specs.Alone.{HoldNoBlock, InTable, Nothing, Open, closes, is_set, opened_by}
 use Rattle.md_order.specs.InOrder.{set_if}
-use Rattle.md_order.specs.Left.{MayBeLeft, MayStay, Standing, ends_table, left_in, table_len}
+use Rattle.md_order.specs.Left.{MayBeLeft, MayStay, Situation, ends_table, left_in, table_len}
 use Rattle.md_order.proofs.Names.{bare-unturned, table-begin, unset-bare, unset-item}
 use Rattle.md_order.proofs.Passed.{turns-none, turns-pass}
 use Rattle.md_order.proofs.SetextLook.{ahead, ahead-none, ahead-pass}
@@ -26,10 +26,10 @@ use Rattle.md_order.proofs.Stay.{closed-table, one-table, stay-opens}
 use Rattle.md_order.proofs.TableSlice.{rest, rest-follows, rest-is, slice, slice-is, tabled-slice}
 
 -- The events as the three before tables leave them.
-abbrev in_front : Wanted → List ℕ → Standing → List Event → List Event
+abbrev in_front : Wanted → List ℕ → Situation → List Event → List Event
 in_front w bytes at es = set_if w.setext (turned_from at.on) (ahead w.atx w.items bytes at.items es)
 
-front-none : (w : Wanted) (bytes : List ℕ) (at : Standing) → in_front w bytes at [] ≡ []
+front-none : (w : Wanted) (bytes : List ℕ) (at : Situation) → in_front w bytes at [] ≡ []
 front-none w bytes at =
     ap (set_if w.setext (turned_from at.on)) (ahead-none w.atx w.items bytes at.items)
     ∙ turns-none w.setext at.on
@@ -40,7 +40,7 @@ record IsOther (e : Event) : Type 0 where
   heading : is_heading e.name ≡ false
   text : is_unturned e ≡ true
 
-front-pass : (w : Wanted) (bytes : List ℕ) (at : Standing) (e : Event) (es : List Event) → IsOther e →
+front-pass : (w : Wanted) (bytes : List ℕ) (at : Situation) (e : Event) (es : List Event) → IsOther e →
     in_front w bytes at (e ∷ es) ≡ e ∷ in_front w bytes at es
 front-pass w bytes at e es h =
     ap (set_if w.setext (turned_from at.on))
@@ -62,7 +62,7 @@ unset-other e h = record {
 }
 
 -- What is in a table passes them.
-inside-passes : (w : Wanted) (bytes : List ℕ) (at : Standing) (es : List Event) → HoldNoBlock InTable es →
+inside-passes : (w : Wanted) (bytes : List ℕ) (at : Situation) (es : List Event) → HoldNoBlock InTable es →
     in_front w bytes at es ≡ slice es ++ in_front w bytes at (rest es)
 inside-passes w bytes at [] h = refl
 inside-passes w bytes at (e ∷ es) h =
@@ -82,7 +82,7 @@ inside-passes w bytes at (e ∷ es) h =
         (more (subst (λ (x : Bool). HoldNoBlock (cond x Nothing InTable) es) (same ∙ is) h.1))
 
 -- if tables alone are set, all passes
-alone-passes : (w : Wanted) (bytes : List ℕ) (at : Standing) → w.items ≡ false → w.atx ≡ false → w.setext ≡ false →
+alone-passes : (w : Wanted) (bytes : List ℕ) (at : Situation) → w.items ≡ false → w.atx ≡ false → w.setext ≡ false →
     (es : List Event) → in_front w bytes at es ≡ es
 alone-passes w bytes at i a s es =
     ap (λ (x : Bool). set_if x (turned_from at.on) (ahead w.atx w.items bytes at.items es)) s
@@ -97,7 +97,7 @@ slice-rest (e ∷ es) = go (ends_table e) (slice-rest es)
     go true h = refl
     go false h = ap (λ (l : List Event). e ∷ l) h
 
-slice-passes : (w : Wanted) (bytes : List ℕ) (at : Standing) (es : List Event) → w.tables ≡ true →
+slice-passes : (w : Wanted) (bytes : List ℕ) (at : Situation) (es : List Event) → w.tables ≡ true →
     MayBeLeft w InTable es → in_front w bytes at es ≡ slice es ++ in_front w bytes at (rest es)
 slice-passes w bytes at es on (inl one) =
     let others = one-table w one on in
@@ -109,7 +109,7 @@ slice-passes w bytes at es on (inr hold) = inside-passes w bytes at es hold
 begun-set : (name : Name) → name ≡ n.GfmTable → (is_set name ≡ true) × (opened_by name ≡ InTable)
 begun-set name h = rw h (refl, refl)
 
-pub table-step : (w : Wanted) (bytes : List ℕ) (at : Standing) (e : Event) (es : List Event) → w.tables ≡ true →
+pub table-step : (w : Wanted) (bytes : List ℕ) (at : Situation) (e : Event) (es : List Event) → w.tables ≡ true →
     begins_table (bound_of e) ≡ true → MayStay w (e ∷ es) →
     left_in w bytes at (e ∷ es)
     ≡ tabled (take (suc (table_len es)) (e ∷ es)) ++ left_in w bytes at (drop (suc (table_len es)) (e ∷ es))

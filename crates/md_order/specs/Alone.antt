@@ -46,17 +46,17 @@ abbrev pub closes : Open → Event → Bool
 closes leaf e = is_exit e.kind && closed_by leaf e.name
 
 -- Outside of them none ends; in one of them no item and none of them begins or ends, up to its own end.
-abbrev pub MayStand : Open → Event → Type 0
-MayStand Nothing e = is_exit e.kind ≡ true → opened_by e.name ≡ Nothing
-MayStand leaf e = closes leaf e ≡ false → is_set e.name ≡ false
+abbrev pub MayBeHere : Open → Event → Type 0
+MayBeHere Nothing e = is_exit e.kind ≡ true → opened_by e.name ≡ Nothing
+MayBeHere leaf e = closes leaf e ≡ false → is_set e.name ≡ false
 
-abbrev pub open_behind : Open → Event → Open
-open_behind Nothing e = if is_enter e.kind then opened_by e.name else Nothing
-open_behind leaf e = if closes leaf e then Nothing else leaf
+abbrev pub open_following : Open → Event → Open
+open_following Nothing e = if is_enter e.kind then opened_by e.name else Nothing
+open_following leaf e = if closes leaf e then Nothing else leaf
 
 abbrev pub HoldNoBlock : Open → List Event → Type 0
 HoldNoBlock leaf [] = Unit {0}
-HoldNoBlock leaf (e ∷ es) = MayStand leaf e × HoldNoBlock (open_behind leaf e) es
+HoldNoBlock leaf (e ∷ es) = MayBeHere leaf e × HoldNoBlock (open_following leaf e) es
 
 -- One resolver alone asks nothing of the events.
 abbrev pub is_one : Wanted → Bool

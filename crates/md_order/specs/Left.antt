@@ -14,11 +14,11 @@ use Rattle.md_order.specs.Alone.{HoldNoBlock, Open, is_one}
 use Rattle.md_order.specs.InOrder.{set_if}
 
 -- Where it is: among items, and whether a setext heading is open. ATX headings and tables are set whole.
-pub record Standing : Type 0 where
+pub record Situation : Type 0 where
   pub items : ListPlace
   pub on : Bool
 
-abbrev pub left_in : Wanted → List ℕ → Standing → List Event → List Event
+abbrev pub left_in : Wanted → List ℕ → Situation → List Event → List Event
 left_in w bytes at es =
     set_if w.tables tabled
     (set_if w.setext (turned_from at.on)

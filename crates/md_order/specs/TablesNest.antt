@@ -4,12 +4,12 @@ use Rattle.std.specs.Prelude.{◌≡◌, Bool, true, false, ◌||◌, if◌then�
 use Rattle.md_engine.specs.declared.event.Event.{Event}
 use Rattle.md_engine.specs.declared.event.Kind.TheVariants.{Enter, Exit}
 use Rattle.md_engine.specs.declared.event.Name.{Name}
-use Rattle.md_events.specs.Events.Nested.{open_behind}
+use Rattle.md_events.specs.Events.Nested.{open_following}
 use Rattle.md_tables.specs.Cells.{begins_row, ends_row, is_divider, is_inner, is_row}
 use Rattle.md_tables.specs.Tabled.{begins_table, bound_of}
 use Rattle.md_tables.specs.declared.cells.RowKind.{RowKind}
 use Rattle.md_tables.specs.declared.cells.RowKind.TheVariants.{Delimiter, Text}
-use Rattle.md_order.specs.HeadingsNest.{StandsAlone}
+use Rattle.md_order.specs.HeadingsNest.{IsByItself}
 use Rattle.md_order.specs.Left.{ends_table}
 
 -- Where one is: outside of tables; in one, by whether a delimiter row has ended and what is open in the table; in a row
@@ -25,15 +25,15 @@ is_cell_part k name = is_divider name || is_inner k name
 
 -- A row begins where nothing is open in its table, and ends where nothing is open in it. A table ends outside of rows,
 -- after a delimiter row, where nothing is open. In a row each pipe and each part of what cells hold is by itself.
-abbrev pub MayCome : Place → Event → Type 0
-MayCome Outside e = Unit {0}
-MayCome (InTable headed names) e =
+abbrev pub MayOccur : Place → Event → Type 0
+MayOccur Outside e = Unit {0}
+MayOccur (InTable headed names) e =
     (is_row e.name ≡ true → (e.kind ≡ Enter) × (names ≡ []))
     × (ends_table e ≡ true → (headed ≡ true) × (names ≡ []))
-MayCome (InRow headed k names) e =
+MayOccur (InRow headed k names) e =
     (is_row e.name ≡ true → (e.kind ≡ Exit) × (names ≡ []))
     × (ends_table e ≡ false)
-    × (is_cell_part k e.name ≡ true → StandsAlone names e.kind e.name)
+    × (is_cell_part k e.name ≡ true → IsByItself names e.kind e.name)
 
 abbrev pub is_delimiter : RowKind → Bool
 is_delimiter Text = false
@@ -44,16 +44,16 @@ abbrev pub within : Bool → List Name → Option RowKind → Place
 within headed names (Some k) = InRow headed k []
 within headed names None = InTable headed names
 
-abbrev pub place_behind : Place → Event → Place
-place_behind Outside e = if begins_table (bound_of e) then InTable false [] else Outside
-place_behind (InTable headed names) e =
-    if ends_table e then Outside else within headed (open_behind names e.kind e.name) (begins_row e)
-place_behind (InRow headed k names) e =
-    if ends_row e then InTable (headed || is_delimiter k) [] else InRow headed k (open_behind names e.kind e.name)
+abbrev pub place_following : Place → Event → Place
+place_following Outside e = if begins_table (bound_of e) then InTable false [] else Outside
+place_following (InTable headed names) e =
+    if ends_table e then Outside else within headed (open_following names e.kind e.name) (begins_row e)
+place_following (InRow headed k names) e =
+    if ends_row e then InTable (headed || is_delimiter k) [] else InRow headed k (open_following names e.kind e.name)
 
-abbrev pub RowsStand : Place → List Event → Type 0
-RowsStand place [] = Unit {0}
-RowsStand place (e ∷ es) = MayCome place e × RowsStand (place_behind place e) es
+abbrev pub RowsAllowed : Place → List Event → Type 0
+RowsAllowed place [] = Unit {0}
+RowsAllowed place (e ∷ es) = MayOccur place e × RowsAllowed (place_following place e) es
 
 abbrev pub TablesNest : List Event → Type 0
-TablesNest es = RowsStand Outside es
+TablesNest es = RowsAllowed Outside es

@@ -22,12 +22,12 @@ abbrev pub IsOther : Bool → Bool → Type 0
 IsOther paragraph underline = (paragraph ≡ false) × (underline ≡ false)
 
 -- what may be there, by whether it is of a paragraph or of an underline
-abbrev pub MayStandAt : Spot → Kind → Bool → Bool → Type 0
-MayStandAt Apart kind paragraph underline = Unit {0}
-MayStandAt (Between zero) Enter paragraph underline = paragraph ≡ false
-MayStandAt (Between zero) Exit paragraph underline = ⊥
-MayStandAt spot Enter paragraph underline = IsOther paragraph underline
-MayStandAt spot Exit paragraph underline = Unit {0}
+abbrev pub MayBeAt : Spot → Kind → Bool → Bool → Type 0
+MayBeAt Apart kind paragraph underline = Unit {0}
+MayBeAt (Between zero) Enter paragraph underline = paragraph ≡ false
+MayBeAt (Between zero) Exit paragraph underline = ⊥
+MayBeAt spot Enter paragraph underline = IsOther paragraph underline
+MayBeAt spot Exit paragraph underline = Unit {0}
 
 -- where one is after it, by whether an underline follows the paragraph that begins here
 abbrev pub spot_by : Spot → Kind → Bool → Bool → Bool → Spot
@@ -46,7 +46,7 @@ spot_by InUnderline Exit paragraph underline turned = if underline then Apart el
 abbrev pub TurnsNestFrom : Spot → List Event → Type 0
 TurnsNestFrom spot [] = spot ≡ Apart
 TurnsNestFrom spot (e ∷ es) =
-    MayStandAt spot e.kind (is_paragraph e.name) (is_underline e.name)
+    MayBeAt spot e.kind (is_paragraph e.name) (is_underline e.name)
     × TurnsNestFrom (spot_by spot e.kind (is_paragraph e.name) (is_underline e.name) (is_turned es)) es
 
 abbrev pub TurnsNest : List Event → Type 0

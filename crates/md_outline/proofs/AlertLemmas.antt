@@ -140,17 +140,17 @@ lines-kept kind depth [] h = refl
 lines-kept kind depth (x ∷ []) h = ap (λ line. line ∷ []) (line-kept kind depth x h.0)
 lines-kept kind depth (x ∷ y ∷ lines) h = ap (λ all. x ∷ all) (lines-kept kind depth (y ∷ lines) h.1)
 
-last-behind : (f : Entry → Entry) (xs : List Entry) (y : Entry) (ys : List Entry) →
+last-following : (f : Entry → Entry) (xs : List Entry) (y : Entry) (ys : List Entry) →
     on_last f (xs ++ y ∷ ys) ≡ xs ++ on_last f (y ∷ ys)
-last-behind f [] y ys = refl
-last-behind f (x ∷ []) y ys = refl
-last-behind f (x ∷ z ∷ xs) y ys = ap (λ all. x ∷ all) (last-behind f (z ∷ xs) y ys)
+last-following f [] y ys = refl
+last-following f (x ∷ []) y ys = refl
+last-following f (x ∷ z ∷ xs) y ys = ap (λ all. x ∷ all) (last-following f (z ∷ xs) y ys)
 
-kept-behind : (kind : Option AlertKind) (depth : ℕ) (xs ys : List Entry) → Some_lines ys → Deep depth ys →
+kept-following : (kind : Option AlertKind) (depth : ℕ) (xs ys : List Entry) → Some_lines ys → Deep depth ys →
     kind_given kind depth (xs ++ ys) ≡ xs ++ ys
-kept-behind kind depth xs [] some deep = absurd some
-kept-behind kind depth xs (y ∷ ys) some deep =
-    last-behind (line_given kind depth) xs y ys ∙ ap (λ l. xs ++ l) (lines-kept kind depth (y ∷ ys) deep)
+kept-following kind depth xs [] some deep = absurd some
+kept-following kind depth xs (y ∷ ys) some deep =
+    last-following (line_given kind depth) xs y ys ∙ ap (λ l. xs ++ l) (lines-kept kind depth (y ∷ ys) deep)
 
 -- So a kind changes nothing where there are blocks in the quote,
 pub kept-shown : (kind : Option AlertKind) (outer : List OpenContainer) (b : Block) (bs : Blocks) →
@@ -158,7 +158,7 @@ pub kept-shown : (kind : Option AlertKind) (outer : List OpenContainer) (b : Blo
 kept-shown kind outer b bs =
     let depth : ℕ = depth_of outer in
     ap (kind_given kind depth) (shown-fronts outer (More b bs))
-    ∙ kept-behind kind depth (fronts outer (More b bs)) (outline depth (More b bs))
+    ∙ kept-following kind depth (fronts outer (More b bs)) (outline depth (More b bs))
     (some-more (block_entries depth b) (outline depth bs) (some-block depth b))
     (deep-all depth depth (More b bs) (omega arith))
     ∙ sym (shown-fronts outer (More b bs))
@@ -196,7 +196,7 @@ opening-given (Some k) depth OrderedShape marker front = last-alert (Some k) dep
 opening-given (Some k) depth UnorderedShape marker front = last-alert (Some k) depth (word.List marker) front
 opening-given (Some k) depth (ItemShape m digits) marker front = last-alert (Some k) depth word.Item front
 opening-given (Some k) depth (FootnoteShape label) marker front =
-    last-behind (line_given (Some k) (depth + 1)) front (entry depth word.Footnote)
+    last-following (line_given (Some k) (depth + 1)) front (entry depth word.Footnote)
     (entry_with (depth + 1) word.Label label ∷ [])
     ∙ ap (λ line. front ++ entry depth word.Footnote ∷ line ∷ [])
     (line-same (Some k) (depth + 1) (entry_with (depth + 1) word.Label label) refl)

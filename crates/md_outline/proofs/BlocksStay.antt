@@ -8,11 +8,11 @@ use Rattle.md_engine.specs.declared.event.Kind.TheVariants.{Enter, Exit}
 use Rattle.md_engine.specs.declared.event.Point.{Point}
 use Rattle.md_events.specs.Events.Spelled.{OpenContainer, ContainerRole, IsEnding, IsQuoteMarker, OpenLeaf, LeafRole}
 use Rattle.md_events.specs.Events.Spelled.{Purpose, Reading, Role, Shape, TextRole, Text, block_around, block_of}
-use Rattle.md_events.specs.Events.Spelled.{finished, left, on_shape, read, read_by, role, told_at, with_kind}
+use Rattle.md_events.specs.Events.Spelled.{finished, left, on_shape, read, read_by, role, recorded_at, with_kind}
 use Rattle.md_events.specs.Events.Throughout.{all_blocks}
 use Rattle.md_meaning.specs.Tree.{Block}
 use Rattle.md_events.proofs.ThroughoutLemmas.{all-inside, all-then}
-use Rattle.md_outline.proofs.RoleLemmas.{by-ending, by-marker, by-told_at}
+use Rattle.md_outline.proofs.RoleLemmas.{by-ending, by-marker, by-recorded_at}
 
 abbrev pub outer_hold : (Block → Bool) → List OpenContainer → Bool
 outer_hold p [] = true
@@ -41,10 +41,10 @@ outer-named : (p : Block → Bool) (f : Shape → Shape) (outer : List OpenConta
 outer-named p f [] = refl
 outer-named p f (around ∷ outer) = refl
 
-stay-told : (p : Block → Bool) (bytes : List ℕ) (x : Purpose) (at : Point) (text : Option Text) (r : Reading) →
-    AllHold p (told_at bytes x at text r) → AllHold p r
-stay-told p bytes x at text r =
-    by-told_at (λ now. AllHold p now → AllHold p r) bytes x at text r (λ d. d)
+stay-recorded : (p : Block → Bool) (bytes : List ℕ) (x : Purpose) (at : Point) (text : Option Text) (r : Reading) →
+    AllHold p (recorded_at bytes x at text r) → AllHold p r
+stay-recorded p bytes x at text r =
+    by-recorded_at (λ now. AllHold p now → AllHold p r) bytes x at text r (λ d. d)
     (record {
       block = λ b d. ((all-then p r.here b d.0).0, d.1);
       named = λ f d. (d.0, sym (outer-named p f r.outer) ∙ d.1);
@@ -56,7 +56,7 @@ stay-step : (p : Block → Bool) (bytes : List ℕ) (kind : Kind) (x : Role) (at
 stay-step p bytes Enter (ContainerRole shape) at r d = and_parts (all_blocks p r.here) (outer_hold p r.outer) d.1
 stay-step p bytes Exit (ContainerRole shape) at r d = stay-left p r.outer r refl d
 stay-step p bytes Exit (LeafRole kind) at r d = stay-finished p r.leaf r d
-stay-step p bytes Exit (TextRole x) at r d = stay-told p bytes x at r.text r d
+stay-step p bytes Exit (TextRole x) at r d = stay-recorded p bytes x at r.text r d
 stay-step p bytes Exit IsEnding at r d =
     by-ending (λ now. AllHold p now → AllHold p r) bytes at r.text r (λ d. d) (λ d. d) d
 stay-step p bytes Enter IsQuoteMarker at r d =

@@ -9,9 +9,9 @@ use Rattle.md_meaning.specs.Outline.{Entry, block_entries, entry, entry_with, ou
 use Rattle.md_meaning.specs.State.{then_block}
 use Rattle.md_meaning.specs.Texts.{first_byte}
 use Rattle.md_meaning.specs.Tree.{Block, Blocks, End, Item, More}
-use Rattle.md_events.specs.Events.Spelled.{OpenContainer, AsDigits, AsItemMarker, FootnoteShape, ItemShape, OrderedShape}
-use Rattle.md_events.specs.Events.Spelled.{QuoteShape, Shape, UnorderedShape, block_around, is_ordered, list_marker}
-use Rattle.md_events.specs.Events.Spelled.{named, on_shape}
+use Rattle.md_events.specs.Events.Spelled.{OpenContainer, AsDigits, AsItemMarker, FootnoteShape, ItemShape}
+use Rattle.md_events.specs.Events.Spelled.{OrderedShape, QuoteShape, Shape, UnorderedShape, block_around, is_ordered}
+use Rattle.md_events.specs.Events.Spelled.{list_marker, named, on_shape}
 
 -- how many containers are open
 abbrev pub depth_of : List OpenContainer → ℕ
@@ -66,18 +66,18 @@ word-stays UnorderedShape xs ys e h = ap (λ m. m == 0) e ∙ h
 word-stays _ xs ys e h = tt
 
 -- the first item shows it
-first-told : (f : ℕ → Bool) (before : Blocks) (a b : Block) →
+first-recorded : (f : ℕ → Bool) (before : Blocks) (a b : Block) →
     list_marker f (More b End) ≡ list_marker f (More a End) →
     list_marker f (then_block before b) ≡ list_marker f (then_block before a)
-first-told f End a b e = e
-first-told f (More (Item m d x) bs) a b e = refl
-first-told f (More _ bs) a b e = refl
+first-recorded f End a b e = e
+first-recorded f (More (Item m d x) bs) a b e = refl
+first-recorded f (More _ bs) a b e = refl
 
 pub first-word : (shape : Shape) (before : Blocks) (a b : Block) →
     ((f : ℕ → Bool) → list_marker f (More b End) ≡ list_marker f (More a End)) →
     list_word shape (then_block before b) ≡ list_word shape (then_block before a)
-first-word OrderedShape before a b e = first-told is_ordered before a b (e is_ordered)
-first-word UnorderedShape before a b e = first-told is_bullet before a b (e is_bullet)
+first-word OrderedShape before a b e = first-recorded is_ordered before a b (e is_ordered)
+first-word UnorderedShape before a b e = first-recorded is_bullet before a b (e is_bullet)
 first-word _ before a b e = refl
 
 -- whatever is in it
@@ -95,16 +95,16 @@ around-word (list ∷ outer) around xs ys =
     (λ f. inside-word f around.shape xs ys)
 
 -- and a block after it changes nothing
-then-told : (f : ℕ → Bool) (here : Blocks) (b : Block) → (list_marker f here == 0) ≡ false →
+then-recorded : (f : ℕ → Bool) (here : Blocks) (b : Block) → (list_marker f here == 0) ≡ false →
     list_marker f (then_block here b) ≡ list_marker f here
-then-told f End b h = absurd (true≢false h)
-then-told f (More (Item m d x) bs) b h = refl
-then-told f (More _ bs) b h = refl
+then-recorded f End b h = absurd (true≢false h)
+then-recorded f (More (Item m d x) bs) b h = refl
+then-recorded f (More _ bs) b h = refl
 
 then-word : (shape : Shape) (here : Blocks) (b : Block) → HasWord shape here →
     list_word shape (then_block here b) ≡ list_word shape here
-then-word OrderedShape here b h = then-told is_ordered here b h
-then-word UnorderedShape here b h = then-told is_bullet here b h
+then-word OrderedShape here b h = then-recorded is_ordered here b h
+then-word UnorderedShape here b h = then-recorded is_bullet here b h
 then-word _ here b h = refl
 
 then-same : (outer : List OpenContainer) (here : Blocks) (b : Block) → HaveWords outer here →
@@ -201,21 +201,21 @@ shown-then outer here b h =
 -- Items that are said something.
 
 -- only an item is said anything
-abbrev ToldItem : Shape → Shape → Type 0
-ToldItem (ItemShape m d) (ItemShape k e) = Unit {0}
-ToldItem (ItemShape m d) _ = ⊥
-ToldItem x y = x ≡ y
+abbrev RecordedItem : Shape → Shape → Type 0
+RecordedItem (ItemShape m d) (ItemShape k e) = Unit {0}
+RecordedItem (ItemShape m d) _ = ⊥
+RecordedItem x y = x ≡ y
 
-told-lines : (depth : ℕ) (x y : Shape) (here : Blocks) → ToldItem x y →
+recorded-lines : (depth : ℕ) (x y : Shape) (here : Blocks) → RecordedItem x y →
     block_entries depth (block_around y here) ≡ block_entries depth (block_around x here)
-told-lines depth (ItemShape m d) (ItemShape k e) here h = refl
-told-lines depth (ItemShape m d) _ here h = absurd h
-told-lines depth x y here h = ap (λ shape. block_entries depth (block_around shape here)) (sym h)
+recorded-lines depth (ItemShape m d) (ItemShape k e) here h = refl
+recorded-lines depth (ItemShape m d) _ here h = absurd h
+recorded-lines depth x y here h = ap (λ shape. block_entries depth (block_around shape here)) (sym h)
 
-told-word : (x y : Shape) (here : Blocks) → ToldItem x y → HasWord x here → HasWord y here
-told-word (ItemShape m d) (ItemShape k e) here h w = tt
-told-word (ItemShape m d) _ here h w = absurd h
-told-word x y here h w = subst (λ shape. HasWord shape here) h w
+recorded-word : (x y : Shape) (here : Blocks) → RecordedItem x y → HasWord x here → HasWord y here
+recorded-word (ItemShape m d) (ItemShape k e) here h w = tt
+recorded-word (ItemShape m d) _ here h w = absurd h
+recorded-word x y here h w = subst (λ shape. HasWord shape here) h w
 
 -- a list that has a marker keeps it
 abbrev KeepsWord : (Shape → Shape) → Blocks → Type 0
@@ -270,10 +270,10 @@ pub record StaysShown (f : Shape → Shape) (outer : List OpenContainer) (here :
   pub depth : depth_of (on_shape f outer) ≡ depth_of outer
 
 stays-shown : (f : Shape → Shape) (outer : List OpenContainer) (here : Blocks) →
-    ((shape : Shape) → ToldItem shape (f shape)) → KeepsWord f here → HaveWords outer here → StaysShown f outer here
+    ((shape : Shape) → RecordedItem shape (f shape)) → KeepsWord f here → HaveWords outer here → StaysShown f outer here
 stays-shown f outer here alone k h = record {
   lines = lines outer h;
-  words = words-renamed f outer here (λ shape w. told-word shape (f shape) here (alone shape) w) k h;
+  words = words-renamed f outer here (λ shape w. recorded-word shape (f shape) here (alone shape) w) k h;
   depth = depth-renamed f outer;
 }
   where
@@ -281,11 +281,11 @@ stays-shown f outer here alone k h = record {
     lines [] h = refl
     lines (around ∷ outer) h =
         renamed f around outer here
-        (λ depth. told-lines depth around.shape (f around.shape) here (alone around.shape))
+        (λ depth. recorded-lines depth around.shape (f around.shape) here (alone around.shape))
         (named-same f outer around here k h.1)
 
 -- digits are not shown
-digits-alone : (text : List ℕ) (shape : Shape) → ToldItem shape (named AsDigits text shape)
+digits-alone : (text : List ℕ) (shape : Shape) → RecordedItem shape (named AsDigits text shape)
 digits-alone text (ItemShape m d) = tt
 digits-alone text _ = refl
 
@@ -305,7 +305,7 @@ digits-stay text outer here h =
     h
 
 -- the marker of an item is not that of a list which has one
-marker-alone : (text : List ℕ) (shape : Shape) → ToldItem shape (named AsItemMarker text shape)
+marker-alone : (text : List ℕ) (shape : Shape) → RecordedItem shape (named AsItemMarker text shape)
 marker-alone text (ItemShape m d) = tt
 marker-alone text _ = refl
 
@@ -313,13 +313,13 @@ no-marker : (m : ℕ) (x : Bool) → (m == 0) ≡ true → ((cond x m 0) == 0) �
 no-marker m true h = h
 no-marker m false h = refl
 
-marker-told : (f : ℕ → Bool) (before : Blocks) (k m : ℕ) (d : List ℕ) (here : Blocks) →
+marker-recorded : (f : ℕ → Bool) (before : Blocks) (k m : ℕ) (d : List ℕ) (here : Blocks) →
     (list_marker f (then_block before (Item m d here)) == 0) ≡ false →
     list_marker f (then_block before (Item (if m == 0 then k else m) d here))
     ≡ list_marker f (then_block before (Item m d here))
-marker-told f (More (Item a b c) bs) k m d here h = refl
-marker-told f (More _ bs) k m d here h = refl
-marker-told f End k m d here h = go (m == 0) refl
+marker-recorded f (More (Item a b c) bs) k m d here h = refl
+marker-recorded f (More _ bs) k m d here h = refl
+marker-recorded f End k m d here h = go (m == 0) refl
   where
     go : (x : Bool) → (m == 0) ≡ x →
         list_marker f (More (Item (cond x k m) d here) End) ≡ list_marker f (More (Item m d here) End)
@@ -331,9 +331,9 @@ marker-word : (list : Shape) (text : List ℕ) (before : Blocks) (shape : Shape)
     list_word list (then_block before (block_around (named AsItemMarker text shape) here))
     ≡ list_word list (then_block before (block_around shape here))
 marker-word OrderedShape text before (ItemShape m d) here h =
-    marker-told is_ordered before (first_byte text) m d here h
+    marker-recorded is_ordered before (first_byte text) m d here h
 marker-word UnorderedShape text before (ItemShape m d) here h =
-    marker-told is_bullet before (first_byte text) m d here h
+    marker-recorded is_bullet before (first_byte text) m d here h
 marker-word OrderedShape text before _ here h = refl
 marker-word UnorderedShape text before _ here h = refl
 marker-word _ text before shape here h = refl

@@ -7,7 +7,7 @@ use Rattle.md_engine.specs.declared.event.Kind.{Kind}
 use Rattle.md_engine.specs.declared.event.Kind.TheVariants.{Enter, Exit}
 use Rattle.md_engine.specs.declared.event.Name.{Name}
 use Rattle.md_outline.specs.CountOpen.{begun}
-use Rattle.md_events.specs.Events.Nested.{Fits, Matches, open_after, open_behind}
+use Rattle.md_events.specs.Events.Nested.{Fits, Matches, open_after, open_following}
 use Rattle.md_events.proofs.NestedLemmas.{open_after-append}
 
 -- So many parts have begun in the first events: the others of these have ended a part.
@@ -21,7 +21,7 @@ begun-within Exit count enters h = omega (arith, h)
 
 begun-open : (kind : Kind) (name : Name) (names : List Name) (count enters : ℕ) → Fits names kind name →
     enters + enters ≡ count + length names →
-    begun kind enters + begun kind enters ≡ (count + 1) + length (open_behind names kind name)
+    begun kind enters + begun kind enters ≡ (count + 1) + length (open_following names kind name)
 begun-open Enter name names count enters fits h = omega (arith, h)
 begun-open Exit name [] count enters fits h = absurd fits
 begun-open Exit name (innermost ∷ names) count enters fits h = omega (arith, h)
@@ -31,20 +31,20 @@ fits-at : (names : List Name) (events : List Event) (i : ℕ) (d : Event) → i 
 fits-at names [] i d lt m = let no : ⊥ = omega (arith, lt) in absurd no
 fits-at names (e ∷ events) zero d lt m = m.0
 fits-at names (e ∷ events) (suc i) d lt m =
-    fits-at (open_behind names e.kind e.name) events i d (omega (arith, lt)) m.1
+    fits-at (open_following names e.kind e.name) events i d (omega (arith, lt)) m.1
 
 pub counts-next : (events : List Event) (i : ℕ) (d : Event) (enters : ℕ) → i < length events → Counts events i enters →
     Counts events (i + 1) (begun (get_or events i d).kind enters)
 counts-next events i d enters lt is =
     let e : Event = get_or events i d in
     let before : List Name = open_after [] (take i events) in
-    let behind : open_after [] (take (i + 1) events) ≡ open_behind before e.kind e.name =
+    let following : open_after [] (take (i + 1) events) ≡ open_following before e.kind e.name =
     ap (open_after []) (take_more events i d lt) ∙ open_after-append [] (take i events) (e ∷ []) in
     record {
       within = begun-within e.kind i enters is.within;
       matched = λ m.
           begun-open e.kind e.name before i enters (fits-at [] events i d lt m) (is.matched m)
-          ∙ ap (λ (names : List Name). (i + 1) + length names) (sym behind);
+          ∙ ap (λ (names : List Name). (i + 1) + length names) (sym following);
     }
 
 begun-sum : (kind : Kind) (enters : ℕ) → begun kind enters ≡ enters + begun kind 0
@@ -124,7 +124,7 @@ matches-first : (names : List Name) (events : List Event) (count : ℕ) → Matc
 matches-first names events zero m = tt
 matches-first names [] (suc count) m = tt
 matches-first names (e ∷ events) (suc count) m =
-    (m.0, matches-first (open_behind names e.kind e.name) events count m.1)
+    (m.0, matches-first (open_following names e.kind e.name) events count m.1)
 
 pub left-counts : (events rest : List Event) (most enters : ℕ) → most ≤ length events →
     Left (take most events) rest enters → Counts events (most - length rest) enters

@@ -16,17 +16,17 @@ use Rattle.md_meaning.specs.Tree.{Definition, Line}
 use Rattle.md_events.specs.Events.Places.{last_line}
 use Rattle.md_events.specs.Events.Spelled.{AsDestination, AsLabel, AsTitle, DefinitionLeaf, DefinitionSoFar, IsPrefix}
 use Rattle.md_events.specs.Events.Spelled.{IsTitle, Reading, TextRole, Text, after_prefix, at_ending, at_title}
-use Rattle.md_events.specs.Events.Spelled.{before_prefix, begun, behind_title, byte_at, columns_left, first_told}
+use Rattle.md_events.specs.Events.Spelled.{before_prefix, begun, after_title, byte_at, columns_left, first_recorded}
 use Rattle.md_events.specs.Events.Spelled.{read_enter, read_exit, text_to}
 use Rattle.md_events.specs.Events.Spelled as spelled
 use Rattle.md_events.proofs.PlacesLemmas.{Some_line, some-split}
 use Rattle.md_outline.specs.DefinitionState.{part_ended, part_parted, part_word}
-use Rattle.md_outline.specs.LinedState.{now_told, without_end}
-use Rattle.md_outline.specs.LinesStand.{DestinationLeft, LabelPart, Left, MayHaveDestination}
-use Rattle.md_outline.specs.LinesStand.{MayHaveTitle, NoneLeft, Part, TitleLeft, TitlePart}
+use Rattle.md_outline.specs.LinedState.{now_recorded, without_end}
+use Rattle.md_outline.specs.LinesAllowed.{DestinationLeft, LabelPart, Left, MayHaveDestination}
+use Rattle.md_outline.specs.LinesAllowed.{MayHaveTitle, NoneLeft, Part, TitleLeft, TitlePart}
 use Rattle.md_outline.specs.Outlined.{begins_line, parts_by}
 use Rattle.md_outline.specs.OutlineSteps.{OutlineState, line_ended, parted_at, piece_shown, state_enter}
-use Rattle.md_outline.specs.OutlineSteps.{is_titled, state_exit, told, told_at}
+use Rattle.md_outline.specs.OutlineSteps.{is_titled, state_exit, recorded, recorded_at}
 use Rattle.md_outline.specs.TextLines.{first_as, first_full_as, full_as, lines_as}
 use Rattle.md_outline.specs.declared.outline.TextSpan.{TextSpan}
 use Rattle.md_outline.specs.declared.outline.lined.Form.TheVariants as form
@@ -34,15 +34,15 @@ use Rattle.md_outline.specs.declared.outline.lined.Lined.{Lined}
 use Rattle.md_outline.specs.declared.outline.role.Purpose.TheVariants as purpose
 use Rattle.md_outline.specs.declared.outline.role.Role.TheVariants as role
 use Rattle.md_outline.proofs.ClosedTrees.{shown}
-use Rattle.md_outline.proofs.LeavesOpen.{Known, Shows, known-next, known-told}
+use Rattle.md_outline.proofs.LeavesOpen.{Known, Shows, known-next, known-recorded}
 use Rattle.md_outline.proofs.LinedLines.{end-taken}
 use Rattle.md_outline.proofs.SiteTexts.{NoText, TextFrom, from-here, text-ends, text-line}
 use Rattle.md_outline.proofs.TextCuts.{first-piece, piece-entries}
-use Rattle.md_outline.proofs.TextPieces.{begins-behind}
+use Rattle.md_outline.proofs.TextPieces.{begins-following}
 
 -- What is known of one that is open, which has said its label or not.
 abbrev pub Defined : DefinitionSoFar → Bool → OutlineState → Reading → Type 0
-Defined definition is_told s r = Known (DefinitionLeaf definition) form.Definition is_told s r
+Defined definition is_recorded s r = Known (DefinitionLeaf definition) form.Definition is_recorded s r
 
 -- A part of several lines: whether the label is said, what is known by then, what is shown before it, and the word of
 -- its lines.
@@ -108,8 +108,8 @@ Whole label destination title s r =
     Shows (DefinitionLeaf (known_all label destination title)) form.Definition true (all_lines label destination title)
     s r
 
-abbrev pub Behind : Left → OutlineState → Reading → Type 0
-Behind left s r =
+abbrev pub Following : Left → OutlineState → Reading → Type 0
+Following left s r =
     (label : List (List ℕ)) × (destination : List ℕ) × (title : Option (List (List ℕ))) ×
     HasLeft left destination title × Whole label destination title s r
 
@@ -118,8 +118,8 @@ abbrev pub InDestinationText : OutlineState → Reading → Type 0
 InDestinationText s r = (label : List (List ℕ)) × Whole label [] None s r
 
 -- and in its title, after its text
-abbrev pub BehindText : OutlineState → Reading → Type 0
-BehindText s r =
+abbrev pub AfterText : OutlineState → Reading → Type 0
+AfterText s r =
     (label : List (List ℕ)) × (destination : List ℕ) × (title : List (List ℕ)) × Some_line title ×
     Whole label destination (Some title) s r
 
@@ -224,7 +224,7 @@ further-parts bytes part label destination p s r (Some span) (Some text) k is h 
         λ rest no.
             ap (λ t. first_as w (s.depth + 1) (t ++ rest)) front
             ∙ ap (first_as w (s.depth + 1)) (append_assoc text.front piece rest)
-            ∙ h.4 (piece ++ rest) (begins-behind piece rest no_feed no)
+            ∙ h.4 (piece ++ rest) (begins-following piece rest no_feed no)
             ∙ ap (λ es. h.2 ++ es) (piece-entries w (s.depth + 1) piece rest no parts.1)
             ∙ sym (append_assoc h.2 full (lines_as w (s.depth + 1) rest)),
       ),
@@ -289,15 +289,16 @@ first-ends part label destination piece s r all =
     ap (λ es. es ++ first_as (shown_by part) (s.depth + 1) piece) (front-left part label destination s r all)
 
 -- that of its label
-label-told : (is_parted : Bool) (piece destination : List ℕ) (label : List (List ℕ)) (line : Line) (s : OutlineState)
+label-recorded : (is_parted : Bool) (piece destination : List ℕ) (label : List (List ℕ)) (line : Line)
+    (s : OutlineState)
     (r : Reading) → Defined (part_known LabelPart label destination) false s r →
     part_ended word.Label is_parted (s.depth + 1) piece s.lines
     ≡ front_lines LabelPart label destination s r ++ first_as word.Label (s.depth + 1) line.text →
-    Behind DestinationLeft (told purpose.Label is_parted piece (record s { text = None }))
-    (spelled.told AsLabel line (record r { text = None }))
-    × NoText (told purpose.Label is_parted piece (record s { text = None }))
-    (spelled.told AsLabel line (record r { text = None }))
-label-told is_parted piece destination label line s r is lines =
+    Following DestinationLeft (recorded purpose.Label is_parted piece (record s { text = None }))
+    (spelled.recorded AsLabel line (record r { text = None }))
+    × NoText (recorded purpose.Label is_parted piece (record s { text = None }))
+    (spelled.recorded AsLabel line (record r { text = None }))
+label-recorded is_parted piece destination label line s r is lines =
     let before : List Entry = shown r.outer r.here in
     let head : List Entry = entry s.depth word.Definition ∷ [] in
     let labels : List Entry = first_as word.Label (s.depth + 1) line.text in
@@ -308,7 +309,7 @@ label-told is_parted piece destination label line s r is lines =
         None,
         (refl, refl),
         (
-          known-told (spelled.noted AsLabel line) is refl is.leaf (ap now_told is.lined),
+          known-recorded (spelled.noted AsLabel line) is refl is.leaf (ap now_recorded is.lined),
           ap (λ es. es ++ end) lines
               ∙ append_assoc (before ++ head) labels end
               ∙ append_assoc before head (labels ++ end),
@@ -321,28 +322,31 @@ label-all : (bytes : List ℕ) (label : List (List ℕ)) (destination : List ℕ
     (r : Reading) (span : Option TextSpan) (text : Option Text) → parts_by bytes Exit (TextRole AsLabel) p span ≡ true →
     Defined (part_known LabelPart label destination) false s r →
     PartIs word.Label (front_lines LabelPart label destination s r) s.depth s.lines span text →
-    Behind DestinationLeft (told_at bytes purpose.Label p.index span s) (spelled.told_at bytes AsLabel p text r)
-    × NoText (told_at bytes purpose.Label p.index span s) (spelled.told_at bytes AsLabel p text r)
+    Following DestinationLeft (recorded_at bytes purpose.Label p.index span s)
+    (spelled.recorded_at bytes AsLabel p text r)
+    × NoText (recorded_at bytes purpose.Label p.index span s) (spelled.recorded_at bytes AsLabel p text r)
 label-all bytes label destination p s r (Some span) (Some text) k is h =
-    label-told span.is_parted (slice_range bytes span.from p.index) destination label
+    label-recorded span.is_parted (slice_range bytes span.from p.index) destination label
     (record { spaces = text.spaces; text = text_to bytes p.index text }) s r is
     (further-ends bytes LabelPart label destination p s r span text k h)
 label-all bytes label destination p s r _ _ k is h = absurd h
 
 pub label-ends : (bytes : List ℕ) (p : Point) (s : OutlineState) (r : Reading) →
     parts_by bytes Exit (TextRole AsLabel) p s.text ≡ true → InText LabelPart s r →
-    Behind DestinationLeft (told_at bytes purpose.Label p.index s.text s) (spelled.told_at bytes AsLabel p r.text r)
-    × NoText (told_at bytes purpose.Label p.index s.text s) (spelled.told_at bytes AsLabel p r.text r)
+    Following DestinationLeft (recorded_at bytes purpose.Label p.index s.text s)
+    (spelled.recorded_at bytes AsLabel p r.text r)
+    × NoText (recorded_at bytes purpose.Label p.index s.text s) (spelled.recorded_at bytes AsLabel p r.text r)
 label-ends bytes p s r k h = label-all bytes h.0 h.1 p s r s.text r.text k h.2 h.3
 
 pub label-first : (bytes : List ℕ) (q p : Point) (s : OutlineState) (r : Reading) →
     AtText LabelPart s r × TextFrom q s r →
-    Behind DestinationLeft (told_at bytes purpose.Label p.index s.text s) (spelled.told_at bytes AsLabel p r.text r)
-    × NoText (told_at bytes purpose.Label p.index s.text s) (spelled.told_at bytes AsLabel p r.text r)
+    Following DestinationLeft (recorded_at bytes purpose.Label p.index s.text s)
+    (spelled.recorded_at bytes AsLabel p r.text r)
+    × NoText (recorded_at bytes purpose.Label p.index s.text s) (spelled.recorded_at bytes AsLabel p r.text r)
 label-first bytes q p s r h =
     let piece : List ℕ = slice_range bytes (byte_at q) p.index in
-    text-ends (λ s r. Behind DestinationLeft s r × NoText s r) bytes q p AsLabel purpose.Label s r h.1
-    (label-told false piece h.0.1 h.0.0 (record { spaces = columns_left q; text = piece }) s r h.0.2.0
+    text-ends (λ s r. Following DestinationLeft s r × NoText s r) bytes q p AsLabel purpose.Label s r h.1
+    (label-recorded false piece h.0.1 h.0.0 (record { spaces = columns_left q; text = piece }) s r h.0.2.0
     (first-ends LabelPart h.0.0 h.0.1 piece s r h.0.2.1))
 
 -- and that of its title
@@ -358,15 +362,16 @@ some-further : (lines : List (List ℕ)) → Some_line lines → Some_line (trim
 some-further [] h = absurd h
 some-further (line ∷ lines) h = tt
 
-title-told : (is_parted : Bool) (piece destination : List ℕ) (label : List (List ℕ)) (line : Line) (s : OutlineState)
+title-recorded : (is_parted : Bool) (piece destination : List ℕ) (label : List (List ℕ)) (line : Line)
+    (s : OutlineState)
     (r : Reading) → Defined (part_known TitlePart label destination) true s r →
     part_ended word.Title is_parted (s.depth + 1) piece s.lines
     ≡ front_lines TitlePart label destination s r ++ first_as word.Title (s.depth + 1) line.text →
-    BehindText (told purpose.DefinitionTitle is_parted piece (record s { text = None }))
-    (spelled.told AsTitle line (record r { text = None }))
-    × NoText (told purpose.DefinitionTitle is_parted piece (record s { text = None }))
-    (spelled.told AsTitle line (record r { text = None }))
-title-told is_parted piece destination label line s r is lines =
+    AfterText (recorded purpose.DefinitionTitle is_parted piece (record s { text = None }))
+    (spelled.recorded AsTitle line (record r { text = None }))
+    × NoText (recorded purpose.DefinitionTitle is_parted piece (record s { text = None }))
+    (spelled.recorded AsTitle line (record r { text = None }))
+title-recorded is_parted piece destination label line s r is lines =
     let before : List Entry = shown r.outer r.here in
     let title : List (List ℕ) = trim_further (split_lines line.text) in (
       (
@@ -389,28 +394,30 @@ title-all : (bytes : List ℕ) (label : List (List ℕ)) (destination : List ℕ
     (r : Reading) (span : Option TextSpan) (text : Option Text) → parts_by bytes Exit (TextRole AsTitle) p span ≡ true →
     Defined (part_known TitlePart label destination) true s r →
     PartIs word.Title (front_lines TitlePart label destination s r) s.depth s.lines span text →
-    BehindText (told_at bytes purpose.DefinitionTitle p.index span s) (spelled.told_at bytes AsTitle p text r)
-    × NoText (told_at bytes purpose.DefinitionTitle p.index span s) (spelled.told_at bytes AsTitle p text r)
+    AfterText (recorded_at bytes purpose.DefinitionTitle p.index span s) (spelled.recorded_at bytes AsTitle p text r)
+    × NoText (recorded_at bytes purpose.DefinitionTitle p.index span s) (spelled.recorded_at bytes AsTitle p text r)
 title-all bytes label destination p s r (Some span) (Some text) k is h =
-    title-told span.is_parted (slice_range bytes span.from p.index) destination label
+    title-recorded span.is_parted (slice_range bytes span.from p.index) destination label
     (record { spaces = text.spaces; text = text_to bytes p.index text }) s r is
     (further-ends bytes TitlePart label destination p s r span text k h)
 title-all bytes label destination p s r _ _ k is h = absurd h
 
 pub title-ends : (bytes : List ℕ) (p : Point) (s : OutlineState) (r : Reading) →
     parts_by bytes Exit (TextRole AsTitle) p s.text ≡ true → InText TitlePart s r →
-    BehindText (told_at bytes purpose.DefinitionTitle p.index s.text s) (spelled.told_at bytes AsTitle p r.text r)
-    × NoText (told_at bytes purpose.DefinitionTitle p.index s.text s) (spelled.told_at bytes AsTitle p r.text r)
+    AfterText (recorded_at bytes purpose.DefinitionTitle p.index s.text s)
+    (spelled.recorded_at bytes AsTitle p r.text r)
+    × NoText (recorded_at bytes purpose.DefinitionTitle p.index s.text s) (spelled.recorded_at bytes AsTitle p r.text r)
 title-ends bytes p s r k h = title-all bytes h.0 h.1 p s r s.text r.text k h.2 h.3
 
 pub title-first : (bytes : List ℕ) (q p : Point) (s : OutlineState) (r : Reading) →
     AtText TitlePart s r × TextFrom q s r →
-    BehindText (told_at bytes purpose.DefinitionTitle p.index s.text s) (spelled.told_at bytes AsTitle p r.text r)
-    × NoText (told_at bytes purpose.DefinitionTitle p.index s.text s) (spelled.told_at bytes AsTitle p r.text r)
+    AfterText (recorded_at bytes purpose.DefinitionTitle p.index s.text s)
+    (spelled.recorded_at bytes AsTitle p r.text r)
+    × NoText (recorded_at bytes purpose.DefinitionTitle p.index s.text s) (spelled.recorded_at bytes AsTitle p r.text r)
 title-first bytes q p s r h =
     let piece : List ℕ = slice_range bytes (byte_at q) p.index in
-    text-ends (λ s r. BehindText s r × NoText s r) bytes q p AsTitle purpose.DefinitionTitle s r h.1
-    (title-told false piece h.0.1 h.0.0 (record { spaces = columns_left q; text = piece }) s r h.0.2.0
+    text-ends (λ s r. AfterText s r × NoText s r) bytes q p AsTitle purpose.DefinitionTitle s r h.1
+    (title-recorded false piece h.0.1 h.0.0 (record { spaces = columns_left q; text = piece }) s r h.0.2.0
     (first-ends TitlePart h.0.0 h.0.1 piece s r h.0.2.1))
 
 -- After its label.
@@ -423,14 +430,14 @@ shows-known label destination known title known_title s r same same_title h =
     subst (λ t. Whole label known t s r) same_title (subst (λ d. Whole label d title s r) same h)
 
 -- its destination begins
-nothing-told : (left : Left) (destination : List ℕ) (title : Option (List (List ℕ))) → MayHaveDestination left →
+nothing-recorded : (left : Left) (destination : List ℕ) (title : Option (List (List ℕ))) → MayHaveDestination left →
     HasLeft left destination title → (destination ≡ []) × (title ≡ None)
-nothing-told DestinationLeft destination title may h = h
-nothing-told TitleLeft destination title may h = absurd may
-nothing-told NoneLeft destination title may h = absurd may
+nothing-recorded DestinationLeft destination title may h = h
+nothing-recorded TitleLeft destination title may h = absurd may
+nothing-recorded NoneLeft destination title may h = absurd may
 
 pub destination-begins : (left : Left) (p : Point) (s : OutlineState) (r : Reading) → MayHaveDestination left →
-    Behind left s r →
+    Following left s r →
     InDestinationText
     (record s { text = Some (record { from = byte_at p; is_parted = false }); spaces = columns_left p })
     (record r { text = Some (begun p) })
@@ -438,16 +445,16 @@ pub destination-begins : (left : Left) (p : Point) (s : OutlineState) (r : Readi
     TextFrom q (record s { text = Some (record { from = byte_at p; is_parted = false }); spaces = columns_left p })
     (record r { text = Some (begun p) }))
 destination-begins left p s r may h =
-    let none = nothing-told left h.1 h.2 may h.3 in
+    let none = nothing-recorded left h.1 h.2 may h.3 in
     ((h.0, shows-known h.0 h.1 [] h.2 None s r none.0 none.1 h.4), (p, from-here p s r))
 
 -- and ends
 destination-filled : (label : List (List ℕ)) (line : Line) (s : OutlineState) (r : Reading) →
     Whole label [] None s r →
-    Behind TitleLeft (told purpose.Destination false line.text (record s { text = None }))
-    (spelled.told AsDestination line (record r { text = None }))
-    × NoText (told purpose.Destination false line.text (record s { text = None }))
-    (spelled.told AsDestination line (record r { text = None }))
+    Following TitleLeft (recorded purpose.Destination false line.text (record s { text = None }))
+    (spelled.recorded AsDestination line (record r { text = None }))
+    × NoText (recorded purpose.Destination false line.text (record s { text = None }))
+    (spelled.recorded AsDestination line (record r { text = None }))
 destination-filled label line s r h =
     let before : List Entry = shown r.outer r.here in
     let front : List Entry = entry s.depth word.Definition ∷ entries (s.depth + 1) word.Label label in
@@ -470,11 +477,12 @@ destination-filled label line s r h =
 
 pub destination-ends : (bytes : List ℕ) (q p : Point) (s : OutlineState) (r : Reading) → InDestinationText s r →
     TextFrom q s r →
-    Behind TitleLeft (told_at bytes purpose.Destination p.index s.text s)
-    (spelled.told_at bytes AsDestination p r.text r)
-    × NoText (told_at bytes purpose.Destination p.index s.text s) (spelled.told_at bytes AsDestination p r.text r)
+    Following TitleLeft (recorded_at bytes purpose.Destination p.index s.text s)
+    (spelled.recorded_at bytes AsDestination p r.text r)
+    × NoText (recorded_at bytes purpose.Destination p.index s.text s)
+    (spelled.recorded_at bytes AsDestination p r.text r)
 destination-ends bytes q p s r h from =
-    text-ends (λ s r. Behind TitleLeft s r × NoText s r) bytes q p AsDestination purpose.Destination s r from
+    text-ends (λ s r. Following TitleLeft s r × NoText s r) bytes q p AsDestination purpose.Destination s r from
     (destination-filled h.0 (record { spaces = columns_left q; text = slice_range bytes (byte_at q) p.index }) s r h.1)
 
 -- its title begins
@@ -485,7 +493,7 @@ no-title TitleLeft destination title may h = h
 no-title NoneLeft destination title may h = absurd may
 
 pub title-begins : (bytes : List ℕ) (left : Left) (p : Point) (s : OutlineState) (r : Reading) → MayHaveTitle left →
-    Behind left s r × NoText s r →
+    Following left s r × NoText s r →
     AtText TitlePart (state_enter bytes role.Title p s) (read_enter bytes IsTitle p r)
     × NoText (state_enter bytes role.Title p s) (read_enter bytes IsTitle p r)
 title-begins bytes left p s r may h =
@@ -505,7 +513,7 @@ title-begins bytes left p s r may h =
 
 -- and ends without a text
 pub title-empty : (bytes : List ℕ) (p : Point) (s : OutlineState) (r : Reading) → AtText TitlePart s r × NoText s r →
-    Behind NoneLeft (state_exit bytes role.Title p s) (read_exit bytes IsTitle p r)
+    Following NoneLeft (state_exit bytes role.Title p s) (read_exit bytes IsTitle p r)
     × NoText (state_exit bytes role.Title p s) (read_exit bytes IsTitle p r)
 title-empty bytes p s r h = (
   (
@@ -514,7 +522,7 @@ title-empty bytes p s r h = (
     Some ([] ∷ []),
     tt,
     (
-      known-next behind_title h.0.2.0 refl,
+      known-next after_title h.0.2.0 refl,
       h.0.2.1 ∙ ap (λ es. shown r.outer r.here ++ es) (titled-lines h.0.0 h.0.1 ([] ∷ []) s.depth),
     ),
   ),
@@ -522,12 +530,12 @@ title-empty bytes p s r h = (
 )
 
 -- or after one
-stays-told : (title now : List (List ℕ)) → Some_line title → first_told title now ≡ title
-stays-told [] now h = absurd h
-stays-told (line ∷ title) now h = refl
+stays-recorded : (title now : List (List ℕ)) → Some_line title → first_recorded title now ≡ title
+stays-recorded [] now h = absurd h
+stays-recorded (line ∷ title) now h = refl
 
-pub title-full : (bytes : List ℕ) (p : Point) (s : OutlineState) (r : Reading) → BehindText s r × NoText s r →
-    Behind NoneLeft (state_exit bytes role.Title p s) (read_exit bytes IsTitle p r)
+pub title-full : (bytes : List ℕ) (p : Point) (s : OutlineState) (r : Reading) → AfterText s r × NoText s r →
+    Following NoneLeft (state_exit bytes role.Title p s) (read_exit bytes IsTitle p r)
     × NoText (state_exit bytes role.Title p s) (read_exit bytes IsTitle p r)
 title-full bytes p s r h = (
   (
@@ -536,8 +544,8 @@ title-full bytes p s r h = (
     Some h.0.2,
     tt,
     (
-      known-next behind_title h.0.4.0
-          (ap (λ t. DefinitionLeaf (known_all h.0.0 h.0.1 (Some t))) (stays-told h.0.2 ([] ∷ []) h.0.3)),
+      known-next after_title h.0.4.0
+          (ap (λ t. DefinitionLeaf (known_all h.0.0 h.0.1 (Some t))) (stays-recorded h.0.2 ([] ∷ []) h.0.3)),
       h.0.4.1,
     ),
   ),

@@ -13,53 +13,53 @@ use Rattle.md_engine.specs.declared.event.Kind.TheVariants.{Enter, Exit}
 use Rattle.md_engine.specs.declared.event.Name.{Name}
 use Rattle.md_engine.specs.declared.event.Point.{Point}
 use Rattle.md_meaning.specs.Lines.{is_ending}
-use Rattle.md_events.specs.Events.Nested.{Balanced, Fits, Forward, Matches, around, enter, exit, open_behind}
+use Rattle.md_events.specs.Events.Nested.{Balanced, Fits, Forward, Matches, around, enter, exit, open_following}
 use Rattle.md_events.specs.Events.Places.{at_or_before}
 use Rattle.md_events.specs.Events.Spelled.{AsDestination, AsLabel, AsTitle, IsEnding, IsPrefix, IsQuiet, IsQuoteMarker}
 use Rattle.md_events.specs.Events.Spelled.{IsTitle, OfDefinition, LeafRole, Purpose, Role, TextRole, byte_at, role}
 use Rattle.md_events.proofs.SpelledLemmas.{Between, Quiet, QuietOrEnding, Roles}
-use Rattle.md_outline.specs.LinesStand.{AtLabel, AtTitleText, BehindPart, BehindTitleText, InDestination, InPart}
-use Rattle.md_outline.specs.LinesStand.{InParted, LabelPart, Left, LinesStand, MayHaveDestination, MayHaveTitle}
-use Rattle.md_outline.specs.LinesStand.{MayStand, NoneLeft, Outside, Part, Site}
-use Rattle.md_outline.specs.LinesStand.{TitleLeft, TitlePart, part_site, site_by}
+use Rattle.md_outline.specs.LinesAllowed.{AtLabel, AtTitleText, AfterPart, AfterTitleText, InDestination, InPart}
+use Rattle.md_outline.specs.LinesAllowed.{InParted, LabelPart, Left, LinesAllowed, MayHaveDestination, MayHaveTitle}
+use Rattle.md_outline.specs.LinesAllowed.{MayBeHere, NoneLeft, Outside, Part, Site}
+use Rattle.md_outline.specs.LinesAllowed.{TitleLeft, TitlePart, part_site, site_by}
 use Rattle.md_outline.proofs.LinesPass.{Passes, Steps, passes-append, passes-around, passes-event, passes-quiet}
-use Rattle.md_outline.proofs.LinesPass.{stand-both, passes-lines, passes-inline}
+use Rattle.md_outline.proofs.LinesPass.{are_valid-both, passes-lines, passes-inline}
 
 -- All of it.
 pub passes-definition : (bytes : List ℕ) (name : Name) (p q : Point) (left : Left) (es : List Event) →
-    role name ≡ LeafRole OfDefinition → Passes bytes AtLabel (BehindPart left) es →
+    role name ≡ LeafRole OfDefinition → Passes bytes AtLabel (AfterPart left) es →
     Passes bytes Outside Outside (around name p q es)
 passes-definition bytes name p q left es is h =
-    passes-around bytes Outside AtLabel (BehindPart left) Outside (LeafRole OfDefinition) name p q es is (tt, refl) h
+    passes-around bytes Outside AtLabel (AfterPart left) Outside (LeafRole OfDefinition) name p q es is (tt, refl) h
     (tt, refl)
 
 -- Between its parts endings and prefixes may be,
 pub passes-between : (bytes : List ℕ) (left : Left) (es : List Event) → Roles Between es →
-    Passes bytes (BehindPart left) (BehindPart left) es
-passes-between bytes left es h = passes-lines bytes (BehindPart left) es tt h
+    Passes bytes (AfterPart left) (AfterPart left) es
+passes-between bytes left es h = passes-lines bytes (AfterPart left) es tt h
 
 -- its destination,
 pub passes-destination : (bytes : List ℕ) (name : Name) (p q : Point) (left : Left) (es : List Event) →
     role name ≡ TextRole AsDestination → MayHaveDestination left → Roles Quiet es →
-    Passes bytes (BehindPart left) (BehindPart TitleLeft) (around name p q es)
+    Passes bytes (AfterPart left) (AfterPart TitleLeft) (around name p q es)
 passes-destination bytes name p q left es is may h =
-    passes-around bytes (BehindPart left) InDestination InDestination (BehindPart TitleLeft)
+    passes-around bytes (AfterPart left) InDestination InDestination (AfterPart TitleLeft)
     (TextRole AsDestination) name
     p q es is (may, refl) (passes-quiet bytes InDestination es h) (tt, refl)
 
 -- and its title, around its text, or with none.
 pub passes-titled : (bytes : List ℕ) (name : Name) (p q : Point) (left : Left) (es : List Event) →
-    role name ≡ IsTitle → MayHaveTitle left → Passes bytes AtTitleText BehindTitleText es →
-    Passes bytes (BehindPart left) (BehindPart NoneLeft) (around name p q es)
+    role name ≡ IsTitle → MayHaveTitle left → Passes bytes AtTitleText AfterTitleText es →
+    Passes bytes (AfterPart left) (AfterPart NoneLeft) (around name p q es)
 passes-titled bytes name p q left es is may h =
-    passes-around bytes (BehindPart left) AtTitleText BehindTitleText (BehindPart NoneLeft) IsTitle name p q es is
+    passes-around bytes (AfterPart left) AtTitleText AfterTitleText (AfterPart NoneLeft) IsTitle name p q es is
     (may, refl) h (tt, refl)
 
 pub passes-untitled : (bytes : List ℕ) (name : Name) (p q : Point) (left : Left) (es : List Event) →
     role name ≡ IsTitle → MayHaveTitle left → Roles Quiet es →
-    Passes bytes (BehindPart left) (BehindPart NoneLeft) (around name p q es)
+    Passes bytes (AfterPart left) (AfterPart NoneLeft) (around name p q es)
 passes-untitled bytes name p q left es is may h =
-    passes-around bytes (BehindPart left) AtTitleText AtTitleText (BehindPart NoneLeft) IsTitle name p q es is
+    passes-around bytes (AfterPart left) AtTitleText AtTitleText (AfterPart NoneLeft) IsTitle name p q es is
     (may, refl) (passes-quiet bytes AtTitleText es h) (tt, refl)
 
 -- The text of its label, or of its title.
@@ -75,7 +75,7 @@ part_begin TitlePart = AtTitleText
 
 passes-text : (bytes : List ℕ) (part : Part) (name : Name) (p q : Point) (site : Site) (es : List Event) →
     role name ≡ TextRole (part_purpose part) → Passes bytes (InPart part p) site es →
-    MayStand bytes site Exit (TextRole (part_purpose part)) q
+    MayBeHere bytes site Exit (TextRole (part_purpose part)) q
     × (site_by bytes site Exit (TextRole (part_purpose part)) q ≡ part_site part) →
     Passes bytes (part_begin part) (part_site part) (around name p q es)
 passes-text bytes LabelPart name p q site es is h ends =
@@ -87,7 +87,7 @@ passes-text bytes TitlePart name p q site es is h ends =
 
 -- without prefixes
 first-ends : (bytes : List ℕ) (part : Part) (p q : Point) →
-    MayStand bytes (InPart part p) Exit (TextRole (part_purpose part)) q
+    MayBeHere bytes (InPart part p) Exit (TextRole (part_purpose part)) q
     × (site_by bytes (InPart part p) Exit (TextRole (part_purpose part)) q ≡ part_site part)
 first-ends bytes LabelPart p q = (tt, refl)
 first-ends bytes TitlePart p q = (tt, refl)
@@ -148,7 +148,7 @@ abbrev NoPrefixes : List Name → Type 0
 NoPrefixes [] = Unit {0}
 NoPrefixes (name ∷ names) = NoPrefix (role name) × NoPrefixes names
 
-closed-none : (names : List Name) (name : Name) → NoPrefixes names → NoPrefixes (open_behind names Exit name)
+closed-none : (names : List Name) (name : Name) → NoPrefixes names → NoPrefixes (open_following names Exit name)
 closed-none [] name h = tt
 closed-none (innermost ∷ names) name h = h.1
 
@@ -160,9 +160,9 @@ none-ends (innermost ∷ names) name h fits is = subst NoPrefix (ap role fits �
 walk-event : (bytes : List ℕ) (part : Part) (q p : Point) (kind : Kind) (name : Name) (names : List Name)
     (zs : List Event) (x : Role) → role name ≡ x → Between x → NoPrefixes names → Fits names kind name →
     list_any is_ending (slice_range bytes (byte_at q) p.index) ≡ true →
-    (NoPrefixes (open_behind names kind name) → LinesStand bytes (InPart part q) zs) →
-    LinesStand bytes (InParted part) zs →
-    MayStand bytes (InPart part q) kind x p × LinesStand bytes (site_by bytes (InPart part q) kind x p) zs
+    (NoPrefixes (open_following names kind name) → LinesAllowed bytes (InPart part q) zs) →
+    LinesAllowed bytes (InParted part) zs →
+    MayBeHere bytes (InPart part q) kind x p × LinesAllowed bytes (site_by bytes (InPart part q) kind x p) zs
 walk-event bytes part q p Enter name names zs IsQuiet is between none fits some stays parted =
     (tt, stays (subst NoPrefix (sym is) tt, none))
 walk-event bytes part q p Exit name names zs IsQuiet is between none fits some stays parted =
@@ -182,20 +182,20 @@ walk-event bytes part q p kind name names zs _ is between none fits some stays p
 
 walk : (bytes : List ℕ) (part : Part) (q i : Point) (names : List Name) (es ys : List Event) → NoPrefixes names →
     Matches names es → Forward i es → Roles Between es →
-    list_any is_ending (slice_range bytes (byte_at q) i.index) ≡ true → LinesStand bytes (InPart part q) ys →
-    LinesStand bytes (InParted part) ys → LinesStand bytes (InPart part q) (es ++ ys)
+    list_any is_ending (slice_range bytes (byte_at q) i.index) ≡ true → LinesAllowed bytes (InPart part q) ys →
+    LinesAllowed bytes (InParted part) ys → LinesAllowed bytes (InPart part q) (es ++ ys)
 walk bytes part q i names [] ys none matches forward between some first parted = first
 walk bytes part q i names (e ∷ es) ys none matches forward between some first parted =
     let here : list_any is_ending (slice_range bytes (byte_at q) e.point.index) ≡ true =
     any-later bytes (byte_at q) i e.point forward.0 some in
     walk-event bytes part q e.point e.kind e.name names (es ++ ys) (role e.name) refl between.0 none matches.0 here
     (λ left.
-    walk bytes part q e.point (open_behind names e.kind e.name) es ys left matches.1 forward.1 between.1 here first
+    walk bytes part q e.point (open_following names e.kind e.name) es ys left matches.1 forward.1 between.1 here first
     parted)
     (passes-lines bytes (InParted part) es tt between.1 ys parted)
 
 parted-ends : (bytes : List ℕ) (part : Part) (q : Point) →
-    MayStand bytes (InParted part) Exit (TextRole (part_purpose part)) q
+    MayBeHere bytes (InParted part) Exit (TextRole (part_purpose part)) q
     × (site_by bytes (InParted part) Exit (TextRole (part_purpose part)) q ≡ part_site part)
 parted-ends bytes LabelPart q = (tt, refl)
 parted-ends bytes TitlePart q = (tt, refl)
@@ -220,8 +220,8 @@ passes-part bytes part name p i q first further is line some balanced forward be
 
     inside : Passes bytes (InPart part p) (part_site part) ((first ++ further) ++ exit name q ∷ [])
     inside ys more =
-        stand-both bytes (InPart part p) (first ++ further) (exit name q ∷ []) ys
-        (stand-both bytes (InPart part p) first further (exit name q ∷ ys)
+        are_valid-both bytes (InPart part p) (first ++ further) (exit name q ∷ []) ys
+        (are_valid-both bytes (InPart part p) first further (exit name q ∷ ys)
         (passes-inline bytes (InPart part p) first tt line (further ++ exit name q ∷ ys)
         (walk bytes part p i [] further (exit name q ∷ ys) tt balanced.matches forward between some
         (ends (InPart part p) (first-ends bytes part p q) ys more)

@@ -10,16 +10,16 @@ use Rattle.md_engine.specs.declared.event.Event.{Event}
 use Rattle.md_engine.specs.declared.event.Name.{Name}
 use Rattle.md_meaning.specs.declared.outline.OutlineLine.{OutlineLine}
 use Rattle.md_meaning.specs.Outline.{Entry, outline}
-use Rattle.md_events.specs.Events.Nested.{Balanced, Matches, open_after, open_behind}
+use Rattle.md_events.specs.Events.Nested.{Balanced, Matches, open_after, open_following}
 use Rattle.md_events.specs.Events.Spelled.{OpenContainer, OpenLeaf, Reading, Text, read, read_by, role, spelled, unread}
 use Rattle.md_events.proofs.NestedLemmas.{matches-front, matches-rest, open_after-append}
 use Rattle.md_events.proofs.SpelledLemmas.{read-append}
 use Rattle.md_outline.specs.HeadingDepths.{are_shallow, fits}
-use Rattle.md_outline.specs.LinesStand.{LinesStand, Outside, Site, site_by}
-use Rattle.md_outline.specs.ListsBegin.{AllTold, ListsBegin, Stage, stage_by}
+use Rattle.md_outline.specs.LinesAllowed.{LinesAllowed, Outside, Site, site_by}
+use Rattle.md_outline.specs.ListsBegin.{AllRecorded, ListsBegin, Stage, stage_by}
 use Rattle.md_outline.specs.OutlinePart.{Begins}
 use Rattle.md_outline.specs.Outlined.{IsOutlined, Outlines, are_parted, has_shown_name, is_unparted, parts_by, span_by}
-use Rattle.md_outline.specs.Outlined.{stands_between, tells_between}
+use Rattle.md_outline.specs.Outlined.{is_between_characters, text_begins_between}
 use Rattle.md_outline.specs.declared.outline.TextSpan.{TextSpan}
 use Rattle.md_outline.proofs.OutlineDepths.{all-closed}
 use Rattle.md_outline.proofs.PartsOpen.{IsUnread, IsWithin, none-read, within-first, within-step}
@@ -31,24 +31,24 @@ use Rattle.md_outline.proofs.Shifted.{all-blocks, outline-blocks, read-then, the
 record Walks (bytes : List ℕ) (span : Option TextSpan) (site : Site) (stage : Stage) (r : Reading)
     (front back : List Event) : Type 0 where
   front_parted : are_parted bytes span front ≡ true
-  front_lines : LinesStand bytes site front
+  front_lines : LinesAllowed bytes site front
   front_lists : ListsBegin bytes stage front
   parted : are_parted bytes None back ≡ true
-  lines : LinesStand bytes Outside back
-  lists : ListsBegin bytes AllTold back
+  lines : LinesAllowed bytes Outside back
+  lists : ListsBegin bytes AllRecorded back
   no_text : (read bytes r front).text ≡ None
   no_leaf : (read bytes r front).leaf ≡ None
 
 walks-none : (bytes : List ℕ) (span : Option TextSpan) (site : Site) (stage : Stage) (r : Reading) (back : List Event) →
-    are_parted bytes span back ≡ true → LinesStand bytes site back → ListsBegin bytes stage back →
+    are_parted bytes span back ≡ true → LinesAllowed bytes site back → ListsBegin bytes stage back →
     IsUnread span site stage r → Walks bytes span site stage r [] back
 walks-none bytes span site stage r back parted lines lists is = record {
   front_parted = ap is_unparted is.span_none;
-  front_lines = subst (λ (x : Site). LinesStand bytes x []) (sym is.outside) tt;
+  front_lines = subst (λ (x : Site). LinesAllowed bytes x []) (sym is.outside) tt;
   front_lists = tt;
   parted = sym (ap (λ (x : Option TextSpan). are_parted bytes x back) is.span_none) ∙ parted;
-  lines = subst (λ (x : Site). LinesStand bytes x back) is.outside lines;
-  lists = subst (λ (x : Stage). ListsBegin bytes x back) is.all_told lists;
+  lines = subst (λ (x : Site). LinesAllowed bytes x back) is.outside lines;
+  lists = subst (λ (x : Stage). ListsBegin bytes x back) is.all_recorded lists;
   no_text = is.no_text;
   no_leaf = is.no_leaf;
 }
@@ -56,7 +56,8 @@ walks-none bytes span site stage r back parted lines lists is = record {
 walks : (bytes : List ℕ) (names : List Name) (span : Option TextSpan) (site : Site) (stage : Stage) (r : Reading)
     (front back : List Event) →
     Matches names (front ++ back) → open_after names front ≡ [] → are_parted bytes span (front ++ back) ≡ true →
-    LinesStand bytes site (front ++ back) → ListsBegin bytes stage (front ++ back) → IsWithin names span site stage r →
+    LinesAllowed bytes site (front ++ back) → ListsBegin bytes stage (front ++ back) →
+    IsWithin names span site stage r →
     Walks bytes span site stage r front back
 walks bytes names span site stage r [] back matches closed parted lines lists is =
     walks-none bytes span site stage r back parted lines lists
@@ -65,7 +66,7 @@ walks bytes names span site stage r (e ∷ front) back matches closed parted lin
     let next : Option TextSpan = span_by e.kind (role e.name) e.point span in
     let parts = and_parts (parts_by bytes e.kind (role e.name) e.point span) (are_parted bytes next (front ++ back))
     parted in
-    let rest = walks bytes (open_behind names e.kind e.name) next (site_by bytes site e.kind (role e.name) e.point)
+    let rest = walks bytes (open_following names e.kind e.name) next (site_by bytes site e.kind (role e.name) e.point)
     (stage_by stage e.kind (role e.name) e.point) (read_by bytes e.kind (role e.name) e.point r) front back
     matches.1 closed parts.1 lines.1 lists.1
     (within-step bytes names span site stage r e.kind e.name e.point matches.0 lines.0 lists.0 is) in
@@ -127,14 +128,14 @@ divided front back bytes closed is =
           sym (open_after-append [] front back ∙ ap (λ (ns : List Name). open_after ns back) closed)
           ∙ is.balanced.closed;
     } in
-    let walked = walks bytes [] None Outside AllTold unread front back is.balanced.matches closed is.parted is.lines
+    let walked = walks bytes [] None Outside AllRecorded unread front back is.balanced.matches closed is.parted is.lines
     is.lists within-first in
     let tree : spelled (front ++ back) bytes ≡ then_blocks (spelled front bytes) (spelled back bytes) =
     spelled-append bytes front back first rest walked.no_text walked.no_leaf in
     let depths = all-blocks fits (spelled front bytes) (spelled back bytes) (sym (ap are_shallow tree) ∙ is.depths) in
     let names = all-parts has_shown_name front back is.names in
-    let between = all-parts (stands_between bytes) front back is.between in
-    let texts = all-parts (tells_between bytes) front back is.texts in
+    let between = all-parts (is_between_characters bytes) front back is.between in
+    let texts = all-parts (text_begins_between bytes) front back is.texts in
     record {
       first = record {
         balanced = first;

@@ -26,10 +26,10 @@ line-above (x ∷ xs) = go (nat_lt 13 x) refl (line-above xs)
         prefix_len (nat_lt 13) (x ∷ xs) + line_len (drop (prefix_len (nat_lt 13) (x ∷ xs)) (x ∷ xs))
     go true e more =
         let count : prefix_len (nat_lt 13) (x ∷ xs) ≡ suc (prefix_len (nat_lt 13) xs) = rw e (omega arith) in
-        let behind : line_len (drop (prefix_len (nat_lt 13) (x ∷ xs)) (x ∷ xs)) ≡
+        let following : line_len (drop (prefix_len (nat_lt 13) (x ∷ xs)) (x ∷ xs)) ≡
         line_len (drop (prefix_len (nat_lt 13) xs) xs) = ap (λ (m : ℕ). line_len (drop m (x ∷ xs))) count in
         let here : line_len (x ∷ xs) ≡ 1 + line_len xs = rw (no-ending x e) refl in
-        omega (arith, count, behind, here, more)
+        omega (arith, count, following, here, more)
     go false e more = rw e (omega arith)
 
 -- and so are another byte that is no ending, and bytes above CR after it
@@ -47,8 +47,8 @@ line-more text at n lt lf cr before is =
     let one : line_len (get_or text at 0 ∷ drop (at + 1) text) ≡ 1 + line_len (drop (at + 1) text) =
     rw (no_lf, no_cr) refl in
     let here = ap line_len cut ∙ one in
-    let behind : line_len (drop (at + 1) text) ≡ n + line_len (drop n (drop (at + 1) text)) =
+    let following : line_len (drop (at + 1) text) ≡ n + line_len (drop n (drop (at + 1) text)) =
     rw count (line-above (drop (at + 1) text)) in
     let far : drop n (drop (at + 1) text) ≡ drop (at + 1 + n) text = drop-drop _ _ text in
     let same = ap line_len far in
-    omega (arith, before, here, behind, same)
+    omega (arith, before, here, following, same)

@@ -7,12 +7,12 @@ use Rattle.md_meaning.specs.declared.alert.AlertKind.{AlertKind}
 use Rattle.md_meaning.specs.declared.outline.Word.TheVariants as word
 use Rattle.md_meaning.specs.Outline.{Entry, entry, entry_with}
 use Rattle.md_meaning.specs.Tree.{Blocks, End, Footnote}
-use Rattle.md_events.specs.Events.Spelled.{OpenContainer, AsFootnoteLabel, FootnoteShape, Reading, Text, named, on_shape}
-use Rattle.md_events.specs.Events.Spelled.{with_kind}
+use Rattle.md_events.specs.Events.Spelled.{OpenContainer, AsFootnoteLabel, FootnoteShape, Reading, Text, named}
+use Rattle.md_events.specs.Events.Spelled.{on_shape, with_kind}
 use Rattle.md_events.specs.Events.Spelled as spelled
-use Rattle.md_outline.specs.FootnoteState.{label_told}
+use Rattle.md_outline.specs.FootnoteState.{label_recorded}
 use Rattle.md_outline.specs.Outlined.{is_unparted}
-use Rattle.md_outline.specs.OutlineSteps.{OutlineState, told_at}
+use Rattle.md_outline.specs.OutlineSteps.{OutlineState, recorded_at}
 use Rattle.md_outline.specs.declared.outline.TextSpan.{TextSpan}
 use Rattle.md_outline.specs.declared.outline.role.Purpose.TheVariants as purpose
 use Rattle.md_outline.proofs.ClosedTrees.{HaveWords, depth_of, shown, shown-then, words-then}
@@ -58,20 +58,20 @@ awaits-given kind opened here a = record {
 -- its label ends
 label-agrees : (now : List ℕ) (s : OutlineState) (r : Reading) (a : AwaitsLabel r.outer r.here) →
     s.lines ≡ shown r.outer r.here → Agrees s r →
-    Agrees (record s { text = None; lines = label_told s.depth now s.lines })
+    Agrees (record s { text = None; lines = label_recorded s.depth now s.lines })
     (record r { text = None; outer = on_shape (named AsFootnoteLabel now) r.outer })
 label-agrees now s r a same is =
-    let told : OutlineState = record s { text = None; lines = label_told s.depth now s.lines } in
+    let recorded : OutlineState = record s { text = None; lines = label_recorded s.depth now s.lines } in
     let before : List Entry = shown a.outer a.before in
     let head : Entry = entry (depth_of a.outer) word.Footnote in
     let depth : s.depth ≡ depth_of a.outer + 1 = is.depth ∙ ap depth_of a.is in
     subst
     (λ (o : List OpenContainer).
-    Agrees told (record r { text = None; outer = on_shape (named AsFootnoteLabel now) o }))
+    Agrees recorded (record r { text = None; outer = on_shape (named AsFootnoteLabel now) o }))
     (sym a.is)
     (subst
     (λ (h : Blocks).
-    Agrees told
+    Agrees recorded
     (record r {
       text = None;
       here = h;
@@ -86,7 +86,7 @@ label-agrees now s r a same is =
       lined = is.lined;
       known = is.known;
       text =
-          ap (label_told s.depth now)
+          ap (label_recorded s.depth now)
           (same ∙ ap (λ o. shown o r.here) a.is
           ∙ ap (shown (record { shape = FootnoteShape []; before = a.before } ∷ a.outer)) a.empty
           ∙ shown-then a.outer a.before (Footnote [] End) a.words
@@ -101,13 +101,13 @@ label-agrees now s r a same is =
 pub label-ends : (bytes : List ℕ) (p : Point) (s : OutlineState) (r : Reading) (span : Option TextSpan)
     (text : Option Text) → AwaitsLabel r.outer r.here →
     TextIs (shown r.outer r.here) s.depth s.lines span text → is_unparted span ≡ true → Agrees s r →
-    Agrees (told_at bytes purpose.FootnoteLabel p.index span s) (spelled.told_at bytes AsFootnoteLabel p text r)
+    Agrees (recorded_at bytes purpose.FootnoteLabel p.index span s) (spelled.recorded_at bytes AsFootnoteLabel p text r)
 label-ends bytes p s r None None a h k is = is
 label-ends bytes p s r (Some span) (Some text) a h k is =
     let piece : List ℕ = slice_range bytes span.from p.index in
     subst
     (λ now.
-    Agrees (record s { text = None; lines = label_told s.depth piece s.lines })
+    Agrees (record s { text = None; lines = label_recorded s.depth piece s.lines })
     (record r { text = None; outer = on_shape (named AsFootnoteLabel now) r.outer }))
     (sym (whole-piece bytes p (shown r.outer r.here) s.depth s.lines span text k h))
     (label-agrees piece s r a (text-lines (shown r.outer r.here) s.depth s.lines (Some span) (Some text) k h) is)

@@ -2,7 +2,7 @@
 use Rattle.std.proofs.Common.{◌≡◌, ℕ, true, cond, List, [], ◌∷◌, refl, ap, arith}
 use Rattle.std.specs.Prelude.{nat_le, nat_lt}
 use Rattle.std.proofs.lemmas.Bool.Decides.{nat_tests}
-use Rattle.md_events.specs.Events.Spelled.{first_told}
+use Rattle.md_events.specs.Events.Spelled.{first_recorded}
 use Rattle.md_meaning.specs.Texts.{split_lines, trim_each}
 use Rattle.md_meaning.specs.Tree.{Block, Heading}
 use Rattle.md_events.proofs.PlacesLemmas.{Some_line, some-split}
@@ -17,10 +17,10 @@ fitted-same (Heading depth lines) h =
 fitted-same _ h = refl
 
 -- the lines of a title are, whatever is said next
-pub title-stands : (text : List ℕ) (now : List (List ℕ)) →
-    first_told (trim_each (split_lines text)) now ≡ trim_each (split_lines text)
-title-stands text now = go (split_lines text) (some-split text)
+pub title-valid : (text : List ℕ) (now : List (List ℕ)) →
+    first_recorded (trim_each (split_lines text)) now ≡ trim_each (split_lines text)
+title-valid text now = go (split_lines text) (some-split text)
   where
-    go : (lines : List (List ℕ)) → Some_line lines → first_told (trim_each lines) now ≡ trim_each lines
+    go : (lines : List (List ℕ)) → Some_line lines → first_recorded (trim_each lines) now ≡ trim_each lines
     go [] h = absurd h
     go (line ∷ lines) h = refl

@@ -85,10 +85,10 @@ pub last-given : (kind : AlertKind) (depth : ℕ) (lines : List OutlineLine) (n 
     length lines ≡ suc n → from ≡ get_or lines n from →
     to ≡ record from { word = alert_word (Some kind) from.word } → depth - from.depth ≡ 1 →
     map entry_of (set lines n to) ≡ kind_given (Some kind) depth (map entry_of lines)
-last-given kind depth lines n from to long is told deep =
+last-given kind depth lines n from to long is recorded deep =
     let at : (from.depth + 1 == depth) ≡ true = eq-eqb (from.depth + 1) depth (omega (arith, deep)) in
     last-set (line_given (Some kind) depth) lines n from to long is
-    (ap entry_of told
+    (ap entry_of recorded
     ∙ sym
     (ap
     (λ x. cond x (record (entry_of from) { word = alert_word (Some kind) from.word }) (entry_of from))

@@ -17,23 +17,24 @@ use Rattle.md_events.specs.Events.Inline.{line_end, together}
 use Rattle.md_events.specs.Events.Nested.{Balanced, is_exit, pair}
 use Rattle.md_events.specs.Events.Places.{same_place}
 use Rattle.md_events.specs.Events.Spelled.{AsCell, AsDelimiter, AsDestination, AsDigits, AsFootnoteLabel, AsHeading}
-use Rattle.md_events.specs.Events.Spelled.{AsInfo, AsItemMarker, AsLabel, AsLine, AsMarkers, AsMeta, AsParagraph, AsTitle}
-use Rattle.md_events.specs.Events.Spelled.{IsEnding, IsPrefix, IsQuiet, IsQuoteMarker, Purpose, Role, TextRole, byte_at}
-use Rattle.md_events.specs.Events.Spelled.{role, LeafRole}
-use Rattle.md_events.specs.Events.Tiles.{Tiles, chunks_stand, depth_behind, filled, filled_from, first_list}
-use Rattle.md_events.specs.Events.Tiles.{further_lists, is_chunk, is_part, parts, plain_lists, plain_read, stands_in_part}
-use Rattle.md_events.proofs.FilledLemmas.{EachInline, chunk-behind, first-inline, further-inline, spelled-filled}
-use Rattle.md_events.proofs.FilledLemmas.{stands-role}
+use Rattle.md_events.specs.Events.Spelled.{AsInfo, AsItemMarker, AsLabel, AsLine, AsMarkers, AsMeta, AsParagraph}
+use Rattle.md_events.specs.Events.Spelled.{AsTitle, IsEnding, IsPrefix, IsQuiet, IsQuoteMarker, Purpose, Role, TextRole}
+use Rattle.md_events.specs.Events.Spelled.{byte_at, role, LeafRole}
+use Rattle.md_events.specs.Events.Tiles.{Tiles, chunks_in_parts, depth_following, filled, filled_from, first_list}
+use Rattle.md_events.specs.Events.Tiles.{further_lists, is_chunk, is_part, parts, plain_lists, plain_read}
+use Rattle.md_events.specs.Events.Tiles.{may_be_in_part}
+use Rattle.md_events.proofs.FilledLemmas.{EachInline, chunk-following, first-inline, further-inline, spelled-filled}
+use Rattle.md_events.proofs.FilledLemmas.{valid-role}
 use Rattle.md_events.proofs.NestsLemmas.{tiles-nested}
 use Rattle.md_events.proofs.PartsLemmas.{inline-append, parts-are, read-inline_lists}
 use Rattle.md_events.proofs.SpelledLemmas.{QuietOrEnding, QuietOrPrefix, Roles, roles-append}
 use Rattle.md_outline.specs.Between.{is_between}
 use Rattle.md_outline.specs.HeadingDepths.{are_shallow}
-use Rattle.md_outline.specs.LinesStand.{InTable, LinesStand, MayStand, Outside, Site, site_by, table_site}
-use Rattle.md_outline.specs.ListsBegin.{AllTold, AtLabel as AtFootnoteLabel, ListsBegin, MayFollow, Stage, stage_by}
+use Rattle.md_outline.specs.LinesAllowed.{InTable, LinesAllowed, MayBeHere, Outside, Site, site_by, table_site}
+use Rattle.md_outline.specs.ListsBegin.{AllRecorded, AtLabel as AtFootnoteLabel, ListsBegin, MayFollow, Stage, stage_by}
 use Rattle.md_outline.specs.Outlined.{IsOutlined, OpenTextSpan, are_parted, has_shown_name, parts_by, span_by}
-use Rattle.md_outline.specs.Outlined.{stands_between, tells_between}
-use Rattle.md_outline.specs.Roles.{is_seen, is_shown, is_told, shown_as}
+use Rattle.md_outline.specs.Outlined.{is_between_characters, text_begins_between}
+use Rattle.md_outline.specs.Roles.{is_seen, is_shown, is_recorded, shown_as}
 use Rattle.md_outline.specs.TablePlaces.{AtHead, MayBe, TablePlace, spot_by}
 use Rattle.md_outline.proofs.LinesPass.{keeps-quiet, keeps-quote_marker, text-keeps, IsTextSite}
 
@@ -77,7 +78,7 @@ record Walk (S : Type 0) (W : S → List Event → Type 0) : Type 1 where
       W (next s e.kind (role e.name) e.point) es → W s (e ∷ es)
   begins : (s : S) (x : Purpose) (p : Point) → IsPartText x → May s Enter (TextRole x) p →
       IsText (next s Enter (TextRole x) p)
-  goes : (s : S) (kind : Kind) (x : Role) (p : Point) → IsText s → QuietOrPrefix x → May s kind x p →
+  proceeds : (s : S) (kind : Kind) (x : Role) (p : Point) → IsText s → QuietOrPrefix x → May s kind x p →
       IsText (next s kind x p)
   keeps : (s : S) (kind : Kind) (x : Role) (p : Point) → IsText s → QuietOrEnding x →
       May s kind x p × (next s kind x p ≡ s)
@@ -111,26 +112,27 @@ text-at S T (suc depth) s text = text
 
 abbrev Kept : (S : Type 0) (W : S → List Event → Type 0) → Walk S W → List Event → Type 0
 Kept S W walk es =
-    (depth : ℕ) (s : S) (plain lists : List (List Event)) → chunks_stand depth es ≡ true →
+    (depth : ℕ) (s : S) (plain lists : List (List Event)) → chunks_in_parts depth es ≡ true →
     TextAt S walk.IsText depth s → EachInline plain → EachInline lists → W s (filled_from false es plain) →
     W s (filled_from false es lists)
 
-abbrev KeptBehind : (S : Type 0) (W : S → List Event → Type 0) → Walk S W → List Event → Type 0
-KeptBehind S W walk [] = Unit {0}
-KeptBehind S W walk (e ∷ es) = Kept S W walk es
+abbrev KeptFollowing : (S : Type 0) (W : S → List Event → Type 0) → Walk S W → List Event → Type 0
+KeptFollowing S W walk [] = Unit {0}
+KeptFollowing S W walk (e ∷ es) = Kept S W walk es
 
 -- an event with no link stays as it is
 kept-unlinked : (S : Type 0) (W : S → List Event → Type 0) (walk : Walk S W) (e : Event) (es : List Event) (depth : ℕ)
-    (s : S) (plain lists : List (List Event)) → Kept S W walk es → is_linked e ≡ false → chunks_stand depth es ≡ true →
+    (s : S) (plain lists : List (List Event)) → Kept S W walk es → is_linked e ≡ false →
+    chunks_in_parts depth es ≡ true →
     (walk.May s e.kind (role e.name) e.point →
     TextAt S walk.IsText depth (walk.next s e.kind (role e.name) e.point)) →
     EachInline plain → EachInline lists → W s (filled_from false (e ∷ es) plain) →
     W s (filled_from false (e ∷ es) lists)
-kept-unlinked S W walk e es depth s plain lists kept unlinked stands text before each h =
+kept-unlinked S W walk e es depth s plain lists kept unlinked valid text before each h =
     let here = walk.takes s e (filled_from false es plain) (subst (W s) (at plain) h) in
     subst (W s) (sym (at lists))
     (walk.joins s e (filled_from false es lists) here.0
-    (kept depth (walk.next s e.kind (role e.name) e.point) plain lists stands (text here.0) before each here.1))
+    (kept depth (walk.next s e.kind (role e.name) e.point) plain lists valid (text here.0) before each here.1))
   where
     at : (ls : List (List Event)) → filled_from false (e ∷ es) ls ≡ e ∷ filled_from false es ls
     at ls =
@@ -140,14 +142,15 @@ kept-unlinked S W walk e es depth s plain lists kept unlinked stands text before
 
 -- a chunk gives way to what an inline layer makes of it
 kept-linked : (S : Type 0) (W : S → List Event → Type 0) (walk : Walk S W) (e : Event) (es : List Event) (depth : ℕ)
-    (s : S) (plain lists : List (List Event)) → KeptBehind S W walk es → is_linked e ≡ true → is_chunk e es ≡ true →
-    chunks_stand (depth_behind e.kind (suc depth)) es ≡ true → walk.IsText s → EachInline plain → EachInline lists →
+    (s : S) (plain lists : List (List Event)) → KeptFollowing S W walk es → is_linked e ≡ true → is_chunk e es ≡ true →
+    chunks_in_parts (depth_following e.kind (suc depth)) es ≡ true → walk.IsText s → EachInline plain →
+    EachInline lists →
     W s (filled_from false (e ∷ es) plain) → W s (filled_from false (e ∷ es) lists)
-kept-linked S W walk e [] depth s plain lists kept linked chunk stands text before each h = cc
-kept-linked S W walk e (f ∷ es) depth s plain lists kept linked chunk stands text before each h =
+kept-linked S W walk e [] depth s plain lists kept linked chunk valid text before each h = cc
+kept-linked S W walk e (f ∷ es) depth s plain lists kept linked chunk valid text before each h =
     subst (W s) (sym (at lists))
     (put-in S W walk s (first_list lists) (filled_from false es (further_lists lists)) text (first-inline lists each)
-    (kept (suc depth) s (further_lists plain) (further_lists lists) (chunk-behind depth e f es chunk stands) text
+    (kept (suc depth) s (further_lists plain) (further_lists lists) (chunk-following depth e f es chunk valid) text
     (further-inline plain before) (further-inline lists each)
     (left-out S W walk s (first_list plain) (filled_from false es (further_lists plain)) text
     (first-inline plain before) (subst (W s) (at plain) h))))
@@ -169,9 +172,9 @@ enters S W walk s Enter name p may = go (is_part name) refl
     go : (x : Bool) → is_part name ≡ x →
         TextAt S walk.IsText (cond (x && true) 1 0) (walk.next s Enter (role name) p)
     go true h =
-        let tells = part-text name h in
-        subst (λ (x : Role). walk.May s Enter x p → walk.IsText (walk.next s Enter x p)) (sym tells.1)
-        (walk.begins s tells.0 p tells.2) may
+        let records = part-text name h in
+        subst (λ (x : Role). walk.May s Enter x p → walk.IsText (walk.next s Enter x p)) (sym records.1)
+        (walk.begins s records.0 p records.2) may
     go false h = tt
 enters S W walk s Exit name p may = go (is_part name)
   where
@@ -180,65 +183,65 @@ enters S W walk s Exit name p may = go (is_part name)
     go false = tt
 
 kept-step : (S : Type 0) (W : S → List Event → Type 0) (walk : Walk S W) (e : Event) (es : List Event) →
-    Kept S W walk es → KeptBehind S W walk es → Kept S W walk (e ∷ es)
-kept-step S W walk e es kept behind zero s plain lists stands text before each h =
+    Kept S W walk es → KeptFollowing S W walk es → Kept S W walk (e ∷ es)
+kept-step S W walk e es kept following zero s plain lists valid text before each h =
     let both : (not (is_linked e) ≡ true) ×
-    (chunks_stand (cond (is_part e.name && not (is_exit e.kind)) 1 0) es ≡ true) = and_parts (not (is_linked e))
-    (chunks_stand (cond (is_part e.name && not (is_exit e.kind)) 1 0) es) stands in
+    (chunks_in_parts (cond (is_part e.name && not (is_exit e.kind)) 1 0) es ≡ true) = and_parts (not (is_linked e))
+    (chunks_in_parts (cond (is_part e.name && not (is_exit e.kind)) 1 0) es) valid in
     kept-unlinked S W walk e es (cond (is_part e.name && not (is_exit e.kind)) 1 0) s plain lists kept
     (not-true (is_linked e) both.0) both.1 (enters S W walk s e.kind e.name e.point) before each h
-kept-step S W walk e es kept behind (suc depth) s plain lists stands text before each h =
-    go (is_part e.name) (is_linked e) refl stands
+kept-step S W walk e es kept following (suc depth) s plain lists valid text before each h =
+    go (is_part e.name) (is_linked e) refl valid
   where
     go : (x y : Bool) → is_linked e ≡ y →
-        cond x (is_exit e.kind && (depth == 0) && not (is_linked e) && chunks_stand 0 es)
-        (cond (is_linked e) ((depth == 0) && is_chunk e es) (stands_in_part e.kind e.name)
-        && chunks_stand (depth_behind e.kind (suc depth)) es) ≡
+        cond x (is_exit e.kind && (depth == 0) && not (is_linked e) && chunks_in_parts 0 es)
+        (cond (is_linked e) ((depth == 0) && is_chunk e es) (may_be_in_part e.kind e.name)
+        && chunks_in_parts (depth_following e.kind (suc depth)) es) ≡
         true →
         W s (filled_from false (e ∷ es) lists)
     go true y linked k =
         let outer : (is_exit e.kind && (depth == 0) && not (is_linked e) ≡ true) ×
-        (chunks_stand 0 es ≡ true) = and_parts (is_exit e.kind && (depth == 0) && not (is_linked e))
-        (chunks_stand 0 es) k in
+        (chunks_in_parts 0 es ≡ true) = and_parts (is_exit e.kind && (depth == 0) && not (is_linked e))
+        (chunks_in_parts 0 es) k in
         kept-unlinked S W walk e es 0 s plain lists kept
         (not-true (is_linked e) (and_parts (is_exit e.kind && (depth == 0)) (not (is_linked e)) outer.0).1) outer.1
         (λ may. tt) before each h
     go false y linked k =
-        let outer : (cond (is_linked e) ((depth == 0) && is_chunk e es) (stands_in_part e.kind e.name) ≡ true) ×
-        (chunks_stand (depth_behind e.kind (suc depth)) es ≡ true) =
-        and_parts (cond (is_linked e) ((depth == 0) && is_chunk e es) (stands_in_part e.kind e.name))
-        (chunks_stand (depth_behind e.kind (suc depth)) es) k in
+        let outer : (cond (is_linked e) ((depth == 0) && is_chunk e es) (may_be_in_part e.kind e.name) ≡ true) ×
+        (chunks_in_parts (depth_following e.kind (suc depth)) es ≡ true) =
+        and_parts (cond (is_linked e) ((depth == 0) && is_chunk e es) (may_be_in_part e.kind e.name))
+        (chunks_in_parts (depth_following e.kind (suc depth)) es) k in
         by y linked
         (subst
-        (λ (x : Bool). cond x ((depth == 0) && is_chunk e es) (stands_in_part e.kind e.name) ≡ true) linked outer.0)
+        (λ (x : Bool). cond x ((depth == 0) && is_chunk e es) (may_be_in_part e.kind e.name) ≡ true) linked outer.0)
         outer.1
       where
         by : (y : Bool) → is_linked e ≡ y →
-            cond y ((depth == 0) && is_chunk e es) (stands_in_part e.kind e.name) ≡ true →
-            chunks_stand (depth_behind e.kind (suc depth)) es ≡ true → W s (filled_from false (e ∷ es) lists)
+            cond y ((depth == 0) && is_chunk e es) (may_be_in_part e.kind e.name) ≡ true →
+            chunks_in_parts (depth_following e.kind (suc depth)) es ≡ true → W s (filled_from false (e ∷ es) lists)
         by false linked inside on =
-            kept-unlinked S W walk e es (depth_behind e.kind (suc depth)) s plain lists kept linked on
+            kept-unlinked S W walk e es (depth_following e.kind (suc depth)) s plain lists kept linked on
             (λ may.
-            text-at S walk.IsText (depth_behind e.kind (suc depth)) (walk.next s e.kind (role e.name) e.point)
-            (walk.goes s e.kind (role e.name) e.point text (stands-role e.kind e.name inside) may))
+            text-at S walk.IsText (depth_following e.kind (suc depth)) (walk.next s e.kind (role e.name) e.point)
+            (walk.proceeds s e.kind (role e.name) e.point text (valid-role e.kind e.name inside) may))
             before each h
         by true linked chunk on =
-            kept-linked S W walk e es depth s plain lists behind linked
+            kept-linked S W walk e es depth s plain lists following linked
             (and_parts (depth == 0) (is_chunk e es) chunk).1 on text before each h
 
 kept-both : (S : Type 0) (W : S → List Event → Type 0) (walk : Walk S W) (es : List Event) →
-    (inner : Kept S W walk es) × KeptBehind S W walk es
-kept-both S W walk [] = ((λ depth s plain lists stands text before each h. h), tt)
+    (inner : Kept S W walk es) × KeptFollowing S W walk es
+kept-both S W walk [] = ((λ depth s plain lists valid text before each h. h), tt)
 kept-both S W walk (e ∷ es) =
-    let both : (inner : Kept S W walk es) × KeptBehind S W walk es = kept-both S W walk es in
+    let both : (inner : Kept S W walk es) × KeptFollowing S W walk es = kept-both S W walk es in
     (kept-step S W walk e es both.0 both.1, both.0)
 
 -- whatever is in the places of chunks, a walk may go over the events
 walk-filled : (S : Type 0) (W : S → List Event → Type 0) → Walk S W → (s : S) (blocks : List Event)
-    (plain lists : List (List Event)) → chunks_stand 0 blocks ≡ true → EachInline plain → EachInline lists →
+    (plain lists : List (List Event)) → chunks_in_parts 0 blocks ≡ true → EachInline plain → EachInline lists →
     W s (filled blocks plain) → W s (filled blocks lists)
-walk-filled S W walk s blocks plain lists stands before each h =
-    (kept-both S W walk blocks).0 0 s plain lists stands tt before each h
+walk-filled S W walk s blocks plain lists valid before each h =
+    (kept-both S W walk blocks).0 0 s plain lists valid tt before each h
 
 -- The walks of an outline.
 
@@ -252,7 +255,7 @@ all-walk P inline = record {
   takes = λ s e es h. and_parts (P (role e.name) e.point) (list_all (λ (e : Event). P (role e.name) e.point) es) h;
   joins = λ s e es h k. and_from (P (role e.name) e.point) (list_all (λ (e : Event). P (role e.name) e.point) es) h k;
   begins = λ s x p is may. tt;
-  goes = λ s kind x p text is may. tt;
+  proceeds = λ s kind x p text is may. tt;
   keeps = λ s kind x p text is. (inline x p is, refl);
 }
 
@@ -277,36 +280,36 @@ parts-walk bytes = record {
       and_from (parts_by bytes e.kind (role e.name) e.point span)
       (are_parted bytes (span_by e.kind (role e.name) e.point span) es) h k;
   begins = λ span x p is may. tt;
-  goes = λ span kind x p text is may. tt;
+  proceeds = λ span kind x p text is may. tt;
   keeps = λ span kind x p text is. parts-keep bytes span kind x p is;
 }
 
 -- over lists and footnote definitions that begin: a text part is where all is said, or is the label of a footnote
 -- definition
-abbrev IsToldText : Stage → Type 0
-IsToldText AllTold = Unit {0}
-IsToldText AtFootnoteLabel = Unit {0}
-IsToldText _ = ⊥
+abbrev IsRecordedText : Stage → Type 0
+IsRecordedText AllRecorded = Unit {0}
+IsRecordedText AtFootnoteLabel = Unit {0}
+IsRecordedText _ = ⊥
 
 lists-begin : (bytes : List ℕ) (stage : Stage) (x : Purpose) (p : Point) → IsPartText x →
-    MayFollow bytes stage Enter (TextRole x) p → IsToldText (stage_by stage Enter (TextRole x) p)
+    MayFollow bytes stage Enter (TextRole x) p → IsRecordedText (stage_by stage Enter (TextRole x) p)
 lists-begin bytes stage AsMarkers p is may = absurd is
-lists-begin bytes AllTold x p is may = search
+lists-begin bytes AllRecorded x p is may = search
 lists-begin bytes _ x p is may = search
 
-lists-go : (bytes : List ℕ) (stage : Stage) (kind : Kind) (x : Role) (p : Point) → IsToldText stage →
-    QuietOrPrefix x → IsToldText (stage_by stage kind x p)
+lists-go : (bytes : List ℕ) (stage : Stage) (kind : Kind) (x : Role) (p : Point) → IsRecordedText stage →
+    QuietOrPrefix x → IsRecordedText (stage_by stage kind x p)
 lists-go bytes stage kind (LeafRole k) p text is = absurd is
-lists-go bytes AllTold Enter x p text is = search
-lists-go bytes AllTold Exit x p text is = search
+lists-go bytes AllRecorded Enter x p text is = search
+lists-go bytes AllRecorded Exit x p text is = search
 lists-go bytes _ Enter x p text is = search
 lists-go bytes _ Exit x p text is = search
 
-lists-keep : (bytes : List ℕ) (stage : Stage) (kind : Kind) (x : Role) (p : Point) → IsToldText stage →
+lists-keep : (bytes : List ℕ) (stage : Stage) (kind : Kind) (x : Role) (p : Point) → IsRecordedText stage →
     QuietOrEnding x → MayFollow bytes stage kind x p × (stage_by stage kind x p ≡ stage)
 lists-keep bytes stage kind (LeafRole k) p text is = absurd is
-lists-keep bytes AllTold Enter x p text is = search
-lists-keep bytes AllTold Exit x p text is = search
+lists-keep bytes AllRecorded Enter x p text is = search
+lists-keep bytes AllRecorded Exit x p text is = search
 lists-keep bytes _ Enter x p text is = search
 lists-keep bytes _ Exit x p text is = search
 
@@ -314,11 +317,11 @@ lists-walk : (bytes : List ℕ) → Walk Stage (ListsBegin bytes)
 lists-walk bytes = record {
   May = MayFollow bytes;
   next = stage_by;
-  IsText = IsToldText;
+  IsText = IsRecordedText;
   takes = λ stage e es h. h;
   joins = λ stage e es h k. (h, k);
   begins = lists-begin bytes;
-  goes = λ stage kind x p text is may. lists-go bytes stage kind x p text is;
+  proceeds = λ stage kind x p text is may. lists-go bytes stage kind x p text is;
   keeps = lists-keep bytes;
 }
 
@@ -330,13 +333,13 @@ cell-begins AtHead x is may = absurd may
 cell-begins _ x is may = search
 
 lines-begin : (bytes : List ℕ) (site : Site) (x : Purpose) (p : Point) → IsPartText x →
-    MayStand bytes site Enter (TextRole x) p → IsTextSite (site_by bytes site Enter (TextRole x) p)
+    MayBeHere bytes site Enter (TextRole x) p → IsTextSite (site_by bytes site Enter (TextRole x) p)
 lines-begin bytes site AsMarkers p is may = absurd is
 lines-begin bytes (InTable spot) x p is may = cell-begins spot x is may
 lines-begin bytes _ x p is may = search
 
 lines-go : (bytes : List ℕ) (site : Site) (kind : Kind) (x : Role) (p : Point) → IsTextSite site →
-    QuietOrPrefix x → MayStand bytes site kind x p → IsTextSite (site_by bytes site kind x p)
+    QuietOrPrefix x → MayBeHere bytes site kind x p → IsTextSite (site_by bytes site kind x p)
 lines-go bytes site kind IsQuiet p text is may =
     subst IsTextSite (sym (keeps-quiet bytes site kind p).1) text
 lines-go bytes site kind IsQuoteMarker p text is may =
@@ -348,26 +351,26 @@ lines-go bytes _ Enter IsPrefix p text is may = search
 lines-go bytes _ Exit IsPrefix p text is may = search
 lines-go bytes site kind _ p text is may = absurd is
 
-lines-walk : (bytes : List ℕ) → Walk Site (LinesStand bytes)
+lines-walk : (bytes : List ℕ) → Walk Site (LinesAllowed bytes)
 lines-walk bytes = record {
-  May = MayStand bytes;
+  May = MayBeHere bytes;
   next = site_by bytes;
   IsText = IsTextSite;
   takes = λ site e es h. taken bytes site e es h;
   joins = λ site e es h k. joined bytes site e es h k;
   begins = lines-begin bytes;
-  goes = lines-go bytes;
+  proceeds = lines-go bytes;
   keeps = λ site kind x p text is. text-keeps bytes site x text is kind p;
 }
   where
-    taken : (bytes : List ℕ) (site : Site) (e : Event) (es : List Event) → LinesStand bytes site (e ∷ es) →
-        MayStand bytes site e.kind (role e.name) e.point
-        × LinesStand bytes (site_by bytes site e.kind (role e.name) e.point) es
+    taken : (bytes : List ℕ) (site : Site) (e : Event) (es : List Event) → LinesAllowed bytes site (e ∷ es) →
+        MayBeHere bytes site e.kind (role e.name) e.point
+        × LinesAllowed bytes (site_by bytes site e.kind (role e.name) e.point) es
     taken bytes site e es h = h
 
     joined : (bytes : List ℕ) (site : Site) (e : Event) (es : List Event) →
-        MayStand bytes site e.kind (role e.name) e.point →
-        LinesStand bytes (site_by bytes site e.kind (role e.name) e.point) es → LinesStand bytes site (e ∷ es)
+        MayBeHere bytes site e.kind (role e.name) e.point →
+        LinesAllowed bytes (site_by bytes site e.kind (role e.name) e.point) es → LinesAllowed bytes site (e ∷ es)
     joined bytes site e es h k = (h, k)
 
 -- Any layer.
@@ -384,7 +387,7 @@ between-inline bytes IsEnding p is = refl
 between-inline bytes _ p is = absurd is
 
 texts-inline : (bytes : List ℕ) (x : Role) (p : Point) → QuietOrEnding x →
-    (not (is_told x) || is_between bytes (byte_at p)) ≡ true
+    (not (is_recorded x) || is_between bytes (byte_at p)) ≡ true
 texts-inline bytes IsQuiet p is = refl
 texts-inline bytes IsEnding p is = refl
 texts-inline bytes _ p is = absurd is
@@ -392,34 +395,34 @@ texts-inline bytes _ p is = absurd is
 -- If a block list may be outlined with what one layer gives in the places of its chunks, it may be with what another
 -- gives.
 pub outlined-filled : (bytes : List ℕ) (blocks : List Event) (plain lists : List (List Event)) →
-    chunks_stand 0 blocks ≡ true → EachInline plain → EachInline lists → Balanced (filled blocks lists) →
+    chunks_in_parts 0 blocks ≡ true → EachInline plain → EachInline lists → Balanced (filled blocks lists) →
     IsOutlined (filled blocks plain) bytes → IsOutlined (filled blocks lists) bytes
-outlined-filled bytes blocks plain lists stands before each balanced is = record {
+outlined-filled bytes blocks plain lists valid before each balanced is = record {
   balanced = balanced;
   names =
       walk-filled (Unit {0}) (λ s es. list_all has_shown_name es ≡ true)
-      (all-walk (λ x p. is_shown x) (λ x p inline. names-inline x inline)) tt blocks plain lists stands before each
+      (all-walk (λ x p. is_shown x) (λ x p inline. names-inline x inline)) tt blocks plain lists valid before each
       is.names;
   text = is.text;
   between =
-      walk-filled (Unit {0}) (λ s es. list_all (stands_between bytes) es ≡ true)
+      walk-filled (Unit {0}) (λ s es. list_all (is_between_characters bytes) es ≡ true)
       (all-walk (λ x p. not (is_seen (shown_as x)) || is_between bytes p.index) (between-inline bytes)) tt blocks plain
-      lists stands before each is.between;
+      lists valid before each is.between;
   texts =
-      walk-filled (Unit {0}) (λ s es. list_all (tells_between bytes) es ≡ true)
-      (all-walk (λ x p. not (is_told x) || is_between bytes (byte_at p)) (texts-inline bytes)) tt blocks plain lists
-      stands before each is.texts;
+      walk-filled (Unit {0}) (λ s es. list_all (text_begins_between bytes) es ≡ true)
+      (all-walk (λ x p. not (is_recorded x) || is_between bytes (byte_at p)) (texts-inline bytes)) tt blocks plain lists
+      valid before each is.texts;
   parted =
       walk-filled (Option OpenTextSpan) (λ span es. are_parted bytes span es ≡ true) (parts-walk bytes) None
       blocks plain lists
-      stands before each is.parted;
+      valid before each is.parted;
   lists =
-      walk-filled Stage (ListsBegin bytes) (lists-walk bytes) AllTold blocks plain lists stands before each is.lists;
+      walk-filled Stage (ListsBegin bytes) (lists-walk bytes) AllRecorded blocks plain lists valid before each is.lists;
   lines =
-      walk-filled Site (LinesStand bytes) (lines-walk bytes) Outside blocks plain lists stands before each is.lines;
+      walk-filled Site (LinesAllowed bytes) (lines-walk bytes) Outside blocks plain lists valid before each is.lines;
   depths =
       ap are_shallow
-      (spelled-filled bytes blocks lists stands each ∙ sym (spelled-filled bytes blocks plain stands before))
+      (spelled-filled bytes blocks lists valid each ∙ sym (spelled-filled bytes blocks plain valid before))
       ∙ is.depths;
 }
 

@@ -23,7 +23,7 @@ use Rattle.md_outline.proofs.SiteTexts.{IsOpen, NoText, begins-texts}
 
 -- What is known of it, which has said its markers, its label or its delimiter row or not. It is said of parts of what
 -- was read, so it holds whatever text is read.
-pub record KnownBy (block : OpenLeaf) (shape : Form) (is_told : Bool) (deep : ℕ) (known : Option OpenLeaf)
+pub record KnownBy (block : OpenLeaf) (shape : Form) (is_recorded : Bool) (deep : ℕ) (known : Option OpenLeaf)
     (lines : Option Lined) (list : Option ℕ) (read : Option OpenLeaf) (outer : List OpenContainer) (here : Blocks)
     : Type 0 where
   pub opened : read ≡ Some block
@@ -31,22 +31,22 @@ pub record KnownBy (block : OpenLeaf) (shape : Form) (is_told : Bool) (deep : �
   pub words : HaveWords outer here
   pub untold : list ≡ None
   pub leaf : known ≡ None
-  pub lined : lines ≡ Some (record { place = length (shown outer here); is_fenced = is_told; form = shape })
+  pub lined : lines ≡ Some (record { place = length (shown outer here); is_fenced = is_recorded; form = shape })
 
 abbrev pub Known : OpenLeaf → Form → Bool → OutlineState → Reading → Type 0
-Known block shape is_told s r =
-    KnownBy block shape is_told s.depth s.leaf s.lined s.untold r.leaf r.outer r.here
+Known block shape is_recorded s r =
+    KnownBy block shape is_recorded s.depth s.leaf s.lined s.untold r.leaf r.outer r.here
 
 -- and of what was shown of it
 abbrev pub Shows : OpenLeaf → Form → Bool → (ℕ → List Entry) → OutlineState → Reading → Type 0
-Shows block shape is_told lines s r =
-    Known block shape is_told s r × (s.lines ≡ shown r.outer r.here ++ lines s.depth)
+Shows block shape is_recorded lines s r =
+    Known block shape is_recorded s r × (s.lines ≡ shown r.outer r.here ++ lines s.depth)
 
-pub known-open : {block : OpenLeaf} {shape : Form} {is_told : Bool} (s : OutlineState) (r : Reading) →
-    Known block shape is_told s r → IsOpen s r
-known-open {block} {shape} {is_told} s r is = record {
+pub known-open : {block : OpenLeaf} {shape : Form} {is_recorded : Bool} (s : OutlineState) (r : Reading) →
+    Known block shape is_recorded s r → IsOpen s r
+known-open {block} {shape} {is_recorded} s r is = record {
   leaf = block;
-  lined = record { place = length (shown r.outer r.here); is_fenced = is_told; form = shape };
+  lined = record { place = length (shown r.outer r.here); is_fenced = is_recorded; form = shape };
   read = is.opened;
   shows = is.lined;
 }
@@ -76,13 +76,14 @@ leaf-begins bytes kind w p s r none is =
     )
 
 -- It is changed: by what shows its markers, its label or its delimiter row, or by what does not.
-pub known-told : {block next : OpenLeaf} {shape : Form} {was is_told : Bool} {deep : ℕ} {known known' : Option OpenLeaf}
+pub known-recorded : {block next : OpenLeaf} {shape : Form} {was is_recorded : Bool} {deep : ℕ}
+    {known known' : Option OpenLeaf}
     {lines lines' : Option Lined} {list : Option ℕ} {read : Option OpenLeaf} {outer : List OpenContainer}
     {here : Blocks} (f : OpenLeaf → OpenLeaf) →
     KnownBy block shape was deep known lines list read outer here → f block ≡ next → known' ≡ None →
-    lines' ≡ Some (record { place = length (shown outer here); is_fenced = is_told; form = shape }) →
-    KnownBy next shape is_told deep known' lines' list (option_map f read) outer here
-known-told f is same leaf lined = record {
+    lines' ≡ Some (record { place = length (shown outer here); is_fenced = is_recorded; form = shape }) →
+    KnownBy next shape is_recorded deep known' lines' list (option_map f read) outer here
+known-recorded f is same leaf lined = record {
   opened = ap (option_map f) is.opened ∙ ap Some same;
   depth = is.depth;
   words = is.words;
@@ -91,20 +92,20 @@ known-told f is same leaf lined = record {
   lined = lined;
 }
 
-pub known-next : {block next : OpenLeaf} {shape : Form} {is_told : Bool} {deep : ℕ} {known : Option OpenLeaf}
+pub known-next : {block next : OpenLeaf} {shape : Form} {is_recorded : Bool} {deep : ℕ} {known : Option OpenLeaf}
     {lines : Option Lined} {list : Option ℕ} {read : Option OpenLeaf} {outer : List OpenContainer} {here : Blocks}
-    (f : OpenLeaf → OpenLeaf) → KnownBy block shape is_told deep known lines list read outer here → f block ≡ next →
-    KnownBy next shape is_told deep known lines list (option_map f read) outer here
-known-next f is same = known-told f is same is.leaf is.lined
+    (f : OpenLeaf → OpenLeaf) → KnownBy block shape is_recorded deep known lines list read outer here → f block ≡ next →
+    KnownBy next shape is_recorded deep known lines list (option_map f read) outer here
+known-next f is same = known-recorded f is same is.leaf is.lined
 
 -- Between its texts a line ending opens no line of it, if its lines are not its own.
-pub gap-line : {block : OpenLeaf} {shape : Form} {is_told : Bool} (P : OutlineState → Reading → Type 0)
-    (bytes : List ℕ) (p : Point) (s : OutlineState) (r : Reading) → Known block shape is_told s r →
+pub gap-line : {block : OpenLeaf} {shape : Form} {is_recorded : Bool} (P : OutlineState → Reading → Type 0)
+    (bytes : List ℕ) (p : Point) (s : OutlineState) (r : Reading) → Known block shape is_recorded s r →
     has_own_lines shape ≡ false → P s (on_leaf next_line r) → P s r × NoText s r →
     P (line_ended bytes p.index s.lined s.text s) (at_ending bytes p r.text r)
     × NoText (line_ended bytes p.index s.lined s.text s) (at_ending bytes p r.text r)
-gap-line {block} {shape} {is_told} P bytes p s r known own next is =
-    let head : Lined = record { place = length (shown r.outer r.here); is_fenced = is_told; form = shape } in
+gap-line {block} {shape} {is_recorded} P bytes p s r known own next is =
+    let head : Lined = record { place = length (shown r.outer r.here); is_fenced = is_recorded; form = shape } in
     let same : line_ended bytes p.index s.lined s.text s ≡ s =
     ap (λ (l : Option Lined). line_ended bytes p.index l s.text s) known.lined
     ∙ ap (λ (span : Option TextSpan). line_ended bytes p.index (Some head) span s) is.1.0
@@ -117,8 +118,8 @@ gap-line {block} {shape} {is_told} P bytes p s r known own next is =
     opened = record s { lines = s.lines ++ entry (s.depth + 1) word.Line ∷ [] }
 
 -- It ends: it was shown as the block that it is.
-pub open-ends : {block : OpenLeaf} {shape : Form} {is_told : Bool} (s : OutlineState) (r : Reading) →
-    Known block shape is_told s r → s.lines ≡ shown r.outer r.here ++ block_entries s.depth (block_of block) →
+pub open-ends : {block : OpenLeaf} {shape : Form} {is_recorded : Bool} (s : OutlineState) (r : Reading) →
+    Known block shape is_recorded s r → s.lines ≡ shown r.outer r.here ++ block_entries s.depth (block_of block) →
     NoText s r → Agrees (record s { lined = None }) (finished r.leaf r)
 open-ends {block} s r is all none =
     let b : Block = block_of block in

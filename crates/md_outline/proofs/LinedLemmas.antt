@@ -19,9 +19,9 @@ use Rattle.md_events.specs.Events.Spelled.{finished, joined, next_line, on_last,
 use Rattle.md_events.specs.Events.Spelled as spelled
 use Rattle.md_outline.specs.LinedState.{closed_word, filled_line, has_own_lines, marked_word, shown_spaces, spaces_of}
 use Rattle.md_outline.specs.LinedState.{with_head, without_end}
-use Rattle.md_outline.specs.LinesStand.{HasFences, HasInfo, HasLines, HasMeta}
-use Rattle.md_outline.specs.OutlineSteps.{OutlineState, fence_begun, head_marked, line_ended, state_exit, told}
-use Rattle.md_outline.specs.OutlineSteps.{told_leaf}
+use Rattle.md_outline.specs.LinesAllowed.{HasFences, HasInfo, HasLines, HasMeta}
+use Rattle.md_outline.specs.OutlineSteps.{OutlineState, fence_begun, head_marked, line_ended, state_exit, recorded}
+use Rattle.md_outline.specs.OutlineSteps.{recorded_leaf}
 use Rattle.md_outline.specs.Roles.{shown_as}
 use Rattle.md_outline.specs.declared.outline.TextSpan.{TextSpan}
 use Rattle.md_outline.specs.declared.outline.lined.Form.{Form}
@@ -30,8 +30,8 @@ use Rattle.md_outline.specs.declared.outline.lined.Lined.{Lined}
 use Rattle.md_outline.specs.declared.outline.role.Note.TheVariants as note
 use Rattle.md_outline.specs.declared.outline.role.Purpose.TheVariants as purpose
 use Rattle.md_outline.proofs.ClosedTrees.{shown}
-use Rattle.md_outline.proofs.LeavesOpen.{Shows, known-next, known-open, known-told, open-ends}
-use Rattle.md_outline.proofs.LinedLines.{end-taken, head-told, on-last}
+use Rattle.md_outline.proofs.LeavesOpen.{Shows, known-next, known-open, known-recorded, open-ends}
+use Rattle.md_outline.proofs.LinedLines.{end-taken, head-recorded, on-last}
 use Rattle.md_outline.proofs.OutlineAgrees.{Agrees}
 use Rattle.md_outline.proofs.SiteTexts.{IsOpen, NoText}
 
@@ -236,27 +236,27 @@ is-marked : (kind : LeafKind) (markers : List ℕ) → HasFences kind → (first
 is-marked OfFence markers h some = (refl, some)
 is-marked _ markers h some = search
 
-pub markers-told : (kind : LeafKind) (line : Line) (s : OutlineState) (r : Reading) → HasFences kind →
+pub markers-recorded : (kind : LeafKind) (line : Line) (s : OutlineState) (r : Reading) → HasFences kind →
     (first_byte line.text == 0) ≡ false → Lining kind [] None None [] false false s r →
-    Marked kind None None [] false (told purpose.Markers false line.text (record s { text = None }))
-    (spelled.told AsMarkers line (record r { text = None }))
-markers-told kind line s r h some is =
+    Marked kind None None [] false (recorded purpose.Markers false line.text (record s { text = None }))
+    (spelled.recorded AsMarkers line (record r { text = None }))
+markers-recorded kind line s r h some is =
     let before : List Entry = shown r.outer r.here in
     let b : ℕ = first_byte line.text in
     subst
     (λ lined.
     Marked kind None None [] false
-    (head_marked lined line.text (told_leaf note.Markers line.text (record s { text = None })))
-    (spelled.told AsMarkers line (record r { text = None })))
+    (head_marked lined line.text (recorded_leaf note.Markers line.text (record s { text = None })))
+    (spelled.recorded AsMarkers line (record r { text = None })))
     (sym is.0.lined) (
       line.text,
       true,
       is-marked kind line.text h some,
       (
-        known-told (spelled.noted AsMarkers line) is.0 (marks-leaf kind line h)
+        known-recorded (spelled.noted AsMarkers line) is.0 (marks-leaf kind line h)
             (ap (option_map (spelled.noted AsMarkers (record { spaces = 0; text = line.text }))) is.0.leaf) refl,
         ap (with_head (marked_word b) (length before)) is.1
-            ∙ head-told (marked_word b) before (lined_parts kind (s.depth + 1) None None ++ [])
+            ∙ head-recorded (marked_word b) before (lined_parts kind (s.depth + 1) None None ++ [])
             (entry s.depth (lined_word kind 0 false))
             ∙ ap (λ w. before ++ entry s.depth w ∷ (lined_parts kind (s.depth + 1) None None ++ []))
             (marks-word kind b h),
@@ -264,24 +264,24 @@ markers-told kind line s r h some is =
     )
 
 -- what follows them: a text that shows the leaf one thing more, and is shown after the others
-part-told : (w : Word) (tells : spelled.Purpose) (kind : LeafKind) (info meta info_new meta_new : Option (List ℕ))
+part-recorded : (w : Word) (records : spelled.Purpose) (kind : LeafKind) (info meta info_new meta_new : Option (List ℕ))
     (line : Line) (s : OutlineState) (r : Reading) →
     ((markers : List ℕ) →
-    spelled.noted tells line (lined_leaf kind markers info meta [] false) ≡
+    spelled.noted records line (lined_leaf kind markers info meta [] false) ≡
     lined_leaf kind markers info_new meta_new [] false) →
     ((depth : ℕ) (markers : List ℕ) →
     lined_entries kind depth markers info meta [] false ++ entry_with (depth + 1) w line.text ∷ [] ≡
     lined_entries kind depth markers info_new meta_new [] false) →
     Marked kind info meta [] false s r →
     Marked kind info_new meta_new [] false
-    (told (purpose.Part w) false line.text (record s { text = None }))
-    (record r { text = None; leaf = option_map (spelled.noted tells line) r.leaf })
-part-told w tells kind info meta info_new meta_new line s r leaf lines m = (
+    (recorded (purpose.Part w) false line.text (record s { text = None }))
+    (record r { text = None; leaf = option_map (spelled.noted records line) r.leaf })
+part-recorded w records kind info meta info_new meta_new line s r leaf lines m = (
   m.0,
   m.1,
   m.2,
   (
-    known-next (spelled.noted tells line) m.3.0 (leaf m.0),
+    known-next (spelled.noted records line) m.3.0 (leaf m.0),
     ap (λ es. es ++ entry_with (s.depth + 1) w line.text ∷ []) m.3.1
         ∙ append_assoc (shown r.outer r.here) (lined_entries kind s.depth m.0 info meta [] false)
         (entry_with (s.depth + 1) w line.text ∷ [])
@@ -289,15 +289,15 @@ part-told w tells kind info meta info_new meta_new line s r leaf lines m = (
   ),
 )
 
-pub info-told : (kind : LeafKind) (line : Line) (s : OutlineState) (r : Reading) → HasInfo kind →
+pub info-recorded : (kind : LeafKind) (line : Line) (s : OutlineState) (r : Reading) → HasInfo kind →
     Marked kind None None [] false s r →
     Marked kind (Some line.text) None [] false
-    (told (purpose.Part word.Info) false line.text (record s { text = None }))
-    (spelled.told AsInfo line (record r { text = None }))
-info-told OfFence line s r h m =
-    part-told word.Info AsInfo OfFence None None (Some line.text) None line s r (λ markers. refl)
+    (recorded (purpose.Part word.Info) false line.text (record s { text = None }))
+    (spelled.recorded AsInfo line (record r { text = None }))
+info-recorded OfFence line s r h m =
+    part-recorded word.Info AsInfo OfFence None None (Some line.text) None line s r (λ markers. refl)
     (λ depth markers. refl) m
-info-told _ line s r h m = absurd h
+info-recorded _ line s r h m = absurd h
 
 meta-leaf : (kind : LeafKind) (markers : List ℕ) (info : Option (List ℕ)) (line : Line) → HasMeta kind →
     spelled.noted AsMeta line (lined_leaf kind markers info None [] false)
@@ -314,13 +314,13 @@ meta-lines OfFence depth markers (Some info) text h = refl
 meta-lines OfMath depth markers info text h = refl
 meta-lines _ depth markers info text h = absurd h
 
-pub meta-told : (kind : LeafKind) (info : Option (List ℕ)) (line : Line) (s : OutlineState) (r : Reading) →
+pub meta-recorded : (kind : LeafKind) (info : Option (List ℕ)) (line : Line) (s : OutlineState) (r : Reading) →
     HasMeta kind → Marked kind info None [] false s r →
     Marked kind info (Some line.text) [] false
-    (told (purpose.Part word.Meta) false line.text (record s { text = None }))
-    (spelled.told AsMeta line (record r { text = None }))
-meta-told kind info line s r h m =
-    part-told word.Meta AsMeta kind info None info (Some line.text) line s r
+    (recorded (purpose.Part word.Meta) false line.text (record s { text = None }))
+    (spelled.recorded AsMeta line (record r { text = None }))
+meta-recorded kind info line s r h m =
+    part-recorded word.Meta AsMeta kind info None info (Some line.text) line s r
     (λ markers. meta-leaf kind markers info line h) (λ depth markers. meta-lines kind depth markers info line.text h) m
 
 -- a line
@@ -336,16 +336,17 @@ line-leaf OfFence markers info meta lines line = refl
 line-leaf _ markers info meta lines line = refl
 
 -- as it is shown
-told-line : (kind : LeafKind) (depth : ℕ) (line : Line) →
+recorded-line : (kind : LeafKind) (depth : ℕ) (line : Line) →
     filled_line depth (spaces_of (lined_form kind) line.spaces) line.text ≡ lined_line kind depth line
-told-line OfFrontmatter depth line = refl
-told-line _ depth line = refl
+recorded-line OfFrontmatter depth line = refl
+recorded-line _ depth line = refl
 
-pub line-told : (kind : LeafKind) (info meta : Option (List ℕ)) (lines : List Line) (line : Line) (s : OutlineState)
+pub line-recorded : (kind : LeafKind) (info meta : Option (List ℕ)) (lines : List Line) (line : Line) (s : OutlineState)
     (r : Reading) → s.spaces ≡ line.spaces → Marked kind info meta (lines ++ empty_line ∷ []) false s r →
     Marked kind info meta (lines ++ line ∷ []) false
-    (told purpose.Line false line.text (record s { text = None })) (spelled.told AsLine line (record r { text = None }))
-line-told kind info meta lines line s r spaces m =
+    (recorded purpose.Line false line.text (record s { text = None }))
+    (spelled.recorded AsLine line (record r { text = None }))
+line-recorded kind info meta lines line s r spaces m =
     let none : 0 + line.spaces ≡ line.spaces = omega arith in
     let before : List Entry = shown r.outer r.here in
     let front : List Entry = before ++ lined_entries kind s.depth m.0 info meta lines false in (
@@ -364,7 +365,7 @@ line-told kind info meta lines line s r spaces m =
             (end-taken front (lined_line kind (s.depth + 1) empty_line))
             ∙ ap (λ l. front ++ filled_line (s.depth + 1) (shown_spaces l s.spaces) line.text ∷ []) m.3.0.lined
             ∙ ap (λ n. front ++ filled_line (s.depth + 1) (spaces_of (lined_form kind) n) line.text ∷ []) spaces
-            ∙ ap (λ e. front ++ e ∷ []) (told-line kind (s.depth + 1) line)
+            ∙ ap (λ e. front ++ e ∷ []) (recorded-line kind (s.depth + 1) line)
             ∙ sym (grown-lines before kind s.depth m.0 info meta lines false line),
       ),
     )
@@ -419,7 +420,7 @@ fence-closes kind info meta lines s r h m =
         ap (λ es. with_head closed_word (length before) (without_end es))
             (m.3.1 ∙ grown-lines before kind s.depth m.0 info meta lines false empty_line)
             ∙ ap (with_head closed_word (length before)) (end-taken front (lined_line kind (s.depth + 1) empty_line))
-            ∙ head-told closed_word before
+            ∙ head-recorded closed_word before
             (lined_parts kind (s.depth + 1) info meta ++ lined_lines kind (s.depth + 1) lines)
             (entry s.depth (lined_word kind (first_byte m.0) false))
             ∙ ap
@@ -431,33 +432,34 @@ fence-closes kind info meta lines s r h m =
     )
 
 -- its markers are not said again
-stands-leaf : (kind : LeafKind) (markers : List ℕ) (fenced : Bool) (info meta : Option (List ℕ)) (lines : List Line)
+valid-leaf : (kind : LeafKind) (markers : List ℕ) (fenced : Bool) (info meta : Option (List ℕ)) (lines : List Line)
     (line : Line) → HasFences kind → IsMarked kind markers fenced →
     spelled.noted AsMarkers line (lined_leaf kind markers info meta lines true)
     ≡ lined_leaf kind markers info meta lines true
-stands-leaf OfFence [] fenced info meta lines line h m = absurd (true≢false m.1)
-stands-leaf OfMath [] fenced info meta lines line h m = absurd (true≢false m.1)
-stands-leaf OfFrontmatter [] fenced info meta lines line h m = absurd (true≢false m.1)
-stands-leaf _ markers fenced info meta lines line h m = search
+valid-leaf OfFence [] fenced info meta lines line h m = absurd (true≢false m.1)
+valid-leaf OfMath [] fenced info meta lines line h m = absurd (true≢false m.1)
+valid-leaf OfFrontmatter [] fenced info meta lines line h m = absurd (true≢false m.1)
+valid-leaf _ markers fenced info meta lines line h m = search
 
-pub markers-stand : (kind : LeafKind) (info meta : Option (List ℕ)) (lines : List Line) (line : Line) (s : OutlineState)
+pub markers-are_valid : (kind : LeafKind) (info meta : Option (List ℕ)) (lines : List Line) (line : Line)
+    (s : OutlineState)
     (r : Reading) → HasFences kind → Marked kind info meta lines true s r →
-    Marked kind info meta lines true (told purpose.Markers false line.text (record s { text = None }))
-    (spelled.told AsMarkers line (record r { text = None }))
-markers-stand kind info meta lines line s r h m =
+    Marked kind info meta lines true (recorded purpose.Markers false line.text (record s { text = None }))
+    (spelled.recorded AsMarkers line (record r { text = None }))
+markers-are_valid kind info meta lines line s r h m =
     let lined : Bool → Lined = λ x.
     record { place = length (shown r.outer r.here); is_fenced = x; form = lined_form kind } in
     subst
     (λ l.
     Marked kind info meta lines true
-    (head_marked l line.text (told_leaf note.Markers line.text (record s { text = None })))
-    (spelled.told AsMarkers line (record r { text = None })))
+    (head_marked l line.text (recorded_leaf note.Markers line.text (record s { text = None })))
+    (spelled.recorded AsMarkers line (record r { text = None })))
     (sym (m.3.0.lined ∙ ap (λ x. Some (lined x)) (is-fenced kind m.0 m.1 h m.2))) (
       m.0,
       m.1,
       m.2,
       (
-        known-told (spelled.noted AsMarkers line) m.3.0 (stands-leaf kind m.0 m.1 info meta lines line h m.2)
+        known-recorded (spelled.noted AsMarkers line) m.3.0 (valid-leaf kind m.0 m.1 info meta lines line h m.2)
             (ap (option_map (spelled.noted AsMarkers (record { spaces = 0; text = line.text }))) m.3.0.leaf)
             m.3.0.lined,
         m.3.1,

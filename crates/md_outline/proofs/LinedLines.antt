@@ -33,12 +33,12 @@ end-dropped lines new n len is en elen =
     ∙ ap (λ k. take k (map entry_of lines)) (omega (arith, en, elen, same))
 
 -- after other lines, and before others
-pub head-told : (f : Word → Word) (before behind : List Entry) (e : Entry) →
-    with_head f (length before) (before ++ e ∷ behind) ≡ before ++ record e { word = f e.word } ∷ behind
-head-told f before behind e =
-    ap (λ (x : Entry). set (before ++ e ∷ behind) (length before) (record x { word = f x.word }))
-    (get_or_at before e behind (entry 0 word.Item) (length before) refl)
-    ∙ set_at before e behind (record e { word = f e.word }) (length before) refl
+pub head-recorded : (f : Word → Word) (before following : List Entry) (e : Entry) →
+    with_head f (length before) (before ++ e ∷ following) ≡ before ++ record e { word = f e.word } ∷ following
+head-recorded f before following e =
+    ap (λ (x : Entry). set (before ++ e ∷ following) (length before) (record x { word = f x.word }))
+    (get_or_at before e following (entry 0 word.Item) (length before) refl)
+    ∙ set_at before e following (record e { word = f e.word }) (length before) refl
 
 pub end-taken : (lines : List Entry) (e : Entry) → without_end (lines ++ e ∷ []) ≡ lines
 end-taken lines e =

@@ -7,24 +7,23 @@ use Rattle.md_engine.specs.declared.event.Point.{Point}
 use Rattle.md_meaning.specs.declared.outline.Word.TheVariants as word
 use Rattle.md_meaning.specs.Outline.{outline}
 use Rattle.md_meaning.specs.Tree.{Line}
-use Rattle.md_events.specs.Events.Spelled.{AsDestination, AsHeading, AsInfo, AsLabel, AsLine, AsMarkers, AsMeta, AsTitle}
-use Rattle.md_events.specs.Events.Spelled.{FootnoteShape, ContainerRole, IsEnding, IsFence, IsPrefix, IsQuiet}
-use Rattle.md_events.specs.Events.Spelled.{IsQuoteMarker, IsTitle, LeafKind, OfCode, OfDefinition, OfFence, OfFrontmatter}
-use Rattle.md_events.specs.Events.Spelled.{OfHeadingSetext, OfHtml, OfMath, OfTable, LeafRole, OrderedShape, Reading}
-use Rattle.md_events.specs.Events.Spelled.{TextRole, UnorderedShape, byte_at, columns_left, empty_line, no_heading}
-use Rattle.md_events.specs.Events.Spelled.{read_by, read_exit, next_line}
+use Rattle.md_events.specs.Events.Spelled.{AsDestination, AsHeading, AsInfo, AsLabel, AsLine, AsMarkers, AsMeta}
+use Rattle.md_events.specs.Events.Spelled.{AsTitle, FootnoteShape, ContainerRole, IsEnding, IsFence, IsPrefix, IsQuiet}
+use Rattle.md_events.specs.Events.Spelled.{IsQuoteMarker, IsTitle, LeafKind, OfCode, OfDefinition, OfFence}
+use Rattle.md_events.specs.Events.Spelled.{OfFrontmatter, OfHeadingSetext, OfHtml, OfMath, OfTable, LeafRole}
+use Rattle.md_events.specs.Events.Spelled.{OrderedShape, Reading, TextRole, UnorderedShape, byte_at, columns_left}
+use Rattle.md_events.specs.Events.Spelled.{empty_line, no_heading, read_by, read_exit, next_line}
 use Rattle.md_events.specs.Events.Spelled as spelled
 use Rattle.md_outline.specs.HeadingDepths.{are_shallow}
-use Rattle.md_outline.specs.LinesStand.{AtEnd, AtEnding, AtInfo, AtLabel, AtLine, AtMarkers, AtMeta, AtTitle}
-use Rattle.md_outline.specs.LinesStand.{AtTitleText, BehindPart, BehindTitle, BehindTitleText, BehindUnderline}
-use Rattle.md_outline.specs.LinesStand.{HasFences, HasInfo, HasMeta, InAtxText, InDestination, InEnd, InMarkers, InPart}
-use Rattle.md_outline.specs.LinesStand.{InParted, InTable, InText, InTitle, InUnderline, LabelPart, LinesStand}
-use Rattle.md_outline.specs.LinesStand.{MayStand, Outside, SameText, Site, TitlePart, site_by, table_site}
-use Rattle.md_outline.specs.LinesStand.{text_site}
+use Rattle.md_outline.specs.LinesAllowed.{AtEnd, AtEnding, AtInfo, AtLabel, AtLine, AtMarkers, AtMeta, AtTitle}
+use Rattle.md_outline.specs.LinesAllowed.{AtTitleText, AfterPart, AfterTitle, AfterTitleText, AfterUnderline, HasFences}
+use Rattle.md_outline.specs.LinesAllowed.{HasInfo, HasMeta, InAtxText, InDestination, InEnd, InMarkers, InPart}
+use Rattle.md_outline.specs.LinesAllowed.{InParted, InTable, InText, InTitle, InUnderline, LabelPart, LinesAllowed}
+use Rattle.md_outline.specs.LinesAllowed.{MayBeHere, Outside, SameText, Site, TitlePart, site_by, table_site, text_site}
 use Rattle.md_outline.specs.TablePlaces.{TablePlace, spot_by}
-use Rattle.md_outline.specs.ListsBegin.{AllTold, MayFollow, Stage, stage_by}
+use Rattle.md_outline.specs.ListsBegin.{AllRecorded, MayFollow, Stage, stage_by}
 use Rattle.md_outline.specs.Outlined.{is_unparted, parts_by}
-use Rattle.md_outline.specs.OutlineSteps.{OutlineState, state_by, state_exit, told_leaf}
+use Rattle.md_outline.specs.OutlineSteps.{OutlineState, state_by, state_exit, recorded_leaf}
 use Rattle.md_outline.specs.Roles.{is_shown, shown_as}
 use Rattle.md_outline.specs.declared.outline.role.Note.TheVariants as note
 use Rattle.md_outline.specs.declared.outline.role.Purpose.TheVariants as purpose
@@ -38,9 +37,9 @@ use Rattle.md_outline.proofs.SiteTexts.{prefix-exit, span-quoted, text-ending, t
 use Rattle.md_outline.proofs.TabledLemmas as tabled
 use Rattle.md_outline.proofs.TitledLemmas as titled
 use Rattle.md_outline.proofs.TitledLemmas.{title-ends, title-from, title-line, title-prefix, underline-ends}
-use Rattle.md_outline.proofs.LinedLemmas.{Ended, InTextOf, Lining, Marked, OnLine, ending-agrees}
-use Rattle.md_outline.proofs.LinedLemmas.{fence-begins, fence-closes, info-told, leaf-ends, line-ended, line-opens}
-use Rattle.md_outline.proofs.LinedLemmas.{line-told, lining-ends, markers-stand, markers-told, meta-told, text-open}
+use Rattle.md_outline.proofs.LinedLemmas.{Ended, InTextOf, Lining, Marked, OnLine, ending-agrees, fence-begins}
+use Rattle.md_outline.proofs.LinedLemmas.{fence-closes, info-recorded, leaf-ends, line-ended, line-opens, line-recorded}
+use Rattle.md_outline.proofs.LinedLemmas.{lining-ends, markers-are_valid, markers-recorded, meta-recorded, text-open}
 use Rattle.md_outline.proofs.LinedLemmas.{span-fenced, span-headed, span-line}
 use Rattle.md_outline.proofs.LeavesOpen.{gap-line, known-next, known-open, leaf-begins, open-ends}
 
@@ -60,24 +59,24 @@ AgreesIn (AtEnd kind) s r = HasFences kind × Ended kind true s r × NoText s r
 AgreesIn (InEnd kind) s r = HasFences kind × Ended kind true s r × ((q : Point) × TextFrom q s r)
 AgreesIn AtTitle s r = titled.Headed 0 no_heading false s r × NoText s r
 AgreesIn InTitle s r = titled.InText s r
-AgreesIn BehindTitle s r = titled.Unmarked s r × NoText s r
+AgreesIn AfterTitle s r = titled.Unmarked s r × NoText s r
 AgreesIn InUnderline s r = titled.Unmarked s r × ((q : Point) × TextFrom q s r)
-AgreesIn BehindUnderline s r = titled.IsMarked s r × NoText s r
+AgreesIn AfterUnderline s r = titled.IsMarked s r × NoText s r
 AgreesIn InAtxText s r = Agrees s r × (is_unparted s.text ≡ true)
 AgreesIn AtLabel s r = defined.AtText LabelPart s r × NoText s r
 AgreesIn (InPart part q) s r = defined.AtText part s r × TextFrom q s r
 AgreesIn (InParted part) s r = defined.InText part s r
-AgreesIn (BehindPart left) s r = defined.Behind left s r × NoText s r
+AgreesIn (AfterPart left) s r = defined.Following left s r × NoText s r
 AgreesIn InDestination s r = defined.InDestinationText s r × ((q : Point) × TextFrom q s r)
 AgreesIn AtTitleText s r = defined.AtText TitlePart s r × NoText s r
-AgreesIn BehindTitleText s r = defined.BehindText s r × NoText s r
+AgreesIn AfterTitleText s r = defined.AfterText s r × NoText s r
 AgreesIn (InTable spot) s r = tabled.AgreesSpot spot s r
 
 -- One event.
 
 abbrev pub AgreesWithin : Site → Stage → OutlineState → Reading → Type 0
 AgreesWithin Outside stage s r = AgreesAt stage s r
-AgreesWithin site AllTold s r = AgreesIn site s r
+AgreesWithin site AllRecorded s r = AgreesIn site s r
 AgreesWithin site stage s r = ⊥
 
 has-meta : (kind : LeafKind) → HasInfo kind → HasMeta kind
@@ -85,8 +84,8 @@ has-meta OfFence h = tt
 has-meta _ h = absurd h
 
 -- after an event in a table
-table-agrees : (spot : Option TablePlace) (s : OutlineState) (r : Reading) → tabled.AgreesBehind spot s r →
-    AgreesWithin (table_site spot) AllTold s r
+table-agrees : (spot : Option TablePlace) (s : OutlineState) (r : Reading) → tabled.AgreesAfter spot s r →
+    AgreesWithin (table_site spot) AllRecorded s r
 table-agrees None s r is = is
 table-agrees (Some spot) s r is = is
 
@@ -95,21 +94,21 @@ abbrev line_to : List ℕ → Point → Point → Line
 line_to bytes q p = record { spaces = columns_left q; text = slice_range bytes (byte_at q) p.index }
 
 abbrev markers_noted : List ℕ → Point → Point → OutlineState → OutlineState
-markers_noted bytes q p s = told_leaf note.Markers (line_to bytes q p).text (record s { text = None })
+markers_noted bytes q p s = recorded_leaf note.Markers (line_to bytes q p).text (record s { text = None })
 
 -- a text of it ends
 text-agrees : (bytes : List ℕ) (kind : LeafKind) (y x : spelled.Purpose) (p : Point) (s : OutlineState)
     (r : Reading) → SameText y x → InTextOf kind y s r × ((q : Point) × TextFrom q s r) →
-    AgreesWithin (text_site kind y) AllTold (state_exit bytes (shown_as (TextRole x)) p s)
+    AgreesWithin (text_site kind y) AllRecorded (state_exit bytes (shown_as (TextRole x)) p s)
     (read_exit bytes (TextRole x) p r)
 text-agrees bytes kind AsInfo AsInfo p s r same is =
     let line : Line = line_to bytes is.1.0 p in
     text-ends (AgreesIn (AtMeta kind)) bytes is.1.0 p AsInfo (purpose.Part word.Info) s r is.1.1
-    (has-meta kind is.0.0, (Some line.text, info-told kind line s r is.0.0 is.0.1), (refl, refl))
+    (has-meta kind is.0.0, (Some line.text, info-recorded kind line s r is.0.0 is.0.1), (refl, refl))
 text-agrees bytes kind AsMeta AsMeta p s r same is =
     let line : Line = line_to bytes is.1.0 p in
     text-ends (AgreesIn (AtEnding kind)) bytes is.1.0 p AsMeta (purpose.Part word.Meta) s r is.1.1
-    ((is.0.1.0, Some line.text, [], meta-told kind is.0.1.0 line s r is.0.0 is.0.1.1), (refl, refl))
+    ((is.0.1.0, Some line.text, [], meta-recorded kind is.0.1.0 line s r is.0.0 is.0.1.1), (refl, refl))
 text-agrees bytes kind AsLine AsLine p s r same is =
     let line : Line = line_to bytes is.1.0 p in
     text-ends (AgreesIn (AtEnding kind)) bytes is.1.0 p AsLine purpose.Line s r is.1.1 (
@@ -117,7 +116,7 @@ text-agrees bytes kind AsLine AsLine p s r same is =
         is.0.0,
         is.0.1,
         is.0.2 ++ line ∷ [],
-        line-told kind is.0.0 is.0.1 is.0.2 line s r is.1.1.spaces is.0.3,
+        line-recorded kind is.0.0 is.0.1 is.0.2 line s r is.1.1.spaces is.0.3,
       ),
       (refl, refl),
     )
@@ -141,24 +140,25 @@ site-open (AtEnd k) s r is = known-open s r is.1.3.3.0
 site-open (InEnd k) s r is = known-open s r is.1.3.3.0
 site-open AtTitle s r is = known-open s r is.0.0
 site-open InTitle s r is = known-open s r is.0
-site-open BehindTitle s r is = known-open s r is.0.1.0
+site-open AfterTitle s r is = known-open s r is.0.1.0
 site-open InUnderline s r is = known-open s r is.0.1.0
-site-open BehindUnderline s r is = known-open s r is.0.1.0
+site-open AfterUnderline s r is = known-open s r is.0.1.0
 site-open InAtxText s r is = tt
 site-open AtLabel s r is = known-open s r is.0.2.0
 site-open (InPart part q) s r is = known-open s r is.0.2.0
 site-open (InParted part) s r is = known-open s r is.2
-site-open (BehindPart left) s r is = known-open s r is.0.4.0
+site-open (AfterPart left) s r is = known-open s r is.0.4.0
 site-open InDestination s r is = known-open s r is.0.1.0
 site-open AtTitleText s r is = known-open s r is.0.2.0
-site-open BehindTitleText s r is = known-open s r is.0.4.0
+site-open AfterTitleText s r is = known-open s r is.0.4.0
 site-open (InTable spot) s r is = tabled.spot-open spot s r is
 
 -- What an outline has read agrees with the tree after each event that may come at a site: after what is anywhere, and
 -- in fences, in the lines after them, in headings and in definitions.
 agrees-in : (bytes : List ℕ) (site : Site) (kind : Kind) (x : spelled.Role) (p : Point) (s : OutlineState)
-    (r : Reading) → parts_by bytes kind x p s.text ≡ true → MayStand bytes site kind x p → AgreesIn site s r →
-    AgreesWithin (site_by bytes site kind x p) AllTold (state_by bytes kind (shown_as x) p s) (read_by bytes kind x p r)
+    (r : Reading) → parts_by bytes kind x p s.text ≡ true → MayBeHere bytes site kind x p → AgreesIn site s r →
+    AgreesWithin (site_by bytes site kind x p) AllRecorded (state_by bytes kind (shown_as x) p s)
+    (read_by bytes kind x p r)
 agrees-in bytes Outside kind x p s r parts may is = absurd is
 agrees-in bytes (InTable spot) kind x p s r parts may is =
     table-agrees (spot_by spot kind x) (state_by bytes kind (shown_as x) p s) (read_by bytes kind x p r)
@@ -177,7 +177,7 @@ agrees-in bytes (AtMarkers k) Enter (TextRole AsMarkers) p s r parts may is = (i
 agrees-in bytes (InMarkers k q) Exit (TextRole AsMarkers) p s r parts may is =
     text-ends (AgreesIn (AtInfo k)) bytes q p AsMarkers purpose.Markers s r is.2 (
       is.0,
-      markers-told k (line_to bytes q p) s r is.0 may is.1,
+      markers-recorded k (line_to bytes q p) s r is.0 may is.1,
       (span-headed s.lined (line_to bytes q p).text (markers_noted bytes q p s), refl),
     )
 agrees-in bytes (AtInfo k) Enter (TextRole AsInfo) p s r parts may is = ((may, is.1), (p, from-here p s r))
@@ -193,7 +193,7 @@ agrees-in bytes (AtEnding k) Enter IsPrefix p s r parts may is =
 agrees-in bytes (AtEnding k) Exit IsPrefix p s r parts may is =
     prefix-exit (Ended k false) bytes p s r (λ s r span spaces text is. is) is
 agrees-in bytes (AtEnding k) Exit IsEnding p s r parts may is =
-    ending-agrees (λ x s r. AgreesWithin (cond x (AtLine k) (AtEnding k)) AllTold s r) bytes p k s r is.0 is.1
+    ending-agrees (λ x s r. AgreesWithin (cond x (AtLine k) (AtEnding k)) AllRecorded s r) bytes p k s r is.0 is.1
     (line-opens k s r is.0, is.1) is
 agrees-in bytes (AtEnding k) Exit IsFence p s r parts may is = is
 agrees-in bytes (AtEnding k) Exit (LeafRole x) p s r parts may is =
@@ -220,7 +220,7 @@ agrees-in bytes (AtEnd k) Exit (LeafRole x) p s r parts may is =
 agrees-in bytes (InEnd k) Exit (TextRole AsMarkers) p s r parts may is =
     text-ends (AgreesIn (AtEnd k)) bytes is.2.0 p AsMarkers purpose.Markers s r is.2.1 (
       is.0,
-      (is.1.0, is.1.1, is.1.2, markers-stand k is.1.0 is.1.1 is.1.2 (line_to bytes is.2.0 p) s r is.0 is.1.3),
+      (is.1.0, is.1.1, is.1.2, markers-are_valid k is.1.0 is.1.1 is.1.2 (line_to bytes is.2.0 p) s r is.0 is.1.3),
       (span-headed s.lined (line_to bytes is.2.0 p).text (markers_noted bytes is.2.0 p s), refl),
     )
 agrees-in bytes AtTitle Enter (TextRole AsHeading) p s r parts may is = (is.0.0, (refl, (is.0.1, refl)))
@@ -229,16 +229,16 @@ agrees-in bytes InTitle Exit IsPrefix p s r parts may is =
     (is.0, title-from p (titled.head_lines s r) s.depth s.lines s.text r.text is.1)
 agrees-in bytes InTitle Exit IsEnding p s r parts may is = title-line bytes p s r is
 agrees-in bytes InTitle Exit (TextRole AsHeading) p s r parts may is = title-ends bytes p s r parts is
-agrees-in bytes BehindTitle Enter IsPrefix p s r parts may is =
+agrees-in bytes AfterTitle Enter IsPrefix p s r parts may is =
     prefix-enter titled.Unmarked bytes p s r (λ s r span spaces text is. is) is
-agrees-in bytes BehindTitle Exit IsPrefix p s r parts may is =
+agrees-in bytes AfterTitle Exit IsPrefix p s r parts may is =
     prefix-exit titled.Unmarked bytes p s r (λ s r span spaces text is. is) is
-agrees-in bytes BehindTitle Exit IsEnding p s r parts may is =
+agrees-in bytes AfterTitle Exit IsEnding p s r parts may is =
     gap-line titled.Unmarked bytes p s r is.0.1.0 refl (is.0.0, (known-next next_line is.0.1.0 refl, is.0.1.1)) is
-agrees-in bytes BehindTitle Enter (TextRole AsMarkers) p s r parts may is = (is.0, (p, from-here p s r))
+agrees-in bytes AfterTitle Enter (TextRole AsMarkers) p s r parts may is = (is.0, (p, from-here p s r))
 agrees-in bytes InUnderline Exit (TextRole AsMarkers) p s r parts may is =
     underline-ends bytes is.1.0 p s r is.0 is.1.1
-agrees-in bytes BehindUnderline Exit (LeafRole OfHeadingSetext) p s r parts may is =
+agrees-in bytes AfterUnderline Exit (LeafRole OfHeadingSetext) p s r parts may is =
     open-ends s r is.0.1.0 is.0.1.1 is.1
 agrees-in bytes InAtxText Exit IsEnding p s r parts may is =
     (agrees-ending bytes p s r is.0, ap is_unparted (span-line bytes p.index s.lined s.text s) ∙ is.1)
@@ -257,17 +257,17 @@ agrees-in bytes (InParted LabelPart) Exit (TextRole AsLabel) p s r parts may is 
     defined.label-ends bytes p s r parts is
 agrees-in bytes (InParted TitlePart) Exit (TextRole AsTitle) p s r parts may is =
     defined.title-ends bytes p s r parts is
-agrees-in bytes (BehindPart left) Enter IsPrefix p s r parts may is =
-    prefix-enter (defined.Behind left) bytes p s r (λ s r span spaces text is. is) is
-agrees-in bytes (BehindPart left) Exit IsPrefix p s r parts may is =
-    prefix-exit (defined.Behind left) bytes p s r (λ s r span spaces text is. is) is
-agrees-in bytes (BehindPart left) Exit IsEnding p s r parts may is =
-    gap-line (defined.Behind left) bytes p s r is.0.4.0 refl
+agrees-in bytes (AfterPart left) Enter IsPrefix p s r parts may is =
+    prefix-enter (defined.Following left) bytes p s r (λ s r span spaces text is. is) is
+agrees-in bytes (AfterPart left) Exit IsPrefix p s r parts may is =
+    prefix-exit (defined.Following left) bytes p s r (λ s r span spaces text is. is) is
+agrees-in bytes (AfterPart left) Exit IsEnding p s r parts may is =
+    gap-line (defined.Following left) bytes p s r is.0.4.0 refl
     (is.0.0, is.0.1, is.0.2, is.0.3, (known-next next_line is.0.4.0 refl, is.0.4.1)) is
-agrees-in bytes (BehindPart left) Enter (TextRole AsDestination) p s r parts may is =
+agrees-in bytes (AfterPart left) Enter (TextRole AsDestination) p s r parts may is =
     defined.destination-begins left p s r may is.0
-agrees-in bytes (BehindPart left) Enter IsTitle p s r parts may is = defined.title-begins bytes left p s r may is
-agrees-in bytes (BehindPart left) Exit (LeafRole OfDefinition) p s r parts may is =
+agrees-in bytes (AfterPart left) Enter IsTitle p s r parts may is = defined.title-begins bytes left p s r may is
+agrees-in bytes (AfterPart left) Exit (LeafRole OfDefinition) p s r parts may is =
     open-ends s r is.0.4.0 is.0.4.1 is.1
 agrees-in bytes InDestination Exit IsEnding p s r parts may is =
     text-ending (AgreesIn InDestination) bytes is.1.0 p s r is.1.1 is
@@ -275,12 +275,12 @@ agrees-in bytes InDestination Exit (TextRole AsDestination) p s r parts may is =
     defined.destination-ends bytes is.1.0 p s r is.0 is.1.1
 agrees-in bytes AtTitleText Enter (TextRole AsTitle) p s r parts may is = (is.0, from-here p s r)
 agrees-in bytes AtTitleText Exit IsTitle p s r parts may is = defined.title-empty bytes p s r is
-agrees-in bytes BehindTitleText Exit IsTitle p s r parts may is = defined.title-full bytes p s r is
+agrees-in bytes AfterTitleText Exit IsTitle p s r parts may is = defined.title-full bytes p s r is
 agrees-in bytes site kind x p s r parts may is = absurd may
 
 -- no list begins there
 stage-stays : (bytes : List ℕ) (site : Site) (kind : Kind) (x : spelled.Role) (p : Point) (s : OutlineState)
-    (r : Reading) → MayStand bytes site kind x p → AgreesIn site s r → stage_by AllTold kind x p ≡ AllTold
+    (r : Reading) → MayBeHere bytes site kind x p → AgreesIn site s r → stage_by AllRecorded kind x p ≡ AllRecorded
 stage-stays bytes Outside kind x p s r may is = absurd is
 stage-stays bytes site Enter (ContainerRole OrderedShape) p s r may is = absurd may
 stage-stays bytes site Enter (ContainerRole UnorderedShape) p s r may is = absurd may
@@ -291,52 +291,52 @@ stage-stays bytes site Exit x p s r may is = refl
 pub agrees-site : (bytes : List ℕ) (site : Site) (stage : Stage) (kind : Kind) (x : spelled.Role) (p : Point)
     (s : OutlineState) (r : Reading) → is_shown x ≡ true → IsFresh x → parts_by bytes kind x p s.text ≡ true →
     are_shallow (read_by bytes kind x p r).here ≡ true → MayFollow bytes stage kind x p →
-    MayStand bytes site kind x p → AgreesWithin site stage s r →
+    MayBeHere bytes site kind x p → AgreesWithin site stage s r →
     AgreesWithin (site_by bytes site kind x p) (stage_by stage kind x p) (state_by bytes kind (shown_as x) p s)
     (read_by bytes kind x p r)
-agrees-site bytes Outside AllTold Enter (LeafRole OfCode) p s r h fresh k d may stands is =
+agrees-site bytes Outside AllRecorded Enter (LeafRole OfCode) p s r h fresh k d may valid is =
     let begins = leaf-begins bytes OfCode word.Code p s r (no-span bytes OfCode p s.text refl k) is in
     ((None, None, [], ([], false, tt, begins.0)), begins.1)
-agrees-site bytes Outside AllTold Enter (LeafRole OfHtml) p s r h fresh k d may stands is =
+agrees-site bytes Outside AllRecorded Enter (LeafRole OfHtml) p s r h fresh k d may valid is =
     let begins = leaf-begins bytes OfHtml word.Html p s r (no-span bytes OfHtml p s.text refl k) is in
     ((None, None, [], ([], false, tt, begins.0)), begins.1)
-agrees-site bytes Outside AllTold Enter (LeafRole OfFence) p s r h fresh k d may stands is =
+agrees-site bytes Outside AllRecorded Enter (LeafRole OfFence) p s r h fresh k d may valid is =
     let begins = leaf-begins bytes OfFence (word.Fence 0 false) p s r (no-span bytes OfFence p s.text refl k) is in
     (tt, begins.0, begins.1)
-agrees-site bytes Outside AllTold Enter (LeafRole OfMath) p s r h fresh k d may stands is =
+agrees-site bytes Outside AllRecorded Enter (LeafRole OfMath) p s r h fresh k d may valid is =
     let begins = leaf-begins bytes OfMath (word.Math false) p s r (no-span bytes OfMath p s.text refl k) is in
     (tt, begins.0, begins.1)
-agrees-site bytes Outside AllTold Enter (LeafRole OfFrontmatter) p s r h fresh k d may stands is =
+agrees-site bytes Outside AllRecorded Enter (LeafRole OfFrontmatter) p s r h fresh k d may valid is =
     let begins =
     leaf-begins bytes OfFrontmatter (word.Frontmatter 0) p s r (no-span bytes OfFrontmatter p s.text refl k)
     is in
     (tt, begins.0, begins.1)
-agrees-site bytes Outside AllTold Enter (LeafRole OfHeadingSetext) p s r h fresh k d may stands is =
+agrees-site bytes Outside AllRecorded Enter (LeafRole OfHeadingSetext) p s r h fresh k d may valid is =
     leaf-begins bytes OfHeadingSetext (word.Heading 0) p s r (no-span bytes OfHeadingSetext p s.text refl k) is
-agrees-site bytes Outside AllTold Enter (LeafRole OfDefinition) p s r h fresh k d may stands is =
+agrees-site bytes Outside AllRecorded Enter (LeafRole OfDefinition) p s r h fresh k d may valid is =
     let begins = leaf-begins bytes OfDefinition word.Definition p s r (no-span bytes OfDefinition p s.text refl k) is in
     (([], [], begins.0), begins.1)
-agrees-site bytes Outside AllTold Enter (LeafRole OfTable) p s r h fresh k d may stands is =
+agrees-site bytes Outside AllRecorded Enter (LeafRole OfTable) p s r h fresh k d may valid is =
     leaf-begins bytes OfTable (word.Table 0) p s r (no-span bytes OfTable p s.text refl k) is
-agrees-site bytes Outside AllTold Enter (TextRole AsHeading) p s r h fresh k d may stands is =
+agrees-site bytes Outside AllRecorded Enter (TextRole AsHeading) p s r h fresh k d may valid is =
     (agrees-begun p s r (apart bytes Enter (TextRole AsHeading) p s.text (λ t. refl) k) is, refl)
-agrees-site bytes Outside AllTold Enter (LeafRole x) p s r h fresh k d may stands is =
-    agrees-stage bytes AllTold Enter (LeafRole x) p s r h fresh k d may is
-agrees-site bytes Outside stage Enter (LeafRole x) p s r h fresh k d may stands is = absurd may
-agrees-site bytes Outside stage Enter (TextRole AsHeading) p s r h fresh k d may stands is = absurd may
-agrees-site bytes Outside stage Exit (LeafRole OfCode) p s r h fresh k d may stands is = absurd stands
-agrees-site bytes Outside stage Exit (TextRole AsHeading) p s r h fresh k d may stands is = absurd stands
-agrees-site bytes Outside stage kind x p s r h fresh k d may stands is =
+agrees-site bytes Outside AllRecorded Enter (LeafRole x) p s r h fresh k d may valid is =
+    agrees-stage bytes AllRecorded Enter (LeafRole x) p s r h fresh k d may is
+agrees-site bytes Outside stage Enter (LeafRole x) p s r h fresh k d may valid is = absurd may
+agrees-site bytes Outside stage Enter (TextRole AsHeading) p s r h fresh k d may valid is = absurd may
+agrees-site bytes Outside stage Exit (LeafRole OfCode) p s r h fresh k d may valid is = absurd valid
+agrees-site bytes Outside stage Exit (TextRole AsHeading) p s r h fresh k d may valid is = absurd valid
+agrees-site bytes Outside stage kind x p s r h fresh k d may valid is =
     agrees-stage bytes stage kind x p s r (search) fresh k d may is
-agrees-site bytes site AllTold kind x p s r h fresh k d may stands is =
+agrees-site bytes site AllRecorded kind x p s r h fresh k d may valid is =
     subst
     (λ stage.
     AgreesWithin (site_by bytes site kind x p) stage (state_by bytes kind (shown_as x) p s) (read_by bytes kind x p r))
-    (sym (stage-stays bytes site kind x p s r stands is)) (agrees-in bytes site kind x p s r k stands is)
-agrees-site bytes site stage kind x p s r h fresh k d may stands is = absurd is
+    (sym (stage-stays bytes site kind x p s r valid is)) (agrees-in bytes site kind x p s r k valid is)
+agrees-site bytes site stage kind x p s r h fresh k d may valid is = absurd is
 
 -- all events
 pub sites-closed : (bytes : List ℕ) (site : Site) (stage : Stage) (s : OutlineState) (r : Reading) → r.outer ≡ [] →
-    is_unparted s.text ≡ true → LinesStand bytes site [] → AgreesWithin site stage s r → s.lines ≡ outline 0 r.here
+    is_unparted s.text ≡ true → LinesAllowed bytes site [] → AgreesWithin site stage s r → s.lines ≡ outline 0 r.here
 sites-closed bytes Outside stage s r e k lines is = lines-closed stage s r e k is
 sites-closed bytes _ stage s r e k lines is = absurd lines

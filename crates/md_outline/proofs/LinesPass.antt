@@ -14,38 +14,39 @@ use Rattle.md_events.specs.Events.Nested.{around, enter, exit, pair}
 use Rattle.md_events.specs.Events.Spelled.{AsHeading, AsMarkers, IsEnding, IsQuiet, IsQuoteMarker, LeafKind, OfCode}
 use Rattle.md_events.specs.Events.Spelled.{OfHeadingSetext, LeafRole, Role, TextRole, role}
 use Rattle.md_events.proofs.SpelledLemmas.{Between, Quiet, QuietOrEnding, QuietOrPrefix, Roles}
-use Rattle.md_outline.specs.LinesStand.{AtEnd, AtEnding, AtLine, AtTitle, BehindTitle, BehindUnderline, HasLines}
-use Rattle.md_outline.specs.LinesStand.{InAtxText, InTitle, InUnderline, LinesStand, MayStand, Outside, Site}
-use Rattle.md_outline.specs.LinesStand.{begun_site, site_by, InParted, InPart, InTable, BehindPart, InText}
-use Rattle.md_outline.specs.LinesStand.{InDestination}
+use Rattle.md_outline.specs.LinesAllowed.{AtEnd, AtEnding, AtLine, AtTitle, AfterTitle, AfterUnderline, HasLines}
+use Rattle.md_outline.specs.LinesAllowed.{InAtxText, InTitle, InUnderline, LinesAllowed, MayBeHere, Outside, Site}
+use Rattle.md_outline.specs.LinesAllowed.{begun_site, site_by, InParted, InPart, InTable, AfterPart, InText}
+use Rattle.md_outline.specs.LinesAllowed.{InDestination}
 use Rattle.md_outline.specs.Roles.{is_plain}
-use Rattle.md_outline.specs.TablePlaces.{AtHead, BehindHead, BehindRow, InCell}
+use Rattle.md_outline.specs.TablePlaces.{AtHead, AfterHead, AfterRow, InCell}
 
 -- Events that go from a site to a site: where what follows them may be there, all of it may be here.
 abbrev pub Passes : List ℕ → Site → Site → List Event → Type 0
-Passes bytes from to es = (ys : List Event) → LinesStand bytes to ys → LinesStand bytes from (es ++ ys)
+Passes bytes from to es = (ys : List Event) → LinesAllowed bytes to ys → LinesAllowed bytes from (es ++ ys)
 
 pub passes-none : (bytes : List ℕ) (site : Site) → Passes bytes site site []
 passes-none bytes site ys h = h
 
 -- of two runs of events, and what follows them
-pub stand-both : (bytes : List ℕ) (site : Site) (xs ys zs : List Event) → LinesStand bytes site (xs ++ (ys ++ zs)) →
-    LinesStand bytes site ((xs ++ ys) ++ zs)
-stand-both bytes site xs ys zs h = subst (LinesStand bytes site) (sym (append_assoc xs ys zs)) h
+pub are_valid-both : (bytes : List ℕ) (site : Site) (xs ys zs : List Event) →
+    LinesAllowed bytes site (xs ++ (ys ++ zs)) →
+    LinesAllowed bytes site ((xs ++ ys) ++ zs)
+are_valid-both bytes site xs ys zs h = subst (LinesAllowed bytes site) (sym (append_assoc xs ys zs)) h
 
 pub passes-append : (bytes : List ℕ) (from mid to : Site) (xs ys : List Event) → Passes bytes from mid xs →
     Passes bytes mid to ys → Passes bytes from to (xs ++ ys)
-passes-append bytes from mid to xs ys h k zs more = stand-both bytes from xs ys zs (h (ys ++ zs) (k zs more))
+passes-append bytes from mid to xs ys h k zs more = are_valid-both bytes from xs ys zs (h (ys ++ zs) (k zs more))
 
 -- all of some events, which go from outside to there
-pub passes-all : (bytes : List ℕ) (es : List Event) → Passes bytes Outside Outside es → LinesStand bytes Outside es
-passes-all bytes es h = subst (LinesStand bytes Outside) (append-nil es) (h [] tt)
+pub passes-all : (bytes : List ℕ) (es : List Event) → Passes bytes Outside Outside es → LinesAllowed bytes Outside es
+passes-all bytes es h = subst (LinesAllowed bytes Outside) (append-nil es) (h [] tt)
 
 -- Events that leave a site, by their roles.
 
 abbrev pub Keeps : List ℕ → Site → Role → Type 0
 Keeps bytes site x =
-    (kind : Kind) (p : Point) → MayStand bytes site kind x p × (site_by bytes site kind x p ≡ site)
+    (kind : Kind) (p : Point) → MayBeHere bytes site kind x p × (site_by bytes site kind x p ≡ site)
 
 pub passes-by : (bytes : List ℕ) (P : Role → Type 0) (site : Site) (es : List Event) →
     ((x : Role) → P x → Keeps bytes site x) → Roles P es → Passes bytes site site es
@@ -53,7 +54,7 @@ passes-by bytes P site [] keeps h ys more = more
 passes-by bytes P site (e ∷ es) keeps h ys more =
     let here = keeps (role e.name) h.0 e.kind e.point in (
       here.0,
-      subst (λ (s : Site). LinesStand bytes s (es ++ ys)) (sym here.1) (passes-by bytes P site es keeps h.1 ys more),
+      subst (λ (s : Site). LinesAllowed bytes s (es ++ ys)) (sym here.1) (passes-by bytes P site es keeps h.1 ys more),
     )
 
 pub passes-kept : (bytes : List ℕ) (site : Site) (es : List Event) → Roles (Keeps bytes site) es →
@@ -133,15 +134,15 @@ passes-ending bytes p q _ on ys more = absurd on
 
 -- an event of such a role goes from a site to a site
 abbrev pub Steps : List ℕ → Site → Site → Kind → Role → Point → Type 0
-Steps bytes from to kind x p = MayStand bytes from kind x p × (site_by bytes from kind x p ≡ to)
+Steps bytes from to kind x p = MayBeHere bytes from kind x p × (site_by bytes from kind x p ≡ to)
 
 pub passes-event : (bytes : List ℕ) (from to : Site) (x : Role) (e : Event) → role e.name ≡ x →
     Steps bytes from to e.kind x e.point → Passes bytes from to (e ∷ [])
 passes-event bytes from to x e is step ys more =
     subst
     (λ (y : Role).
-    MayStand bytes from e.kind y e.point × LinesStand bytes (site_by bytes from e.kind y e.point) ys)
-    (sym is) (step.0, subst (λ (s : Site). LinesStand bytes s ys) (sym step.1) more)
+    MayBeHere bytes from e.kind y e.point × LinesAllowed bytes (site_by bytes from e.kind y e.point) ys)
+    (sym is) (step.0, subst (λ (s : Site). LinesAllowed bytes s ys) (sym step.1) more)
 
 pub passes-around : (bytes : List ℕ) (from first last to : Site) (x : Role) (name : Name) (p q : Point)
     (es : List Event) → role name ≡ x → Steps bytes from first Enter x p → Passes bytes first last es →
@@ -209,11 +210,11 @@ passes-atx_text bytes name p q es is h =
 -- that is parted, between its parts, and between the rows of a table
 abbrev pub TakesLines : Site → Type 0
 TakesLines InTitle = Unit {0}
-TakesLines BehindTitle = Unit {0}
+TakesLines AfterTitle = Unit {0}
 TakesLines (InParted part) = Unit {0}
-TakesLines (BehindPart left) = Unit {0}
-TakesLines (InTable BehindHead) = Unit {0}
-TakesLines (InTable BehindRow) = Unit {0}
+TakesLines (AfterPart left) = Unit {0}
+TakesLines (InTable AfterHead) = Unit {0}
+TakesLines (InTable AfterRow) = Unit {0}
 TakesLines _ = ⊥
 
 pub passes-lines : (bytes : List ℕ) (site : Site) (es : List Event) → TakesLines site → Roles Between es →
@@ -229,27 +230,27 @@ passes-lines bytes site es takes h = passes-by bytes Between site es (λ x. one 
 
 -- its text
 pub passes-title : (bytes : List ℕ) (name : Name) (p q : Point) (es : List Event) → role name ≡ TextRole AsHeading →
-    Roles Between es → Passes bytes AtTitle BehindTitle (around name p q es)
+    Roles Between es → Passes bytes AtTitle AfterTitle (around name p q es)
 passes-title bytes name p q es is h =
-    passes-around bytes AtTitle InTitle InTitle BehindTitle (TextRole AsHeading) name p q es is (tt, refl)
+    passes-around bytes AtTitle InTitle InTitle AfterTitle (TextRole AsHeading) name p q es is (tt, refl)
     (passes-lines bytes InTitle es tt h) (tt, refl)
 
 -- what is between that and its underline
-pub passes-gap : (bytes : List ℕ) (es : List Event) → Roles Between es → Passes bytes BehindTitle BehindTitle es
-passes-gap bytes es h = passes-lines bytes BehindTitle es tt h
+pub passes-gap : (bytes : List ℕ) (es : List Event) → Roles Between es → Passes bytes AfterTitle AfterTitle es
+passes-gap bytes es h = passes-lines bytes AfterTitle es tt h
 
 -- the markers of its underline
 pub passes-underline : (bytes : List ℕ) (name : Name) (p q : Point) (es : List Event) →
-    role name ≡ TextRole AsMarkers → Roles Quiet es → Passes bytes BehindTitle BehindUnderline (around name p q es)
+    role name ≡ TextRole AsMarkers → Roles Quiet es → Passes bytes AfterTitle AfterUnderline (around name p q es)
 passes-underline bytes name p q es is h =
-    passes-around bytes BehindTitle InUnderline InUnderline BehindUnderline (TextRole AsMarkers) name p q es
+    passes-around bytes AfterTitle InUnderline InUnderline AfterUnderline (TextRole AsMarkers) name p q es
     is (tt, refl)
     (passes-quiet bytes InUnderline es h) (tt, refl)
 
 -- all of it
 pub passes-heading : (bytes : List ℕ) (name : Name) (p q : Point) (es : List Event) →
-    role name ≡ LeafRole OfHeadingSetext → Passes bytes AtTitle BehindUnderline es →
+    role name ≡ LeafRole OfHeadingSetext → Passes bytes AtTitle AfterUnderline es →
     Passes bytes Outside Outside (around name p q es)
 passes-heading bytes name p q es is h =
-    passes-around bytes Outside AtTitle BehindUnderline Outside (LeafRole OfHeadingSetext) name p q es is (tt, refl) h
+    passes-around bytes Outside AtTitle AfterUnderline Outside (LeafRole OfHeadingSetext) name p q es is (tt, refl) h
     (tt, refl)

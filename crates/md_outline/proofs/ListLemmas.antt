@@ -16,13 +16,14 @@ use Rattle.md_meaning.specs.Tree.{Block, Blocks, End, Item, More}
 use Rattle.md_events.specs.Events.Spelled.{OpenContainer, AsDigits, AsFootnoteLabel, AsItemMarker, FootnoteShape}
 use Rattle.md_events.specs.Events.Spelled.{ContainerRole, IsEnding, IsPrefix, IsQuiet, IsQuoteMarker, ItemShape}
 use Rattle.md_events.specs.Events.Spelled.{OrderedShape, Reading, Shape, TextRole, Text, UnorderedShape, begun}
-use Rattle.md_events.specs.Events.Spelled.{block_around, byte_at, columns_left, first_told, read_by, read_enter, text_to}
-use Rattle.md_events.specs.Events.Spelled.{OpenLeaf}
+use Rattle.md_events.specs.Events.Spelled.{block_around, byte_at, columns_left, first_recorded, read_by, read_enter}
+use Rattle.md_events.specs.Events.Spelled.{text_to, OpenLeaf}
 use Rattle.md_events.specs.Events.Spelled as spelled
 use Rattle.md_outline.specs.HeadingDepths.{are_shallow}
-use Rattle.md_outline.specs.ListsBegin.{AllTold, AtItem, AtLabel, AtMarker, InMarker, MayFollow, Stage, marks, stage_by}
+use Rattle.md_outline.specs.ListsBegin.{AllRecorded, AtItem, AtLabel, AtMarker, InMarker, MayFollow, Stage, marks}
+use Rattle.md_outline.specs.ListsBegin.{stage_by}
 use Rattle.md_outline.specs.Outlined.{is_unparted, parts_by}
-use Rattle.md_outline.specs.OutlineSteps.{OutlineState, state_by, state_enter, told_at, with_marker, marked_at}
+use Rattle.md_outline.specs.OutlineSteps.{OutlineState, state_by, state_enter, recorded_at, with_marker, marked_at}
 use Rattle.md_outline.specs.Roles.{is_listed, shown_as}
 use Rattle.md_outline.specs.declared.outline.role.Purpose.TheVariants as purpose
 use Rattle.md_outline.specs.declared.outline.role.Role.TheVariants as role
@@ -48,16 +49,16 @@ line-marked lines place text line b within first is =
     (ap entry_of is ∙ sym (get_or-map entry_of lines place line (entry 0 word.Item) within))
 
 -- after other entries, and before others
-entry-marked : (before behind : List Entry) (depth place : ℕ) (text : List ℕ) → place ≡ length before →
-    with_marker place text (before ++ entry depth (word.List 0) ∷ behind)
-    ≡ before ++ entry depth (word.List (first_byte text)) ∷ behind
-entry-marked before behind depth place text is =
+entry-marked : (before following : List Entry) (depth place : ℕ) (text : List ℕ) → place ≡ length before →
+    with_marker place text (before ++ entry depth (word.List 0) ∷ following)
+    ≡ before ++ entry depth (word.List (first_byte text)) ∷ following
+entry-marked before following depth place text is =
     let old : Entry = entry depth (word.List 0) in
     ap
     (λ (e : Entry).
-    set (before ++ old ∷ behind) place (record e { word = word.List (first_byte text) }))
-    (get_or_at before old behind (entry 0 word.Item) place (sym is))
-    ∙ set_at before old behind (entry depth (word.List (first_byte text))) place (sym is)
+    set (before ++ old ∷ following) place (record e { word = word.List (first_byte text) }))
+    (get_or_at before old following (entry 0 word.Item) place (sym is))
+    ∙ set_at before old following (entry depth (word.List (first_byte text))) place (sym is)
 
 -- Lists.
 
@@ -82,11 +83,11 @@ no-zero f b none h = go (b == 0) refl
     go true e = absurd (true≢false (sym h ∙ ap f (eqb-true b 0 e) ∙ none))
     go false e = e
 
-item-told : (shape : Shape) (b : ℕ) (d : List ℕ) → IsList shape → marks shape b ≡ true →
+item-recorded : (shape : Shape) (b : ℕ) (d : List ℕ) → IsList shape → marks shape b ≡ true →
     HasWord shape (More (Item b d End) End)
-item-told OrderedShape b d h m = rw m (no-zero (marks OrderedShape) b refl m)
-item-told UnorderedShape b d h m = rw m (no-zero (marks UnorderedShape) b refl m)
-item-told _ b d h m = absurd h
+item-recorded OrderedShape b d h m = rw m (no-zero (marks OrderedShape) b refl m)
+item-recorded UnorderedShape b d h m = rw m (no-zero (marks UnorderedShape) b refl m)
+item-recorded _ b d h m = absurd h
 
 -- What agrees where a list has begun.
 
@@ -131,7 +132,7 @@ pub record AwaitsMarker (shape : Shape) (s : OutlineState) (r : Reading) : Type 
   pub text : TextIs (list_lines waits.outer waits.before) s.depth s.lines s.text r.text
 
 abbrev pub AgreesAt : Stage → OutlineState → Reading → Type 0
-AgreesAt AllTold s r = Agrees s r
+AgreesAt AllRecorded s r = Agrees s r
 AgreesAt (AtItem shape) s r = AwaitsItem shape s r
 AgreesAt (AtMarker shape) s r = AwaitsMarker shape s r
 AgreesAt (InMarker shape q) s r = AwaitsMarker shape s r × (r.text ≡ Some (begun q))
@@ -220,11 +221,11 @@ digits-end : (bytes : List ℕ) (shape : Shape) (p : Point) (s : OutlineState) (
     (text : Option Text) (is : AwaitsMarker shape s r) →
     TextIs (list_lines is.outer is.before) s.depth s.lines span text →
     is_unparted span ≡ true →
-    AwaitsMarker shape (told_at bytes purpose.Digits p.index span s) (spelled.told_at bytes AsDigits p text r)
+    AwaitsMarker shape (recorded_at bytes purpose.Digits p.index span s) (spelled.recorded_at bytes AsDigits p text r)
 digits-end bytes shape p s r None None is h k = is
 digits-end bytes shape p s r (Some span) (Some text) is h k = record {
   waits = is.waits;
-  digits = first_told is.digits (text_to bytes p.index text);
+  digits = first_recorded is.digits (text_to bytes p.index text);
   opened = ap (spelled.on_shape (spelled.named AsDigits (text_to bytes p.index text))) is.opened;
   empty = is.empty;
   depth = is.depth;
@@ -253,7 +254,7 @@ marked-agrees shape now s r is same m =
     let list : Block = block_around shape (More (Item b is.digits End) End) in
     record {
       depth = is.depth;
-      words = (tt, (item-told shape b is.digits is.list m, words-then is.outer is.before list is.words));
+      words = (tt, (item-recorded shape b is.digits is.list m, words-then is.outer is.before list is.words));
       untold = refl;
       leaf = is.leaf;
       lined = is.none;
@@ -270,7 +271,7 @@ marker-ends : (bytes : List ℕ) (shape : Shape) (p q : Point) (s : OutlineState
     (text : Option Text) (is : AwaitsMarker shape s r) → text ≡ Some (begun q) →
     TextIs (list_lines is.outer is.before) s.depth s.lines span text →
     is_unparted span ≡ true → marks shape (first_byte (slice_range bytes (byte_at q) p.index)) ≡ true →
-    Agrees (told_at bytes purpose.Marker p.index span s) (spelled.told_at bytes AsItemMarker p text r)
+    Agrees (recorded_at bytes purpose.Marker p.index span s) (spelled.recorded_at bytes AsItemMarker p text r)
 marker-ends bytes shape p q s r span None is e h k m = absurd (no-none (begun q) e)
   where
     no-none : (t : Text) → None ≡ Some t → ⊥
@@ -283,18 +284,18 @@ marker-ends bytes shape p q s r (Some span) (Some text) is e h k m =
     subst
     (λ untold.
     Agrees (marked_at untold (slice_range bytes span.from p.index) (record s { text = None }))
-    (spelled.told_at bytes AsItemMarker p (Some text) r))
+    (spelled.recorded_at bytes AsItemMarker p (Some text) r))
     (sym is.marks)
     (subst
     (λ i.
     Agrees
     (marked_at (Some (length (shown is.outer is.before))) (slice_range bytes i p.index) (record s { text = None }))
-    (spelled.told_at bytes AsItemMarker p (Some text) r))
+    (spelled.recorded_at bytes AsItemMarker p (Some text) r))
     (sym from)
     (subst
     (λ (t : Text).
     Agrees (marked_at (Some (length (shown is.outer is.before))) now (record s { text = None }))
-    (spelled.told_at bytes AsItemMarker p (Some t) r))
+    (spelled.recorded_at bytes AsItemMarker p (Some t) r))
     (sym same)
     (subst
     (λ (o : List OpenContainer).
@@ -322,21 +323,21 @@ pub agrees-stage : (bytes : List ℕ) (stage : Stage) (kind : Kind) (x : spelled
     (r : Reading) → is_listed x ≡ true → IsFresh x → parts_by bytes kind x p s.text ≡ true →
     are_shallow (read_by bytes kind x p r).here ≡ true → MayFollow bytes stage kind x p → AgreesAt stage s r →
     AgreesAt (stage_by stage kind x p) (state_by bytes kind (shown_as x) p s) (read_by bytes kind x p r)
-agrees-stage bytes AllTold Enter (ContainerRole OrderedShape) p s r h fresh k d may is =
+agrees-stage bytes AllRecorded Enter (ContainerRole OrderedShape) p s r h fresh k d may is =
     list-begins bytes OrderedShape p s r tt (apart bytes Enter (ContainerRole OrderedShape) p s.text (λ t. refl) k) is
-agrees-stage bytes AllTold Enter (ContainerRole UnorderedShape) p s r h fresh k d may is =
+agrees-stage bytes AllRecorded Enter (ContainerRole UnorderedShape) p s r h fresh k d may is =
     list-begins bytes UnorderedShape p s r tt
     (apart bytes Enter (ContainerRole UnorderedShape) p s.text (λ t. refl) k) is
-agrees-stage bytes AllTold Exit (ContainerRole OrderedShape) p s r h fresh k d may is =
+agrees-stage bytes AllRecorded Exit (ContainerRole OrderedShape) p s r h fresh k d may is =
     agrees-left s r r.outer refl (apart bytes Exit (ContainerRole OrderedShape) p s.text (λ t. refl) k) is
-agrees-stage bytes AllTold Exit (ContainerRole UnorderedShape) p s r h fresh k d may is =
+agrees-stage bytes AllRecorded Exit (ContainerRole UnorderedShape) p s r h fresh k d may is =
     agrees-left s r r.outer refl (apart bytes Exit (ContainerRole UnorderedShape) p s.text (λ t. refl) k) is
-agrees-stage bytes AllTold Enter (ContainerRole (FootnoteShape label)) p s r h fresh k d may is = (
+agrees-stage bytes AllRecorded Enter (ContainerRole (FootnoteShape label)) p s r h fresh k d may is = (
   agrees-step bytes Enter (ContainerRole (FootnoteShape label)) p s r h fresh k d tt is,
   awaits-label label r fresh is.words,
 )
-agrees-stage bytes AllTold Enter x p s r h fresh k d may is = agrees-step bytes Enter x p s r h fresh k d may is
-agrees-stage bytes AllTold Exit x p s r h fresh k d may is = agrees-step bytes Exit x p s r h fresh k d may is
+agrees-stage bytes AllRecorded Enter x p s r h fresh k d may is = agrees-step bytes Enter x p s r h fresh k d may is
+agrees-stage bytes AllRecorded Exit x p s r h fresh k d may is = agrees-step bytes Exit x p s r h fresh k d may is
 agrees-stage bytes (AtItem shape) Enter (ContainerRole (ItemShape m digits)) p s r h fresh k d may is =
     item-begins bytes shape m digits p s r may
     (apart bytes Enter (ContainerRole (ItemShape m digits)) p s.text (λ t. refl) k) is
@@ -386,14 +387,14 @@ none-opened outer a arounds h e =
     let same : depth_of arounds + 1 ≡ 0 = ap depth_of (sym h ∙ e) in
     omega (arith, same)
 
-told-closed : (s : OutlineState) (r : Reading) → r.outer ≡ [] → is_unparted s.text ≡ true → Agrees s r →
+recorded-closed : (s : OutlineState) (r : Reading) → r.outer ≡ [] → is_unparted s.text ≡ true → Agrees s r →
     s.lines ≡ outline 0 r.here
-told-closed s r e k is =
+recorded-closed s r e k is =
     text-lines (shown r.outer r.here) s.depth s.lines s.text r.text k is.text ∙ ap (λ outer. shown outer r.here) e
 
 pub lines-closed : (stage : Stage) (s : OutlineState) (r : Reading) → r.outer ≡ [] → is_unparted s.text ≡ true →
     AgreesAt stage s r → s.lines ≡ outline 0 r.here
-lines-closed AllTold s r e k is = told-closed s r e k is
+lines-closed AllRecorded s r e k is = recorded-closed s r e k is
 lines-closed (AtItem shape) s r e k is =
     absurd (none-opened r.outer (record { shape = shape; before = is.before }) is.outer is.opened e)
 lines-closed (AtMarker shape) s r e k is =
@@ -404,4 +405,4 @@ lines-closed (InMarker shape q) s r e k is =
     absurd
     (none-opened r.outer (record { shape = ItemShape 0 is.0.digits; before = End })
     (record { shape = shape; before = is.0.before } ∷ is.0.outer) is.0.opened e)
-lines-closed AtLabel s r e k is = told-closed s r e k is.0
+lines-closed AtLabel s r e k is = recorded-closed s r e k is.0

@@ -14,10 +14,10 @@ use Rattle.md_events.specs.Events.Places.{last_line}
 use Rattle.md_meaning.specs.Rest.{is_blank}
 use Rattle.md_events.specs.Events.Spelled.{OpenContainer, AsDigits, AsFootnoteLabel, AsHeading, AsItemMarker, AsMarkers}
 use Rattle.md_events.specs.Events.Spelled.{FootnoteShape, ContainerRole, IsPrefix, IsQuoteMarker, OpenLeaf, LeafRole}
-use Rattle.md_events.specs.Events.Spelled.{Reading, Shape, TextRole, Text, after_prefix, at_ending, before_prefix, begun}
-use Rattle.md_events.specs.Events.Spelled.{block_around, block_of, byte_at, columns_left, finished, left, next_line}
-use Rattle.md_events.specs.Events.Spelled.{on_leaf, read_by, read_enter, read_exit, is_before_blocks, kind_at, named}
-use Rattle.md_events.specs.Events.Spelled.{on_shape, text_to, with_kind}
+use Rattle.md_events.specs.Events.Spelled.{Reading, Shape, TextRole, Text, after_prefix, at_ending, before_prefix}
+use Rattle.md_events.specs.Events.Spelled.{begun, block_around, block_of, byte_at, columns_left, finished, left}
+use Rattle.md_events.specs.Events.Spelled.{next_line, on_leaf, read_by, read_enter, read_exit, is_before_blocks}
+use Rattle.md_events.specs.Events.Spelled.{kind_at, named, on_shape, text_to, with_kind}
 use Rattle.md_events.specs.Events.Spelled as spelled
 use Rattle.md_meaning.specs.State.{then_block}
 use Rattle.md_meaning.specs.Texts.{split_lines}
@@ -26,15 +26,15 @@ use Rattle.md_events.proofs.ThroughoutLemmas.{all-then}
 use Rattle.md_outline.specs.AlertState.{kind_given}
 use Rattle.md_outline.specs.FootnoteState.{container_lines}
 use Rattle.md_outline.specs.HeadingDepths.{are_shallow, fits}
-use Rattle.md_outline.specs.ListsBegin.{AllTold, MayFollow}
+use Rattle.md_outline.specs.ListsBegin.{AllRecorded, MayFollow}
 use Rattle.md_outline.specs.Outlined.{begins_line, is_unparted, parts_by}
 use Rattle.md_outline.specs.OutlineSteps.{OutlineState, head_marked, is_titled, leaf_ended, line_ended, parted_at}
-use Rattle.md_outline.specs.OutlineSteps.{state_by, state_enter, state_exit, title_told, told_at, told_leaf}
+use Rattle.md_outline.specs.OutlineSteps.{state_by, state_enter, state_exit, title_recorded, recorded_at, recorded_leaf}
 use Rattle.md_outline.specs.DefinitionState.{part_word}
 use Rattle.md_outline.specs.OutlineSteps.{marked_at, marker_begun, piece_shown}
 use Rattle.md_outline.specs.ParagraphState.{begin_entries}
-use Rattle.md_events.specs.Events.Told.{block_told}
-use Rattle.md_outline.specs.Roles.{is_plain, leaf_entries, noted, shown_as, told_as}
+use Rattle.md_events.specs.Events.Recorded.{block_recorded}
+use Rattle.md_outline.specs.Roles.{is_plain, leaf_entries, noted, shown_as, recorded_as}
 use Rattle.md_outline.specs.TextLines.{text_entries}
 use Rattle.md_outline.specs.declared.outline.lined.Lined.{Lined}
 use Rattle.md_outline.specs.declared.outline.role.Note.{Note}
@@ -48,7 +48,7 @@ use Rattle.md_outline.proofs.HeadingLemmas.{fitted-same}
 use Rattle.md_outline.proofs.ClosedTrees.{HaveWords, StaysShown, depth-renamed, depth_of, digits-stay, marker-stays}
 use Rattle.md_outline.proofs.ClosedTrees.{shown, shown-then, words-then}
 use Rattle.md_outline.proofs.RoleLemmas.{ByRole, IsBlock, IsFresh, IsShownBy, Knows, by-ending, by-role, knows-line}
-use Rattle.md_outline.proofs.RoleLemmas.{knows-noted, note-told}
+use Rattle.md_outline.proofs.RoleLemmas.{knows-noted, note-recorded}
 use Rattle.md_outline.proofs.TextPieces.{Pieces, pieces-from, pieces-last, pieces-next, pieces-none}
 
 -- The leaf and the text.
@@ -148,15 +148,16 @@ agrees-block : (bytes : List ℕ) (x : spelled.Purpose) (p : Point) (s : Outline
     (span : Option TextSpan)
     (text : Option Text) → IsBlock x → TextIs (shown r.outer r.here) s.depth s.lines span text →
     parts_by bytes Exit (TextRole x) p span ≡ true → Agrees s r →
-    Agrees (told_at bytes purpose.Block p.index span s) (spelled.told_at bytes x p text r)
+    Agrees (recorded_at bytes purpose.Block p.index span s) (spelled.recorded_at bytes x p text r)
 agrees-block bytes x p s r None None by h k is = is
 agrees-block bytes x p s r (Some span) (Some text) by h k is =
     let piece : List ℕ = slice_range bytes span.from p.index in
     let line : Line = record { spaces = text.spaces; text = text_to bytes p.index text } in
-    subst (Agrees (told_at bytes purpose.Block p.index (Some span) s)) (sym (by.tree line (record r { text = None })))
+    subst (Agrees (recorded_at bytes purpose.Block p.index (Some span) s))
+    (sym (by.tree line (record r { text = None })))
     (record {
       depth = is.depth;
-      words = words-then r.outer r.here (block_told line.text) is.words;
+      words = words-then r.outer r.here (block_recorded line.text) is.words;
       untold = is.untold;
       leaf = is.leaf;
       lined = is.lined;
@@ -167,27 +168,29 @@ agrees-block bytes x p s r (Some span) (Some text) by h k is =
           ∙ append_assoc (shown r.outer r.here) (begin_entries s.depth false)
           (text_entries (s.depth + 1) (text.front ++ piece))
           ∙ ap
-          (λ i. shown r.outer r.here ++ block_entries s.depth (block_told (text.front ++ slice_range bytes i p.index)))
+          (λ i. shown r.outer r.here ++ block_entries s.depth
+          (block_recorded (text.front ++ slice_range bytes i p.index)))
           (sym h.0)
-          ∙ ap (λ d. shown r.outer r.here ++ block_entries d (block_told line.text)) is.depth
-          ∙ sym (shown-then r.outer r.here (block_told line.text) is.words);
+          ∙ ap (λ d. shown r.outer r.here ++ block_entries d (block_recorded line.text)) is.depth
+          ∙ sym (shown-then r.outer r.here (block_recorded line.text) is.words);
     })
 agrees-block bytes x p s r _ _ by h k is = absurd h
 
 -- a text that says something of a leaf
 abbrev noted_at : List ℕ → Note → ℕ → Option TextSpan → OutlineState → OutlineState
 noted_at bytes y end None s = s
-noted_at bytes y end (Some span) s = told_leaf y (slice_range bytes span.from end) (record s { text = None })
+noted_at bytes y end (Some span) s = recorded_leaf y (slice_range bytes span.from end) (record s { text = None })
 
 agrees-note : (bytes : List ℕ) (y : Note) (p : Point) (s : OutlineState) (r : Reading) (span : Option TextSpan)
     (text : Option Text) → TextIs (shown r.outer r.here) s.depth s.lines span text → is_unparted span ≡ true →
-    Agrees s r → Agrees (noted_at bytes y p.index span s) (spelled.told_at bytes (told_as y) p text r)
+    Agrees s r → Agrees (noted_at bytes y p.index span s) (spelled.recorded_at bytes (recorded_as y) p text r)
 agrees-note bytes y p s r None None h k is = is
 agrees-note bytes y p s r (Some span) (Some text) h k is =
     let piece : List ℕ = slice_range bytes span.from p.index in
     let line : Line = record { spaces = text.spaces; text = text_to bytes p.index text } in
     let whole : line.text ≡ piece = whole-piece bytes p (shown r.outer r.here) s.depth s.lines span text k h in
-    subst (Agrees (told_leaf y piece (record s { text = None }))) (sym (note-told y line (record r { text = None })))
+    subst (Agrees (recorded_leaf y piece (record s { text = None })))
+    (sym (note-recorded y line (record r { text = None })))
     (record {
       depth = is.depth;
       words = is.words;
@@ -202,26 +205,28 @@ agrees-note bytes y p s r _ _ h k is = absurd h
 -- as the markers of a heading
 agrees-markers : (bytes : List ℕ) (p : Point) (s : OutlineState) (r : Reading) (span : Option TextSpan)
     (text : Option Text) → TextIs (shown r.outer r.here) s.depth s.lines span text → is_unparted span ≡ true →
-    Agrees s r → Agrees (told_at bytes purpose.Markers p.index span s) (spelled.told_at bytes AsMarkers p text r)
+    Agrees s r → Agrees (recorded_at bytes purpose.Markers p.index span s)
+    (spelled.recorded_at bytes AsMarkers p text r)
 agrees-markers bytes p s r None text h k is = agrees-note bytes note.Markers p s r None text h k is
 agrees-markers bytes p s r (Some span) text h k is =
     let piece : List ℕ = slice_range bytes span.from p.index in
     subst
     (λ lined.
-    Agrees (head_marked lined piece (told_leaf note.Markers piece (record s { text = None })))
-    (spelled.told_at bytes AsMarkers p text r))
+    Agrees (head_marked lined piece (recorded_leaf note.Markers piece (record s { text = None })))
+    (spelled.recorded_at bytes AsMarkers p text r))
     (sym is.lined) (agrees-note bytes note.Markers p s r (Some span) text h k is)
 
 -- and as its text, if it is an ATX heading
 pub agrees-title : (bytes : List ℕ) (p : Point) (s : OutlineState) (r : Reading) (span : Option TextSpan)
     (text : Option Text) → TextIs (shown r.outer r.here) s.depth s.lines span text → is_unparted span ≡ true →
-    Agrees s r → Agrees (told_at bytes purpose.Title p.index span s) (spelled.told_at bytes AsHeading p text r)
+    Agrees s r → Agrees (recorded_at bytes purpose.Title p.index span s) (spelled.recorded_at bytes AsHeading p text r)
 agrees-title bytes p s r None text h k is = agrees-note bytes note.Title p s r None text h k is
 agrees-title bytes p s r (Some span) text h k is =
     let piece : List ℕ = slice_range bytes span.from p.index in
     subst
     (λ lined.
-    Agrees (title_told (is_titled lined) piece (record s { text = None })) (spelled.told_at bytes AsHeading p text r))
+    Agrees (title_recorded (is_titled lined) piece (record s { text = None }))
+    (spelled.recorded_at bytes AsHeading p text r))
     (sym is.lined) (agrees-note bytes note.Title p s r (Some span) text h k is)
 
 -- a text that says something of a container
@@ -242,7 +247,7 @@ agrees-named f s r span text stays h k is = record {
 agrees-digits : (bytes : List ℕ) (p : Point) (s : OutlineState) (r : Reading) (span : Option TextSpan)
     (text : Option Text) →
     TextIs (shown r.outer r.here) s.depth s.lines span text → is_unparted span ≡ true → Agrees s r →
-    Agrees (told_at bytes purpose.Digits p.index span s) (spelled.told_at bytes AsDigits p text r)
+    Agrees (recorded_at bytes purpose.Digits p.index span s) (spelled.recorded_at bytes AsDigits p text r)
 agrees-digits bytes p s r None None h k is = is
 agrees-digits bytes p s r (Some span) (Some text) h k is =
     agrees-named (named AsDigits (text_to bytes p.index text)) s r span text
@@ -253,13 +258,13 @@ agrees-digits bytes p s r _ _ h k is = absurd h
 agrees-marker : (bytes : List ℕ) (p : Point) (s : OutlineState) (r : Reading) (span : Option TextSpan)
     (text : Option Text) →
     TextIs (shown r.outer r.here) s.depth s.lines span text → is_unparted span ≡ true → Agrees s r →
-    Agrees (told_at bytes purpose.Marker p.index span s) (spelled.told_at bytes AsItemMarker p text r)
+    Agrees (recorded_at bytes purpose.Marker p.index span s) (spelled.recorded_at bytes AsItemMarker p text r)
 agrees-marker bytes p s r None None h k is = is
 agrees-marker bytes p s r (Some span) (Some text) h k is =
     subst
     (λ untold.
     Agrees (marked_at untold (slice_range bytes span.from p.index) (record s { text = None }))
-    (spelled.told_at bytes AsItemMarker p (Some text) r))
+    (spelled.recorded_at bytes AsItemMarker p (Some text) r))
     (sym is.untold)
     (agrees-named (named AsItemMarker (text_to bytes p.index text)) s r span text
     (marker-stays (text_to bytes p.index text) r.outer r.here is.words) h k is)
@@ -310,14 +315,14 @@ agrees-prefix bytes p s r (Some span) (Some text) e h k is =
 agrees-prefix bytes p s r _ _ e h k is = absurd h
 
 -- a prefix ends
-agrees-gone_on : (p : Point) (before : List Entry) (depth : ℕ) (lines : List Entry) (span : Option TextSpan)
+agrees-taken_prefixes : (p : Point) (before : List Entry) (depth : ℕ) (lines : List Entry) (span : Option TextSpan)
     (text : Option Text) →
     TextIs before depth lines span text →
     TextIs before depth lines (option_map (λ (t : TextSpan). record t { from = byte_at p }) span)
     (option_map (after_prefix p) text)
-agrees-gone_on p before depth lines None None h = h
-agrees-gone_on p before depth lines (Some span) (Some text) h = (refl, h.1)
-agrees-gone_on p before depth lines _ _ h = absurd h
+agrees-taken_prefixes p before depth lines None None h = h
+agrees-taken_prefixes p before depth lines (Some span) (Some text) h = (refl, h.1)
+agrees-taken_prefixes p before depth lines _ _ h = absurd h
 
 -- a container ends
 pub agrees-left : (s : OutlineState) (r : Reading) (outer : List OpenContainer) → r.outer ≡ outer →
@@ -473,12 +478,12 @@ fresh-shown label fresh = record {
 }
 
 -- what an event that begins a part leaves, and one that ends a part but the label of a footnote definition
-abbrev AgreesBehind : List ℕ → Point → spelled.Role → Role → Type 0
-AgreesBehind bytes p x y =
+abbrev AgreesAfter : List ℕ → Point → spelled.Role → Role → Type 0
+AgreesAfter bytes p x y =
     IsFresh x → (s : OutlineState) (r : Reading) → parts_by bytes Enter x p s.text ≡ true → Agrees s r →
     Agrees (state_enter bytes y p s) (read_enter bytes x p r)
 
-agrees-enter : (bytes : List ℕ) (p : Point) → ByRole (AgreesBehind bytes p)
+agrees-enter : (bytes : List ℕ) (p : Point) → ByRole (AgreesAfter bytes p)
 agrees-enter bytes p = record {
   container = λ shape w by fresh s r k is.
       agrees-container bytes shape w p s r by (apart bytes Enter (ContainerRole shape) p s.text (λ t. refl) k) is;
@@ -508,7 +513,7 @@ agrees-enter bytes p = record {
 
 abbrev AgreesEnded : List ℕ → Point → spelled.Role → Role → Type 0
 AgreesEnded bytes p x y =
-    MayFollow bytes AllTold Exit x p → (s : OutlineState) (r : Reading) → parts_by bytes Exit x p s.text ≡ true →
+    MayFollow bytes AllRecorded Exit x p → (s : OutlineState) (r : Reading) → parts_by bytes Exit x p s.text ≡ true →
     are_shallow (read_exit bytes x p r).here ≡ true → Agrees s r →
     Agrees (state_exit bytes y p s) (read_exit bytes x p r)
 
@@ -525,7 +530,7 @@ agrees-exit bytes p = record {
     leaf = is.leaf;
     lined = is.lined;
     known = is.known;
-    text = agrees-gone_on p (shown r.outer r.here) s.depth s.lines s.text r.text is.text;
+    text = agrees-taken_prefixes p (shown r.outer r.here) s.depth s.lines s.text r.text is.text;
   };
   begins = λ kind l by may s r k d is.
       subst (λ leaf. Agrees (leaf_ended leaf s) (finished r.leaf r)) (sym is.leaf)
@@ -548,9 +553,9 @@ agrees-exit bytes p = record {
 -- one event
 pub agrees-step : (bytes : List ℕ) (kind : Kind) (x : spelled.Role) (p : Point) (s : OutlineState) (r : Reading) →
     is_plain x ≡ true → IsFresh x → parts_by bytes kind x p s.text ≡ true →
-    are_shallow (read_by bytes kind x p r).here ≡ true → MayFollow bytes AllTold kind x p → Agrees s r →
+    are_shallow (read_by bytes kind x p r).here ≡ true → MayFollow bytes AllRecorded kind x p → Agrees s r →
     Agrees (state_by bytes kind (shown_as x) p s) (read_by bytes kind x p r)
 agrees-step bytes Enter x p s r h fresh k d may is =
-    by-role (AgreesBehind bytes p) x (agrees-enter bytes p) h fresh s r k is
+    by-role (AgreesAfter bytes p) x (agrees-enter bytes p) h fresh s r k is
 agrees-step bytes Exit x p s r h fresh k d may is =
     by-role (AgreesEnded bytes p) x (agrees-exit bytes p) h may s r k d is

@@ -6,12 +6,12 @@ use Rattle.md_engine.specs.declared.event.Kind.{Kind}
 use Rattle.md_engine.specs.declared.event.Kind.TheVariants.{Enter, Exit}
 use Rattle.md_engine.specs.declared.event.Name.{Name}
 use Rattle.md_engine.specs.declared.event.Point.{Point}
-use Rattle.md_events.specs.Events.Nested.{Balanced, Fits, Matches, open_after, open_behind}
+use Rattle.md_events.specs.Events.Nested.{Balanced, Fits, Matches, open_after, open_following}
 use Rattle.md_events.specs.Events.Spelled.{OpenContainer, ContainerRole, IsEnding, IsQuoteMarker, OpenLeaf, LeafRole}
 use Rattle.md_events.specs.Events.Spelled.{Purpose, Reading, Role, TextRole, Text, finished, left, read, read_by}
-use Rattle.md_events.specs.Events.Spelled.{read_enter, read_exit, role, told_at, unread, with_kind}
+use Rattle.md_events.specs.Events.Spelled.{read_enter, read_exit, role, recorded_at, unread, with_kind}
 use Rattle.md_outline.proofs.ClosedTrees.{depth_of, depth-renamed}
-use Rattle.md_outline.proofs.RoleLemmas.{by-ending, by-marker, by-told_at}
+use Rattle.md_outline.proofs.RoleLemmas.{by-ending, by-marker, by-recorded_at}
 
 -- The containers that are open are those whose names are.
 
@@ -48,23 +48,23 @@ depth-finished : (leaf : Option OpenLeaf) (r : Reading) → depth_of (finished l
 depth-finished None r = refl
 depth-finished (Some leaf) r = refl
 
-depth-told : (bytes : List ℕ) (x : Purpose) (p : Point) (text : Option Text) (r : Reading) →
-    depth_of (told_at bytes x p text r).outer ≡ depth_of r.outer
-depth-told bytes x p text r =
-    by-told_at (λ now. depth_of now.outer ≡ depth_of r.outer) bytes x p text r refl
+depth-recorded : (bytes : List ℕ) (x : Purpose) (p : Point) (text : Option Text) (r : Reading) →
+    depth_of (recorded_at bytes x p text r).outer ≡ depth_of r.outer
+depth-recorded bytes x p text r =
+    by-recorded_at (λ now. depth_of now.outer ≡ depth_of r.outer) bytes x p text r refl
     (record { block = λ b. refl; named = λ f. depth-renamed f r.outer; noted = λ f. refl })
 
 depth-exit : (bytes : List ℕ) (x : Role) (p : Point) (r : Reading) →
     depth_of (read_exit bytes x p r).outer ≡ shallower x (depth_of r.outer)
 depth-exit bytes (ContainerRole shape) p r = depth-left r.outer r refl
 depth-exit bytes (LeafRole kind) p r = depth-finished r.leaf r
-depth-exit bytes (TextRole x) p r = depth-told bytes x p r.text r
+depth-exit bytes (TextRole x) p r = depth-recorded bytes x p r.text r
 depth-exit bytes IsEnding p r = by-ending (λ now. depth_of now.outer ≡ depth_of r.outer) bytes p r.text r refl refl
 depth-exit bytes _ p r = refl
 
 depth-step : (bytes : List ℕ) (kind : Kind) (name : Name) (p : Point) (r : Reading) (names : List Name) →
     Fits names kind name → depth_of r.outer ≡ held names →
-    depth_of (read_by bytes kind (role name) p r).outer ≡ held (open_behind names kind name)
+    depth_of (read_by bytes kind (role name) p r).outer ≡ held (open_following names kind name)
 depth-step bytes Enter name p r names f e = depth-enter bytes (role name) p r ∙ ap (deeper (role name)) e
 depth-step bytes Exit name p r [] f e = absurd f
 depth-step bytes Exit name p r (innermost ∷ names) f e =
@@ -77,7 +77,7 @@ depth-all : (bytes : List ℕ) (events : List Event) (r : Reading) (names : List
     depth_of (read bytes r events).outer ≡ held (open_after names events)
 depth-all bytes [] r names m e = e
 depth-all bytes (x ∷ events) r names m e =
-    depth-all bytes events (read_by bytes x.kind (role x.name) x.point r) (open_behind names x.kind x.name) m.1
+    depth-all bytes events (read_by bytes x.kind (role x.name) x.point r) (open_following names x.kind x.name) m.1
     (depth-step bytes x.kind x.name x.point r names m.0 e)
 
 none-open : (outer : List OpenContainer) → depth_of outer ≡ 0 → outer ≡ []

@@ -1,6 +1,6 @@
 -- What an outline has read of some events is what the events spell out.
-use Rattle.std.proofs.Common.{◌≡◌, ℕ, ◌+◌, ◌<◌, ◌≤◌, Bool, true, false, ◌||◌, not, List, [], ◌∷◌, ◌++◌, length, drop, get_or}
-use Rattle.std.proofs.Common.{slice_range, Result, Ok, Err, append-nil, refl, sym, ◌∙◌, ap, subst}
+use Rattle.std.proofs.Common.{◌≡◌, ℕ, ◌+◌, ◌<◌, ◌≤◌, Bool, true, false, ◌||◌, not, List, [], ◌∷◌, ◌++◌, length, drop}
+use Rattle.std.proofs.Common.{get_or, slice_range, Result, Ok, Err, append-nil, refl, sym, ◌∙◌, ap, subst}
 use Rattle.std.specs.Prelude.{Option, Some, None, option_map, OnOk}
 use Rattle.std.specs.List.{list_all}
 use Rattle.std.specs.Str.{IsUtf8}
@@ -16,20 +16,20 @@ use Rattle.md_engine.specs.declared.event.Point.{Point}
 use Rattle.md_meaning.specs.declared.outline.Word.{Word}
 use Rattle.md_meaning.specs.Outline.{Entry, outline}
 use Rattle.md_events.specs.Events.Spelled.{AsHeading, ContainerRole, IsCell, IsFence, IsPrefix, OpenLeaf, LeafRole}
-use Rattle.md_events.specs.Events.Spelled.{OrderedShape, Reading, TextRole, UnorderedShape, begun, byte_at, read, read_by}
-use Rattle.md_events.specs.Events.Spelled.{spelled, unread, OfBreak, IsQuoteMarker, IsEnding}
+use Rattle.md_events.specs.Events.Spelled.{OrderedShape, Reading, TextRole, UnorderedShape, begun, byte_at, read}
+use Rattle.md_events.specs.Events.Spelled.{read_by, spelled, unread, OfBreak, IsQuoteMarker, IsEnding}
 use Rattle.md_events.specs.Events.Spelled as spelled
 use Rattle.md_outline.specs.Between.{is_between}
 use Rattle.md_outline.specs.HeadingDepths.{fits}
-use Rattle.md_outline.specs.ListsBegin.{AllTold, ListsBegin, Stage, stage_by}
+use Rattle.md_outline.specs.ListsBegin.{AllRecorded, ListsBegin, Stage, stage_by}
 use Rattle.md_outline.specs.Outlined.{IsOutlined, are_parted, has_shown_name}
-use Rattle.md_outline.specs.Outlined.{has_unlisted_name, parts_by, span_by, stands_between, tells_between}
+use Rattle.md_outline.specs.Outlined.{has_unlisted_name, parts_by, span_by, is_between_characters, text_begins_between}
 use Rattle.md_outline.specs.OutlineSteps.{BeginsBetween, IsCutAt, IsCutBy, OutlineState, before_all, leaf_ended}
-use Rattle.md_outline.specs.OutlineSteps.{parted_at, state_after, state_by, told_at, told_leaf, is_titled}
-use Rattle.md_outline.specs.OutlineSteps.{marked_at, piece_shown, title_told, told}
-use Rattle.md_outline.specs.LinesStand.{LinesStand, Outside, Site, site_by}
+use Rattle.md_outline.specs.OutlineSteps.{parted_at, state_after, state_by, recorded_at, recorded_leaf, is_titled}
+use Rattle.md_outline.specs.OutlineSteps.{marked_at, piece_shown, title_recorded, recorded}
+use Rattle.md_outline.specs.LinesAllowed.{LinesAllowed, Outside, Site, site_by}
 use Rattle.md_outline.specs.DefinitionState.{part_word}
-use Rattle.md_outline.specs.Roles.{is_seen, is_shown, is_told, is_unlisted, shown_as}
+use Rattle.md_outline.specs.Roles.{is_seen, is_shown, is_recorded, is_unlisted, shown_as}
 use Rattle.md_outline.specs.declared.outline.role.Note.TheVariants as note
 use Rattle.md_outline.specs.declared.outline.role.Purpose.{Purpose}
 use Rattle.md_outline.specs.declared.outline.role.Purpose.TheVariants as purpose
@@ -56,21 +56,21 @@ span-marked : (untold : Option ℕ) (text : List ℕ) (s : OutlineState) → (ma
 span-marked None text s = refl
 span-marked (Some place) text s = refl
 
-span-told : (bytes : List ℕ) (y : Purpose) (i : ℕ) (span : Option TextSpan) (s : OutlineState) → s.text ≡ span →
-    (told_at bytes y i span s).text ≡ None
-span-told bytes y i None s e = e
-span-told bytes purpose.Title i (Some span) s e = go (is_titled s.lined)
+span-recorded : (bytes : List ℕ) (y : Purpose) (i : ℕ) (span : Option TextSpan) (s : OutlineState) → s.text ≡ span →
+    (recorded_at bytes y i span s).text ≡ None
+span-recorded bytes y i None s e = e
+span-recorded bytes purpose.Title i (Some span) s e = go (is_titled s.lined)
   where
     go : (x : Bool) →
-        (title_told x (slice_range bytes span.from i) (record s { text = None })).text ≡ None
+        (title_recorded x (slice_range bytes span.from i) (record s { text = None })).text ≡ None
     go true = refl
     go false = refl
-span-told bytes purpose.Markers i (Some span) s e =
+span-recorded bytes purpose.Markers i (Some span) s e =
     span-headed s.lined (slice_range bytes span.from i)
-    (told_leaf note.Markers (slice_range bytes span.from i) (record s { text = None }))
-span-told bytes purpose.Marker i (Some span) s e =
+    (recorded_leaf note.Markers (slice_range bytes span.from i) (record s { text = None }))
+span-recorded bytes purpose.Marker i (Some span) s e =
     span-marked s.untold (slice_range bytes span.from i) (record s { text = None })
-span-told bytes _ i (Some span) s e = refl
+span-recorded bytes _ i (Some span) s e = refl
 
 span-leaf : (leaf : Option OpenLeaf) (s : OutlineState) → (leaf_ended leaf s).text ≡ s.text
 span-leaf None s = refl
@@ -89,8 +89,8 @@ span-step bytes Enter IsQuoteMarker p s = span-quoted bytes p.index s.text s.lea
 span-step bytes Exit IsEnding p s = span-line bytes p.index s.lined s.text s
 span-step bytes Exit (LeafRole OfBreak) p s = span-leaf s.leaf s
 span-step bytes Exit (LeafRole _) p s = first_of (cc, search (span-leaf))
-span-step bytes Exit (TextRole AsHeading) p s = span-told bytes purpose.Title p.index s.text s refl
-span-step bytes Exit (TextRole x) p s = span-told bytes (text_as x) p.index s.text s refl
+span-step bytes Exit (TextRole AsHeading) p s = span-recorded bytes purpose.Title p.index s.text s refl
+span-step bytes Exit (TextRole x) p s = span-recorded bytes (text_as x) p.index s.text s refl
 span-step bytes Enter (LeafRole OfBreak) p s = refl
 span-step bytes Enter (TextRole AsHeading) p s = refl
 span-step bytes _ (ContainerRole OrderedShape) p s = refl
@@ -109,7 +109,7 @@ parted-step bytes e events s k =
 -- all events: then no text is parted
 agrees-all : (bytes : List ℕ) (events : List Event) (site : Site) (stage : Stage) (s : OutlineState) (r : Reading) →
     list_all has_shown_name events ≡ true → are_parted bytes s.text events ≡ true → ListsBegin bytes stage events →
-    LinesStand bytes site events → AllHold fits (read bytes r events) → (read bytes r events).outer ≡ [] →
+    LinesAllowed bytes site events → AllHold fits (read bytes r events) → (read bytes r events).outer ≡ [] →
     AgreesWithin site stage s r →
     (state_after bytes s events).lines ≡ outline 0 (read bytes r events).here
 agrees-all bytes [] site stage s r h k lists lines d e is = sites-closed bytes site stage s r e k lines is
@@ -130,7 +130,7 @@ pub outline-spelled : (bytes : List ℕ) (events : List Event) → IsOutlined ev
 unfolding spelled
 outline-spelled bytes events out =
     let closed : (read bytes unread events).outer ≡ [] = all-closed bytes events out.balanced in
-    agrees-all bytes events Outside AllTold before_all unread out.names out.parted out.lists out.lines
+    agrees-all bytes events Outside AllRecorded before_all unread out.names out.parted out.lists out.lines
     (out.depths, ap (outer_hold fits) closed) closed
     (record { depth = refl; words = tt; untold = refl; lined = refl; leaf = refl; known = tt; text = refl })
 
@@ -157,12 +157,12 @@ between-seen false y h = refl
 
 pub all-between : (bytes : List ℕ) (events : List Event) →
     list_all (λ (e : Event). is_between bytes e.point.index) events ≡ true →
-    list_all (stands_between bytes) events ≡ true
+    list_all (is_between_characters bytes) events ≡ true
 all-between bytes [] h = refl
 all-between bytes (e ∷ events) h =
     let here = and_parts (is_between bytes e.point.index)
     (list_all (λ (e : Event). is_between bytes e.point.index) events) h in
-    and_from (stands_between bytes e) (list_all (stands_between bytes) events)
+    and_from (is_between_characters bytes e) (list_all (is_between_characters bytes) events)
     (between-seen (is_seen (shown_as (spelled.role e.name))) (is_between bytes e.point.index) here.0)
     (all-between bytes events here.1)
 
@@ -182,22 +182,22 @@ part-is_text bytes part span end text is cut epart =
 -- a text ends: it is said
 pub text-end : (bytes part : List ℕ) (span : TextSpan) (end : ℕ) (text : Option TextSpan) (x y : Purpose)
     (s next : OutlineState) → text ≡ Some span → x ≡ y → part ≡ slice_range bytes span.from end →
-    (IsUtf8 part → next ≡ told y span.is_parted part (record s { text = None })) → IsCutAt bytes text end →
-    next ≡ told_at bytes x end text s
+    (IsUtf8 part → next ≡ recorded y span.is_parted part (record s { text = None })) → IsCutAt bytes text end →
+    next ≡ recorded_at bytes x end text s
 text-end bytes part span end text x y s next is same epart reads cut =
     reads (part-is_text bytes part span end text is cut epart)
-    ∙ ap (λ t. told y span.is_parted t (record s { text = None })) epart
-    ∙ sym (ap (λ t. told_at bytes x end t s) is ∙ ap (λ z. told_at bytes z end (Some span) s) same)
+    ∙ ap (λ t. recorded y span.is_parted t (record s { text = None })) epart
+    ∙ sym (ap (λ t. recorded_at bytes x end t s) is ∙ ap (λ z. recorded_at bytes z end (Some span) s) same)
 
 -- and shown by its lines alone
 pub lines-end : (bytes part : List ℕ) (span : TextSpan) (end : ℕ) (text : Option TextSpan) (x y : Purpose)
     (s : OutlineState) (lines : List Entry) →
     ((piece : List ℕ) →
-    told y span.is_parted piece (record s { text = None }) ≡
-    record s { text = None; lines = (told y span.is_parted piece (record s { text = None })).lines }) →
+    recorded y span.is_parted piece (record s { text = None }) ≡
+    record s { text = None; lines = (recorded y span.is_parted piece (record s { text = None })).lines }) →
     text ≡ Some span → x ≡ y → part ≡ slice_range bytes span.from end →
-    (IsUtf8 part → lines ≡ (told y span.is_parted part (record s { text = None })).lines) → IsCutAt bytes text end →
-    record s { text = None; lines = lines } ≡ told_at bytes x end text s
+    (IsUtf8 part → lines ≡ (recorded y span.is_parted part (record s { text = None })).lines) → IsCutAt bytes text end →
+    record s { text = None; lines = lines } ≡ recorded_at bytes x end text s
 lines-end bytes part span end text x y s lines alone is same epart reads cut =
     text-end bytes part span end text x y s (record s { text = None; lines = lines }) is same epart
     (λ utf8. ap (λ es. record s { text = None; lines = es }) (reads utf8) ∙ sym (alone part)) cut
@@ -257,7 +257,7 @@ same-purpose r x y one other = ap purpose_of (sym one ∙ other)
 
 -- a text that begins or continues at an event does so between characters
 begins-step : (bytes : List ℕ) (kind : Kind) (x : spelled.Role) (p : Point) (span : Option TextSpan) →
-    (not (is_told x) || is_between bytes (byte_at p)) ≡ true → parts_by bytes kind x p span ≡ true →
+    (not (is_recorded x) || is_between bytes (byte_at p)) ≡ true → parts_by bytes kind x p span ≡ true →
     BeginsBetween bytes span → BeginsBetween bytes (span_by kind x p span)
 begins-step bytes Enter (TextRole x) p span t k h = t
 begins-step bytes Enter IsPrefix p None t k h = tt
@@ -283,36 +283,37 @@ all-at p events i d lt h = All-get_or (λ (e : Event). p e ≡ true) events i d 
 
 -- what is known before each event: where the text begins, that the events to come are where they may, and what they
 -- become
-pub record Goes (bytes : List ℕ) (events : List Event) (s all : OutlineState) : Type 0 where
+pub record Proceeds (bytes : List ℕ) (events : List Event) (s all : OutlineState) : Type 0 where
   pub begins : BeginsBetween bytes s.text
   pub parted : are_parted bytes s.text events ≡ true
-  pub comes : state_after bytes s events ≡ all
+  pub becomes : state_after bytes s events ≡ all
 
 -- one event was read
 pub state-next : (bytes : List ℕ) (events : List Event) (i : ℕ) (d : Event) (s next all : OutlineState) →
-    IsOutlined events bytes → i < length events → Goes bytes (drop i events) s all →
+    IsOutlined events bytes → i < length events → Proceeds bytes (drop i events) s all →
     (IsCutBy (shown_as (spelled.role (get_or events i d).name)) bytes s.text (get_or events i d).point.index →
     next ≡ state_by bytes (get_or events i d).kind (shown_as (spelled.role (get_or events i d).name))
     (get_or events i d).point s) →
-    Goes bytes (drop (i + 1) events) next all
-state-next bytes events i d s next all is lt goes reads =
+    Proceeds bytes (drop (i + 1) events) next all
+state-next bytes events i d s next all is lt proceeds reads =
     let e : Event = get_or events i d in
     let x : spelled.Role = spelled.role e.name in
-    let between : stands_between bytes e ≡ true = all-at (stands_between bytes) events i d lt is.between in
-    let tells : tells_between bytes e ≡ true = all-at (tells_between bytes) events i d lt is.texts in
+    let between : is_between_characters bytes e ≡ true = all-at (is_between_characters bytes) events i d
+    lt is.between in
+    let records : text_begins_between bytes e ≡ true = all-at (text_begins_between bytes) events i d lt is.texts in
     let parts = parted-step bytes e (drop (i + 1) events) s
-    (sym (at_drop_more (are_parted bytes s.text) events i d lt) ∙ goes.parted) in
+    (sym (at_drop_more (are_parted bytes s.text) events i d lt) ∙ proceeds.parted) in
     let read : next ≡ state_by bytes e.kind (shown_as x) e.point s =
-    reads (cut-by (shown_as x) bytes s.text e.point.index is.text goes.begins between) in
+    reads (cut-by (shown_as x) bytes s.text e.point.index is.text proceeds.begins between) in
     record {
       begins =
           subst (BeginsBetween bytes)
           (sym (ap (λ (n : OutlineState). n.text) read ∙ span-step bytes e.kind x e.point s))
-          (begins-step bytes e.kind x e.point s.text tells parts.0 goes.begins);
+          (begins-step bytes e.kind x e.point s.text records parts.0 proceeds.begins);
       parted = ap (λ (n : OutlineState). are_parted bytes n.text (drop (i + 1) events)) read ∙ parts.1;
-      comes =
+      becomes =
           ap (λ (n : OutlineState). state_after bytes n (drop (i + 1) events)) read
-          ∙ sym (at_drop_more (state_after bytes s) events i d lt) ∙ goes.comes;
+          ∙ sym (at_drop_more (state_after bytes s) events i d lt) ∙ proceeds.becomes;
     }
 
 -- all events were read

@@ -8,7 +8,7 @@ use Rattle.md_engine.specs.declared.event.Kind.{Kind}
 use Rattle.md_engine.specs.declared.event.Kind.TheVariants.{Enter, Exit}
 use Rattle.md_engine.specs.declared.event.Name.{Name}
 use Rattle.md_engine.specs.declared.event.Point.{Point}
-use Rattle.md_events.specs.Events.Nested.{Fits, open_behind}
+use Rattle.md_events.specs.Events.Nested.{Fits, open_following}
 use Rattle.md_events.specs.Events.Spelled.{AsFootnoteLabel, AsHeading, AsInfo, AsItemMarker, AsLine, AsMarkers}
 use Rattle.md_events.specs.Events.Spelled.{ContainerRole}
 use Rattle.md_events.specs.Events.Spelled.{FootnoteShape, IsEnding, IsPrefix, IsQuoteMarker, LeafKind, LeafRole}
@@ -16,16 +16,16 @@ use Rattle.md_events.specs.Events.Spelled.{OpenLeaf, OrderedShape, Purpose, Read
 use Rattle.md_events.specs.Events.Spelled.{UnorderedShape, finished, left, read_by, read_enter, read_exit, role}
 use Rattle.md_events.specs.Events.Spelled.{IsCell, IsFence, IsRow, IsTitle, OfBreak, OfHeadingAtx, OpenContainer}
 use Rattle.md_events.specs.Events.Spelled.{after_prefix, at_cell, at_fence, at_row, at_title, before_prefix}
-use Rattle.md_events.specs.Events.Spelled.{behind_title, next_line, told_at, unread}
-use Rattle.md_outline.specs.LinesStand.{AtEnd, AtEnding, AtLine, AtMarkers, BehindPart, BehindUnderline, InAtxText}
-use Rattle.md_outline.specs.LinesStand.{InEnd, InMarkers, InPart, InParted, InTable, InText, LabelPart, MayStand}
-use Rattle.md_outline.specs.LinesStand.{Outside, Part, Site}
-use Rattle.md_outline.specs.LinesStand.{TitlePart, begun_site, ending_site, part_site, site_by, table_site, text_site}
-use Rattle.md_outline.specs.ListsBegin.{AllTold, AtItem, AtLabel, AtMarker, InMarker, MayFollow, Stage, stage_by}
+use Rattle.md_events.specs.Events.Spelled.{after_title, next_line, recorded_at, unread}
+use Rattle.md_outline.specs.LinesAllowed.{AtEnd, AtEnding, AtLine, AtMarkers, AfterPart, AfterUnderline, InAtxText}
+use Rattle.md_outline.specs.LinesAllowed.{InEnd, InMarkers, InPart, InParted, InTable, InText, LabelPart, MayBeHere}
+use Rattle.md_outline.specs.LinesAllowed.{Outside, Part, Site}
+use Rattle.md_outline.specs.LinesAllowed.{TitlePart, begun_site, ending_site, part_site, site_by, table_site, text_site}
+use Rattle.md_outline.specs.ListsBegin.{AllRecorded, AtItem, AtLabel, AtMarker, InMarker, MayFollow, Stage, stage_by}
 use Rattle.md_outline.specs.Outlined.{span_by, span_enter, span_exit}
-use Rattle.md_outline.specs.TablePlaces.{TablePlace, BehindRow, spot_by}
+use Rattle.md_outline.specs.TablePlaces.{TablePlace, AfterRow, spot_by}
 use Rattle.md_outline.specs.declared.outline.TextSpan.{TextSpan}
-use Rattle.md_outline.proofs.RoleLemmas.{by-ending, by-marker, by-told_at}
+use Rattle.md_outline.proofs.RoleLemmas.{by-ending, by-marker, by-recorded_at}
 
 -- Parts of a kind.
 
@@ -58,7 +58,7 @@ SiteWithin text leaf _ = leaf ≡ true
 
 -- what is to come of a container
 abbrev StageWithin : Bool → Stage → Type 0
-StageWithin container AllTold = Unit {0}
+StageWithin container AllRecorded = Unit {0}
 StageWithin container _ = container ≡ true
 
 -- A part begins or ends: its role is `x`, and the others that are open are as before.
@@ -129,19 +129,19 @@ site-enters bytes _ IsTitle p text leaf h = h
 site-enters bytes _ IsPrefix p text leaf h = h
 site-enters bytes _ _ p text leaf h = h
 
-site-exits : (bytes : List ℕ) (site : Site) (x : Role) (p : Point) (text leaf : Bool) → MayStand bytes site Exit x p →
+site-exits : (bytes : List ℕ) (site : Site) (x : Role) (p : Point) (text leaf : Bool) → MayBeHere bytes site Exit x p →
     SiteWithin (is_text x || text) (is_leaf x || leaf) site → SiteWithin text leaf (site_by bytes site Exit x p)
 site-exits bytes Outside x p text leaf may h = tt
 site-exits bytes InAtxText (TextRole y) p text leaf may h = tt
 site-exits bytes InAtxText _ p text leaf may h = h
-site-exits bytes (InTable BehindRow) (LeafRole kind) p text leaf may h = tt
+site-exits bytes (InTable AfterRow) (LeafRole kind) p text leaf may h = tt
 site-exits bytes (InTable _) (LeafRole kind) p text leaf may h = absurd may
 site-exits bytes (InTable spot) x p text leaf may h = site-table (spot_by spot Exit x) text leaf h
 site-exits bytes (AtEnding kind) (LeafRole y) p text leaf may h = tt
 site-exits bytes (AtLine kind) (LeafRole y) p text leaf may h = tt
 site-exits bytes (AtEnd kind) (LeafRole y) p text leaf may h = tt
-site-exits bytes BehindUnderline (LeafRole y) p text leaf may h = tt
-site-exits bytes (BehindPart left) (LeafRole y) p text leaf may h = tt
+site-exits bytes AfterUnderline (LeafRole y) p text leaf may h = tt
+site-exits bytes (AfterPart left) (LeafRole y) p text leaf may h = tt
 site-exits bytes _ (LeafRole y) p text leaf may h = absurd may
 site-exits bytes (AtEnding kind) IsEnding p text leaf may h = site-ending bytes p kind text leaf h
 site-exits bytes (InText kind y) (TextRole z) p text leaf may h = site-text kind y text leaf h
@@ -158,10 +158,10 @@ site-exits bytes _ _ p text leaf may h = h
 
 stage-enters : (stage : Stage) (x : Role) (p : Point) (container : Bool) → StageWithin container stage →
     StageWithin (is_container x || container) (stage_by stage Enter x p)
-stage-enters AllTold (ContainerRole OrderedShape) p container h = refl
-stage-enters AllTold (ContainerRole UnorderedShape) p container h = refl
-stage-enters AllTold (ContainerRole (FootnoteShape label)) p container h = refl
-stage-enters AllTold _ p container h = tt
+stage-enters AllRecorded (ContainerRole OrderedShape) p container h = refl
+stage-enters AllRecorded (ContainerRole UnorderedShape) p container h = refl
+stage-enters AllRecorded (ContainerRole (FootnoteShape label)) p container h = refl
+stage-enters AllRecorded _ p container h = tt
 stage-enters (AtItem shape) x p container h = or_right (is_container x) container h
 stage-enters (AtMarker shape) (TextRole AsItemMarker) p container h = h
 stage-enters (AtMarker shape) (ContainerRole y) p container h = refl
@@ -172,7 +172,7 @@ stage-enters AtLabel x p container h = or_right (is_container x) container h
 stage-exits : (bytes : List ℕ) (stage : Stage) (x : Role) (p : Point) (container : Bool) →
     MayFollow bytes stage Exit x p → StageWithin (is_container x || container) stage →
     StageWithin container (stage_by stage Exit x p)
-stage-exits bytes AllTold x p container may h = tt
+stage-exits bytes AllRecorded x p container may h = tt
 stage-exits bytes (AtItem shape) x p container may h = absurd may
 stage-exits bytes (AtMarker shape) (ContainerRole y) p container may h = absurd may
 stage-exits bytes (AtMarker shape) _ p container may h = h
@@ -208,19 +208,19 @@ tree-finished : (o : Option OpenLeaf) (text leaf : Bool) (r : Reading) → r.lea
 tree-finished None text leaf r e h = (h, subst (Within leaf) (sym e) tt)
 tree-finished (Some l) text leaf r e h = (h, tt)
 
-tree-told : (bytes : List ℕ) (y : Purpose) (p : Point) (o : Option Text) (text leaf : Bool) (r : Reading) →
-    r.text ≡ o → Within leaf r.leaf → TreeWithin text leaf (told_at bytes y p o r)
-tree-told bytes y p None text leaf r e h = (subst (Within text) (sym e) tt, h)
-tree-told bytes y p (Some t) text leaf r e h =
-    by-told_at (TreeWithin text leaf) bytes y p (Some t) (record r { text = None }) (tt, h)
+tree-recorded : (bytes : List ℕ) (y : Purpose) (p : Point) (o : Option Text) (text leaf : Bool) (r : Reading) →
+    r.text ≡ o → Within leaf r.leaf → TreeWithin text leaf (recorded_at bytes y p o r)
+tree-recorded bytes y p None text leaf r e h = (subst (Within text) (sym e) tt, h)
+tree-recorded bytes y p (Some t) text leaf r e h =
+    by-recorded_at (TreeWithin text leaf) bytes y p (Some t) (record r { text = None }) (tt, h)
     (record { block = λ b. (tt, h); named = λ f. (tt, h); noted = λ f. (tt, within-mapped f leaf r.leaf h) })
 
 tree-exits : (bytes : List ℕ) (x : Role) (p : Point) (text leaf : Bool) (r : Reading) →
     TreeWithin (is_text x || text) (is_leaf x || leaf) r → TreeWithin text leaf (read_exit bytes x p r)
 tree-exits bytes (ContainerRole shape) p text leaf r h = tree-left r.outer text leaf r h
 tree-exits bytes (LeafRole kind) p text leaf r h = tree-finished r.leaf text leaf r refl h.0
-tree-exits bytes (TextRole y) p text leaf r h = tree-told bytes y p r.text text leaf r refl h.1
-tree-exits bytes IsTitle p text leaf r h = (h.0, within-mapped behind_title leaf r.leaf h.1)
+tree-exits bytes (TextRole y) p text leaf r h = tree-recorded bytes y p r.text text leaf r refl h.1
+tree-exits bytes IsTitle p text leaf r h = (h.0, within-mapped after_title leaf r.leaf h.1)
 tree-exits bytes IsPrefix p text leaf r h = (within-mapped (after_prefix p) text r.text h.0, h.1)
 tree-exits bytes IsEnding p text leaf r h =
     by-ending (TreeWithin text leaf) bytes p r.text r h (h.0, within-mapped next_line leaf r.leaf h.1)
@@ -238,11 +238,11 @@ pub record IsWithin (names : List Name) (span : Option TextSpan) (site : Site) (
 -- one event
 pub within-step : (bytes : List ℕ) (names : List Name) (span : Option TextSpan) (site : Site) (stage : Stage)
     (r : Reading) (kind : Kind) (name : Name) (p : Point) →
-    Fits names kind name → MayStand bytes site kind (role name) p → MayFollow bytes stage kind (role name) p →
+    Fits names kind name → MayBeHere bytes site kind (role name) p → MayFollow bytes stage kind (role name) p →
     IsWithin names span site stage r →
-    IsWithin (open_behind names kind name) (span_by kind (role name) p span) (site_by bytes site kind (role name) p)
+    IsWithin (open_following names kind name) (span_by kind (role name) p span) (site_by bytes site kind (role name) p)
     (stage_by stage kind (role name) p) (read_by bytes kind (role name) p r)
-within-step bytes names span site stage r Enter name p fits stands follows is = record {
+within-step bytes names span site stage r Enter name p fits valid follows is = record {
   span_within = span-enters (role name) p (is_open is_text names) span is.span_within;
   site_within =
       site-enters bytes site (role name) p (is_open is_text names) (is_open is_leaf names) is.site_within;
@@ -250,14 +250,14 @@ within-step bytes names span site stage r Enter name p fits stands follows is = 
   tree_within =
       tree-enters bytes (role name) p (is_open is_text names) (is_open is_leaf names) r is.tree_within;
 }
-within-step bytes [] span site stage r Exit name p fits stands follows is = absurd fits
-within-step bytes (innermost ∷ names) span site stage r Exit name p fits stands follows is =
+within-step bytes [] span site stage r Exit name p fits valid follows is = absurd fits
+within-step bytes (innermost ∷ names) span site stage r Exit name p fits valid follows is =
     let known : IsWithin (name ∷ names) span site stage r =
     subst (λ (n : Name). IsWithin (n ∷ names) span site stage r) fits is in
     record {
       span_within = span-exits (role name) p (is_open is_text names) span known.span_within;
       site_within =
-          site-exits bytes site (role name) p (is_open is_text names) (is_open is_leaf names) stands known.site_within;
+          site-exits bytes site (role name) p (is_open is_text names) (is_open is_leaf names) valid known.site_within;
       stage_within =
           stage-exits bytes stage (role name) p (is_open is_container names) follows known.stage_within;
       tree_within =
@@ -265,7 +265,7 @@ within-step bytes (innermost ∷ names) span site stage r Exit name p fits stand
     }
 
 -- before the first event
-pub within-first : IsWithin [] None Outside AllTold unread
+pub within-first : IsWithin [] None Outside AllRecorded unread
 within-first = record { span_within = tt; site_within = tt; stage_within = tt; tree_within = (tt, tt) }
 
 -- Where no name is open, nothing is being read.
@@ -278,14 +278,14 @@ no-site : (site : Site) → SiteWithin false false site → site ≡ Outside
 no-site Outside h = refl
 no-site _ h = absurd (true≢false (sym h))
 
-no-stage : (stage : Stage) → StageWithin false stage → stage ≡ AllTold
-no-stage AllTold h = refl
+no-stage : (stage : Stage) → StageWithin false stage → stage ≡ AllRecorded
+no-stage AllRecorded h = refl
 no-stage _ h = absurd (true≢false (sym h))
 
 pub record IsUnread (span : Option TextSpan) (site : Site) (stage : Stage) (r : Reading) : Type 0 where
   pub span_none : span ≡ None
   pub outside : site ≡ Outside
-  pub all_told : stage ≡ AllTold
+  pub all_recorded : stage ≡ AllRecorded
   pub no_text : r.text ≡ None
   pub no_leaf : r.leaf ≡ None
 
@@ -294,7 +294,7 @@ pub none-read : (span : Option TextSpan) (site : Site) (stage : Stage) (r : Read
 none-read span site stage r is = record {
   span_none = none-within span is.span_within;
   outside = no-site site is.site_within;
-  all_told = no-stage stage is.stage_within;
+  all_recorded = no-stage stage is.stage_within;
   no_text = none-within r.text is.tree_within.0;
   no_leaf = none-within r.leaf is.tree_within.1;
 }

@@ -18,12 +18,12 @@ use Rattle.md_events.specs.Events.Spelled.{is_before_blocks, kind_at, read_enter
 use Rattle.md_events.specs.Events.Spelled.{Reading, Shape, TextRole, Text, UnorderedShape, add_block, at_ending}
 use Rattle.md_events.specs.Events.Spelled.{block_around, fresh, named, next_line, on_leaf, on_shape, spelled, text_to}
 use Rattle.md_events.specs.Events.Spelled as spelled
-use Rattle.md_events.specs.Events.Told.{OfContainer, OfItself, OfLeaf, Told, block_told, told_of}
-use Rattle.md_events.proofs.ToldLemmas.{told-block, told-named, told-noted}
+use Rattle.md_events.specs.Events.Recorded.{OfContainer, OfItself, OfLeaf, Recorded, block_recorded, recorded_in}
+use Rattle.md_events.proofs.RecordedLemmas.{recorded-block, recorded-named, recorded-noted}
 use Rattle.md_meaning.specs.Tree.{Block, End, Line}
 use Rattle.md_outline.specs.FootnoteState.{container_lines}
 use Rattle.md_outline.specs.Outlined.{begins_line, parts_exit, piece_to}
-use Rattle.md_outline.specs.Roles.{is_known, is_plain, leaf_of, noted, shown_as, told_as}
+use Rattle.md_outline.specs.Roles.{is_known, is_plain, leaf_of, noted, shown_as, recorded_as}
 use Rattle.md_outline.specs.declared.outline.role.Leaf.{Leaf}
 use Rattle.md_outline.specs.declared.outline.role.Note.{Note}
 use Rattle.md_outline.specs.declared.outline.role.Note.TheVariants as note
@@ -65,7 +65,7 @@ pub record IsBegun (kind : LeafKind) (l : Leaf) : Type 0 where
 
 -- A text that is a block of its own, and may be parted.
 pub record IsBlock (x : spelled.Purpose) : Type 0 where
-  pub tree : (line : Line) (r : Reading) → spelled.told x line r ≡ add_block (block_told line.text) r
+  pub tree : (line : Line) (r : Reading) → spelled.recorded x line r ≡ add_block (block_recorded line.text) r
   pub parted : (bytes : List ℕ) (p : Point) (text : TextSpan) →
       parts_exit bytes (TextRole x) p text ≡ begins_line text (piece_to bytes p text)
 
@@ -121,32 +121,32 @@ role-fresh _ = tt
 -- Texts and line endings, of all roles.
 
 -- what a text shows a leaf block is noted there
-pub note-told : (x : Note) (line : Line) (r : Reading) →
-    spelled.told (told_as x) line r ≡ on_leaf (noted x line.text) r
-note-told note.Markers line r = refl
-note-told note.Title line r = refl
+pub note-recorded : (x : Note) (line : Line) (r : Reading) →
+    spelled.recorded (recorded_as x) line r ≡ on_leaf (noted x line.text) r
+note-recorded note.Markers line r = refl
+note-recorded note.Title line r = refl
 
 -- What is known of a half-read tree when it has one block more, when its innermost container is named, and when its
 -- leaf block is said something: so it is after each text.
-pub record ByTold (P : Reading → Type 0) (r : Reading) : Type 0 where
+pub record ByRecorded (P : Reading → Type 0) (r : Reading) : Type 0 where
   pub block : (b : Block) → P (add_block b r)
   pub named : (f : Shape → Shape) → P (record r { outer = on_shape f r.outer })
   pub noted : (f : OpenLeaf → OpenLeaf) → P (on_leaf f r)
 
-by-told : (P : Reading → Type 0) (x : spelled.Purpose) (line : Line) (r : Reading) → ByTold P r →
-    P (spelled.told x line r)
-by-told P x line r by = go (told_of x) refl
+by-recorded : (P : Reading → Type 0) (x : spelled.Purpose) (line : Line) (r : Reading) → ByRecorded P r →
+    P (spelled.recorded x line r)
+by-recorded P x line r by = go (recorded_in x) refl
   where
-    go : (t : Told) → told_of x ≡ t → P (spelled.told x line r)
-    go OfItself e = subst P (sym (told-block x e line r)) (by.block (block_told line.text))
-    go OfContainer e = subst P (sym (told-named x e line r)) (by.named (named x line.text))
-    go OfLeaf e = subst P (sym (told-noted x e line r)) (by.noted (spelled.noted x line))
+    go : (t : Recorded) → recorded_in x ≡ t → P (spelled.recorded x line r)
+    go OfItself e = subst P (sym (recorded-block x e line r)) (by.block (block_recorded line.text))
+    go OfContainer e = subst P (sym (recorded-named x e line r)) (by.named (named x line.text))
+    go OfLeaf e = subst P (sym (recorded-noted x e line r)) (by.noted (spelled.noted x line))
 
-pub by-told_at : (P : Reading → Type 0) (bytes : List ℕ) (x : spelled.Purpose) (p : Point) (text : Option Text)
-    (r : Reading) → P r → ByTold P (record r { text = None }) → P (spelled.told_at bytes x p text r)
-by-told_at P bytes x p None r none by = none
-by-told_at P bytes x p (Some text) r none by =
-    by-told P x (record { spaces = text.spaces; text = text_to bytes p.index text }) (record r { text = None }) by
+pub by-recorded_at : (P : Reading → Type 0) (bytes : List ℕ) (x : spelled.Purpose) (p : Point) (text : Option Text)
+    (r : Reading) → P r → ByRecorded P (record r { text = None }) → P (spelled.recorded_at bytes x p text r)
+by-recorded_at P bytes x p None r none by = none
+by-recorded_at P bytes x p (Some text) r none by =
+    by-recorded P x (record { spaces = text.spaces; text = text_to bytes p.index text }) (record r { text = None }) by
 
 -- and after a marker of a quote, which may give it a kind,
 pub by-marker : (P : Reading → Type 0) (bytes : List ℕ) (p : Point) (r : Reading) → P r →

@@ -14,8 +14,8 @@ use Rattle.md_events.specs.Events.Spelled.{OpenContainer, AsDigits, AsFootnoteLa
 use Rattle.md_events.specs.Events.Spelled.{ContainerRole, IsCell, IsEnding, IsFence, IsPrefix, IsQuiet, IsRow, IsTitle}
 use Rattle.md_events.specs.Events.Spelled.{OpenLeaf, LeafRole, Purpose, Reading, Role, Shape, TextRole, Text, add_block}
 use Rattle.md_events.specs.Events.Spelled.{at_ending, finished, left, named, next_line, on_leaf, IsQuoteMarker}
-use Rattle.md_events.specs.Events.Spelled.{is_before_blocks, kind_at, on_shape, with_kind, read, read_by, role, told}
-use Rattle.md_events.specs.Events.Spelled.{block_around, told_at, unread}
+use Rattle.md_events.specs.Events.Spelled.{is_before_blocks, kind_at, on_shape, with_kind, read, read_by, role}
+use Rattle.md_events.specs.Events.Spelled.{recorded, block_around, recorded_at, unread}
 use Rattle.md_events.specs.Events.Throughout.{all_blocks, all_within}
 
 -- After blocks.
@@ -129,18 +129,18 @@ marks bs f (a ∷ outer) here leaf text = go (is_before_blocks text leaf here)
     go false = refl
 
 -- a text ends
-tells : (bs : Blocks) (purpose : Purpose) (line : Line) (r : Reading) →
-    told purpose line (shift bs r) ≡ shift bs (told purpose line r)
-tells bs AsParagraph line r = adds bs _ r
-tells bs AsDigits line r = names bs (named AsDigits line.text) r
-tells bs AsItemMarker line r = names bs (named AsItemMarker line.text) r
-tells bs AsFootnoteLabel line r = names bs (named AsFootnoteLabel line.text) r
-tells bs purpose line r = refl
+records : (bs : Blocks) (purpose : Purpose) (line : Line) (r : Reading) →
+    recorded purpose line (shift bs r) ≡ shift bs (recorded purpose line r)
+records bs AsParagraph line r = adds bs _ r
+records bs AsDigits line r = names bs (named AsDigits line.text) r
+records bs AsItemMarker line r = names bs (named AsItemMarker line.text) r
+records bs AsFootnoteLabel line r = names bs (named AsFootnoteLabel line.text) r
+records bs purpose line r = refl
 
-tells-at : (bs : Blocks) (bytes : List ℕ) (purpose : Purpose) (p : Point) (text : Option Text) (r : Reading) →
-    told_at bytes purpose p text (shift bs r) ≡ shift bs (told_at bytes purpose p text r)
-tells-at bs bytes purpose p None r = refl
-tells-at bs bytes purpose p (Some text) r = tells bs purpose _ (record r { text = None })
+records-at : (bs : Blocks) (bytes : List ℕ) (purpose : Purpose) (p : Point) (text : Option Text) (r : Reading) →
+    recorded_at bytes purpose p text (shift bs r) ≡ shift bs (recorded_at bytes purpose p text r)
+records-at bs bytes purpose p None r = refl
+records-at bs bytes purpose p (Some text) r = records bs purpose _ (record r { text = None })
 
 finishes : (bs : Blocks) (leaf : Option OpenLeaf) (r : Reading) →
     finished leaf (shift bs r) ≡ shift bs (finished leaf r)
@@ -174,7 +174,7 @@ one bs bytes Enter IsQuoteMarker p r = marks bs (with_kind (kind_at bytes p.inde
 one bs bytes Enter IsQuiet p r = refl
 one bs bytes Exit (ContainerRole shape) p r = leaves bs r.outer r.here r.leaf r.text
 one bs bytes Exit (LeafRole kind) p r = finishes bs r.leaf r
-one bs bytes Exit (TextRole purpose) p r = tells-at bs bytes purpose p r.text r
+one bs bytes Exit (TextRole purpose) p r = records-at bs bytes purpose p r.text r
 one bs bytes Exit IsTitle p r = refl
 one bs bytes Exit IsPrefix p r = refl
 one bs bytes Exit IsEnding p r = ends-line bs bytes p r.text r
@@ -200,9 +200,9 @@ read-then bs bytes es shut =
     ∙ ap (λ (outer : List OpenContainer). shift_here bs outer (read bytes unread es).here) shut
 
 -- one block
-pub read-behind : (b : Block) (bytes : List ℕ) (es : List Event) → (read bytes unread es).outer ≡ [] →
+pub read-following : (b : Block) (bytes : List ℕ) (es : List Event) → (read bytes unread es).outer ≡ [] →
     (read bytes (record unread { here = More b End }) es).here ≡ More b (read bytes unread es).here
-read-behind b bytes es shut = read-then (More b End) bytes es shut
+read-following b bytes es shut = read-then (More b End) bytes es shut
 
 -- What is known of the blocks in front and of those after them is known of all, and the other way round.
 

@@ -11,7 +11,7 @@ use Rattle.md_events.specs.Events.Spelled.{before_prefix, begun, byte_at, column
 use Rattle.md_events.specs.Events.Spelled as spelled
 use Rattle.md_outline.specs.Outlined.{parts_by}
 use Rattle.md_outline.specs.OutlineSteps.{OutlineState, line_ended, marker_begun, parted_at, state_enter, state_exit}
-use Rattle.md_outline.specs.OutlineSteps.{told, told_at}
+use Rattle.md_outline.specs.OutlineSteps.{recorded, recorded_at}
 use Rattle.md_outline.specs.Roles.{has_lines}
 use Rattle.md_outline.specs.declared.outline.TextSpan.{TextSpan}
 use Rattle.md_outline.specs.declared.outline.lined.Lined.{Lined}
@@ -54,16 +54,16 @@ begins-texts s r none is =
 -- a text ends
 pub text-ends : (P : OutlineState → Reading → Type 0) (bytes : List ℕ) (q p : Point) (x : spelled.Purpose)
     (y : Purpose) (s : OutlineState) (r : Reading) → TextFrom q s r →
-    P (told y false (slice_range bytes (byte_at q) p.index) (record s { text = None }))
-    (spelled.told x (record { spaces = columns_left q; text = slice_range bytes (byte_at q) p.index })
+    P (recorded y false (slice_range bytes (byte_at q) p.index) (record s { text = None }))
+    (spelled.recorded x (record { spaces = columns_left q; text = slice_range bytes (byte_at q) p.index })
     (record r { text = None })) →
-    P (told_at bytes y p.index s.text s) (spelled.told_at bytes x p r.text r)
+    P (recorded_at bytes y p.index s.text s) (spelled.recorded_at bytes x p r.text r)
 text-ends P bytes q p x y s r from h =
-    subst (λ span. P (told_at bytes y p.index span s) (spelled.told_at bytes x p r.text r)) (sym from.span)
+    subst (λ span. P (recorded_at bytes y p.index span s) (spelled.recorded_at bytes x p r.text r)) (sym from.span)
     (subst
     (λ text.
-    P (told_at bytes y p.index (Some (record { from = byte_at q; is_parted = false })) s)
-    (spelled.told_at bytes x p text r))
+    P (recorded_at bytes y p.index (Some (record { from = byte_at q; is_parted = false })) s)
+    (spelled.recorded_at bytes x p text r))
     (sym from.text) h)
 
 -- A line ending in a text is a part of it.

@@ -11,29 +11,31 @@ use Rattle.md_meaning.specs.declared.outline.Word.TheVariants as word
 use Rattle.md_meaning.specs.Outline.{Entry, entry, entry_with, row_entries, rows_entries, table_entries}
 use Rattle.md_meaning.specs.Rest.{trim}
 use Rattle.md_meaning.specs.Tree.{Line}
-use Rattle.md_events.specs.Events.Spelled.{AsCell, AsDelimiter, IsCell, IsEnding, IsPrefix, IsQuiet, IsQuoteMarker, IsRow}
-use Rattle.md_events.specs.Events.Spelled.{OfTable, LeafRole, Reading, TableLeaf, TableSoFar, TextRole, at_cell, at_row}
-use Rattle.md_events.specs.Events.Spelled.{byte_at, columns_left, first_told, next_line, on_last, on_leaf, read_by}
+use Rattle.md_events.specs.Events.Spelled.{AsCell, AsDelimiter, IsCell, IsEnding, IsPrefix, IsQuiet, IsQuoteMarker}
+use Rattle.md_events.specs.Events.Spelled.{IsRow, OfTable, LeafRole, Reading, TableLeaf, TableSoFar, TextRole, at_cell}
+use Rattle.md_events.specs.Events.Spelled.{at_row, byte_at, columns_left, first_recorded, next_line, on_last, on_leaf}
+use Rattle.md_events.specs.Events.Spelled.{read_by}
 use Rattle.md_events.specs.Events.Spelled as spelled
-use Rattle.md_outline.specs.LinedState.{now_told, with_head, without_end}
-use Rattle.md_outline.specs.OutlineSteps.{OutlineState, cell_begun, counted_at, state_by, told, told_at, with_empty}
+use Rattle.md_outline.specs.LinedState.{now_recorded, with_head, without_end}
+use Rattle.md_outline.specs.OutlineSteps.{OutlineState, cell_begun, counted_at, state_by, recorded, recorded_at}
+use Rattle.md_outline.specs.OutlineSteps.{with_empty}
 use Rattle.md_outline.specs.Roles.{shown_as}
-use Rattle.md_outline.specs.TablePlaces.{AtCell, AtHead, BehindCell, BehindHead, BehindRow, BodyRow, HeadRow, InCell}
-use Rattle.md_outline.specs.TablePlaces.{InDelimiter, InRow, MayBe, Row, TablePlace, behind_row, spot_by}
+use Rattle.md_outline.specs.TablePlaces.{AtCell, AtHead, AfterCell, AfterHead, AfterRow, BodyRow, HeadRow, InCell}
+use Rattle.md_outline.specs.TablePlaces.{InDelimiter, InRow, MayBe, Row, TablePlace, after_row, spot_by}
 use Rattle.md_outline.specs.TableState.{counted_word, with_cell, with_delimiter, with_row}
 use Rattle.md_outline.specs.declared.outline.lined.Form.TheVariants as form
 use Rattle.md_outline.specs.declared.outline.lined.Lined.{Lined}
 use Rattle.md_outline.specs.declared.outline.role.Purpose.TheVariants as purpose
 use Rattle.md_outline.proofs.ClosedTrees.{shown}
-use Rattle.md_outline.proofs.LeavesOpen.{Shows, gap-line, known-next, known-open, known-told, open-ends}
-use Rattle.md_outline.proofs.LinedLines.{end-taken, head-told, on-last}
+use Rattle.md_outline.proofs.LeavesOpen.{Shows, gap-line, known-next, known-open, known-recorded, open-ends}
+use Rattle.md_outline.proofs.LinedLines.{end-taken, head-recorded, on-last}
 use Rattle.md_outline.proofs.OutlineAgrees.{Agrees}
 use Rattle.md_outline.proofs.SiteTexts.{IsOpen, NoText, TextFrom, from-here, marker-within}
 use Rattle.md_outline.proofs.SiteTexts.{prefix-enter, prefix-exit, text-ending, text-ends}
 
 -- What is known of one that is open, which has said its delimiter row or not, and of what was shown of it.
 abbrev Tabled : TableSoFar → Bool → (ℕ → List Entry) → OutlineState → Reading → Type 0
-Tabled table is_told lines s r = Shows (TableLeaf table) form.Table is_told lines s r
+Tabled table is_recorded lines s r = Shows (TableLeaf table) form.Table is_recorded lines s r
 
 abbrev grid : List ℕ → List (List (List ℕ)) → TableSoFar
 grid delimiter rows = record { delimiter = delimiter; rows = rows }
@@ -76,10 +78,10 @@ AgreesSpot AtHead s r = NoRow s r × NoText s r
 AgreesSpot (InRow row) s r = Filled row s r × NoText s r
 AgreesSpot (AtCell row) s r = WithEmpty row s r × NoText s r
 AgreesSpot (InCell row) s r = WithEmpty row s r × ((q : Point) × TextFrom q s r)
-AgreesSpot (BehindCell row) s r = Filled row s r × NoText s r
-AgreesSpot BehindHead s r = Filled HeadRow s r × NoText s r
+AgreesSpot (AfterCell row) s r = Filled row s r × NoText s r
+AgreesSpot AfterHead s r = Filled HeadRow s r × NoText s r
 AgreesSpot InDelimiter s r = Filled HeadRow s r × ((q : Point) × TextFrom q s r)
-AgreesSpot BehindRow s r = Rows s r × NoText s r
+AgreesSpot AfterRow s r = Rows s r × NoText s r
 
 -- at each the table is open
 row-open : (row : Row) (cells : List (List ℕ)) (s : OutlineState) (r : Reading) → OnRow row cells s r → IsOpen s r
@@ -91,15 +93,15 @@ spot-open AtHead s r is = known-open s r is.0.0
 spot-open (InRow row) s r is = row-open row is.0.0 s r is.0.1
 spot-open (AtCell row) s r is = row-open row (is.0.0 ++ [] ∷ []) s r is.0.1
 spot-open (InCell row) s r is = row-open row (is.0.0 ++ [] ∷ []) s r is.0.1
-spot-open (BehindCell row) s r is = row-open row is.0.0 s r is.0.1
-spot-open BehindHead s r is = row-open HeadRow is.0.0 s r is.0.1
+spot-open (AfterCell row) s r is = row-open row is.0.0 s r is.0.1
+spot-open AfterHead s r is = row-open HeadRow is.0.0 s r is.0.1
 spot-open InDelimiter s r is = row-open HeadRow is.0.0 s r is.0.1
-spot-open BehindRow s r is = known-open s r is.0.3.0
+spot-open AfterRow s r is = known-open s r is.0.3.0
 
 -- and after an event there
-abbrev pub AgreesBehind : Option TablePlace → OutlineState → Reading → Type 0
-AgreesBehind None s r = Agrees s r
-AgreesBehind (Some spot) s r = AgreesSpot spot s r
+abbrev pub AgreesAfter : Option TablePlace → OutlineState → Reading → Type 0
+AgreesAfter None s r = Agrees s r
+AgreesAfter (Some spot) s r = AgreesSpot spot s r
 
 -- Its lines, with one row or one cell more.
 
@@ -196,7 +198,7 @@ cell-begins HeadRow cells s r is =
       known-next at_cell is.0 refl,
       ap (λ es. with_cell s.depth (with_head counted_word (length before) es)) is.1
           ∙ ap (with_cell s.depth)
-          (head-told counted_word before (row_entries (s.depth + 1) cells) (entry s.depth (word.Table columns)))
+          (head-recorded counted_word before (row_entries (s.depth + 1) cells) (entry s.depth (word.Table columns)))
           ∙ append_assoc before (head_lines (columns + 1) cells s.depth) more
           ∙ ap (λ es. before ++ es) (sym (head-cell s.depth (columns + 1) cells []))
           ∙ ap (λ n. before ++ head_lines n (cells ++ [] ∷ []) s.depth) (sym (more-columns cells [])),
@@ -223,18 +225,18 @@ cell-begins BodyRow cells s r h =
 -- Its text is said.
 
 abbrev with_text : List ℕ → List (List ℕ) → List (List ℕ)
-with_text text cells = on_last (λ (cell : List ℕ). first_told cell text) cells
+with_text text cells = on_last (λ (cell : List ℕ). first_recorded cell text) cells
 
-text-told : (row : Row) (cells : List (List ℕ)) (line : Line) (s : OutlineState) (r : Reading) →
+text-recorded : (row : Row) (cells : List (List ℕ)) (line : Line) (s : OutlineState) (r : Reading) →
     OnRow row (cells ++ [] ∷ []) s r →
-    OnRow row (cells ++ line.text ∷ []) (told purpose.Cell false line.text (record s { text = None }))
-    (spelled.told AsCell line (record r { text = None }))
-text-told HeadRow cells line s r is =
+    OnRow row (cells ++ line.text ∷ []) (recorded purpose.Cell false line.text (record s { text = None }))
+    (spelled.recorded AsCell line (record r { text = None }))
+text-recorded HeadRow cells line s r is =
     let before : List Entry = shown r.outer r.here in
     let columns : ℕ = length (cells ++ [] ∷ []) in (
       known-next (spelled.noted AsCell line) is.0
           (ap (λ row. TableLeaf (grid [] (row ∷ [])))
-          (on-last (λ (cell : List ℕ). first_told cell line.text) cells [])),
+          (on-last (λ (cell : List ℕ). first_recorded cell line.text) cells [])),
       line-filled before (head_lines columns cells s.depth) s.lines (head_lines columns (cells ++ [] ∷ []) s.depth)
           (head_lines columns (cells ++ line.text ∷ []) s.depth)
           (entry ((s.depth + 1) + 1) word.Cell) (entry_with ((s.depth + 1) + 1) word.Cell line.text) is.1
@@ -242,7 +244,7 @@ text-told HeadRow cells line s r is =
           ∙ ap (λ n. before ++ head_lines n (cells ++ line.text ∷ []) s.depth)
           (more-columns cells [] ∙ sym (more-columns cells line.text)),
     )
-text-told BodyRow cells line s r h =
+text-recorded BodyRow cells line s r h =
     let before : List Entry = shown r.outer r.here in
     let is = h.3 in
     let rows : List (List (List ℕ)) = h.1 ∷ h.2 in (
@@ -253,7 +255,7 @@ text-told BodyRow cells line s r h =
         known-next (spelled.noted AsCell line) is.0
             (ap (λ all. TableLeaf (grid h.0 all))
             (on-last (with_text line.text) rows (cells ++ [] ∷ [])
-            ∙ ap (λ row. rows ++ row ∷ []) (on-last (λ (cell : List ℕ). first_told cell line.text) cells []))),
+            ∙ ap (λ row. rows ++ row ∷ []) (on-last (λ (cell : List ℕ). first_recorded cell line.text) cells []))),
         line-filled before (all_lines h.0 (h.1 ∷ (h.2 ++ cells ∷ [])) s.depth) s.lines
             (all_lines h.0 (h.1 ∷ (h.2 ++ (cells ++ [] ∷ []) ∷ [])) s.depth)
             (all_lines h.0 (h.1 ∷ (h.2 ++ (cells ++ line.text ∷ []) ∷ [])) s.depth)
@@ -264,24 +266,24 @@ text-told BodyRow cells line s r h =
 
 cell-ends : (bytes : List ℕ) (row : Row) (q p : Point) (s : OutlineState) (r : Reading) → WithEmpty row s r →
     TextFrom q s r →
-    Filled row (told_at bytes purpose.Cell p.index s.text s) (spelled.told_at bytes AsCell p r.text r)
-    × NoText (told_at bytes purpose.Cell p.index s.text s) (spelled.told_at bytes AsCell p r.text r)
+    Filled row (recorded_at bytes purpose.Cell p.index s.text s) (spelled.recorded_at bytes AsCell p r.text r)
+    × NoText (recorded_at bytes purpose.Cell p.index s.text s) (spelled.recorded_at bytes AsCell p r.text r)
 cell-ends bytes row q p s r h from =
     let line : Line = record { spaces = columns_left q; text = slice_range bytes (byte_at q) p.index } in
     text-ends (λ s r. Filled row s r × NoText s r) bytes q p AsCell purpose.Cell s r from
-    ((h.0 ++ line.text ∷ [], text-told row h.0 line s r h.1), (refl, refl))
+    ((h.0 ++ line.text ∷ [], text-recorded row h.0 line s r h.1), (refl, refl))
 
 -- The delimiter row.
 
-delimiter-told : (cells : List (List ℕ)) (line : Line) (s : OutlineState) (r : Reading) → OnRow HeadRow cells s r →
-    Rows (told purpose.Delimiter false line.text (record s { text = None }))
-    (spelled.told AsDelimiter line (record r { text = None }))
-delimiter-told cells line s r is = (
+delimiter-recorded : (cells : List (List ℕ)) (line : Line) (s : OutlineState) (r : Reading) → OnRow HeadRow cells s r →
+    Rows (recorded purpose.Delimiter false line.text (record s { text = None }))
+    (spelled.recorded AsDelimiter line (record r { text = None }))
+delimiter-recorded cells line s r is = (
   trim line.text,
   cells,
   [],
   (
-    known-told (spelled.noted AsDelimiter line) is.0 refl is.0.leaf (ap now_told is.0.lined),
+    known-recorded (spelled.noted AsDelimiter line) is.0 refl is.0.leaf (ap now_recorded is.0.lined),
     ap (with_delimiter s.depth line.text) is.1
         ∙ append_assoc (shown r.outer r.here) (head_lines (length cells) cells s.depth)
         (entry_with (s.depth + 1) word.Delimiter (trim line.text) ∷ []),
@@ -290,18 +292,18 @@ delimiter-told cells line s r is = (
 
 delimiter-ends : (bytes : List ℕ) (q p : Point) (s : OutlineState) (r : Reading) → Filled HeadRow s r →
     TextFrom q s r →
-    Rows (told_at bytes purpose.Delimiter p.index s.text s) (spelled.told_at bytes AsDelimiter p r.text r)
-    × NoText (told_at bytes purpose.Delimiter p.index s.text s) (spelled.told_at bytes AsDelimiter p r.text r)
+    Rows (recorded_at bytes purpose.Delimiter p.index s.text s) (spelled.recorded_at bytes AsDelimiter p r.text r)
+    × NoText (recorded_at bytes purpose.Delimiter p.index s.text s) (spelled.recorded_at bytes AsDelimiter p r.text r)
 delimiter-ends bytes q p s r h from =
     text-ends (λ s r. Rows s r × NoText s r) bytes q p AsDelimiter purpose.Delimiter s r from (
-      delimiter-told h.0 (record { spaces = columns_left q; text = slice_range bytes (byte_at q) p.index }) s r h.1,
+      delimiter-recorded h.0 (record { spaces = columns_left q; text = slice_range bytes (byte_at q) p.index }) s r h.1,
       (refl, refl),
     )
 
 -- One event in it.
 
 row-ends : (row : Row) (s : OutlineState) (r : Reading) → Filled row s r × NoText s r →
-    AgreesSpot (behind_row row) s r
+    AgreesSpot (after_row row) s r
 row-ends HeadRow s r is = is
 row-ends BodyRow s r is = ((is.0.1.0, is.0.1.1, is.0.1.2 ++ is.0.0 ∷ [], is.0.1.3), is.1)
 
@@ -320,7 +322,7 @@ span-cell s = span-counted s.lined s
 
 pub agrees-spot : (bytes : List ℕ) (spot : TablePlace) (kind : Kind) (x : spelled.Role) (p : Point) (s : OutlineState)
     (r : Reading) → MayBe spot kind x → AgreesSpot spot s r →
-    AgreesBehind (spot_by spot kind x) (state_by bytes kind (shown_as x) p s) (read_by bytes kind x p r)
+    AgreesAfter (spot_by spot kind x) (state_by bytes kind (shown_as x) p s) (read_by bytes kind x p r)
 agrees-spot bytes AtHead Enter IsRow p s r may is = (([], head-begins s r is.0), is.1)
 agrees-spot bytes (InRow row) Enter IsCell p s r may is =
     ((is.0.0, cell-begins row is.0.0 s r is.0.1), (span-cell s ∙ is.1.0, is.1.1))
@@ -332,25 +334,25 @@ agrees-spot bytes (InCell row) Enter IsEnding p s r may is = is
 agrees-spot bytes (InCell row) Exit IsEnding p s r may is =
     text-ending (AgreesSpot (InCell row)) bytes is.1.0 p s r is.1.1 is
 agrees-spot bytes (InCell row) Exit (TextRole AsCell) p s r may is = cell-ends bytes row is.1.0 p s r is.0 is.1.1
-agrees-spot bytes (BehindCell row) Exit IsCell p s r may is = is
-agrees-spot bytes BehindHead Enter IsPrefix p s r may is =
+agrees-spot bytes (AfterCell row) Exit IsCell p s r may is = is
+agrees-spot bytes AfterHead Enter IsPrefix p s r may is =
     prefix-enter (Filled HeadRow) bytes p s r (λ s r span spaces text is. is) is
-agrees-spot bytes BehindHead Exit IsPrefix p s r may is =
+agrees-spot bytes AfterHead Exit IsPrefix p s r may is =
     prefix-exit (Filled HeadRow) bytes p s r (λ s r span spaces text is. is) is
-agrees-spot bytes BehindHead Enter IsEnding p s r may is = is
-agrees-spot bytes BehindHead Exit IsEnding p s r may is =
+agrees-spot bytes AfterHead Enter IsEnding p s r may is = is
+agrees-spot bytes AfterHead Exit IsEnding p s r may is =
     gap-line (Filled HeadRow) bytes p s r is.0.1.0 refl (is.0.0, (known-next next_line is.0.1.0 refl, is.0.1.1)) is
-agrees-spot bytes BehindHead Enter (TextRole AsDelimiter) p s r may is = (is.0, (p, from-here p s r))
+agrees-spot bytes AfterHead Enter (TextRole AsDelimiter) p s r may is = (is.0, (p, from-here p s r))
 agrees-spot bytes InDelimiter Exit (TextRole AsDelimiter) p s r may is = delimiter-ends bytes is.1.0 p s r is.0 is.1.1
-agrees-spot bytes BehindRow Enter IsPrefix p s r may is =
+agrees-spot bytes AfterRow Enter IsPrefix p s r may is =
     prefix-enter Rows bytes p s r (λ s r span spaces text is. is) is
-agrees-spot bytes BehindRow Exit IsPrefix p s r may is = prefix-exit Rows bytes p s r (λ s r span spaces text is. is) is
-agrees-spot bytes BehindRow Enter IsEnding p s r may is = is
-agrees-spot bytes BehindRow Exit IsEnding p s r may is =
+agrees-spot bytes AfterRow Exit IsPrefix p s r may is = prefix-exit Rows bytes p s r (λ s r span spaces text is. is) is
+agrees-spot bytes AfterRow Enter IsEnding p s r may is = is
+agrees-spot bytes AfterRow Exit IsEnding p s r may is =
     gap-line Rows bytes p s r is.0.3.0 refl
     (is.0.0, is.0.1, is.0.2, (known-next next_line is.0.3.0 refl, is.0.3.1)) is
-agrees-spot bytes BehindRow Enter IsRow p s r may is = (([], further-begins s r is.0), is.1)
-agrees-spot bytes BehindRow Exit (LeafRole OfTable) p s r may is = open-ends s r is.0.3.0 is.0.3.1 is.1
+agrees-spot bytes AfterRow Enter IsRow p s r may is = (([], further-begins s r is.0), is.1)
+agrees-spot bytes AfterRow Exit (LeafRole OfTable) p s r may is = open-ends s r is.0.3.0 is.0.3.1 is.1
 agrees-spot bytes _ Enter IsQuiet p s r may is = is
 agrees-spot bytes _ Exit IsQuiet p s r may is = is
 agrees-spot bytes spot Enter IsQuoteMarker p s r may is =

@@ -31,9 +31,9 @@ use Rattle.md_outline.specs.Between.{is_between}
 use Rattle.md_outline.specs.TextLines.{after_ending, first_as, first_full_as, full_as, line_len, lines_as}
 
 -- after a byte of ASCII
-boundary-behind : (bytes : List ℕ) (i : ℕ) → IsUtf8 bytes → 0 < i → i ≤ length bytes → get_or bytes (i - 1) 0 < 128 →
+boundary-following : (bytes : List ℕ) (i : ℕ) → IsUtf8 bytes → 0 < i → i ≤ length bytes → get_or bytes (i - 1) 0 < 128 →
     IsCharBoundary bytes i
-boundary-behind bytes i u some within ascii =
+boundary-following bytes i u some within ascii =
     let here : i - 1 + 1 ≡ i = omega arith in
     subst (IsCharBoundary bytes) here (IsCharBoundary-after_ascii bytes (i - 1) u (omega arith) ascii)
 
@@ -57,7 +57,7 @@ boundary-between bytes i u between within =
         subst (IsCharBoundary bytes) (sym (eqb-true i (length bytes) b)) (IsCharBoundary-end bytes)
     go false false true t a b c d h =
         let some : 0 < i = grind (arith, nat_tests) in
-        boundary-behind bytes i u some within (ltb-true _ _ c)
+        boundary-following bytes i u some within (ltb-true _ _ c)
     go false false false true a b c d h =
         let inside : i < length bytes = grind (arith, nat_tests) in
         IsCharBoundary-before_ascii bytes i inside (ltb-true _ _ d)
@@ -122,10 +122,10 @@ utf8-ending text u = go (cases_lt (line_len text) (length text))
     go (inr le) = subst IsUtf8 (sym (drop_all (line_len text) text le)) IsUtf8-nil
 
 -- what follows a line ending
-utf8-behind : (b : ℕ) (bytes : List ℕ) → is_ending b ≡ true → IsUtf8 (b ∷ bytes) → IsUtf8 (after_ending (b ∷ bytes))
-utf8-behind b bytes ending u =
-    let behind : IsUtf8 bytes = utf8-tail b bytes u (ending-ascii b (ap not ending)) in
-    go bytes behind (b == 13)
+utf8-following : (b : ℕ) (bytes : List ℕ) → is_ending b ≡ true → IsUtf8 (b ∷ bytes) → IsUtf8 (after_ending (b ∷ bytes))
+utf8-following b bytes ending u =
+    let following : IsUtf8 bytes = utf8-tail b bytes u (ending-ascii b (ap not ending)) in
+    go bytes following (b == 13)
   where
     go : (bytes : List ℕ) → IsUtf8 bytes → (x : Bool) → IsUtf8 (cond (x && begins_with 10 bytes) (drop 1 bytes) bytes)
     go bytes v false = v
@@ -190,10 +190,10 @@ Splits text k [] = split_lines text ≡ take k text ∷ []
 Splits text k (b ∷ bytes) =
     (is_ending b ≡ true) × (split_lines text ≡ take k text ∷ split_lines (after_ending (b ∷ bytes)))
 
-splits-inside : (c : ℕ) (bytes : List ℕ) (k : ℕ) (behind : List ℕ) → is_ending c ≡ false → Splits bytes k behind →
-    Splits (c ∷ bytes) (suc k) behind
+splits-inside : (c : ℕ) (bytes : List ℕ) (k : ℕ) (following : List ℕ) → is_ending c ≡ false → Splits bytes k following →
+    Splits (c ∷ bytes) (suc k) following
 splits-inside c bytes k [] e h = split-byte c bytes e ∙ ap (onto_first c) h
-splits-inside c bytes k (b ∷ behind) e h = (h.0, split-byte c bytes e ∙ ap (onto_first c) h.1)
+splits-inside c bytes k (b ∷ following) e h = (h.0, split-byte c bytes e ∙ ap (onto_first c) h.1)
 
 split-return : (bytes : List ℕ) → split_lines (13 ∷ bytes) ≡ [] ∷ split_lines (after_ending (13 ∷ bytes))
 split-return [] = refl
@@ -242,17 +242,17 @@ splits (c ∷ bytes) = go (is_ending c) refl (splits bytes)
 -- One line of a paragraph's text, and those after its ending.
 
 -- an ending after it
-utf8-after : (text : List ℕ) (k : ℕ) (behind : List ℕ) → Splits text k behind → IsUtf8 behind →
-    IsUtf8 (after_ending behind)
+utf8-after : (text : List ℕ) (k : ℕ) (following : List ℕ) → Splits text k following → IsUtf8 following →
+    IsUtf8 (after_ending following)
 utf8-after text k [] h u = u
-utf8-after text k (b ∷ bytes) h u = utf8-behind b bytes h.0 u
+utf8-after text k (b ∷ bytes) h u = utf8-following b bytes h.0 u
 
-split-next : (text : List ℕ) (k : ℕ) (behind : List ℕ) → Splits text k behind → (length behind == 0) ≡ false →
-    split_lines text ≡ take k text ∷ split_lines (after_ending behind)
+split-next : (text : List ℕ) (k : ℕ) (following : List ℕ) → Splits text k following → (length following == 0) ≡ false →
+    split_lines text ≡ take k text ∷ split_lines (after_ending following)
 split-next text k [] h some = absurd (true≢false some)
 split-next text k (b ∷ bytes) h some = h.1
 
-split-last : (text : List ℕ) (k : ℕ) (behind : List ℕ) → Splits text k behind → (length behind == 0) ≡ true →
+split-last : (text : List ℕ) (k : ℕ) (following : List ℕ) → Splits text k following → (length following == 0) ≡ true →
     split_lines text ≡ take k text ∷ []
 split-last text k [] h none = h
 split-last text k (b ∷ bytes) h none = let some : ⊥ = omega (arith, eqb-true (length (b ∷ bytes)) 0 none) in absurd some
@@ -296,8 +296,9 @@ pub lines-next : (w : Word) (depth : ℕ) (done next : List Entry) (left line en
     ((next ++ full_as w depth left' ≡ done ++ full_as w depth left) ×
     (last_line (split_lines left') ≡ last_line (split_lines left)))
 lines-next w depth done next left line ending left' text k ek eline eending some eleft u shows enext =
-    let behind : ending ≡ drop (line_len left) left = eending ∙ ap (λ n. drop n left) ek in
-    let split : Splits left (line_len left) ending = subst (Splits left (line_len left)) (sym behind) (splits left) in
+    let following : ending ≡ drop (line_len left) left = eending ∙ ap (λ n. drop n left) ek in
+    let split : Splits left (line_len left) ending = subst (Splits left (line_len left)) (sym following)
+    (splits left) in
     let first : text ≡ trim_start (take (line_len left) left) = shown-line left line text k ek eline u shows in
     let all : split_lines left ≡
     take (line_len left) left ∷ split_lines left' = split-next left (line_len left) ending split some
@@ -306,7 +307,7 @@ lines-next w depth done next left line ending left' text k ek eline eending some
     take (line_len left) left ∷ without_last (split_lines left') = ap without_last all
     ∙ full-line (take (line_len left) left) (split_lines left') (some-split left') in (
       subst IsUtf8 (sym eleft)
-          (utf8-after left (line_len left) ending split (subst IsUtf8 (sym behind) (utf8-ending left u))),
+          (utf8-after left (line_len left) ending split (subst IsUtf8 (sym following) (utf8-ending left u))),
       (
         ap (λ es. es ++ full_as w depth left') enext
             ∙ append_assoc done (entry_with depth w text ∷ []) (full_as w depth left')
@@ -321,10 +322,11 @@ pub lines-end : (w : Word) (depth : ℕ) (done : List Entry) (left ending : List
     ending ≡ drop k left → (length ending == 0) ≡ true →
     (done ≡ done ++ full_as w depth left) × (left ≡ last_line (split_lines left))
 lines-end w depth done left ending k ek eending none =
-    let behind : ending ≡ drop (line_len left) left = eending ∙ ap (λ n. drop n left) ek in
-    let split : Splits left (line_len left) ending = subst (Splits left (line_len left)) (sym behind) (splits left) in
+    let following : ending ≡ drop (line_len left) left = eending ∙ ap (λ n. drop n left) ek in
+    let split : Splits left (line_len left) ending = subst (Splits left (line_len left)) (sym following)
+    (splits left) in
     let one : split_lines left ≡ take (line_len left) left ∷ [] = split-last left (line_len left) ending split none in
-    let nothing : drop (line_len left) left ≡ [] = sym behind ∙ length-none ending none in
+    let nothing : drop (line_len left) left ≡ [] = sym following ∙ length-none ending none in
     let whole : take (line_len left) left ≡ left = take-whole (line_len left) left nothing in (
       sym (append-nil done) ∙ sym (ap (λ ls. done ++ entries depth w (trim_each (without_last ls))) one),
       sym (ap last_line one ∙ whole),
@@ -448,8 +450,8 @@ pub first-shown : (w : Word) (depth : ℕ) (before done : List Entry) (text line
     IsUtf8 rest × (done ≡ before ++ entry_with depth w (take (line_len text) text) ∷ [])
 first-shown w depth before done text line ending rest shown k ek eline eending erest u shows edone =
     let first : line ≡ take (line_len text) text = eline ∙ ap (λ n. take n text) ek in
-    let behind : ending ≡ drop (line_len text) text = eending ∙ ap (λ n. drop n text) ek in (
-      subst IsUtf8 (sym (erest ∙ ap after_ending behind))
+    let following : ending ≡ drop (line_len text) text = eending ∙ ap (λ n. drop n text) ek in (
+      subst IsUtf8 (sym (erest ∙ ap after_ending following))
           (utf8-after text (line_len text) (drop (line_len text) text) (splits text) (utf8-ending text u)),
       edone
           ∙ ap (λ t. before ++ entry_with depth w t ∷ [])
@@ -477,8 +479,9 @@ pub first-all : (w : Word) (depth : ℕ) (before done next : List Entry) (text l
     (IsUtf8 rest → next ≡ done ++ lines_as w depth rest) → next ≡ before ++ first_as w depth text
 first-all w depth before done next text line ending rest shown k ek eline eending erest u shows edone some enext =
     let first = first-shown w depth before done text line ending rest shown k ek eline eending erest u shows edone in
-    let behind : ending ≡ drop (line_len text) text = eending ∙ ap (λ n. drop n text) ek in
-    let split : Splits text (line_len text) ending = subst (Splits text (line_len text)) (sym behind) (splits text) in
+    let following : ending ≡ drop (line_len text) text = eending ∙ ap (λ n. drop n text) ek in
+    let split : Splits text (line_len text) ending = subst (Splits text (line_len text)) (sym following)
+    (splits text) in
     let all : split_lines text ≡ take (line_len text) text ∷ split_lines rest =
     split-next text (line_len text) ending split some
     ∙ ap (λ t. take (line_len text) text ∷ split_lines t) (sym erest) in
@@ -493,8 +496,9 @@ pub first-one : (w : Word) (depth : ℕ) (before done : List Entry) (text line e
     done ≡ before ++ entry_with depth w shown ∷ [] → (length ending == 0) ≡ true →
     done ≡ before ++ first_as w depth text
 first-one w depth before done text line ending shown k ek eline eending u shows edone none =
-    let behind : ending ≡ drop (line_len text) text = eending ∙ ap (λ n. drop n text) ek in
-    let split : Splits text (line_len text) ending = subst (Splits text (line_len text)) (sym behind) (splits text) in
+    let following : ending ≡ drop (line_len text) text = eending ∙ ap (λ n. drop n text) ek in
+    let split : Splits text (line_len text) ending = subst (Splits text (line_len text)) (sym following)
+    (splits text) in
     (first-shown w depth before done text line ending (after_ending ending) shown k ek eline eending refl u shows
     edone).1
     ∙ ap (λ ls. before ++ entries depth w (trim_further ls))
@@ -505,9 +509,9 @@ Some_byte [] = ⊥
 Some_byte (b ∷ bytes) = Unit {0}
 
 -- something is after the first line where there is an ending
-any-behind : (text : List ℕ) → list_any is_ending text ≡ true → Some_byte (drop (line_len text) text)
-any-behind [] h = absurd (true≢false (sym h))
-any-behind (c ∷ bytes) h = go (is_ending c) refl (any-behind bytes)
+any-following : (text : List ℕ) → list_any is_ending text ≡ true → Some_byte (drop (line_len text) text)
+any-following [] h = absurd (true≢false (sym h))
+any-following (c ∷ bytes) h = go (is_ending c) refl (any-following bytes)
   where
     go : (x : Bool) → is_ending c ≡ x → (list_any is_ending bytes ≡ true → Some_byte (drop (line_len bytes) bytes)) →
         Some_byte (drop (cond (not (is_ending c)) (1 + line_len bytes) 0) (c ∷ bytes))
@@ -519,10 +523,10 @@ any-behind (c ∷ bytes) h = go (is_ending c) refl (any-behind bytes)
 
 split-any : (text : List ℕ) → list_any is_ending text ≡ true →
     split_lines text ≡ take (line_len text) text ∷ split_lines (after_ending (drop (line_len text) text))
-split-any text h = go (drop (line_len text) text) (any-behind text h) (splits text)
+split-any text h = go (drop (line_len text) text) (any-following text h) (splits text)
   where
-    go : (behind : List ℕ) → Some_byte behind → Splits text (line_len text) behind →
-        split_lines text ≡ take (line_len text) text ∷ split_lines (after_ending behind)
+    go : (following : List ℕ) → Some_byte following → Splits text (line_len text) following →
+        split_lines text ≡ take (line_len text) text ∷ split_lines (after_ending following)
     go [] some split = absurd some
     go (b ∷ bytes) some split = split.1
 
@@ -532,11 +536,11 @@ pub first-piece : (w : Word) (depth : ℕ) (piece rest : List ℕ) → list_any 
     first_as w depth (piece ++ rest) ≡ first_full_as w depth piece ++ lines_as w depth rest
 first-piece w depth piece rest some h blank =
     let line : List ℕ = take (line_len piece) piece in
-    let behind : List ℕ = after_ending (drop (line_len piece) piece) in
+    let following : List ℕ = after_ending (drop (line_len piece) piece) in
     let further : List (List ℕ) = onto_line (last_line (split_lines piece)) (split_lines rest) in
-    let full : without_last (split_lines piece) ≡ line ∷ without_last (split_lines behind) =
-    ap without_last (split-any piece some) ∙ full-line line (split_lines behind) (some-split behind) in
+    let full : without_last (split_lines piece) ≡ line ∷ without_last (split_lines following) =
+    ap without_last (split-any piece some) ∙ full-line line (split_lines following) (some-split following) in
     ap (λ ls. entries depth w (trim_further ls)) (split-piece piece rest h ∙ ap (λ ls. ls ++ further) full)
-    ∙ ap (λ es. entry_with depth w line ∷ es) (entries-append w depth (without_last (split_lines behind)) further)
+    ∙ ap (λ es. entry_with depth w line ∷ es) (entries-append w depth (without_last (split_lines following)) further)
     ∙ ap (λ ls. first_full_as w depth piece ++ entries depth w ls)
     (trim-onto (last_line (split_lines piece)) (split_lines rest) (some-split rest) blank)

@@ -33,10 +33,10 @@ pieces-from before begin depth lines true front h k = absurd (true≢false (sym 
 pieces-from before begin depth lines false front h k = k
 
 -- a piece that is not the first begins with no line feed
-pub begins-behind : (piece rest : List ℕ) → begins_with 10 piece ≡ false → begins_with 10 rest ≡ false →
+pub begins-following : (piece rest : List ℕ) → begins_with 10 piece ≡ false → begins_with 10 rest ≡ false →
     begins_with 10 (piece ++ rest) ≡ false
-begins-behind [] rest h k = k
-begins-behind (b ∷ piece) rest h k = h
+begins-following [] rest h k = k
+begins-following (b ∷ piece) rest h k = h
 
 begins-other : (x : Bool) → not x ≡ true → x ≡ false
 begins-other true h = absurd (true≢false (sym h))
@@ -66,7 +66,7 @@ pieces-next before begin depth lines true front piece h blank k =
         ap (λ es. es ++ shown_full) (append-nil lines ∙ k.1.0) ∙ append_assoc (before ++ begin) k.0 shown_full,
         λ rest no.
             ap (text_entries depth) (append_assoc front piece rest)
-            ∙ k.1.1 (piece ++ rest) (begins-behind piece rest (begins-other (begins_with 10 piece) h) no)
+            ∙ k.1.1 (piece ++ rest) (begins-following piece rest (begins-other (begins_with 10 piece) h) no)
             ∙ ap (λ es. k.0 ++ es) (piece-entries word.Line depth piece rest no blank)
             ∙ sym (append_assoc k.0 shown_full (text_entries depth rest)),
       ),

@@ -19,7 +19,7 @@ use Rattle.md_outline.specs.DefinitionState.{part_word}
 use Rattle.md_outline.specs.LinedState.{marked_word, with_head}
 use Rattle.md_outline.specs.Outlined.{begins_line, parts_by}
 use Rattle.md_outline.specs.OutlineSteps.{OutlineState, head_marked, is_titled, line_ended, parted_at, piece_shown}
-use Rattle.md_outline.specs.OutlineSteps.{title_told, told, told_at, told_leaf}
+use Rattle.md_outline.specs.OutlineSteps.{title_recorded, recorded, recorded_at, recorded_leaf}
 use Rattle.md_outline.specs.TextLines.{full_entries, text_entries}
 use Rattle.md_outline.specs.declared.outline.TextSpan.{TextSpan}
 use Rattle.md_outline.specs.declared.outline.lined.Form.TheVariants as form
@@ -27,8 +27,8 @@ use Rattle.md_outline.specs.declared.outline.lined.Lined.{Lined}
 use Rattle.md_outline.specs.declared.outline.role.Note.TheVariants as note
 use Rattle.md_outline.specs.declared.outline.role.Purpose.TheVariants as purpose
 use Rattle.md_outline.proofs.ClosedTrees.{shown}
-use Rattle.md_outline.proofs.LeavesOpen.{Known, Shows, known-next, known-told}
-use Rattle.md_outline.proofs.LinedLines.{head-told}
+use Rattle.md_outline.proofs.LeavesOpen.{Known, Shows, known-next, known-recorded}
+use Rattle.md_outline.proofs.LinedLines.{head-recorded}
 use Rattle.md_outline.proofs.SiteTexts.{NoText, TextFrom, text-ends}
 use Rattle.md_outline.proofs.TextPieces.{Pieces, begun_by, pieces-last, pieces-next}
 
@@ -148,20 +148,20 @@ all-shown bytes p s r span text k h =
     ++ block_entries s.depth (Heading 0 (trim_each (split_lines (text.front ++ slice_range bytes i p.index)))))
     (sym h.0)
 
-text-told : (bytes : List ℕ) (p : Point) (s : OutlineState) (r : Reading) (span : Option TextSpan)
+text-recorded : (bytes : List ℕ) (p : Point) (s : OutlineState) (r : Reading) (span : Option TextSpan)
     (text : Option Text) → parts_by bytes Exit (TextRole AsHeading) p span ≡ true → Titled no_heading false s r →
     TitleIs (head_lines s r) s.depth s.lines span text →
-    Unmarked (told_at bytes purpose.Title p.index span s) (spelled.told_at bytes AsHeading p text r)
-    × NoText (told_at bytes purpose.Title p.index span s) (spelled.told_at bytes AsHeading p text r)
-text-told bytes p s r (Some span) (Some text) k is h =
+    Unmarked (recorded_at bytes purpose.Title p.index span s) (spelled.recorded_at bytes AsHeading p text r)
+    × NoText (recorded_at bytes purpose.Title p.index span s) (spelled.recorded_at bytes AsHeading p text r)
+text-recorded bytes p s r (Some span) (Some text) k is h =
     let piece : List ℕ = slice_range bytes span.from p.index in
     let line : Line = record { spaces = text.spaces; text = text_to bytes p.index text } in
     subst
     (λ (l : Option Lined).
-    Unmarked (title_told (is_titled l) piece (record s { text = None }))
-    (spelled.told_at bytes AsHeading p (Some text) r)
-    × NoText (title_told (is_titled l) piece (record s { text = None }))
-    (spelled.told_at bytes AsHeading p (Some text) r))
+    Unmarked (title_recorded (is_titled l) piece (record s { text = None }))
+    (spelled.recorded_at bytes AsHeading p (Some text) r)
+    × NoText (title_recorded (is_titled l) piece (record s { text = None }))
+    (spelled.recorded_at bytes AsHeading p (Some text) r))
     (sym is.lined) (
       (
         trim_each (split_lines line.text),
@@ -169,38 +169,38 @@ text-told bytes p s r (Some span) (Some text) k is h =
       ),
       (refl, refl),
     )
-text-told bytes p s r _ _ k is h = absurd h
+text-recorded bytes p s r _ _ k is h = absurd h
 
 pub title-ends : (bytes : List ℕ) (p : Point) (s : OutlineState) (r : Reading) →
     parts_by bytes Exit (TextRole AsHeading) p s.text ≡ true → InText s r →
-    Unmarked (told_at bytes purpose.Title p.index s.text s) (spelled.told_at bytes AsHeading p r.text r)
-    × NoText (told_at bytes purpose.Title p.index s.text s) (spelled.told_at bytes AsHeading p r.text r)
-title-ends bytes p s r k h = text-told bytes p s r s.text r.text k h.0 h.1
+    Unmarked (recorded_at bytes purpose.Title p.index s.text s) (spelled.recorded_at bytes AsHeading p r.text r)
+    × NoText (recorded_at bytes purpose.Title p.index s.text s) (spelled.recorded_at bytes AsHeading p r.text r)
+title-ends bytes p s r k h = text-recorded bytes p s r s.text r.text k h.0 h.1
 
 -- After its text its underline shows its depth.
-marks-told : (text : List (List ℕ)) (line : Line) (s : OutlineState) (r : Reading) →
+marks-recorded : (text : List (List ℕ)) (line : Line) (s : OutlineState) (r : Reading) →
     Headed 0 (some_lines text) false s r →
-    IsMarked (told purpose.Markers false line.text (record s { text = None }))
-    (spelled.told AsMarkers line (record r { text = None }))
-    × NoText (told purpose.Markers false line.text (record s { text = None }))
-    (spelled.told AsMarkers line (record r { text = None }))
-marks-told text line s r h =
+    IsMarked (recorded purpose.Markers false line.text (record s { text = None }))
+    (spelled.recorded AsMarkers line (record r { text = None }))
+    × NoText (recorded purpose.Markers false line.text (record s { text = None }))
+    (spelled.recorded AsMarkers line (record r { text = None }))
+marks-recorded text line s r h =
     let before : List Entry = shown r.outer r.here in
     let b : ℕ = first_byte line.text in
     subst
     (λ (l : Option Lined).
-    IsMarked (head_marked l line.text (told_leaf note.Markers line.text (record s { text = None })))
-    (spelled.told AsMarkers line (record r { text = None }))
-    × NoText (head_marked l line.text (told_leaf note.Markers line.text (record s { text = None })))
-    (spelled.told AsMarkers line (record r { text = None })))
+    IsMarked (head_marked l line.text (recorded_leaf note.Markers line.text (record s { text = None })))
+    (spelled.recorded AsMarkers line (record r { text = None }))
+    × NoText (head_marked l line.text (recorded_leaf note.Markers line.text (record s { text = None })))
+    (spelled.recorded AsMarkers line (record r { text = None })))
     (sym h.0.lined) (
       (
         record { markers = line.text; text = text },
         (
-          known-told (spelled.noted AsMarkers line) h.0 refl
+          known-recorded (spelled.noted AsMarkers line) h.0 refl
               (ap (option_map (spelled.noted AsMarkers (record { spaces = 0; text = line.text }))) h.0.leaf) refl,
           ap (with_head (marked_word b) (length before)) h.1
-              ∙ head-told (marked_word b) before (entries (s.depth + 1) word.Line text)
+              ∙ head-recorded (marked_word b) before (entries (s.depth + 1) word.Line text)
               (entry s.depth (word.Heading 0)),
         ),
       ),
@@ -209,8 +209,8 @@ marks-told text line s r h =
 
 pub underline-ends : (bytes : List ℕ) (q p : Point) (s : OutlineState) (r : Reading) → Unmarked s r →
     TextFrom q s r →
-    IsMarked (told_at bytes purpose.Markers p.index s.text s) (spelled.told_at bytes AsMarkers p r.text r)
-    × NoText (told_at bytes purpose.Markers p.index s.text s) (spelled.told_at bytes AsMarkers p r.text r)
+    IsMarked (recorded_at bytes purpose.Markers p.index s.text s) (spelled.recorded_at bytes AsMarkers p r.text r)
+    × NoText (recorded_at bytes purpose.Markers p.index s.text s) (spelled.recorded_at bytes AsMarkers p r.text r)
 underline-ends bytes q p s r h from =
     text-ends (λ s r. IsMarked s r × NoText s r) bytes q p AsMarkers purpose.Markers s r from
-    (marks-told h.0 (record { spaces = columns_left q; text = slice_range bytes (byte_at q) p.index }) s r h.1)
+    (marks-recorded h.0 (record { spaces = columns_left q; text = slice_range bytes (byte_at q) p.index }) s r h.1)

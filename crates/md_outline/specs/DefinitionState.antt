@@ -11,8 +11,8 @@ use Rattle.md_outline.specs.declared.outline.lined.Lined.{Lined}
 
 -- the word that shows the lines of the part that is read, if a definition is open: its label, and after that its title
 abbrev pub part_of : Form → Bool → Option Word
-part_of form.Definition is_told = Some (if is_told then word.Title else word.Label)
-part_of _ is_told = None
+part_of form.Definition is_recorded = Some (if is_recorded then word.Title else word.Label)
+part_of _ is_recorded = None
 
 abbrev pub part_word : Option Lined → Option Word
 part_word None = None
@@ -29,5 +29,5 @@ part_parted w true depth text lines = lines ++ full_as w depth text
 part_parted w false depth text lines = without_end lines ++ first_full_as w depth text
 
 -- the text of its destination
-abbrev pub destination_told : ℕ → List ℕ → List Entry → List Entry
-destination_told depth text lines = without_end lines ++ entry_with depth word.Destination text ∷ []
+abbrev pub destination_recorded : ℕ → List ℕ → List Entry → List Entry
+destination_recorded depth text lines = without_end lines ++ entry_with depth word.Destination text ∷ []

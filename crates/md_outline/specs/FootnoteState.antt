@@ -11,5 +11,5 @@ container_lines depth word.Footnote = entry depth word.Footnote ∷ entry (depth
 container_lines depth w = entry depth w ∷ []
 
 -- the text of the label, which is the last line that is shown
-abbrev pub label_told : ℕ → List ℕ → List Entry → List Entry
-label_told depth text lines = without_end lines ++ entry_with depth word.Label text ∷ []
+abbrev pub label_recorded : ℕ → List ℕ → List Entry → List Entry
+label_recorded depth text lines = without_end lines ++ entry_with depth word.Label text ∷ []

@@ -4,7 +4,7 @@ use Rattle.std.specs.Borrow.{Bor}
 use Rattle.md_meaning.specs.declared.outline.Word.TheVariants as word
 use Rattle.md_meaning.specs.Outline.{Entry, entries, entry}
 use Rattle.md_meaning.specs.Texts.{split_lines, trim_each}
-use Rattle.md_events.specs.Events.Spelled.{HeadingSoFar, first_told}
+use Rattle.md_events.specs.Events.Spelled.{HeadingSoFar, first_recorded}
 use Rattle.md_outline.specs.HeadingDepths.{byte_depth}
 use Rattle.md_outline.specs.declared.outline.heading.Heading.{Heading}
 
@@ -22,7 +22,7 @@ heading_of heading = record { markers = marker_run heading.markers; text = title
 
 -- a heading with these markers, if it has none yet
 abbrev pub with_markers : List ℕ → HeadingSoFar → HeadingSoFar
-with_markers run heading = record heading { markers = first_told heading.markers run }
+with_markers run heading = record heading { markers = first_recorded heading.markers run }
 
 -- its lines
 abbrev pub heading_entries : ℕ → HeadingSoFar → List Entry

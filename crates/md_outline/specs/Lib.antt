@@ -5,7 +5,7 @@ pub mod FootnoteState
 pub mod HeadingDepths
 pub mod HeadingState
 pub mod LinedState
-pub mod LinesStand
+pub mod LinesAllowed
 pub mod ListsBegin
 pub mod Outlined
 pub mod CountOpen

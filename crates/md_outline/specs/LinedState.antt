@@ -47,8 +47,8 @@ abbrev pub begin_lines : ℕ → Word → List Entry
 begin_lines depth w = entry depth w ∷ first_lines (depth + 1) w
 
 -- it has said its label, or its delimiter row
-abbrev pub now_told : Option Lined → Option Lined
-now_told lined = option_map (λ (l : Lined). record l { is_fenced = true }) lined
+abbrev pub now_recorded : Option Lined → Option Lined
+now_recorded lined = option_map (λ (l : Lined). record l { is_fenced = true }) lined
 
 -- its first fence, or its underline, has this marker
 abbrev pub marked_word : ℕ → Word → Word

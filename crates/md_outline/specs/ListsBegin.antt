@@ -2,8 +2,8 @@
 -- whose label it can: each begins with that, before its blocks.
 --
 -- A walk over the events by their roles, which knows what a list or a footnote definition that has begun still has to
--- show. It asks no more of a footnote definition than the walk over items does (`InLabel` of `ItemsStand`), so it holds
--- where that does (`listed-outlined`).
+-- show. It asks no more of a footnote definition than the walk over items does (`InLabel` of `ItemsAllowed`), so it
+-- holds where that does (`listed-outlined`).
 use Rattle.std.specs.Prelude.{◌≡◌, ℕ, Bool, true, false, List, [], ◌∷◌, slice_range}
 use Rattle.md_engine.specs.declared.event.Event.{Event}
 use Rattle.md_engine.specs.declared.event.Kind.{Kind}
@@ -24,7 +24,7 @@ marks _ b = false
 -- What is to come of a list or a footnote definition that has begun.
 pub data Stage : Type 0 where
   -- nothing: each list has said its marker, and each footnote definition its label
-  AllTold : Stage
+  AllRecorded : Stage
   -- its first item
   AtItem : Shape → Stage
   -- the marker of that, which has begun
@@ -37,8 +37,8 @@ pub data Stage : Type 0 where
 -- what may be there: an item whose marker is not said yet, what is before a marker, and one of such a list; and before
 -- the label of a footnote definition and in it no block begins or ends
 abbrev pub MayFollow : List ℕ → Stage → Kind → Role → Point → Type 0
-MayFollow bytes AllTold kind (TextRole AsFootnoteLabel) p = ⊥
-MayFollow bytes AllTold kind x p = Unit {0}
+MayFollow bytes AllRecorded kind (TextRole AsFootnoteLabel) p = ⊥
+MayFollow bytes AllRecorded kind x p = Unit {0}
 MayFollow bytes (AtItem shape) Enter (ContainerRole (ItemShape marker digits)) p = marker ≡ 0
 MayFollow bytes (AtItem shape) _ _ p = ⊥
 MayFollow bytes (AtMarker shape) kind IsQuiet p = Unit {0}
@@ -57,15 +57,15 @@ MayFollow bytes AtLabel _ _ p = ⊥
 
 -- what is to come after an event
 abbrev pub stage_by : Stage → Kind → Role → Point → Stage
-stage_by AllTold Enter (ContainerRole OrderedShape) p = AtItem OrderedShape
-stage_by AllTold Enter (ContainerRole UnorderedShape) p = AtItem UnorderedShape
-stage_by AllTold Enter (ContainerRole (FootnoteShape label)) p = AtLabel
-stage_by AllTold _ _ p = AllTold
+stage_by AllRecorded Enter (ContainerRole OrderedShape) p = AtItem OrderedShape
+stage_by AllRecorded Enter (ContainerRole UnorderedShape) p = AtItem UnorderedShape
+stage_by AllRecorded Enter (ContainerRole (FootnoteShape label)) p = AtLabel
+stage_by AllRecorded _ _ p = AllRecorded
 stage_by (AtItem shape) kind x p = AtMarker shape
 stage_by (AtMarker shape) Enter (TextRole AsItemMarker) p = InMarker shape p
 stage_by (AtMarker shape) _ _ p = AtMarker shape
-stage_by (InMarker shape q) kind x p = AllTold
-stage_by AtLabel Exit (TextRole AsFootnoteLabel) p = AllTold
+stage_by (InMarker shape q) kind x p = AllRecorded
+stage_by AtLabel Exit (TextRole AsFootnoteLabel) p = AllRecorded
 stage_by AtLabel kind x p = AtLabel
 
 -- whether lists and footnote definitions begin so from a stage on

@@ -14,13 +14,13 @@ use Rattle.md_events.specs.Events.Spelled.{OpenLeaf, kind_at}
 use Rattle.md_events.specs.Events.Spelled as spelled
 use Rattle.md_outline.specs.AlertState.{kind_given}
 use Rattle.md_outline.specs.Between.{is_between}
-use Rattle.md_outline.specs.DefinitionState.{destination_told, part_ended, part_parted, part_word}
-use Rattle.md_outline.specs.FootnoteState.{container_lines, label_told}
+use Rattle.md_outline.specs.DefinitionState.{destination_recorded, part_ended, part_parted, part_word}
+use Rattle.md_outline.specs.FootnoteState.{container_lines, label_recorded}
 use Rattle.md_outline.specs.LinedState.{begin_lines, closed_word, filled_line, form_of, has_own_lines, is_heading}
-use Rattle.md_outline.specs.LinedState.{marked_word, now_told, shown_spaces, with_head, without_end}
+use Rattle.md_outline.specs.LinedState.{marked_word, now_recorded, shown_spaces, with_head, without_end}
 use Rattle.md_outline.specs.ParagraphState.{begin_entries}
 use Rattle.md_outline.specs.Roles.{leaf_entries, leaf_of, noted, shown_as}
-use Rattle.md_outline.specs.TableState.{cell_told, counted_word, with_cell, with_delimiter, with_row}
+use Rattle.md_outline.specs.TableState.{cell_recorded, counted_word, with_cell, with_delimiter, with_row}
 use Rattle.md_outline.specs.TextLines.{full_entries, text_entries}
 use Rattle.md_outline.specs.declared.outline.Reading.{Reading}
 use Rattle.md_outline.specs.declared.outline.TextSpan.{TextSpan}
@@ -66,8 +66,8 @@ leaf_ended None s = s
 leaf_ended (Some leaf) s = record s { leaf = None; lines = s.lines ++ leaf_entries s.depth leaf }
 
 -- an open leaf is said of a text
-abbrev pub told_leaf : Note → List ℕ → OutlineState → OutlineState
-told_leaf x text s = record s { leaf = option_map (noted x text) s.leaf }
+abbrev pub recorded_leaf : Note → List ℕ → OutlineState → OutlineState
+recorded_leaf x text s = record s { leaf = option_map (noted x text) s.leaf }
 
 -- the line of a list with its marker
 abbrev pub with_marker : ℕ → List ℕ → List Entry → List Entry
@@ -79,8 +79,8 @@ abbrev pub marked_at : Option ℕ → List ℕ → OutlineState → OutlineState
 marked_at None text s = s
 marked_at (Some place) text s = record s { untold = None; lines = with_marker place text s.lines }
 
-abbrev pub told_marker : List ℕ → OutlineState → OutlineState
-told_marker text s = marked_at s.untold text s
+abbrev pub recorded_marker : List ℕ → OutlineState → OutlineState
+recorded_marker text s = marked_at s.untold text s
 
 -- a heading is open whose lines are shown as they come
 abbrev pub is_titled : Option Lined → Bool
@@ -88,9 +88,9 @@ is_titled None = false
 is_titled (Some lined) = is_heading lined.form
 
 -- the text of a heading ends: its last lines are shown, or all of it is said
-abbrev pub title_told : Bool → List ℕ → OutlineState → OutlineState
-title_told true text s = record s { lines = s.lines ++ text_entries (s.depth + 1) text }
-title_told false text s = told_leaf note.Title text s
+abbrev pub title_recorded : Bool → List ℕ → OutlineState → OutlineState
+title_recorded true text s = record s { lines = s.lines ++ text_entries (s.depth + 1) text }
+title_recorded false text s = recorded_leaf note.Title text s
 
 -- a leaf block of several lines is said the markers of its first fence, or of its underline
 abbrev pub head_marked : Option Lined → List ℕ → OutlineState → OutlineState
@@ -118,7 +118,7 @@ line_ended bytes end (Some lined) None s =
 -- the label of a definition ends: its last lines are shown, and its destination, which is empty yet
 abbrev pub label_ended : Bool → List ℕ → OutlineState → OutlineState
 label_ended is_parted text s = record s {
-  lined = now_told s.lined;
+  lined = now_recorded s.lined;
   lines =
       part_ended word.Label is_parted (s.depth + 1) text s.lines ++ entry (s.depth + 1) word.Destination ∷ [];
 }
@@ -138,31 +138,31 @@ cell_begun s = with_empty (counted_at s.lined s)
 
 -- the delimiter row of a table ends
 abbrev pub delimiter_ended : List ℕ → OutlineState → OutlineState
-delimiter_ended text s = record s { lined = now_told s.lined; lines = with_delimiter s.depth text s.lines }
+delimiter_ended text s = record s { lined = now_recorded s.lined; lines = with_delimiter s.depth text s.lines }
 
 -- a text has ended, with this piece
-abbrev pub told : Purpose → Bool → List ℕ → OutlineState → OutlineState
-told purpose.Block is_shown text s =
+abbrev pub recorded : Purpose → Bool → List ℕ → OutlineState → OutlineState
+recorded purpose.Block is_shown text s =
     record s { lines = s.lines ++ begin_entries s.depth is_shown ++ text_entries (s.depth + 1) text }
-told purpose.Title is_shown text s = title_told (is_titled s.lined) text s
-told purpose.Markers is_shown text s = head_marked s.lined text (told_leaf note.Markers text s)
-told (purpose.Part w) is_shown text s = record s { lines = s.lines ++ entry_with (s.depth + 1) w text ∷ [] }
-told purpose.Line is_shown text s =
+recorded purpose.Title is_shown text s = title_recorded (is_titled s.lined) text s
+recorded purpose.Markers is_shown text s = head_marked s.lined text (recorded_leaf note.Markers text s)
+recorded (purpose.Part w) is_shown text s = record s { lines = s.lines ++ entry_with (s.depth + 1) w text ∷ [] }
+recorded purpose.Line is_shown text s =
     record s { lines = without_end s.lines ++ filled_line (s.depth + 1) (shown_spaces s.lined s.spaces) text ∷ [] }
-told purpose.Label is_shown text s = label_ended is_shown text s
-told purpose.Destination is_shown text s = record s { lines = destination_told (s.depth + 1) text s.lines }
-told purpose.DefinitionTitle is_shown text s =
+recorded purpose.Label is_shown text s = label_ended is_shown text s
+recorded purpose.Destination is_shown text s = record s { lines = destination_recorded (s.depth + 1) text s.lines }
+recorded purpose.DefinitionTitle is_shown text s =
     record s { lines = part_ended word.Title is_shown (s.depth + 1) text s.lines }
-told purpose.Cell is_shown text s = record s { lines = cell_told s.depth text s.lines }
-told purpose.Delimiter is_shown text s = delimiter_ended text s
-told purpose.Marker is_shown text s = told_marker text s
-told purpose.Digits is_shown text s = s
-told purpose.FootnoteLabel is_shown text s = record s { lines = label_told s.depth text s.lines }
+recorded purpose.Cell is_shown text s = record s { lines = cell_recorded s.depth text s.lines }
+recorded purpose.Delimiter is_shown text s = delimiter_ended text s
+recorded purpose.Marker is_shown text s = recorded_marker text s
+recorded purpose.Digits is_shown text s = s
+recorded purpose.FootnoteLabel is_shown text s = record s { lines = label_recorded s.depth text s.lines }
 
-abbrev pub told_at : List ℕ → Purpose → ℕ → Option TextSpan → OutlineState → OutlineState
-told_at bytes purpose end None s = s
-told_at bytes purpose end (Some text) s =
-    told purpose text.is_parted (slice_range bytes text.from end) (record s { text = None })
+abbrev pub recorded_at : List ℕ → Purpose → ℕ → Option TextSpan → OutlineState → OutlineState
+recorded_at bytes purpose end None s = s
+recorded_at bytes purpose end (Some text) s =
+    recorded purpose text.is_parted (slice_range bytes text.from end) (record s { text = None })
 
 -- what is before a prefix is shown: in a part of a definition that this word shows, or in another text
 abbrev pub piece_shown : Option Word → Bool → Bool → ℕ → List ℕ → List Entry → List Entry
@@ -237,7 +237,7 @@ state_exit bytes role.Title p s = s
 state_exit bytes role.Row p s = s
 state_exit bytes role.Cell p s = s
 state_exit bytes role.Ending p s = line_ended bytes p.index s.lined s.text s
-state_exit bytes (role.Text purpose) p s = told_at bytes purpose p.index s.text s
+state_exit bytes (role.Text purpose) p s = recorded_at bytes purpose p.index s.text s
 state_exit bytes role.QuoteMarker p s = s
 state_exit bytes role.Quiet p s = s
 

@@ -13,14 +13,14 @@ use Rattle.md_events.specs.Events.Nested.{Balanced}
 use Rattle.md_meaning.specs.Outline.{entries_of, outline}
 use Rattle.md_events.specs.Events.Places.{last_line}
 use Rattle.md_meaning.specs.Rest.{is_blank}
-use Rattle.md_events.specs.Events.Spelled.{IsEnding, IsPrefix, IsQuiet, IsQuoteMarker, LeafRole, Role, TextRole, byte_at}
-use Rattle.md_events.specs.Events.Spelled.{role, spelled}
+use Rattle.md_events.specs.Events.Spelled.{IsEnding, IsPrefix, IsQuiet, IsQuoteMarker, LeafRole, Role, TextRole}
+use Rattle.md_events.specs.Events.Spelled.{byte_at, role, spelled}
 use Rattle.md_meaning.specs.Texts.{split_lines}
 use Rattle.md_outline.specs.Between.{is_between}
 use Rattle.md_outline.specs.HeadingDepths.{are_shallow}
-use Rattle.md_outline.specs.ListsBegin.{AllTold, ListsBegin}
-use Rattle.md_outline.specs.LinesStand.{LinesStand, Outside}
-use Rattle.md_outline.specs.Roles.{has_lines, is_seen, is_shown, is_told, is_unlisted, may_part, shown_as}
+use Rattle.md_outline.specs.ListsBegin.{AllRecorded, ListsBegin}
+use Rattle.md_outline.specs.LinesAllowed.{LinesAllowed, Outside}
+use Rattle.md_outline.specs.Roles.{has_lines, is_seen, is_shown, is_recorded, is_unlisted, may_part, shown_as}
 use Rattle.md_outline.specs.declared.outline.TextSpan.{TextSpan}
 
 -- whether an event is of such a block, or of what the tree does not show
@@ -33,12 +33,12 @@ has_unlisted_name e = is_unlisted (role e.name)
 
 -- Whether an event is between characters if the tree reads where (`is_seen`). The others may be anywhere: an inline
 -- layer may cut a text as it likes.
-abbrev pub stands_between : List ℕ → Event → Bool
-stands_between bytes e = not (is_seen (shown_as (role e.name))) || is_between bytes e.point.index
+abbrev pub is_between_characters : List ℕ → Event → Bool
+is_between_characters bytes e = not (is_seen (shown_as (role e.name))) || is_between bytes e.point.index
 
 -- whether a text begins between characters here, after a tab that is cut
-abbrev pub tells_between : List ℕ → Event → Bool
-tells_between bytes e = not (is_told (role e.name)) || is_between bytes (byte_at e.point)
+abbrev pub text_begins_between : List ℕ → Event → Bool
+text_begins_between bytes e = not (is_recorded (role e.name)) || is_between bytes (byte_at e.point)
 
 -- Container prefixes in a text: they part it into pieces, which an outline shows one by one. So each line of the text
 -- has to lie in one piece.
@@ -114,11 +114,11 @@ pub record IsUnlisted (events : List Event) (bytes : List ℕ) : Type 0 where
   pub names : list_all has_unlisted_name events ≡ true
   pub text : IsUtf8 bytes
   pub between : list_all (λ (e : Event). is_between bytes e.point.index) events ≡ true
-  pub texts : list_all (tells_between bytes) events ≡ true
+  pub texts : list_all (text_begins_between bytes) events ≡ true
   -- each container prefix in a text is where a line begins
   pub parted : are_parted bytes None events ≡ true
   -- each leaf block of several lines has its parts in the order of the grammar
-  pub lines : LinesStand bytes Outside events
+  pub lines : LinesAllowed bytes Outside events
 
 -- events of all such roles, whatever an inline layer has made of the text parts
 pub record IsOutlined (events : List Event) (bytes : List ℕ) : Type 0 where
@@ -126,14 +126,14 @@ pub record IsOutlined (events : List Event) (bytes : List ℕ) : Type 0 where
   pub balanced : Balanced events
   pub names : list_all has_shown_name events ≡ true
   pub text : IsUtf8 bytes
-  pub between : list_all (stands_between bytes) events ≡ true
-  pub texts : list_all (tells_between bytes) events ≡ true
+  pub between : list_all (is_between_characters bytes) events ≡ true
+  pub texts : list_all (text_begins_between bytes) events ≡ true
   -- each container prefix in a text is where a line begins
   pub parted : are_parted bytes None events ≡ true
   -- each list begins with an item that begins with its marker
-  pub lists : ListsBegin bytes AllTold events
+  pub lists : ListsBegin bytes AllRecorded events
   -- each leaf block of several lines has its parts in the order of the grammar
-  pub lines : LinesStand bytes Outside events
+  pub lines : LinesAllowed bytes Outside events
   pub depths : are_shallow (spelled events bytes) ≡ true
 
 -- the lines are those of the tree that the events spell out

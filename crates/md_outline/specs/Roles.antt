@@ -11,25 +11,25 @@
 -- - A leaf block: the same, and what is known of it: `leaf_of` and `is_known` here, `Leaf` with `noted` and `push_leaf`
 --   in code.
 -- - A leaf block of several lines (`has_lines`): `is_unlisted` and `shown_as` here, `role_of` in code; its lines are
---   shown as they come (`LinedState`), where they may (`LinesStand`), and `LinedLemmas` has what is proved of it. A
+--   shown as they come (`LinedState`), where they may (`LinesAllowed`), and `LinedLemmas` has what is proved of it. A
 --   setext heading is one, whose lines are those of its text, shown as those of a paragraph (`TitledLemmas`), and so is
 --   a definition, whose lines are those of its label, its destination and its title (`DefinedLemmas`), and a table,
 --   whose lines are those of its rows and their cells (`TableSpots`, `TableState`, `TabledLemmas`). Frontmatter is one
 --   whose lines are shown without virtual spaces.
--- - A text that shows a leaf block something: the same, and `told_as` here, `Note` in code.
+-- - A text that shows a leaf block something: the same, and `recorded_as` here, `Note` in code.
 use Rattle.std.specs.Prelude.{ℕ, Bool, true, false, List, None}
 use Rattle.md_meaning.specs.declared.outline.Word.TheVariants as word
 use Rattle.md_meaning.specs.Outline.{Entry, block_entries, quote_word}
 use Rattle.md_events.specs.Events.Spelled.{AsCell, AsDelimiter, AsDestination, AsDigits, AsFootnoteLabel, AsHeading}
-use Rattle.md_events.specs.Events.Spelled.{AsInfo, AsItemMarker, AsLabel, AsLine, AsMarkers, AsMeta, AsParagraph, AsTitle}
-use Rattle.md_events.specs.Events.Spelled.{BreakLeaf, FootnoteShape, HeadingAtxLeaf, ContainerRole, IsCell, IsEnding}
-use Rattle.md_events.specs.Events.Spelled.{IsFence, IsPrefix, IsQuiet, IsQuoteMarker, IsRow, IsTitle, ItemShape, LeafKind}
-use Rattle.md_events.specs.Events.Spelled.{OfBreak, OfCode, OfDefinition, OfFence, OfFrontmatter, OfHeadingAtx}
-use Rattle.md_events.specs.Events.Spelled.{OfHeadingSetext, OfHtml, OfMath, OfTable, OpenLeaf, LeafRole, OrderedShape}
-use Rattle.md_events.specs.Events.Spelled.{QuoteShape, TextRole, UnorderedShape, block_of}
+use Rattle.md_events.specs.Events.Spelled.{AsInfo, AsItemMarker, AsLabel, AsLine, AsMarkers, AsMeta, AsParagraph}
+use Rattle.md_events.specs.Events.Spelled.{AsTitle, BreakLeaf, FootnoteShape, HeadingAtxLeaf, ContainerRole, IsCell}
+use Rattle.md_events.specs.Events.Spelled.{IsEnding, IsFence, IsPrefix, IsQuiet, IsQuoteMarker, IsRow, IsTitle}
+use Rattle.md_events.specs.Events.Spelled.{ItemShape, LeafKind, OfBreak, OfCode, OfDefinition, OfFence, OfFrontmatter}
+use Rattle.md_events.specs.Events.Spelled.{OfHeadingAtx, OfHeadingSetext, OfHtml, OfMath, OfTable, OpenLeaf, LeafRole}
+use Rattle.md_events.specs.Events.Spelled.{OrderedShape, QuoteShape, TextRole, UnorderedShape, block_of}
 use Rattle.md_events.specs.Events.Spelled as spelled
-use Rattle.md_events.specs.Events.Told.{OfItself, told_of}
-pub use Rattle.md_events.specs.Events.Told.{is_told}
+use Rattle.md_events.specs.Events.Recorded.{OfItself, recorded_in}
+pub use Rattle.md_events.specs.Events.Recorded.{is_recorded}
 use Rattle.md_outline.specs.HeadingDepths.{fitted}
 use Rattle.md_outline.specs.HeadingState.{heading_of}
 use Rattle.md_outline.specs.declared.outline.role.Leaf.{Leaf}
@@ -111,7 +111,7 @@ is_shown x = is_unlisted x
 
 -- the texts that are blocks of their own
 abbrev pub is_block : spelled.Purpose → Bool
-is_block purpose = elim (told_of purpose) [ OfItself ↦ true | _ ↦ false ]
+is_block purpose = elim (recorded_in purpose) [ OfItself ↦ true | _ ↦ false ]
 
 -- the texts that prefixes may part: these, those of headings, and the labels and titles of definitions
 abbrev pub may_part : spelled.Purpose → Bool
@@ -180,12 +180,12 @@ is_known (HeadingAtxLeaf heading) = true
 is_known _ = false
 
 -- what a text shows a leaf block, as the tree reads it
-abbrev pub told_as : Note → spelled.Purpose
-told_as note.Markers = AsMarkers
-told_as note.Title = AsHeading
+abbrev pub recorded_as : Note → spelled.Purpose
+recorded_as note.Markers = AsMarkers
+recorded_as note.Title = AsHeading
 
 abbrev pub noted : Note → List ℕ → OpenLeaf → OpenLeaf
-noted x text leaf = spelled.noted (told_as x) (record { spaces = 0; text = text }) leaf
+noted x text leaf = spelled.noted (recorded_as x) (record { spaces = 0; text = text }) leaf
 
 -- the lines of a leaf block that ends here
 abbrev pub leaf_entries : ℕ → OpenLeaf → List Entry

@@ -23,16 +23,16 @@ pub data TablePlace : Type 0 where
   -- in a cell of it: before its text, in that, and after it
   AtCell : Row → TablePlace
   InCell : Row → TablePlace
-  BehindCell : Row → TablePlace
+  AfterCell : Row → TablePlace
   -- after the head row, before the delimiter row, and in that
-  BehindHead : TablePlace
+  AfterHead : TablePlace
   InDelimiter : TablePlace
   -- after the delimiter row, or after a further row
-  BehindRow : TablePlace
+  AfterRow : TablePlace
 
-abbrev pub behind_row : Row → TablePlace
-behind_row HeadRow = BehindHead
-behind_row BodyRow = BehindRow
+abbrev pub after_row : Row → TablePlace
+after_row HeadRow = AfterHead
+after_row BodyRow = AfterRow
 
 -- where one is after an event, if still in the table
 abbrev pub spot_by : TablePlace → Kind → Role → Option TablePlace
@@ -40,15 +40,15 @@ spot_by spot kind IsQuiet = Some spot
 spot_by spot kind IsQuoteMarker = Some spot
 spot_by AtHead Enter IsRow = Some (InRow HeadRow)
 spot_by (InRow row) Enter IsCell = Some (AtCell row)
-spot_by (InRow row) Exit IsRow = Some (behind_row row)
+spot_by (InRow row) Exit IsRow = Some (after_row row)
 spot_by (AtCell row) Enter (TextRole x) = Some (InCell row)
 spot_by (AtCell row) Exit IsCell = Some (InRow row)
-spot_by (InCell row) Exit (TextRole x) = Some (BehindCell row)
-spot_by (BehindCell row) Exit IsCell = Some (InRow row)
-spot_by BehindHead Enter (TextRole x) = Some InDelimiter
-spot_by InDelimiter Exit (TextRole x) = Some BehindRow
-spot_by BehindRow Enter IsRow = Some (InRow BodyRow)
-spot_by BehindRow Exit (LeafRole x) = None
+spot_by (InCell row) Exit (TextRole x) = Some (AfterCell row)
+spot_by (AfterCell row) Exit IsCell = Some (InRow row)
+spot_by AfterHead Enter (TextRole x) = Some InDelimiter
+spot_by InDelimiter Exit (TextRole x) = Some AfterRow
+spot_by AfterRow Enter IsRow = Some (InRow BodyRow)
+spot_by AfterRow Exit (LeafRole x) = None
 spot_by spot kind x = Some spot
 
 -- what may be there; no container begins or ends in a table
@@ -63,13 +63,13 @@ MayBe (AtCell row) Enter (TextRole AsCell) = Unit {0}
 MayBe (AtCell row) Exit IsCell = Unit {0}
 MayBe (InCell row) kind IsEnding = Unit {0}
 MayBe (InCell row) Exit (TextRole AsCell) = Unit {0}
-MayBe (BehindCell row) Exit IsCell = Unit {0}
-MayBe BehindHead kind IsPrefix = Unit {0}
-MayBe BehindHead kind IsEnding = Unit {0}
-MayBe BehindHead Enter (TextRole AsDelimiter) = Unit {0}
+MayBe (AfterCell row) Exit IsCell = Unit {0}
+MayBe AfterHead kind IsPrefix = Unit {0}
+MayBe AfterHead kind IsEnding = Unit {0}
+MayBe AfterHead Enter (TextRole AsDelimiter) = Unit {0}
 MayBe InDelimiter Exit (TextRole AsDelimiter) = Unit {0}
-MayBe BehindRow kind IsPrefix = Unit {0}
-MayBe BehindRow kind IsEnding = Unit {0}
-MayBe BehindRow Enter IsRow = Unit {0}
-MayBe BehindRow Exit (LeafRole OfTable) = Unit {0}
+MayBe AfterRow kind IsPrefix = Unit {0}
+MayBe AfterRow kind IsEnding = Unit {0}
+MayBe AfterRow Enter IsRow = Unit {0}
+MayBe AfterRow Exit (LeafRole OfTable) = Unit {0}
 MayBe spot kind x = ⊥

@@ -21,8 +21,8 @@ abbrev pub with_cell : ℕ → List Entry → List Entry
 with_cell depth lines = lines ++ entry ((depth + 1) + 1) word.Cell ∷ []
 
 -- the text of that
-abbrev pub cell_told : ℕ → List ℕ → List Entry → List Entry
-cell_told depth text lines = without_end lines ++ entry_with ((depth + 1) + 1) word.Cell text ∷ []
+abbrev pub cell_recorded : ℕ → List ℕ → List Entry → List Entry
+cell_recorded depth text lines = without_end lines ++ entry_with ((depth + 1) + 1) word.Cell text ∷ []
 
 -- the delimiter row: its line without outer whitespace
 abbrev pub with_delimiter : ℕ → List ℕ → List Entry → List Entry

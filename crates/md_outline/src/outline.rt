@@ -7,11 +7,11 @@ ghost use Rattle.md_outline.specs.Outlined.{Outlines};
 ghost use Rattle.md_outline.specs.DefinitionState.{part_word};
 ghost use Rattle.md_outline.specs.LinedState.{shown_spaces};
 ghost use Rattle.md_outline.specs.OutlinePart.{OutlinesPart};
-ghost use Rattle.md_outline.specs.OutlineSteps.{IsCutAt, IsCutBy, cell_begun, counted_at, delimiter_ended};
-ghost use Rattle.md_outline.specs.OutlineSteps.{fence_begun};
+ghost use Rattle.md_outline.specs.OutlineSteps.{IsCutAt, IsCutBy, cell_begun, counted_at, delimiter_ended, fence_begun};
 ghost use Rattle.md_outline.specs.OutlineSteps.{head_marked, is_titled, label_ended, leaf_ended, marker_begun};
 ghost use Rattle.md_outline.specs.OutlineSteps.{line_ended, parted_at, state_by, state_enter, state_exit, state_of};
-ghost use Rattle.md_outline.specs.OutlineSteps.{text_begun, title_told, told_at, told_leaf, told_marker};
+ghost use Rattle.md_outline.specs.OutlineSteps.{text_begun, title_recorded, recorded_at, recorded_leaf};
+ghost use Rattle.md_outline.specs.OutlineSteps.{recorded_marker};
 ghost use Rattle.md_outline.specs.Roles.{shown_as};
 ghost use Rattle.md_outline.specs.declared.outline.TextSpan.{TextSpan};
 ghost use Rattle.md_outline.specs.declared.outline.role.Note.TheVariants as note;
@@ -88,7 +88,7 @@ impl<'a> Reading<'a> {
     /// Tells an open leaf of a text.
     fn note(&mut self, note: Note, text: &'a [u8])
         ensures bytes { self.new.bytes ≡ self.old.bytes }
-        ensures read { IsUtf8 text.now → state_of self.new ≡ told_leaf note text.now (state_of self.old) }
+        ensures read { IsUtf8 text.now → state_of self.new ≡ recorded_leaf note text.now (state_of self.old) }
     {
         if let Some(leaf) = self.leaf {
             self.leaf = Some(leaf.noted(note, text));
@@ -98,7 +98,7 @@ impl<'a> Reading<'a> {
     /// Tells a list that has begun the marker of its first item.
     fn mark(&mut self, text: &[u8])
         ensures bytes { self.new.bytes ≡ self.old.bytes }
-        ensures read { state_of self.new ≡ told_marker text.now (state_of self.old) }
+        ensures read { state_of self.new ≡ recorded_marker text.now (state_of self.old) }
     {
         let Some(place) = self.untold else {
             return;
@@ -150,7 +150,7 @@ impl<'a> Reading<'a> {
     fn title(&mut self, text: &'a [u8]) -> Result<(), Message>
         ensures bytes { self.new.bytes ≡ self.old.bytes }
         ensures read { OnOk result (IsUtf8 text.now →
-            state_of self.new ≡ title_told (is_titled (state_of self.old).lined) text.now (state_of self.old)) }
+            state_of self.new ≡ title_recorded (is_titled (state_of self.old).lined) text.now (state_of self.old)) }
     {
         if self.is_titled() {
             push_lines(&mut self.lines, next(self.depth)?, Word::Line, text)
@@ -165,7 +165,7 @@ impl<'a> Reading<'a> {
     fn end_markers(&mut self, text: &'a [u8]) -> Result<(), Message>
         ensures bytes { self.new.bytes ≡ self.old.bytes }
         ensures read { OnOk result (IsUtf8 text.now → state_of self.new ≡
-            head_marked (state_of self.old).lined text.now (told_leaf note.Markers text.now (state_of self.old))) }
+            head_marked (state_of self.old).lined text.now (recorded_leaf note.Markers text.now (state_of self.old))) }
     {
         self.note(Note::Markers, text);
         self.mark_lined(text);
@@ -301,7 +301,7 @@ impl<'a> Reading<'a> {
         ensures bytes { self.new.bytes ≡ self.old.bytes }
         ensures read { OnOk result ((purpose : Purpose) → shown_as (spelled.role name) ≡ role.Text purpose →
             IsCutAt self.old.bytes.now self.old.text end →
-            state_of self.new ≡ told_at self.old.bytes.now purpose end self.old.text (state_of self.old)) }
+            state_of self.new ≡ recorded_at self.old.bytes.now purpose end self.old.text (state_of self.old)) }
     {
         let Some(span) = self.text else {
             return Ok(());
@@ -383,7 +383,7 @@ impl<'a> Reading<'a> {
     }
 
     /// Reads on after a prefix.
-    fn go_on(&mut self, place: usize)
+    fn proceed(&mut self, place: usize)
         ensures bytes { self.new.bytes ≡ self.old.bytes }
         ensures read { state_of self.new ≡
             record (state_of self.old) {
@@ -481,7 +481,7 @@ impl<'a> Reading<'a> {
                 Ok(())
             }
             Role::Prefix => {
-                self.go_on(byte_at(point)?);
+                self.proceed(byte_at(point)?);
                 Ok(())
             }
             Role::Leaf(_) => self.end_leaf(),
@@ -518,7 +518,7 @@ impl<'a> Reading<'a> {
             },
             Role::Prefix => match event.kind {
                 Kind::Enter => self.part_text(event.point.index)?,
-                Kind::Exit => self.go_on(byte_at(event.point)?),
+                Kind::Exit => self.proceed(byte_at(event.point)?),
             },
             Role::QuoteMarker => {
                 if let Kind::Enter = event.kind {

@@ -1,3 +1,3 @@
 pub mod RunLemmas
-pub mod TellLemmas
+pub mod ReportLemmas
 pub mod Texts

@@ -88,9 +88,9 @@ status None = 0
 status (Some failure) = failed_status failure
 
 -- what the program of this name says on the standard error: a write there may fail
-abbrev pub Tells : List ℕ → Option (List ℕ) → Option (List ℕ) → Option Failure → Type 0
-Tells name said says None = Keeps said says
-Tells name said says (Some failure) = AppendsBeginning said says (message name failure)
+abbrev pub Reports : List ℕ → Option (List ℕ) → Option (List ℕ) → Option Failure → Type 0
+Reports name said says None = Keeps said says
+Reports name said says (Some failure) = AppendsBeginning said says (message name failure)
 
 -- a run of the program of this name with these arguments: what it may print of a text, the bytes that its input, output
 -- and standard error are known to have before and after, and its status
@@ -98,5 +98,5 @@ pub record Runs (name : List ℕ) (prints : List ℕ → ParseOptions → List �
     (input left held holds said says : Option (List ℕ)) (ended : ℕ) : Type 0 where
   pub failure : Option Failure
   pub ending : ended ≡ status failure
-  pub telling : Tells name said says failure
+  pub reporting : Reports name said says failure
   pub running : Ran (Shows prints input) (set_asked_for args) input left held holds failure

@@ -55,14 +55,14 @@ impl Failure {
     /// nothing.
     pub fn report<E: Write>(self, name: &str, errors: &mut E) -> u8
         ensures status { result ≡ failed_status self }
-        ensures told { AppendsBeginning (E.contents errors.old) (E.contents errors.new) (message name.now self) }
+        ensures recorded { AppendsBeginning (E.contents errors.old) (E.contents errors.new) (message name.now self) }
     {
-        let _ = self.tell(name, errors);
+        let _ = self.write_message(name, errors);
         self.status()
     }
 
     // Writes the line. After a failure a beginning of it may have been written.
-    fn tell<E: Write>(self, name: &str, errors: &mut E) -> Result<(), Failure>
+    fn write_message<E: Write>(self, name: &str, errors: &mut E) -> Result<(), Failure>
         ensures { AppendsBeginning (E.contents errors.old) (E.contents errors.new) (message name.now self) }
     {
         write_whole(errors, name.as_bytes())?;

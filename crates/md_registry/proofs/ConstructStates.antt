@@ -41,10 +41,10 @@ use Rattle.md_code.proofs.FenceTermination.{FenceFits, fence_terminates}
 use Rattle.md_code.proofs.FenceMeaning.{fence_means}
 use Rattle.md_events.proofs.SpacesTermination.{Does, WhiteFits}
 use Rattle.proof_frame.specs.Rule.{Rule}
-use Rattle.proof_frame.specs.LeafName.{CodeFurther, CodeIndented, Fence, FenceFurther, HeadingAtx, HeadingSetext, GfmTable}
-use Rattle.proof_frame.specs.LeafName.{HtmlFlow, HtmlFurther, LeafName, ThematicBreak}
-use Rattle.md_registry.specs.Registry.{behind, construct_owner, construct_transition, container_rules, leaf, opener_at}
-use Rattle.md_registry.specs.Registry.{openers_behind, tried_at}
+use Rattle.proof_frame.specs.LeafName.{CodeFurther, CodeIndented, Fence, FenceFurther, HeadingAtx, HeadingSetext}
+use Rattle.proof_frame.specs.LeafName.{GfmTable, HtmlFlow, HtmlFurther, LeafName, ThematicBreak}
+use Rattle.md_registry.specs.Registry.{following, construct_owner, construct_transition, container_rules, leaf}
+use Rattle.md_registry.specs.Registry.{opener_at, openers_after, tried_at}
 use Rattle.md_registry.specs.States.{flow_behaves_by, flow_owner, flow_table_scheme}
 use Rattle.md_registry.proofs.Termination.{Anywhere, ContainerFits, IsWithin}
 use Rattle.md_tables.proofs.GfmTableTermination.{TableFits, table_terminates}
@@ -73,9 +73,9 @@ is-tried state l e = ap tried_at (tried-before state l e) ∙ e
 -- the first of these leaves is tried, and the others are those that are tried after it
 abbrev pub NextIs : List LeafName → Type 0
 NextIs [] = Unit {0}
-NextIs (m ∷ ms) = HasTrial m × (behind m ≡ ms)
+NextIs (m ∷ ms) = HasTrial m × (following m ≡ ms)
 
-pub leaf-next : (l : LeafName) → HasTrial l → NextIs (behind l)
+pub leaf-next : (l : LeafName) → HasTrial l → NextIs (following l)
 leaf-next CodeFurther is = absurd (cc)
 leaf-next FenceFurther is = absurd (cc)
 leaf-next HtmlFurther is = absurd (cc)
@@ -106,18 +106,18 @@ opener-before _ _ e = cc
 -- the other kinds are those that are tried after the first
 abbrev pub NextOpener : List ContainerKind → Type 0
 NextOpener [] = Unit {0}
-NextOpener (k ∷ ks) = openers_behind k ≡ ks
+NextOpener (k ∷ ks) = openers_after k ≡ ks
 
 -- what the table has of a container: its states have their place in it, and what is left at them is what the
 -- container says
 pub record ContainerStates (k : ContainerKind) : Type 1 where
   -- which is tried next
-  pub next : NextOpener (openers_behind k)
+  pub next : NextOpener (openers_after k)
   pub begins : ContainerFits flow_table_scheme Anywhere (container_rules k).start
   pub begins_is : (bytes : List ℕ) (options : ParseOptions) (next : Rule) (cells : List Cell) (h : Here) →
       flow_behaves_by bytes options next (container_rules k).start cells h ≡ (container_rules k).begins options cells h
-  pub goes_on : ContainerFits flow_table_scheme IsWithin (container_rules k).further
-  pub goes_on_is : (bytes : List ℕ) (options : ParseOptions) (next : Rule) (cells : List Cell) (h : Here) →
+  pub is_continued : ContainerFits flow_table_scheme IsWithin (container_rules k).further
+  pub continued_is : (bytes : List ℕ) (options : ParseOptions) (next : Rule) (cells : List Cell) (h : Here) →
       flow_behaves_by bytes options next (container_rules k).further cells h ≡
       (container_rules k).continues options cells h
 
@@ -134,22 +134,22 @@ container-states kind.BlockQuote = record {
   next = refl;
   begins = placed Anywhere quote_rules.start (omega arith) (λ x K rest here ends. (rest, ends));
   begins_is = λ bytes options next cells h. refl;
-  goes_on = placed IsWithin quote_rules.further (omega arith) (λ x K rest here ends. (rest, ends));
-  goes_on_is = λ bytes options next cells h. refl;
+  is_continued = placed IsWithin quote_rules.further (omega arith) (λ x K rest here ends. (rest, ends));
+  continued_is = λ bytes options next cells h. refl;
 }
 container-states kind.ListItem = record {
   next = refl;
   begins = placed Anywhere item_rules.start (omega arith) (λ x K rest here ends. (rest, ends));
   begins_is = λ bytes options next cells h. refl;
-  goes_on = placed IsWithin item_rules.further (omega arith) (λ x K rest here ends. ((rest, ends), here));
-  goes_on_is = λ bytes options next cells h. refl;
+  is_continued = placed IsWithin item_rules.further (omega arith) (λ x K rest here ends. ((rest, ends), here));
+  continued_is = λ bytes options next cells h. refl;
 }
 container-states kind.GfmFootnoteDefinition = record {
   next = tt;
   begins = placed Anywhere footnote_rules.start (omega arith) (λ x K rest here ends. (rest, ends));
   begins_is = λ bytes options next cells h. refl;
-  goes_on = placed IsWithin footnote_rules.further (omega arith) (λ x K rest here ends. ((rest, ends), here));
-  goes_on_is = λ bytes options next cells h. refl;
+  is_continued = placed IsWithin footnote_rules.further (omega arith) (λ x K rest here ends. ((rest, ends), here));
+  continued_is = λ bytes options next cells h. refl;
 }
 
 pub white_fits : WhiteFits flow_table_scheme

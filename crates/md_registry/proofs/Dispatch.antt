@@ -14,14 +14,14 @@ use Rattle.md_engine.specs.Meaning.{Cell, Here, Outcome}
 use Rattle.md_engine.specs.World.{Flags}
 use Rattle.md_meaning.specs.Ascii.{asterisk, backtick, dollar, equals_sign, hash, hyphen, less_than, tilde, underscore}
 use Rattle.md_events.specs.Ahead.{begins_white}
-use Rattle.md_events.specs.Look.{seen_behind}
+use Rattle.md_events.specs.Look.{seen_after}
 use Rattle.md_events.specs.Spaces.{IsRest}
 use Rattle.proof_frame.specs.LeafName.{CodeIndented, Fence, GfmTable, HeadingAtx, HeadingSetext, HtmlFlow, LeafName}
 use Rattle.proof_frame.specs.LeafName.{ThematicBreak}
 use Rattle.proof_frame.specs.Rule.{Rule, tried}
 use Rattle.md_registry.specs.AtOnce.{is_common}
 use Rattle.md_registry.specs.Flow.{flow_rank}
-use Rattle.md_registry.specs.FlowRule.{behind_leaf, leaves_of}
+use Rattle.md_registry.specs.FlowRule.{following_leaf, leaves_of}
 use Rattle.md_registry.specs.Registry.{leaf, row, trials}
 use Rattle.md_registry.proofs.ConstructStates.{NextIs}
 use Rattle.md_registry.proofs.Fence.Rests.{fence-rests}
@@ -38,11 +38,11 @@ data LeavesRow (b : ℕ) : List LeafName → List LeafName → Type 0 where
 
 -- what is left before the first is what is left before the second
 row_left : (options : ParseOptions) (next : Rule) (b : ℕ) (ls ks : List LeafName) → LeavesRow b ls ks → AreAsked ls →
-    (cells : List Cell) (h : Here) → seen_behind cells ≡ Some b → begins_white cells ≡ false → IsRest h.scratch →
+    (cells : List Cell) (h : Here) → seen_after cells ≡ Some b → begins_white cells ≡ false → IsRest h.scratch →
     leaves_of options next ls cells h ≡ leaves_of options next ks cells h
 row_left options next b _ _ Done asked cells h seen dark is = refl
 row_left options next b _ _ (Keeps l ls ks rests more) asked cells h seen dark is =
-    tried-agree ((leaf l).trial options cells h) (behind_leaf (leaf l).ends next)
+    tried-agree ((leaf l).trial options cells h) (following_leaf (leaf l).ends next)
     (λ s g. leaves_of options next ls cells (record h { scratch = s; flags = g }))
     (λ s g. leaves_of options next ks cells (record h { scratch = s; flags = g })) (rests options cells h is)
     (λ s g at. row_left options next b ls ks more asked.1 cells (record h { scratch = s; flags = g }) seen dark at)
@@ -52,7 +52,7 @@ row_left options next b _ _ (Skips l ls ks without more) asked cells h seen dark
     ap (λ (white : Bool). (leaf l).may_begin on white b) dark ∙ without on in
     ap
     (λ (o : Outcome).
-    tried o (behind_leaf (leaf l).ends next)
+    tried o (following_leaf (leaf l).ends next)
     (λ (s : Scratch) (g : Flags). leaves_of options next ls cells (record h { scratch = s; flags = g })))
     ((laws l).refused options cells h (asked.0 on) is ((laws l).looked options on cells b seen none))
     ∙ row_left options next b ls ks more asked.1 cells h seen dark is
@@ -132,7 +132,7 @@ row-next b = (row-is b).next
 
 -- what is left before all leaves is what is left before those of the row
 pub row-left : (options : ParseOptions) (next : Rule) (b : ℕ) (cells : List Cell) (h : Here) →
-    seen_behind cells ≡ Some b → begins_white cells ≡ false → IsRest h.scratch →
+    seen_after cells ≡ Some b → begins_white cells ≡ false → IsRest h.scratch →
     leaves_of options next trials cells h ≡ leaves_of options next (row b) cells h
 row-left options next b cells h seen dark is =
     row_left options next b trials (row b) (row-is b).left trials-asked cells h seen dark is

@@ -10,10 +10,10 @@ use Rattle.md_engine.specs.declared.state.document.State.TheVariants as document
 use Rattle.md_engine.specs.declared.state.State.TheVariants.{Next, Ok}
 use Rattle.md_engine.specs.declared.state.State.{State}
 use Rattle.md_engine.specs.declared.tokenizer.Frame.{Frame}
-use Rattle.md_engine.specs.Meaning.{Accepts, Fails, Feed, Outcome, Refuses, Steps, goes, here, resume}
+use Rattle.md_engine.specs.Meaning.{Accepts, Fails, Feed, Outcome, Refuses, Steps, proceeds, here, resume}
 use Rattle.md_engine.specs.Run.{reading}
-use Rattle.md_engine.specs.Scheme.{stands}
-use Rattle.md_engine.specs.Standing.{MeansAt, StandsOn}
+use Rattle.md_engine.specs.Scheme.{valid}
+use Rattle.md_engine.specs.Situation.{MeansAt, KeepsValid}
 use Rattle.md_engine.specs.World.{Setting, World, looks}
 use Rattle.md_engine.specs.Sees.{Sees}
 use Rattle.md_engine.proofs.StepOf.{begins_only, sees, steps-as}
@@ -22,7 +22,7 @@ use Rattle.md_containers.proofs.FrontmatterMeaning.{front_means}
 use Rattle.md_leaves.specs.BomRule.{HasBom, bom_at}
 use Rattle.md_leaves.proofs.BomMeaning.{bom_means}
 use Rattle.md_events.specs.Ahead.{HasWhite}
-use Rattle.md_events.proofs.SpacesTermination.{does-stands}
+use Rattle.md_events.proofs.SpacesTermination.{does-valid}
 use Rattle.md_events.proofs.WhiteMeaning.{white_means}
 use Rattle.md_registry.specs.Document.{DocumentStep, before_frontmatter_transition, document_own_transition}
 use Rattle.md_registry.specs.Document.{document_table_scheme, document_transition, start_transition}
@@ -41,23 +41,23 @@ has_front options = record { white = has_white options; each = λ _ _ _. refl }
 
 -- an attempt that was begun here, which continues with this either way
 abbrev frame_to : State → World → Frame
-frame_to behind w =
-    record { ok = behind; nok = behind; is_check = false; events_len = length w.events; point = w.point }
+frame_to following w =
+    record { ok = following; nok = following; is_check = false; events_len = length w.events; point = w.point }
 
 -- what it becomes
-resumed : (options : ParseOptions) (feed : Feed) (behind : State) (w : World) (o : Outcome) →
-    tried o (λ rest k. goes (document_behaves options) behind rest k)
-    (λ s g. goes (document_behaves options) behind (feed w.point) (record (here w) { scratch = s; flags = g })) ≡
-    resume (document_behaves options) feed w.events (frame_to behind w) o
-resumed options feed behind w (Accepts h rest) = refl
-resumed options feed behind w (Refuses s g) =
+resumed : (options : ParseOptions) (feed : Feed) (following : State) (w : World) (o : Outcome) →
+    tried o (λ rest k. proceeds (document_behaves options) following rest k)
+    (λ s g. proceeds (document_behaves options) following (feed w.point) (record (here w) { scratch = s; flags = g })) ≡
+    resume (document_behaves options) feed w.events (frame_to following w) o
+resumed options feed following w (Accepts h rest) = refl
+resumed options feed following w (Refuses s g) =
     let back : take (length w.events) w.events ≡ w.events = take_all (length w.events) w.events (omega arith) in
     sym
     (ap
     (λ (x : List Event).
-    goes (document_behaves options) behind (feed w.point)
+    proceeds (document_behaves options) following (feed w.point)
     (record { events = x; point = w.point; scratch = s; flags = g })) back)
-resumed options feed behind w Fails = refl
+resumed options feed following w Fails = refl
 
 -- the states before the lines
 abbrev pub IsFront : DocumentState → Type 0
@@ -70,22 +70,22 @@ pub own_means : (options : ParseOptions) (feed : Feed) (state : DocumentState) (
     Steps (document_behaves options) feed (Next (n.Document state)) w (document_own_transition state w).to
     (document_own_transition state w).world
 own_means options feed document.Start w at =
-    let behind = Next (n.Document document.BeforeFrontmatter) in
-    begins_only (document_behaves options) feed _ _ w (start_transition w).world (frame_to behind w) refl refl
-    (resumed options feed behind w (bom_at (feed w.point) (here w)))
+    let following = Next (n.Document document.BeforeFrontmatter) in
+    begins_only (document_behaves options) feed _ _ w (start_transition w).world (frame_to following w) refl refl
+    (resumed options feed following w (bom_at (feed w.point) (here w)))
 own_means options feed document.BeforeFrontmatter w at =
     begins_only (document_behaves options) feed _ _ w (before_frontmatter_transition w).world (frame_to Ok w) refl refl
     (resumed options feed Ok w (front_at options (feed w.point) (here w)))
 own_means options feed state w at = absurd at
 
-front-at : (state : DocumentState) (w : World) → stands document_table_scheme w (Next (n.Document state)) →
+front-at : (state : DocumentState) (w : World) → valid document_table_scheme w (Next (n.Document state)) →
     IsFront state
 front-at document.Start w at = tt
 front-at document.BeforeFrontmatter w at = tt
 front-at _ w at = absurd at
 
 document_means : (feed : Feed) (name : StateName) (w : World) → Sees feed w → w.current ≡ looks w →
-    stands document_table_scheme w (Next name) →
+    valid document_table_scheme w (Next name) →
     Steps (document_behaves w.setting.options) feed (Next name) w (document_transition name w).to
     (document_transition name w).world
 document_means feed (n.Bom state) w s c at =
@@ -104,10 +104,10 @@ pub document_table_means : (under : Setting) (is_end : Bool) →
 document_table_means under is_end feed name w to new f called step =
     steps-as (document_behaves under.options) feed (Next name) _ to (reading w) _ new step.to_is step.new_is
     (rw (sym called.setting)
-    (document_means feed name (reading w) (sees feed w is_end f called.may) refl called.stands))
+    (document_means feed name (reading w) (sees feed w is_end f called.may) refl called.valid))
 
 -- and reaches where the table is
-pub document_stands : StandsOn DocumentStep document_table_scheme
-document_stands name w to new at step =
-    does-stands document_table_scheme name (reading w)
+pub document_keeps_valid : KeepsValid DocumentStep document_table_scheme
+document_keeps_valid name w to new at step =
+    does-valid document_table_scheme name (reading w)
     (document_transition name (reading w)) to new step.to_is step.new_is (document_terminates name (reading w) refl at)

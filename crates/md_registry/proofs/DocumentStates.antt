@@ -8,7 +8,7 @@ use Rattle.md_engine.specs.declared.state.document.State.TheVariants as document
 use Rattle.md_engine.specs.declared.state.State.TheVariants.{Next, Ok}
 use Rattle.md_engine.specs.declared.state.frontmatter.State.TheVariants as front
 use Rattle.md_engine.specs.declared.stay.Stay.{Stay}
-use Rattle.md_engine.specs.Scheme.{after_all, position, stands}
+use Rattle.md_engine.specs.Scheme.{after_all, position, valid}
 use Rattle.md_engine.specs.Staying.{StaysOn}
 use Rattle.md_engine.specs.World.{World, looks}
 use Rattle.md_engine.proofs.Falls.{later_at}
@@ -39,7 +39,7 @@ bom_fits = record { each = λ state. fits document_owner (n.Bom state) }
 start_ends : (w : World) → rest_ready (position w) (after_all document_table_scheme w.frames) →
     Does document_table_scheme (n.Document document.Start) w (start_transition w)
 start_ends w r =
-    let behind = fits document_owner (n.Document document.BeforeFrontmatter) in (
+    let following = fits document_owner (n.Document document.BeforeFrontmatter) in (
       begins_try document_table_scheme document_scheme bom_scheme (n.Document document.Start)
           (n.Bom bom.Start) w IsRest IsRest w.events w.scratch
           (record {
@@ -49,7 +49,8 @@ start_ends w r =
             events_len = length w.events;
             point = w.point;
           })
-          (fits document_owner (n.Document document.Start)) (fits document_owner (n.Bom bom.Start)) behind behind refl
+          (fits document_owner (n.Document document.Start)) (fits document_owner (n.Bom bom.Start)) following
+          following refl
           (record {
             ok =
                 λ s q t is up way. (
@@ -91,14 +92,14 @@ front_ends w r = (
 )
 
 -- the states before the lines
-own_terminates : (state : DocumentState) (w : World) → stands document_table_scheme w (Next (n.Document state)) →
+own_terminates : (state : DocumentState) (w : World) → valid document_table_scheme w (Next (n.Document state)) →
     Does document_table_scheme (n.Document state) w (document_own_transition state w)
 own_terminates document.Start w r = start_ends w r
 own_terminates document.BeforeFrontmatter w r = front_ends w r
 own_terminates state w r = absurd r
 
 pub document_terminates : (name : StateName) (w : World) → w.current ≡ looks w →
-    stands document_table_scheme w (Next name) → Does document_table_scheme name w (document_transition name w)
+    valid document_table_scheme w (Next name) → Does document_table_scheme name w (document_transition name w)
 document_terminates (n.Bom state) w c r = bom_terminates document_table_scheme state w bom_fits c r
 document_terminates (n.Frontmatter state) w c r = front_terminates document_table_scheme state w front_fits c r
 document_terminates (n.SpaceOrTab state) w c r = white_terminates document_table_scheme state w white_fits c r

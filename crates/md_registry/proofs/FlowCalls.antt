@@ -6,11 +6,11 @@ use Rattle.md_engine.specs.declared.state.State.{State}
 use Rattle.md_engine.specs.declared.state.State.TheVariants.{Error, Next}
 use Rattle.md_engine.specs.Going.{SeesOn}
 use Rattle.md_engine.specs.Run.{RunsHere}
-use Rattle.md_engine.specs.Scheme.{stands}
+use Rattle.md_engine.specs.Scheme.{valid}
 use Rattle.md_engine.specs.World.{World, looks}
 use Rattle.md_engine.proofs.Loops.{call-runs, call-sees}
 use Rattle.md_engine.proofs.Walks.{EachKeeps, Within}
-use Rattle.md_events.proofs.SpacesTermination.{does-fall, does-remain, does-setting, does-stands}
+use Rattle.md_events.proofs.SpacesTermination.{does-fall, does-remain, does-setting, does-valid}
 use Rattle.md_registry.specs.Registry.{construct_transition}
 use Rattle.md_registry.specs.States.{FlowStep, flow_table_scheme, flow_transition, is_flow_own}
 use Rattle.md_registry.proofs.States.{flow_terminates}
@@ -19,14 +19,14 @@ use Rattle.md_registry.proofs.States.{flow_terminates}
 pub flow-keeps : EachKeeps FlowStep flow_table_scheme
 flow-keeps name w to new seen at step =
     let does = flow_terminates name w seen at in (
-      does-stands flow_table_scheme name w (flow_transition name w) to new step.to_is step.new_is does,
+      does-valid flow_table_scheme name w (flow_transition name w) to new step.to_is step.new_is does,
       does-fall flow_table_scheme name w (flow_transition name w) to new step.to_is step.new_is does,
     )
 
 -- one call of a state is a run
 pub called-once : (name : StateName) (w : World) (to : State)
     (new : World) →
-    w.current ≡ looks w → stands flow_table_scheme w (Next name) → Within w → to ≢ Error →
+    w.current ≡ looks w → valid flow_table_scheme w (Next name) → Within w → to ≢ Error →
     to ≡ (flow_transition name w).to → new ≡ (flow_transition name w).world →
     RunsHere FlowStep name w to new × SeesOn to w new
 called-once name w to new seen at within fine to_is new_is =

@@ -2,8 +2,8 @@
 use Rattle.std.proofs.Common.{◌≡◌, ℕ, zero, suc, ◌<◌, ◌≤◌, Bool, true, false, cond, nat_eq}
 use Rattle.std.proofs.Common.{List, [], ◌∷◌, length, Option, Some, None}
 use Rattle.md_registry.specs.Registry.{asked_first, bars_containers, begins_at, continues_at, leaf, openers, trials}
-use Rattle.md_registry.specs.FlowRule.{all_on, blank_at_end, inside_by, inside_of, behind_leaf, asking_here}
-use Rattle.md_registry.specs.FlowRule.{behind_containers, blank_ended, ended, ended_to, existing_by, existing_at}
+use Rattle.md_registry.specs.FlowRule.{all_on, blank_at_end, inside_by, inside_of, following_leaf, asking_here}
+use Rattle.md_registry.specs.FlowRule.{after_containers, blank_ended, ended, ended_to, existing_by, existing_at}
 use Rattle.md_registry.specs.FlowRule.{existing_from, flow_at, flow_lines, leaf_ended, leaf_of, leaves_of, line_ended}
 use Rattle.md_registry.specs.FlowRule.{line_then, new_from, new_of, opened, openers_of, opens_of}
 use Rattle.std.proofs.Common.{refl, ap, arith}
@@ -21,7 +21,7 @@ use Rattle.md_events.specs.Spaces.{ends_line}
 use Rattle.md_meaning.specs.Rest.{is_blank}
 use Rattle.proof_frame.specs.Rule.{Rule, tried}
 use Rattle.md_registry.specs.LineFlags.{begun_line, blanked, ended_on, next_container, shut_leaf, kept_containers}
-use Rattle.md_registry.specs.LineFlags.{went_on}
+use Rattle.md_registry.specs.LineFlags.{was_continued}
 use Rattle.proof_frame.specs.LeafName.{LeafName}
 use Rattle.proof_frame.proofs.FromEnding.{from_ending-again}
 use Rattle.proof_frame.proofs.LeafLaws.{Shrinks, cond-shrinks}
@@ -78,10 +78,10 @@ tried-shorter n f g agree (Accepts h rest) a b lt same = agree rest h lt
 tried-shorter n f g agree (Refuses s t) a b lt same = same s t
 tried-shorter n f g agree Fails a b lt same = refl
 
-behind_leaf-same : (n : ℕ) (f g : Rule) (ends : Bool) → Agree n f g →
-    AgreeAt n (behind_leaf ends f) (behind_leaf ends g)
-behind_leaf-same n f g true agree = leaf_ended-same n f g agree
-behind_leaf-same n f g false agree = line_ended-same n f g agree
+following_leaf-same : (n : ℕ) (f g : Rule) (ends : Bool) → Agree n f g →
+    AgreeAt n (following_leaf ends f) (following_leaf ends g)
+following_leaf-same n f g true agree = leaf_ended-same n f g agree
+following_leaf-same n f g false agree = line_ended-same n f g agree
 
 -- leaves that are tried one after another, and content after them
 leaves_of-same : (options : ParseOptions) (f g : Rule) (ls : List LeafName) (cells : List Cell) (h : Here) →
@@ -91,8 +91,8 @@ leaves_of-same options f g [] cells h agree =
     tried-same _ (line_ended f) (line_ended g) (line_ended-same _ f g agree) (chunk_at cells h) Refuses Refuses
     (chunk_at-shrinks cells h) (λ s t. refl)
 leaves_of-same options f g (l ∷ ls) cells h agree =
-    tried-same _ (behind_leaf (leaf l).ends f) (behind_leaf (leaf l).ends g)
-    (behind_leaf-same _ f g (leaf l).ends agree)
+    tried-same _ (following_leaf (leaf l).ends f) (following_leaf (leaf l).ends g)
+    (following_leaf-same _ f g (leaf l).ends agree)
     ((leaf l).trial options cells h) _ _
     ((laws l).shrinks options cells h)
     (λ s t. leaves_of-same options f g ls cells (record h { scratch = s; flags = t }) agree)
@@ -117,9 +117,9 @@ inside_of-same options f g cells h agree = go (asked_first h.flags.leaf)
         ((laws l).shrinks options cells (blank_at_end cells h))
         (λ s t. leaf_of-same options f g cells (record h { scratch = s; flags = t }) agree)
 
-behind_containers-same : (options : ParseOptions) (f g : Rule) (cells : List Cell) (h : Here) →
-    Agree (length cells) f g → behind_containers options f cells h ≡ behind_containers options g cells h
-behind_containers-same options f g cells h agree =
+after_containers-same : (options : ParseOptions) (f g : Rule) (cells : List Cell) (h : Here) →
+    Agree (length cells) f g → after_containers options f cells h ≡ after_containers options g cells h
+after_containers-same options f g cells h agree =
     inside_of-same options f g cells (record h { flags = begun_line h.flags }) agree
 
 -- Containers.
@@ -138,13 +138,13 @@ new_from-same : (options : ParseOptions) (f g : Rule) (n : ℕ) (cells : List Ce
     Agree (length cells) f g → new_from options f n cells h ≡ new_from options g n cells h
 unfolding new_from
 new_from-same options f g zero cells h agree =
-    behind_containers-same options f g cells h agree
+    after_containers-same options f g cells h agree
 new_from-same options f g (suc n) cells h agree =
     opens_of-same options (λ rest k. new_from options f n rest (opened k))
     (λ rest k. new_from options g n rest (opened k))
-    (behind_containers options f) (behind_containers options g) openers cells h
+    (after_containers options f) (after_containers options g) openers cells h
     (λ rest k lt. new_from-same options f g n rest (opened k) (λ cs j less. agree cs j (omega (arith, less, lt))))
-    (λ k. behind_containers-same options f g cells k agree)
+    (λ k. after_containers-same options f g cells k agree)
 
 -- more containers than cells change nothing
 new_from-enough : (options : ParseOptions) (next : Rule) (n m : ℕ) (cells : List Cell) (h : Here) → length cells < n →
@@ -154,8 +154,8 @@ new_from-enough options next zero m cells h a b = absurd (omega arith)
 new_from-enough options next (suc n) zero cells h a b = absurd (omega arith)
 new_from-enough options next (suc n) (suc m) cells h a b =
     opens_of-same options (λ rest k. new_from options next n rest (opened k))
-    (λ rest k. new_from options next m rest (opened k)) (behind_containers options next)
-    (behind_containers options next) openers cells h
+    (λ rest k. new_from options next m rest (opened k)) (after_containers options next)
+    (after_containers options next) openers cells h
     (λ rest k lt. new_from-enough options next n m rest (opened k) (omega (arith, lt, a)) (omega (arith, lt, b)))
     (λ k. refl)
 
@@ -165,7 +165,7 @@ pub new_by_container : (options : ParseOptions) (next : Rule) (cells : List Cell
 unfolding new_of new_from
 new_by_container options next cells h =
     opens_of-same options (λ rest k. new_from options next (length cells) rest (opened k))
-    (λ rest k. new_of options next rest (opened k)) (behind_containers options next) (behind_containers options next)
+    (λ rest k. new_of options next rest (opened k)) (after_containers options next) (after_containers options next)
     openers cells h
     (λ rest k lt. new_from-enough options next (length cells) (suc (length rest)) rest (opened k) lt (omega arith))
     (λ k. refl)
@@ -182,10 +182,10 @@ existing_by-same : (options : ParseOptions) (f g further other : Rule) (o : Opti
 existing_by-same options f g further other None cells h ends agree more = go (bars_containers h.flags.leaf)
   where
     go : (x : Bool) → all_on options f x cells h ≡ all_on options g x cells h
-    go true = behind_containers-same options f g cells h agree
+    go true = after_containers-same options f g cells h agree
     go false = new_of-same options f g cells h agree
 existing_by-same options f g further other (Some c) cells h ends agree more =
-    tried-shorter (length cells) _ _ (λ rest k lt. more rest (record k { flags = went_on k.flags }) lt)
+    tried-shorter (length cells) _ _ (λ rest k lt. more rest (record k { flags = was_continued k.flags }) lt)
     (continues_at options c.kind cells (asking_here c h)) _ _
     ((container-laws c.kind).continues_shorter options cells (asking_here c h) ends)
     (λ s t. new_of-same options f g cells (record h { scratch = s; flags = t }) agree)
@@ -195,7 +195,7 @@ existing_at-same : (options : ParseOptions) (f g further other : Rule) (x : Bool
     ends_line (first_seen cells) ≡ x → Agree (length cells) f g → Agree (length cells) further other →
     existing_at options f further x cells h ≡ existing_at options g other x cells h
 existing_at-same options f g further other true cells h e agree more =
-    behind_containers-same options f g cells (record h { flags = ended_on h.flags }) agree
+    after_containers-same options f g cells (record h { flags = ended_on h.flags }) agree
 existing_at-same options f g further other false cells h e agree more =
     existing_by-same options f g further other (next_container h.flags) cells h e agree more
 

@@ -3,19 +3,19 @@ use Rattle.md_registry.proofs.DocumentMeans.{IsFront, own_means}
 use Rattle.proof_leaf_laws.specs.DocumentRule.{document_behaves}
 use Rattle.std.proofs.Common.{◌≢◌, ◌≡◌, inl, inr, ℕ, Bool, true, false, ◌||◌, cond, nat_eq, List, [], ◌∷◌, ◌++◌, length}
 use Rattle.std.proofs.Common.{take, Option, Some, None, refl, sym, ◌∙◌, ap, subst, arith, append_assoc}
-use Rattle.md_registry.specs.FlowRule.{leaf_of, all_on, inside_by, inside_of, behind_leaf, ContainersInvariant}
-use Rattle.md_registry.specs.FlowRule.{ContainersMean, DocumentMeans, FlowInvariant, FlowMeans, FrontMeans, GoesOn}
+use Rattle.md_registry.specs.FlowRule.{leaf_of, all_on, inside_by, inside_of, following_leaf, ContainersInvariant}
+use Rattle.md_registry.specs.FlowRule.{ContainersMean, DocumentMeans, FlowInvariant, FlowMeans, FrontMeans, IsContinued}
 use Rattle.md_registry.specs.FlowRule.{feeds, HasFlow, blank_ended, ended, ended_to, existing_at, existing_by}
 use Rattle.md_registry.specs.FlowRule.{leaves_of, line_ended, line_then, new_of, nonblank_of, opened, openers_of}
-use Rattle.md_registry.specs.Flow.{behind_all, inside_code, leaf_front, leaf_end}
+use Rattle.md_registry.specs.Flow.{following_all, inside_code, leaf_front, leaf_end}
 use Rattle.md_registry.specs.Flow.{before_content_transition, before_transition, blank_line_after_transition}
 use Rattle.md_registry.specs.Flow.{blank_line_code, containers_after_transition, existing_after_transition}
 use Rattle.md_registry.specs.Flow.{existing_before_code, flow_end_code, flow_end_transition, flow_own_transition}
 use Rattle.md_registry.specs.Flow.{leaf_after_transition, new_after_transition, new_before_transition, row_transition}
 use Rattle.md_registry.specs.Flow.{start_by, start_code, trial_code}
-use Rattle.md_registry.specs.Registry.{asked_first, bars_containers, behind, container_rules, front_of, leaf, may_go_on}
-use Rattle.md_registry.specs.Registry.{may_open, next_of, next_opener, opener_at, opener_front, openers, openers_behind}
-use Rattle.md_registry.specs.Registry.{trials, row, tried_at}
+use Rattle.md_registry.specs.Registry.{asked_first, bars_containers, following, container_rules, front_of, leaf}
+use Rattle.md_registry.specs.Registry.{may_continue, may_open, next_of, next_opener, opener_at, opener_front, openers}
+use Rattle.md_registry.specs.Registry.{openers_after, trials, row, tried_at}
 use Rattle.std.specs.Option.{is_some}
 use Rattle.std.proofs.lemmas.List.{take_all}
 use Rattle.md_engine.specs.declared.configuration.ParseOptions.{ParseOptions}
@@ -32,8 +32,8 @@ use Rattle.md_engine.specs.declared.state.State.TheVariants.{Nok, Next}
 use Rattle.md_engine.specs.declared.tokenizer.container.Container.{Container}
 use Rattle.md_engine.specs.declared.tokenizer.Frame.{Frame}
 use Rattle.md_engine.specs.declared.tokenizer.Scratch.{Scratch}
-use Rattle.md_engine.specs.Meaning.{Accepts, Behaviour, Cell, Fails, Feed, Here, Outcome, Refuses, Steps, goes, here}
-use Rattle.md_engine.specs.Meaning.{resume}
+use Rattle.md_engine.specs.Meaning.{Accepts, Behaviour, Cell, Fails, Feed, Here, Outcome, Refuses, Steps, proceeds}
+use Rattle.md_engine.specs.Meaning.{here, resume}
 use Rattle.md_engine.specs.declared.tokenizer.container.name.ContainerKind.{ContainerKind}
 use Rattle.md_engine.specs.World.{Flags, World, after, closed, container_of}
 use Rattle.md_engine.specs.Sees.{Sees, ahead}
@@ -43,7 +43,7 @@ use Rattle.md_leaves.specs.Blank as blank
 use Rattle.md_leaves.proofs.BlankLook.{blank-ended, blank-refused}
 use Rattle.md_events.specs.Ahead.{begins_white}
 use Rattle.md_events.specs.Events.Nested.{enter, exit, pair}
-use Rattle.md_events.specs.Look.{looks_behind, may_with}
+use Rattle.md_events.specs.Look.{looks_after, may_with}
 use Rattle.md_events.specs.Spaces.{IsRest, ends_line, sees_white}
 use Rattle.md_events.specs.Transition.{entered, exited, taken}
 use Rattle.md_events.proofs.LookLemmas.{first-seen, refused-first, seen-first}
@@ -52,7 +52,7 @@ use Rattle.md_registry.specs.Document.{document_own_transition}
 use Rattle.proof_frame.specs.Rule.{Rule, tried}
 use Rattle.md_registry.specs.LineFlags as flags
 use Rattle.proof_frame.specs.EndingName.{ending_name}
-use Rattle.md_registry.specs.LineFlags.{asking, blank_here, next_container, next_line, nothing_stands, went_on}
+use Rattle.md_registry.specs.LineFlags.{asking, blank_here, next_container, next_line, nothing_is_here, was_continued}
 use Rattle.proof_frame.specs.LeafName.{LeafName}
 use Rattle.md_registry.proofs.FlowLemmas.{line_by_container, new_by_container}
 use Rattle.md_registry.proofs.Openers.{at-opener, left-front}
@@ -72,9 +72,9 @@ frame_here ok nok w = record { ok = ok; nok = nok; is_check = false; events_len 
 -- what it becomes
 resumed : (B : Behaviour) (feed : Feed) (w : World) (ok nok : State) (o : Outcome) (onward : Rule)
     (otherwise : Scratch → Flags → Outcome) →
-    ((cells : List Cell) (h : Here) → goes B ok cells h ≡ onward cells h) →
+    ((cells : List Cell) (h : Here) → proceeds B ok cells h ≡ onward cells h) →
     ((s : Scratch) (g : Flags) →
-    goes B nok (feed w.point) (record { events = w.events; point = w.point; scratch = s; flags = g }) ≡
+    proceeds B nok (feed w.point) (record { events = w.events; point = w.point; scratch = s; flags = g }) ≡
     otherwise s g) →
     tried o onward otherwise ≡ resume B feed w.events (frame_here ok nok w) o
 resumed B feed w ok nok (Accepts h rest) y z a b = sym (a rest h)
@@ -83,7 +83,7 @@ resumed B feed w ok nok (Refuses s g) y z a b =
     sym
     (ap
     (λ (x : List Event).
-    goes B nok (feed w.point) (record { events = x; point = w.point; scratch = s; flags = g })) back
+    proceeds B nok (feed w.point) (record { events = x; point = w.point; scratch = s; flags = g })) back
     ∙ b s g)
 resumed B feed w ok nok Fails y z a b = refl
 
@@ -136,7 +136,7 @@ existing_left B feed w options next ends has s e =
 -- where all containers continued
 all_left : (B : Behaviour) (options : ParseOptions) (next : Rule) → HasFlow B options next → (x : Bool)
     (cells : List Cell) (h : Here) →
-    B (n.Document (behind_all x)) cells h ≡ all_on options next x cells h
+    B (n.Document (following_all x)) cells h ≡ all_on options next x cells h
 all_left B options next has true cells h = has.containers document.ContainersAfter cells h
 all_left B options next has false cells h = opening_left B options next has cells h
 
@@ -154,21 +154,21 @@ existing_before_means B feed w options next false None has s is e k =
     ∙ ap (λ (o : Option Container). existing_by options next (line_then options next) o (feed w.point) (here w)) k
     ∙ sym (all_left B options next has (bars_containers w.flags.leaf) (feed w.point) (here w)))
 existing_before_means B feed w options next false (Some c) has s is e k =
-    let onward : Rule = λ rest k. line_then options next rest (record k { flags = went_on k.flags }) in
+    let onward : Rule = λ rest k. line_then options next rest (record k { flags = was_continued k.flags }) in
     let otherwise : Scratch → Flags → Outcome =
     λ s g. new_of options next (feed w.point) (record (here w) { scratch = s; flags = g }) in
-    trial_means B feed w (asking c w).flags _ _ _ _ (may_with (may_go_on c.kind) (looks_behind w)) (record {
+    trial_means B feed w (asking c w).flags _ _ _ _ (may_with (may_continue c.kind) (looks_after w)) (record {
       onward = onward;
       otherwise = otherwise;
       from_is =
           existing_left B feed w options next false has s e
           ∙ ap (λ (o : Option Container). existing_by options next (line_then options next) o (feed w.point) (here w)) k
-          ∙ ap (λ (o : Outcome). tried o onward otherwise) (sym (has.goes_on c.kind _ _));
+          ∙ ap (λ (o : Outcome). tried o onward otherwise) (sym (has.is_continued c.kind _ _));
       ok_is = has.containers document.ContainerExistingAfter;
       nok_is = λ s g. opening_left B options next has _ _;
       looked = λ no.
-          let first = refused-first (may_go_on c.kind) feed w s no in
-          has.goes_on c.kind _ _
+          let first = refused-first (may_continue c.kind) feed w s no in
+          has.is_continued c.kind _ _
           ∙ (container-laws c.kind).continues_looked options _ _ first.0 is first.1 first.2;
     })
 
@@ -180,8 +180,8 @@ new_before_means : (k : ContainerKind) (B : Behaviour) (feed : Feed) (w : World)
 new_before_means k B feed w options next has s is =
     let onward : Rule = λ rest x. new_of options next rest (opened x) in
     let otherwise : Scratch → Flags → Outcome =
-    λ s g. openers_of options next (openers_behind k) (feed w.point) (record (here w) { scratch = s; flags = g }) in
-    trial_means B feed w (asking (container_of k) w).flags _ _ _ _ (may_with (may_open k) (looks_behind w)) (record {
+    λ s g. openers_of options next (openers_after k) (feed w.point) (record (here w) { scratch = s; flags = g }) in
+    trial_means B feed w (asking (container_of k) w).flags _ _ _ _ (may_with (may_open k) (looks_after w)) (record {
       onward = onward;
       otherwise = otherwise;
       from_is =
@@ -190,7 +190,7 @@ new_before_means k B feed w options next has s is =
       ok_is = has.containers document.ContainerNewAfter;
       nok_is =
           λ s g. has.containers (next_opener k) _ _
-          ∙ left-front options next (openers_behind k) _ _ (container-states k).next;
+          ∙ left-front options next (openers_after k) _ _ (container-states k).next;
       looked = λ no.
           let first = refused-first (may_open k) feed w s no in
           has.opens k _ _ ∙ (container-laws k).begins_looked options _ _ first.0 is first.1 first.2;
@@ -219,7 +219,7 @@ inside_means B feed w options next None has s e =
 inside_means B feed w options next (Some l) has s e =
     let otherwise : Scratch → Flags → Outcome =
     λ s g. leaf_of options next (feed w.point) (record (here w) { scratch = s; flags = g }) in
-    trial_means B feed w (blank_here (nothing_stands w.current w.point) w.flags) _ _ _ _ true (record {
+    trial_means B feed w (blank_here (nothing_is_here w.current w.point) w.flags) _ _ _ _ true (record {
       onward = line_ended next;
       otherwise = otherwise;
       from_is =
@@ -229,7 +229,7 @@ inside_means B feed w options next (Some l) has s e =
           (λ (first : Option ℕ).
           tried
           ((leaf l).trial options (feed w.point)
-          (record (here w) { flags = blank_here (nothing_stands first w.point) w.flags })) (line_ended next) otherwise)
+          (record (here w) { flags = blank_here (nothing_is_here first w.point) w.flags })) (line_ended next) otherwise)
           (first-seen feed w s)
           ∙ ap (λ (o : Outcome). tried o (line_ended next) otherwise) (sym (has.starts l _ _));
       ok_is = has.leaves flow.After;
@@ -242,8 +242,8 @@ inside_means B feed w options next (Some l) has s e =
 blank_line_before_means : (B : Behaviour) (feed : Feed) (w : World) (options : ParseOptions) (next : Rule) (x : Bool) →
     HasFlow B options next → Sees feed w → ends_line w.current ≡ x →
     Steps B feed (Next (n.Flow flow.BlankLineBefore)) w
-    (blank_line_code w x (may_with blank.may_begin (looks_behind w))).to
-    (blank_line_code w x (may_with blank.may_begin (looks_behind w))).world
+    (blank_line_code w x (may_with blank.may_begin (looks_after w))).to
+    (blank_line_code w x (may_with blank.may_begin (looks_after w))).world
 blank_line_before_means B feed w options next true has s e =
     let otherwise : Scratch → Flags → Outcome =
     λ s g. nonblank_of options next (feed w.point) (record (here w) { scratch = s; flags = g }) in
@@ -255,7 +255,7 @@ blank_line_before_means B feed w options next true has s e =
 blank_line_before_means B feed w options next false has s e =
     let otherwise : Scratch → Flags → Outcome =
     λ s g. nonblank_of options next (feed w.point) (record (here w) { scratch = s; flags = g }) in
-    trial_means B feed w w.flags _ _ _ _ (may_with blank.may_begin (looks_behind w)) (record {
+    trial_means B feed w w.flags _ _ _ _ (may_with blank.may_begin (looks_after w)) (record {
       onward = blank_ended next;
       otherwise = otherwise;
       from_is =
@@ -271,7 +271,7 @@ blank_line_before_means B feed w options next false has s e =
 -- after a leaf, whether it always ends on its line or not
 flow-ends : (B : Behaviour) (options : ParseOptions) (next : Rule) → HasFlow B options next → (ends : Bool)
     (cells : List Cell) (h : Here) →
-    B (n.Flow (leaf_end ends)) cells h ≡ behind_leaf ends next cells h
+    B (n.Flow (leaf_end ends)) cells h ≡ following_leaf ends next cells h
 flow-ends B options next has true cells h = has.leaves flow.LeafAfter cells h
 flow-ends B options next has false cells h = has.leaves flow.After cells h
 
@@ -280,17 +280,17 @@ before_means : (l : LeafName) (B : Behaviour) (feed : Feed) (w : World) (options
     Steps B feed (Next (n.Flow (leaf l).before)) w (before_transition l w).to (before_transition l w).world
 before_means l B feed w options next tried_is has s is asked =
     let otherwise : Scratch → Flags → Outcome =
-    λ s g. leaves_of options next (behind l) (feed w.point) (record (here w) { scratch = s; flags = g }) in
+    λ s g. leaves_of options next (following l) (feed w.point) (record (here w) { scratch = s; flags = g }) in
     let begins : ℕ → Bool = (leaf l).may_begin w.flags.leaf (sees_white w.current) in
-    trial_means B feed w w.flags _ _ _ _ (may_with begins (looks_behind w)) (record {
-      onward = behind_leaf (leaf l).ends next;
+    trial_means B feed w w.flags _ _ _ _ (may_with begins (looks_after w)) (record {
+      onward = following_leaf (leaf l).ends next;
       otherwise = otherwise;
       from_is =
           has.leaves (leaf l).before _ _ ∙ (at-trial l tried_is).left options next _ _
-          ∙ ap (λ (o : Outcome). tried o (behind_leaf (leaf l).ends next) otherwise) (sym (has.starts l _ _));
+          ∙ ap (λ (o : Outcome). tried o (following_leaf (leaf l).ends next) otherwise) (sym (has.starts l _ _));
       ok_is = flow-ends B options next has (leaf l).ends;
       nok_is =
-          λ s g. has.leaves (next_of l) _ _ ∙ left-list options next (behind l) _ _ (leaf-next l tried_is);
+          λ s g. has.leaves (next_of l) _ _ ∙ left-list options next (following l) _ _ (leaf-next l tried_is);
       looked = λ no.
           let first = refused-first begins feed w s no in
           let none : (leaf l).may_begin w.flags.leaf (begins_white (feed w.point)) first.0 ≡ false =
@@ -310,9 +310,10 @@ row_means B feed w options next (l ∷ ls) has are e =
     let otherwise : Scratch → Flags → Outcome =
     λ s g. leaves_of options next ls (feed w.point) (record (here w) { scratch = s; flags = g }) in
     trial_means B feed w w.flags _ _ _ _ true (record {
-      onward = behind_leaf (leaf l).ends next;
+      onward = following_leaf (leaf l).ends next;
       otherwise = otherwise;
-      from_is = e ∙ ap (λ (o : Outcome). tried o (behind_leaf (leaf l).ends next) otherwise) (sym (has.starts l _ _));
+      from_is = e ∙ ap (λ (o : Outcome). tried o (following_leaf (leaf l).ends next) otherwise)
+          (sym (has.starts l _ _));
       ok_is = flow-ends B options next has (leaf l).ends;
       nok_is = λ s g. has.leaves (front_of ls) _ _ ∙ left-list options next ls _ _ are.0;
       looked = λ no. cc;
@@ -354,15 +355,15 @@ before_content_means B feed w options next has =
 -- The end of a line.
 
 -- after an ending that is taken here
-abbrev pub behind_ending : World → World
-behind_ending v =
+abbrev pub following_ending : World → World
+following_ending v =
     record (exited (taken (entered v (ending_name v.flags.blank))) (ending_name v.flags.blank)) {
       flags = next_line (length v.events) v.flags;
     }
 
 -- and what is left after it is what the rule makes of the rest
 pub ending_left : (feed : Feed) (v : World) (next : Rule) (b : ℕ) → nat_eq b 10 ≡ true →
-    ended next (ahead feed v (Some b)) (here v) ≡ next (feed (behind_ending v).point) (here (behind_ending v))
+    ended next (ahead feed v (Some b)) (here v) ≡ next (feed (following_ending v).point) (here (following_ending v))
 ending_left feed v next b e =
     let q = after v.setting v.point in
     let name = ending_name v.flags.blank in
@@ -379,27 +380,27 @@ ending_left feed v next b e =
 flow_end_code_means : (B : Behaviour) (feed : Feed) (w v : World) (options : ParseOptions) (next : Rule)
     (o : Option ℕ) →
     HasFlow B options next → w.frames ≡ [] → v.frames ≡ [] → feed v.point ≡ ahead feed v o →
-    GoesOn B next (feeds (n.Document document.FlowEnd) o) →
-    goes B (Next (n.Document document.FlowEnd)) (feed w.point) (here w) ≡ ended next (ahead feed v o) (here v) →
+    IsContinued B next (feeds (n.Document document.FlowEnd) o) →
+    proceeds B (Next (n.Document document.FlowEnd)) (feed w.point) (here w) ≡ ended next (ahead feed v o) (here v) →
     Steps B feed (Next (n.Document document.FlowEnd)) w (flow_end_code v o).to (flow_end_code v o).world
 flow_end_code_means B feed w v options next None has none also sees on is =
     changes B feed _ _ w (flow_end_code v None).world none also
     (is ∙ ap (Accepts (ended_to 0 (length v.events) (here v))) (sym sees))
 flow_end_code_means B feed w v options next (Some b) has none also sees on is = go (nat_eq b 10) refl on
   where
-    go : (x : Bool) → nat_eq b 10 ≡ x → GoesOn B next (cond x 1 0) →
+    go : (x : Bool) → nat_eq b 10 ≡ x → IsContinued B next (cond x 1 0) →
         Steps B feed (Next (n.Document document.FlowEnd)) w (flow_end_code v (Some b)).to
         (flow_end_code v (Some b)).world
     go true e (inl none_fed) = absurd (omega (arith, none_fed))
     go true e (inr meets) =
         rw e
-        (changes B feed _ (Next (n.Document document.ContainerExistingBefore)) w (behind_ending v) none also
+        (changes B feed _ (Next (n.Document document.ContainerExistingBefore)) w (following_ending v) none also
         (is ∙ ending_left feed v next b e ∙ meets _ _))
     go false e on = rw e (changes B feed _ Nok w v none also (is ∙ rw e refl))
 
 flow_end_means : (B : Behaviour) (feed : Feed) (w : World) (options : ParseOptions) (next : Rule) →
     HasFlow B options next → Sees feed w → w.frames ≡ [] →
-    GoesOn B next (feeds (n.Document document.FlowEnd) w.current) →
+    IsContinued B next (feeds (n.Document document.FlowEnd) w.current) →
     Steps B feed (Next (n.Document document.FlowEnd)) w (flow_end_transition w).to (flow_end_transition w).world
 flow_end_means B feed w options next has s none on =
     flow_end_code_means B feed w
@@ -419,7 +420,7 @@ opener_means B feed next state k e w has s is =
 -- the states between the containers of a line
 pub containers_means : (B : Behaviour) (feed : Feed) (next : Rule) (state : DocumentState) (w : World) →
     HasFlow B w.setting.options next → Sees feed w → ContainersInvariant state w →
-    GoesOn B next (feeds (n.Document state) w.current) →
+    IsContinued B next (feeds (n.Document state) w.current) →
     state ≢ document.Start → state ≢ document.BeforeFrontmatter →
     Steps B feed (Next (n.Document state)) w (document_own_transition state w).to
     (document_own_transition state w).world

@@ -31,7 +31,7 @@ use Rattle.proof_leaf_laws.specs.Leaf.HeadingSetext.{setext_leaf}
 use Rattle.proof_leaf_laws.specs.Leaf.ThematicBreak.{break_leaf, is_ruled}
 use Rattle.proof_frame.specs.LeafName.{CodeIndented, Fence, HeadingAtx, HeadingSetext, GfmTable, HtmlFlow, LeafName}
 use Rattle.proof_frame.specs.LeafName.{ThematicBreak, first_of}
-use Rattle.md_registry.specs.Registry.{behind, leaf, trials}
+use Rattle.md_registry.specs.Registry.{following, leaf, trials}
 use Rattle.proof_literal_laws.proofs.CodeIndented.Cells.{code-rest}
 use Rattle.proof_literal_laws.proofs.HtmlFlow.Found.{html-indented, html-lazy}
 use Rattle.proof_literal_laws.specs.Leaf.HtmlFlow.{html_leaf}
@@ -46,9 +46,9 @@ abbrev pub leaf_at : ParseOptions → HeldLeaf → Rest → Option LeafName
 leaf_at options on r = first_of (λ l. (leaf l).starts options on r) trials
 
 -- and what it makes of the line
-abbrev pub came_of : ParseOptions → Rest → Option LeafName → Option LeafResult
-came_of options r None = None
-came_of options r (Some l) = Some ((leaf l).comes options NoLeaf r)
+abbrev pub result_of : ParseOptions → Rest → Option LeafName → Option LeafResult
+result_of options r None = None
+result_of options r (Some l) = Some ((leaf l).becomes options NoLeaf r)
 
 -- The leaf that is open says what a line may interrupt: no text, text, or text that it is lazy for.
 abbrev pub IsAgainst : ParagraphContext → HeldLeaf → Type 0
@@ -70,7 +70,7 @@ setext-turns : TurnsText HeadingSetext
 setext-turns = record {
   ends = refl;
   same = refl;
-  comes = λ options lines r. refl;
+  becomes = λ options lines r. refl;
   filled = setext-filled;
   shallow = λ lines r. shallow (first_byte (trim_start r.bytes) == equals_sign) lines;
 }
@@ -173,7 +173,7 @@ text-starts options at r l found = go (code_leaf.starts options held_leaf.None r
         cond x (Some Fence) (cond h (Some HtmlFlow) (cond y (Some HeadingAtx) (cond z (Some ThematicBreak) None)))
 
     others : Option LeafName
-    others = first_of (λ l. (leaf l).starts options held_leaf.None r) (behind CodeIndented)
+    others = first_of (λ l. (leaf l).starts options held_leaf.None r) (following CodeIndented)
 
     off : (x y z : Bool) → (x && false && y && z) ≡ false
     off true y z = refl

@@ -26,19 +26,19 @@ use Rattle.md_engine.specs.Going.{SeesOn}
 use Rattle.md_engine.specs.Run.{Remains, RunsHere, Step, reading}
 use Rattle.md_engine.specs.World.{World, closed, container_of, looks}
 use Rattle.md_engine.proofs.Keeps.{runs-setting}
-use Rattle.md_engine.proofs.Loops.{CameHere, CameTo, call-sees, came-calls, came-first, came-runs}
-use Rattle.md_engine.proofs.Loops.{came-stays, not_error, reading-same}
+use Rattle.md_engine.proofs.Loops.{ArrivedHere, ArrivedAt, call-sees, arrived-calls, arrived-first, arrived-runs}
+use Rattle.md_engine.proofs.Loops.{arrived-stays, not_error, reading-same}
 use Rattle.md_engine.proofs.Walks.{Within, then-stays, then-run, within-one}
 use Rattle.md_leaves.specs.Blank as blank
 use Rattle.md_leaves.proofs.HeadingCalls.{remains-of, sees-from}
-use Rattle.md_events.specs.Look.{behind_code, first_behind, looks_behind, may_with}
+use Rattle.md_events.specs.Look.{following_code, first_following, looks_after, may_with}
 use Rattle.md_events.specs.Spaces.{ends_line}
 use Rattle.md_events.specs.Transition.{Transition, entered, exited, taken, tried}
 use Rattle.md_registry.specs.AtOnce.{all_asked, content_alone, is_common, opens_none, openers_passed}
 use Rattle.md_registry.specs.Document.{document_own_transition}
 use Rattle.proof_frame.specs.EndingName.{ending_name}
 use Rattle.md_registry.specs.LineFlags.{asking, begun_line, blank_here, blanked, next_line}
-use Rattle.md_registry.specs.LineFlags.{nothing_stands, kept_containers}
+use Rattle.md_registry.specs.LineFlags.{nothing_is_here, kept_containers}
 use Rattle.proof_frame.specs.LeafName.{GfmTable, LeafName}
 use Rattle.md_registry.specs.States.{FlowStep, flow_transition}
 use Rattle.md_registry.proofs.ConstructStates.{NextOpener, container-states}
@@ -54,27 +54,27 @@ use Rattle.md_engine.specs.declared.tokenizer.Frame.{Frame}
 use Rattle.md_engine.specs.declared.tokenizer.held_leaf.HeldLeaf.{HeldLeaf}
 
 -- a byte that is no whitespace is first after whitespace
-pub looks-dark : (w : World) (b : ℕ) → w.current ≡ Some b → is_white b ≡ false → looks_behind w ≡ Some b
-unfolding looks_behind
+pub looks-dark : (w : World) (b : ℕ) → w.current ≡ Some b → is_white b ≡ false → looks_after w ≡ Some b
+unfolding looks_after
 looks-dark w b e dark =
-    let found : Option ℕ = first_behind (slice_range w.setting.bytes w.point.index w.setting.limit) in
-    ap (λ (o : Option ℕ). behind_code o found) e ∙ ap (λ (x : Bool). cond x found (Some b)) dark
+    let found : Option ℕ = first_following (slice_range w.setting.bytes w.point.index w.setting.limit) in
+    ap (λ (o : Option ℕ). following_code o found) e ∙ ap (λ (x : Bool). cond x found (Some b)) dark
 
 -- such a byte is here, with which none of these may begin
 pub record Refused {K : Type 0} (may : K → ℕ → Bool) (ks : List K) (w : World) : Type 0 where
   pub byte : ℕ
-  pub here : looks_behind w ≡ Some byte
+  pub here : looks_after w ≡ Some byte
   pub none : list_any (λ (k : K). may k byte) ks ≡ false
 
 -- the first of these
 refused-first : {K : Type 0} → (may : K → ℕ → Bool) (k : K) (ks : List K) (w : World) → Refused may (k ∷ ks) w →
-    may_with (may k) (looks_behind w) ≡ false
+    may_with (may k) (looks_after w) ≡ false
 refused-first may k ks w r =
     ap (may_with (may k)) r.here ∙ (or_parts (may k r.byte) (list_any (λ x. may x r.byte) ks) r.none).0
 
 -- and those after it, wherever the same byte is first
 refused-rest : {K : Type 0} → (may : K → ℕ → Bool) (k : K) (ks : List K) (w v : World) →
-    looks_behind v ≡ looks_behind w → Refused may (k ∷ ks) w → Refused may ks v
+    looks_after v ≡ looks_after w → Refused may (k ∷ ks) w → Refused may ks v
 refused-rest may k ks w v same r = record {
   byte = r.byte;
   here = same ∙ r.here;
@@ -87,11 +87,11 @@ refused-rest may k ks w v same r = record {
 pub openers-refuse : (is_end : Bool) (s : State) (v : World)
     (ks js : List ContainerKind) (w : World) →
     NextOpener (ks ++ js) → Refused may_open ks w → w.current ≡ looks w → Within w →
-    CameTo FlowStep is_end s v (n.Document (opener_front (ks ++ js))) w →
-    CameTo FlowStep is_end s v (n.Document (opener_front js)) (all_asked ks w)
-unfolding looks_behind
-openers-refuse is_end s v [] js w next none seen within came = came
-openers-refuse is_end s v (k ∷ ks) js w next none seen within came =
+    ArrivedAt FlowStep is_end s v (n.Document (opener_front (ks ++ js))) w →
+    ArrivedAt FlowStep is_end s v (n.Document (opener_front js)) (all_asked ks w)
+unfolding looks_after
+openers-refuse is_end s v [] js w next none seen within arrived = arrived
+openers-refuse is_end s v (k ∷ ks) js w next none seen within arrived =
     let a : World = asking (container_of k) w in
     let x : DocumentState = (container_rules k).before in
     let is : document_own_transition x w ≡ record { to = Retry (n.Document (opener_front (ks ++ js))); world = a } =
@@ -102,7 +102,7 @@ openers-refuse is_end s v (k ∷ ks) js w next none seen within came =
     ∙ ap (λ (ls : List ContainerKind). record { to = Retry (n.Document (opener_front ls)); world = a }) next in
     openers-refuse is_end s v ks js a (subst NextOpener next (container-states k).next)
     (refused-rest may_open k ks w a refl none) seen within
-    (then-stays FlowStep is_end s v (n.Document x) (n.Document (opener_front (ks ++ js))) w a came
+    (then-stays FlowStep is_end s v (n.Document x) (n.Document (opener_front (ks ++ js))) w a arrived
     (record { to_is = sym (ap (λ (y : Transition). y.to) is); new_is = sym (ap (λ (y : Transition). y.world) is) }) refl
     within refl seen)
 
@@ -122,30 +122,31 @@ opens-none w e = go w.current refl e
 
 -- After all containers a leaf that is open may be asked first,
 pub line-front : (is_end : Bool) (s : State) (v w : World) →
-    w.current ≡ looks w → Within w → CameTo FlowStep is_end s v (n.Document document.ContainersAfter) w →
-    CameTo FlowStep is_end s v (leaf_front (is_some (asked_first (begun_line w.flags).leaf)))
+    w.current ≡ looks w → Within w → ArrivedAt FlowStep is_end s v (n.Document document.ContainersAfter) w →
+    ArrivedAt FlowStep is_end s v (leaf_front (is_some (asked_first (begun_line w.flags).leaf)))
     (record w { flags = begun_line w.flags })
-line-front is_end s v w seen within came =
+line-front is_end s v w seen within arrived =
     then-stays FlowStep is_end s v (n.Document document.ContainersAfter)
-    (leaf_front (is_some (asked_first (begun_line w.flags).leaf))) w (record w { flags = begun_line w.flags }) came
+    (leaf_front (is_some (asked_first (begun_line w.flags).leaf))) w (record w { flags = begun_line w.flags }) arrived
     (record { to_is = refl; new_is = refl }) refl within refl seen
 
 -- and else its rest begins,
 pub line-begun : (is_end : Bool) (s : State) (v w : World) →
     is_some (asked_first (begun_line w.flags).leaf) ≡ false → w.current ≡ looks w → Within w →
-    CameTo FlowStep is_end s v (n.Document document.ContainersAfter) w →
-    CameTo FlowStep is_end s v (n.Flow flow.Start) (record w { flags = begun_line w.flags })
-line-begun is_end s v w none seen within came =
+    ArrivedAt FlowStep is_end s v (n.Document document.ContainersAfter) w →
+    ArrivedAt FlowStep is_end s v (n.Flow flow.Start) (record w { flags = begun_line w.flags })
+line-begun is_end s v w none seen within arrived =
     let u : World = record w { flags = begun_line w.flags } in
-    subst (λ (x : Bool). CameTo FlowStep is_end s v (leaf_front x) u) none (line-front is_end s v w seen within came)
+    subst (λ (x : Bool). ArrivedAt FlowStep is_end s v (leaf_front x) u) none
+    (line-front is_end s v w seen within arrived)
 
 -- which may be blank where whitespace is here, or nothing,
 pub line-blank : (is_end : Bool) (s : State) (v w : World) →
     start_transition w ≡ record { to = Retry (n.Flow flow.BlankLineBefore); world = w } → w.current ≡ looks w →
-    Within w → CameTo FlowStep is_end s v (n.Flow flow.Start) w →
-    CameTo FlowStep is_end s v (n.Flow flow.BlankLineBefore) w
-line-blank is_end s v w is seen within came =
-    then-stays FlowStep is_end s v (n.Flow flow.Start) (n.Flow flow.BlankLineBefore) w w came
+    Within w → ArrivedAt FlowStep is_end s v (n.Flow flow.Start) w →
+    ArrivedAt FlowStep is_end s v (n.Flow flow.BlankLineBefore) w
+line-blank is_end s v w is seen within arrived =
+    then-stays FlowStep is_end s v (n.Flow flow.Start) (n.Flow flow.BlankLineBefore) w w arrived
     (record { to_is = sym (ap (λ (y : Transition). y.to) is); new_is = sym (ap (λ (y : Transition). y.world) is) }) refl
     within refl seen
 
@@ -163,13 +164,13 @@ starts-blank w e = go w.current e
 -- and it is, and ends, where nothing is left of it
 pub line-over : (is_end : Bool) (s : State) (v w : World) →
     ends_line w.current ≡ true → w.current ≡ looks w → Within w →
-    CameTo FlowStep is_end s v (n.Flow flow.BlankLineBefore) w →
-    CameTo FlowStep is_end s v (n.Document document.FlowEnd) (record w { flags = blanked w.flags })
-line-over is_end s v w ends seen within came =
+    ArrivedAt FlowStep is_end s v (n.Flow flow.BlankLineBefore) w →
+    ArrivedAt FlowStep is_end s v (n.Document document.FlowEnd) (record w { flags = blanked w.flags })
+line-over is_end s v w ends seen within arrived =
     let T = FlowStep in
     let is : blank_line_before_transition w ≡ record { to = Retry (n.Flow flow.BlankLineAfter); world = w } =
-    ap (λ (x : Bool). blank_line_code w x (may_with blank.may_begin (looks_behind w))) ends in
-    let blank = then-stays T is_end s v (n.Flow flow.BlankLineBefore) (n.Flow flow.BlankLineAfter) w w came
+    ap (λ (x : Bool). blank_line_code w x (may_with blank.may_begin (looks_after w))) ends in
+    let blank = then-stays T is_end s v (n.Flow flow.BlankLineBefore) (n.Flow flow.BlankLineAfter) w w arrived
     (record { to_is = sym (ap (λ (y : Transition). y.to) is); new_is = sym (ap (λ (y : Transition). y.world) is) }) refl
     within refl seen in
     then-stays T is_end s v (n.Flow flow.BlankLineAfter) (n.Document document.FlowEnd) w
@@ -178,22 +179,23 @@ line-over is_end s v w ends seen within came =
 -- So one reaches the leaf that is asked first,
 pub passes-front : (is_end : Bool) (s : State) (v w : World) →
     opens_none w.current ≡ true → w.current ≡ looks w → Within w →
-    CameTo FlowStep is_end s v (n.Document (opener_front openers)) w →
-    CameTo FlowStep is_end s v (leaf_front (is_some (asked_first (openers_passed w).flags.leaf))) (openers_passed w)
-unfolding looks_behind
-passes-front is_end s v w e seen within came =
+    ArrivedAt FlowStep is_end s v (n.Document (opener_front openers)) w →
+    ArrivedAt FlowStep is_end s v (leaf_front (is_some (asked_first (openers_passed w).flags.leaf))) (openers_passed w)
+unfolding looks_after
+passes-front is_end s v w e seen within arrived =
     line-front is_end s v (all_asked openers w) seen within
-    (openers-refuse is_end s v openers [] w refl (opens-none w e) seen within came)
+    (openers-refuse is_end s v openers [] w refl (opens-none w e) seen within arrived)
 
 -- The rest of the line is content where its row has the table alone, and a look refuses that.
 
 -- a state refuses, and the attempt around it is left
 then-fails : (T : Step) (is_end : Bool) (s : State) (v : World) (name next : StateName) (w u : World) (f : Frame)
     (fs : List Frame) →
-    CameTo T is_end s v name w → T name w Nok u → u.setting ≡ w.setting → u.point ≡ w.point → Within w →
+    ArrivedAt T is_end s v name w → T name w Nok u → u.setting ≡ w.setting → u.point ≡ w.point → Within w →
     u.frames ≡ f ∷ fs → f.nok ≡ Next next → f.point ≡ w.point →
     All (λ (g : Frame). g.events_len ≤ f.events_len) fs →
-    CameTo T is_end s v next (reading (record u { frames = fs; events = take f.events_len u.events; point = f.point }))
+    ArrivedAt T is_end s v next
+    (reading (record u { frames = fs; events = take f.events_len u.events; point = f.point }))
 then-fails T is_end s v name next w u f fs h step same there within e nok at below =
     let fine : Nok ≢ Error = λ k. cc in
     let back : World = record u { frames = fs; events = take f.events_len u.events; point = f.point } in
@@ -213,8 +215,8 @@ then-fails T is_end s v name next w u f fs h step same there within e nok at bel
 -- content follows at once
 pub content-follows : (is_end : Bool) (s : State) (v w : World) →
     content_alone w.flags.leaf w.current ≡ true → w.current ≡ looks w → Within w →
-    CameTo FlowStep is_end s v (n.Flow flow.Start) w → CameTo FlowStep is_end s v (n.Flow flow.BeforeContent) w
-content-follows is_end s v w e seen within came = go w.current refl e
+    ArrivedAt FlowStep is_end s v (n.Flow flow.Start) w → ArrivedAt FlowStep is_end s v (n.Flow flow.BeforeContent) w
+content-follows is_end s v w e seen within arrived = go w.current refl e
   where
     T : Step
     T = FlowStep
@@ -232,7 +234,7 @@ content-follows is_end s v w e seen within came = go w.current refl e
     begun = tried w (Next (n.Flow flow.After)) (Next (n.Flow flow.BeforeContent))
 
     go : (o : Option ℕ) → w.current ≡ o → content_alone w.flags.leaf o ≡ true →
-        CameTo T is_end s v (n.Flow flow.BeforeContent) w
+        ArrivedAt T is_end s v (n.Flow flow.BeforeContent) w
     go None here e = cc
     go (Some b) here e =
         let on : HeldLeaf = w.flags.leaf in
@@ -245,10 +247,10 @@ content-follows is_end s v w e seen within came = go w.current refl e
         let is : start_transition w ≡ record { to = Retry (leaf GfmTable).start; world = begun } =
         ap (start_code w) here ∙ ap (start_by w b) plain
         ∙ ap (λ (ls : List LeafName). row_transition ls w) (common-row b more.1) in
-        let trial = then-stays T is_end s v (n.Flow flow.Start) (leaf GfmTable).start w begun came
+        let trial = then-stays T is_end s v (n.Flow flow.Start) (leaf GfmTable).start w begun arrived
         (record { to_is = sym (ap (λ (y : Transition). y.to) is); new_is = sym (ap (λ (y : Transition). y.world) is) })
         refl within refl seen in
-        let first : looks_behind begun ≡ Some b = looks-dark begun b here dark.0 in
+        let first : looks_after begun ≡ Some b = looks-dark begun b here dark.0 in
         let refuses : table_start begun ≡ record { to = Nok; world = begun } =
         ap (table_begins begun) (ap (may_with (may_table on)) first ∙ none) in
         let back =
@@ -258,8 +260,8 @@ content-follows is_end s v w e seen within came = go w.current refl e
           new_is = sym (ap (λ (y : Transition). y.world) refuses);
         })
         refl refl (within-one f w.frames (length w.events) (omega arith) within) refl refl refl within in
-        subst (λ (x : World). CameTo T is_end s v (n.Flow flow.BeforeContent) x)
-        (reading-same w seen) (subst (λ (es : List Event). CameTo T is_end s v (n.Flow flow.BeforeContent)
+        subst (λ (x : World). ArrivedAt T is_end s v (n.Flow flow.BeforeContent) x)
+        (reading-same w seen) (subst (λ (es : List Event). ArrivedAt T is_end s v (n.Flow flow.BeforeContent)
         (reading (record w { events = es })))
         (take_all (length w.events) w.events (omega arith)) back)
 
@@ -275,7 +277,7 @@ trial-leaves start ok nok w u false there same text = ((there, same), text)
 opener-leaves : (k : ContainerKind) (w : World) → Leaves (new_before_transition k w) w
 opener-leaves k w =
     trial-leaves (opens_with k) (n.Document document.ContainerNewAfter) (n.Document (next_opener k)) w
-    (asking (container_of k) w) (may_with (may_open k) (looks_behind w)) refl refl refl
+    (asking (container_of k) w) (may_with (may_open k) (looks_after w)) refl refl refl
 
 -- so does the one that is tried at a state, if one is
 pub tried-opener-leaves : (o : Option ContainerKind) (w : World) → Leaves (opener_transition o w) w
@@ -285,11 +287,11 @@ tried-opener-leaves (Some k) w = opener-leaves k w
 pub blank-leaves : (w : World) → Leaves (blank_line_before_transition w) w
 blank-leaves w = go (ends_line w.current)
   where
-    go : (x : Bool) → Leaves (blank_line_code w x (may_with blank.may_begin (looks_behind w))) w
+    go : (x : Bool) → Leaves (blank_line_code w x (may_with blank.may_begin (looks_after w))) w
     go true = ((refl, refl), refl)
     go false =
         trial-leaves (n.BlankLine blank_line.Start) (n.Flow flow.BlankLineAfter) (n.Flow (front_of trials)) w w
-        (may_with blank.may_begin (looks_behind w)) refl refl refl
+        (may_with blank.may_begin (looks_after w)) refl refl refl
 
 pub start-leaves : (w : World) → Leaves (start_transition w) w
 start-leaves w = at w.current
@@ -314,7 +316,7 @@ inside-leaves w = go (asked_first w.flags.leaf)
     go None = ((refl, refl), refl)
     go (Some l) =
         trial-leaves (leaf l).start (n.Flow flow.After) (n.Flow flow.Start)
-        (record w { flags = blank_here (nothing_stands w.current w.point) w.flags }) w true refl refl refl
+        (record w { flags = blank_here (nothing_is_here w.current w.point) w.flags }) w true refl refl refl
 
 -- at the end of a line no state kept_containers
 ends-anywhere : (u w : World) (o : Option ℕ) → u.setting ≡ w.setting → Leaves (flow_end_code u o) w
@@ -340,16 +342,16 @@ pub line-leaves : (w : World) → Leaves (flow_end_transition w) w
 line-leaves w = ends-anywhere (closed w (kept_containers w.flags) w.flags.line_end) w w.current refl
 
 -- One has reached a state, where one was or something may be read, and it is called last.
-pub ends-behind : (first name : StateName) (old w : World) (to : State)
+pub ends-following : (first name : StateName) (old w : World) (to : State)
     (new : World) →
-    CameHere FlowStep first old name w → Leaves (flow_transition name w) w →
+    ArrivedHere FlowStep first old name w → Leaves (flow_transition name w) w →
     to ≡ (flow_transition name w).to → new ≡ (flow_transition name w).world → to ≢ Error →
     w.current ≡ looks w → Within w → (w.point ≡ old.point) ⊎ (w.point.index < w.setting.limit) →
     RunsHere FlowStep first old to new × SeesOn to old new
-ends-behind first name old w to new came leaves to_is new_is fine seen within there =
+ends-following first name old w to new arrived leaves to_is new_is fine seen within there =
     let same : new.setting ≡ w.setting = ap (λ (x : World). x.setting) new_is ∙ leaves.1 in
     let remains = remains-of (flow_transition name w) to w new to_is new_is leaves.0 in (
-      came-calls FlowStep first name old w to new came (record { to_is = to_is; new_is = new_is }) fine same
+      arrived-calls FlowStep first name old w to new arrived (record { to_is = to_is; new_is = new_is }) fine same
           within,
       sees-from to old w new (call-sees to w new remains same seen) same there,
     )
@@ -357,12 +359,12 @@ ends-behind first name old w to new came leaves to_is new_is fine seen within th
 -- One has reached a state, where one was, and it is called last.
 pub ends-with : (first name : StateName) (old w : World) (to : State)
     (new : World) →
-    CameHere FlowStep first old name w → Leaves (flow_transition name w) w →
+    ArrivedHere FlowStep first old name w → Leaves (flow_transition name w) w →
     to ≡ (flow_transition name w).to → new ≡ (flow_transition name w).world → to ≢ Error →
     w.current ≡ looks w → Within w → w.point ≡ old.point →
     RunsHere FlowStep first old to new × SeesOn to old new
-ends-with first name old w to new came leaves to_is new_is fine seen within there =
-    ends-behind first name old w to new came leaves to_is new_is fine seen within (inl there)
+ends-with first name old w to new arrived leaves to_is new_is fine seen within there =
+    ends-following first name old w to new arrived leaves to_is new_is fine seen within (inl there)
 
 -- One call of a state, where one is.
 pub leaves-once : (name : StateName) (w : World) (to : State)
@@ -371,20 +373,20 @@ pub leaves-once : (name : StateName) (w : World) (to : State)
     new ≡ (flow_transition name w).world → to ≢ Error → w.current ≡ looks w → Within w →
     RunsHere FlowStep name w to new × SeesOn to w new
 leaves-once name w to new leaves to_is new_is fine seen within =
-    ends-with name name w w to new (came-first FlowStep name w) leaves to_is new_is fine seen within
+    ends-with name name w w to new (arrived-first FlowStep name w) leaves to_is new_is fine seen within
     refl
 
 -- One has reached a state, where one was, and more runs from there.
 pub runs-on : (first name : StateName) (old w : World) (to : State)
     (new : World) →
-    CameHere FlowStep first old name w → RunsHere FlowStep name w to new → SeesOn to w new →
+    ArrivedHere FlowStep first old name w → RunsHere FlowStep name w to new → SeesOn to w new →
     w.current ≡ looks w → (w.point ≡ old.point) ⊎ (w.point.index < w.setting.limit) →
     RunsHere FlowStep first old to new × SeesOn to old new
-runs-on first name old w to new came runs sees seen there =
+runs-on first name old w to new arrived runs sees seen there =
     let T = FlowStep in
     let same : new.setting ≡ w.setting =
     runs-setting T true (Next name) w to new (runs true (Next name) w refl (reading-same w seen) (inl refl)) in (
-      λ is_end. came-runs T is_end first name old w to new (came is_end) (runs is_end),
+      λ is_end. arrived-runs T is_end first name old w to new (arrived is_end) (runs is_end),
       sees-from to old w new sees same there,
     )
 
@@ -396,22 +398,23 @@ pub stays-runs : (first next : StateName) (old w : World) (s to : State)
     RunsHere FlowStep first old to new × SeesOn to old new
 stays-runs first next old w s to new seen is before saw runs sees =
     let T = FlowStep in
-    let come : RunsHere T first old (Retry next) w = subst (λ (x : State). RunsHere T first old x w) is before in
+    let become : RunsHere T first old (Retry next) w = subst (λ (x : State). RunsHere T first old x w) is before in
     let here : SeesOn (Retry next) old w = subst (λ (x : State). SeesOn x old w) is saw in
     let same : w.setting ≡ old.setting =
     runs-setting T true (Next first) old (Retry next) w
-    (come true (Next first) old refl (reading-same old seen) (inl refl)) in
+    (become true (Next first) old refl (reading-same old seen) (inl refl)) in
     runs-on first next old w to new
-    (came-stays T first first next old old w (came-first T first old) come here same) runs sees here.0 here.1
+    (arrived-stays T first first next old old w (arrived-first T first old) become here same) runs sees here.0 here.1
 
 -- A run from a state to an answer, and what it leaves;
-abbrev pub Goes : StateName → World → State → World → Type 0
-Goes name w to new = RunsHere FlowStep name w to new × SeesOn to w new
+abbrev pub Proceeds : StateName → World → State → World → Type 0
+Proceeds name w to new = RunsHere FlowStep name w to new × SeesOn to w new
 
 -- where it answers another state that stays, more may run from there.
-pub goes-through : (first next : StateName) (w u : World) (s to : State) (new : World) → w.current ≡ looks w →
-    s ≡ Retry next → (s ≢ Error → Goes first w s u) → (u.current ≡ looks u → Goes next u to new) → Goes first w to new
-goes-through first next w u s to new seen is come go =
-    let before = come (λ e. not_error (Retry next) next refl (sym is ∙ e)) in
+pub proceeds-through : (first next : StateName) (w u : World) (s to : State) (new : World) → w.current ≡ looks w →
+    s ≡ Retry next → (s ≢ Error → Proceeds first w s u) → (u.current ≡ looks u → Proceeds next u to new) →
+    Proceeds first w to new
+proceeds-through first next w u s to new seen is become go =
+    let before = become (λ e. not_error (Retry next) next refl (sym is ∙ e)) in
     let after = go (subst (λ (x : State). SeesOn x w u) is before.1).0 in
     stays-runs first next w u s to new seen is before.0 before.1 after.0 after.1

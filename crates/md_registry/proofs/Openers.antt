@@ -15,7 +15,7 @@ use Rattle.md_registry.specs.Document.{document_own_transition}
 use Rattle.md_registry.specs.Flow.{flow_rank, flow_scheme, flow_tries, new_before_transition}
 use Rattle.proof_frame.specs.Rule.{Rule}
 use Rattle.md_registry.specs.FlowRule.{containers_behave, openers_of}
-use Rattle.md_registry.specs.Registry.{container_rules, opener_front, openers_behind, trials}
+use Rattle.md_registry.specs.Registry.{container_rules, opener_front, openers_after, trials}
 use Rattle.md_registry.specs.States.{containers_owner, flow_owner, flow_table_scheme}
 use Rattle.md_registry.proofs.Termination.{OpenerFits, TrialFits}
 use Rattle.md_registry.proofs.ConstructStates.{NextOpener, container-states}
@@ -25,13 +25,13 @@ use Rattle.md_registry.proofs.ConstructStates.{NextOpener, container-states}
 pub record AtOpener (k : ContainerKind) : Type 1 where
   pub owned : containers_owner (container_rules k).before ≡ flow_scheme
   pub rank : (flow_rank (n.Document (container_rules k).before)).number ≡
-      12 + 2 * length trials + 2 * length (openers_behind k)
+      12 + 2 * length trials + 2 * length (openers_after k)
   pub tries : (flow_tries (n.Document (container_rules k).before)).number ≡
-      suc (12 + 2 * length trials + 2 * length (openers_behind k))
+      suc (12 + 2 * length trials + 2 * length (openers_after k))
   pub does : (w : World) → document_own_transition (container_rules k).before w ≡ new_before_transition k w
   pub left : (options : ParseOptions) (next : Rule) (cells : List Cell) (h : Here) →
       containers_behave options next (container_rules k).before cells h ≡
-      openers_of options next (k ∷ openers_behind k) cells h
+      openers_of options next (k ∷ openers_after k) cells h
 
 pub at-opener : (k : ContainerKind) → AtOpener k
 at-opener kind.BlockQuote =
@@ -65,7 +65,7 @@ front-fits from [] here is lt = record {
   next = fits flow_owner (n.Document document.ContainersAfter);
   falls = omega (arith, lt);
   next_low = omega arith;
-  behind_low = omega arith;
+  after_low = omega arith;
 }
 front-fits from (k ∷ ks) here is lt =
     let low = (at-opener k).rank in
@@ -76,11 +76,11 @@ front-fits from (k ∷ ks) here is lt =
       next = fits-before k;
       falls = omega (arith, lt, tries, less);
       next_low = omega (arith, low, tries);
-      behind_low = omega (arith, tries);
+      after_low = omega (arith, tries);
     }
 
 pub opener-fits : (k : ContainerKind) → OpenerFits flow_table_scheme k
 opener-fits k =
     let here = (at-opener k).rank in
-    front-fits (n.Document (container_rules k).before) (openers_behind k) (fits-before k) (container-states k).next
+    front-fits (n.Document (container_rules k).before) (openers_after k) (fits-before k) (container-states k).next
     (omega (arith, here))

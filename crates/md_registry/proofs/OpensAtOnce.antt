@@ -13,19 +13,19 @@ use Rattle.md_engine.specs.declared.tokenizer.container.name.ContainerKind.{Cont
 use Rattle.md_engine.specs.declared.tokenizer.container.name.ContainerKind.TheVariants as kind
 use Rattle.md_engine.specs.Run.{Step}
 use Rattle.md_engine.specs.World.{World, container_of, looks}
-use Rattle.md_engine.proofs.Loops.{CameTo}
+use Rattle.md_engine.proofs.Loops.{ArrivedAt}
 use Rattle.md_engine.proofs.Walks.{Within, then-stays}
 use Rattle.md_meaning.specs.Containers.{is_bullet, is_digit}
 use Rattle.md_containers.specs.PlainBullet.{IsPlainBullet, bulleted}
 use Rattle.md_containers.proofs.PlainBullet.{bullet-run, bullet-seen}
-use Rattle.md_events.specs.Look.{looks_behind, may_with}
+use Rattle.md_events.specs.Look.{looks_after, may_with}
 use Rattle.md_events.specs.Transition.{Transition, tried}
 use Rattle.md_registry.specs.AtOnce.{all_asked}
 use Rattle.proof_container_laws.specs.Containers.ListItem.{item_rules}
 use Rattle.md_registry.specs.Flow.{new_before_transition, trial_code}
 use Rattle.md_registry.specs.LineFlags.{asking}
 use Rattle.proof_frame.specs.ContainerNames.{kind_number}
-use Rattle.md_registry.specs.Registry.{may_open, next_opener, opener_front, openers, openers_behind, opens_with}
+use Rattle.md_registry.specs.Registry.{may_open, next_opener, opener_front, openers, openers_after, opens_with}
 use Rattle.md_registry.specs.States.{FlowStep}
 use Rattle.md_registry.proofs.LinesAtOnce.{openers-refuse}
 use Rattle.md_registry.proofs.ListItem.Plain.{has-item}
@@ -53,12 +53,12 @@ bullets-refused b h = go (nat_eq b 42) (nat_eq b 43) (nat_eq b 45) refl refl ref
 
 -- an item without a number is tried after others that are refused, and opens
 pub bullet-opens : (is_end : Bool) (s : State) (v w : World) →
-    CameTo FlowStep is_end s v (n.Document (opener_front openers)) w → w.current ≡ looks w → Within w →
+    ArrivedAt FlowStep is_end s v (n.Document (opener_front openers)) w → w.current ≡ looks w → Within w →
     IsPlainBullet w →
-    CameTo FlowStep is_end s v (n.Document document.ContainerNewAfter)
+    ArrivedAt FlowStep is_end s v (n.Document document.ContainerNewAfter)
     (bulleted (asking (container_of kind.ListItem) w))
-unfolding looks_behind
-bullet-opens is_end s v w came seen within plain =
+unfolding looks_after
+bullet-opens is_end s v w arrived seen within plain =
     bullet-run T is_end s v (n.Document document.ContainerNewAfter) none b has-item
     (λ state x to new e. record {
       to_is = sym (ap (λ (y : Transition). y.to) e);
@@ -81,7 +81,7 @@ bullet-opens is_end s v w came seen within plain =
     marker : ℕ
     marker = slice_index w.setting.bytes w.point.index
 
-    is : looks_behind w ≡ Some marker
+    is : looks_after w ≡ Some marker
     is = bullet-seen w seen plain
 
     none : State
@@ -93,10 +93,10 @@ bullet-opens is_end s v w came seen within plain =
     a : World
     a = all_asked in_front w
 
-    at_item : CameTo T is_end s v (n.Document item_rules.before) a
+    at_item : ArrivedAt T is_end s v (n.Document item_rules.before) a
     at_item =
-        openers-refuse is_end s v in_front (kind.ListItem ∷ openers_behind kind.ListItem) w refl
-        (record { byte = marker; here = is; none = bullets-refused marker plain.bullet }) seen within came
+        openers-refuse is_end s v in_front (kind.ListItem ∷ openers_after kind.ListItem) w refl
+        (record { byte = marker; here = is; none = bullets-refused marker plain.bullet }) seen within arrived
 
     begun : new_before_transition kind.ListItem a ≡
         record {
@@ -113,7 +113,7 @@ bullet-opens is_end s v w came seen within plain =
         trial_code (opens_with kind.ListItem) (n.Document document.ContainerNewAfter)
         (n.Document (next_opener kind.ListItem)) b (x || is_digit marker)) plain.bullet
 
-    tries : CameTo T is_end s v (n.ListItem its.Start) (tried b (Next (n.Document document.ContainerNewAfter)) none)
+    tries : ArrivedAt T is_end s v (n.ListItem its.Start) (tried b (Next (n.Document document.ContainerNewAfter)) none)
     tries =
         then-stays T is_end s v (n.Document item_rules.before) (n.ListItem its.Start) a
         (tried b (Next (n.Document document.ContainerNewAfter)) none) at_item

@@ -8,9 +8,9 @@ use Rattle.md_engine.specs.declared.state.State.TheVariants.{Next}
 use Rattle.md_engine.specs.declared.tokenizer.container.Container.{Container}
 use Rattle.md_engine.specs.Scheme.{cells_left}
 use Rattle.md_engine.specs.World.{World, looks}
-use Rattle.md_engine.proofs.Loops.{CameTo}
+use Rattle.md_engine.proofs.Loops.{ArrivedAt}
 use Rattle.md_engine.proofs.Walks.{Within}
-use Rattle.md_events.specs.Look.{looks_behind, may_with}
+use Rattle.md_events.specs.Look.{looks_after, may_with}
 use Rattle.md_events.specs.Spaces.{ends_line}
 use Rattle.md_events.specs.Transition.{tried}
 use Rattle.proof_frame.specs.ContainerRules.{ContainerRules}
@@ -36,11 +36,11 @@ pub record PlainLaws (rules : ContainerRules) : Type 1 where
   pub asked : (w : World) (c d : Container) → rules.plain c w → rules.plain c (asking d w)
   -- where it is the container may continue, and the line does not end
   pub may : (w : World) (c : Container) → rules.plain c w → w.current ≡ looks w →
-      may_with rules.may_go_on (looks_behind w) ≡ true
+      may_with rules.may_continue (looks_after w) ≡ true
   pub not_end : (w : World) (c : Container) → rules.plain c w → w.current ≡ looks w → ends_line w.current ≡ false
   pub took : (w : World) (c : Container) → rules.plain c w → TookPrefix w (rules.taken c w)
   -- an attempt at the prefix takes it
   pub runs : (is_end : Bool) (s : State) (v a : World) (c : Container) →
-      CameTo FlowStep is_end s v rules.further (tried a after-it others) → a.current ≡ looks a → Within a →
+      ArrivedAt FlowStep is_end s v rules.further (tried a after-it others) → a.current ≡ looks a → Within a →
       rules.plain c a → a.flags.asked ≡ c →
-      CameTo FlowStep is_end s v (n.Document document.ContainerExistingAfter) (rules.taken c a)
+      ArrivedAt FlowStep is_end s v (n.Document document.ContainerExistingAfter) (rules.taken c a)

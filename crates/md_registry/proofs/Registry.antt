@@ -18,8 +18,8 @@ use Rattle.md_meaning.specs.Rest.{Rest}
 use Rattle.proof_frame.specs.HeldLeaf.{has_lines}
 use Rattle.proof_literal_laws.specs.Leaf.CodeIndented.{is_code}
 use Rattle.md_code.specs.Fence.{is_open as is_fence}
-use Rattle.proof_frame.specs.LeafName.{CodeFurther, CodeIndented, Fence, FenceFurther, HeadingAtx, HeadingSetext, GfmTable}
-use Rattle.proof_frame.specs.LeafName.{HtmlFlow, HtmlFurther, LeafName, ThematicBreak}
+use Rattle.proof_frame.specs.LeafName.{CodeFurther, CodeIndented, Fence, FenceFurther, HeadingAtx, HeadingSetext}
+use Rattle.proof_frame.specs.LeafName.{GfmTable, HtmlFlow, HtmlFurther, LeafName, ThematicBreak}
 use Rattle.md_registry.specs.Resolving.{resolved}
 use Rattle.proof_frame.proofs.EventNames.{is_own, is_front}
 use Rattle.proof_frame.specs.TextLines.{text_leaf}

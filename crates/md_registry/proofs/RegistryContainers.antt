@@ -19,8 +19,8 @@ use Rattle.md_outline.specs.HeadingDepths.{are_shallow, is_shallow}
 use Rattle.md_events.proofs.RestCells.{past_rest, rest_cells}
 use Rattle.proof_frame.specs.Passed.{Passed, passed_by, passed_over}
 use Rattle.proof_frame.specs.ContainerNames.{IsOf, container_name, container_kind}
-use Rattle.md_registry.specs.Registry.{MatchesContainer, container_rules, continues_at, goes_at, goes_by, goes_over}
-use Rattle.md_registry.specs.Registry.{openers, opens_at, opens_by}
+use Rattle.md_registry.specs.Registry.{MatchesContainer, container_rules, continues_at, proceeds_at, continues_by}
+use Rattle.md_registry.specs.Registry.{continues_over, openers, opens_at, opens_by}
 use Rattle.proof_frame.proofs.ContainerLaws.{ByRest, IsPassed}
 use Rattle.proof_frame.proofs.ContainerNames.{container-facts}
 use Rattle.proof_frame.proofs.PassedFacts.{Agree, HasFurther, HasOpening}
@@ -37,10 +37,10 @@ known-name k c is = (container-facts c).held k.kind is.0
 -- an open container continues where its cells say so;
 pub further-is : (options : ParseOptions) (k : Known) (c : Container) (cells : List Cell) (h : Here) →
     IsRest h.scratch → h.flags.asked ≡ k → h.flags.asked_column ≡ h.point.column → MatchesContainer k c →
-    continues_at options k.kind cells h ≡ passed_by (goes_at options c cells h.point) h
+    continues_at options k.kind cells h ≡ passed_by (proceeds_at options c cells h.point) h
 further-is options k c cells h rest asked column is =
     (container-laws k.kind).continues_is options k c cells h rest asked column is.0 is.1
-    ∙ ap (λ (o : Option ContainerKind). passed_by (goes_by options c cells h.point o) h) (sym is.0)
+    ∙ ap (λ (o : Option ContainerKind). passed_by (continues_by options c cells h.point o) h) (sym is.0)
 
 -- what is held of a container that continues or opens is of its kind, and matches it
 held-matches : (k : ContainerKind) (t : Passed) → t.held.kind ≡ k → IsOf k t.container →
@@ -50,44 +50,44 @@ held-matches k t kind one holds =
     subst P (sym kind) (one, holds)
 
 -- then it is still the same container,
-pub goes-same : (options : ParseOptions) (k : Known) (c : Container) (cells : List Cell) (p : Point) (t : Passed) →
-    MatchesContainer k c → goes_at options c cells p ≡ Some t → MatchesContainer t.held t.container
-goes-same options k c cells p t is e =
-    let by : (container_rules k.kind).goes options c cells p ≡ Some t =
-    sym (ap (λ (o : Option ContainerKind). goes_by options c cells p o) is.0) ∙ e in
+pub proceeds-same : (options : ParseOptions) (k : Known) (c : Container) (cells : List Cell) (p : Point) (t : Passed) →
+    MatchesContainer k c → proceeds_at options c cells p ≡ Some t → MatchesContainer t.held t.container
+proceeds-same options k c cells p t is e =
+    let by : (container_rules k.kind).proceeds options c cells p ≡ Some t =
+    sym (ap (λ (o : Option ContainerKind). continues_by options c cells p o) is.0) ∙ e in
     let rules = container-laws k.kind in
-    let passed = rules.went options c cells p t is.0 by in
+    let passed = rules.proceeded options c cells p t is.0 by in
     held-matches k.kind t passed.kind passed.one (rules.held_on options k c cells p t is.1 by)
 
 -- takes a cell at least, and adds events with names of prefixes and of containers
-goes-passes : (options : ParseOptions) (c : Container) (cells : List Cell) (p : Point) (t : Passed) →
-    goes_at options c cells p ≡ Some t → (k : ContainerKind) × IsPassed k cells t
-goes-passes options c cells p t e = go (container_kind c) refl e
+proceeds-passes : (options : ParseOptions) (c : Container) (cells : List Cell) (p : Point) (t : Passed) →
+    proceeds_at options c cells p ≡ Some t → (k : ContainerKind) × IsPassed k cells t
+proceeds-passes options c cells p t e = go (container_kind c) refl e
   where
-    go : (o : Option ContainerKind) → container_kind c ≡ o → goes_by options c cells p o ≡ Some t →
+    go : (o : Option ContainerKind) → container_kind c ≡ o → continues_by options c cells p o ≡ Some t →
         (k : ContainerKind) × IsPassed k cells t
     go None is e = cc
-    go (Some k) is e = (k, (container-laws k).went options c cells p t is e)
+    go (Some k) is e = (k, (container-laws k).proceeded options c cells p t is e)
 
-pub goes-shorter : (options : ParseOptions) (c : Container) (cells : List Cell) (p : Point) (t : Passed) →
-    goes_at options c cells p ≡ Some t → ends_line (first_seen cells) ≡ false → length t.cells < length cells
-goes-shorter options c cells p t e ends = (goes-passes options c cells p t e).1.shorter ends
+pub proceeds-shorter : (options : ParseOptions) (c : Container) (cells : List Cell) (p : Point) (t : Passed) →
+    proceeds_at options c cells p ≡ Some t → ends_line (first_seen cells) ≡ false → length t.cells < length cells
+proceeds-shorter options c cells p t e ends = (proceeds-passes options c cells p t e).1.shorter ends
 
-pub goes-within : (options : ParseOptions) (c : Container) (cells : List Cell) (p : Point) (t : Passed) →
-    goes_at options c cells p ≡ Some t → length t.cells ≤ length cells
-goes-within options c cells p t e = (goes-passes options c cells p t e).1.within
+pub proceeds-within : (options : ParseOptions) (c : Container) (cells : List Cell) (p : Point) (t : Passed) →
+    proceeds_at options c cells p ≡ Some t → length t.cells ≤ length cells
+proceeds-within options c cells p t e = (proceeds-passes options c cells p t e).1.within
 
 -- where the line ends, what is held shows whether it does
-pub goes-over : (options : ParseOptions) (k : Known) (c : Container) (cells : List Cell) (p : Point) →
+pub proceeds-over : (options : ParseOptions) (k : Known) (c : Container) (cells : List Cell) (p : Point) →
     MatchesContainer k c → ends_line (first_seen cells) ≡ true →
-    goes_at options c cells p ≡ cond (goes_over k) (Some (passed_over k c cells p)) None
-goes-over options k c cells p is ends =
-    ap (λ (o : Option ContainerKind). goes_by options c cells p o) is.0
-    ∙ (container-laws k.kind).goes_over options k c cells p is.0 is.1 ends
+    proceeds_at options c cells p ≡ cond (continues_over k) (Some (passed_over k c cells p)) None
+proceeds-over options k c cells p is ends =
+    ap (λ (o : Option ContainerKind). continues_by options c cells p o) is.0
+    ∙ (container-laws k.kind).continues_over options k c cells p is.0 is.1 ends
 
-pub goes-front : (options : ParseOptions) (c : Container) (cells : List Cell) (p : Point) (t : Passed) →
-    goes_at options c cells p ≡ Some t → AreFront t.events
-goes-front options c cells p t e = (goes-passes options c cells p t e).1.front
+pub proceeds-front : (options : ParseOptions) (c : Container) (cells : List Cell) (p : Point) (t : Passed) →
+    proceeds_at options c cells p ≡ Some t → AreFront t.events
+proceeds-front options c cells p t e = (proceeds-passes options c cells p t e).1.front
 
 -- one that opens is of one of the kinds that are tried
 record IsOpening (cells : List Cell) (t : Passed) : Type 0 where
@@ -157,17 +157,18 @@ read-kind c read = go (container_kind c) refl read
     go (Some k) e read = (k, e)
 
 -- an open container continues by the cells where it does by the bytes
-pub goes-agrees : (options : ParseOptions) (c : Container) → IsRead c → ByRest (λ line text past r stop p.
+pub proceeds-agrees : (options : ParseOptions) (c : Container) → IsRead c → ByRest (λ line text past r stop p.
     let cells = rest_cells line r p ++ stop in
-    Agree (HasFurther line text past p (past_rest r p) stop cells) (goes_at options c cells p) (continues options c r))
-goes-agrees options c read line text past r stop p is h k short =
+    Agree (HasFurther line text past p (past_rest r p) stop cells) (proceeds_at options c cells p)
+    (continues options c r))
+proceeds-agrees options c read line text past r stop p is h k short =
     let cells : List Cell = rest_cells line r p ++ stop in
     let j = read-kind c read in
     subst
     (λ (o : Option ContainerKind).
-    Agree (HasFurther line text past p (past_rest r p) stop cells) (goes_by options c cells p o)
+    Agree (HasFurther line text past p (past_rest r p) stop cells) (continues_by options c cells p o)
     (continues options c r))
-    (sym j.1) ((container-laws j.0).goes_agrees options c j.1 line text past r stop p is h k short)
+    (sym j.1) ((container-laws j.0).proceeds_agrees options c j.1 line text past r stop p is h k short)
 
 -- a container opens by the cells where it does by the bytes
 pub opens-agrees : (options : ParseOptions) (interrupting : Bool) → ByRest (λ line text past r stop p.

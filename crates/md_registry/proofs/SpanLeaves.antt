@@ -10,7 +10,7 @@ use Rattle.md_engine.specs.declared.tokenizer.held_leaf.HeldLeaf.{HeldLeaf}
 use Rattle.std.specs.Prelude.{Option, Some, None, nat_le, not}
 use Rattle.std.proofs.lemmas.Bool.{and_parts}
 use Rattle.md_engine.specs.declared.configuration.ParseOptions.{ParseOptions}
-use Rattle.md_meaning.specs.Leaves.{LeafResult, Finished, Opened, closes, fence_goes_on, html_line}
+use Rattle.md_meaning.specs.Leaves.{LeafResult, Finished, Opened, closes, fence_continued, html_line}
 use Rattle.md_meaning.specs.Rest.{Rest, indent, is_blank, line_of, lose}
 use Rattle.md_meaning.specs.State.{NoLeaf, OpenCode, OpenFence, OpenHtml, Opening, fence_block, without_trailing_blank}
 use Rattle.md_meaning.specs.Tree.{Break, Code, Html, Line}
@@ -22,18 +22,18 @@ use Rattle.proof_literal_laws.specs.Leaf.Fence.{fence_leaf, opening_at}
 use Rattle.proof_literal_laws.specs.Leaf.FenceFurther.{fence_further}
 use Rattle.proof_table_laws.specs.Leaf.GfmTable.{may_be_table}
 use Rattle.proof_leaf_laws.specs.Leaf.HeadingAtx.{heading_leaf}
-use Rattle.proof_frame.specs.LeafName.{CodeFurther, CodeIndented, Fence, FenceFurther, HeadingAtx, HeadingSetext, GfmTable}
-use Rattle.proof_frame.specs.LeafName.{HtmlFlow, HtmlFurther, LeafName, ThematicBreak}
+use Rattle.proof_frame.specs.LeafName.{CodeFurther, CodeIndented, Fence, FenceFurther, HeadingAtx, HeadingSetext}
+use Rattle.proof_frame.specs.LeafName.{GfmTable, HtmlFlow, HtmlFurther, LeafName, ThematicBreak}
 use Rattle.md_registry.specs.Resolving.{joins_lines}
 use Rattle.proof_literal_laws.proofs.CodeIndented.Cells.{code-rest}
-use Rattle.proof_literal_laws.proofs.CodeIndented.Found.{code-goes}
+use Rattle.proof_literal_laws.proofs.CodeIndented.Found.{code-proceeds}
 use Rattle.proof_literal_laws.proofs.CodeIndented.Span.{code-span}
 use Rattle.proof_literal_laws.proofs.Fence.Found.{fence-off, fence-shallow}
 use Rattle.proof_literal_laws.proofs.Fence.Opened.{fence-starts}
 use Rattle.proof_literal_laws.proofs.FenceFurther.Definition.{opening-fence}
 use Rattle.proof_literal_laws.proofs.FenceSpan.Laws.{fence-span}
 use Rattle.proof_table_laws.proofs.GfmTable.Span.{table-begins, table-span}
-use Rattle.proof_literal_laws.proofs.HtmlFlow.Found.{html-enabled, html-goes, html-held}
+use Rattle.proof_literal_laws.proofs.HtmlFlow.Found.{html-enabled, html-proceeds, html-held}
 use Rattle.proof_literal_laws.proofs.HtmlSpan.Laws.{html-span}
 use Rattle.md_meaning.specs.Html.{HtmlKind, html_ends}
 use Rattle.md_html.specs.Html.{ends_in_front, is_html}
@@ -41,7 +41,7 @@ use Rattle.md_html.specs.HtmlLine as rule
 use Rattle.proof_literal_laws.specs.Leaf.HtmlFlow.{begins_as, html_further, html_leaf, kind_begun}
 use Rattle.proof_leaf_laws.proofs.HeadingAtx.Found.{heading-shallow}
 use Rattle.proof_leaf_laws.proofs.HeadingSetext.Span.{setext-begins, setext-span}
-use Rattle.md_registry.proofs.OpenSpan.{Begun, ComesShallow, OpenSpan}
+use Rattle.md_registry.proofs.OpenSpan.{Begun, BecomesShallow, OpenSpan}
 use Rattle.proof_frame.proofs.ShallowBlocks.{shallow-then}
 use Rattle.proof_frame.proofs.SpanLaws.{SpanLaws}
 use Rattle.md_registry.proofs.Registry.{laws}
@@ -58,13 +58,13 @@ html-built kind lines r = go (html_ends kind r.bytes)
     go true = tt
     go false = tt
 
-html-shallow : (kind : HtmlKind) (lines : List Line) (r : Rest) → ComesShallow (html_line kind lines r)
+html-shallow : (kind : HtmlKind) (lines : List Line) (r : Rest) → BecomesShallow (html_line kind lines r)
 html-shallow kind lines r = go (html_ends kind r.bytes)
   where
     all : List Line
     all = lines ++ line_of r ∷ []
 
-    go : (x : Bool) → ComesShallow (cond x (Finished (Html all)) (Opened (OpenHtml kind all)))
+    go : (x : Bool) → BecomesShallow (cond x (Finished (Html all)) (Opened (OpenHtml kind all)))
     go true bs h = shallow-then bs (Html all) h refl
     go false bs h = h
 
@@ -73,7 +73,7 @@ begun-built : (kind : Option HtmlKind) (r : Rest) → IsBuiltLeaf (left_by (begi
 begun-built None r = tt
 begun-built (Some kind) r = html-built kind [] r
 
-begun-shallow : (kind : Option HtmlKind) (r : Rest) → ComesShallow (begins_as kind r)
+begun-shallow : (kind : Option HtmlKind) (r : Rest) → BecomesShallow (begins_as kind r)
 begun-shallow None r bs h = shallow-then bs (Html []) h refl
 begun-shallow (Some kind) r bs h = html-shallow kind [] r bs h
 
@@ -231,7 +231,7 @@ lines-join GfmTable e options on r starts begins = absurd (table-begins options 
 -- fenced code or math that is open
 pub fence-open : (o : Opening) (lines : List Line) → is_fence (kind_of_leaf (OpenFence o lines)) ≡ true →
     OpenSpan (OpenFence o lines)
-unfolding asked_first bars_containers IsOpenSpan fence_goes_on
+unfolding asked_first bars_containers IsOpenSpan fence_continued
 fence-open o lines is = record {
   name = FenceFurther;
   asked = rw is refl;
@@ -239,20 +239,20 @@ fence-open o lines is = record {
   further = is;
   lines = refl;
   concrete = sym (ap (λ (x : Bool). x || false) is);
-  goes = λ options r. rw is refl;
+  proceeds = λ options r. rw is refl;
   built = λ options r starts. built (closes options o r) (lines ++ line_of (lose o.indent r) ∷ []);
   shallow = λ options r. shallow (closes options o r) (lines ++ line_of (lose o.indent r) ∷ []);
   closed = λ options bs h. shallow-then bs (fence_block o lines false) h (fence-shallow o lines false);
 }
   where
-    comes : Bool → List Line → LeafResult
-    comes x more = cond x (Finished (fence_block o lines true)) (Opened (OpenFence o more))
+    becomes : Bool → List Line → LeafResult
+    becomes x more = cond x (Finished (fence_block o lines true)) (Opened (OpenFence o more))
 
-    built : (x : Bool) (more : List Line) → IsBuiltLeaf (left_by (comes x more))
+    built : (x : Bool) (more : List Line) → IsBuiltLeaf (left_by (becomes x more))
     built true more = tt
     built false more = is
 
-    shallow : (x : Bool) (more : List Line) → ComesShallow (comes x more)
+    shallow : (x : Bool) (more : List Line) → BecomesShallow (becomes x more)
     shallow true more bs h = shallow-then bs (fence_block o lines true) h (fence-shallow o lines true)
     shallow false more bs h = h
 
@@ -266,7 +266,7 @@ code-open lines = record {
   further = refl;
   lines = refl;
   concrete = refl;
-  goes = λ options r. code-goes options lines r;
+  proceeds = λ options r. code-proceeds options lines r;
   built = λ options r starts. tt;
   shallow = λ options r bs h. h;
   closed = λ options bs h. shallow-then bs (Code (without_trailing_blank lines)) h refl;
@@ -282,7 +282,7 @@ html-open kind lines = record {
   further = refl;
   lines = refl;
   concrete = refl;
-  goes = λ options r. html-goes options kind lines r;
+  proceeds = λ options r. html-proceeds options kind lines r;
   built = λ options r starts. html-built kind lines r;
   shallow = λ options r. html-shallow kind lines r;
   closed = λ options bs h. shallow-then bs (Html lines) h refl;

@@ -46,7 +46,7 @@ pub record TrialFits (T : Scheme) (from nok : StateName) : Type 1 where
   pub next : Fits T flow_scheme nok
   pub falls : (flow_scheme.tries nok).number < (flow_rank from).number
   pub next_low : (flow_rank nok).number < (flow_scheme.tries nok).number
-  pub behind_low : 1 < (flow_scheme.tries nok).number
+  pub after_low : 1 < (flow_scheme.tries nok).number
 
 abbrev pub LeafFits : Scheme → LeafName → Type 1
 LeafFits T l = TrialFits T (n.Flow (leaf l).before) (n.Flow (next_of l))
@@ -75,13 +75,13 @@ pub inside-tried : (T : Scheme) (from start ok nok : StateName) (w : World) (g :
     TrialFits T from nok → InsideFits T start → Fits T flow_scheme ok →
     (flow_rank ok).number < (flow_scheme.tries nok).number → flow_ready (position w) (after_all T w.frames) →
     Does T from w (trial_code start ok nok (record w { flags = g }) may)
-inside-tried T from start ok nok w g false fit inner behind low r = refused T from nok w g fit r
-inside-tried T from start ok nok w g true fit inner behind low r =
+inside-tried T from start ok nok w g false fit inner following low r = refused T from nok w g fit r
+inside-tried T from start ok nok w g true fit inner following low r =
     let K = after_all T w.frames in
     let low_nok = fit.next_low in (
       begins_try T flow_scheme inner.own from start w IsRest IsRest w.events w.scratch
           (record { ok = Next ok; nok = Next nok; is_check = false; events_len = length w.events; point = w.point })
-          fit.front inner.starts behind fit.next refl
+          fit.front inner.starts following fit.next refl
           (record {
             ok = λ s q t is up way. ((is, later_at _ _ (position w) K q t s up way r.0.1), r.1);
             ok_level = omega arith;
@@ -99,13 +99,13 @@ pub prefix-tried : (T : Scheme) (Where : Position → Type 0) (from start ok nok
     TrialFits T from nok → ContainerFits T Where start → Where (position w) → Fits T flow_scheme ok →
     flow_ready (position w) (after_all T w.frames) →
     Does T from w (trial_code start ok nok (record w { flags = g }) may)
-prefix-tried T Where from start ok nok w g false fit inner is behind r = refused T from nok w g fit r
-prefix-tried T Where from start ok nok w g true fit inner is behind r =
+prefix-tried T Where from start ok nok w g false fit inner is following r = refused T from nok w g fit r
+prefix-tried T Where from start ok nok w g true fit inner is following r =
     let K = after_all T w.frames in
     let low_nok = fit.next_low in (
       begins_later T flow_scheme inner.own from start w IsRest IsRest w.events w.scratch
           (record { ok = Next ok; nok = Next nok; is_check = false; events_len = length w.events; point = w.point })
-          fit.front inner.starts behind fit.next refl
+          fit.front inner.starts following fit.next refl
           (record {
             moves_on = refl;
             ok =

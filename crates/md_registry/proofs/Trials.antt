@@ -12,7 +12,7 @@ use Rattle.md_registry.specs.Flow.{flow_rank, flow_scheme, flow_tries}
 use Rattle.proof_frame.specs.Rule.{Rule}
 use Rattle.md_registry.specs.FlowRule.{leaves_behave, leaves_of}
 use Rattle.proof_frame.specs.LeafName.{CodeFurther, FenceFurther, HtmlFurther, LeafName}
-use Rattle.md_registry.specs.Registry.{behind, front_of, leaf}
+use Rattle.md_registry.specs.Registry.{following, front_of, leaf}
 use Rattle.md_registry.specs.States.{flow_owner, flow_table_scheme, leaves_owner}
 use Rattle.md_registry.proofs.Termination.{InsideFits, LeafFits, TrialFits}
 use Rattle.md_registry.proofs.ConstructStates.{HasTrial, NextIs, leaf-next, leaf-states}
@@ -21,10 +21,10 @@ use Rattle.md_registry.proofs.ConstructStates.{HasTrial, NextIs, leaf-next, leaf
 
 pub record AtTrial (l : LeafName) : Type 1 where
   pub owned : leaves_owner (leaf l).before ≡ flow_scheme
-  pub rank : (flow_rank (n.Flow (leaf l).before)).number ≡ 6 + 2 * length (behind l)
-  pub tries : (flow_tries (n.Flow (leaf l).before)).number ≡ suc (6 + 2 * length (behind l))
+  pub rank : (flow_rank (n.Flow (leaf l).before)).number ≡ 6 + 2 * length (following l)
+  pub tries : (flow_tries (n.Flow (leaf l).before)).number ≡ suc (6 + 2 * length (following l))
   pub left : (options : ParseOptions) (next : Rule) (cells : List Cell) (h : Here) →
-      leaves_behave options next (leaf l).before cells h ≡ leaves_of options next (l ∷ behind l) cells h
+      leaves_behave options next (leaf l).before cells h ≡ leaves_of options next (l ∷ following l) cells h
 
 pub at-trial : (l : LeafName) → HasTrial l → AtTrial l
 at-trial CodeFurther is = absurd (cc)
@@ -56,7 +56,7 @@ front-fits from [] here is lt = record {
   next = fits flow_owner (n.Flow flow.BeforeContent);
   falls = omega (arith, lt);
   next_low = omega arith;
-  behind_low = omega arith;
+  after_low = omega arith;
 }
 front-fits from (m ∷ ms) here is lt =
     let low = (at-trial m is.0).rank in
@@ -67,13 +67,13 @@ front-fits from (m ∷ ms) here is lt =
       next = fits-before m is.0;
       falls = omega (arith, lt, tries, less);
       next_low = omega (arith, low, tries);
-      behind_low = omega (arith, tries);
+      after_low = omega (arith, tries);
     }
 
 pub leaf-fits : (l : LeafName) → HasTrial l → LeafFits flow_table_scheme l
 leaf-fits l is =
     let here = (at-trial l is).rank in
-    front-fits (n.Flow (leaf l).before) (behind l) (fits-before l is) (leaf-next l is) (omega (arith, here))
+    front-fits (n.Flow (leaf l).before) (following l) (fits-before l is) (leaf-next l is) (omega (arith, here))
 
 -- and the first state of one is in the table
 pub inside_fits : (l : LeafName) → InsideFits flow_table_scheme (leaf l).start

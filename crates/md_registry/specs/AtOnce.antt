@@ -20,7 +20,7 @@ abbrev pub prefix_taken : Container → ContainerKind → World → World
 prefix_taken c k w = (container_rules k).taken c w
 
 -- a container is open that was not asked yet, and its prefix is here
-pub record GoesAtOnce (w : World) : Type 0 where
+pub record ContinuesAtOnce (w : World) : Type 0 where
   pub held : Container
   pub next : next_container w.flags ≡ Some held
   pub prefix : HasPrefix held held.kind w

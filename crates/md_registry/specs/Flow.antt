@@ -17,14 +17,14 @@ use Rattle.md_engine.specs.Scheme.{After, Rank, Scheme, Position, ranked}
 use Rattle.md_engine.specs.World.{World, closed, container_of}
 use Rattle.md_leaves.specs.Blank as blank
 use Rattle.md_meaning.specs.Rest.{is_white}
-use Rattle.md_events.specs.Look.{looks_behind, may_with}
+use Rattle.md_events.specs.Look.{looks_after, may_with}
 use Rattle.md_events.specs.Spaces.{ends_line, rest_ready, sees_white}
 use Rattle.md_events.specs.Transition.{Transition, entered, exited, taken, tried}
 use Rattle.proof_frame.specs.EndingName.{ending_name}
 use Rattle.md_registry.specs.LineFlags.{asking, begun_line, blanked, next_container, next_line, kept_containers}
-use Rattle.md_registry.specs.LineFlags.{blank_here, ended_on, nothing_stands, shut_leaf, went_on, with_container}
+use Rattle.md_registry.specs.LineFlags.{blank_here, ended_on, nothing_is_here, shut_leaf, was_continued, with_container}
 use Rattle.proof_frame.specs.LeafName.{LeafName}
-use Rattle.md_registry.specs.Registry.{front_of, goes_on_with, asked_first, leaf, may_go_on, may_open, next_of}
+use Rattle.md_registry.specs.Registry.{front_of, continues_with, asked_first, leaf, may_continue, may_open, next_of}
 use Rattle.md_registry.specs.Registry.{next_opener, opener_at, opener_front, opener_rank, opener_tries, openers}
 use Rattle.md_registry.specs.Registry.{opens_with, rank_of, row, bars_containers, trials, tried_at, tries_of}
 
@@ -46,7 +46,7 @@ blank_line_code w false may =
 
 abbrev pub blank_line_before_transition : World → Transition
 blank_line_before_transition w =
-    blank_line_code w (ends_line w.current) (may_with blank.may_begin (looks_behind w))
+    blank_line_code w (ends_line w.current) (may_with blank.may_begin (looks_after w))
 
 -- where one continues after a leaf: one that always ends on its line is shut
 abbrev pub leaf_end : Bool → FlowState
@@ -57,7 +57,7 @@ leaf_end false = flow.After
 abbrev pub before_transition : LeafName → World → Transition
 before_transition l w =
     trial_code (leaf l).start (s.Flow (leaf_end (leaf l).ends)) (s.Flow (next_of l)) w
-    (may_with ((leaf l).may_begin w.flags.leaf (sees_white w.current)) (looks_behind w))
+    (may_with ((leaf l).may_begin w.flags.leaf (sees_white w.current)) (looks_after w))
 
 -- The first of these leaves is tried, and the next where it refuses the line; where none is left, content follows.
 abbrev pub row_transition : List LeafName → World → Transition
@@ -98,32 +98,36 @@ blank_line_after_transition w =
 -- Containers.
 
 -- where all containers continued, by whether a leaf is open in which none opens
-abbrev pub behind_all : Bool → DocumentState
-behind_all true = document.ContainersAfter
-behind_all false = opener_front openers
+abbrev pub following_all : Bool → DocumentState
+following_all true = document.ContainersAfter
+following_all false = opener_front openers
 
 -- by whether the line ends here, where none is asked and none opens, and by the container that may continue
 abbrev pub existing_before_code : World → Bool → Option Container → Transition
 existing_before_code w true o =
     record { to = Retry (s.Document document.ContainersAfter); world = record w { flags = ended_on w.flags } }
 existing_before_code w false None =
-    record { to = Retry (s.Document (behind_all (bars_containers w.flags.leaf))); world = w }
+    record { to = Retry (s.Document (following_all (bars_containers w.flags.leaf))); world = w }
 existing_before_code w false (Some c) =
-    trial_code (goes_on_with c.kind) (s.Document document.ContainerExistingAfter)
-    (s.Document (opener_front openers)) (asking c w) (may_with (may_go_on c.kind) (looks_behind w))
+    trial_code (continues_with c.kind) (s.Document document.ContainerExistingAfter)
+    (s.Document (opener_front openers)) (asking c w) (may_with (may_continue c.kind) (looks_after w))
 
 abbrev pub existing_before_transition : World → Transition
 existing_before_transition w = existing_before_code w (ends_line w.current) (next_container w.flags)
 
 abbrev pub existing_after_transition : World → Transition
 existing_after_transition w =
-    record { to = Retry (s.Document document.ContainerExistingBefore); world = record w { flags = went_on w.flags } }
+    record {
+      to = Retry (s.Document document.ContainerExistingBefore);
+      world =
+          record w { flags = was_continued w.flags };
+    }
 
 -- before a container that may open
 abbrev pub new_before_transition : ContainerKind → World → Transition
 new_before_transition k w =
     trial_code (opens_with k) (s.Document document.ContainerNewAfter) (s.Document (next_opener k))
-    (asking (container_of k) w) (may_with (may_open k) (looks_behind w))
+    (asking (container_of k) w) (may_with (may_open k) (looks_after w))
 
 -- by the one that is tried at a state; those that are not built refuse
 abbrev pub opener_transition : Option ContainerKind → World → Transition
@@ -153,7 +157,7 @@ abbrev pub inside_code : World → Option LeafName → Transition
 inside_code w None = record { to = Retry (s.Flow flow.Start); world = w }
 inside_code w (Some l) =
     trial_code (leaf l).start (s.Flow flow.After) (s.Flow flow.Start)
-    (record w { flags = blank_here (nothing_stands w.current w.point) w.flags }) true
+    (record w { flags = blank_here (nothing_is_here w.current w.point) w.flags }) true
 
 abbrev pub inside_transition : World → Transition
 inside_transition w = inside_code w (asked_first w.flags.leaf)

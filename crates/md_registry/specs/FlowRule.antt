@@ -24,11 +24,11 @@ use Rattle.md_events.specs.Look.{first_seen}
 use Rattle.md_events.specs.Spaces.{IsRest, ends_line}
 use Rattle.proof_leaf_laws.specs.DocumentRule.{document_behaves}
 use Rattle.proof_frame.specs.LeafName.{LeafName}
-use Rattle.md_registry.specs.Registry.{begins_at, behind, continues_at, goes_on_with, asked_first, leaf, opener_at}
-use Rattle.md_registry.specs.Registry.{openers, openers_behind, opens_with, bars_containers, trials, tried_at}
+use Rattle.md_registry.specs.Registry.{begins_at, following, continues_at, continues_with, asked_first, leaf, opener_at}
+use Rattle.md_registry.specs.Registry.{openers, openers_after, opens_with, bars_containers, trials, tried_at}
 use Rattle.proof_frame.specs.EndingName.{ending_name}
 use Rattle.md_registry.specs.LineFlags.{asks, begun_line, blanked, next_container, next_line, kept_containers}
-use Rattle.md_registry.specs.LineFlags.{blank_here, ended_on, nothing_stands, shut_leaf, went_on, with_container}
+use Rattle.md_registry.specs.LineFlags.{blank_here, ended_on, nothing_is_here, shut_leaf, was_continued, with_container}
 use Rattle.proof_frame.specs.Rule.{Rule, tried}
 use Rattle.md_registry.specs.Document.{document_own_transition}
 use Rattle.md_events.specs.States.{IsState, IsSureState}
@@ -66,9 +66,9 @@ abbrev pub leaf_ended : Rule → Rule
 leaf_ended next cells h = line_ended next cells (record h { flags = shut_leaf h.flags })
 
 -- after a leaf, by whether it always ends on its line
-abbrev pub behind_leaf : Bool → Rule → Rule
-behind_leaf true next cells h = leaf_ended next cells h
-behind_leaf false next cells h = line_ended next cells h
+abbrev pub following_leaf : Bool → Rule → Rule
+following_leaf true next cells h = leaf_ended next cells h
+following_leaf false next cells h = line_ended next cells h
 
 -- after a blank line no paragraph is open
 abbrev pub blank_ended : Rule → Rule
@@ -82,7 +82,7 @@ content_of next cells h = tried (chunk_at cells h) (line_ended next) Refuses
 abbrev pub leaves_of : ParseOptions → Rule → List LeafName → Rule
 leaves_of options next [] cells h = content_of next cells h
 leaves_of options next (l ∷ ls) cells h =
-    tried ((leaf l).trial options cells h) (behind_leaf (leaf l).ends next)
+    tried ((leaf l).trial options cells h) (following_leaf (leaf l).ends next)
     (λ s g. leaves_of options next ls cells (record h { scratch = s; flags = g }))
 
 abbrev pub nonblank_of : ParseOptions → Rule → Rule
@@ -96,7 +96,7 @@ leaf_of options next cells h =
 
 -- where nothing is on the line, its ending is that of a blank line, also where a leaf continues over it
 abbrev pub blank_at_end : List Cell → Here → Here
-blank_at_end cells h = record h { flags = blank_here (nothing_stands (first_seen cells) h.point) h.flags }
+blank_at_end cells h = record h { flags = blank_here (nothing_is_here (first_seen cells) h.point) h.flags }
 
 -- by the leaf that is asked first whether the line continues it
 abbrev pub inside_by : ParseOptions → Rule → Option LeafName → Rule
@@ -111,8 +111,8 @@ inside_of options next cells h = inside_by options next (asked_first h.flags.lea
 -- Containers. Each takes a cell at least, so there are no more of them than cells.
 
 -- after all containers
-abbrev pub behind_containers : ParseOptions → Rule → Rule
-behind_containers options next cells h = inside_of options next cells (record h { flags = begun_line h.flags })
+abbrev pub after_containers : ParseOptions → Rule → Rule
+after_containers options next cells h = inside_of options next cells (record h { flags = begun_line h.flags })
 
 -- this one is asked whether it continues, or tried
 abbrev pub asking_here : Container → Here → Here
@@ -131,9 +131,9 @@ opens_of options onward otherwise (k ∷ ks) cells h =
 
 -- containers open as often as they do
 unfoldable pub new_from : ParseOptions → Rule → ℕ → Rule
-new_from options next zero cells h = behind_containers options next cells h
+new_from options next zero cells h = after_containers options next cells h
 new_from options next (suc n) cells h =
-    opens_of options (λ rest k. new_from options next n rest (opened k)) (behind_containers options next) openers
+    opens_of options (λ rest k. new_from options next n rest (opened k)) (after_containers options next) openers
     cells h
 
 unfoldable pub new_of : ParseOptions → Rule → Rule
@@ -142,11 +142,11 @@ new_of options next cells h = new_from options next (suc (length cells)) cells h
 -- what is left before these
 abbrev pub openers_of : ParseOptions → Rule → List ContainerKind → Rule
 openers_of options next ks cells h =
-    opens_of options (λ rest k. new_of options next rest (opened k)) (behind_containers options next) ks cells h
+    opens_of options (λ rest k. new_of options next rest (opened k)) (after_containers options next) ks cells h
 
 -- where all containers continued, by whether a leaf is open in which none opens
 abbrev pub all_on : ParseOptions → Rule → Bool → Rule
-all_on options next true cells h = behind_containers options next cells h
+all_on options next true cells h = after_containers options next cells h
 all_on options next false cells h = new_of options next cells h
 
 -- each container is asked whether it continues, from the outermost in, until one does not
@@ -154,13 +154,13 @@ abbrev pub existing_by : ParseOptions → Rule → Rule → Option Container →
 existing_by options next further None cells h = all_on options next (bars_containers h.flags.leaf) cells h
 existing_by options next further (Some c) cells h =
     tried (continues_at options c.kind cells (asking_here c h))
-    (λ rest k. further rest (record k { flags = went_on k.flags }))
+    (λ rest k. further rest (record k { flags = was_continued k.flags }))
     (λ s g. new_of options next cells (record h { scratch = s; flags = g }))
 
 -- by whether the line ends here: then none is asked, and none opens
 abbrev pub existing_at : ParseOptions → Rule → Rule → Bool → Rule
 existing_at options next further true cells h =
-    behind_containers options next cells (record h { flags = ended_on h.flags })
+    after_containers options next cells (record h { flags = ended_on h.flags })
 existing_at options next further false cells h =
     existing_by options next further (next_container h.flags) cells h
 
@@ -185,25 +185,25 @@ flow_at options cells h = flow_lines options (suc (length cells)) cells h
 -- that is tried there,
 abbrev pub opener_behaves : ParseOptions → Rule → Option ContainerKind → Rule
 opener_behaves options next None cells h = Refuses h.scratch h.flags
-opener_behaves options next (Some k) cells h = openers_of options next (k ∷ openers_behind k) cells h
+opener_behaves options next (Some k) cells h = openers_of options next (k ∷ openers_after k) cells h
 
 -- at each other between the containers of a line,
 abbrev pub containers_behave : ParseOptions → Rule → DocumentState → Rule
 containers_behave options next document.ContainerExistingBefore cells h = line_then options next cells h
 containers_behave options next document.ContainerExistingAfter cells h =
-    line_then options next cells (record h { flags = went_on h.flags })
+    line_then options next cells (record h { flags = was_continued h.flags })
 containers_behave options next document.ContainerNewAfter cells h = new_of options next cells (opened h)
-containers_behave options next document.ContainersAfter cells h = behind_containers options next cells h
+containers_behave options next document.ContainersAfter cells h = after_containers options next cells h
 containers_behave options next document.FlowInside cells h = inside_of options next cells h
 containers_behave options next document.FlowEnd cells h = line_ended next cells h
 containers_behave options next document.ContainerNewBeforeNotFootnoteDefinition cells h =
-    behind_containers options next cells h
+    after_containers options next cells h
 containers_behave options next state cells h = opener_behaves options next (opener_at state) cells h
 
 -- at each state before a leaf, by the leaf that is tried there,
 abbrev pub leaf_behaves : ParseOptions → Rule → Option LeafName → Rule
 leaf_behaves options next None cells h = Refuses h.scratch h.flags
-leaf_behaves options next (Some l) cells h = leaves_of options next (l ∷ behind l) cells h
+leaf_behaves options next (Some l) cells h = leaves_of options next (l ∷ following l) cells h
 
 -- and at each that is before none, or after it,
 abbrev pub leaves_behave : ParseOptions → Rule → FlowState → Rule
@@ -221,8 +221,8 @@ pub record HasFlow (B : Behaviour) (options : ParseOptions) (next : Rule) : Type
   pub starts : (l : LeafName) (cells : List Cell) (h : Here) → B (leaf l).start cells h ≡ (leaf l).trial options cells h
   pub opens : (k : ContainerKind) (cells : List Cell) (h : Here) →
       B (opens_with k) cells h ≡ begins_at options k cells h
-  pub goes_on : (k : ContainerKind) (cells : List Cell) (h : Here) →
-      B (goes_on_with k) cells h ≡ continues_at options k cells h
+  pub is_continued : (k : ContainerKind) (cells : List Cell) (h : Here) →
+      B (continues_with k) cells h ≡ continues_at options k cells h
   pub containers : (state : DocumentState) (cells : List Cell) (h : Here) →
       B (s.Document state) cells h ≡ containers_behave options next state cells h
   pub leaves : (state : FlowState) (cells : List Cell) (h : Here) →
@@ -236,8 +236,8 @@ feeds (s.Document document.FlowEnd) (Some b) = if b == 10 then 1 else 0
 feeds name current = 0
 
 -- either no ending is taken, or the rule for what follows is what is left at the begin of a line
-abbrev pub GoesOn : Behaviour → Rule → ℕ → Type 0
-GoesOn B next size =
+abbrev pub IsContinued : Behaviour → Rule → ℕ → Type 0
+IsContinued B next size =
     (size ≡ 0) ⊎
     ((cells : List Cell) (h : Here) → next cells h ≡ B (s.Document document.ContainerExistingBefore) cells h)
 
@@ -271,7 +271,7 @@ ContainersInvariant _ w = IsRest w.scratch
 unfoldable pub ContainersMean : DocumentState → World → State → World → Type 0
 ContainersMean state old to new = ContainersInvariant state old → (next : Rule) (B : Behaviour) (feed : Feed) →
     HasFlow B old.setting.options next → Sees feed old →
-    GoesOn B next (feeds (s.Document state) old.current) → Steps B feed (Next (s.Document state)) old to new
+    IsContinued B next (feeds (s.Document state) old.current) → Steps B feed (Next (s.Document state)) old to new
 
 -- a state before the lines means: its call is one step of what is left of the document
 unfoldable pub FrontMeans : DocumentState → World → State → World → Type 0

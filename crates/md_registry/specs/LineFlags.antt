@@ -7,7 +7,7 @@ use Rattle.md_engine.specs.declared.tokenizer.container.Container.{Container}
 use Rattle.md_engine.specs.declared.tokenizer.held_leaf.HeldLeaf.TheVariants as held_leaf
 use Rattle.md_engine.specs.World.{Flags, World}
 use Rattle.md_events.specs.Spaces.{ends_line}
-use Rattle.md_registry.specs.Registry.{goes_over}
+use Rattle.md_registry.specs.Registry.{continues_over}
 
 -- the outermost container that was not asked yet whether it continues
 abbrev pub next_container : Flags → Option Container
@@ -21,8 +21,8 @@ abbrev pub asking : Container → World → World
 asking c w = record w { flags = asks c w.point.column w.flags }
 
 -- the one that was asked continues, and is held as it is after its prefix
-abbrev pub went_on : Flags → Flags
-went_on g = record g {
+abbrev pub was_continued : Flags → Flags
+was_continued g = record g {
   containers = slice_set g.containers g.continued g.asked;
   continued = if nat_lt g.continued (length g.containers) then suc g.continued else g.continued;
 }
@@ -30,7 +30,7 @@ went_on g = record g {
 -- how many of these continue where the line ends, up to the first that does not
 abbrev pub over_end : List Container → ℕ
 over_end [] = 0
-over_end (c ∷ cs) = if goes_over c then suc (over_end cs) else 0
+over_end (c ∷ cs) = if continues_over c then suc (over_end cs) else 0
 
 -- where the line ends none is asked
 abbrev pub ended_on : Flags → Flags
@@ -52,8 +52,8 @@ begun_line g =
 
 -- whether nothing at all is on a line, by what follows its containers and where: it ends there, in the column where
 -- lines begin, so that no prefix is in front
-abbrev pub nothing_stands : Option ℕ → Point → Bool
-nothing_stands o p = ends_line o && (p.column == 1)
+abbrev pub nothing_is_here : Option ℕ → Point → Bool
+nothing_is_here o p = ends_line o && (p.column == 1)
 
 -- before the leaf that is asked first, by whether nothing is on the line: its ending is then that of a blank line
 abbrev pub blank_here : Bool → Flags → Flags

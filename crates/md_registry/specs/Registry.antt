@@ -56,8 +56,8 @@ use Rattle.proof_leaf_laws.specs.Leaf.ThematicBreak.{break_leaf}
 use Rattle.proof_frame.specs.LineLeaf.{LineLeaf}
 use Rattle.proof_frame.specs.Passed.{Passed}
 use Rattle.proof_frame.specs.TurnLeaf.{TurnLeaf}
-use Rattle.proof_frame.specs.LeafName.{CodeFurther, CodeIndented, Fence, FenceFurther, GfmTable, HeadingAtx, HeadingSetext}
-use Rattle.proof_frame.specs.LeafName.{HtmlFlow, HtmlFurther, LeafName, ThematicBreak, behind_in, number}
+use Rattle.proof_frame.specs.LeafName.{CodeFurther, CodeIndented, Fence, FenceFurther, GfmTable, HeadingAtx}
+use Rattle.proof_frame.specs.LeafName.{HeadingSetext, HtmlFlow, HtmlFurther, LeafName, ThematicBreak, after_in, number}
 use Rattle.proof_frame.specs.ContainerNames.{IsOf, container_kind, kind_number}
 
 -- Leaves that take a line: of indented code, of fenced code and math, and of HTML, one takes the first line, and one
@@ -122,8 +122,8 @@ tried_at flow.BeforeThematicBreak = Some ThematicBreak
 tried_at flow.BeforeGfmTable = Some GfmTable
 tried_at _ = None
 
-abbrev pub behind : LeafName → List LeafName
-behind l = behind_in (number l) trials
+abbrev pub following : LeafName → List LeafName
+following l = after_in (number l) trials
 
 -- the state before the first of these, and before content where none is left
 abbrev pub front_of : List LeafName → FlowState
@@ -131,11 +131,11 @@ front_of [] = flow.BeforeContent
 front_of (l ∷ ls) = (leaf l).before
 
 abbrev pub next_of : LeafName → FlowState
-next_of l = front_of (behind l)
+next_of l = front_of (following l)
 
 -- how far it is from the next byte: by how many are tried after it
 abbrev pub weight : LeafName → ℕ
-weight l = 6 + 2 * length (behind l)
+weight l = 6 + 2 * length (following l)
 
 abbrev pub low_weight : (l : LeafName) → (nat_lt (weight l) 64 ≡ true) × (nat_lt (suc (weight l)) 64 ≡ true)
 low_weight CodeIndented = (refl, refl)
@@ -174,8 +174,8 @@ abbrev pub openers_from : ℕ → List ContainerKind → List ContainerKind
 openers_from n [] = []
 openers_from n (k ∷ ks) = if kind_number k == n then ks else openers_from n ks
 
-abbrev pub openers_behind : ContainerKind → List ContainerKind
-openers_behind k = openers_from (kind_number k) openers
+abbrev pub openers_after : ContainerKind → List ContainerKind
+openers_after k = openers_from (kind_number k) openers
 
 -- the state before the first of these, and after all containers where none is left
 abbrev pub opener_front : List ContainerKind → DocumentState
@@ -183,11 +183,11 @@ opener_front [] = document.ContainersAfter
 opener_front (k ∷ ks) = (container_rules k).before
 
 abbrev pub next_opener : ContainerKind → DocumentState
-next_opener k = opener_front (openers_behind k)
+next_opener k = opener_front (openers_after k)
 
 -- how far it is from the next byte: by how many are tried after it, and by the leaves
 abbrev pub opener_weight : ContainerKind → ℕ
-opener_weight k = 12 + 2 * length trials + 2 * length (openers_behind k)
+opener_weight k = 12 + 2 * length trials + 2 * length (openers_after k)
 
 abbrev pub low_opener : (k : ContainerKind) →
     (nat_lt (opener_weight k) 64 ≡ true) × (nat_lt (suc (opener_weight k)) 64 ≡ true)
@@ -215,8 +215,8 @@ abbrev pub begins_at : ParseOptions → ContainerKind → List Cell → Here →
 begins_at options k cells h = (container_rules k).begins options cells h
 
 -- and the same of the state before the prefix of one on a further line
-abbrev pub goes_on_with : ContainerKind → StateName
-goes_on_with k = (container_rules k).further
+abbrev pub continues_with : ContainerKind → StateName
+continues_with k = (container_rules k).further
 
 abbrev pub continues_at : ParseOptions → ContainerKind → List Cell → Here → Outcome
 continues_at options k cells h = (container_rules k).continues options cells h
@@ -225,8 +225,8 @@ continues_at options k cells h = (container_rules k).continues options cells h
 abbrev pub may_open : ContainerKind → ℕ → Bool
 may_open k b = (container_rules k).may_open b
 
-abbrev pub may_go_on : ContainerKind → ℕ → Bool
-may_go_on k b = (container_rules k).may_go_on b
+abbrev pub may_continue : ContainerKind → ℕ → Bool
+may_continue k b = (container_rules k).may_continue b
 
 -- by the cells of a line, the container that opens, if one does: the first of these
 abbrev pub opens_by : ParseOptions → Bool → List Cell → Point → List ContainerKind → Option Passed
@@ -238,16 +238,16 @@ abbrev pub opens_at : ParseOptions → Bool → List Cell → Point → Option P
 opens_at options interrupting cells p = opens_by options interrupting cells p openers
 
 -- and an open one, if it continues
-abbrev pub goes_by : ParseOptions → Container → List Cell → Point → Option ContainerKind → Option Passed
-goes_by options c cells p None = None
-goes_by options c cells p (Some k) = (container_rules k).goes options c cells p
+abbrev pub continues_by : ParseOptions → Container → List Cell → Point → Option ContainerKind → Option Passed
+continues_by options c cells p None = None
+continues_by options c cells p (Some k) = (container_rules k).proceeds options c cells p
 
-abbrev pub goes_at : ParseOptions → Container → List Cell → Point → Option Passed
-goes_at options c cells p = goes_by options c cells p (container_kind c)
+abbrev pub proceeds_at : ParseOptions → Container → List Cell → Point → Option Passed
+proceeds_at options c cells p = continues_by options c cells p (container_kind c)
 
 -- whether an open one, which is held so, continues where the line ends
-abbrev pub goes_over : Held → Bool
-goes_over held = (container_rules held.kind).over_empty held
+abbrev pub continues_over : Held → Bool
+continues_over held = (container_rules held.kind).over_empty held
 
 -- States: which construct has each, what each does, and what is left at it, where this is the text.
 

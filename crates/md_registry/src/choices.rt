@@ -17,15 +17,15 @@ ghost use Rattle.md_registry.specs.LineFlags.{asking};
 ghost use Rattle.md_registry.specs.Resolving.{joins_lines};
 ghost use Rattle.proof_table_laws.specs.Headed.{heads_read};
 ghost use Rattle.md_registry.specs.Registry.{bars_containers};
-ghost use Rattle.md_registry.specs.Registry.{goes_on_with, asked_first, leaf};
+ghost use Rattle.md_registry.specs.Registry.{continues_with, asked_first, leaf};
 ghost use Rattle.md_registry.specs.AtOnce.{HasPrefix, all_asked, content_alone, is_common, opens_none, prefix_taken};
 ghost use Rattle.md_registry.specs.Flow.{leaf_end, row_transition, trial_code};
-ghost use Rattle.md_registry.specs.Registry.{may_go_on, may_open, next_opener, opener_front, openers};
+ghost use Rattle.md_registry.specs.Registry.{may_continue, may_open, next_opener, opener_front, openers};
 ghost use Rattle.proof_frame.specs.LeafName.{LeafName};
 ghost use Rattle.md_registry.specs.Registry.{front_of, next_of, opens_with, row, trials, tried_at};
 ghost use Rattle.md_meaning.specs.Rest.{is_white};
 ghost use Rattle.proof_literal_laws.specs.Leaf.CodeIndented.{is_code};
-ghost use Rattle.md_events.specs.Look.{looks_behind, may_with};
+ghost use Rattle.md_events.specs.Look.{looks_after, may_with};
 ghost use Rattle.md_events.specs.Spaces.{sees_white};
 
 use md_code::{code_indented, raw_flow};
@@ -47,7 +47,7 @@ use md_engine::state::list_item::State as ItemState;
 use md_engine::state::raw_flow::State as RawState;
 use md_engine::state::thematic_break::State as BreakState;
 use md_engine::tokenizer::{Container, ContainerKind, HeldLeaf, Tokenizer};
-use md_events::space_or_tab::look_behind;
+use md_events::space_or_tab::look_after_white;
 use md_html::html_flow;
 use md_leaves::{heading_atx, heading_setext, thematic_break};
 use md_tables::{gfm_table, heads};
@@ -259,19 +259,19 @@ pub fn leaf_may_begin(tokenizer: &mut Tokenizer, state: FlowState) -> bool
         result ≡
         may_with
         ((leaf l).may_begin (world tokenizer.old).flags.leaf (sees_white (world tokenizer.old).current))
-        (looks_behind (world tokenizer.old)) }
+        (looks_after (world tokenizer.old)) }
     ensures same { world tokenizer.new ≡ world tokenizer.old }
 {
     match state {
         FlowState::BeforeCodeIndented => may_be_indented(tokenizer),
-        FlowState::BeforeRaw => raw_flow::may_begin(look_behind(tokenizer)),
-        FlowState::BeforeHtml => html_flow::may_begin(look_behind(tokenizer)),
-        FlowState::BeforeHeadingAtx => heading_atx::may_begin(look_behind(tokenizer)),
-        FlowState::BeforeHeadingSetext => heading_setext::may_begin(look_behind(tokenizer)),
-        FlowState::BeforeThematicBreak => thematic_break::may_begin(look_behind(tokenizer)),
+        FlowState::BeforeRaw => raw_flow::may_begin(look_after_white(tokenizer)),
+        FlowState::BeforeHtml => html_flow::may_begin(look_after_white(tokenizer)),
+        FlowState::BeforeHeadingAtx => heading_atx::may_begin(look_after_white(tokenizer)),
+        FlowState::BeforeHeadingSetext => heading_setext::may_begin(look_after_white(tokenizer)),
+        FlowState::BeforeThematicBreak => thematic_break::may_begin(look_after_white(tokenizer)),
         FlowState::BeforeGfmTable => {
             let leaf = tokenizer.flags.leaf;
-            gfm_table::may_begin(leaf, look_behind(tokenizer))
+            gfm_table::may_begin(leaf, look_after_white(tokenizer))
         }
         _ => true,
     }
@@ -295,7 +295,7 @@ pub fn may_be_indented(tokenizer: &Tokenizer) -> bool
         may_with
         ((leaf LeafName.CodeIndented).may_begin (world tokenizer.now).flags.leaf
         (sees_white (world tokenizer.now).current))
-        (looks_behind (world tokenizer.now)) }
+        (looks_after (world tokenizer.now)) }
 {
     may_be_white(tokenizer.current)
 }
@@ -326,7 +326,7 @@ pub fn inside_start(held: HeldLeaf) -> Option<StateName>
 
 /// Whether there is such a leaf.
 #[inline(always)]
-pub fn goes_inside(leaf: HeldLeaf) -> bool
+pub fn continues_inside(leaf: HeldLeaf) -> bool
     ensures { result ≡ is_some (asked_first leaf) }
 {
     inside_start(leaf).is_some()
@@ -358,14 +358,14 @@ pub fn opens_with(kind: ContainerKind) -> StateName
 /// Whether a container may open here, by what is first after whitespace, where its kind looks at that.
 #[inline(always)]
 pub fn may_open(tokenizer: &mut Tokenizer, kind: ContainerKind) -> bool
-    ensures may { result ≡ may_with (may_open kind) (looks_behind (world tokenizer.old)) }
+    ensures may { result ≡ may_with (may_open kind) (looks_after (world tokenizer.old)) }
     ensures same { world tokenizer.new ≡ world tokenizer.old }
 {
     match kind {
-        ContainerKind::BlockQuote => block_quote::may_begin(look_behind(tokenizer)),
-        ContainerKind::ListItem => list_item::may_begin(look_behind(tokenizer)),
+        ContainerKind::BlockQuote => block_quote::may_begin(look_after_white(tokenizer)),
+        ContainerKind::ListItem => list_item::may_begin(look_after_white(tokenizer)),
         ContainerKind::GfmFootnoteDefinition => {
-            gfm_footnote_definition::may_begin(look_behind(tokenizer))
+            gfm_footnote_definition::may_begin(look_after_white(tokenizer))
         }
     }
 }
@@ -373,12 +373,12 @@ pub fn may_open(tokenizer: &mut Tokenizer, kind: ContainerKind) -> bool
 /// Whether the prefix of a container on a further line may begin here, by what is first after whitespace, where its
 /// kind looks at that.
 #[inline(always)]
-pub fn may_go_on(tokenizer: &mut Tokenizer, kind: ContainerKind) -> bool
-    ensures may { result ≡ may_with (may_go_on kind) (looks_behind (world tokenizer.old)) }
+pub fn may_continue(tokenizer: &mut Tokenizer, kind: ContainerKind) -> bool
+    ensures may { result ≡ may_with (may_continue kind) (looks_after (world tokenizer.old)) }
     ensures same { world tokenizer.new ≡ world tokenizer.old }
 {
     match kind {
-        ContainerKind::BlockQuote => block_quote::may_begin(look_behind(tokenizer)),
+        ContainerKind::BlockQuote => block_quote::may_begin(look_after_white(tokenizer)),
         ContainerKind::ListItem | ContainerKind::GfmFootnoteDefinition => true,
     }
 }
@@ -441,8 +441,8 @@ pub fn take_plain_opening(tokenizer: &mut Tokenizer) -> Result<(), Message>
 
 /// The state before the prefix of a container on a further line. That of a footnote definition is an indent, as an
 /// item's.
-pub fn goes_on_with(kind: ContainerKind) -> StateName
-    ensures { result ≡ goes_on_with kind }
+pub fn continues_with(kind: ContainerKind) -> StateName
+    ensures { result ≡ continues_with kind }
 {
     match kind {
         ContainerKind::BlockQuote => StateName::BlockQuote(QuoteState::ContStart),

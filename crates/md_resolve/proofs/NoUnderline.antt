@@ -5,9 +5,9 @@ use Rattle.std.specs.Prelude.{Option, Some, None}
 use Rattle.md_engine.specs.declared.event.Event.{Event}
 use Rattle.md_engine.specs.declared.event.Name.TheVariants as n
 use Rattle.md_engine.specs.declared.event.Point.{Point}
-use Rattle.md_containers.specs.Listed.{Begins, Ends, Place as ListPlace, Stays, Turn, given_by, goes_on, list_begin}
-use Rattle.md_containers.specs.Listed.{list_end, list_name, listed, listed_from, marker_ahead}
-use Rattle.md_containers.specs.Listed.{next_item, outside, place_after, turn}
+use Rattle.md_containers.specs.Listed.{Begins, Ends, Place as ListPlace, Stays, Turn, given_by, is_continued}
+use Rattle.md_containers.specs.Listed.{list_begin, list_end, list_name, listed, listed_from, marker_ahead, next_item}
+use Rattle.md_containers.specs.Listed.{outside, place_after, turn}
 use Rattle.md_leaves.specs.HeadingText.{Before, Opened, Outside, Place, Within, begins, ends, headings_resolved}
 use Rattle.md_leaves.specs.HeadingText.{is_heading, is_run, is_sequence, resolved, text_between}
 use Rattle.md_leaves.specs.Turned.{HoldNoUnderline, is_underline, turned}
@@ -43,7 +43,7 @@ begin-plain false marker p = (list-plain marker, tt)
 
 end-plain : (markers : List ℕ) (next : Option ℕ) (p : Point) → Plain (list_end markers next p)
 end-plain [] next p = tt
-end-plain (marker ∷ markers) next p = go (goes_on marker next)
+end-plain (marker ∷ markers) next p = go (is_continued marker next)
   where
     go : (x : Bool) → Plain (cond x [] (exit (list_name marker) p ∷ []))
     go true = tt

@@ -13,7 +13,7 @@ use Rattle.md_containers.specs.Listed.{Place as ListPlace, given, is_item, place
 use Rattle.md_leaves.specs.HeadingText.{begins, headings_resolved, is_heading}
 use Rattle.md_leaves.specs.Turned.{given_by, is_turned, on_by, turn, turned_from, passes as is_unturned}
 use Rattle.md_order.specs.InOrder.{in_order, set_if}
-use Rattle.md_order.specs.Left.{MayStay, Standing, ends_table, heading_len, is_passed, left_in, table_len}
+use Rattle.md_order.specs.Left.{MayStay, Situation, ends_table, heading_len, is_passed, left_in, table_len}
 use Rattle.md_order.specs.declared.wanted.Wanted.{Wanted}
 use Rattle.md_order.proofs.Passed.{heads-none, items-none, passed-many, passed-one, tables-none, turns-none}
 use Rattle.md_order.proofs.HeadStep.{heading-more, heading-step}
@@ -29,7 +29,7 @@ use Rattle.md_events.specs.Rewritten.{IsFirst, given_of as given_at, held_of, le
 use Rattle.md_resolve.specs.declared.pass.Walk.{Walk}
 use Rattle.md_events.specs.declared.rewriting.Rewriting.{Rewriting}
 
-abbrev pub at : ListPlace → Bool → Standing
+abbrev pub at : ListPlace → Bool → Situation
 at p o = record { items = p; on = o }
 
 -- The parts of a walk that count: its events, where it is among items, and whether a setext heading is open.

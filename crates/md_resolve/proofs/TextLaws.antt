@@ -1,6 +1,6 @@
 -- The text of an ATX heading, as the counts of the walks over its events set it.
-use Rattle.std.proofs.Common.{◌≡◌, ◌<◌, ◌≤◌, ◌+◌, ◌-◌, ℕ, zero, suc, Bool, true, false, cond, not, ◌&&◌, ◌||◌, List, [], ◌∷◌}
-use Rattle.std.proofs.Common.{◌++◌, Option, Some, None, drop, take, length, get_or, refl, ap, ap₂, sym, ◌∙◌, subst}
+use Rattle.std.proofs.Common.{◌≡◌, ◌<◌, ◌≤◌, ◌+◌, ◌-◌, ℕ, zero, suc, Bool, true, false, cond, not, ◌&&◌, ◌||◌, List, []}
+use Rattle.std.proofs.Common.{◌∷◌, ◌++◌, Option, Some, None, drop, take, length, get_or, refl, ap, ap₂, sym, ◌∙◌, subst}
 use Rattle.std.proofs.Common.{arith, add-one, add-zero, length-drop, append_assoc, append-nil, drop-cons, drop-drop}
 use Rattle.std.proofs.Common.{get_or-drop, length-take-le, take-add, take-append-drop, take-take}
 use Rattle.std.specs.List.{All, prefix_len}
@@ -104,8 +104,8 @@ pub record IsTexted (at text last : ℕ) (es : List Event) : Type 0 where
   pub set : (first : Point) →
       resolved (Within first None None [] []) es
       ≡ resolved (Within first (last_point text es) (last_point last es) closing since) (drop at es)
-  pub behind_text : closing ++ since ++ drop at es ≡ drop text es
-  pub behind_last : since ++ drop at es ≡ drop last es
+  pub after_text : closing ++ since ++ drop at es ≡ drop text es
+  pub after_last : since ++ drop at es ≡ drop last es
   pub within : (text ≤ length es) × (last ≤ length es)
 
 pub texted-none : (es : List Event) → IsTexted 0 0 0 es
@@ -113,8 +113,8 @@ texted-none es = record {
   closing = [];
   since = [];
   set = λ first. refl;
-  behind_text = refl;
-  behind_last = refl;
+  after_text = refl;
+  after_last = refl;
   within = (omega arith, omega arith);
 }
 
@@ -141,8 +141,8 @@ texted-data at text last es d here is h = record {
       ∙ ap (resolved (Within first (last_point text es) (last_point last es) h.closing h.since)) (front-of es at d here)
       ∙ one first (get_or es at d) (drop (at + 1) es) is
       ∙ ap (λ (o : Option Point). resolved (Within first o o [] []) (drop (at + 1) es)) (sym (last-is at es d here));
-  behind_text = refl;
-  behind_last = refl;
+  after_text = refl;
+  after_last = refl;
   within = (omega (arith, here), omega (arith, here));
 }
   where
@@ -166,10 +166,10 @@ texted-run at text last es d here no_text is h = record {
       ∙ one first e rest no_text is
       ∙ ap (λ (o : Option Point). resolved (Within first (last_point last es) o (h.since ++ e ∷ []) []) rest)
       (sym (last-is at es d here));
-  behind_text =
+  after_text =
       ap (λ (l : List Event). l ++ rest) (append-nil (h.since ++ e ∷ []))
-      ∙ held-more h.since rest (drop last es) e (ap (λ (l : List Event). h.since ++ l) (sym front) ∙ h.behind_last);
-  behind_last = refl;
+      ∙ held-more h.since rest (drop last es) e (ap (λ (l : List Event). h.since ++ l) (sym front) ∙ h.after_last);
+  after_last = refl;
   within = (h.within.1, omega (arith, here));
 }
   where
@@ -196,12 +196,12 @@ texted-other at text last es d here no_text no_run inside h = record {
   set = λ first.
       h.set first ∙ ap (resolved (Within first (last_point text es) (last_point last es) h.closing h.since)) front
       ∙ one first e rest no_text no_run inside;
-  behind_text =
+  after_text =
       ap (λ (l : List Event). l ++ rest) (sym (append_assoc h.closing h.since (e ∷ [])))
       ∙ held-more (h.closing ++ h.since) rest (drop text es) e
-      (ap (λ (l : List Event). h.closing ++ h.since ++ l) (sym front) ∙ h.behind_text);
-  behind_last =
-      held-more h.since rest (drop last es) e (ap (λ (l : List Event). h.since ++ l) (sym front) ∙ h.behind_last);
+      (ap (λ (l : List Event). h.closing ++ h.since ++ l) (sym front) ∙ h.after_text);
+  after_last =
+      held-more h.since rest (drop last es) e (ap (λ (l : List Event). h.since ++ l) (sym front) ∙ h.after_last);
   within = h.within;
 }
   where
@@ -271,7 +271,8 @@ Walked at es = (text : ℕ) × ((last : ℕ) × IsTexted at text last es)
 
 walked : (at : ℕ) (es : List Event) (d : Event) → at ≤ length es → All IsInside es → Walked at es
 walked zero es d le inside = (0, (0, texted-none es))
-walked (suc at) es d le inside = go (ends is_data e) (ends is_sequence e) refl refl (walked at es d (omega (arith, le)) inside)
+walked (suc at) es d le inside = go (ends is_data e) (ends is_sequence e) refl refl
+    (walked at es d (omega (arith, le)) inside)
   where
     e : Event
     e = get_or es at d
@@ -365,17 +366,17 @@ texted-all text last es h first =
     ∙ append_assoc (text_between first (last_point text es)) h.closing h.since
     ∙ ap (λ (l : List Event). text_between first (last_point text es) ++ l)
     (sym (append-nil (h.closing ++ h.since)) ∙ ap (λ (l : List Event). h.closing ++ h.since ++ l) (sym none)
-    ∙ h.behind_text)
+    ∙ h.after_text)
   where
     none : drop (length es) es ≡ []
     none = drop_all (length es) es (omega arith)
 
 -- what is said of the events after the last run, by their indices
-behind-last : (n : ℕ) (es : List Event) (d : Event) → IsLastRun n es → (k : ℕ) → n ≤ k → k < length es →
+following-last : (n : ℕ) (es : List Event) (d : Event) → IsLastRun n es → (k : ℕ) → n ≤ k → k < length es →
     ends is_run (get_or es k d) ≡ false
-behind-last n es d h k low lt =
+following-last n es d h k low lt =
     let size = length-drop n es in
-    let here = h.behind (k - n) d (omega (arith, size, low, lt)) in
+    let here = h.following (k - n) d (omega (arith, size, low, lt)) in
     let same : n + (k - n) ≡ k = omega (arith, low) in
     rw same at (rw (get_or-drop n es (k - n) d) at here)
 
@@ -388,7 +389,7 @@ text-last zero es d inside h is first =
     texted-all 0 0 es
     (subst (λ (m : ℕ). IsTexted m 0 0 es) same
     (walked-on (length es) 0 0 0 es d (omega arith) inside
-    (λ k a b. behind-last 0 es d h k a (omega (arith, b))) (texted-none es))) first
+    (λ k a b. following-last 0 es d h k a (omega (arith, b))) (texted-none es))) first
 text-last (suc i) es d inside h is first =
     let lt : i < length es = omega (arith, h.within) in
     let e = get_or es i d in
@@ -404,17 +405,17 @@ text-last (suc i) es d inside h is first =
     (texted-all (i + 1) (i + 1) es
     (subst (λ (m : ℕ). IsTexted m (i + 1) (i + 1) es) same
     (walked-on (length es - (i + 1)) (i + 1) (i + 1) (i + 1) es d (omega (arith, lt)) inside
-    (λ k a b. behind-last (suc i) es d h k (omega (arith, a)) (omega (arith, b, lt))) one)) first)
+    (λ k a b. following-last (suc i) es d h k (omega (arith, a)) (omega (arith, b, lt))) one)) first)
 
 -- or it is of `#`, and the text ends with the one before
-text-behind : (i m : ℕ) (es : List Event) (d : Event) → All IsInside es → IsLastRun (suc i) es →
+text-following : (i m : ℕ) (es : List Event) (d : Event) → All IsInside es → IsLastRun (suc i) es →
     ends is_sequence (get_or es i d) ≡ true → IsLastRun m (take i es) → (first : Point) →
     resolved (Within first None None [] []) es ≡ texted first m es
-text-behind i m es d inside h is before first =
+text-following i m es d inside h is before first =
     texted-all m (i + 1) es
     (subst (λ (k : ℕ). IsTexted k m (i + 1) es) same
     (walked-on (length es - (i + 1)) (i + 1) m (i + 1) es d (omega (arith, lt)) inside
-    (λ k a b. behind-last (suc i) es d h k (omega (arith, a)) (omega (arith, b, lt)))
+    (λ k a b. following-last (suc i) es d h k (omega (arith, a)) (omega (arith, b, lt)))
     (texted-run i w.0 m es d lt (run-sequence e.kind e.name is) is w.1))) first
   where
     e : Event
@@ -437,14 +438,14 @@ text-behind i m es d inside h is before first =
         lastly i m es d (omega (arith, lt)) inside low
         (λ pos. rw (get_or-take i es (m - 1) d (omega (arith, low, pos))) at (before.is_end pos d))
         (λ k a b. rw (get_or-take i es k d b) at
-        (behind-last m (take i es) d before k a (omega (arith, size, b))))
+        (following-last m (take i es) d before k a (omega (arith, size, b))))
 
 pub text-before : (n m : ℕ) (es : List Event) (d : Event) → All IsInside es → IsLastRun n es → 0 < n →
     ends is_sequence (get_or es (n - 1) d) ≡ true → IsLastRun m (take (n - 1) es) → (first : Point) →
     resolved (Within first None None [] []) es ≡ texted first m es
 text-before zero m es d inside h some is before first = absurd (omega (arith, some))
 text-before (suc i) m es d inside h some is before first =
-    text-behind i m es d inside h
+    text-following i m es d inside h
     (subst (λ (k : ℕ). ends is_sequence (get_or es k d) ≡ true) (before-next i) is)
     (subst (λ (k : ℕ). IsLastRun m (take k es)) (before-next i) before) first
 
@@ -553,7 +554,7 @@ pub heading-given : (e : Event) (left es : List Event) (many a n : ℕ) (d : Eve
     ++ take (many - a - n) (drop n (drop a left))
     ≡ (written ++ held) ++ headings_resolved (take (heading_len left) left)
 heading-given e left es many a n d written held h some =
-    ap₂ (λ (x y : List Event). ((written ++ (held ++ x)) ++ text) ++ y) front behind
+    ap₂ (λ (x y : List Event). ((written ++ (held ++ x)) ++ text) ++ y) front following
     ∙ joined (take a es) (drop (a + n) es)
     ∙ ap (λ (o : Option Point).
     (written ++ held) ++ (take a es ++ (text_between (get_or es a d).point o ++ drop (a + n) es)))
@@ -566,8 +567,8 @@ heading-given e left es many a n d written held h some =
     front : take a left ≡ take a es
     front = sym (ap (take a) h.events ∙ take-take a many left (omega (arith, h.inside)))
 
-    behind : take (many - a - n) (drop n (drop a left)) ≡ drop (a + n) es
-    behind =
+    following : take (many - a - n) (drop n (drop a left)) ≡ drop (a + n) es
+    following =
         ap (take (many - a - n)) (drop-drop n a left) ∙ sym (drop-take (a + n) (many - a - n) left)
         ∙ ap (λ (m : ℕ). drop (a + n) (take m left)) (omega (arith, h.inside)) ∙ ap (drop (a + n)) (sym h.events)
 

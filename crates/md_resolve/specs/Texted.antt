@@ -33,4 +33,4 @@ texted first n es = text_between first (last_point n es) ++ drop n es
 pub record IsLastRun (n : ℕ) (es : List Event) : Type 0 where
   pub within : n ≤ length es
   pub is_end : 0 < n → (d : Event) → ends is_run (get_or es (n - 1) d) ≡ true
-  pub behind : All (λ e. ends is_run e ≡ false) (drop n es)
+  pub following : All (λ e. ends is_run e ≡ false) (drop n es)

@@ -1,7 +1,7 @@
 // Items, and the markers of their lists.
 
 ghost use Rattle.std.specs.Prelude.{◌≡◌, ◌&&◌, None, get_or};
-ghost use Rattle.md_containers.specs.Listed.{goes_on, is_item, is_marker, list_name, marker_ahead, next_item};
+ghost use Rattle.md_containers.specs.Listed.{is_continued, is_item, is_marker, list_name, marker_ahead, next_item};
 ghost use Rattle.md_events.specs.Events.Nested.{is_enter};
 ghost use Rattle.md_events.specs.Events.Spelled.{role};
 
@@ -67,8 +67,8 @@ pub(crate) fn next_item(bytes: &[u8], events: &[Event]) -> Option<u8>
 }
 
 /// Whether the list of an item with this marker has a further item, by what the next block is.
-pub(crate) fn goes_on(marker: u8, next: Option<u8>) -> bool
-    ensures { result ≡ goes_on marker next }
+pub(crate) fn is_continued(marker: u8, next: Option<u8>) -> bool
+    ensures { result ≡ is_continued marker next }
 {
     match next {
         Some(next) => marker == next,

@@ -32,7 +32,7 @@ ghost use Rattle.md_events.specs.Rewritten.{IsFirst};
 
 use crate::heading_text;
 use crate::heading_text::{begins_heading, ends_heading};
-use crate::items::{goes_on, is_item, list_event, marker_ahead, next_item};
+use crate::items::{is_continued, is_item, list_event, marker_ahead, next_item};
 use crate::underlines::{self, enter, exit, is_turned};
 use md_engine::event::{Event, Kind, Name};
 use md_engine::message::Message;
@@ -216,7 +216,7 @@ impl Walk {
         let Some(marker) = self.items.markers.pop() else {
             return Ok(());
         };
-        self.items.within = goes_on(marker, next);
+        self.items.within = is_continued(marker, next);
         if self.items.within {
             return Ok(());
         }

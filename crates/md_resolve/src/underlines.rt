@@ -2,7 +2,7 @@
 
 ghost use Rattle.std.specs.Prelude.{◌≡◌, ◌&&◌};
 ghost use Rattle.md_leaves.specs.Turned.{has_underline, is_paragraph, is_turned};
-ghost use Rattle.md_leaves.specs.Turned.{is_underline, passes, underline_behind};
+ghost use Rattle.md_leaves.specs.Turned.{is_underline, passes, underline_after};
 ghost use Rattle.md_events.specs.Events.Inline.{is_line_ending};
 ghost use Rattle.md_events.specs.Events.Nested.{enter, exit};
 
@@ -41,8 +41,8 @@ pub(crate) fn passes(event: &Event) -> bool
 }
 
 /// Whether an underline begins after container prefixes.
-fn underline_behind(events: &[Event]) -> bool
-    ensures { result ≡ underline_behind events.now }
+fn underline_after(events: &[Event]) -> bool
+    ensures { result ≡ underline_after events.now }
 {
     let mut at = 0;
     while at < events.len() {
@@ -59,7 +59,7 @@ fn underline_behind(events: &[Event]) -> bool
 fn has_underline(events: &[Event]) -> bool
     ensures { result ≡ has_underline events.now }
 {
-    events.len() >= 2 && is_line_ending(events[0].name) && underline_behind(&events[2..])
+    events.len() >= 2 && is_line_ending(events[0].name) && underline_after(&events[2..])
 }
 
 /// Whether an underline follows the paragraph that has begun before these events.

@@ -7,7 +7,7 @@ use Rattle.std.proofs.Math.ListN.{drop_of_length-le}
 use Rattle.std.proofs.lemmas.List.{length-append}
 use Rattle.md_meaning.specs.Enclosed.{Enclosed, Closed, Open, Broken, with_byte, enclosed}
 use Rattle.md_meaning.specs.Definition.{balanced}
-use Rattle.md_scan.specs.Definitions.{texts, is_bare, depth_behind}
+use Rattle.md_scan.specs.Definitions.{texts, is_bare, depth_following}
 
 -- with these bytes before the text
 abbrev pub with_bytes : List ℕ → Enclosed → Enclosed
@@ -30,13 +30,13 @@ with_bytes-nil Broken = refl
 pub record TextIn (opener closer : ℕ) (escaped : Bool) (rest line : List ℕ) : Type 0 where
   pub seen : List ℕ
   pub whole : seen ++ rest ≡ line
-  pub goes : with_bytes seen (enclosed opener closer escaped rest) ≡ enclosed opener closer false line
+  pub proceeds : with_bytes seen (enclosed opener closer escaped rest) ≡ enclosed opener closer false line
 
 pub TextIn-whole : (opener closer : ℕ) (line : List ℕ) → TextIn opener closer false line line
 TextIn-whole opener closer line = record {
   seen = [];
   whole = refl;
-  goes = with_bytes-nil (enclosed opener closer false line);
+  proceeds = with_bytes-nil (enclosed opener closer false line);
 }
 
 pub enclosed-closer : (opener closer : ℕ) (escaped : Bool) (b : ℕ) (bs : List ℕ) → is_bare escaped b closer ≡ true →
@@ -74,50 +74,50 @@ pub TextIn-closed : {opener closer b : ℕ} {escaped : Bool} {rest others line :
 TextIn-closed {opener} {closer} {b} {escaped} {rest} {others} {line} t e bare =
     let text : take (length line - length rest) line ≡
     t.seen = subst (λ l. take (length l - length rest) l ≡ t.seen) t.whole (take-seen t.seen rest) in
-    let goes : with_bytes t.seen (enclosed opener closer escaped (b ∷ others)) ≡
+    let proceeds : with_bytes t.seen (enclosed opener closer escaped (b ∷ others)) ≡
     enclosed opener closer false line = subst
-    (λ r. with_bytes t.seen (enclosed opener closer escaped r) ≡ enclosed opener closer false line) e t.goes in
+    (λ r. with_bytes t.seen (enclosed opener closer escaped r) ≡ enclosed opener closer false line) e t.proceeds in
     let closes : Closed (t.seen ++ []) others ≡
-    enclosed opener closer false line = rw (enclosed-closer opener closer escaped b others bare) at goes in
+    enclosed opener closer false line = rw (enclosed-closer opener closer escaped b others bare) at proceeds in
     rw text (rw append-nil at closes)
 
 pub TextIn-broken : {opener closer b : ℕ} {escaped : Bool} {rest others line : List ℕ} →
     TextIn opener closer escaped rest line → rest ≡ b ∷ others → is_bare escaped b closer ≡ false →
     is_bare escaped b opener ≡ true → Broken ≡ enclosed opener closer false line
 TextIn-broken {opener} {closer} {b} {escaped} {rest} {others} {line} t e stays bare =
-    let goes : with_bytes t.seen (enclosed opener closer escaped (b ∷ others)) ≡
+    let proceeds : with_bytes t.seen (enclosed opener closer escaped (b ∷ others)) ≡
     enclosed opener closer false line = subst
-    (λ r. with_bytes t.seen (enclosed opener closer escaped r) ≡ enclosed opener closer false line) e t.goes in
-    rw (enclosed-opener opener closer escaped b others stays bare) at goes
+    (λ r. with_bytes t.seen (enclosed opener closer escaped r) ≡ enclosed opener closer false line) e t.proceeds in
+    rw (enclosed-opener opener closer escaped b others stays bare) at proceeds
 
 pub TextIn-open : {opener closer : ℕ} {escaped : Bool} {rest line : List ℕ} → TextIn opener closer escaped rest line →
     length rest ≡ 0 → Open ≡ enclosed opener closer false line
-TextIn-open {opener} {closer} {escaped} {rest = []} {line} t e = rw (enclosed-nil opener closer escaped) at t.goes
+TextIn-open {opener} {closer} {escaped} {rest = []} {line} t e = rw (enclosed-nil opener closer escaped) at t.proceeds
 TextIn-open {opener} {closer} {escaped} {rest = b ∷ bs} {line} t e = absurd (omega arith)
 
 pub TextIn-byte : {opener closer b : ℕ} {escaped : Bool} {rest others line : List ℕ} →
     TextIn opener closer escaped rest line → rest ≡ b ∷ others → is_bare escaped b closer ≡ false →
     is_bare escaped b opener ≡ false → TextIn opener closer (is_bare escaped b 92) others line
 TextIn-byte {opener} {closer} {b} {escaped} {rest} {others} {line} t e stays neither =
-    let goes : with_bytes t.seen (enclosed opener closer escaped (b ∷ others)) ≡
+    let proceeds : with_bytes t.seen (enclosed opener closer escaped (b ∷ others)) ≡
     enclosed opener closer false line = subst
-    (λ r. with_bytes t.seen (enclosed opener closer escaped r) ≡ enclosed opener closer false line) e t.goes in
+    (λ r. with_bytes t.seen (enclosed opener closer escaped r) ≡ enclosed opener closer false line) e t.proceeds in
     record {
       seen = t.seen ++ b ∷ [];
       whole = append_assoc t.seen (b ∷ []) others ∙ sym (ap (λ r. t.seen ++ r) e) ∙ t.whole;
-      goes =
+      proceeds =
           sym (with_bytes-with_byte t.seen b (enclosed opener closer (is_bare escaped b 92) others))
-          ∙ (rw (enclosed-byte opener closer escaped b others stays neither) at goes);
+          ∙ (rw (enclosed-byte opener closer escaped b others stays neither) at proceeds);
     }
 
 -- what is left of balanced text after a byte
-abbrev pub balanced_behind : Option ℕ → Bool → List ℕ → Bool
-balanced_behind None escaped rest = false
-balanced_behind (Some depth) escaped rest = balanced depth escaped rest
+abbrev pub balanced_after : Option ℕ → Bool → List ℕ → Bool
+balanced_after None escaped rest = false
+balanced_after (Some depth) escaped rest = balanced depth escaped rest
 
 balanced-bare : (depth b : ℕ) (bs : List ℕ) (closes is_zero opens : Bool) → (b == 41) ≡ closes →
     (depth == 0) ≡ is_zero → (b == 40) ≡ opens →
-    balanced depth false (b ∷ bs) ≡ balanced_behind (depth_behind false depth b) (b == 92) bs
+    balanced depth false (b ∷ bs) ≡ balanced_after (depth_following false depth b) (b == 92) bs
 unfolding balanced
 balanced-bare depth b bs true true opens e f g = rw (e, f) refl
 balanced-bare depth b bs true false opens e f g =
@@ -126,23 +126,23 @@ balanced-bare depth b bs false is_zero true e f g = rw (e, g) refl
 balanced-bare depth b bs false is_zero false e f g = rw (e, g) refl
 
 pub balanced-byte : (depth : ℕ) (escaped : Bool) (b : ℕ) (bs : List ℕ) →
-    balanced depth escaped (b ∷ bs) ≡ balanced_behind (depth_behind escaped depth b) (is_bare escaped b 92) bs
+    balanced depth escaped (b ∷ bs) ≡ balanced_after (depth_following escaped depth b) (is_bare escaped b 92) bs
 unfolding balanced
 balanced-byte depth true b bs = refl
 balanced-byte depth false b bs = balanced-bare depth b bs (b == 41) (depth == 0) (b == 40) refl refl refl
 
 pub balanced-stops : (depth : ℕ) (escaped : Bool) (b : ℕ) (others rest : List ℕ) → rest ≡ b ∷ others →
-    None ≡ depth_behind escaped depth b → balanced depth escaped rest ≡ false
+    None ≡ depth_following escaped depth b → balanced depth escaped rest ≡ false
 balanced-stops depth escaped b others rest e f =
     ap (balanced depth escaped) e ∙ balanced-byte depth escaped b others
-    ∙ ap (λ d. balanced_behind d (is_bare escaped b 92) others) (sym f)
+    ∙ ap (λ d. balanced_after d (is_bare escaped b 92) others) (sym f)
 
-pub balanced-goes : (depth behind : ℕ) (escaped : Bool) (b : ℕ) (others rest : List ℕ) → rest ≡ b ∷ others →
-    Some behind ≡ depth_behind escaped depth b →
-    balanced depth escaped rest ≡ balanced behind (is_bare escaped b 92) others
-balanced-goes depth behind escaped b others rest e f =
+pub balanced-proceeds : (depth following : ℕ) (escaped : Bool) (b : ℕ) (others rest : List ℕ) → rest ≡ b ∷ others →
+    Some following ≡ depth_following escaped depth b →
+    balanced depth escaped rest ≡ balanced following (is_bare escaped b 92) others
+balanced-proceeds depth following escaped b others rest e f =
     ap (balanced depth escaped) e ∙ balanced-byte depth escaped b others
-    ∙ ap (λ d. balanced_behind d (is_bare escaped b 92) others) (sym f)
+    ∙ ap (λ d. balanced_after d (is_bare escaped b 92) others) (sym f)
 
 pub balanced-ends : (depth : ℕ) (escaped : Bool) (rest : List ℕ) → length rest ≡ 0 →
     balanced depth escaped rest ≡ (depth == 0)
@@ -151,19 +151,19 @@ balanced-ends depth true [] e = refl
 balanced-ends depth false [] e = refl
 balanced-ends depth escaped (b ∷ bs) e = absurd (omega arith)
 
-pub depth_behind-le : (escaped : Bool) (depth b behind : ℕ) → Some behind ≡ depth_behind escaped depth b →
-    behind ≤ depth + 1
-depth_behind-le escaped depth b behind e = go (is_bare escaped b 41) (depth == 0) (is_bare escaped b 40) e
+pub depth_following-le : (escaped : Bool) (depth b following : ℕ) → Some following ≡ depth_following escaped depth b →
+    following ≤ depth + 1
+depth_following-le escaped depth b following e = go (is_bare escaped b 41) (depth == 0) (is_bare escaped b 40) e
   where
     go : (closes is_zero opens : Bool) →
-        Some behind ≡
+        Some following ≡
         (if closes then (if is_zero then None else Some (depth - 1)) else if opens then Some (depth + 1)
         else Some depth) →
-        behind ≤ depth + 1
+        following ≤ depth + 1
     go true true opens f = cc
-    go true false opens f = let k : behind ≡ depth - 1 = cc in omega arith
-    go false is_zero true f = let k : behind ≡ depth + 1 = cc in omega arith
-    go false is_zero false f = let k : behind ≡ depth = cc in omega arith
+    go true false opens f = let k : following ≡ depth - 1 = cc in omega arith
+    go false is_zero true f = let k : following ≡ depth + 1 = cc in omega arith
+    go false is_zero false f = let k : following ≡ depth = cc in omega arith
 
 -- the lines from this one on
 pub texts-drop : (lines : List (Bor (List ℕ))) (i : ℕ) (d : Bor (List ℕ)) → i < length lines →

@@ -24,8 +24,8 @@ abbrev pub is_bare : Bool → ℕ → ℕ → Bool
 is_bare escaped byte mark = not escaped && (byte == mark)
 
 -- how many parentheses are open after this byte; none if it closes one too many
-abbrev pub depth_behind : Bool → ℕ → ℕ → Option ℕ
-depth_behind escaped depth byte =
+abbrev pub depth_following : Bool → ℕ → ℕ → Option ℕ
+depth_following escaped depth byte =
     if is_bare escaped byte 41 then (if depth == 0 then None else Some (depth - 1))
     else if is_bare escaped byte 40 then Some (depth + 1)
     else Some depth

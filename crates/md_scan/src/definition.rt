@@ -68,9 +68,9 @@ fn raw_len(rest: &[u8]) -> usize
 }
 
 /// How many parentheses are open after this byte, with so many open before it; none if it closes one too many.
-fn depth_behind(escaped: bool, depth: usize, byte: u8) -> Option<usize>
+fn depth_following(escaped: bool, depth: usize, byte: u8) -> Option<usize>
     requires { depth + 1 < 2 ^ 64 }
-    ensures { result ≡ m.depth_behind escaped depth byte }
+    ensures { result ≡ m.depth_following escaped depth byte }
 {
     if is_bare(escaped, byte, b')') {
         depth.checked_sub(1)
@@ -89,10 +89,10 @@ fn is_balanced(text: &[u8]) -> bool
     let mut escaped = false;
     let mut rest = text;
     while let Some((first, others)) = rest.split_first() {
-        let Some(behind) = depth_behind(escaped, depth, *first) else {
+        let Some(following) = depth_following(escaped, depth, *first) else {
             return false;
         };
-        depth = behind;
+        depth = following;
         escaped = is_bare(escaped, *first, b'\\');
         rest = others;
     }

@@ -42,9 +42,9 @@ fn push_words(text: &mut Vec<u8>, line: &[u8]) -> Result<(), Message>
         if is_white(*first) {
             rest = others;
         } else {
-            let (word, behind) = rest.split_at(word_len(rest));
+            let (word, following) = rest.split_at(word_len(rest));
             push_word(text, word)?;
-            rest = behind;
+            rest = following;
         }
     }
     Ok(())

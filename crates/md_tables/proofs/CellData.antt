@@ -13,7 +13,7 @@ use Rattle.md_events.specs.Events.Nested.{pair}
 use Rattle.md_events.specs.Events.Places.{past_text, same_place}
 use Rattle.md_events.proofs.InlineLemmas.{past-index, same-refl}
 use Rattle.md_tables.specs.RowCells.{read_text}
-use Rattle.md_tables.proofs.RowBytes.{Stands, stands-first}
+use Rattle.md_tables.proofs.RowBytes.{Valid, valid-first}
 use Rattle.md_leaves.proofs.OneLine.{line-whole}
 
 -- a text that is not empty ends elsewhere than it begins
@@ -24,7 +24,7 @@ apart b bs p =
     let other : (p.index == q.index) ≡ false = grind (arith, nat_tests) in
     ap (λ (x : Bool). x && (p.vs == q.vs)) other
 
-pub data-read : (bytes : List ℕ) (b : ℕ) (bs : List ℕ) (p : Point) → Stands bytes p (b ∷ bs) → NoEnding (b ∷ bs) →
+pub data-read : (bytes : List ℕ) (b : ℕ) (bs : List ℕ) (p : Point) → Valid bytes p (b ∷ bs) → NoEnding (b ∷ bs) →
     read_text bytes p (past_text (b ∷ bs) p) ≡ pair n.Data p (past_text (b ∷ bs) p)
 data-read bytes b bs p is none =
     ap (λ (t : List ℕ). said (past_text (without_ending t) p)) text
@@ -40,5 +40,5 @@ data-read bytes b bs p is none =
 
     text : slice_range bytes p.index q.index ≡ b ∷ bs
     text =
-        stands-first bytes p (b ∷ bs) []
-        (subst (λ (xs : List ℕ). Stands bytes p xs) (sym (append-nil (b ∷ bs))) is)
+        valid-first bytes p (b ∷ bs) []
+        (subst (λ (xs : List ℕ). Valid bytes p xs) (sym (append-nil (b ∷ bs))) is)

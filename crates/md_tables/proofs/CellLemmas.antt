@@ -12,9 +12,9 @@ use Rattle.md_meaning.specs.Table.{is_delimiter}
 use Rattle.md_leaves.proofs.TitleTexts.{front-stops, kept-ends, kept-whole, tail, tail-passes}
 use Rattle.md_events.proofs.RestLines.{count-one, trim-white}
 use Rattle.md_tables.specs.Delimiter.{Aligns, Dash, Divides, Mark, Other, Stops, White, mark_of}
-use Rattle.md_tables.specs.DelimiterRule.{Behind, Counts, Dashes, Fails, Front, Goes, Left}
+use Rattle.md_tables.specs.DelimiterRule.{Following, Counts, Dashes, Fails, Front, Proceeds, Left}
 use Rattle.md_tables.specs.DelimiterRule.{Marks, Move, Open, Place, move}
-use Rattle.md_tables.proofs.DelimiterLemmas.{told-as, white-mark}
+use Rattle.md_tables.proofs.DelimiterLemmas.{recorded-as, white-mark}
 
 -- Where no whitespace is at an end.
 
@@ -64,7 +64,7 @@ move_in p Divides = Fails
 move_in p x = move p x
 
 abbrev pub led_in : Move → (Place → Bool) → Bool
-led_in (Goes q) on = on q
+led_in (Proceeds q) on = on q
 led_in Counts on = on Dashes
 led_in (Marks q) on = on q
 led_in Fails on = false
@@ -75,7 +75,7 @@ may_end_in Front = false
 may_end_in Open = false
 may_end_in Left = false
 may_end_in Dashes = true
-may_end_in Behind = true
+may_end_in Following = true
 
 -- whether bytes end a cell
 abbrev pub ends_cell : Place → List ℕ → Bool
@@ -94,11 +94,11 @@ cell-blank p (w ∷ ws) h =
     go Front e on = rw e refl
     go Open e on = rw e (on Open)
     go Left e on = rw e refl
-    go Dashes e on = rw e (on Behind)
-    go Behind e on = rw e (on Behind)
+    go Dashes e on = rw e (on Following)
+    go Following e on = rw e (on Following)
 
 led_in-same : (m : Move) (f g : Place → Bool) → ((q : Place) → f q ≡ g q) → led_in m f ≡ led_in m g
-led_in-same (Goes q) f g h = h q
+led_in-same (Proceeds q) f g h = h q
 led_in-same Counts f g h = h Dashes
 led_in-same (Marks q) f g h = h q
 led_in-same Fails f g h = refl
@@ -132,14 +132,14 @@ dark-next b [] h = refl
 dark-next b (c ∷ bs) h = h
 
 -- after a cell nothing but whitespace is,
-behind-dark : (bs : List ℕ) → ends_dark bs ≡ true → ends_cell Behind bs ≡ is_end bs
-behind-dark [] h = refl
-behind-dark (b ∷ bs) h = go (mark_of b) refl (behind-dark bs)
+following-dark : (bs : List ℕ) → ends_dark bs ≡ true → ends_cell Following bs ≡ is_end bs
+following-dark [] h = refl
+following-dark (b ∷ bs) h = go (mark_of b) refl (following-dark bs)
   where
-    go : (x : Mark) → mark_of b ≡ x → (ends_dark bs ≡ true → ends_cell Behind bs ≡ is_end bs) →
-        ends_cell Behind (b ∷ bs) ≡ false
+    go : (x : Mark) → mark_of b ≡ x → (ends_dark bs ≡ true → ends_cell Following bs ≡ is_end bs) →
+        ends_cell Following (b ∷ bs) ≡ false
     go Stops e on = rw e refl
-    go White e on = let r = dark-rest b bs h (told-as b White e).white in rw e (on r.1 ∙ r.0)
+    go White e on = let r = dark-rest b bs h (recorded-as b White e).white in rw e (on r.1 ∙ r.0)
     go Divides e on = rw e refl
     go Aligns e on = rw e refl
     go Dash e on = rw e refl
@@ -158,18 +158,18 @@ dashes-dark [] h = refl
 dashes-dark (b ∷ bs) h = go (mark_of b) refl (dashes-dark bs (dark-next b bs h))
   where
     go : (x : Mark) → mark_of b ≡ x → ends_cell Dashes bs ≡ dashes bs → ends_cell Dashes (b ∷ bs) ≡ dashes (b ∷ bs)
-    go Stops e on = let t = told-as b Stops e in rw (e, t.dash, t.colon) refl
+    go Stops e on = let t = recorded-as b Stops e in rw (e, t.dash, t.colon) refl
     go White e on =
-        let t = told-as b White e in
+        let t = recorded-as b White e in
         let r = dark-rest b bs h t.white in
-        rw (e, t.dash, t.colon) (behind-dark bs r.1 ∙ r.0)
-    go Divides e on = let t = told-as b Divides e in rw (e, t.dash, t.colon) refl
-    go Aligns e on = let t = told-as b Aligns e in rw (e, t.dash, t.colon) (behind-dark bs (dark-next b bs h))
+        rw (e, t.dash, t.colon) (following-dark bs r.1 ∙ r.0)
+    go Divides e on = let t = recorded-as b Divides e in rw (e, t.dash, t.colon) refl
+    go Aligns e on = let t = recorded-as b Aligns e in rw (e, t.dash, t.colon) (following-dark bs (dark-next b bs h))
     go Dash e on =
-        let t = told-as b Dash e in
+        let t = recorded-as b Dash e in
         let more : after (λ c. nat_eq c 45) (b ∷ bs) ≡ after (λ c. nat_eq c 45) bs = after-one b bs t.dash in
         rw (e, more) on
-    go Other e on = let t = told-as b Other e in rw (e, t.dash, t.colon) refl
+    go Other e on = let t = recorded-as b Other e in rw (e, t.dash, t.colon) refl
 
 -- after the colon at its front: a dash, and more of them
 left-dark : (bs : List ℕ) → ends_dark bs ≡ true → ends_cell Left bs ≡ begins_with 45 bs && dashes bs
@@ -177,16 +177,16 @@ left-dark [] h = refl
 left-dark (b ∷ bs) h = go (mark_of b) refl
   where
     go : (x : Mark) → mark_of b ≡ x → ends_cell Left (b ∷ bs) ≡ begins_with 45 (b ∷ bs) && dashes (b ∷ bs)
-    go Stops e = let t = told-as b Stops e in rw (e, t.dash) refl
-    go White e = let t = told-as b White e in rw (e, t.dash) refl
-    go Divides e = let t = told-as b Divides e in rw (e, t.dash) refl
-    go Aligns e = let t = told-as b Aligns e in rw (e, t.dash) refl
+    go Stops e = let t = recorded-as b Stops e in rw (e, t.dash) refl
+    go White e = let t = recorded-as b White e in rw (e, t.dash) refl
+    go Divides e = let t = recorded-as b Divides e in rw (e, t.dash) refl
+    go Aligns e = let t = recorded-as b Aligns e in rw (e, t.dash) refl
     go Dash e =
-        let t = told-as b Dash e in
+        let t = recorded-as b Dash e in
         let same : dashes (b ∷ bs) ≡ dashes bs =
         ap (λ (x : List ℕ). is_end (after_optional 58 x)) (after-one b bs t.dash) in
         rw (same, e, t.dash) (dashes-dark bs (dark-next b bs h))
-    go Other e = let t = told-as b Other e in rw (e, t.dash) refl
+    go Other e = let t = recorded-as b Other e in rw (e, t.dash) refl
 
 -- a cell without outer whitespace
 open-dark : (bs : List ℕ) → ends_dark bs ≡ true → begins is_white bs ≡ false → ends_cell Open bs ≡ is_delimiter bs
@@ -194,12 +194,12 @@ open-dark [] h dark = refl
 open-dark (b ∷ bs) h dark = go (mark_of b) refl
   where
     go : (x : Mark) → mark_of b ≡ x → ends_cell Open (b ∷ bs) ≡ is_delimiter (b ∷ bs)
-    go Stops e = let t = told-as b Stops e in rw (e, t.colon, t.dash) refl
-    go White e = let no : true ≡ false = sym (told-as b White e).white ∙ dark in cc
-    go Divides e = let t = told-as b Divides e in rw (e, t.colon, t.dash) refl
-    go Aligns e = let t = told-as b Aligns e in rw (e, t.colon) (left-dark bs (dark-next b bs h))
+    go Stops e = let t = recorded-as b Stops e in rw (e, t.colon, t.dash) refl
+    go White e = let no : true ≡ false = sym (recorded-as b White e).white ∙ dark in cc
+    go Divides e = let t = recorded-as b Divides e in rw (e, t.colon, t.dash) refl
+    go Aligns e = let t = recorded-as b Aligns e in rw (e, t.colon) (left-dark bs (dark-next b bs h))
     go Dash e =
-        let t = told-as b Dash e in
+        let t = recorded-as b Dash e in
         let same : dashes (b ∷ bs) ≡ dashes bs =
         ap (λ (x : List ℕ). is_end (after_optional 58 x)) (after-one b bs t.dash) in
         let begun : ends_cell Open (b ∷ bs) ≡ ends_cell Dashes bs = rw e refl in
@@ -208,7 +208,7 @@ open-dark (b ∷ bs) h dark = go (mark_of b) refl
         ap (λ (y : List ℕ). begins_with 45 y && is_end (after_optional 58 (after (λ c. nat_eq c 45) y))) plain
         ∙ ap (λ (x : Bool). x && dashes (b ∷ bs)) t.dash ∙ same in
         begun ∙ dashes-dark bs (dark-next b bs h) ∙ sym is
-    go Other e = let t = told-as b Other e in rw (e, t.colon, t.dash) refl
+    go Other e = let t = recorded-as b Other e in rw (e, t.colon, t.dash) refl
 
 -- what ends a cell from its begin is a cell of a delimiter row, by the line definition
 pub cell-is : (f : List ℕ) → ends_cell Open f ≡ is_delimiter (trim f)

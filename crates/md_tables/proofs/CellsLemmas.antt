@@ -11,13 +11,13 @@ use Rattle.md_engine.specs.declared.event.Name.{Name}
 use Rattle.md_engine.specs.declared.event.Name.TheVariants as n
 use Rattle.md_events.specs.Events.Nested.{enter, exit, is_enter, is_exit}
 use Rattle.md_tables.specs.Cells.{Step, begins_divider, begins_inner, begins_row, cell_name, divider_step}
-use Rattle.md_tables.specs.Cells.{ends_divider, ends_inner, ends_row, ends_with, first_is, front_step, goes_on}
+use Rattle.md_tables.specs.Cells.{ends_divider, ends_inner, ends_row, ends_with, first_is, front_step, is_continued}
 use Rattle.md_tables.specs.Cells.{has_white, inner_name, inner_step, inside_step, is_divider, is_last, is_row, is_white}
 use Rattle.md_tables.specs.Cells.{last_step, outside_step, passed, piece_step, row_ends, row_kind, step, within_step}
 use Rattle.md_tables.specs.declared.cells.RowKind.{RowKind}
 use Rattle.md_tables.specs.declared.cells.RowKind.TheVariants.{Delimiter, Text}
 use Rattle.md_tables.specs.declared.cells.Stage.{Stage}
-use Rattle.md_tables.specs.declared.cells.Stage.TheVariants.{Behind, Front, Gap, Inner, Last, Outside, Within}
+use Rattle.md_tables.specs.declared.cells.Stage.TheVariants.{Following, Front, Gap, Inner, Last, Outside, Within}
 
 -- What is put around events.
 
@@ -32,16 +32,16 @@ is_put n.GfmTableDelimiterCellValue = true
 is_put _ = false
 
 -- what holds of an event continues to hold of one of these that is put where it is
-abbrev pub GoesOver : (Event → Type 0) → Type 0
-GoesOver P = (kind : Kind) (name : Name) (e : Event) → is_put name ≡ true → P e →
+abbrev pub KeptOver : (Event → Type 0) → Type 0
+KeptOver P = (kind : Kind) (name : Name) (e : Event) → is_put name ≡ true → P e →
     P (record { kind = kind; name = name; point = e.point; link = None })
 
-put-cell : (P : Event → Type 0) → GoesOver P → (k : RowKind) (kind : Kind) (e : Event) → P e →
+put-cell : (P : Event → Type 0) → KeptOver P → (k : RowKind) (kind : Kind) (e : Event) → P e →
     P (record { kind = kind; name = cell_name k; point = e.point; link = None })
 put-cell P over Text kind e h = over kind n.GfmTableCell e refl h
 put-cell P over Delimiter kind e h = over kind n.GfmTableDelimiterCell e refl h
 
-put-inner : (P : Event → Type 0) → GoesOver P → (k : RowKind) (kind : Kind) (e : Event) → P e →
+put-inner : (P : Event → Type 0) → KeptOver P → (k : RowKind) (kind : Kind) (e : Event) → P e →
     P (record { kind = kind; name = inner_name k; point = e.point; link = None })
 put-inner P over Text kind e h = over kind n.GfmTableCellText e refl h
 put-inner P over Delimiter kind e h = over kind n.GfmTableDelimiterCellValue e refl h
@@ -56,16 +56,16 @@ three-kept : (P : Event → Type 0) (e f g : Event) → P e → P f → P g → 
 three-kept P e f g h k m = All-cons P e (f ∷ g ∷ []) h (two-kept P f g k m)
 
 -- so it holds of all that is given for an event
-ends-kept : (P : Event → Type 0) (over : GoesOver P) (stage : Stage) (e : Event) → P e → All P (ends_with stage e)
+ends-kept : (P : Event → Type 0) (over : KeptOver P) (stage : Stage) (e : Event) → P e → All P (ends_with stage e)
 ends-kept P over Outside e h = one-kept P e h
 ends-kept P over (Front k) e h = one-kept P e h
 ends-kept P over (Within k) e h = two-kept P (exit (cell_name k) e.point) e (put-cell P over k Exit e h) h
 ends-kept P over (Inner k) e h = one-kept P e h
 ends-kept P over Gap e h = one-kept P e h
 ends-kept P over (Last k) e h = one-kept P e h
-ends-kept P over Behind e h = one-kept P e h
+ends-kept P over Following e h = one-kept P e h
 
-front-kept : (P : Event → Type 0) (over : GoesOver P) (k : RowKind) (e : Event) → P e → All P (front_step k e).given
+front-kept : (P : Event → Type 0) (over : KeptOver P) (k : RowKind) (e : Event) → P e → All P (front_step k e).given
 front-kept P over k e h = go (begins_divider e) (begins_inner k e)
   where
     go : (x y : Bool) →
@@ -80,14 +80,14 @@ front-kept P over k e h = go (begins_divider e) (begins_inner k e)
         (put-inner P over k Enter e h) h
     go false false = one-kept P e h
 
-divider-kept : (P : Event → Type 0) (over : GoesOver P) (k : RowKind) (e : Event) (x : Bool) → P e →
+divider-kept : (P : Event → Type 0) (over : KeptOver P) (k : RowKind) (e : Event) (x : Bool) → P e →
     All P (divider_step k e x).given
 divider-kept P over k e true h = one-kept P e h
 divider-kept P over k e false h =
     three-kept P (exit (cell_name k) e.point) (enter (cell_name k) e.point) e (put-cell P over k Exit e h)
     (put-cell P over k Enter e h) h
 
-within-kept : (P : Event → Type 0) (over : GoesOver P) (k : RowKind) (e : Event) (es : List Event) → P e →
+within-kept : (P : Event → Type 0) (over : KeptOver P) (k : RowKind) (e : Event) (es : List Event) → P e →
     All P (within_step k e es).given
 within-kept P over k e es h = go (begins_divider e) (begins_inner k e)
   where
@@ -100,7 +100,7 @@ within-kept P over k e es h = go (begins_divider e) (begins_inner k e)
     go false true = two-kept P (enter (inner_name k) e.point) e (put-inner P over k Enter e h) h
     go false false = one-kept P e h
 
-piece-kept : (P : Event → Type 0) (over : GoesOver P) (k : RowKind) (e : Event) (x : Bool) → P e →
+piece-kept : (P : Event → Type 0) (over : KeptOver P) (k : RowKind) (e : Event) (x : Bool) → P e →
     All P (piece_step k e x).given
 piece-kept P over Text e true h = All-nil P
 piece-kept P over Delimiter e true h = one-kept P e h
@@ -108,29 +108,29 @@ piece-kept P over Text e false h = two-kept P e (exit (inner_name Text) e.point)
 piece-kept P over Delimiter e false h =
     two-kept P e (exit (inner_name Delimiter) e.point) h (put-inner P over Delimiter Exit e h)
 
-inner-kept : (P : Event → Type 0) (over : GoesOver P) (k : RowKind) (e : Event) (es : List Event) → P e →
+inner-kept : (P : Event → Type 0) (over : KeptOver P) (k : RowKind) (e : Event) (es : List Event) → P e →
     All P (inner_step k e es).given
 inner-kept P over k e es h = go (ends_inner k e)
   where
-    go : (x : Bool) → All P (cond x (piece_step k e (goes_on k es)) (passed e (Inner k))).given
-    go true = piece-kept P over k e (goes_on k es) h
+    go : (x : Bool) → All P (cond x (piece_step k e (is_continued k es)) (passed e (Inner k))).given
+    go true = piece-kept P over k e (is_continued k es) h
     go false = one-kept P e h
 
-last-kept : (P : Event → Type 0) (over : GoesOver P) (k : RowKind) (e : Event) → P e → All P (last_step k e).given
+last-kept : (P : Event → Type 0) (over : KeptOver P) (k : RowKind) (e : Event) → P e → All P (last_step k e).given
 last-kept P over k e h = go (ends_divider e)
   where
     go : (x : Bool) →
         All P
-        (cond x (record { given = e ∷ exit (cell_name k) e.point ∷ []; stage = Behind }) (passed e (Last k))).given
+        (cond x (record { given = e ∷ exit (cell_name k) e.point ∷ []; stage = Following }) (passed e (Last k))).given
     go true = two-kept P e (exit (cell_name k) e.point) h (put-cell P over k Exit e h)
     go false = one-kept P e h
 
-outside-kept : (P : Event → Type 0) (over : GoesOver P) (e : Event) (o : Option RowKind) → P e →
+outside-kept : (P : Event → Type 0) (over : KeptOver P) (e : Event) (o : Option RowKind) → P e →
     All P (outside_step e o).given
 outside-kept P over e None h = one-kept P e h
 outside-kept P over e (Some k) h = one-kept P e h
 
-inside-kept : (P : Event → Type 0) (over : GoesOver P) (stage : Stage) (e : Event) (es : List Event) → P e →
+inside-kept : (P : Event → Type 0) (over : KeptOver P) (stage : Stage) (e : Event) (es : List Event) → P e →
     All P (inside_step stage e es).given
 inside-kept P over Outside e es h = outside-kept P over e (begins_row e) h
 inside-kept P over (Front k) e es h = front-kept P over k e h
@@ -138,9 +138,9 @@ inside-kept P over (Within k) e es h = within-kept P over k e es h
 inside-kept P over (Inner k) e es h = inner-kept P over k e es h
 inside-kept P over Gap e es h = All-nil P
 inside-kept P over (Last k) e es h = last-kept P over k e h
-inside-kept P over Behind e es h = one-kept P e h
+inside-kept P over Following e es h = one-kept P e h
 
-pub step-kept : (P : Event → Type 0) (over : GoesOver P) (stage : Stage) (e : Event) (es : List Event) → P e →
+pub step-kept : (P : Event → Type 0) (over : KeptOver P) (stage : Stage) (e : Event) (es : List Event) → P e →
     All P (step stage e es).given
 step-kept P over stage e es h = go (ends_row e)
   where
@@ -189,7 +189,7 @@ row-end e h = (and_parts (is_exit e.kind) (is_row e.name) h).1
 -- looks ahead do not go beyond it
 pub record Looks (xs ys : List Event) : Type 0 where
   pub last : is_last xs ≡ is_last ys
-  pub on : (k : RowKind) → goes_on k xs ≡ goes_on k ys
+  pub on : (k : RowKind) → is_continued k xs ≡ is_continued k ys
 
 white-looks : (es rest : List Event) (e : Event) → ends_row e ≡ true →
     has_white (es ++ e ∷ rest) ≡ has_white (es ++ e ∷ [])
@@ -204,15 +204,15 @@ first-looks test [] rest e = refl
 first-looks test (a ∷ es) rest e = refl
 
 -- what follows whitespace there
-behind-looks : (test : Event → Bool) (es rest : List Event) (e : Event) → ends_row e ≡ true →
+following-looks : (test : Event → Bool) (es rest : List Event) (e : Event) → ends_row e ≡ true →
     has_white (es ++ e ∷ []) ≡ true →
     first_is test (drop 2 (es ++ e ∷ rest)) ≡ first_is test (drop 2 (es ++ e ∷ []))
-behind-looks test [] rest e h white = cc
-behind-looks test (a ∷ []) rest e h white =
+following-looks test [] rest e h white = cc
+following-looks test (a ∷ []) rest e h white =
     let dark = row-dark e.name (row-end e h) in
     let light = (and_parts (is_white a.name) (is_white e.name) white).1 in
     let no : false ≡ true = sym dark ∙ light in cc
-behind-looks test (a ∷ b ∷ es) rest e h white = first-looks test es rest e
+following-looks test (a ∷ b ∷ es) rest e h white = first-looks test es rest e
 
 row-looks : (es rest : List Event) (e : Event) → ends_row e ≡ true →
     row_ends (es ++ e ∷ rest) ≡ row_ends (es ++ e ∷ [])
@@ -221,7 +221,7 @@ row-looks es rest e h = rw (white-looks es rest e h) (go (has_white (es ++ e ∷
     go : (x : Bool) → has_white (es ++ e ∷ []) ≡ x →
         first_is ends_row (cond x (drop 2 (es ++ e ∷ rest)) (es ++ e ∷ rest)) ≡
         first_is ends_row (cond x (drop 2 (es ++ e ∷ [])) (es ++ e ∷ []))
-    go true white = behind-looks ends_row es rest e h white
+    go true white = following-looks ends_row es rest e h white
     go false white = first-looks ends_row es rest e
 
 pub last-looks : (es rest : List Event) (e : Event) → ends_row e ≡ true →
@@ -236,13 +236,13 @@ last-looks [] rest e h =
 last-looks (a ∷ es) rest e h = ap (λ (x : Bool). ends_divider a && x) (row-looks es rest e h)
 
 pub on-looks : (k : RowKind) (es rest : List Event) (e : Event) → ends_row e ≡ true →
-    goes_on k (es ++ e ∷ rest) ≡ goes_on k (es ++ e ∷ [])
+    is_continued k (es ++ e ∷ rest) ≡ is_continued k (es ++ e ∷ [])
 on-looks Text es rest e h = rw (white-looks es rest e h) (go (has_white (es ++ e ∷ [])) refl)
   where
     go : (x : Bool) → has_white (es ++ e ∷ []) ≡ x →
         x && first_is (begins_inner Text) (drop 2 (es ++ e ∷ rest)) ≡
         x && first_is (begins_inner Text) (drop 2 (es ++ e ∷ []))
-    go true white = behind-looks (begins_inner Text) es rest e h white
+    go true white = following-looks (begins_inner Text) es rest e h white
     go false white = refl
 on-looks Delimiter es rest e h = first-looks (begins_inner Delimiter) es rest e
 
@@ -258,4 +258,4 @@ step-looks stage x es fs looks =
     go (Inner k) = rw (looks.on k) refl
     go Gap = refl
     go (Last k) = refl
-    go Behind = refl
+    go Following = refl

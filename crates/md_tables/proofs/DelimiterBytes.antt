@@ -15,7 +15,7 @@ use Rattle.md_leaves.proofs.TitleTexts.{front-stops}
 use Rattle.md_events.specs.Events.Places.{past_byte}
 use Rattle.md_events.proofs.FeedLines.{bytes_of, cell, columns_more, next_column, spread, tab_cells}
 use Rattle.md_tables.specs.Delimiter.{mark_of}
-use Rattle.md_tables.specs.DelimiterRule.{Behind, Dashes, Front, Left, Open, Place, fits, move}
+use Rattle.md_tables.specs.DelimiterRule.{Following, Dashes, Front, Left, Open, Place, fits, move}
 use Rattle.md_tables.specs.GfmTable.{asking_columns}
 use Rattle.md_tables.specs.GfmTableLine.{are_columns, is_row_of}
 use Rattle.md_tables.proofs.DelimiterColumns.{delimiter-fits, led-same, start-same}
@@ -27,8 +27,8 @@ white-once : (place : Place) (s : Scratch) (b : ℕ) (bs cs : List ℕ) → is_w
 white-once Front s b bs cs white same = rw (white-mark b white) refl
 white-once Open s b bs cs white same = rw (white-mark b white) (same Open)
 white-once Left s b bs cs white same = rw (white-mark b white) refl
-white-once Dashes s b bs cs white same = rw (white-mark b white) (same Behind)
-white-once Behind s b bs cs white same = rw (white-mark b white) (same Behind)
+white-once Dashes s b bs cs white same = rw (white-mark b white) (same Following)
+white-once Following s b bs cs white same = rw (white-mark b white) (same Following)
 
 -- so a tab does what its columns do
 fits-tab : (line : Line) (n b : ℕ) (p : Point) (place : Place) (s : Scratch) (cs : List Cell) → is_white b ≡ true →

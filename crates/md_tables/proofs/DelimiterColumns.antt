@@ -13,12 +13,12 @@ use Rattle.md_leaves.proofs.TitleTexts.{tail}
 use Rattle.md_leaves.proofs.BreakLemmas.{white-apart}
 use Rattle.md_link_definitions.proofs.Pieces.{Parted, onto-parted, pieces-parted}
 use Rattle.md_tables.specs.Delimiter.{Aligns, Dash, Divides, Mark, Other, Stops, White, mark_of}
-use Rattle.md_tables.specs.DelimiterRule.{Behind, Counts, Dashes, Fails, Front, Goes, Left, Marks, Move}
+use Rattle.md_tables.specs.DelimiterRule.{Following, Counts, Dashes, Fails, Front, Proceeds, Left, Marks, Move}
 use Rattle.md_tables.specs.DelimiterRule.{Open, Place, counted, fits, led, met, move}
 use Rattle.md_tables.specs.GfmTableLine.{are_columns}
 use Rattle.md_tables.proofs.CellLemmas.{cell-is, dark-next, dark-rest, ends_cell, ends_dark, tail-blank, trimmed-begins}
 use Rattle.md_tables.proofs.CellLemmas.{trimmed-dark, trimmed-whole}
-use Rattle.md_tables.proofs.DelimiterLemmas.{told-as, white-mark}
+use Rattle.md_tables.proofs.DelimiterLemmas.{recorded-as, white-mark}
 use Rattle.md_tables.proofs.WhiteEnds.{blank-light}
 
 -- The pieces of a row.
@@ -56,7 +56,7 @@ own Front = 0
 own Open = 1
 own Left = 1
 own Dashes = 0
-own Behind = 0
+own Following = 0
 
 -- so many cells more, and whether a mark is met, make as many as the head has
 abbrev total : Scratch → ℕ → Bool → Bool
@@ -88,7 +88,7 @@ data IsIn : Place → Type 0 where
   InOpen : IsIn Open
   InLeft : IsIn Left
   InDashes : IsIn Dashes
-  InBehind : IsIn Behind
+  InFollowing : IsIn Following
 
 abbrev is_open : Place → Bool
 is_open Open = true
@@ -102,7 +102,7 @@ end-asked _ s InLeft e = refl
 end-asked _ s InDashes e =
     let same : s.size ≡ s.size + 0 = omega arith in
     ap₂ (λ (x : Bool) (n : ℕ). x && nat_eq n s.columns_wanted) (sym (or-false s.seen)) same
-end-asked _ s InBehind e =
+end-asked _ s InFollowing e =
     let same : s.size ≡ s.size + 0 = omega arith in
     ap₂ (λ (x : Bool) (n : ℕ). x && nat_eq n s.columns_wanted) (sym (or-false s.seen)) same
 
@@ -174,9 +174,9 @@ pipe-asked p s b (c ∷ bs) e on to ends none =
 no-mark : (b : ℕ) (bs : List ℕ) → nat_eq b 124 ≡ false → nat_eq b 58 ≡ false → has_mark (b ∷ bs) ≡ has_mark bs
 no-mark b bs e k = rw (e, k) refl
 
-goes-total : (p q : Place) (s : Scratch) (b : ℕ) (bs : List ℕ) → nat_eq b 124 ≡ false → nat_eq b 58 ≡ false →
+proceeds-total : (p q : Place) (s : Scratch) (b : ℕ) (bs : List ℕ) → nat_eq b 124 ≡ false → nat_eq b 58 ≡ false →
     own q ≡ own p → (n : ℕ) → total s (own q + n) (has_mark bs) ≡ total s (own p + n) (has_mark (b ∷ bs))
-goes-total p q s b bs e k same n = rw (no-mark b bs e k, same) refl
+proceeds-total p q s b bs e k same n = rw (no-mark b bs e k, same) refl
 
 counts-total : (p : Place) (s : Scratch) (b : ℕ) (bs : List ℕ) → nat_eq b 124 ≡ false → nat_eq b 58 ≡ false →
     own p ≡ 1 → (n : ℕ) →
@@ -203,75 +203,80 @@ dash-slash b e = rw (eqb-true b 45 e) refl
 white-asked : (p : Place) (s : Scratch) (b : ℕ) (bs : List ℕ) → IsIn p → mark_of b ≡ White → ends_dark (b ∷ bs) ≡ true →
     IsAsked bs → fits p s (b ∷ bs) ≡ asked p s (pieces false (b ∷ bs)) (has_mark (b ∷ bs))
 white-asked _ s b bs InOpen e h on =
-    let t = told-as b White e in
+    let t = recorded-as b White e in
     plain-asked Open Open s s b bs (rw e refl) t.pipe (white-slash b t.white) InOpen on (dark-rest b bs h t.white).0
-    (λ f. rw e refl) (goes-total Open Open s b bs t.pipe t.colon refl)
+    (λ f. rw e refl) (proceeds-total Open Open s b bs t.pipe t.colon refl)
 white-asked _ s b bs InLeft e h on =
-    let t = told-as b White e in refused-asked Left s b bs (rw e refl) t.pipe (λ f. rw e refl)
+    let t = recorded-as b White e in refused-asked Left s b bs (rw e refl) t.pipe (λ f. rw e refl)
 white-asked _ s b bs InDashes e h on =
-    let t = told-as b White e in
-    plain-asked Dashes Behind s s b bs (rw e refl) t.pipe (white-slash b t.white) InBehind on refl (λ f. rw e refl)
-    (goes-total Dashes Behind s b bs t.pipe t.colon refl)
-white-asked _ s b bs InBehind e h on =
-    let t = told-as b White e in
-    plain-asked Behind Behind s s b bs (rw e refl) t.pipe (white-slash b t.white) InBehind on refl (λ f. rw e refl)
-    (goes-total Behind Behind s b bs t.pipe t.colon refl)
+    let t = recorded-as b White e in
+    plain-asked Dashes Following s s b bs (rw e refl) t.pipe (white-slash b t.white) InFollowing on refl
+    (λ f. rw e refl)
+    (proceeds-total Dashes Following s b bs t.pipe t.colon refl)
+white-asked _ s b bs InFollowing e h on =
+    let t = recorded-as b White e in
+    plain-asked Following Following s s b bs (rw e refl) t.pipe (white-slash b t.white) InFollowing on refl
+    (λ f. rw e refl)
+    (proceeds-total Following Following s b bs t.pipe t.colon refl)
 
 colon-asked : (p : Place) (s : Scratch) (b : ℕ) (bs : List ℕ) → IsIn p → mark_of b ≡ Aligns → IsAsked bs →
     fits p s (b ∷ bs) ≡ asked p s (pieces false (b ∷ bs)) (has_mark (b ∷ bs))
 colon-asked _ s b bs InOpen e on =
-    let t = told-as b Aligns e in
+    let t = recorded-as b Aligns e in
     plain-asked Open Left s (met s) b bs (rw e refl) t.pipe (colon-slash b t.colon) InLeft on refl (λ f. rw e refl)
     (marks-total Open Left s b bs t.colon refl)
 colon-asked _ s b bs InLeft e on =
-    let t = told-as b Aligns e in refused-asked Left s b bs (rw e refl) t.pipe (λ f. rw e refl)
+    let t = recorded-as b Aligns e in refused-asked Left s b bs (rw e refl) t.pipe (λ f. rw e refl)
 colon-asked _ s b bs InDashes e on =
-    let t = told-as b Aligns e in
-    plain-asked Dashes Behind s (met s) b bs (rw e refl) t.pipe (colon-slash b t.colon) InBehind on refl
+    let t = recorded-as b Aligns e in
+    plain-asked Dashes Following s (met s) b bs (rw e refl) t.pipe (colon-slash b t.colon) InFollowing on refl
     (λ f. rw e refl)
-    (marks-total Dashes Behind s b bs t.colon refl)
-colon-asked _ s b bs InBehind e on =
-    let t = told-as b Aligns e in refused-asked Behind s b bs (rw e refl) t.pipe (λ f. rw e refl)
+    (marks-total Dashes Following s b bs t.colon refl)
+colon-asked _ s b bs InFollowing e on =
+    let t = recorded-as b Aligns e in refused-asked Following s b bs (rw e refl) t.pipe (λ f. rw e refl)
 
 dash-asked : (p : Place) (s : Scratch) (b : ℕ) (bs : List ℕ) → IsIn p → mark_of b ≡ Dash → IsAsked bs →
     fits p s (b ∷ bs) ≡ asked p s (pieces false (b ∷ bs)) (has_mark (b ∷ bs))
 dash-asked _ s b bs InOpen e on =
-    let t = told-as b Dash e in
+    let t = recorded-as b Dash e in
     plain-asked Open Dashes s (counted s) b bs (rw e refl) t.pipe (dash-slash b t.dash) InDashes on refl
     (λ f. rw e refl)
     (counts-total Open s b bs t.pipe t.colon refl)
 dash-asked _ s b bs InLeft e on =
-    let t = told-as b Dash e in
+    let t = recorded-as b Dash e in
     plain-asked Left Dashes s (counted s) b bs (rw e refl) t.pipe (dash-slash b t.dash) InDashes on refl
     (λ f. rw e refl)
     (counts-total Left s b bs t.pipe t.colon refl)
 dash-asked _ s b bs InDashes e on =
-    let t = told-as b Dash e in
+    let t = recorded-as b Dash e in
     plain-asked Dashes Dashes s s b bs (rw e refl) t.pipe (dash-slash b t.dash) InDashes on refl (λ f. rw e refl)
-    (goes-total Dashes Dashes s b bs t.pipe t.colon refl)
-dash-asked _ s b bs InBehind e on =
-    let t = told-as b Dash e in refused-asked Behind s b bs (rw e refl) t.pipe (λ f. rw e refl)
+    (proceeds-total Dashes Dashes s b bs t.pipe t.colon refl)
+dash-asked _ s b bs InFollowing e on =
+    let t = recorded-as b Dash e in refused-asked Following s b bs (rw e refl) t.pipe (λ f. rw e refl)
 
 divides-asked : (p : Place) (s : Scratch) (b : ℕ) (bs : List ℕ) → IsIn p → mark_of b ≡ Divides → IsAsked bs →
     fits p s (b ∷ bs) ≡ asked p s (pieces false (b ∷ bs)) (has_mark (b ∷ bs))
-divides-asked _ s b bs InOpen e on = pipe-refused Open s b bs (told-as b Divides e).pipe (rw e refl) refl
-divides-asked _ s b bs InLeft e on = pipe-refused Left s b bs (told-as b Divides e).pipe (rw e refl) refl
-divides-asked _ s b bs InDashes e on = pipe-asked Dashes s b bs (told-as b Divides e).pipe on (rw e refl) refl refl
-divides-asked _ s b bs InBehind e on = pipe-asked Behind s b bs (told-as b Divides e).pipe on (rw e refl) refl refl
+divides-asked _ s b bs InOpen e on = pipe-refused Open s b bs (recorded-as b Divides e).pipe (rw e refl) refl
+divides-asked _ s b bs InLeft e on = pipe-refused Left s b bs (recorded-as b Divides e).pipe (rw e refl) refl
+divides-asked _ s b bs InDashes e on = pipe-asked Dashes s b bs (recorded-as b Divides e).pipe on (rw e refl) refl refl
+divides-asked _ s b bs InFollowing e on = pipe-asked Following s b bs (recorded-as b Divides e).pipe on
+    (rw e refl) refl refl
 
 other-asked : (p : Place) (s : Scratch) (b : ℕ) (bs : List ℕ) → IsIn p → mark_of b ≡ Other →
     fits p s (b ∷ bs) ≡ asked p s (pieces false (b ∷ bs)) (has_mark (b ∷ bs))
-other-asked _ s b bs InOpen e = refused-asked Open s b bs (rw e refl) (told-as b Other e).pipe (λ f. rw e refl)
-other-asked _ s b bs InLeft e = refused-asked Left s b bs (rw e refl) (told-as b Other e).pipe (λ f. rw e refl)
-other-asked _ s b bs InDashes e = refused-asked Dashes s b bs (rw e refl) (told-as b Other e).pipe (λ f. rw e refl)
-other-asked _ s b bs InBehind e = refused-asked Behind s b bs (rw e refl) (told-as b Other e).pipe (λ f. rw e refl)
+other-asked _ s b bs InOpen e = refused-asked Open s b bs (rw e refl) (recorded-as b Other e).pipe (λ f. rw e refl)
+other-asked _ s b bs InLeft e = refused-asked Left s b bs (rw e refl) (recorded-as b Other e).pipe (λ f. rw e refl)
+other-asked _ s b bs InDashes e = refused-asked Dashes s b bs (rw e refl) (recorded-as b Other e).pipe (λ f. rw e refl)
+other-asked _ s b bs InFollowing e = refused-asked Following s b bs (rw e refl) (recorded-as b Other e).pipe
+    (λ f. rw e refl)
 
 stop-asked : (p : Place) (s : Scratch) (b : ℕ) (bs : List ℕ) → IsIn p → mark_of b ≡ Stops →
     fits p s (b ∷ bs) ≡ asked p s (pieces false (b ∷ bs)) (has_mark (b ∷ bs))
-stop-asked _ s b bs InOpen e = refused-asked Open s b bs (rw e refl) (told-as b Stops e).pipe (λ f. rw e refl)
-stop-asked _ s b bs InLeft e = refused-asked Left s b bs (rw e refl) (told-as b Stops e).pipe (λ f. rw e refl)
-stop-asked _ s b bs InDashes e = refused-asked Dashes s b bs (rw e refl) (told-as b Stops e).pipe (λ f. rw e refl)
-stop-asked _ s b bs InBehind e = refused-asked Behind s b bs (rw e refl) (told-as b Stops e).pipe (λ f. rw e refl)
+stop-asked _ s b bs InOpen e = refused-asked Open s b bs (rw e refl) (recorded-as b Stops e).pipe (λ f. rw e refl)
+stop-asked _ s b bs InLeft e = refused-asked Left s b bs (rw e refl) (recorded-as b Stops e).pipe (λ f. rw e refl)
+stop-asked _ s b bs InDashes e = refused-asked Dashes s b bs (rw e refl) (recorded-as b Stops e).pipe (λ f. rw e refl)
+stop-asked _ s b bs InFollowing e = refused-asked Following s b bs (rw e refl) (recorded-as b Stops e).pipe
+    (λ f. rw e refl)
 
 mark-asked : (p : Place) (s : Scratch) (b : ℕ) (bs : List ℕ) (x : Mark) → IsIn p → mark_of b ≡ x →
     ends_dark (b ∷ bs) ≡ true → IsAsked bs →
@@ -306,12 +311,12 @@ fits-blank p s (w ∷ ws) h =
     go Front e on = rw e refl
     go Open e on = rw e (on Open)
     go Left e on = rw e refl
-    go Dashes e on = rw e (on Behind)
-    go Behind e on = rw e (on Behind)
+    go Dashes e on = rw e (on Following)
+    go Following e on = rw e (on Following)
 
 pub led-same : (m : Move) (s : Scratch) (f g : Place → Scratch → Bool) → ((q : Place) (t : Scratch) → f q t ≡ g q t) →
     led m s f ≡ led m s g
-led-same (Goes q) s f g h = h q s
+led-same (Proceeds q) s f g h = h q s
 led-same Counts s f g h = h Dashes (counted s)
 led-same (Marks q) s f g h = h q (met s)
 led-same Fails s f g h = refl
@@ -323,15 +328,15 @@ fits-white p s (b ∷ bs) ws h =
 
 -- A row without outer whitespace has none to lose.
 
-ends-behind : (k : List ℕ) (x : ℕ) (ws : List ℕ) → ends_dark (k ++ x ∷ ws) ≡ ends_dark (x ∷ ws)
-ends-behind [] x ws = refl
-ends-behind (y ∷ []) x ws = refl
-ends-behind (y ∷ z ∷ k) x ws = ends-behind (z ∷ k) x ws
+ends-following : (k : List ℕ) (x : ℕ) (ws : List ℕ) → ends_dark (k ++ x ∷ ws) ≡ ends_dark (x ∷ ws)
+ends-following [] x ws = refl
+ends-following (y ∷ []) x ws = refl
+ends-following (y ∷ z ∷ k) x ws = ends-following (z ∷ k) x ws
 
 no-tail : (k ws : List ℕ) → ends_dark (k ++ ws) ≡ true → is_blank ws ≡ true → ws ≡ []
 no-tail k [] h blank = refl
 no-tail k (x ∷ ws) h blank =
-    let no : true ≡ false = sym h ∙ ends-behind k x ws ∙ blank-light x ws blank in cc
+    let no : true ≡ false = sym h ∙ ends-following k x ws ∙ blank-light x ws blank in cc
 
 pub start-same : (t : List ℕ) → begins is_white t ≡ false → trim_start t ≡ t
 start-same [] h = refl
@@ -425,7 +430,7 @@ no-cell false n = refl
 pipe-alone : (s : Scratch) (b : ℕ) → Begins s → mark_of b ≡ Divides → trim (b ∷ []) ≡ b ∷ [] →
     fits Front s (b ∷ []) ≡ are_columns (delimiter_columns (b ∷ [])) s.columns_wanted
 pipe-alone s b begin e same =
-    let t = told-as b Divides e in
+    let t = recorded-as b Divides e in
     let none : nat_eq s.size s.columns_wanted ≡ false = less s.size s.columns_wanted begin.size begin.some in
     let left : fits Front s (b ∷ []) ≡ nat_eq s.size s.columns_wanted = rw e refl in
     let front : after_optional 124 (b ∷ []) ≡ [] = rw t.pipe refl in
@@ -456,12 +461,12 @@ dark-fits s (b ∷ []) begin dark ends = by (mark_of b) refl
         ∙ open-fits s (b ∷ []) (b ∷ []) false begin.size begin.seen ends refl same (rw pipe refl) refl
 
     by : (x : Mark) → mark_of b ≡ x → fits Front s (b ∷ []) ≡ are_columns (delimiter_columns (b ∷ [])) s.columns_wanted
-    by Stops e = whole Stops e (told-as b Stops e).pipe refl
-    by White e = let no : true ≡ false = sym (told-as b White e).white ∙ dark in cc
+    by Stops e = whole Stops e (recorded-as b Stops e).pipe refl
+    by White e = let no : true ≡ false = sym (recorded-as b White e).white ∙ dark in cc
     by Divides e = pipe-alone s b begin e same
-    by Aligns e = whole Aligns e (told-as b Aligns e).pipe refl
-    by Dash e = whole Dash e (told-as b Dash e).pipe refl
-    by Other e = whole Other e (told-as b Other e).pipe refl
+    by Aligns e = whole Aligns e (recorded-as b Aligns e).pipe refl
+    by Dash e = whole Dash e (recorded-as b Dash e).pipe refl
+    by Other e = whole Other e (recorded-as b Other e).pipe refl
 dark-fits s (b ∷ c ∷ bs) begin dark ends = by (mark_of b) refl
   where
     same : trim (b ∷ c ∷ bs) ≡ b ∷ c ∷ bs
@@ -476,16 +481,16 @@ dark-fits s (b ∷ c ∷ bs) begin dark ends = by (mark_of b) refl
 
     by : (x : Mark) → mark_of b ≡ x →
         fits Front s (b ∷ c ∷ bs) ≡ are_columns (delimiter_columns (b ∷ c ∷ bs)) s.columns_wanted
-    by Stops e = whole Stops e (told-as b Stops e).pipe refl
-    by White e = let no : true ≡ false = sym (told-as b White e).white ∙ dark in cc
+    by Stops e = whole Stops e (recorded-as b Stops e).pipe refl
+    by White e = let no : true ≡ false = sym (recorded-as b White e).white ∙ dark in cc
     by Divides e =
-        let t = told-as b Divides e in
+        let t = recorded-as b Divides e in
         let to : fits Front s (b ∷ c ∷ bs) ≡ fits Open (met s) (c ∷ bs) = rw e refl in
         let marks : true || has_mark (c ∷ bs) ≡ has_mark (b ∷ c ∷ bs) = sym (rw (t.colon, t.pipe) refl) in
         to ∙ open-fits (met s) (b ∷ c ∷ bs) (c ∷ bs) true begin.size refl ends refl same (rw t.pipe refl) marks
-    by Aligns e = whole Aligns e (told-as b Aligns e).pipe refl
-    by Dash e = whole Dash e (told-as b Dash e).pipe refl
-    by Other e = whole Other e (told-as b Other e).pipe refl
+    by Aligns e = whole Aligns e (recorded-as b Aligns e).pipe refl
+    by Dash e = whole Dash e (recorded-as b Dash e).pipe refl
+    by Other e = whole Other e (recorded-as b Other e).pipe refl
 
 -- A line after its indent is a delimiter row by the states just if it is one by the line definition, with as many
 -- columns as are asked for.

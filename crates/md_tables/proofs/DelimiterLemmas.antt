@@ -11,9 +11,9 @@ use Rattle.md_events.specs.Ahead.{begins_white}
 use Rattle.md_events.specs.Events.Nested.{enter, exit}
 use Rattle.md_events.proofs.AheadLemmas.{white-no_ending}
 use Rattle.md_tables.specs.Delimiter.{Aligns, Dash, Divides, Mark, Stops, White, mark_of, uncounted}
-use Rattle.md_tables.specs.DelimiterRule.{Apart, Behind, Counts, Dashes, Fails, Goes, Marks, Move, Open}
-use Rattle.md_tables.specs.DelimiterRule.{Place, Run, Space, begun, behind_white, closes, counted}
-use Rattle.md_tables.specs.DelimiterRule.{goes_on, in_row, met, move, opens}
+use Rattle.md_tables.specs.DelimiterRule.{Apart, Following, Counts, Dashes, Fails, Proceeds, Marks, Move, Open}
+use Rattle.md_tables.specs.DelimiterRule.{Place, Run, Space, begun, following_white, closes, counted}
+use Rattle.md_tables.specs.DelimiterRule.{is_continued, in_row, met, move, opens}
 
 -- What a mark says of its byte.
 abbrev pub is_stop : Mark → Bool
@@ -36,18 +36,18 @@ abbrev pub is_dash : Mark → Bool
 is_dash Dash = true
 is_dash _ = false
 
-pub record Told (b : ℕ) (x : Mark) : Type 0 where
+pub record Recorded (b : ℕ) (x : Mark) : Type 0 where
   pub stop : nat_eq b 10 ≡ is_stop x
   pub white : is_white b ≡ is_space x
   pub pipe : nat_eq b 124 ≡ is_pipe x
   pub colon : nat_eq b 58 ≡ is_colon x
   pub dash : nat_eq b 45 ≡ is_dash x
 
-pub told : (b : ℕ) → Told b (mark_of b)
-told b = go (nat_eq b 10) (is_white b) (nat_eq b 124) (nat_eq b 58) (nat_eq b 45) refl refl refl refl refl
+pub recorded : (b : ℕ) → Recorded b (mark_of b)
+recorded b = go (nat_eq b 10) (is_white b) (nat_eq b 124) (nat_eq b 58) (nat_eq b 45) refl refl refl refl refl
   where
     go : (x y z v u : Bool) → nat_eq b 10 ≡ x → is_white b ≡ y → nat_eq b 124 ≡ z → nat_eq b 58 ≡ v →
-        nat_eq b 45 ≡ u → Told b (mark_of b)
+        nat_eq b 45 ≡ u → Recorded b (mark_of b)
     go true y z v u h k l m o =
         rw (eqb-true b 10 h) (record { stop = refl; white = refl; pipe = refl; colon = refl; dash = refl })
     go false true z v u h k l m o = record {
@@ -71,25 +71,25 @@ told b = go (nat_eq b 10) (is_white b) (nat_eq b 124) (nat_eq b 58) (nat_eq b 45
       dash = rw (h, k, l, m, o) refl;
     }
 
-pub told-as : (b : ℕ) (x : Mark) → mark_of b ≡ x → Told b x
-told-as b x e = rw (← e) (told b)
+pub recorded-as : (b : ℕ) (x : Mark) → mark_of b ≡ x → Recorded b x
+recorded-as b x e = rw (← e) (recorded b)
 
 -- what is left after a byte
 abbrev pub moved : Move → Run → List Cell → Here → Outcome
-moved (Goes q) run cs h = in_row run q cs h
+moved (Proceeds q) run cs h = in_row run q cs h
 moved Counts run cs h = in_row run Dashes cs (record h { scratch = counted h.scratch })
 moved (Marks q) run cs h = in_row run q cs (record h { scratch = met h.scratch })
 moved Fails run cs h = Refuses (uncounted h.scratch) h.flags
 
 -- a run continues
-pub row-goes : (run : Run) (place : Place) (c : Cell) (cs : List Cell) (h : Here) (m : Move) →
-    move place (mark_of c.byte) ≡ m → nat_eq c.byte 10 ≡ false → goes_on run c.byte ≡ true →
+pub row-proceeds : (run : Run) (place : Place) (c : Cell) (cs : List Cell) (h : Here) (m : Move) →
+    move place (mark_of c.byte) ≡ m → nat_eq c.byte 10 ≡ false → is_continued run c.byte ≡ true →
     in_row run place (c ∷ cs) h ≡ moved m run cs (record h { point = c.after })
 unfolding in_row
-row-goes run place c cs h (Goes q) to ending on = rw (ending, to, on) refl
-row-goes run place c cs h Counts to ending on = rw (ending, to, on) refl
-row-goes run place c cs h (Marks q) to ending on = rw (ending, to, on) refl
-row-goes run place c cs h Fails to ending on = rw (ending, to) refl
+row-proceeds run place c cs h (Proceeds q) to ending on = rw (ending, to, on) refl
+row-proceeds run place c cs h Counts to ending on = rw (ending, to, on) refl
+row-proceeds run place c cs h (Marks q) to ending on = rw (ending, to, on) refl
+row-proceeds run place c cs h Fails to ending on = rw (ending, to) refl
 
 -- between two runs the next begins with its first byte
 pub row-begins : (place : Place) (c : Cell) (cs : List Cell) (h : Here) (m : Move) →
@@ -98,13 +98,13 @@ pub row-begins : (place : Place) (c : Cell) (cs : List Cell) (h : Here) (m : Mov
     moved m (begun c.byte) cs
     (record h { events = h.events ++ opens (begun c.byte) h.point; point = c.after })
 unfolding in_row
-row-begins place c cs h (Goes q) to ending = rw (ending, to) (simp append_assoc)
+row-begins place c cs h (Proceeds q) to ending = rw (ending, to) (simp append_assoc)
 row-begins place c cs h Counts to ending = rw (ending, to) (simp append_assoc)
 row-begins place c cs h (Marks q) to ending = rw (ending, to) (simp append_assoc)
 row-begins place c cs h Fails to ending = rw (ending, to) refl
 
 -- a run ends
-pub row-ends : (run : Run) (place : Place) (c : Cell) (cs : List Cell) (h : Here) → goes_on run c.byte ≡ false →
+pub row-ends : (run : Run) (place : Place) (c : Cell) (cs : List Cell) (h : Here) → is_continued run c.byte ≡ false →
     nat_eq c.byte 10 ≡ false →
     in_row run place (c ∷ cs) h ≡
     in_row Apart place (c ∷ cs) (record h { events = h.events ++ closes run h.point })
@@ -123,7 +123,7 @@ unfolding in_row
 row-ends_none run place h = simp append_assoc
 
 -- a run of one byte ends at once
-pub one-ends : (run : Run) (place : Place) (cells : List Cell) (h : Here) → ((b : ℕ) → goes_on run b ≡ false) →
+pub one-ends : (run : Run) (place : Place) (cells : List Cell) (h : Here) → ((b : ℕ) → is_continued run b ≡ false) →
     in_row run place cells h ≡ in_row Apart place cells (record h { events = h.events ++ closes run h.point })
 one-ends run place [] h one = row-ends_none run place h
 one-ends run place (c ∷ cs) h one = go (nat_eq c.byte 10) refl
@@ -137,21 +137,21 @@ one-ends run place (c ∷ cs) h one = go (nat_eq c.byte 10) refl
 -- where whitespace may be, and does not end a cell
 pub data MaySpace : Place → Type 0 where
   InOpen : MaySpace Open
-  InBehind : MaySpace Behind
+  InFollowing : MaySpace Following
 
 pub white-mark : (b : ℕ) → is_white b ≡ true → mark_of b ≡ White
 white-mark b e = rw (white-apart b 10 e refl, e) refl
 
-white-move : (place : Place) (b : ℕ) → MaySpace place → is_white b ≡ true → move place (mark_of b) ≡ Goes place
+white-move : (place : Place) (b : ℕ) → MaySpace place → is_white b ≡ true → move place (mark_of b) ≡ Proceeds place
 white-move _ b InOpen e = ap (move Open) (white-mark b e)
-white-move _ b InBehind e = ap (move Behind) (white-mark b e)
+white-move _ b InFollowing e = ap (move Following) (white-mark b e)
 
 -- it is taken byte by byte
-pub takes-white : (place : Place) → MaySpace place → TakesWhite (λ s. ⊤) (in_row Space place) (behind_white place)
-unfolding behind_white
+pub takes-white : (place : Place) → MaySpace place → TakesWhite (λ s. ⊤) (in_row Space place) (following_white place)
+unfolding following_white
 takes-white place may = record {
   more =
-      λ c cs h is s. row-goes Space place c cs h (Goes place) (white-move place c.byte may s)
+      λ c cs h is s. row-proceeds Space place c cs h (Proceeds place) (white-move place c.byte may s)
       (white-no_ending c.byte s) s;
   stop = λ c cs h is k. go c cs h k (nat_eq c.byte 10) refl ∙ rw k refl;
   none = λ h is. row-ends_none Space place h;
@@ -171,19 +171,19 @@ apart-white place c cs h may s =
     let ending = white-no_ending c.byte s in
     let to = white-move place c.byte may s in
     let is : begun c.byte ≡ Space = rw s refl in
-    row-begins place c cs h (Goes place) to ending
+    row-begins place c cs h (Proceeds place) to ending
     ∙ ap (λ (y : Run). in_row y place cs (record h { events = h.events ++ opens y h.point; point = c.after })) is
     ∙ sym
-    (row-goes Space place c cs (record h { events = h.events ++ enter SpaceOrTab h.point ∷ [] }) (Goes place)
+    (row-proceeds Space place c cs (record h { events = h.events ++ enter SpaceOrTab h.point ∷ [] }) (Proceeds place)
     to ending s)
 
 -- where none is, what is left after it
 pub apart-none : (place : Place) (cells : List Cell) (h : Here) → begins_white cells ≡ false →
-    behind_white place cells h ≡ in_row Apart place cells h
-unfolding behind_white
+    following_white place cells h ≡ in_row Apart place cells h
+unfolding following_white
 apart-none place cells h e = rw e refl
 
 pub white-refused : (place : Place) (cells : List Cell) (h : Here) → begins_white cells ≡ true →
-    behind_white place cells h ≡ Refuses (uncounted h.scratch) h.flags
-unfolding behind_white
+    following_white place cells h ≡ Refuses (uncounted h.scratch) h.flags
+unfolding following_white
 white-refused place cells h e = rw e refl

@@ -12,14 +12,14 @@ use Rattle.md_meaning.specs.Rest.{is_white, trim, trim_end, trim_start}
 use Rattle.md_events.specs.Events.Nested.{around, exit}
 use Rattle.md_events.specs.Events.Places.{past_byte, past_text}
 use Rattle.md_events.specs.Events.Spelled.{AsDelimiter, IsQuiet, OpenLeaf, Reading, Role, TableLeaf, begun, byte_at}
-use Rattle.md_events.specs.Events.Spelled.{read, role, told_at}
+use Rattle.md_events.specs.Events.Spelled.{read, role, recorded_at}
 use Rattle.md_events.proofs.FeedLines.{past-next, slice-front}
 use Rattle.md_events.proofs.InlineLemmas.{past-index}
 use Rattle.md_events.proofs.RestLines.{trim-white}
 use Rattle.md_events.proofs.SpelledLemmas.{Quiet, Roles, read-from, read-quiet, roles-append}
 use Rattle.md_tables.specs.DelimiterCells.{delimiter_events, delimiter_runs, value_part}
 use Rattle.md_tables.specs.DelimiterRule.{Apart, Colon, Filler, Pipe, Run, Space}
-use Rattle.md_tables.specs.DelimiterRule.{begun as run_begun, closes, goes_on, opens}
+use Rattle.md_tables.specs.DelimiterRule.{begun as run_begun, closes, is_continued, opens}
 use Rattle.md_tables.specs.RowCells.{Cells, Divides, Ends, Shut, cell_by, cells_by, first_pipe, line_cells, past_pipe}
 use Rattle.md_tables.specs.RowCells.{pipe_part, row_by, white_back, white_front, white_part}
 
@@ -114,7 +114,7 @@ opens-quiet Filler p = (tt, tt)
 runs-quiet : (run : Run) (bs : List ℕ) (p : Point) → Roles Quiet (delimiter_runs run bs p)
 runs-quiet run [] p = closes-quiet run p
 runs-quiet run (b ∷ bs) p =
-    go (goes_on run b) (runs-quiet run bs (past_byte b p)) (runs-quiet (run_begun b) bs (past_byte b p))
+    go (is_continued run b) (runs-quiet run bs (past_byte b p)) (runs-quiet (run_begun b) bs (past_byte b p))
   where
     go : (x : Bool) → Roles Quiet (delimiter_runs run bs (past_byte b p)) →
         Roles Quiet (delimiter_runs (run_begun b) bs (past_byte b p)) →
@@ -140,17 +140,17 @@ delimiter-quiet line p =
 -- Its text.
 
 -- a tab that is cut before it belongs to its whitespace
-text-trim : (bytes line behind : List ℕ) (p : Point) → drop p.index bytes ≡ line ++ behind →
+text-trim : (bytes line following : List ℕ) (p : Point) → drop p.index bytes ≡ line ++ following →
     (begins is_white line ≡ false → p.vs ≡ 0) →
     trim (slice_range bytes (byte_at p) (past_text line p).index) ≡ trim line
-text-trim bytes line behind p text whole = go line text whole (p.vs == 0) refl
+text-trim bytes line following p text whole = go line text whole (p.vs == 0) refl
   where
-    go : (l : List ℕ) → drop p.index bytes ≡ l ++ behind → (begins is_white l ≡ false → p.vs ≡ 0) → (x : Bool) →
+    go : (l : List ℕ) → drop p.index bytes ≡ l ++ following → (begins is_white l ≡ false → p.vs ≡ 0) → (x : Bool) →
         (p.vs == 0) ≡ x →
         trim (slice_range bytes (byte_at p) (past_text l p).index) ≡ trim l
     go l text whole true e =
         ap (λ (t : Bool). trim (slice_range bytes (cond t p.index (p.index + 1)) (past_text l p).index)) e
-        ∙ ap trim (slice-front bytes p.index (past_text l p).index l behind text (past-index l p))
+        ∙ ap trim (slice-front bytes p.index (past_text l p).index l following text (past-index l p))
     go [] text whole false e = let no : true ≡ false = sym (ap (λ (k : ℕ). k == 0) (whole refl)) ∙ e in cc
     go (b ∷ bs) text whole false e = by (is_white b) refl
       where
@@ -160,28 +160,29 @@ text-trim bytes line behind p text whole = go line text whole (p.vs == 0) refl
         by true k =
             ap (λ (t : Bool). trim (slice_range bytes (cond t p.index (p.index + 1)) (past_text (b ∷ bs) p).index)) e
             ∙ ap trim
-            (slice-front bytes (p.index + 1) (past_text (b ∷ bs) p).index bs behind
-            (past-next p.index bytes b (bs ++ behind) text) (past-index bs (past_byte b p)))
+            (slice-front bytes (p.index + 1) (past_text (b ∷ bs) p).index bs following
+            (past-next p.index bytes b (bs ++ following) text) (past-index bs (past_byte b p)))
             ∙ sym (ap trim_end (trim-white b bs k))
 
 -- A delimiter row shows its line, where none was said before.
-pub delimiter-read : (bytes : List ℕ) (r : Reading) (rows : List (List (List ℕ))) (line behind : List ℕ) (p : Point) →
-    drop p.index bytes ≡ line ++ behind → (begins is_white line ≡ false → p.vs ≡ 0) →
+pub delimiter-read : (bytes : List ℕ) (r : Reading) (rows : List (List (List ℕ)))
+    (line following : List ℕ) (p : Point) →
+    drop p.index bytes ≡ line ++ following → (begins is_white line ≡ false → p.vs ≡ 0) →
     r.leaf ≡ Some (TableLeaf (record { delimiter = []; rows = rows })) →
     read bytes r (around n.GfmTableDelimiterRow p (past_text line p) (delimiter_events line p)) ≡
     record r {
       leaf = Some (TableLeaf (record { delimiter = trim line; rows = rows }));
       text = None;
     }
-delimiter-read bytes r rows line behind p text whole leaf =
+delimiter-read bytes r rows line following p text whole leaf =
     read-from bytes begun_row begun_row (delimiter_events line p) (exit n.GfmTableDelimiterRow q ∷ [])
     (read-quiet bytes begun_row (delimiter_events line p) (delimiter-quiet line p))
     ∙ ap
     (λ (o : Option OpenLeaf).
-    told_at bytes AsDelimiter q (Some (begun p)) (record r { leaf = o; text = Some (begun p) })) leaf
+    recorded_at bytes AsDelimiter q (Some (begun p)) (record r { leaf = o; text = Some (begun p) })) leaf
     ∙ ap
     (λ (t : List ℕ). record r { leaf = Some (TableLeaf (record { delimiter = t; rows = rows })); text = None })
-    (text-trim bytes line behind p text whole)
+    (text-trim bytes line following p text whole)
   where
     q : Point
     q = past_text line p

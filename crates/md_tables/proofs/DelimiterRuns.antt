@@ -11,10 +11,10 @@ use Rattle.md_events.specs.Events.Places.{past_byte, past_text}
 use Rattle.md_events.proofs.RestLines.{trim-white}
 use Rattle.md_tables.specs.Cells.{ends_row, first_is, is_white as is_white_name, row_ends}
 use Rattle.md_tables.specs.DelimiterCells.{delimiter_runs, value_part}
-use Rattle.md_tables.specs.DelimiterRule.{Apart, Colon, Filler, Pipe, Run, Space, begun, closes, goes_on, opens}
-use Rattle.md_tables.specs.RowCells.{Cells, behind_pipe, cell_by, cells_of, onto, white_back, white_front, white_part}
+use Rattle.md_tables.specs.DelimiterRule.{Apart, Colon, Filler, Pipe, Run, Space, begun, closes, is_continued, opens}
+use Rattle.md_tables.specs.RowCells.{Cells, after_pipe, cell_by, cells_of, onto, white_back, white_front, white_part}
 use Rattle.md_tables.proofs.PipeWalk.{dark-looks, pipe_runs}
-use Rattle.md_tables.proofs.RowCellLemmas.{behind_first, dark-cell, first-behind, first_cell}
+use Rattle.md_tables.proofs.RowCellLemmas.{following_first, dark-cell, first-following, first_cell}
 use Rattle.md_tables.proofs.RowCellLemmas.{left_of, onto-left, white_left}
 use Rattle.md_tables.proofs.WhiteEnds.{blank-first, dark-first, end-blank, end-more, front-none, front-one, start-none}
 
@@ -94,7 +94,7 @@ pub pipe-opens : (bs : List ℕ) (p : Point) → delimiter_runs Apart (124 ∷ b
 pipe-opens bs p = ap (λ (es : List Event). enter n.GfmTableCellDivider p ∷ es) (pipe-alone bs (past_byte 124 p))
 
 -- a run of a cell ends before one
-pub value-pipe : (run : Run) (bs : List ℕ) (p : Point) → goes_on run 124 ≡ false →
+pub value-pipe : (run : Run) (bs : List ℕ) (p : Point) → is_continued run 124 ≡ false →
     delimiter_runs run (124 ∷ bs) p ≡ closes run p ++ piped bs p
 value-pipe run bs p e =
     rw e
@@ -114,7 +114,7 @@ pub value-first : (b : ℕ) (x : List ℕ) (p : Point) → is_white b ≡ false 
     enter n.GfmTableDelimiterCellValue p ∷ opens (begun b) p ++ value_left (begun b) x (past_byte b p)
 value-first b x p dark = dark-cell value_part b x p dark ∙ simp append_assoc refl
 
-pub value-more : (run : Run) (b : ℕ) (x : List ℕ) (p : Point) → is_white b ≡ false → goes_on run b ≡ true →
+pub value-more : (run : Run) (b : ℕ) (x : List ℕ) (p : Point) → is_white b ≡ false → is_continued run b ≡ true →
     value_left run (b ∷ x) p ≡ value_left run x (past_byte b p)
 value-more run b x p dark on =
     let e = end-more b x (dark-first b x dark) in
@@ -128,7 +128,7 @@ value-more run b x p dark on =
     (closes run p ++ opens (begun b) p ++ delimiter_runs (begun b) (trim_end x) (past_byte b p))
     ++ exit n.GfmTableDelimiterCellValue q ∷ white_part (white_back x) q) on
 
-pub value-turns : (run : Run) (b : ℕ) (x : List ℕ) (p : Point) → is_white b ≡ false → goes_on run b ≡ false →
+pub value-turns : (run : Run) (b : ℕ) (x : List ℕ) (p : Point) → is_white b ≡ false → is_continued run b ≡ false →
     value_left run (b ∷ x) p ≡ (closes run p ++ opens (begun b) p) ++ value_left (begun b) x (past_byte b p)
 value-turns run b x p dark on =
     let e = end-more b x (dark-first b x dark) in
@@ -154,8 +154,8 @@ value-ends run x p h =
 
 -- What is left of cells: where the first begins, in the whitespace before what it holds, and in a run of that.
 
-abbrev pub behind : Cells → Point → List Event
-behind cells p = behind_first n.GfmTableDelimiterCell value_part cells p
+abbrev pub following : Cells → Point → List Event
+following cells p = following_first n.GfmTableDelimiterCell value_part cells p
 
 abbrev pub left_by : (List ℕ → Point → List Event) → Cells → Point → List Event
 left_by left cells p = left_of n.GfmTableDelimiterCell value_part left cells p
@@ -172,17 +172,17 @@ left_in_value run cells p = left_by (value_left run) cells p
 -- a byte in front
 pub onto-by : (left : List ℕ → Point → List Event) (b : ℕ) (cells : Cells) (p : Point) (es : List Event) →
     left (b ∷ first_cell cells) p ≡ es →
-    left_by left (onto b cells) p ≡ es ++ behind cells (past_text (first_cell cells) (past_byte b p))
+    left_by left (onto b cells) p ≡ es ++ following cells (past_text (first_cell cells) (past_byte b p))
 onto-by left b cells p es e =
     onto-left n.GfmTableDelimiterCell value_part left b cells p
-    ∙ ap (λ (xs : List Event). xs ++ behind cells (past_text (first_cell cells) (past_byte b p))) e
+    ∙ ap (λ (xs : List Event). xs ++ following cells (past_text (first_cell cells) (past_byte b p))) e
 
 -- and a pipe
 pub pipe-by : (left : List ℕ → Point → List Event) (bs : List ℕ) (p : Point) →
-    left_by left (behind_pipe bs (cells_of false bs)) p ≡ left [] p ++ behind (behind_pipe bs (cells_of false bs)) p
+    left_by left (after_pipe bs (cells_of false bs)) p ≡ left [] p ++ following (after_pipe bs (cells_of false bs)) p
 pipe-by left bs p =
-    ap (λ (x : List ℕ). left x p ++ behind (behind_pipe bs (cells_of false bs)) (past_text x p))
-    (first-behind bs (cells_of false bs))
+    ap (λ (x : List ℕ). left x p ++ following (after_pipe bs (cells_of false bs)) (past_text x p))
+    (first-following bs (cells_of false bs))
 
 -- Looks ahead.
 

@@ -11,17 +11,17 @@ use Rattle.md_events.specs.Events.Nested.{pair}
 use Rattle.md_events.specs.Events.Places.{past_byte}
 use Rattle.md_events.proofs.FeedLines.{cell, spread}
 use Rattle.md_tables.proofs.RunSpread.{AreSpread, HaveWhite, bytes-run, front-run}
-use Rattle.md_tables.specs.DelimiterRule.{Apart, Run, Space, begun, closes, goes_on, opens, runs}
+use Rattle.md_tables.specs.DelimiterRule.{Apart, Run, Space, begun, closes, is_continued, opens, runs}
 use Rattle.md_tables.specs.GfmTableLine.{delimiter_runs}
 
 abbrev delimiter_turns : Run → Point → List Event → List Event
-delimiter_turns run p es = cond (goes_on run 9) es (closes run p ++ opens Space p ++ es)
+delimiter_turns run p es = cond (is_continued run 9) es (closes run p ++ opens Space p ++ es)
 
 delimiter-are : AreSpread Run Space delimiter_turns runs delimiter_runs
 delimiter-are = record {
   none = λ run p. refl;
   byte = λ run b line cs bs p more.
-      ap₂ (λ (xs zs : List Event). cond (goes_on run b) xs (closes run p ++ opens (begun b) p ++ zs)) (more run)
+      ap₂ (λ (xs zs : List Event). cond (is_continued run b) xs (closes run p ++ opens (begun b) p ++ zs)) (more run)
       (more (begun b));
   column = column;
   tab = tab;

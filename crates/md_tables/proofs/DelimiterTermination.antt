@@ -87,13 +87,13 @@ white_ends T state next w events max false a b has r low less =
     turned_ends T state next w events a b has r (omega (arith, under, less))
 
 -- where a mark is the text may be read
-abbrev stands_here : Mark → Bool
-stands_here Stops = false
-stands_here _ = true
+abbrev may_be_here : Mark → Bool
+may_be_here Stops = false
+may_be_here _ = true
 
-here-in : (w : World) (x : Mark) → mark (seen (position w)) ≡ x → stands_here x ≡ true → w.point.index < w.setting.limit
+here-in : (w : World) (x : Mark) → mark (seen (position w)) ≡ x → may_be_here x ≡ true → w.point.index < w.setting.limit
 here-in w x e is =
-    seen-in (position w) (λ (o : Option ℕ). stands_here (mark o)) refl (rw e is)
+    seen-in (position w) (λ (o : Option ℕ). may_be_here (mark o)) refl (rw e is)
 
 -- a pipe or a colon is taken
 marked_ends : (T : Scheme) (state next : TableState) (w : World) (events : List Event) (name : Name) →

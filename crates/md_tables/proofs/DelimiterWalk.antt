@@ -14,22 +14,23 @@ use Rattle.md_events.proofs.InlineLemmas.{past_text-append}
 use Rattle.md_tables.specs.Cells.{celled}
 use Rattle.md_tables.specs.Delimiter.{Aligns, Dash, Divides as Pipes, Mark, Other, Stops, White, mark_of}
 use Rattle.md_tables.specs.DelimiterCells.{delimiter_events, delimiter_runs, value_part}
-use Rattle.md_tables.specs.DelimiterRule.{Apart, Behind as BehindCell, Colon, Dashes, Filler, Front as FrontOfRow, Left}
-use Rattle.md_tables.specs.DelimiterRule.{Open, Place, Run, Space, begun, closes, counted}
-use Rattle.md_tables.specs.DelimiterRule.{fits, goes_on, led, met, move, opens}
-use Rattle.md_tables.specs.RowCells.{Cells, behind_pipe, cell_by, cells_by, cells_of, line_cells}
+use Rattle.md_tables.specs.DelimiterRule.{Apart, Following as AfterCell, Colon, Dashes, Filler, Front as FrontOfRow}
+use Rattle.md_tables.specs.DelimiterRule.{Left, Open, Place, Run, Space, begun, closes, counted, fits, is_continued}
+use Rattle.md_tables.specs.DelimiterRule.{led, met, move, opens}
+use Rattle.md_tables.specs.RowCells.{Cells, after_pipe, cell_by, cells_by, cells_of, line_cells}
 use Rattle.md_tables.specs.RowCells.{white_front, white_part}
 use Rattle.md_tables.specs.declared.cells.RowKind.TheVariants.{Delimiter}
-use Rattle.md_tables.specs.declared.cells.Stage.TheVariants.{Behind, Front, Inner, Within}
-use Rattle.md_tables.proofs.DelimiterLemmas.{Told, told}
-use Rattle.md_tables.proofs.PipeWalk.{pipe-walk, white-behind}
+use Rattle.md_tables.specs.declared.cells.Stage.TheVariants.{Following, Front, Inner, Within}
+use Rattle.md_tables.proofs.DelimiterLemmas.{Recorded, recorded}
+use Rattle.md_tables.proofs.PipeWalk.{pipe-walk, white-following}
 use Rattle.md_tables.proofs.RowBytes.{front-whole}
 use Rattle.md_tables.proofs.DelimiterColumns.{colon-slash, dash-slash}
-use Rattle.md_tables.proofs.RowCellLemmas.{cells-none, cells-pipe, cells-plain, cells-begin, first-behind, first-onto}
-use Rattle.md_tables.proofs.RowCellLemmas.{first_cell, white-blank, white-ends, white-first, white-more, white_left}
+use Rattle.md_tables.proofs.RowCellLemmas.{cells-none, cells-pipe, cells-plain, cells-begin, first-following}
+use Rattle.md_tables.proofs.RowCellLemmas.{first-onto, first_cell, white-blank, white-ends, white-first, white-more}
+use Rattle.md_tables.proofs.RowCellLemmas.{white_left}
 use Rattle.md_tables.proofs.WhiteEnds.{blank-first}
 use Rattle.md_tables.proofs.DelimiterRuns.{space-opens, space-on, space-ends, blank-runs, piped, pipe-opens, value-pipe}
-use Rattle.md_tables.proofs.DelimiterRuns.{value_left, value-first, value-more, value-turns, value-ends, behind}
+use Rattle.md_tables.proofs.DelimiterRuns.{value_left, value-first, value-more, value-turns, value-ends, following}
 use Rattle.md_tables.proofs.DelimiterRuns.{cells_left, left_in_space, left_in_value, onto-by, pipe-by, row_end}
 use Rattle.md_tables.proofs.DelimiterRuns.{last-pipe}
 use Rattle.md_leaves.proofs.BreakLemmas.{white-apart}
@@ -50,7 +51,7 @@ InRun run bs p =
     left_in_value run (cells_of false bs) p ++ row_end bs p
 
 -- after that
-record BehindValue (bs : List ℕ) (p : Point) : Type 0 where
+record AfterValue (bs : List ℕ) (p : Point) : Type 0 where
   pub blank : is_blank (first_cell (cells_of false bs)) ≡ true
   pub run : InRun Colon bs p
   pub space : celled (Within Delimiter) (delimiter_runs Space bs p ++ row_end bs p) ≡
@@ -62,18 +63,18 @@ WalksAt FrontOfRow bs p = Unit {0}
 WalksAt Open bs p = AtCell bs p
 WalksAt Left bs p = InRun Colon bs p
 WalksAt Dashes bs p = InRun Filler bs p
-WalksAt BehindCell bs p = BehindValue bs p
+WalksAt AfterCell bs p = AfterValue bs p
 
 piped-walk : (bs : List ℕ) (p : Point) → AtCell bs (past_byte 124 p) →
     celled (Within Delimiter) (piped bs p ++ row_end (124 ∷ bs) p) ≡
-    behind (behind_pipe bs (cells_of false bs)) p ++ row_end (124 ∷ bs) p
+    following (after_pipe bs (cells_of false bs)) p ++ row_end (124 ∷ bs) p
 unfolding celled
 piped-walk bs p walks =
     pipe-walk Delimiter value_part bs (cells_of false bs) p (delimiter_runs Apart bs q ++ row_end bs q) (row_end bs q)
     (last-pipe bs q)
     (λ h.
-    ap (λ (es : List Event). celled Behind (es ++ row_end bs q)) (blank-runs bs q h)
-    ∙ white-behind bs q (row_end bs q) refl)
+    ap (λ (es : List Event). celled Following (es ++ row_end bs q)) (blank-runs bs q h)
+    ∙ white-following bs q (row_end bs q) refl)
     walks.start
   where
     q : Point
@@ -99,7 +100,7 @@ run-pipe run bs p is walks = go run is
     end = row_end (124 ∷ bs) p
 
     wanted : (run : Run) → left_in_value run (cells_of false (124 ∷ bs)) p ++ end ≡
-        (value_left run [] p ++ behind (behind_pipe bs (cells_of false bs)) p) ++ end
+        (value_left run [] p ++ following (after_pipe bs (cells_of false bs)) p) ++ end
     wanted run =
         ap (λ (c : Cells). left_in_value run c p ++ end) (cells-pipe bs)
         ∙ ap (λ (es : List Event). es ++ end) (pipe-by (value_left run) bs p)
@@ -117,8 +118,8 @@ run-pipe run bs p is walks = go run is
         (piped-walk bs p walks) ∙ sym (wanted Filler)
 
 -- before whitespace, after which nothing else is in the cell,
-run-space : (run : Run) (b : ℕ) (bs : List ℕ) (p : Point) → IsValue run → Told b White →
-    BehindValue bs (past_byte b p) → InRun run (b ∷ bs) p
+run-space : (run : Run) (b : ℕ) (bs : List ℕ) (p : Point) → IsValue run → Recorded b White →
+    AfterValue bs (past_byte b p) → InRun run (b ∷ bs) p
 unfolding celled
 run-space run b bs p is t more = go run is
   where
@@ -132,7 +133,7 @@ run-space run b bs p is t more = go run is
     end = row_end (b ∷ bs) p
 
     after : List Event
-    after = behind cells (past_text (first_cell cells) q)
+    after = following cells (past_text (first_cell cells) q)
 
     wanted : (run : Run) → left_in_value run (cells_of false (b ∷ bs)) p ++ end ≡
         ((closes run p ++ exit n.GfmTableDelimiterCellValue p ∷ white_part (b ∷ first_cell cells) p) ++ after) ++ end
@@ -170,7 +171,7 @@ run-space run b bs p is t more = go run is
 
 -- or before another,
 run-turns : (run into : Run) (b : ℕ) (bs : List ℕ) (p : Point) → IsValue run → IsValue into → is_white b ≡ false →
-    nat_eq b 124 ≡ false → nat_eq b 92 ≡ false → goes_on run b ≡ false → begun b ≡ into →
+    nat_eq b 124 ≡ false → nat_eq b 92 ≡ false → is_continued run b ≡ false → begun b ≡ into →
     InRun into bs (past_byte b p) → InRun run (b ∷ bs) p
 unfolding celled
 run-turns run into b bs p is at dark pipe slash off same more = go run into is at off same more
@@ -185,9 +186,9 @@ run-turns run into b bs p is at dark pipe slash off same more = go run into is a
     end = row_end (b ∷ bs) p
 
     after : List Event
-    after = behind cells (past_text (first_cell cells) q)
+    after = following cells (past_text (first_cell cells) q)
 
-    wanted : (run into : Run) → goes_on run b ≡ false → begun b ≡ into →
+    wanted : (run into : Run) → is_continued run b ≡ false → begun b ≡ into →
         left_in_value run (cells_of false (b ∷ bs)) p ++ end ≡
         (((closes run p ++ opens into p) ++ value_left into (first_cell cells) q) ++ after) ++ end
     wanted run into off same =
@@ -197,7 +198,7 @@ run-turns run into b bs p is at dark pipe slash off same more = go run into is a
         (value-turns run b (first_cell cells) p dark off
         ∙ ap (λ (r : Run). (closes run p ++ opens r p) ++ value_left r (first_cell cells) q) same))
 
-    turns : (run into : Run) → goes_on run b ≡ false → begun b ≡ into →
+    turns : (run into : Run) → is_continued run b ≡ false → begun b ≡ into →
         delimiter_runs run (b ∷ bs) p ≡ closes run p ++ opens into p ++ delimiter_runs into bs q
     turns run into off same =
         ap
@@ -205,7 +206,7 @@ run-turns run into b bs p is at dark pipe slash off same more = go run into is a
         cond t (delimiter_runs run bs q) (closes run p ++ opens (begun b) p ++ delimiter_runs (begun b) bs q)) off
         ∙ ap (λ (r : Run). closes run p ++ opens r p ++ delimiter_runs r bs q) same
 
-    go : (run into : Run) → IsValue run → IsValue into → goes_on run b ≡ false → begun b ≡ into → InRun into bs q →
+    go : (run into : Run) → IsValue run → IsValue into → is_continued run b ≡ false → begun b ≡ into → InRun into bs q →
         InRun run (b ∷ bs) p
     go _ _ IsColon IsColon off same more =
         ap (λ (es : List Event). celled (Inner Delimiter) (es ++ end)) (turns Colon Colon off same)
@@ -228,15 +229,15 @@ run-turns run into b bs p is at dark pipe slash off same more = go run into is a
 run-more : (b : ℕ) (bs : List ℕ) (p : Point) → is_white b ≡ false → nat_eq b 124 ≡ false → nat_eq b 92 ≡ false →
     nat_eq b 45 ≡ true → InRun Filler bs (past_byte b p) → InRun Filler (b ∷ bs) p
 run-more b bs p dark pipe slash on more =
-    ap (λ (es : List Event). celled (Inner Delimiter) (es ++ row_end (b ∷ bs) p)) goes ∙ more
+    ap (λ (es : List Event). celled (Inner Delimiter) (es ++ row_end (b ∷ bs) p)) proceeds ∙ more
     ∙ sym
     (ap (λ (c : Cells). left_in_value Filler c p ++ row_end (b ∷ bs) p) (cells-plain b bs pipe slash)
     ∙ ap (λ (es : List Event). es ++ row_end (b ∷ bs) p)
     (onto-by (value_left Filler) b (cells_of false bs) p _
     (value-more Filler b (first_cell (cells_of false bs)) p dark on)))
   where
-    goes : delimiter_runs Filler (b ∷ bs) p ≡ delimiter_runs Filler bs (past_byte b p)
-    goes = rw on refl
+    proceeds : delimiter_runs Filler (b ∷ bs) p ≡ delimiter_runs Filler bs (past_byte b p)
+    proceeds = rw on refl
 
 -- A cell begins with one,
 cell-value : (into : Run) (b : ℕ) (bs : List ℕ) (p : Point) → IsValue into → is_white b ≡ false →
@@ -267,7 +268,7 @@ cell-value into b bs p at dark pipe slash same more = record {
     end = row_end (b ∷ bs) p
 
     after : List Event
-    after = behind cells (past_text (first_cell cells) q)
+    after = following cells (past_text (first_cell cells) q)
 
     wanted : (into : Run) → begun b ≡ into →
         cells_left (cells_of false (b ∷ bs)) p ++ end ≡
@@ -302,7 +303,7 @@ cell-value into b bs p at dark pipe slash same more = record {
     starts = go into at same more
 
 -- or with whitespace,
-space-more : (b : ℕ) (bs : List ℕ) (p : Point) → Told b White →
+space-more : (b : ℕ) (bs : List ℕ) (p : Point) → Recorded b White →
     celled (Within Delimiter) (delimiter_runs Space bs (past_byte b p) ++ row_end (b ∷ bs) p) ≡
     left_in_space (cells_of false bs) (past_byte b p) ++ row_end (b ∷ bs) p →
     celled (Within Delimiter) (delimiter_runs Space (b ∷ bs) p ++ row_end (b ∷ bs) p) ≡
@@ -316,7 +317,7 @@ space-more b bs p t more =
     (onto-by (white_left value_part) b (cells_of false bs) p _
     (white-more value_part b (first_cell (cells_of false bs)) p t.white)))
 
-cell-space : (b : ℕ) (bs : List ℕ) (p : Point) → Told b White → AtCell bs (past_byte b p) → AtCell (b ∷ bs) p
+cell-space : (b : ℕ) (bs : List ℕ) (p : Point) → Recorded b White → AtCell bs (past_byte b p) → AtCell (b ∷ bs) p
 unfolding celled
 cell-space b bs p t more = record {
   start =
@@ -341,16 +342,16 @@ cell-none p = record {
 
 -- After what a cell holds.
 
-behind-none : (p : Point) → BehindValue [] p
-behind-none p = record {
+following-none : (p : Point) → AfterValue [] p
+following-none p = record {
   blank = ap (λ (c : Cells). is_blank (first_cell c)) (cells-none false);
   run = run-none Colon p IsColon;
   space = (cell-none p).space;
 }
 
-behind-space : (b : ℕ) (bs : List ℕ) (p : Point) → Told b White → BehindValue bs (past_byte b p) →
-    BehindValue (b ∷ bs) p
-behind-space b bs p t more = record {
+following-space : (b : ℕ) (bs : List ℕ) (p : Point) → Recorded b White → AfterValue bs (past_byte b p) →
+    AfterValue (b ∷ bs) p
+following-space b bs p t more = record {
   blank =
       ap (λ (c : Cells). is_blank (first_cell c)) (cells-plain b bs t.pipe (white-apart b 92 t.white refl))
       ∙ ap is_blank (first-onto b (cells_of false bs))
@@ -359,10 +360,10 @@ behind-space b bs p t more = record {
   space = space-more b bs p t more.space;
 }
 
-behind-pipe : (bs : List ℕ) (p : Point) → AtCell bs (past_byte 124 p) → BehindValue (124 ∷ bs) p
+following-pipe : (bs : List ℕ) (p : Point) → AtCell bs (past_byte 124 p) → AfterValue (124 ∷ bs) p
 unfolding celled
-behind-pipe bs p walks = record {
-  blank = ap is_blank (ap first_cell (cells-pipe bs) ∙ first-behind bs (cells_of false bs));
+following-pipe bs p walks = record {
+  blank = ap is_blank (ap first_cell (cells-pipe bs) ∙ first-following bs (cells_of false bs));
   run = run-pipe Colon bs p IsColon walks;
   space =
       ap (λ (es : List Event). celled (Within Delimiter) (es ++ row_end (124 ∷ bs) p))
@@ -384,16 +385,17 @@ abbrev leads : Place → Scratch → List ℕ → Mark → Bool
 leads place s bs x = led (move place x) s (λ q t. fits q t bs)
 
 -- a colon, and dashes
-begun-colon : (b : ℕ) → Told b Aligns → begun b ≡ Colon
+begun-colon : (b : ℕ) → Recorded b Aligns → begun b ≡ Colon
 begun-colon b t = rw (t.white, t.pipe, t.colon) refl
 
-begun-dash : (b : ℕ) → Told b Dash → begun b ≡ Filler
+begun-dash : (b : ℕ) → Recorded b Dash → begun b ≡ Filler
 begun-dash b t = rw (t.white, t.pipe, t.colon) refl
 
-as-pipe : (P : ℕ → Type 0) (b : ℕ) → Told b Pipes → P 124 → P b
+as-pipe : (P : ℕ → Type 0) (b : ℕ) → Recorded b Pipes → P 124 → P b
 as-pipe P b t h = subst P (sym (eqb-true b 124 t.pipe)) h
 
-open-by : (s : Scratch) (b : ℕ) (bs : List ℕ) (p : Point) (x : Mark) → Told b x → leads Open s bs x ≡ true → Walked bs →
+open-by : (s : Scratch) (b : ℕ) (bs : List ℕ) (p : Point) (x : Mark) → Recorded b x → leads Open s bs x ≡
+    true → Walked bs →
     AtCell (b ∷ bs) p
 open-by s b bs p Stops t h on = let no : false ≡ true = h in cc
 open-by s b bs p White t h on = cell-space b bs p t (on Open s (past_byte b p) h)
@@ -406,7 +408,8 @@ open-by s b bs p Dash t h on =
     (on Dashes (counted s) (past_byte b p) h)
 open-by s b bs p Other t h on = let no : false ≡ true = h in cc
 
-left-by : (s : Scratch) (b : ℕ) (bs : List ℕ) (p : Point) (x : Mark) → Told b x → leads Left s bs x ≡ true → Walked bs →
+left-by : (s : Scratch) (b : ℕ) (bs : List ℕ) (p : Point) (x : Mark) → Recorded b x → leads Left s bs x ≡
+    true → Walked bs →
     InRun Colon (b ∷ bs) p
 left-by s b bs p Dash t h on =
     run-turns Colon Filler b bs p IsColon IsFiller t.white t.pipe (dash-slash b t.dash) refl (begun-dash b t)
@@ -417,40 +420,41 @@ left-by s b bs p Pipes t h on = let no : false ≡ true = h in cc
 left-by s b bs p Aligns t h on = let no : false ≡ true = h in cc
 left-by s b bs p Other t h on = let no : false ≡ true = h in cc
 
-dashes-by : (s : Scratch) (b : ℕ) (bs : List ℕ) (p : Point) (x : Mark) → Told b x → leads Dashes s bs x ≡ true →
+dashes-by : (s : Scratch) (b : ℕ) (bs : List ℕ) (p : Point) (x : Mark) → Recorded b x → leads Dashes s bs x ≡ true →
     Walked bs → InRun Filler (b ∷ bs) p
 dashes-by s b bs p Stops t h on = let no : false ≡ true = h in cc
-dashes-by s b bs p White t h on = run-space Filler b bs p IsFiller t (on BehindCell s (past_byte b p) h)
+dashes-by s b bs p White t h on = run-space Filler b bs p IsFiller t (on AfterCell s (past_byte b p) h)
 dashes-by s b bs p Pipes t h on =
     as-pipe (λ (c : ℕ). InRun Filler (c ∷ bs) p) b t
     (run-pipe Filler bs p IsFiller (on Open (met s) (past_byte 124 p) h))
 dashes-by s b bs p Aligns t h on =
     run-turns Filler Colon b bs p IsFiller IsColon t.white t.pipe (colon-slash b t.colon) t.dash (begun-colon b t)
-    (on BehindCell (met s) (past_byte b p) h).run
+    (on AfterCell (met s) (past_byte b p) h).run
 dashes-by s b bs p Dash t h on =
     run-more b bs p t.white t.pipe (dash-slash b t.dash) t.dash (on Dashes s (past_byte b p) h)
 dashes-by s b bs p Other t h on = let no : false ≡ true = h in cc
 
-behind-by : (s : Scratch) (b : ℕ) (bs : List ℕ) (p : Point) (x : Mark) → Told b x → leads BehindCell s bs x ≡ true →
-    Walked bs → BehindValue (b ∷ bs) p
-behind-by s b bs p White t h on = behind-space b bs p t (on BehindCell s (past_byte b p) h)
-behind-by s b bs p Pipes t h on =
-    as-pipe (λ (c : ℕ). BehindValue (c ∷ bs) p) b t (behind-pipe bs p (on Open (met s) (past_byte 124 p) h))
-behind-by s b bs p Stops t h on = let no : false ≡ true = h in cc
-behind-by s b bs p Aligns t h on = let no : false ≡ true = h in cc
-behind-by s b bs p Dash t h on = let no : false ≡ true = h in cc
-behind-by s b bs p Other t h on = let no : false ≡ true = h in cc
+following-by : (s : Scratch) (b : ℕ) (bs : List ℕ) (p : Point) (x : Mark) → Recorded b x →
+    leads AfterCell s bs x ≡ true →
+    Walked bs → AfterValue (b ∷ bs) p
+following-by s b bs p White t h on = following-space b bs p t (on AfterCell s (past_byte b p) h)
+following-by s b bs p Pipes t h on =
+    as-pipe (λ (c : ℕ). AfterValue (c ∷ bs) p) b t (following-pipe bs p (on Open (met s) (past_byte 124 p) h))
+following-by s b bs p Stops t h on = let no : false ≡ true = h in cc
+following-by s b bs p Aligns t h on = let no : false ≡ true = h in cc
+following-by s b bs p Dash t h on = let no : false ≡ true = h in cc
+following-by s b bs p Other t h on = let no : false ≡ true = h in cc
 
 walked : (bs : List ℕ) → Walked bs
 walked bs FrontOfRow s p h = tt
 walked [] Open s p h = cell-none p
 walked [] Left s p h = let no : false ≡ true = h in cc
 walked [] Dashes s p h = run-none Filler p IsFiller
-walked [] BehindCell s p h = behind-none p
-walked (b ∷ bs) Open s p h = open-by s b bs p (mark_of b) (told b) h (walked bs)
-walked (b ∷ bs) Left s p h = left-by s b bs p (mark_of b) (told b) h (walked bs)
-walked (b ∷ bs) Dashes s p h = dashes-by s b bs p (mark_of b) (told b) h (walked bs)
-walked (b ∷ bs) BehindCell s p h = behind-by s b bs p (mark_of b) (told b) h (walked bs)
+walked [] AfterCell s p h = following-none p
+walked (b ∷ bs) Open s p h = open-by s b bs p (mark_of b) (recorded b) h (walked bs)
+walked (b ∷ bs) Left s p h = left-by s b bs p (mark_of b) (recorded b) h (walked bs)
+walked (b ∷ bs) Dashes s p h = dashes-by s b bs p (mark_of b) (recorded b) h (walked bs)
+walked (b ∷ bs) AfterCell s p h = following-by s b bs p (mark_of b) (recorded b) h (walked bs)
 
 -- A whole row.
 
@@ -460,7 +464,7 @@ row-starts : (s : Scratch) (line : List ℕ) (p : Point) → fits FrontOfRow s l
     cells_by n.GfmTableDelimiterCell value_part (begins_with 124 line) (line_cells line) p ++ row_end line p
 unfolding celled
 row-starts s [] p h = let no : false ≡ true = h in cc
-row-starts s (b ∷ bs) p h = go (mark_of b) (told b) h
+row-starts s (b ∷ bs) p h = go (mark_of b) (recorded b) h
   where
     end : List Event
     end = row_end (b ∷ bs) p
@@ -514,7 +518,7 @@ row-starts s (b ∷ bs) p h = go (mark_of b) (told b) h
             (ap (λ (es : List Event). enter n.GfmTableDelimiterCell p ∷ celled (Within Delimiter) (es ++ end))
             (turns Filler same))
 
-    go : (x : Mark) → Told b x → leads FrontOfRow s bs x ≡ true → Row b
+    go : (x : Mark) → Recorded b x → leads FrontOfRow s bs x ≡ true → Row b
     go Pipes t h = as-pipe Row b t (piped_row (walked bs Open (met s) (past_byte 124 p) h))
     go Aligns t h =
         plain_row Colon IsColon (begun-colon b t) t.pipe t.white (open-by s b bs p Aligns t h (walked bs))

@@ -11,7 +11,7 @@ use Rattle.md_engine.specs.Meaning.{Cell}
 use Rattle.md_meaning.specs.Ascii.{colon, hyphen, pipe}
 use Rattle.md_meaning.specs.Rest.{is_small, is_white}
 use Rattle.md_leaves.proofs.LeafStart.{rule-refused}
-use Rattle.md_events.specs.Look.{seen_behind}
+use Rattle.md_events.specs.Look.{seen_after}
 use Rattle.md_events.specs.Spaces.{small_indent}
 use Rattle.md_tables.specs.DelimiterRule as delimiter
 use Rattle.md_tables.specs.Delimiter.{Aligns, Dash, Divides, Other, Stops, White}
@@ -43,7 +43,7 @@ none-mark s b bytes none = go (b == 10) (is_white b) (b == pipe) (b == colon) (b
     go false false false false true none = cc
     go false false false false false none = refl
 
-pub table-looked : (options : ParseOptions) (on : HeldLeaf) (cells : List Cell) (b : ℕ) → seen_behind cells ≡ Some b →
+pub table-looked : (options : ParseOptions) (on : HeldLeaf) (cells : List Cell) (b : ℕ) → seen_after cells ≡ Some b →
     may_begin on b ≡ false → table_takes options on cells ≡ false
 table-looked options (held_leaf.Text text) cells b seen e = go (nat_lt 0 text.columns) refl e
   where

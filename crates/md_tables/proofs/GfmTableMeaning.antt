@@ -9,7 +9,7 @@ use Rattle.md_engine.specs.declared.state.State.TheVariants.{Next}
 use Rattle.md_engine.specs.declared.tokenizer.held_leaf.HeldLeaf.{HeldLeaf}
 use Rattle.md_engine.specs.declared.tokenizer.held_leaf.HeldLeaf.TheVariants as held_leaf
 use Rattle.md_engine.specs.declared.tokenizer.held_leaf.OpenText.{OpenText}
-use Rattle.md_engine.specs.Meaning.{Behaviour, Cell, Feed, Here, Steps, goes, here}
+use Rattle.md_engine.specs.Meaning.{Behaviour, Cell, Feed, Here, Steps, proceeds, here}
 use Rattle.md_engine.specs.Scheme.{After, Position, position}
 use Rattle.md_engine.specs.World.{World}
 use Rattle.md_engine.specs.Sees.{Sees}
@@ -27,7 +27,7 @@ use Rattle.md_tables.specs.declared.row.Place.{Place}
 use Rattle.md_tables.specs.declared.row.Place.TheVariants as place
 use Rattle.md_tables.specs.declared.row.Row.{Row}
 use Rattle.md_tables.specs.declared.row.Row.TheVariants.{Head, Body}
-use Rattle.md_events.specs.Look.{looks_behind, may_with}
+use Rattle.md_events.specs.Look.{looks_after, may_with}
 use Rattle.md_events.specs.Spaces.{IsRest}
 use Rattle.md_events.proofs.LookLemmas.{refused-first}
 use Rattle.md_tables.proofs.DelimiterMeaning.{delimiter_steps}
@@ -73,7 +73,7 @@ has-delimiter B options has = record {
 -- Before a row.
 
 head_means : (B : Behaviour) (feed : Feed) (w : World) (text : OpenText) (x : Bool) → HasTable B w.setting.options →
-    goes B (Next (n.GfmTable its.Start)) (feed w.point) (here w) ≡
+    proceeds B (Next (n.GfmTable its.Start)) (feed w.point) (here w) ≡
     head_at w.setting.options text x (feed w.point) (here w) →
     Steps B feed (Next (n.GfmTable its.Start)) w (head_code w text x).to (head_code w text x).world
 head_means B feed w text true has e =
@@ -81,7 +81,7 @@ head_means B feed w text true has e =
 head_means B feed w text false has e = passes B feed _ _ w w refl refl e
 
 start_means : (B : Behaviour) (feed : Feed) (w : World) (leaf : HeldLeaf) → HasTable B w.setting.options →
-    goes B (Next (n.GfmTable its.Start)) (feed w.point) (here w) ≡
+    proceeds B (Next (n.GfmTable its.Start)) (feed w.point) (here w) ≡
     table_by w.setting.options leaf (feed w.point) (here w) →
     Steps B feed (Next (n.GfmTable its.Start)) w (start_code w leaf).to (start_code w leaf).world
 start_means B feed w (held_leaf.Text text) has e =
@@ -92,7 +92,7 @@ start_means B feed w _ has e = passes B feed _ _ w w refl refl e
 
 -- where none may begin by what is first after the indent, the rule refuses
 begins_means : (B : Behaviour) (feed : Feed) (w : World) (x : Bool) → HasTable B w.setting.options → Sees feed w →
-    IsRest w.scratch → may_with (may_begin w.flags.leaf) (looks_behind w) ≡ x →
+    IsRest w.scratch → may_with (may_begin w.flags.leaf) (looks_after w) ≡ x →
     Steps B feed (Next (n.GfmTable its.Start)) w (begins_code w x).to (begins_code w x).world
 unfolding table_at
 begins_means B feed w true has s is e = start_means B feed w w.flags.leaf has (has.each its.Start _ _)

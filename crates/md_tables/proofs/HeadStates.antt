@@ -9,8 +9,8 @@ use Rattle.md_engine.specs.declared.stay.Stay.{Stay}
 use Rattle.md_engine.specs.Going.{SeesOn}
 use Rattle.md_engine.specs.Meaning.{Cell, Feed, Here, Steps}
 use Rattle.md_engine.specs.Run.{RunsHere, reading}
-use Rattle.md_engine.specs.Scheme.{Fits, stands}
-use Rattle.md_engine.specs.Standing.{MeansAt, StandsOn}
+use Rattle.md_engine.specs.Scheme.{Fits, valid}
+use Rattle.md_engine.specs.Situation.{MeansAt, KeepsValid}
 use Rattle.md_engine.specs.Staying.{StaysOn}
 use Rattle.md_engine.specs.World.{Setting, World, looks}
 use Rattle.md_engine.proofs.Local.{fits}
@@ -21,7 +21,7 @@ use Rattle.md_engine.proofs.Walks.{EachKeeps, Within}
 use Rattle.md_events.specs.Ahead.{HasWhite}
 use Rattle.md_events.specs.Stays.{TakesEach}
 use Rattle.md_events.proofs.SpacesTermination.{Does, WhiteFits, does-fall, does-remain}
-use Rattle.md_events.proofs.SpacesTermination.{does-setting, does-stands, white_terminates}
+use Rattle.md_events.proofs.SpacesTermination.{does-setting, does-valid, white_terminates}
 use Rattle.md_events.proofs.StaysLemmas.{stays-on}
 use Rattle.md_events.proofs.WhiteMeaning.{white_means}
 use Rattle.md_tables.specs.HeadStates.{HeadStep, head_behaves, head_owner, head_scheme, head_transition}
@@ -50,7 +50,7 @@ row_fits = record { white = white_fits; each = at }
     at place.Escape = fits head_owner (name_at Head place.Escape)
     at place.CellBefore = fits head_owner (name_at Head place.CellBefore)
 
-pub head_terminates : (name : StateName) (w : World) → w.current ≡ looks w → stands head_scheme w (Next name) →
+pub head_terminates : (name : StateName) (w : World) → w.current ≡ looks w → valid head_scheme w (Next name) →
     Does head_scheme name w (head_transition name w)
 head_terminates (n.GfmTable its.HeadRowBefore) w c r = row_terminates head_scheme Head place.Start w row_fits c r
 head_terminates (n.GfmTable its.HeadRowBreak) w c r = row_terminates head_scheme Head place.Break w row_fits c r
@@ -76,7 +76,7 @@ has_row = record { white = has_white; each = at }
     at place.Escape cells h = refl
     at place.CellBefore cells h = refl
 
-head_means : (feed : Feed) (name : StateName) (w : World) → Sees feed w → stands head_scheme w (Next name) →
+head_means : (feed : Feed) (name : StateName) (w : World) → Sees feed w → valid head_scheme w (Next name) →
     Steps head_behaves feed (Next name) w (head_transition name w).to (head_transition name w).world
 head_means feed (n.GfmTable its.HeadRowBefore) w s at = row_means head_behaves feed Head place.Start w has_row s at.0
 head_means feed (n.GfmTable its.HeadRowBreak) w s at = row_means head_behaves feed Head place.Break w has_row s at.0
@@ -91,12 +91,12 @@ head_means feed name w s at = absurd at
 pub head_table_means : (under : Setting) (is_end : Bool) → MeansAt HeadStep head_scheme under head_behaves is_end
 head_table_means under is_end feed name w to new f called step =
     steps-as head_behaves feed (Next name) _ to (reading w) _ new step.to_is step.new_is
-    (head_means feed name (reading w) (sees feed w is_end f called.may) called.stands)
+    (head_means feed name (reading w) (sees feed w is_end f called.may) called.valid)
 
 -- and reaches where the table is
-pub head_stands : StandsOn HeadStep head_scheme
-head_stands name w to new at step =
-    does-stands head_scheme name (reading w) (head_transition name (reading w)) to new step.to_is step.new_is
+pub head_keeps_valid : KeepsValid HeadStep head_scheme
+head_keeps_valid name w to new at step =
+    does-valid head_scheme name (reading w) (head_transition name (reading w)) to new step.to_is step.new_is
     (head_terminates name (reading w) refl at)
 
 -- what only takes stays
@@ -127,13 +127,13 @@ row-heads name w to new (OfWhite state named to_is new_is) =
 pub head-keeps : EachKeeps HeadStep head_scheme
 head-keeps name w to new seen at step =
     let does = head_terminates name w seen at in (
-      does-stands head_scheme name w (head_transition name w) to new step.to_is step.new_is does,
+      does-valid head_scheme name w (head_transition name w) to new step.to_is step.new_is does,
       does-fall head_scheme name w (head_transition name w) to new step.to_is step.new_is does,
     )
 
 -- one call of a state is a run
 pub head-called : (name : StateName) (w : World) (to : State) (new : World) → w.current ≡ looks w →
-    stands head_scheme w (Next name) → Within w → to ≢ Error → to ≡ (head_transition name w).to →
+    valid head_scheme w (Next name) → Within w → to ≢ Error → to ≡ (head_transition name w).to →
     new ≡ (head_transition name w).world →
     RunsHere HeadStep name w to new × SeesOn to w new
 head-called name w to new seen at within fine to_is new_is =

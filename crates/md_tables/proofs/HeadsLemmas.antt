@@ -39,14 +39,14 @@ meets-other e es apart none = rw apart none
 -- All events.
 
 -- events of which none begins a line of text pass
-pub headed-behind : (bytes : List ℕ) (options : ParseOptions) (front rest : List Event) →
+pub headed-following : (bytes : List ℕ) (options : ParseOptions) (front rest : List Event) →
     list_any begins_chunk front ≡ false →
     headed bytes options (front ++ rest) ≡ front ++ headed bytes options rest
-headed-behind bytes options [] rest none = refl
-headed-behind bytes options (e ∷ front) rest none =
+headed-following bytes options [] rest none = refl
+headed-following bytes options (e ∷ front) rest none =
     let each = or_parts (begins_chunk e) (list_any begins_chunk front) none in
     headed-passes bytes options e (front ++ rest) (not-head e (front ++ rest) each.0)
-    ∙ ap (λ (l : List Event). e ∷ l) (headed-behind bytes options front rest each.1)
+    ∙ ap (λ (l : List Event). e ∷ l) (headed-following bytes options front rest each.1)
 
 -- a line of text that meets no table passes
 pub headed-text : (bytes : List ℕ) (options : ParseOptions) (e x : Event) (rest : List Event) →

@@ -70,8 +70,8 @@ pub record Stops (es : List Event) (at : ℕ) (d : Event) : Type 0 where
   pub others : (k : ℕ) → k ≤ at → k < length es → begins_further_row (get_or es k d) ≡ false
   pub stop : at < length es → stops_look (get_or es at d) ≡ true
 
-stops-behind : (e : Event) (es : List Event) (at : ℕ) (d : Event) → Stops (e ∷ es) (suc at) d → Stops es at d
-stops-behind e es at d h = record {
+stops-following : (e : Event) (es : List Event) (at : ℕ) (d : Event) → Stops (e ∷ es) (suc at) d → Stops es at d
+stops-following e es at d h = record {
   others = λ k le lt. h.others (suc k) (omega arith) (omega arith);
   stop = λ lt. h.stop (omega arith);
 }
@@ -85,13 +85,13 @@ meets-none (e ∷ es) at d h = go (stops_look e) refl at h (meets-none es)
         ((at : ℕ) (d : Event) → Stops es at d → meets_table es ≡ false) → meets_table (e ∷ es) ≡ false
     go true k at h more = rw k (h.others 0 (omega arith) (omega arith))
     go false k zero h more = let stop : stops_look e ≡ true = h.stop (omega arith) in cc
-    go false k (suc at) h more = rw k (more at d (stops-behind e es at d h))
+    go false k (suc at) h more = rw k (more at d (stops-following e es at d h))
 
 -- so a line of text is no head where both its begin and its end are before that event
 stops-none : (e : Event) (es : List Event) (at : ℕ) (d : Event) → Stops es (suc at) d → is_head (e ∷ es) ≡ false
 stops-none e [] at d h = refl
 stops-none e (x ∷ es) at d h =
-    and_right (begins_chunk e) (meets_table es) (meets-none es at d (stops-behind x es at d h))
+    and_right (begins_chunk e) (meets_table es) (meets-none es at d (stops-following x es at d h))
 
 -- so all events pass but the one before that event
 pub headed-before : (bytes : List ℕ) (options : ParseOptions) (es : List Event) (n : ℕ) (d : Event) →
@@ -99,9 +99,9 @@ pub headed-before : (bytes : List ℕ) (options : ParseOptions) (es : List Event
 headed-before bytes options es zero d h = refl
 headed-before bytes options [] (suc n) d h = refl
 headed-before bytes options (e ∷ es) (suc n) d h =
-    let behind : Stops es (suc n) d = stops-behind e es (suc n) d (h (omega arith)) in
-    headed-more bytes options e es (suc n) n (omega arith) (stops-none e es n d behind)
-    (headed-before bytes options es n d (λ lt. behind))
+    let following : Stops es (suc n) d = stops-following e es (suc n) d (h (omega arith)) in
+    headed-more bytes options e es (suc n) n (omega arith) (stops-none e es n d following)
+    (headed-before bytes options es n d (λ lt. following))
 
 -- a head has two events
 pub head-two : (es : List Event) → is_head es ≡ true → 1 < length es

@@ -8,16 +8,16 @@ use Rattle.md_engine.specs.declared.event.Kind.TheVariants.{Enter, Exit}
 use Rattle.md_engine.specs.declared.event.Name.{Name}
 use Rattle.md_engine.specs.declared.event.Name.TheVariants as n
 use Rattle.md_events.specs.Events.Nested.{enter, exit, is_enter, is_exit}
-use Rattle.md_tables.specs.Cells.{begins_inner, begins_row, cell_name, ends_inner, goes_on, inner_name}
+use Rattle.md_tables.specs.Cells.{begins_inner, begins_row, cell_name, ends_inner, is_continued, inner_name}
 use Rattle.md_tables.specs.Cells.{is_divider, is_inner, is_white, row_ends, row_kind, step}
-use Rattle.md_tables.specs.Goes.{begins_body, ends_head, ends_text_row, in_table, is_between, is_delimiter_row}
-use Rattle.md_tables.specs.Goes.{is_ending, is_pair, is_text_row}
+use Rattle.md_tables.specs.Proceeds.{begins_body, ends_head, ends_text_row, in_table, is_between, is_delimiter_row}
+use Rattle.md_tables.specs.Proceeds.{is_ending, is_pair, is_text_row}
 use Rattle.md_tables.specs.Tabled.{bound_of, tabled_from}
 use Rattle.md_tables.specs.declared.cells.RowKind.{RowKind}
 use Rattle.md_tables.specs.declared.cells.RowKind.TheVariants.{Delimiter, Text}
 use Rattle.md_tables.specs.declared.cells.Stage.{Stage}
 use Rattle.md_tables.specs.declared.cells.Stage.TheVariants as row
-use Rattle.md_tables.specs.declared.cells.Stage.TheVariants.{Behind, Front, Inner, Within}
+use Rattle.md_tables.specs.declared.cells.Stage.TheVariants.{Following, Front, Inner, Within}
 use Rattle.md_tables.specs.declared.tables.Bound.TheVariants.{Other}
 use Rattle.md_tables.specs.declared.tables.Section.{Section}
 use Rattle.md_tables.specs.declared.tables.Section.TheVariants.{Between, Body, Head, Outside}
@@ -95,31 +95,31 @@ by-pair P test name only a b h put =
     (only (λ (m : Name). P (is Enter name a) (is Exit m b)) put)))
 
 -- Whitespace in a cell.
-pub white-goes : (section : Section) (k : RowKind) (a b : Event) (es : List Event) → in_table section ≡ true →
+pub white-proceeds : (section : Section) (k : RowKind) (a b : Event) (es : List Event) → in_table section ≡ true →
     is_pair is_white a b ≡ true →
     tabled_from section (Within k) (a ∷ b ∷ es) ≡ a ∷ b ∷ tabled_from section (Within k) es
-white-goes section k a b es at h = go k
+white-proceeds section k a b es at h = go k
   where
-    Goes : RowKind → Event → Event → Type 0
-    Goes kind x y = tabled_from section (Within kind) (x ∷ y ∷ es) ≡ x ∷ y ∷ tabled_from section (Within kind) es
+    Proceeds : RowKind → Event → Event → Type 0
+    Proceeds kind x y = tabled_from section (Within kind) (x ∷ y ∷ es) ≡ x ∷ y ∷ tabled_from section (Within kind) es
 
-    go : (kind : RowKind) → Goes kind a b
+    go : (kind : RowKind) → Proceeds kind a b
     go Text =
-        by-pair (Goes Text) is_white n.SpaceOrTab white-name a b h
+        by-pair (Proceeds Text) is_white n.SpaceOrTab white-name a b h
         (one section (Within Text) (is Enter n.SpaceOrTab a) (is Exit n.SpaceOrTab b ∷ es) at refl
         ∙ ap (λ (l : List Event). is Enter n.SpaceOrTab a ∷ l)
         (one section (Within Text) (is Exit n.SpaceOrTab b) es at refl))
     go Delimiter =
-        by-pair (Goes Delimiter) is_white n.SpaceOrTab white-name a b h
+        by-pair (Proceeds Delimiter) is_white n.SpaceOrTab white-name a b h
         (one section (Within Delimiter) (is Enter n.SpaceOrTab a) (is Exit n.SpaceOrTab b ∷ es) at refl
         ∙ ap (λ (l : List Event). is Enter n.SpaceOrTab a ∷ l)
         (one section (Within Delimiter) (is Exit n.SpaceOrTab b) es at refl))
 
 -- A line ending between two rows.
-pub ending-goes : (section : Section) (a b : Event) (es : List Event) → in_table section ≡ true →
+pub ending-proceeds : (section : Section) (a b : Event) (es : List Event) → in_table section ≡ true →
     is_pair is_ending a b ≡ true →
     tabled_from section row.Outside (a ∷ b ∷ es) ≡ a ∷ b ∷ tabled_from section row.Outside es
-ending-goes section a b es at h =
+ending-proceeds section a b es at h =
     by-pair
     (λ (x y : Event). tabled_from section row.Outside (x ∷ y ∷ es) ≡ x ∷ y ∷ tabled_from section row.Outside es)
     is_ending n.LineEnding ending-name a b h
@@ -135,21 +135,21 @@ row-name P text marks n.GfmTableDelimiterRow k h =
     let same : Delimiter ≡ k = cc in subst (P n.GfmTableDelimiterRow) same marks
 row-name P text marks _ k h = absurd (cc)
 
-pub row-goes : (section : Section) (k : RowKind) (e : Event) (es : List Event) → in_table section ≡ true →
+pub row-proceeds : (section : Section) (k : RowKind) (e : Event) (es : List Event) → in_table section ≡ true →
     is_between section ≡ false → begins_row e ≡ Some k →
     tabled_from section row.Outside (e ∷ es) ≡ e ∷ tabled_from section (Front k) es
-row-goes section k e es at other h = go e.kind h
+row-proceeds section k e es at other h = go e.kind h
   where
-    Goes : Section → Name → RowKind → Type 0
-    Goes here name kind =
+    Proceeds : Section → Name → RowKind → Type 0
+    Proceeds here name kind =
         tabled_from here row.Outside (is Enter name e ∷ es) ≡ is Enter name e ∷ tabled_from here (Front kind) es
 
     by : (here : Section) → in_table here ≡ true → is_between here ≡ false → (name : Name) → row_kind name ≡ Some k →
-        Goes here name k
+        Proceeds here name k
     by Outside t b name i = absurd (cc)
     by Between t b name i = absurd (cc)
-    by Head t b name i = row-name (Goes Head) refl refl name k i
-    by Body t b name i = row-name (Goes Body) refl refl name k i
+    by Head t b name i = row-name (Proceeds Head) refl refl name k i
+    by Body t b name i = row-name (Proceeds Body) refl refl name k i
 
     go : (kind : Kind) → cond (is_enter kind) (row_kind e.name) None ≡ Some k →
         tabled_from section row.Outside (is kind e.name e ∷ es) ≡ is kind e.name e ∷ tabled_from section (Front k) es
@@ -162,13 +162,14 @@ text-row P h n.GfmTableRow is = h
 text-row P h _ is = absurd (cc)
 
 pub row-ends : (section : Section) (e : Event) (es : List Event) → in_table section ≡ true → ends_text_row e ≡ true →
-    tabled_from section Behind (e ∷ es) ≡ e ∷ tabled_from section row.Outside es
+    tabled_from section Following (e ∷ es) ≡ e ∷ tabled_from section row.Outside es
 row-ends section e es at h =
-    ends (λ (x : Event). tabled_from section Behind (x ∷ es) ≡ x ∷ tabled_from section row.Outside es) is_text_row e h
+    ends (λ (x : Event). tabled_from section Following (x ∷ es) ≡ x ∷ tabled_from section row.Outside es)
+    is_text_row e h
     (text-row
     (λ (m : Name).
-    tabled_from section Behind (is Exit m e ∷ es) ≡ is Exit m e ∷ tabled_from section row.Outside es)
-    (one section Behind (is Exit n.GfmTableRow e) es at refl))
+    tabled_from section Following (is Exit m e ∷ es) ≡ is Exit m e ∷ tabled_from section row.Outside es)
+    (one section Following (is Exit n.GfmTableRow e) es at refl))
 
 -- The end of the head,
 delimiter-row : (P : Name → Type 0) → P n.GfmTableDelimiterRow → (name : Name) → is_delimiter_row name ≡ true → P name
@@ -176,15 +177,15 @@ delimiter-row P h n.GfmTableDelimiterRow is = h
 delimiter-row P h _ is = absurd (cc)
 
 pub head-ends : (section : Section) (e : Event) (es : List Event) → ends_head section e ≡ true →
-    tabled_from section Behind (e ∷ es) ≡ e ∷ exit n.GfmTableHead e.point ∷ tabled_from Between row.Outside es
+    tabled_from section Following (e ∷ es) ≡ e ∷ exit n.GfmTableHead e.point ∷ tabled_from Between row.Outside es
 head-ends Head e es h =
     ends
     (λ (x : Event).
-    tabled_from Head Behind (x ∷ es) ≡ x ∷ exit n.GfmTableHead x.point ∷ tabled_from Between row.Outside es)
+    tabled_from Head Following (x ∷ es) ≡ x ∷ exit n.GfmTableHead x.point ∷ tabled_from Between row.Outside es)
     is_delimiter_row e h
     (delimiter-row
     (λ (m : Name).
-    tabled_from Head Behind (is Exit m e ∷ es)
+    tabled_from Head Following (is Exit m e ∷ es)
     ≡ is Exit m e ∷ exit n.GfmTableHead e.point ∷ tabled_from Between row.Outside es)
     refl)
 head-ends _ e es h = absurd (cc)
@@ -207,14 +208,14 @@ body-begins Between e es h =
 body-begins _ e es h = absurd (cc)
 
 -- A pipe: before the first cell of a row,
-pub front-goes : (section : Section) (k : RowKind) (a b : Event) (es : List Event) → in_table section ≡ true →
+pub front-proceeds : (section : Section) (k : RowKind) (a b : Event) (es : List Event) → in_table section ≡ true →
     is_pair is_divider a b ≡ true →
     tabled_from section (Front k) (a ∷ b ∷ es)
     ≡ enter (cell_name k) a.point ∷ a ∷ b ∷ tabled_from section (Within k) es
-front-goes section k a b es at h = go k
+front-proceeds section k a b es at h = go k
   where
-    Goes : RowKind → Event → Event → Type 0
-    Goes kind x y =
+    Proceeds : RowKind → Event → Event → Type 0
+    Proceeds kind x y =
         tabled_from section (Front kind) (x ∷ y ∷ es)
         ≡ enter (cell_name kind) x.point ∷ x ∷ y ∷ tabled_from section (Within kind) es
 
@@ -224,27 +225,27 @@ front-goes section k a b es at h = go k
     second : Event
     second = is Exit n.GfmTableCellDivider b
 
-    go : (kind : RowKind) → Goes kind a b
+    go : (kind : RowKind) → Proceeds kind a b
     go Text =
-        by-pair (Goes Text) is_divider n.GfmTableCellDivider pipe-name a b h
+        by-pair (Proceeds Text) is_divider n.GfmTableCellDivider pipe-name a b h
         (one section (Front Text) first (second ∷ es) at refl
         ∙ ap (λ (l : List Event). enter n.GfmTableCell a.point ∷ first ∷ l)
         (one section (Within Text) second es at refl))
     go Delimiter =
-        by-pair (Goes Delimiter) is_divider n.GfmTableCellDivider pipe-name a b h
+        by-pair (Proceeds Delimiter) is_divider n.GfmTableCellDivider pipe-name a b h
         (one section (Front Delimiter) first (second ∷ es) at refl
         ∙ ap (λ (l : List Event). enter n.GfmTableDelimiterCell a.point ∷ first ∷ l)
         (one section (Within Delimiter) second es at refl))
 
 -- between two cells,
-pub pipe-goes : (section : Section) (k : RowKind) (a b : Event) (es : List Event) → in_table section ≡ true →
+pub pipe-proceeds : (section : Section) (k : RowKind) (a b : Event) (es : List Event) → in_table section ≡ true →
     is_pair is_divider a b ≡ true → row_ends es ≡ false →
     tabled_from section (Within k) (a ∷ b ∷ es)
     ≡ exit (cell_name k) a.point ∷ enter (cell_name k) a.point ∷ a ∷ b ∷ tabled_from section (Within k) es
-pipe-goes section k a b es at h more = go k
+pipe-proceeds section k a b es at h more = go k
   where
-    Goes : RowKind → Event → Event → Type 0
-    Goes kind x y =
+    Proceeds : RowKind → Event → Event → Type 0
+    Proceeds kind x y =
         tabled_from section (Within kind) (x ∷ y ∷ es)
         ≡ exit (cell_name kind) x.point ∷ enter (cell_name kind) x.point ∷ x ∷ y ∷ tabled_from section (Within kind) es
 
@@ -254,35 +255,35 @@ pipe-goes section k a b es at h more = go k
     second : Event
     second = is Exit n.GfmTableCellDivider b
 
-    first-goes : (kind : RowKind) →
+    first-proceeds : (kind : RowKind) →
         tabled_from section (Within kind) (first ∷ second ∷ es)
         ≡ exit (cell_name kind) a.point ∷ enter (cell_name kind) a.point ∷ first
         ∷ tabled_from section (Within kind) (second ∷ es)
-    first-goes kind = one section (Within kind) first (second ∷ es) at refl ∙ rw more refl
+    first-proceeds kind = one section (Within kind) first (second ∷ es) at refl ∙ rw more refl
 
-    go : (kind : RowKind) → Goes kind a b
+    go : (kind : RowKind) → Proceeds kind a b
     go Text =
-        by-pair (Goes Text) is_divider n.GfmTableCellDivider pipe-name a b h
-        (first-goes Text
+        by-pair (Proceeds Text) is_divider n.GfmTableCellDivider pipe-name a b h
+        (first-proceeds Text
         ∙ ap (λ (l : List Event). exit n.GfmTableCell a.point ∷ enter n.GfmTableCell a.point ∷ first ∷ l)
         (one section (Within Text) second es at refl))
     go Delimiter =
-        by-pair (Goes Delimiter) is_divider n.GfmTableCellDivider pipe-name a b h
-        (first-goes Delimiter
+        by-pair (Proceeds Delimiter) is_divider n.GfmTableCellDivider pipe-name a b h
+        (first-proceeds Delimiter
         ∙ ap
         (λ (l : List Event). exit n.GfmTableDelimiterCell a.point ∷ enter n.GfmTableDelimiterCell a.point ∷ first ∷ l)
         (one section (Within Delimiter) second es at refl))
 
 -- and the last of its row.
-pub last-goes : (section : Section) (k : RowKind) (a b : Event) (es : List Event) → in_table section ≡ true →
+pub last-proceeds : (section : Section) (k : RowKind) (a b : Event) (es : List Event) → in_table section ≡ true →
     is_pair is_divider a b ≡ true → row_ends es ≡ true →
     tabled_from section (Within k) (a ∷ b ∷ es)
-    ≡ a ∷ b ∷ exit (cell_name k) b.point ∷ tabled_from section Behind es
-last-goes section k a b es at h last =
+    ≡ a ∷ b ∷ exit (cell_name k) b.point ∷ tabled_from section Following es
+last-proceeds section k a b es at h last =
     by-pair
     (λ (x y : Event).
     tabled_from section (Within k) (x ∷ y ∷ es)
-    ≡ x ∷ y ∷ exit (cell_name k) y.point ∷ tabled_from section Behind es)
+    ≡ x ∷ y ∷ exit (cell_name k) y.point ∷ tabled_from section Following es)
     is_divider n.GfmTableCellDivider pipe-name a b h
     ((one section (Within k) first (second ∷ es) at refl ∙ rw last refl)
     ∙ ap (λ (l : List Event). first ∷ l) (one section (row.Last k) second es at refl))
@@ -299,46 +300,47 @@ pub inner-begins : (section : Section) (k : RowKind) (e : Event) (es : List Even
     tabled_from section (Within k) (e ∷ es) ≡ enter (inner_name k) e.point ∷ e ∷ tabled_from section (Inner k) es
 inner-begins section k e es at h = go k h
   where
-    Goes : RowKind → Event → Type 0
-    Goes kind x =
+    Proceeds : RowKind → Event → Type 0
+    Proceeds kind x =
         tabled_from section (Within kind) (x ∷ es)
         ≡ enter (inner_name kind) x.point ∷ x ∷ tabled_from section (Inner kind) es
 
-    go : (kind : RowKind) → begins_inner kind e ≡ true → Goes kind e
+    go : (kind : RowKind) → begins_inner kind e ≡ true → Proceeds kind e
     go Text i =
-        begins (Goes Text) (is_inner Text) e i
-        (text-name (λ (m : Name). Goes Text (is Enter m e)) (one section (Within Text) (is Enter n.Data e) es at refl))
+        begins (Proceeds Text) (is_inner Text) e i
+        (text-name (λ (m : Name). Proceeds Text (is Enter m e))
+        (one section (Within Text) (is Enter n.Data e) es at refl))
     go Delimiter i =
-        begins (Goes Delimiter) (is_inner Delimiter) e i
-        (mark-name (λ (m : Name). Goes Delimiter (is Enter m e))
+        begins (Proceeds Delimiter) (is_inner Delimiter) e i
+        (mark-name (λ (m : Name). Proceeds Delimiter (is Enter m e))
         (one section (Within Delimiter) (is Enter n.GfmTableDelimiterMarker e) es at refl)
         (one section (Within Delimiter) (is Enter n.GfmTableDelimiterFiller e) es at refl))
 
 -- its end,
 pub inner-ends : (section : Section) (k : RowKind) (e : Event) (es : List Event) → in_table section ≡ true →
-    ends_inner k e ≡ true → goes_on k es ≡ false →
+    ends_inner k e ≡ true → is_continued k es ≡ false →
     tabled_from section (Inner k) (e ∷ es) ≡ e ∷ exit (inner_name k) e.point ∷ tabled_from section (Within k) es
 inner-ends section k e es at h whole = go k h whole
   where
-    Goes : RowKind → Event → Type 0
-    Goes kind x =
+    Proceeds : RowKind → Event → Type 0
+    Proceeds kind x =
         tabled_from section (Inner kind) (x ∷ es)
         ≡ x ∷ exit (inner_name kind) x.point ∷ tabled_from section (Within kind) es
 
-    go : (kind : RowKind) → ends_inner kind e ≡ true → goes_on kind es ≡ false → Goes kind e
+    go : (kind : RowKind) → ends_inner kind e ≡ true → is_continued kind es ≡ false → Proceeds kind e
     go Text i none =
-        ends (Goes Text) (is_inner Text) e i
-        (text-name (λ (m : Name). Goes Text (is Exit m e))
+        ends (Proceeds Text) (is_inner Text) e i
+        (text-name (λ (m : Name). Proceeds Text (is Exit m e))
         (one section (Inner Text) (is Exit n.Data e) es at refl ∙ rw none refl))
     go Delimiter i none =
-        ends (Goes Delimiter) (is_inner Delimiter) e i
-        (mark-name (λ (m : Name). Goes Delimiter (is Exit m e))
+        ends (Proceeds Delimiter) (is_inner Delimiter) e i
+        (mark-name (λ (m : Name). Proceeds Delimiter (is Exit m e))
         (one section (Inner Delimiter) (is Exit n.GfmTableDelimiterMarker e) es at refl ∙ rw none refl)
         (one section (Inner Delimiter) (is Exit n.GfmTableDelimiterFiller e) es at refl ∙ rw none refl))
 
 -- and both at once.
 pub inner-whole : (section : Section) (k : RowKind) (a b : Event) (es : List Event) → in_table section ≡ true →
-    is_pair (is_inner k) a b ≡ true → goes_on k es ≡ false →
+    is_pair (is_inner k) a b ≡ true → is_continued k es ≡ false →
     tabled_from section (Within k) (a ∷ b ∷ es)
     ≡ enter (inner_name k) a.point ∷ a ∷ b ∷ exit (inner_name k) b.point ∷ tabled_from section (Within k) es
 inner-whole section k a b es at h whole =
@@ -349,7 +351,7 @@ inner-whole section k a b es at h whole =
 -- What is given so is what the walk gives in all.
 pub gives : (old new given before after : List Event) → new ≡ old ++ given → before ≡ given ++ after →
     new ++ after ≡ old ++ before
-gives old new given before after put goes = rw (put, goes) (append_assoc old given after)
+gives old new given before after put proceeds = rw (put, proceeds) (append_assoc old given after)
 
 -- The first two of some events.
 pub two-first : (events : List Event) (d : Event) → 2 ≤ length events →

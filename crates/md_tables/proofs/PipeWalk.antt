@@ -7,10 +7,10 @@ use Rattle.md_meaning.specs.Rest.{is_blank}
 use Rattle.md_events.specs.Events.Nested.{enter, exit}
 use Rattle.md_events.specs.Events.Places.{past_byte}
 use Rattle.md_tables.specs.Cells.{cell_name, celled, divider_step, has_white, is_white, row_ends}
-use Rattle.md_tables.specs.RowCells.{Cells, Divides, Shut, behind_pipe, cell_by, white_part}
+use Rattle.md_tables.specs.RowCells.{Cells, Divides, Shut, after_pipe, cell_by, white_part}
 use Rattle.md_tables.specs.declared.cells.RowKind.{RowKind}
-use Rattle.md_tables.specs.declared.cells.Stage.TheVariants.{Behind, Within}
-use Rattle.md_tables.proofs.RowCellLemmas.{behind_first, cells-begin, left_of}
+use Rattle.md_tables.specs.declared.cells.Stage.TheVariants.{Following, Within}
+use Rattle.md_tables.proofs.RowCellLemmas.{following_first, cells-begin, left_of}
 
 -- the runs that it begins
 abbrev pub pipe_runs : List Event → Point → List Event
@@ -22,20 +22,20 @@ dark-looks e [] h = refl
 dark-looks e (f ∷ es) h = rw h refl
 
 -- after the last pipe whitespace passes
-pub white-behind : (w : List ℕ) (p : Point) (end : List Event) → celled Behind end ≡ end →
-    celled Behind (white_part w p ++ end) ≡ white_part w p ++ end
+pub white-following : (w : List ℕ) (p : Point) (end : List Event) → celled Following end ≡ end →
+    celled Following (white_part w p ++ end) ≡ white_part w p ++ end
 unfolding celled
-white-behind [] p end h = h
-white-behind (b ∷ w) p end h = ap (λ (es : List Event). white_part (b ∷ w) p ++ es) h
+white-following [] p end h = h
+white-following (b ∷ w) p end h = ap (λ (es : List Event). white_part (b ∷ w) p ++ es) h
 
 pub pipe-walk : (k : RowKind) (part : List ℕ → Point → List Event) (bs : List ℕ) (cells : Cells) (p : Point)
     (rest end : List Event) →
     row_ends rest ≡ is_blank bs →
-    (is_blank bs ≡ true → celled Behind rest ≡ white_part bs (past_byte 124 p) ++ end) →
+    (is_blank bs ≡ true → celled Following rest ≡ white_part bs (past_byte 124 p) ++ end) →
     celled (Within k) rest ≡ left_of (cell_name k) part (cell_by part) cells (past_byte 124 p) ++ end →
-    celled (Within k) (pipe_runs rest p) ≡ behind_first (cell_name k) part (behind_pipe bs cells) p ++ end
+    celled (Within k) (pipe_runs rest p) ≡ following_first (cell_name k) part (after_pipe bs cells) p ++ end
 unfolding celled
-pipe-walk k part bs cells p rest end last behind start = go (is_blank bs) refl
+pipe-walk k part bs cells p rest end last following start = go (is_blank bs) refl
   where
     q : Point
     q = past_byte 124 p
@@ -46,14 +46,14 @@ pipe-walk k part bs cells p rest end last behind start = go (is_blank bs) refl
         ++ celled (divider_step k (enter n.GfmTableCellDivider p) last).stage (exit n.GfmTableCellDivider q ∷ rest)
 
     wanted : Bool → List Event
-    wanted last = behind_first (cell_name k) part (cond last (Shut [] bs) (Divides [] cells)) p ++ end
+    wanted last = following_first (cell_name k) part (cond last (Shut [] bs) (Divides [] cells)) p ++ end
 
     go : (x : Bool) → is_blank bs ≡ x → given (row_ends rest) ≡ wanted (is_blank bs)
     go true h =
         ap given (last ∙ h)
         ∙ ap
         (λ (es : List Event).
-        enter n.GfmTableCellDivider p ∷ exit n.GfmTableCellDivider q ∷ exit (cell_name k) q ∷ es) (behind h)
+        enter n.GfmTableCellDivider p ∷ exit n.GfmTableCellDivider q ∷ exit (cell_name k) q ∷ es) (following h)
         ∙ sym (ap wanted h)
     go false h =
         ap given (last ∙ h)

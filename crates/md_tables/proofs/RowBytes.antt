@@ -14,7 +14,7 @@ use Rattle.md_leaves.proofs.TitleTexts.{front-passes}
 use Rattle.md_events.specs.Events.Places.{past_text}
 use Rattle.md_events.proofs.FeedLines.{drop-past, past_text-whole, slice-front}
 use Rattle.md_events.proofs.InlineLemmas.{past-index, past-vs}
-use Rattle.md_tables.specs.RowCells.{Cells, Divides, Ends, Shut, behind_pipe, cells_of, line_cells, onto, white_back}
+use Rattle.md_tables.specs.RowCells.{Cells, Divides, Ends, Shut, after_pipe, cells_of, line_cells, onto, white_back}
 use Rattle.md_tables.specs.RowCells.{white_front}
 use Rattle.md_tables.proofs.WhiteEnds.{end-whole, front-none, front-one}
 
@@ -40,9 +40,9 @@ piped-bytes (Ends cell) = refl
 piped-bytes (Shut cell white) = refl
 piped-bytes (Divides cell cells) = refl
 
-behind-bytes : (bs : List ℕ) (cells : Cells) → cells_bytes false cells ≡ bs →
-    cells_bytes false (behind_pipe bs cells) ≡ 124 ∷ bs
-behind-bytes bs cells e = go (is_blank bs)
+following-bytes : (bs : List ℕ) (cells : Cells) → cells_bytes false cells ≡ bs →
+    cells_bytes false (after_pipe bs cells) ≡ 124 ∷ bs
+following-bytes bs cells e = go (is_blank bs)
   where
     go : (x : Bool) → cells_bytes false (cond x (Shut [] bs) (Divides [] cells)) ≡ 124 ∷ bs
     go true = refl
@@ -57,9 +57,9 @@ bytes-of true (b ∷ bs) = onto-bytes b (cells_of false bs) ∙ ap (λ (xs : Lis
 bytes-of false (b ∷ bs) = go (nat_eq b 124) refl (λ x. bytes-of x bs)
   where
     go : (y : Bool) → nat_eq b 124 ≡ y → ((x : Bool) → cells_bytes false (cells_of x bs) ≡ bs) →
-        cells_bytes false (cond y (behind_pipe bs (cells_of false bs)) (onto b (cells_of (nat_eq b 92) bs))) ≡ b ∷ bs
+        cells_bytes false (cond y (after_pipe bs (cells_of false bs)) (onto b (cells_of (nat_eq b 92) bs))) ≡ b ∷ bs
     go true k more =
-        behind-bytes bs (cells_of false bs) (more false) ∙ ap (λ (c : ℕ). c ∷ bs) (sym (eqb-true b 124 k))
+        following-bytes bs (cells_of false bs) (more false) ∙ ap (λ (c : ℕ). c ∷ bs) (sym (eqb-true b 124 k))
     go false k more = onto-bytes b (cells_of (nat_eq b 92) bs) ∙ ap (λ (xs : List ℕ). b ∷ xs) (more (nat_eq b 92))
 
 -- and so are those of a line, with the pipe before them
@@ -87,24 +87,24 @@ cell-whole x = front-whole x ∙ ap (λ (xs : List ℕ). white_front x ++ xs) (e
 -- Where they are.
 
 -- these bytes are at a point of a text, and no tab is cut there
-pub record Stands (bytes : List ℕ) (p : Point) (xs : List ℕ) : Type 0 where
-  pub behind : List ℕ
-  pub text : drop p.index bytes ≡ xs ++ behind
+pub record Valid (bytes : List ℕ) (p : Point) (xs : List ℕ) : Type 0 where
+  pub following : List ℕ
+  pub text : drop p.index bytes ≡ xs ++ following
   pub whole : p.vs ≡ 0
 
-pub stands-first : (bytes : List ℕ) (p : Point) (xs ys : List ℕ) → Stands bytes p (xs ++ ys) →
+pub valid-first : (bytes : List ℕ) (p : Point) (xs ys : List ℕ) → Valid bytes p (xs ++ ys) →
     slice_range bytes p.index (past_text xs p).index ≡ xs
-stands-first bytes p xs ys is =
-    slice-front bytes p.index (past_text xs p).index xs (ys ++ is.behind) (is.text ∙ append_assoc xs ys is.behind)
+valid-first bytes p xs ys is =
+    slice-front bytes p.index (past_text xs p).index xs (ys ++ is.following) (is.text ∙ append_assoc xs ys is.following)
     (past-index xs p)
 
-pub stands-next : (bytes : List ℕ) (p : Point) (xs ys : List ℕ) → Stands bytes p (xs ++ ys) →
-    Stands bytes (past_text xs p) ys
-stands-next bytes p xs ys is = record {
-  behind = is.behind;
+pub valid-next : (bytes : List ℕ) (p : Point) (xs ys : List ℕ) → Valid bytes p (xs ++ ys) →
+    Valid bytes (past_text xs p) ys
+valid-next bytes p xs ys is = record {
+  following = is.following;
   text =
       ap (λ (i : ℕ). drop i bytes) (past-index xs p)
-      ∙ drop-past bytes p.index xs (ys ++ is.behind) (is.text ∙ append_assoc xs ys is.behind);
+      ∙ drop-past bytes p.index xs (ys ++ is.following) (is.text ∙ append_assoc xs ys is.following);
   whole = past_text-whole xs p is.whole;
 }
 
@@ -119,14 +119,14 @@ start-whole (b ∷ bs) p h = go (is_white b) refl
     go false e = ap (λ (w : List ℕ). (past_text w p).vs) (front-none b bs e) ∙ h e
 
 -- after it a line is
-pub stands-line : (bytes line behind : List ℕ) (p : Point) → drop p.index bytes ≡ line ++ behind →
-    (begins is_white line ≡ false → p.vs ≡ 0) → Stands bytes (past_text (white_front line) p) (trim_start line)
-stands-line bytes line behind p text whole = record {
-  behind = behind;
+pub valid-line : (bytes line following : List ℕ) (p : Point) → drop p.index bytes ≡ line ++ following →
+    (begins is_white line ≡ false → p.vs ≡ 0) → Valid bytes (past_text (white_front line) p) (trim_start line)
+valid-line bytes line following p text whole = record {
+  following = following;
   text =
       ap (λ (i : ℕ). drop i bytes) (past-index (white_front line) p)
-      ∙ drop-past bytes p.index (white_front line) (trim_start line ++ behind)
-      (text ∙ ap (λ (x : List ℕ). x ++ behind) (front-whole line)
-      ∙ append_assoc (white_front line) (trim_start line) behind);
+      ∙ drop-past bytes p.index (white_front line) (trim_start line ++ following)
+      (text ∙ ap (λ (x : List ℕ). x ++ following) (front-whole line)
+      ∙ append_assoc (white_front line) (trim_start line) following);
   whole = start-whole line p whole;
 }

@@ -10,7 +10,7 @@ use Rattle.md_events.specs.Events.Nested.{enter, enter_link, exit}
 use Rattle.md_events.specs.Events.Places.{past_byte, past_text}
 use Rattle.md_events.proofs.RestLines.{trim-white}
 use Rattle.md_tables.specs.Row.{text_link}
-use Rattle.md_tables.specs.RowCells.{Cells, Divides, Ends, Shut, behind_pipe, cell_by, cell_inside, cells_by, cells_of}
+use Rattle.md_tables.specs.RowCells.{Cells, Divides, Ends, Shut, after_pipe, cell_by, cell_inside, cells_by, cells_of}
 use Rattle.md_tables.specs.RowCells.{first_pipe}
 use Rattle.md_tables.specs.RowCells.{onto, past_pipe, pipe_part, text_part, unread_text}
 use Rattle.md_tables.specs.RowCells.{white_back, white_front, white_part}
@@ -128,16 +128,16 @@ first_cell (Shut cell white) = cell
 first_cell (Divides cell cells) = cell
 
 -- what follows what the first one holds
-abbrev pub behind_first : Name → (List ℕ → Point → List Event) → Cells → Point → List Event
-behind_first name part (Ends cell) p = exit name p ∷ []
-behind_first name part (Shut cell white) p =
+abbrev pub following_first : Name → (List ℕ → Point → List Event) → Cells → Point → List Event
+following_first name part (Ends cell) p = exit name p ∷ []
+following_first name part (Shut cell white) p =
     pipe_part p ++ exit name (past_byte 124 p) ∷ white_part white (past_byte 124 p)
-behind_first name part (Divides cell cells) p = exit name p ∷ cells_by name part true cells p
+following_first name part (Divides cell cells) p = exit name p ∷ cells_by name part true cells p
 
 -- what is left of cells, by what is left of what the first holds
 abbrev pub left_of : Name → (List ℕ → Point → List Event) → (List ℕ → Point → List Event) → Cells → Point → List Event
 left_of name part left cells p =
-    left (first_cell cells) p ++ behind_first name part cells (past_text (first_cell cells) p)
+    left (first_cell cells) p ++ following_first name part cells (past_text (first_cell cells) p)
 
 -- the first begins
 pub cells-begin : (name : Name) (part : List ℕ → Point → List Event) (piped : Bool) (cells : Cells) (p : Point) →
@@ -156,14 +156,14 @@ first-onto b (Divides cell cells) = refl
 
 pub onto-left : (name : Name) (part left : List ℕ → Point → List Event) (b : ℕ) (cells : Cells) (p : Point) →
     left_of name part left (onto b cells) p ≡
-    left (b ∷ first_cell cells) p ++ behind_first name part cells (past_text (first_cell cells) (past_byte b p))
+    left (b ∷ first_cell cells) p ++ following_first name part cells (past_text (first_cell cells) (past_byte b p))
 onto-left name part left b (Ends cell) p = refl
 onto-left name part left b (Shut cell white) p = refl
 onto-left name part left b (Divides cell cells) p = refl
 
 -- at a pipe nothing is left of the first
-pub first-behind : (bs : List ℕ) (cells : Cells) → first_cell (behind_pipe bs cells) ≡ []
-first-behind bs cells = go (is_blank bs)
+pub first-following : (bs : List ℕ) (cells : Cells) → first_cell (after_pipe bs cells) ≡ []
+first-following bs cells = go (is_blank bs)
   where
     go : (x : Bool) → first_cell (cond x (Shut [] bs) (Divides [] cells)) ≡ []
     go true = refl
@@ -186,7 +186,7 @@ cells-white true b bs e = cells-escaped b bs
 cells-white false b bs e =
     cells-other b bs (white-apart b 124 e refl) ∙ ap (λ (x : Bool). onto b (cells_of x bs)) (white-apart b 92 e refl)
 
-pub cells-pipe : (bs : List ℕ) → cells_of false (124 ∷ bs) ≡ behind_pipe bs (cells_of false bs)
+pub cells-pipe : (bs : List ℕ) → cells_of false (124 ∷ bs) ≡ after_pipe bs (cells_of false bs)
 unfolding cells_of
 cells-pipe bs = refl
 

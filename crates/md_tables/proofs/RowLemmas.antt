@@ -11,11 +11,11 @@ use Rattle.md_events.specs.Ahead.{begins_white}
 use Rattle.md_events.specs.Events.Nested.{enter, exit}
 use Rattle.md_events.proofs.AheadLemmas.{white-no_ending}
 use Rattle.md_tables.specs.declared.row.Row.{Row}
-use Rattle.md_tables.specs.RowRule.{Apart, Escaped, Run, Text, White, at_break, begun, closes, goes_on, in_row}
+use Rattle.md_tables.specs.RowRule.{Apart, Escaped, Run, Text, White, at_break, begun, closes, is_continued, in_row}
 use Rattle.md_tables.specs.RowRule.{in_text, next, opens}
 
 -- a run continues
-pub run-more : (r : Row) (run : Run) (c : Cell) (cs : List Cell) (h : Here) → goes_on run c.byte ≡ true →
+pub run-more : (r : Row) (run : Run) (c : Cell) (cs : List Cell) (h : Here) → is_continued run c.byte ≡ true →
     nat_eq c.byte 10 ≡ false →
     in_row r run (c ∷ cs) h ≡ in_row r (next run c.byte) cs (record h { point = c.after })
 unfolding in_row
@@ -29,7 +29,7 @@ unfolding in_row
 run-begins r c cs h ending = rw ending (simp append_assoc)
 
 -- a run ends
-pub run-ends : (r : Row) (run : Run) (c : Cell) (cs : List Cell) (h : Here) → goes_on run c.byte ≡ false →
+pub run-ends : (r : Row) (run : Run) (c : Cell) (cs : List Cell) (h : Here) → is_continued run c.byte ≡ false →
     nat_eq c.byte 10 ≡ false →
     in_row r run (c ∷ cs) h ≡ in_row r Apart (c ∷ cs) (record h { events = h.events ++ closes run h.point })
 unfolding in_row

@@ -9,22 +9,22 @@ use Rattle.md_engine.specs.declared.event.Name.TheVariants as parts
 use Rattle.md_engine.specs.declared.state.State.{State}
 use Rattle.md_engine.specs.declared.state.State.TheVariants.{Next}
 use Rattle.md_engine.specs.declared.tokenizer.Frame.{Frame}
-use Rattle.md_engine.specs.Meaning.{Accepts, Behaviour, Cell, Feed, Here, Steps, goes, here}
+use Rattle.md_engine.specs.Meaning.{Accepts, Behaviour, Cell, Feed, Here, Steps, proceeds, here}
 use Rattle.md_engine.specs.World.{World, after}
 use Rattle.md_engine.specs.Sees.{Sees, ahead, cell_here}
 use Rattle.md_engine.proofs.StepOf.{begins, moves, passes, steps-as}
 use Rattle.md_meaning.specs.Rest.{is_white}
-use Rattle.md_leaves.proofs.LeafSteps.{behind-joined, sees-one, white-run, white_frame}
+use Rattle.md_leaves.proofs.LeafSteps.{following-joined, sees-one, white-run, white_frame}
 use Rattle.md_leaves.proofs.BreakLemmas.{white-apart}
 use Rattle.md_events.specs.Ahead.{white_rest}
 use Rattle.md_events.specs.Events.Nested.{enter, exit}
 use Rattle.md_events.specs.Spaces.{IsRest, any_size, calmed, sees_white}
 use Rattle.md_events.specs.Transition.{Transition}
 use Rattle.md_events.proofs.WhiteMeaning.{begins-seen, white-tried}
-use Rattle.md_tables.specs.Row.{Divides, Ends, Escapes, Other, Piece, White as Space, at_break_code, behind_part, begun}
+use Rattle.md_tables.specs.Row.{Divides, Ends, Escapes, Other, Piece, White as Space, at_break_code, after_part, begun}
 use Rattle.md_tables.specs.Row.{data_code, escape_code, is_escaped, is_text, name_at, piece, row_transition, text_link}
-use Rattle.md_tables.specs.RowRule.{Apart, Escaped, HasRow, Pipe, RowMeans, Run, Text, White, at_break, closes, goes_on}
-use Rattle.md_tables.specs.RowRule.{begun as run_begun, in_row, in_text, opens, row_closes, row_opens}
+use Rattle.md_tables.specs.RowRule.{Apart, Escaped, HasRow, Pipe, RowMeans, Run, Text, White, at_break, closes}
+use Rattle.md_tables.specs.RowRule.{is_continued, begun as run_begun, in_row, in_text, opens, row_closes, row_opens}
 use Rattle.md_tables.specs.declared.row.Place.{Place}
 use Rattle.md_tables.specs.declared.row.Place.TheVariants as place
 use Rattle.md_tables.specs.declared.row.Row.{Row}
@@ -35,7 +35,7 @@ use Rattle.md_tables.proofs.RowLemmas.{run-ends_line, run-ends_none, run-more, t
 
 -- a run that does not continue with what is here ends
 run-stops : (feed : Feed) (w : World) (r : Row) (h : Here) (run : Run) (o : Option ℕ) →
-    ((b : ℕ) → o ≡ Some b → nat_eq b 10 ≡ false → goes_on run b ≡ false) →
+    ((b : ℕ) → o ≡ Some b → nat_eq b 10 ≡ false → is_continued run b ≡ false) →
     in_row r run (ahead feed w o) h ≡
     in_row r Apart (ahead feed w o) (record h { events = h.events ++ closes run h.point })
 run-stops feed w r h run None stops = run-ends_none r run h
@@ -59,42 +59,42 @@ white-here feed w r h s e =
     (sym saw.1)
 
 -- what is left after a part, in a step that adds these events
-behind_means : (B : Behaviour) (feed : Feed) (r : Row) (from : State) (w : World) (added : List Event) (x : Bool) →
+following_means : (B : Behaviour) (feed : Feed) (r : Row) (from : State) (w : World) (added : List Event) (x : Bool) →
     HasRow B r → Sees feed w → IsRest w.scratch → sees_white w.current ≡ x →
-    goes B from (feed w.point) (here w) ≡
+    proceeds B from (feed w.point) (here w) ≡
     in_row r Apart (feed w.point) (record (here w) { events = w.events ++ added }) →
-    (let left : Transition = behind_part r (record w { events = w.events ++ added }) x in
+    (let left : Transition = after_part r (record w { events = w.events ++ added }) x in
     Steps B feed from w left.to left.world)
-behind_means B feed r from w added true has s rest e same =
+following_means B feed r from w added true has s rest e same =
     let h : Here = record (here w) { events = w.events ++ added } in
     let frame : Frame = white_frame (Next (name_at r place.Break)) w h.events in
-    begins B feed from _ w (behind_part r (record w { events = h.events }) true).world added frame refl refl
+    begins B feed from _ w (after_part r (record w { events = h.events }) true).world added frame refl refl
     (same ∙ white-here feed w r h s e
     ∙ white-run _ (in_row r White) (at_break r) any_size (feed w.point)
     (record h { events = h.events ++ enter SpaceOrTab h.point ∷ [] }) (takes-white r) tt (omega (arith, s.short))
     ∙ ap (at_break r (white_rest any_size (feed w.point)))
-    (behind-joined any_size (feed w.point) h (ap calmed rest ∙ sym rest))
+    (following-joined any_size (feed w.point) h (ap calmed rest ∙ sym rest))
     ∙ sym (has.each place.Break _ _)
     ∙ white-tried B feed frame h.events (feed w.point) h 1 any_size has.white (begins-seen feed w s ∙ e) (omega arith)
     (omega arith) refl)
-behind_means B feed r from w added false has s rest e same =
+following_means B feed r from w added false has s rest e same =
     let h : Here = record (here w) { events = w.events ++ added } in
-    moves B feed from _ w (behind_part r (record w { events = h.events }) false).world added refl refl
+    moves B feed from _ w (after_part r (record w { events = h.events }) false).world added refl refl
     (same ∙ sym (apart-none r (feed w.point) h (begins-seen feed w s ∙ e)) ∙ sym (has.each place.Break _ _))
 
 -- Before a row.
 
 start_means : (B : Behaviour) (feed : Feed) (r : Row) (w : World) (x : Bool) → HasRow B r → Sees feed w →
     IsRest w.scratch → sees_white w.current ≡ x →
-    Steps B feed (Next (name_at r place.Start)) w (behind_part r (begun r w) x).to (behind_part r (begun r w) x).world
+    Steps B feed (Next (name_at r place.Start)) w (after_part r (begun r w) x).to (after_part r (begun r w) x).world
 start_means B feed Head w x has s rest e =
-    behind_means B feed Head (Next (name_at Head place.Start)) w (row_opens Head w.point) x has s rest e
+    following_means B feed Head (Next (name_at Head place.Start)) w (row_opens Head w.point) x has s rest e
     (has.each place.Start _ _)
 start_means B feed Body w x has s rest e =
     let two : begun Body w ≡ record w { events = w.events ++ row_opens Body w.point } =
     ap (λ (es : List Event). record w { events = es }) (append_assoc w.events _ _) in
     rw two
-    (behind_means B feed Body (Next (name_at Body place.Start)) w (row_opens Body w.point) x has s rest e
+    (following_means B feed Body (Next (name_at Body place.Start)) w (row_opens Body w.point) x has s rest e
     (has.each place.Start _ _))
 
 -- Between two parts.
@@ -126,17 +126,17 @@ abbrev is_slash : Piece → Bool
 is_slash Escapes = true
 is_slash _ = false
 
-record Told (b : ℕ) (x : Piece) : Type 0 where
+record Recorded (b : ℕ) (x : Piece) : Type 0 where
   pub ending : nat_eq b 10 ≡ is_end x
   pub white : is_white b ≡ is_space x
   pub pipe : nat_eq b 124 ≡ is_pipe x
   pub slash : nat_eq b 92 ≡ is_slash x
 
-told : (b : ℕ) → Told b (piece (Some b))
-told b = go (nat_eq b 10) (is_white b) (nat_eq b 124) (nat_eq b 92) refl refl refl refl
+recorded : (b : ℕ) → Recorded b (piece (Some b))
+recorded b = go (nat_eq b 10) (is_white b) (nat_eq b 124) (nat_eq b 92) refl refl refl refl
   where
     go : (x y z v : Bool) → nat_eq b 10 ≡ x → is_white b ≡ y → nat_eq b 124 ≡ z → nat_eq b 92 ≡ v →
-        Told b (piece (Some b))
+        Recorded b (piece (Some b))
     go true y z v h k l m =
         rw (eqb-true b 10 h) (record { ending = refl; white = refl; pipe = refl; slash = refl })
     go false true z v h k l m = record {
@@ -179,8 +179,8 @@ no-end Divides e = cc
 no-end Escapes e = refl
 no-end Other e = refl
 
-told-as : (b : ℕ) (x : Piece) → piece (Some b) ≡ x → Told b x
-told-as b x e = rw (← e) (told b)
+recorded-as : (b : ℕ) (x : Piece) → piece (Some b) ≡ x → Recorded b x
+recorded-as b x e = rw (← e) (recorded b)
 
 -- at the end of the line the row ends
 line-ends : (feed : Feed) (w : World) (r : Row) (h : Here) (o : Option ℕ) → piece o ≡ Ends →
@@ -188,7 +188,7 @@ line-ends : (feed : Feed) (w : World) (r : Row) (h : Here) (o : Option ℕ) → 
     Accepts (record h { events = h.events ++ row_closes r h.point }) (ahead feed w o)
 unfolding at_break in_row
 line-ends feed w r h None e = rw append-nil refl
-line-ends feed w r h (Some b) e = let t = told-as b Ends e in rw (t.white, t.ending, append-nil) refl
+line-ends feed w r h (Some b) e = let t = recorded-as b Ends e in rw (t.white, t.ending, append-nil) refl
 
 ends_means : (B : Behaviour) (feed : Feed) (r : Row) (w : World) → HasRow B r → Sees feed w → piece w.current ≡ Ends →
     Steps B feed (Next (name_at r place.Break)) w (at_break_code r w Ends).to (at_break_code r w Ends).world
@@ -229,7 +229,7 @@ divides_means : (B : Behaviour) (feed : Feed) (r : Row) (w : World) → HasRow B
     Steps B feed (Next (name_at r place.Break)) w (at_break_code r w Divides).to (at_break_code r w Divides).world
 divides_means B feed r w has s e =
     let saw = sees-piece feed w Divides s e (λ k. cc) in
-    let t = told-as saw.byte Divides saw.is in
+    let t = recorded-as saw.byte Divides saw.is in
     let c : Cell = cell_here feed w saw.byte in
     let cs : List Cell = feed (after w.setting w.point) in
     let p = after w.setting w.point in
@@ -244,7 +244,7 @@ divides_means B feed r w has s e =
     ∙ pipe-ends r cs h ∙ sym (has.each place.CellBefore _ _))
 
 -- a word begins with what is here
-word-here : (feed : Feed) (w : World) (r : Row) (h : Here) (x : Piece) (b : ℕ) → Told b x → is_text x ≡ true →
+word-here : (feed : Feed) (w : World) (r : Row) (h : Here) (x : Piece) (b : ℕ) → Recorded b x → is_text x ≡ true →
     feed w.point ≡ cell_here feed w b ∷ feed (after w.setting w.point) →
     at_break r (feed w.point) h ≡
     in_row r Text (feed w.point)
@@ -272,7 +272,7 @@ word_means B feed r w x has s e text =
     let saw = sees-piece feed w x s e (λ k. let no : false ≡ true = ap is_text (sym k) ∙ text in cc) in
     moves B feed _ _ w (at_break_code r w Other).world
     (record { kind = Enter; name = parts.Data; point = w.point; link = Some text_link } ∷ []) refl refl
-    (has.each place.Break _ _ ∙ word-here feed w r (here w) x saw.byte (told-as saw.byte x saw.is) text saw.next
+    (has.each place.Break _ _ ∙ word-here feed w r (here w) x saw.byte (recorded-as saw.byte x saw.is) text saw.next
     ∙ sym (has.each place.Data _ _))
 
 break_means : (B : Behaviour) (feed : Feed) (r : Row) (w : World) (x : Piece) → HasRow B r → Sees feed w →
@@ -289,33 +289,33 @@ break_means B feed r w Other has s e = word_means B feed r w Other has s e refl
 word_ends : (B : Behaviour) (feed : Feed) (r : Row) (w : World) (x : Piece) → HasRow B r → Sees feed w →
     IsRest w.scratch → piece w.current ≡ x → is_text x ≡ false →
     (let left : Transition =
-    behind_part r (record w { events = w.events ++ exit parts.Data w.point ∷ [] }) (is_space x) in
+    after_part r (record w { events = w.events ++ exit parts.Data w.point ∷ [] }) (is_space x) in
     Steps B feed (Next (name_at r place.Data)) w left.to left.world)
 word_ends B feed r w x has s rest e none =
-    behind_means B feed r (Next (name_at r place.Data)) w (exit parts.Data w.point ∷ []) (is_space x) has s rest
+    following_means B feed r (Next (name_at r place.Data)) w (exit parts.Data w.point ∷ []) (is_space x) has s rest
     (piece-white w.current ∙ ap is_space e)
     (has.each place.Data _ _
     ∙ rw s.next (run-stops feed w r (here w) Text w.current (λ b is ending. stops b is ending)))
   where
-    stops : (b : ℕ) → w.current ≡ Some b → nat_eq b 10 ≡ false → goes_on Text b ≡ false
+    stops : (b : ℕ) → w.current ≡ Some b → nat_eq b 10 ≡ false → is_continued Text b ≡ false
     stops b is ending =
-        let t = told-as b x (ap piece (sym is) ∙ e) in stops-at x t none (sym ending ∙ t.ending)
+        let t = recorded-as b x (ap piece (sym is) ∙ e) in stops-at x t none (sym ending ∙ t.ending)
       where
-        stops-at : (y : Piece) → Told b y → is_text y ≡ false → false ≡ is_end y → goes_on Text b ≡ false
+        stops-at : (y : Piece) → Recorded b y → is_text y ≡ false → false ≡ is_end y → is_continued Text b ≡ false
         stops-at Ends t none k = let no : false ≡ true = k in cc
         stops-at Space t none k = rw t.white refl
         stops-at Divides t none k = rw (t.white, t.pipe) refl
         stops-at Escapes t none k = let no : true ≡ false = none in cc
         stops-at Other t none k = let no : true ≡ false = none in cc
 
-word_goes : (B : Behaviour) (feed : Feed) (r : Row) (w : World) (x : Piece) (q : Place) (run : Run) → HasRow B r →
+word_continues : (B : Behaviour) (feed : Feed) (r : Row) (w : World) (x : Piece) (q : Place) (run : Run) → HasRow B r →
     Sees feed w → piece w.current ≡ x → is_text x ≡ true →
-    ((b : ℕ) → Told b x → in_text b ≡ run) →
+    ((b : ℕ) → Recorded b x → in_text b ≡ run) →
     ((cells : List Cell) (h : Here) → B (name_at r q) cells h ≡ in_row r run cells h) →
     Steps B feed (Next (name_at r place.Data)) w (Next (name_at r q)) (record w { point = after w.setting w.point })
-word_goes B feed r w x q run has s e text to next =
+word_continues B feed r w x q run has s e text to next =
     let saw = sees-piece feed w x s e (λ k. let no : false ≡ true = ap is_text (sym k) ∙ text in cc) in
-    let t = told-as saw.byte x saw.is in
+    let t = recorded-as saw.byte x saw.is in
     let c : Cell = cell_here feed w saw.byte in
     let cs : List Cell = feed (after w.setting w.point) in
     passes B feed _ _ w (record w { point = after w.setting w.point }) refl refl
@@ -332,9 +332,9 @@ data_means B feed r w Ends has s rest e = word_ends B feed r w Ends has s rest e
 data_means B feed r w Space has s rest e = word_ends B feed r w Space has s rest e refl
 data_means B feed r w Divides has s rest e = word_ends B feed r w Divides has s rest e refl
 data_means B feed r w Escapes has s rest e =
-    word_goes B feed r w Escapes place.Escape Escaped has s e refl (λ b t. rw t.slash refl) (has.each place.Escape)
+    word_continues B feed r w Escapes place.Escape Escaped has s e refl (λ b t. rw t.slash refl) (has.each place.Escape)
 data_means B feed r w Other has s rest e =
-    word_goes B feed r w Other place.Data Text has s e refl (λ b t. rw t.slash refl) (has.each place.Data)
+    word_continues B feed r w Other place.Data Text has s e refl (λ b t. rw t.slash refl) (has.each place.Data)
 
 -- After a backslash.
 
@@ -376,19 +376,19 @@ escape_means B feed r w false has s e =
 
 cell_before_means : (B : Behaviour) (feed : Feed) (r : Row) (w : World) (x : Bool) → HasRow B r → Sees feed w →
     IsRest w.scratch → sees_white w.current ≡ x →
-    Steps B feed (Next (name_at r place.CellBefore)) w (behind_part r w x).to (behind_part r w x).world
+    Steps B feed (Next (name_at r place.CellBefore)) w (after_part r w x).to (after_part r w x).world
 cell_before_means B feed r w x has s rest e =
     let same : record w { events = w.events ++ [] } ≡ w =
     ap (λ (es : List Event). record w { events = es }) (append-nil w.events) in
-    let on : goes B (Next (name_at r place.CellBefore)) (feed w.point) (here w) ≡
+    let on : proceeds B (Next (name_at r place.CellBefore)) (feed w.point) (here w) ≡
     in_row r Apart (feed w.point) (record (here w) { events = w.events ++ [] }) =
     has.each place.CellBefore _ _
     ∙ ap (λ (es : List Event). in_row r Apart (feed w.point) (record (here w) { events = es }))
     (sym (append-nil w.events)) in
     subst
     (λ (v : World).
-    Steps B feed (Next (name_at r place.CellBefore)) w (behind_part r v x).to (behind_part r v x).world) same
-    (behind_means B feed r (Next (name_at r place.CellBefore)) w [] x has s rest e on)
+    Steps B feed (Next (name_at r place.CellBefore)) w (after_part r v x).to (after_part r v x).world) same
+    (following_means B feed r (Next (name_at r place.CellBefore)) w [] x has s rest e on)
 
 -- each state of a row takes one step of what it means
 pub row_means : (B : Behaviour) (feed : Feed) (r : Row) (p : Place) (w : World) → HasRow B r → Sees feed w →

@@ -15,13 +15,14 @@ use Rattle.md_events.specs.Events.Inline.{line_end, pair_unless_empty, plain_chu
 use Rattle.md_events.specs.Events.Nested.{around, exit, pair}
 use Rattle.md_events.specs.Events.Places.{past_byte, past_text, same_place}
 use Rattle.md_events.specs.Events.Spelled.{AsCell, OpenLeaf, Reading, TableLeaf, Text, at_cell, at_row, begun, byte_at}
-use Rattle.md_events.specs.Events.Spelled.{first_told, on_last, on_leaf, read, role, text_to, told_at}
-use Rattle.md_events.proofs.SpelledLemmas.{Quiet, QuietOrEnding, Roles, read-from, read-inline, read-quiet, roles-append}
+use Rattle.md_events.specs.Events.Spelled.{first_recorded, on_last, on_leaf, read, role, text_to, recorded_at}
+use Rattle.md_events.proofs.SpelledLemmas.{Quiet, QuietOrEnding, Roles, read-from, read-inline, read-quiet}
+use Rattle.md_events.proofs.SpelledLemmas.{roles-append}
 use Rattle.md_tables.specs.RowCells.{Cells, Divides, Ends, Shut, cell_inside, cells_events, first_pipe, line_cells}
 use Rattle.md_tables.specs.RowCells.{past_pipe, pipe_part, read_text, row_events, text_part}
 use Rattle.md_tables.specs.RowCells.{white_back, white_front, white_part}
-use Rattle.md_tables.proofs.RowBytes.{Stands, cell-whole, cells_bytes, line-bytes, pipe_bytes, stands-first}
-use Rattle.md_tables.proofs.RowBytes.{stands-line, stands-next}
+use Rattle.md_tables.proofs.RowBytes.{Valid, cell-whole, cells_bytes, line-bytes, pipe_bytes, valid-first}
+use Rattle.md_tables.proofs.RowBytes.{valid-line, valid-next}
 use Rattle.md_tables.proofs.RowTexts.{held-cells, held_in}
 
 -- A table is open, and no text is being read: after these rows is one with these cells.
@@ -58,21 +59,21 @@ cell-begins r delimiter rows row =
     (on-last (λ (x : List (List ℕ)). x ++ [] ∷ []) rows row)
 
 -- a text ends, and is that of the last cell
-text-told : (bytes : List ℕ) (r : Reading) (delimiter : List ℕ) (rows : List (List (List ℕ))) (row : List (List ℕ))
+text-recorded : (bytes : List ℕ) (r : Reading) (delimiter : List ℕ) (rows : List (List (List ℕ))) (row : List (List ℕ))
     (p q : Point) (text : List ℕ) →
     text_to bytes q.index (begun p) ≡ text →
-    told_at bytes AsCell q (Some (begun p))
+    recorded_at bytes AsCell q (Some (begun p))
     (record (in_row r delimiter rows (row ++ [] ∷ [])) { text = Some (begun p) }) ≡
     in_row r delimiter rows (row ++ text ∷ [])
-text-told bytes r delimiter rows row p q text e =
+text-recorded bytes r delimiter rows row p q text e =
     ap
     (λ (all : List (List (List ℕ))).
     record r { leaf = Some (TableLeaf (record { delimiter = delimiter; rows = all })); text = None })
-    (on-last (on_last told) rows (row ++ [] ∷ [])
-    ∙ ap (λ (x : List (List ℕ)). rows ++ x ∷ []) (on-last told row [] ∙ ap (λ (t : List ℕ). row ++ t ∷ []) e))
+    (on-last (on_last recorded) rows (row ++ [] ∷ [])
+    ∙ ap (λ (x : List (List ℕ)). rows ++ x ∷ []) (on-last recorded row [] ∙ ap (λ (t : List ℕ). row ++ t ∷ []) e))
   where
-    told : List ℕ → List ℕ
-    told cell = first_told cell (text_to bytes q.index (begun p))
+    recorded : List ℕ → List ℕ
+    recorded cell = first_recorded cell (text_to bytes q.index (begun p))
 
 -- what the plain layer reads in it is not shown
 pair-quiet : (name : Name) (p q : Point) → QuietOrEnding (role name) → Roles QuietOrEnding (pair_unless_empty name p q)
@@ -92,15 +93,15 @@ said-quiet bytes p q =
 
 text-read : (bytes : List ℕ) (r : Reading) (delimiter : List ℕ) (rows : List (List (List ℕ))) (row : List (List ℕ))
     (text rest : List ℕ) (p : Point) →
-    Stands bytes p (text ++ rest) →
+    Valid bytes p (text ++ rest) →
     read bytes (in_row r delimiter rows (row ++ [] ∷ [])) (text_part (read_text bytes) text p) ≡
     in_row r delimiter rows (row ++ text ∷ [])
 text-read bytes r delimiter rows row [] rest p is = refl
 text-read bytes r delimiter rows row (b ∷ bs) rest p is =
     read-from bytes inside inside (read_text bytes p q) (exit n.GfmTableCellText q ∷ [])
     (read-inline bytes inside (begun p) (read_text bytes p q) refl (said-quiet bytes p q))
-    ∙ text-told bytes r delimiter rows row p q (b ∷ bs)
-    (ap (λ (i : ℕ). slice_range bytes i q.index) from ∙ stands-first bytes p (b ∷ bs) rest is)
+    ∙ text-recorded bytes r delimiter rows row p q (b ∷ bs)
+    (ap (λ (i : ℕ). slice_range bytes i q.index) from ∙ valid-first bytes p (b ∷ bs) rest is)
   where
     q : Point
     q = past_text (b ∷ bs) p
@@ -113,7 +114,7 @@ text-read bytes r delimiter rows row (b ∷ bs) rest p is =
 
 inside-read : (bytes : List ℕ) (r : Reading) (delimiter : List ℕ) (rows : List (List (List ℕ))) (row : List (List ℕ))
     (cell rest : List ℕ) (p : Point) →
-    Stands bytes p (cell ++ rest) →
+    Valid bytes p (cell ++ rest) →
     read bytes (in_row r delimiter rows (row ++ [] ∷ [])) (cell_inside (read_text bytes) cell p) ≡
     in_row r delimiter rows (row ++ trim cell ∷ [])
 inside-read bytes r delimiter rows row cell rest p is =
@@ -140,13 +141,13 @@ inside-read bytes r delimiter rows row cell rest p is =
         ap (λ (x : List ℕ). x ++ rest) (cell-whole cell) ∙ append_assoc (white_front cell) (trim cell ++ back) rest
         ∙ ap (λ (x : List ℕ). white_front cell ++ x) (append_assoc (trim cell) back rest)
 
-    text : Stands bytes q (trim cell ++ (back ++ rest))
-    text = stands-next bytes p (white_front cell) (trim cell ++ (back ++ rest)) (subst (Stands bytes p) whole is)
+    text : Valid bytes q (trim cell ++ (back ++ rest))
+    text = valid-next bytes p (white_front cell) (trim cell ++ (back ++ rest)) (subst (Valid bytes p) whole is)
 
 -- after its begin: the pipe before it, what it holds, and what else is not shown
 cell-read : (bytes : List ℕ) (r : Reading) (delimiter : List ℕ) (rows : List (List (List ℕ))) (row : List (List ℕ))
     (piped : Bool) (cell rest : List ℕ) (p end : Point) (more : List Event) →
-    Stands bytes (past_pipe piped p) (cell ++ rest) → Roles Quiet more →
+    Valid bytes (past_pipe piped p) (cell ++ rest) → Roles Quiet more →
     read bytes (in_row r delimiter rows row)
     (around n.GfmTableCell p end
     (first_pipe piped p ++ (cell_inside (read_text bytes) cell (past_pipe piped p) ++ more))) ≡
@@ -170,15 +171,15 @@ cell-read bytes r delimiter rows row piped cell rest p end more is quiet =
     after = in_row r delimiter rows (row ++ trim cell ∷ [])
 
 -- where it is
-past-pipe : (bytes : List ℕ) (piped : Bool) (p : Point) (xs : List ℕ) → Stands bytes p (pipe_bytes piped ++ xs) →
-    Stands bytes (past_pipe piped p) xs
-past-pipe bytes true p xs is = stands-next bytes p (124 ∷ []) xs is
+past-pipe : (bytes : List ℕ) (piped : Bool) (p : Point) (xs : List ℕ) → Valid bytes p (pipe_bytes piped ++ xs) →
+    Valid bytes (past_pipe piped p) xs
+past-pipe bytes true p xs is = valid-next bytes p (124 ∷ []) xs is
 past-pipe bytes false p xs is = is
 
 -- Cells.
 cells-read : (bytes : List ℕ) (r : Reading) (delimiter : List ℕ) (rows : List (List (List ℕ))) (row : List (List ℕ))
     (piped : Bool) (cells : Cells) (p : Point) →
-    Stands bytes p (cells_bytes piped cells) →
+    Valid bytes p (cells_bytes piped cells) →
     read bytes (in_row r delimiter rows row) (cells_events (read_text bytes) piped cells p) ≡
     in_row r delimiter rows (row ++ map trim (held_in cells))
 cells-read bytes r delimiter rows row piped (Ends cell) p is =
@@ -187,7 +188,7 @@ cells-read bytes r delimiter rows row piped (Ends cell) p is =
     (sym (append-nil (cell_inside (read_text bytes) cell q)))
     ∙ cell-read bytes r delimiter rows row piped cell [] p (past_text cell q) []
     (past-pipe bytes piped p (cell ++ [])
-    (subst (λ (x : List ℕ). Stands bytes p (pipe_bytes piped ++ x)) (sym (append-nil cell)) is)) tt
+    (subst (λ (x : List ℕ). Valid bytes p (pipe_bytes piped ++ x)) (sym (append-nil cell)) is)) tt
   where
     q : Point
     q = past_pipe piped p
@@ -215,7 +216,7 @@ cells-read bytes r delimiter rows row piped (Divides cell cells) p is =
     (sym (append-nil (cell_inside (read_text bytes) cell q)))
     ∙ cell-read bytes r delimiter rows row piped cell (cells_bytes true cells) p end [] here tt)
     ∙ cells-read bytes r delimiter rows (row ++ trim cell ∷ []) true cells end
-    (stands-next bytes q cell (cells_bytes true cells) here)
+    (valid-next bytes q cell (cells_bytes true cells) here)
     ∙ ap (in_row r delimiter rows) (append_assoc row (trim cell ∷ []) (map trim (held_in cells)))
   where
     q : Point
@@ -229,29 +230,29 @@ cells-read bytes r delimiter rows row piped (Divides cell cells) p is =
         let q = past_pipe piped p in
         around n.GfmTableCell p (past_text cell q) (first_pipe piped p ++ cell_inside (read_text bytes) cell q)
 
-    here : Stands bytes (past_pipe piped p) (cell ++ cells_bytes true cells)
+    here : Valid bytes (past_pipe piped p) (cell ++ cells_bytes true cells)
     here = past-pipe bytes piped p (cell ++ cells_bytes true cells) is
 
 -- A row.
 
 -- A row on a line adds its cells: no tab is cut where its first byte is no whitespace.
 pub row-read : (bytes : List ℕ) (r : Reading) (delimiter : List ℕ) (rows : List (List (List ℕ)))
-    (line behind : List ℕ) (p end : Point) →
-    drop p.index bytes ≡ line ++ behind → (begins is_white line ≡ false → p.vs ≡ 0) →
+    (line following : List ℕ) (p end : Point) →
+    drop p.index bytes ≡ line ++ following → (begins is_white line ≡ false → p.vs ≡ 0) →
     r.text ≡ None → r.leaf ≡ Some (TableLeaf (record { delimiter = delimiter; rows = rows })) →
     read bytes r (around n.GfmTableRow p end (row_events (read_text bytes) line p)) ≡
     record r {
       leaf = Some (TableLeaf (record { delimiter = delimiter; rows = rows ++ row_cells line ∷ [] }));
       text = None;
     }
-row-read bytes r delimiter rows line behind p end text whole none leaf =
+row-read bytes r delimiter rows line following p end text whole none leaf =
     ap (λ (x : Reading). read bytes x (inside ++ exit n.GfmTableRow end ∷ [])) begins
     ∙ read-from bytes empty full inside (exit n.GfmTableRow end ∷ [])
     (read-from bytes empty empty (white_part (white_front line) p) _
     (read-quiet bytes empty (white_part (white_front line) p) (white-quiet (white_front line) p))
     ∙ cells-read bytes r delimiter rows [] (begins_with 124 (trim_start line)) (line_cells (trim_start line)) q
-    (subst (Stands bytes q) (sym (line-bytes (trim_start line)))
-    (stands-line bytes line behind p text whole))
+    (subst (Valid bytes q) (sym (line-bytes (trim_start line)))
+    (valid-line bytes line following p text whole))
     ∙ ap (in_row r delimiter rows) (held-cells line))
   where
     q : Point

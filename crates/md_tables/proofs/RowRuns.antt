@@ -8,20 +8,21 @@ use Rattle.md_engine.specs.declared.event.Point.{Point}
 use Rattle.md_meaning.specs.Rest.{is_blank, is_white}
 use Rattle.md_events.specs.Events.Nested.{enter, enter_link, exit}
 use Rattle.md_events.specs.Events.Places.{past_byte, past_text}
-use Rattle.md_tables.specs.Cells.{begins_inner, ends_row, first_is, goes_on as text_goes_on, row_ends}
+use Rattle.md_tables.specs.Cells.{begins_inner, ends_row, first_is, is_continued as text_continued, row_ends}
 use Rattle.md_tables.specs.Row.{text_link}
 use Rattle.md_tables.specs.RowCells.{Cells, cell_inside, cells_of, onto, row_runs, text_part, unread_text, white_part}
 use Rattle.md_tables.specs.RowRule.{Apart, Escaped, Pipe, Run, Text as TextRun, White, opens}
 use Rattle.md_tables.specs.declared.cells.RowKind.TheVariants.{Text}
 use Rattle.md_tables.proofs.PipeWalk.{dark-looks, pipe_runs}
-use Rattle.md_tables.proofs.RowCellLemmas.{cells-other, cells-white, cells-pipe, cells-none, behind_first, first-behind}
-use Rattle.md_tables.proofs.RowCellLemmas.{first-onto, first_cell, left_of, onto-left, text_left, white_left}
+use Rattle.md_tables.proofs.RowCellLemmas.{cells-other, cells-white, cells-pipe, cells-none, following_first}
+use Rattle.md_tables.proofs.RowCellLemmas.{first-following, first-onto, first_cell, left_of, onto-left, text_left}
+use Rattle.md_tables.proofs.RowCellLemmas.{white_left}
 use Rattle.md_tables.proofs.WhiteEnds.{blank-first, dark-first}
 
 -- What is left of cells that hold texts: where the first begins, in the whitespace before its text, and in that.
 
-abbrev pub behind : Cells → Point → List Event
-behind cells p = behind_first n.GfmTableCell (text_part unread_text) cells p
+abbrev pub following : Cells → Point → List Event
+following cells p = following_first n.GfmTableCell (text_part unread_text) cells p
 
 abbrev pub left_by : (List ℕ → Point → List Event) → Cells → Point → List Event
 left_by left cells p = left_of n.GfmTableCell (text_part unread_text) left cells p
@@ -37,7 +38,7 @@ left_in_text cells p = left_by text_left cells p
 
 pub onto-by : (left : List ℕ → Point → List Event) (b : ℕ) (cells : Cells) (p : Point) →
     left_by left (onto b cells) p ≡
-    left (b ∷ first_cell cells) p ++ behind cells (past_text (first_cell cells) (past_byte b p))
+    left (b ∷ first_cell cells) p ++ following cells (past_text (first_cell cells) (past_byte b p))
 onto-by left b cells p = onto-left n.GfmTableCell (text_part unread_text) left b cells p
 
 -- What a byte does in a run.
@@ -122,7 +123,7 @@ blank-word b bs e k =
     ∙ dark-first b (first_cell (cells_of (nat_eq b 92) bs)) e
 
 pub blank-pipe : (bs : List ℕ) → is_blank (first_cell (cells_of false (124 ∷ bs))) ≡ true
-blank-pipe bs = ap is_blank (ap first_cell (cells-pipe bs) ∙ first-behind bs (cells_of false bs))
+blank-pipe bs = ap is_blank (ap first_cell (cells-pipe bs) ∙ first-following bs (cells_of false bs))
 
 -- Looks ahead.
 
@@ -133,15 +134,15 @@ row_end bs p = exit n.GfmTableRow (past_text bs p) ∷ []
 -- whitespace that continues: where it ends, and what follows it
 pub record WhiteRun (bs : List ℕ) (p : Point) : Type 0 where
   pub at : Point
-  pub behind : List Event
-  pub is : row_runs White bs p ++ row_end bs p ≡ exit n.SpaceOrTab at ∷ behind
-  pub ends : first_is ends_row behind ≡ is_blank bs
-  pub on : first_is (begins_inner Text) behind ≡ not (is_blank (first_cell (cells_of false bs)))
+  pub following : List Event
+  pub is : row_runs White bs p ++ row_end bs p ≡ exit n.SpaceOrTab at ∷ following
+  pub ends : first_is ends_row following ≡ is_blank bs
+  pub on : first_is (begins_inner Text) following ≡ not (is_blank (first_cell (cells_of false bs)))
 
 pub white-run : (bs : List ℕ) (p : Point) → WhiteRun bs p
 white-run [] p = record {
   at = p;
-  behind = row_end [] p;
+  following = row_end [] p;
   is = refl;
   ends = refl;
   on = sym (ap (λ (cells : Cells). not (is_blank (first_cell cells))) (cells-none false));
@@ -151,14 +152,14 @@ white-run (b ∷ bs) p = go (is_white b) refl (nat_eq b 124) refl (white-run bs 
     go : (x : Bool) → is_white b ≡ x → (y : Bool) → nat_eq b 124 ≡ y → WhiteRun bs (past_byte b p) → WhiteRun (b ∷ bs) p
     go true e y k more = record {
       at = more.at;
-      behind = more.behind;
+      following = more.following;
       is = ap (λ (es : List Event). es ++ row_end (b ∷ bs) p) (white-on b bs p e) ∙ more.is;
       ends = more.ends ∙ sym (blank-first b bs e);
       on = more.on ∙ sym (ap not (blank-white b bs e));
     }
     go false e true k more = record {
       at = p;
-      behind = piped bs p ++ row_end (124 ∷ bs) p;
+      following = piped bs p ++ row_end (124 ∷ bs) p;
       is =
           ap (λ (c : ℕ). row_runs White (c ∷ bs) p ++ row_end (c ∷ bs) p) (eqb-true b 124 k)
           ∙ ap (λ (es : List Event). es ++ row_end (124 ∷ bs) p) (pipe-white bs p);
@@ -170,7 +171,7 @@ white-run (b ∷ bs) p = go (is_white b) refl (nat_eq b 124) refl (white-run bs 
     }
     go false e false k more = record {
       at = p;
-      behind = word_runs b bs p ++ row_end (b ∷ bs) p;
+      following = word_runs b bs p ++ row_end (b ∷ bs) p;
       is = ap (λ (es : List Event). es ++ row_end (b ∷ bs) p) (white-word b bs p e k);
       ends = sym (dark-first b bs e);
       on = sym (ap not (blank-word b bs e k));
@@ -200,12 +201,12 @@ last-pipe (b ∷ bs) p = go (is_white b) refl (nat_eq b 124) refl
         ∙ sym (dark-first b bs e)
 
 -- a text continues after whitespace where a further word is there
-pub text-goes_on : (bs : List ℕ) (p q : Point) →
-    text_goes_on Text (enter n.SpaceOrTab q ∷ row_runs White bs p ++ row_end bs p) ≡
+pub text-is_continued : (bs : List ℕ) (p q : Point) →
+    text_continued Text (enter n.SpaceOrTab q ∷ row_runs White bs p ++ row_end bs p) ≡
     not (is_blank (first_cell (cells_of false bs)))
-text-goes_on bs p q =
+text-is_continued bs p q =
     let run = white-run bs p in
-    ap (λ (es : List Event). text_goes_on Text (enter n.SpaceOrTab q ∷ es)) run.is ∙ run.on
+    ap (λ (es : List Event). text_continued Text (enter n.SpaceOrTab q ∷ es)) run.is ∙ run.on
 
 -- Whitespace alone is one run.
 

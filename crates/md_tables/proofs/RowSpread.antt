@@ -11,14 +11,15 @@ use Rattle.md_tables.specs.RowRule as row
 use Rattle.md_tables.proofs.RunSpread.{AreSpread, bytes-run}
 
 row_turns : row.Run → Point → List Event → List Event
-row_turns run p es = cond (row.goes_on run 9) es (row.closes run p ++ row.opens row.White p ++ es)
+row_turns run p es = cond (row.is_continued run 9) es (row.closes run p ++ row.opens row.White p ++ es)
 
 row-are : AreSpread row.Run row.White row_turns row.runs row_runs
 unfolding row_turns
 row-are = record {
   none = λ run p. refl;
   byte = λ run b line cs bs p more.
-      ap₂ (λ (xs zs : List Event). cond (row.goes_on run b) xs (row.closes run p ++ row.opens (row.begun b) p ++ zs))
+      ap₂ (λ (xs zs : List Event). cond (row.is_continued run b) xs
+      (row.closes run p ++ row.opens (row.begun b) p ++ zs))
       (more (row.next run b)) (more (row.begun b));
   column = column;
   tab = tab;

@@ -15,7 +15,7 @@ use Rattle.md_meaning.specs.Rest.{is_white}
 use Rattle.md_events.specs.Spaces.{IsRest, any_size, calmed, rest_ready, sees_white}
 use Rattle.md_events.specs.Transition.{entered_link, exited, taken}
 use Rattle.md_events.proofs.SpacesTermination.{Does, WhiteFits, rest-calm, rest-none, seen-in, white_try}
-use Rattle.md_tables.specs.Row.{Divides, Ends as AtEnd, Escapes, Other, Piece, White, at_break_code, begun, behind_part}
+use Rattle.md_tables.specs.Row.{Divides, Ends as AtEnd, Escapes, Other, Piece, White, at_break_code, begun, after_part}
 use Rattle.md_tables.specs.Row.{data_code, escape_code, is_escaped, is_text, name_at, piece, row_scheme, row_transition}
 use Rattle.md_tables.specs.Row.{shut, text_link}
 use Rattle.md_tables.specs.declared.row.Place.{Place}
@@ -68,13 +68,13 @@ still-white w t s up e = go (seen (position w)) refl e
         ap (λ (o : Option ℕ). is_text (piece o)) (seen_grows (position w) t s b up is) ∙ white-no_text (Some b) e
 
 -- after a part of the row, from a state whose rank is above that of what follows
-good-behind : (T : Scheme) (r : Row) (p : Place) (w : World) (events : List Event) (x : Bool) → RowFits T r →
+good-following : (T : Scheme) (r : Row) (p : Place) (w : World) (events : List Event) (x : Bool) → RowFits T r →
     IsRest w.scratch → Ends IsRest IsRest (position w) (after_all T w.frames) →
     sees_white (seen (position w)) ≡ x → 1 < (row_scheme.rank (name_at r p) (position w)).number →
     (cond (is_text (piece (seen (position w)))) (ranked 2 refl) (ranked 0 refl)).number <
     (row_scheme.rank (name_at r p) (position w)).number →
-    Does T (name_at r p) w (behind_part r (record w { events = events }) x)
-good-behind T r p w events true has rest ends e lt less =
+    Does T (name_at r p) w (after_part r (record w { events = events }) x)
+good-following T r p w events true has rest ends e lt less =
     white_try T row_scheme (name_at r p) (name_at r place.Break) w events w.scratch 1 any_size IsRest IsRest has.white
     (has.each p) (has.each place.Break) (rest-none w.scratch rest) (λ some. rest-calm w.scratch rest) ends
     (λ q t up way. (rest-calm w.scratch rest, later_at _ _ (position w) _ q t _ up way ends))
@@ -82,7 +82,7 @@ good-behind T r p w events true has rest ends e lt less =
     (λ t up. rw (break-rank r (spot_at t w.point (calmed w.scratch)), still-white w t (calmed w.scratch) up e)
     (omega arith))
     lt
-good-behind T r p w events false has rest ends e lt less = (
+good-following T r p w events false has rest ends e lt less = (
   turns T row_scheme (name_at r p) (name_at r place.Break) w events w.scratch (has.each p) (has.each place.Break) (
     rest,
     later IsRest IsRest (position w) (after_all T w.frames) w.point w.scratch (stays w.setting.limit w.point) ends,
@@ -101,12 +101,12 @@ before-rank Body x = refl
 
 start_ends : (T : Scheme) (r : Row) (w : World) (x : Bool) → RowFits T r →
     rest_ready (position w) (after_all T w.frames) →
-    sees_white (seen (position w)) ≡ x → Does T (name_at r place.Start) w (behind_part r (begun r w) x)
+    sees_white (seen (position w)) ≡ x → Does T (name_at r place.Start) w (after_part r (begun r w) x)
 start_ends T Head w x has r e =
-    good-behind T Head place.Start w (begun Head w).events x has r.0 r.1 e (omega arith)
+    good-following T Head place.Start w (begun Head w).events x has r.0 r.1 e (omega arith)
     (low (is_text (piece (seen (position w)))))
 start_ends T Body w x has r e =
-    good-behind T Body place.Start w (begun Body w).events x has r.0 r.1 e (omega arith)
+    good-following T Body place.Start w (begun Body w).events x has r.0 r.1 e (omega arith)
     (low (is_text (piece (seen (position w)))))
 
 -- the end of the row, and the begin of a word
@@ -171,9 +171,9 @@ sees_text o = is_text (piece o)
 word_end_ends : (T : Scheme) (r : Row) (w : World) (x : Bool) → RowFits T r →
     rest_ready (position w) (after_all T w.frames) → is_text (piece (seen (position w))) ≡ false →
     sees_white (seen (position w)) ≡ x →
-    Does T (name_at r place.Data) w (behind_part r (exited w parts.Data) x)
+    Does T (name_at r place.Data) w (after_part r (exited w parts.Data) x)
 word_end_ends T r w x has rest none e =
-    good-behind T r place.Data w (exited w parts.Data).events x has rest.0 rest.1 e
+    good-following T r place.Data w (exited w parts.Data).events x has rest.0 rest.1 e
     (rw (data-rank r (position w), none) (omega arith)) (rw (data-rank r (position w), none) (omega arith))
 
 -- whether a piece is whitespace
@@ -222,9 +222,9 @@ escape_ends T r w false has rest e = (
 
 cell_before_ends : (T : Scheme) (r : Row) (w : World) (x : Bool) → RowFits T r →
     rest_ready (position w) (after_all T w.frames) → sees_white (seen (position w)) ≡ x →
-    Does T (name_at r place.CellBefore) w (behind_part r w x)
+    Does T (name_at r place.CellBefore) w (after_part r w x)
 cell_before_ends T r w x has rest e =
-    good-behind T r place.CellBefore w w.events x has rest.0 rest.1 e
+    good-following T r place.CellBefore w w.events x has rest.0 rest.1 e
     (rw (before-rank r (position w)) (omega arith))
     (rw (before-rank r (position w)) (low (is_text (piece (seen (position w))))))
 

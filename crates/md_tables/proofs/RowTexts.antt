@@ -6,9 +6,9 @@ use Rattle.md_meaning.specs.Bytes.{after_optional, is_end}
 use Rattle.md_meaning.specs.Rest.{is_blank, is_white, trim, trim_end, trim_start}
 use Rattle.md_meaning.specs.Table.{pieces, row_cells}
 use Rattle.md_events.proofs.RestLines.{trim-white}
-use Rattle.md_tables.specs.RowCells.{Cells, Divides, Ends, Shut, behind_pipe, cells_of, line_cells, onto, white_back}
+use Rattle.md_tables.specs.RowCells.{Cells, Divides, Ends, Shut, after_pipe, cells_of, line_cells, onto, white_back}
 use Rattle.md_tables.proofs.CellLemmas.{dark-next, ends_dark, trimmed-dark}
-use Rattle.md_tables.proofs.WhiteEnds.{back-blank, blank-both, blank-light, end-behind}
+use Rattle.md_tables.proofs.WhiteEnds.{back-blank, blank-both, blank-light, end-following}
 use Rattle.md_tables.proofs.WhiteEnds.{end-blank, end-whole, start-none}
 use Rattle.md_leaves.proofs.BreakLemmas.{white-apart}
 
@@ -31,9 +31,9 @@ onto-widened w b (Ends cell) = refl
 onto-widened w b (Shut cell white) = refl
 onto-widened w b (Divides cell cells) = refl
 
-behind-widened : (w bs : List ℕ) (cells : Cells) → is_blank w ≡ true →
-    behind_pipe (bs ++ w) (widened w cells) ≡ widened w (behind_pipe bs cells)
-behind-widened w bs cells h =
+following-widened : (w bs : List ℕ) (cells : Cells) → is_blank w ≡ true →
+    after_pipe (bs ++ w) (widened w cells) ≡ widened w (after_pipe bs cells)
+following-widened w bs cells h =
     ap (λ (t : Bool). cond t (Shut [] (bs ++ w)) (Divides [] (widened w cells))) (blank-both bs w h) ∙ go (is_blank bs)
   where
     go : (x : Bool) →
@@ -61,9 +61,9 @@ cells-widened true w (b ∷ bs) h =
 cells-widened false w (b ∷ bs) h = go (nat_eq b 124) (λ x. cells-widened x w bs h)
   where
     go : (y : Bool) → ((x : Bool) → cells_of x (bs ++ w) ≡ widened w (cells_of x bs)) →
-        cond y (behind_pipe (bs ++ w) (cells_of false (bs ++ w))) (onto b (cells_of (nat_eq b 92) (bs ++ w))) ≡
-        widened w (cond y (behind_pipe bs (cells_of false bs)) (onto b (cells_of (nat_eq b 92) bs)))
-    go true more = ap (behind_pipe (bs ++ w)) (more false) ∙ behind-widened w bs (cells_of false bs) h
+        cond y (after_pipe (bs ++ w) (cells_of false (bs ++ w))) (onto b (cells_of (nat_eq b 92) (bs ++ w))) ≡
+        widened w (cond y (after_pipe bs (cells_of false bs)) (onto b (cells_of (nat_eq b 92) bs)))
+    go true more = ap (after_pipe (bs ++ w)) (more false) ∙ following-widened w bs (cells_of false bs) h
     go false more = ap (onto b) (more (nat_eq b 92)) ∙ onto-widened w b (cells_of (nat_eq b 92) bs)
 
 -- it is none of what a cell has
@@ -73,19 +73,19 @@ blank-started (b ∷ w) h =
     let both = and_parts (is_white b) (is_blank w) h in
     ap is_blank (trim-white b w both.0) ∙ blank-started w both.1
 
-trim-behind : (x w : List ℕ) → is_blank w ≡ true → trim (x ++ w) ≡ trim x
-trim-behind [] w h = (end-blank (trim_start w) (blank-started w h)).0
-trim-behind (b ∷ x) w h = go (is_white b) refl (trim-behind x w h)
+trim-following : (x w : List ℕ) → is_blank w ≡ true → trim (x ++ w) ≡ trim x
+trim-following [] w h = (end-blank (trim_start w) (blank-started w h)).0
+trim-following (b ∷ x) w h = go (is_white b) refl (trim-following x w h)
   where
     go : (t : Bool) → is_white b ≡ t → trim (x ++ w) ≡ trim x → trim (b ∷ x ++ w) ≡ trim (b ∷ x)
     go true e more =
         ap trim_end (trim-white b (x ++ w) e) ∙ more ∙ sym (ap trim_end (trim-white b x e))
     go false e more =
-        ap trim_end (start-none b (x ++ w) e) ∙ end-behind (b ∷ x) w h ∙ sym (ap trim_end (start-none b x e))
+        ap trim_end (start-none b (x ++ w) e) ∙ end-following (b ∷ x) w h ∙ sym (ap trim_end (start-none b x e))
 
 trim-widened : (w : List ℕ) (cells : Cells) → is_blank w ≡ true →
     map trim (held_in (widened w cells)) ≡ map trim (held_in cells)
-trim-widened w (Ends cell) h = ap (λ (x : List ℕ). x ∷ []) (trim-behind cell w h)
+trim-widened w (Ends cell) h = ap (λ (x : List ℕ). x ∷ []) (trim-following cell w h)
 trim-widened w (Shut cell white) h = refl
 trim-widened w (Divides cell cells) h = ap (λ (xs : List (List ℕ)). trim cell ∷ xs) (trim-widened w cells h)
 
@@ -131,7 +131,7 @@ pieces-held false (b ∷ bs) h = go (nat_eq b 124) refl (λ x. pieces-held x bs 
     piped false e more = ap (λ (xs : List (List ℕ)). [] ∷ xs) more
 
     go : (y : Bool) → nat_eq b 124 ≡ y → ((x : Bool) → held_in (cells_of x bs) ≡ pieces x bs) →
-        held_in (cond y (behind_pipe bs (cells_of false bs)) (onto b (cells_of (nat_eq b 92) bs))) ≡
+        held_in (cond y (after_pipe bs (cells_of false bs)) (onto b (cells_of (nat_eq b 92) bs))) ≡
         cond y (wanted (is_end bs) (nat_eq b 92)) (onto_first b (pieces (nat_eq b 92) bs))
     go true k more =
         let plain : nat_eq b 92 ≡ false = rw (eqb-true b 124 k) refl in

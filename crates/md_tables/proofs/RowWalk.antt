@@ -12,22 +12,22 @@ use Rattle.md_meaning.specs.Rest.{is_blank, is_white, trim_start}
 use Rattle.md_events.specs.Events.Nested.{enter, enter_link, exit}
 use Rattle.md_events.specs.Events.Places.{past_byte, past_text}
 use Rattle.md_events.proofs.RestLines.{trim-white}
-use Rattle.md_tables.specs.Cells.{celled, goes_on as text_goes_on, piece_step}
+use Rattle.md_tables.specs.Cells.{celled, is_continued as text_continued, piece_step}
 use Rattle.md_tables.specs.Row.{text_link}
-use Rattle.md_tables.specs.RowCells.{Cells, Ends, behind_pipe, cell_inside, cells_events, cells_of, line_cells, onto}
+use Rattle.md_tables.specs.RowCells.{Cells, Ends, after_pipe, cell_inside, cells_events, cells_of, line_cells, onto}
 use Rattle.md_tables.specs.RowCells.{row_events, row_runs, text_part, unread_text, white_front, white_part}
 use Rattle.md_tables.specs.RowRule.{Apart, White}
 use Rattle.md_tables.specs.declared.cells.RowKind.TheVariants.{Text}
-use Rattle.md_tables.specs.declared.cells.Stage.TheVariants.{Behind, Front, Gap, Inner, Within}
-use Rattle.md_tables.proofs.PipeWalk.{pipe-walk, white-behind}
+use Rattle.md_tables.specs.declared.cells.Stage.TheVariants.{Following, Front, Gap, Inner, Within}
+use Rattle.md_tables.proofs.PipeWalk.{pipe-walk, white-following}
 use Rattle.md_tables.proofs.RowCellLemmas.{cells-escaped, cells-other, cells-white, cells-pipe, cells-none, cells-begin}
-use Rattle.md_tables.proofs.RowCellLemmas.{first-behind, first_cell, text-ends, text-first, text-more, text_left}
+use Rattle.md_tables.proofs.RowCellLemmas.{first-following, first_cell, text-ends, text-first, text-more, text_left}
 use Rattle.md_tables.proofs.RowCellLemmas.{white-blank, white-ends, white-first, white-more, white_left}
 use Rattle.md_tables.proofs.WhiteEnds.{blank-first, dark-first, front-none, front-one, start-none}
-use Rattle.md_tables.proofs.RowRuns.{behind, cells_left, left_in_white, left_in_text, onto-by, white-opens, white-on}
+use Rattle.md_tables.proofs.RowRuns.{following, cells_left, left_in_white, left_in_text, onto-by, white-opens, white-on}
 use Rattle.md_tables.proofs.RowRuns.{word, word-white, piped, pipe-opens, pipe-white, pipe-text, word-opens, white-word}
-use Rattle.md_tables.proofs.RowRuns.{word-on, escaped-on, blank-white, blank-pipe, row_end, last-pipe, text-goes_on}
-use Rattle.md_tables.proofs.RowRuns.{blank-runs}
+use Rattle.md_tables.proofs.RowRuns.{word-on, escaped-on, blank-white, blank-pipe, row_end, last-pipe}
+use Rattle.md_tables.proofs.RowRuns.{text-is_continued, blank-runs}
 
 -- What the walk gives for what is left of a row, by where it is.
 record Walks (bs : List ℕ) (p : Point) : Type 0 where
@@ -48,14 +48,14 @@ record Walks (bs : List ℕ) (p : Point) : Type 0 where
 -- a pipe ends a cell and begins the next, or ends the last
 piped-walk : (bs : List ℕ) (p : Point) → Walks bs (past_byte 124 p) →
     celled (Within Text) (piped bs p ++ row_end (124 ∷ bs) p) ≡
-    behind (behind_pipe bs (cells_of false bs)) p ++ row_end (124 ∷ bs) p
+    following (after_pipe bs (cells_of false bs)) p ++ row_end (124 ∷ bs) p
 unfolding celled
 piped-walk bs p walks =
     pipe-walk Text (text_part unread_text) bs (cells_of false bs) p (row_runs Apart bs q ++ row_end bs q) (row_end bs q)
     (last-pipe bs q)
     (λ h.
-    ap (λ (es : List Event). celled Behind (es ++ row_end bs q)) (blank-runs bs q h)
-    ∙ white-behind bs q (row_end bs q) refl)
+    ap (λ (es : List Event). celled Following (es ++ row_end bs q)) (blank-runs bs q h)
+    ∙ white-following bs q (row_end bs q) refl)
     walks.start
   where
     q : Point
@@ -82,7 +82,7 @@ text-walk escaped b bs p e walks =
     rest = row_runs White bs q ++ row_end bs q
 
     after : List Event
-    after = behind cells (past_text (first_cell cells) q)
+    after = following cells (past_text (first_cell cells) q)
 
     given : Bool → List Event
     given on =
@@ -90,10 +90,10 @@ text-walk escaped b bs p e walks =
         ++ celled (piece_step Text (exit n.Data p) on).stage (enter n.SpaceOrTab p ∷ rest)
 
     go : (x : Bool) → is_blank (first_cell cells) ≡ x →
-        given (text_goes_on Text (enter n.SpaceOrTab p ∷ rest)) ≡
+        given (text_continued Text (enter n.SpaceOrTab p ∷ rest)) ≡
         (text_left (b ∷ first_cell cells) p ++ after) ++ row_end bs q
     go true h =
-        ap given (text-goes_on bs q p ∙ ap not h)
+        ap given (text-is_continued bs q p ∙ ap not h)
         ∙ ap
         (λ (es : List Event). exit n.Data p ∷ exit n.GfmTableCellText p ∷ enter n.SpaceOrTab p ∷ es)
         (walks.white ∙ ap (λ (es : List Event). (es ++ after) ++ row_end bs q)
@@ -102,7 +102,7 @@ text-walk escaped b bs p e walks =
         (ap (λ (es : List Event). (es ++ after) ++ row_end bs q)
         (text-ends (b ∷ first_cell cells) p (blank-first b (first_cell cells) e ∙ h)))
     go false h =
-        ap given (text-goes_on bs q p ∙ ap not h) ∙ walks.gap h
+        ap given (text-is_continued bs q p ∙ ap not h) ∙ walks.gap h
         ∙ sym
         (ap (λ (es : List Event). (es ++ after) ++ row_end bs q)
         (text-more b (first_cell cells) p (blank-first b (first_cell cells) e ∙ h)))
@@ -112,7 +112,7 @@ text-on : (b : ℕ) (cells : Cells) (p : Point) → is_white b ≡ false →
     left_in_text (onto b cells) p ≡ left_in_text cells (past_byte b p)
 text-on b cells p e =
     onto-by text_left b cells p
-    ∙ ap (λ (es : List Event). es ++ behind cells (past_text (first_cell cells) (past_byte b p)))
+    ∙ ap (λ (es : List Event). es ++ following cells (past_text (first_cell cells) (past_byte b p)))
     (text-more b (first_cell cells) p (dark-first b (first_cell cells) e))
 
 -- By the byte.
@@ -169,7 +169,7 @@ white-walks b bs p e more = record {
     end = row_end (b ∷ bs) p
 
     after : List Event
-    after = behind cells (past_text (first_cell cells) (past_byte b p))
+    after = following cells (past_text (first_cell cells) (past_byte b p))
 
     same : cells_of false (b ∷ bs) ≡ onto b cells
     same = cells-white false b bs e
@@ -189,19 +189,20 @@ pipe-walks bs p more = record {
 }
   where
     cells : Cells
-    cells = behind_pipe bs (cells_of false bs)
+    cells = after_pipe bs (cells_of false bs)
 
     end : List Event
     end = row_end (124 ∷ bs) p
 
     shown : (left : List ℕ → Point → List Event) →
         (left (first_cell (cells_of false (124 ∷ bs))) p
-        ++ behind (cells_of false (124 ∷ bs)) (past_text (first_cell (cells_of false (124 ∷ bs))) p))
+        ++ following (cells_of false (124 ∷ bs)) (past_text (first_cell (cells_of false (124 ∷ bs))) p))
         ++ end ≡
-        (left [] p ++ behind cells p) ++ end
+        (left [] p ++ following cells p) ++ end
     shown left =
-        ap (λ (c : Cells). (left (first_cell c) p ++ behind c (past_text (first_cell c) p)) ++ end) (cells-pipe bs)
-        ∙ ap (λ (x : List ℕ). (left x p ++ behind cells (past_text x p)) ++ end) (first-behind bs (cells_of false bs))
+        ap (λ (c : Cells). (left (first_cell c) p ++ following c (past_text (first_cell c) p)) ++ end) (cells-pipe bs)
+        ∙ ap (λ (x : List ℕ). (left x p ++ following cells (past_text x p)) ++ end)
+        (first-following bs (cells_of false bs))
 
     of : (escaped : Bool) →
         celled (Inner Text) (row_runs (word escaped) (124 ∷ bs) p ++ end) ≡
@@ -251,7 +252,7 @@ word-walks b bs p e k more = record {
     end = row_end (b ∷ bs) p
 
     after : List Event
-    after = behind cells (past_text (first_cell cells) q)
+    after = following cells (past_text (first_cell cells) q)
 
     same : cells_of false (b ∷ bs) ≡ onto b cells
     same = cells-other b bs k
@@ -330,7 +331,7 @@ row-starts (b ∷ bs) p some dark = go (nat_eq b 124) refl
         ∙ ap (λ (es : List Event). enter n.GfmTableCell p ∷ es ++ end) (onto-by (cell_inside unread_text) b cells p)
         ∙ ap
         (λ (es : List Event).
-        enter n.GfmTableCell p ∷ (es ++ behind cells (past_text (first_cell cells) (past_byte b p))) ++ end)
+        enter n.GfmTableCell p ∷ (es ++ following cells (past_text (first_cell cells) (past_byte b p))) ++ end)
         (text-first b (first_cell cells) p dark))
 
 -- in the whitespace before it

@@ -23,7 +23,8 @@ use Rattle.md_engine.specs.Staying.{SeesSome, stayed}
 use Rattle.md_engine.specs.Staying.SeesSome.{Nothing, OneMore}
 use Rattle.md_engine.specs.World.{Setting, World, after, looks, looks_at}
 use Rattle.md_engine.proofs.Keeps.{runs-setting}
-use Rattle.md_engine.proofs.Loops.{CameHere, call-sees, came-calls, came-first, came-runs, not_error, reading-same}
+use Rattle.md_engine.proofs.Loops.{ArrivedHere, call-sees, arrived-calls, arrived-first, arrived-runs, not_error}
+use Rattle.md_engine.proofs.Loops.{reading-same}
 use Rattle.md_engine.proofs.Points.{cells-fall}
 use Rattle.md_engine.proofs.StayLemmas.{seen-inside, some-falls, some-setting}
 use Rattle.md_engine.proofs.Walks.{TakesSo, Within, then-seen, then-stays, then-takes, then-waits}
@@ -35,10 +36,10 @@ use Rattle.md_events.specs.Spaces.{any_size, sees_white, white_then}
 use Rattle.md_events.specs.Stays.{TakesEach}
 use Rattle.md_events.specs.Transition.{Transition, entered_link, exited, taken}
 use Rattle.md_events.proofs.OneSpace.{HasWhite, space-run}
-use Rattle.md_tables.specs.Row.{Piece, at_break_code, begun, behind_part, data_code, escape_code, is_escaped, is_text}
+use Rattle.md_tables.specs.Row.{Piece, at_break_code, begun, after_part, data_code, escape_code, is_escaped, is_text}
 use Rattle.md_tables.specs.Row.{name_at, piece, piece_of, place_of, row_transition, shut, state_at, text_link}
 use Rattle.md_tables.specs.Row.Piece.{Ends, White, Divides, Escapes, Other}
-use Rattle.md_tables.specs.RowWords.{Goes, GoesTo, IsGap, Passes, RowStep, TakesTo, divided, is_backslash}
+use Rattle.md_tables.specs.RowWords.{Proceeds, ProceedsTo, IsGap, Passes, RowStep, TakesTo, divided, is_backslash}
 use Rattle.md_tables.specs.RowWords.IsGap.{NoSpace, OneSpace}
 use Rattle.md_tables.specs.RowWords.RowStep.{OfRow, OfWhite}
 use Rattle.md_tables.specs.declared.row.Place.{Place}
@@ -47,15 +48,15 @@ use Rattle.md_tables.specs.declared.row.Row.{Row}
 use Rattle.md_tables.specs.declared.row.Row.TheVariants.{Head, Body}
 
 -- From a state of a row one has reached another, which sees what is here.
-pub record Stood (r : Row) (first : StateName) (old : World) (name : StateName) (w : World) : Type 0 where
-  pub came : CameHere (RowStep r) first old name w
+pub record IsValid (r : Row) (first : StateName) (old : World) (name : StateName) (w : World) : Type 0 where
+  pub arrived : ArrivedHere (RowStep r) first old name w
   pub current : w.current ≡ looks w
   pub may : (w.point ≡ old.point) ⊎ (w.point.index < w.setting.limit)
   pub setting : w.setting ≡ old.setting
 
-pub stood-first : (r : Row) (first : StateName) (w : World) → w.current ≡ looks w → Stood r first w first w
-stood-first r first w seen = record {
-  came = came-first (RowStep r) first w;
+pub is_valid-first : (r : Row) (first : StateName) (w : World) → w.current ≡ looks w → IsValid r first w first w
+is_valid-first r first w seen = record {
+  arrived = arrived-first (RowStep r) first w;
   current = seen;
   may = inl refl;
   setting = refl;
@@ -73,11 +74,11 @@ has-white r state y to new e =
 
 -- It is passed, or left by one more call.
 
-pub stood-passes : (r : Row) (first : StateName) (old : World) (name : StateName) (w : World) →
-    Stood r first old name w → Passes (RowStep r) first old name w
-stood-passes r first old name w h = record {
+pub is_valid-passes : (r : Row) (first : StateName) (old : World) (name : StateName) (w : World) →
+    IsValid r first old name w → Passes (RowStep r) first old name w
+is_valid-passes r first old name w h = record {
   leads =
-      λ to new runs is_end. came-runs (RowStep r) is_end first name old w to new (h.came is_end) (runs is_end);
+      λ to new runs is_end. arrived-runs (RowStep r) is_end first name old w to new (h.arrived is_end) (runs is_end);
   current = h.current;
   may = h.may;
   setting = h.setting;
@@ -121,18 +122,19 @@ passes-on r first old name w next new h k = record {
 }
 
 -- what continues from where one has come continues from the first
-pub goes-on : (r : Row) (first : StateName) (old : World) (name : StateName) (w : World) (next : StateName)
+pub proceeds-on : (r : Row) (first : StateName) (old : World) (name : StateName) (w : World) (next : StateName)
     (result : Option State) (new : World) →
-    Passes (RowStep r) first old name w → GoesTo r name w next result new → GoesTo r first old next result new
-goes-on r first old name w next None new h k = passes-on r first old name w next new h k
-goes-on r first old name w next (Some to) new h k = λ fine.
+    Passes (RowStep r) first old name w → ProceedsTo r name w next result new → ProceedsTo r first old next result new
+proceeds-on r first old name w next None new h k = passes-on r first old name w next new h k
+proceeds-on r first old name w next (Some to) new h k = λ fine.
     passes-runs r first old name w to new h (k fine).0 (k fine).1
 
-pub one-goes : (r : Row) (first : StateName) (old : World) (name : StateName) (w : World) (to : State) (new : World) →
-    Stood r first old name w → Within w → RowStep r name w to new → Remains to w new → new.setting ≡ w.setting →
+pub one-proceeds : (r : Row) (first : StateName) (old : World) (name : StateName) (w : World) (to : State)
+    (new : World) →
+    IsValid r first old name w → Within w → RowStep r name w to new → Remains to w new → new.setting ≡ w.setting →
     to ≢ Error → RunsHere (RowStep r) first old to new × SeesOn to old new
-one-goes r first old name w to new h within step rest same fine = (
-  came-calls (RowStep r) first name old w to new h.came step fine same within,
+one-proceeds r first old name w to new h within step rest same fine = (
+  arrived-calls (RowStep r) first name old w to new h.arrived step fine same within,
   sees-on to old w new (call-sees to w new rest same h.current) same h.may,
 )
 
@@ -143,7 +145,7 @@ shut-setting Body w = refl
 
 -- What a single call leaves.
 part-remains : (r : Row) (w x : World) (y : Bool) → x.point ≡ w.point → x.current ≡ w.current → x.setting ≡ w.setting →
-    Remains (behind_part r x y).to w (behind_part r x y).world × ((behind_part r x y).world.setting ≡ w.setting)
+    Remains (after_part r x y).to w (after_part r x y).world × ((after_part r x y).world.setting ≡ w.setting)
 part-remains r w x true there same text = ((there, same), text)
 part-remains r w x false there same text = ((there, same), text)
 
@@ -161,56 +163,58 @@ pub same-step : (P : State → World → Type 0) (a : Transition) (to : State) (
 same-step P a to new e k h = subst (λ (x : State). P x new) (sym e) (subst (λ (x : World). P a.to x) (sym k) h)
 
 -- After a part of a row one space is or none, and the next part begins.
-gap-came : (r : Row) (first name : StateName) (old w x new : World) → Stood r first old name w → Within w → Within x →
+gap-arrived : (r : Row) (first name : StateName) (old w x new : World) → IsValid r first old name w →
+    Within w → Within x →
     x.setting ≡ w.setting → x.point ≡ w.point → x.current ≡ looks x →
-    RowStep r name w (behind_part r x (sees_white x.current)).to (behind_part r x (sees_white x.current)).world →
-    IsGap x new → CameHere (RowStep r) first old (name_at r place.Break) new
-gap-came r first name old w x _ h within inside same there look step (OneSpace one) is_end s v named saw may =
-    let P : Bool → Type 0 = λ b. RowStep r name w (behind_part r x b).to (behind_part r x b).world in
+    RowStep r name w (after_part r x (sees_white x.current)).to (after_part r x (sees_white x.current)).world →
+    IsGap x new → ArrivedHere (RowStep r) first old (name_at r place.Break) new
+gap-arrived r first name old w x _ h within inside same there look step (OneSpace one) is_end s v named saw may =
+    let P : Bool → Type 0 = λ b. RowStep r name w (after_part r x b).to (after_part r x b).world in
     let is : sees_white x.current ≡ true = ap sees_white (look ∙ one.here) in
     let u : World = (white_then x 1 any_size (Next (name_at r place.Break)) Nok).world in
     space-run (RowStep r) is_end s v (name_at r place.Break) x (has-white r)
-    (then-stays (RowStep r) is_end s v name (n.SpaceOrTab white.Start) w u (h.came is_end s v named saw may)
+    (then-stays (RowStep r) is_end s v name (n.SpaceOrTab white.Start) w u (h.arrived is_end s v named saw may)
     (subst P is step) same within there look) look inside one
-gap-came r first name old w x _ h within inside same there look step (NoSpace none) is_end s v named saw may =
-    let P : Bool → Type 0 = λ b. RowStep r name w (behind_part r x b).to (behind_part r x b).world in
-    then-stays (RowStep r) is_end s v name (name_at r place.Break) w x (h.came is_end s v named saw may)
+gap-arrived r first name old w x _ h within inside same there look step (NoSpace none) is_end s v named saw may =
+    let P : Bool → Type 0 = λ b. RowStep r name w (after_part r x b).to (after_part r x b).world in
+    then-stays (RowStep r) is_end s v name (name_at r place.Break) w x (h.arrived is_end s v named saw may)
     (subst P none step) same within there look
 
-gap-stood : (r : Row) (first name : StateName) (old w x new : World) → Stood r first old name w → Within w → Within x →
+gap-is_valid : (r : Row) (first name : StateName) (old w x new : World) → IsValid r first old name w →
+    Within w → Within x →
     x.setting ≡ w.setting → x.point ≡ w.point → x.current ≡ looks x →
-    RowStep r name w (behind_part r x (sees_white x.current)).to (behind_part r x (sees_white x.current)).world →
-    IsGap x new → Stood r first old (name_at r place.Break) new
-gap-stood r first name old w x _ h within inside same there look step (OneSpace one) = record {
-  came = gap-came r first name old w x (spaced x) h within inside same there look step (OneSpace one);
+    RowStep r name w (after_part r x (sees_white x.current)).to (after_part r x (sees_white x.current)).world →
+    IsGap x new → IsValid r first old (name_at r place.Break) new
+gap-is_valid r first name old w x _ h within inside same there look step (OneSpace one) = record {
+  arrived = gap-arrived r first name old w x (spaced x) h within inside same there look step (OneSpace one);
   current = refl;
   may = inr one.next;
   setting = same ∙ h.setting;
 }
-gap-stood r first name old w x _ h within inside same there look step (NoSpace none) = record {
-  came = gap-came r first name old w x x h within inside same there look step (NoSpace none);
+gap-is_valid r first name old w x _ h within inside same there look step (NoSpace none) = record {
+  arrived = gap-arrived r first name old w x x h within inside same there look step (NoSpace none);
   current = look;
   may = may-on old w x same h.may (inl there);
   setting = same ∙ h.setting;
 }
 
-pub gap-goes : (r : Row) (first name : StateName) (old w x new : World) (result : Option State) →
-    Stood r first old name w → Within w → Within x → x.setting ≡ w.setting → x.point ≡ w.point →
+pub gap-proceeds : (r : Row) (first name : StateName) (old w x new : World) (result : Option State) →
+    IsValid r first old name w → Within w → Within x → x.setting ≡ w.setting → x.point ≡ w.point →
     x.current ≡ w.current →
-    RowStep r name w (behind_part r x (sees_white x.current)).to (behind_part r x (sees_white x.current)).world →
+    RowStep r name w (after_part r x (sees_white x.current)).to (after_part r x (sees_white x.current)).world →
     (result ≡ None → IsGap x new) →
-    IfSome result (λ to. to ≢ Error → to ≡ (behind_part r x (sees_white x.current)).to) →
-    IfSome result (λ to. to ≢ Error → new ≡ (behind_part r x (sees_white x.current)).world) →
-    Goes r first old result new
-gap-goes r first name old w x new None h within inside same there cur step none to_is new_is =
+    IfSome result (λ to. to ≢ Error → to ≡ (after_part r x (sees_white x.current)).to) →
+    IfSome result (λ to. to ≢ Error → new ≡ (after_part r x (sees_white x.current)).world) →
+    Proceeds r first old result new
+gap-proceeds r first name old w x new None h within inside same there cur step none to_is new_is =
     let look : x.current ≡ looks x =
     cur ∙ h.current ∙ ap₂ (λ (y : Setting) (p : Point). looks_at y p) (sym same) (sym there) in
-    stood-passes r first old (name_at r place.Break) new
-    (gap-stood r first name old w x new h within inside same there look step (none refl))
-gap-goes r first name old w x new (Some to) h within inside same there cur step none to_is new_is = λ fine.
-    let a : Transition = behind_part r x (sees_white x.current) in
+    is_valid-passes r first old (name_at r place.Break) new
+    (gap-is_valid r first name old w x new h within inside same there look step (none refl))
+gap-proceeds r first name old w x new (Some to) h within inside same there cur step none to_is new_is = λ fine.
+    let a : Transition = after_part r x (sees_white x.current) in
     let left = part-remains r w x (sees_white x.current) there cur same in
-    one-goes r first old name w to new h within
+    one-proceeds r first old name w to new h within
     (same-step (RowStep r name w) a to new (to_is fine) (new_is fine) step)
     (same-step (λ s y. Remains s w y) a to new (to_is fine) (new_is fine) left.0)
     (ap (λ (y : World). y.setting) (new_is fine) ∙ left.1) fine
@@ -223,14 +227,14 @@ gap-falls x _ (NoSpace none) = omega arith
 
 -- What follows what a state takes is seen,
 then-sees : (r : Row) (first : StateName) (old : World) (name next : StateName) (w u : World) →
-    Stood r first old name w → Within w → RowStep r name w (Next next) u → u.setting ≡ w.setting →
-    u.point.index < w.setting.limit → Stood r first old next (reading u)
+    IsValid r first old name w → Within w → RowStep r name w (Next next) u → u.setting ≡ w.setting →
+    u.point.index < w.setting.limit → IsValid r first old next (reading u)
 then-sees r first old name next w u h within step same lt =
     let inside : u.point.index < u.setting.limit = rw same lt in
     record {
-      came =
+      arrived =
           λ is_end s v named saw may.
-          then-takes (RowStep r) is_end s v name next w u (h.came is_end s v named saw may) step same within inside;
+          then-takes (RowStep r) is_end s v name next w u (h.arrived is_end s v named saw may) step same within inside;
       current = refl;
       may = inr inside;
       setting = same ∙ h.setting;
@@ -238,21 +242,23 @@ then-sees r first old name next w u h within step same lt =
 
 -- or waited for
 then-awaits : (r : Row) (first : StateName) (old : World) (name next : StateName) (w u : World) →
-    Stood r first old name w → Within w → RowStep r name w (Next next) u → u.setting ≡ w.setting →
+    IsValid r first old name w → Within w → RowStep r name w (Next next) u → u.setting ≡ w.setting →
     RunsHere (RowStep r) first old (Next next) u
 then-awaits r first old name next w u h within step same =
-    came-calls (RowStep r) first name old w (Next next) u h.came step (not_error (Next next) next refl) same within
+    arrived-calls (RowStep r) first name old w (Next next) u h.arrived step
+    (not_error (Next next) next refl) same within
 
 -- and so a state continues that takes what is here.
-pub takes-goes : (r : Row) (name : StateName) (p : Place) (w : World) (result : Option State) (new : World) →
+pub takes-proceeds : (r : Row) (name : StateName) (p : Place) (w : World) (result : Option State) (new : World) →
     w.current ≡ looks w → Within w → RowStep r name w (Next (name_at r p)) (taken w) → TakesTo r p w result new →
-    GoesTo r name w (name_at r p) result new
-takes-goes r name p w None new seen within step h =
-    let stood = then-sees r name w name (name_at r p) w (taken w) (stood-first r name w seen) within step refl h.1 in
+    ProceedsTo r name w (name_at r p) result new
+takes-proceeds r name p w None new seen within step h =
+    let is_valid = then-sees r name w name (name_at r p) w (taken w) (is_valid-first r name w seen) within
+    step refl h.1 in
     subst (Passes (RowStep r) name w (name_at r p)) (sym h.0)
-    (stood-passes r name w (name_at r p) (reading (taken w)) stood)
-takes-goes r name p w (Some to) new seen within step h = λ fine.
-    let runs = then-awaits r name w name (name_at r p) w (taken w) (stood-first r name w seen) within step refl in
+    (is_valid-passes r name w (name_at r p) (reading (taken w)) is_valid)
+takes-proceeds r name p w (Some to) new seen within step h = λ fine.
+    let runs = then-awaits r name w name (name_at r p) w (taken w) (is_valid-first r name w seen) within step refl in
     subst (λ (s : State). RunsHere (RowStep r) name w s new × SeesOn s w new) (sym h.0)
     (subst (RunsHere (RowStep r) name w (Next (name_at r p))) (sym h.1) runs, tt)
 
@@ -263,15 +269,15 @@ pipe-step r w is =
     stepped r place.Break w (Next (name_at r place.CellBefore)) (divided w)
     (ap (λ (o : Option ℕ). at_break_code r w (piece o)) is)
 
-pub pipe-taken : (r : Row) (first : StateName) (old w : World) → Stood r first old (name_at r place.Break) w →
+pub pipe-taken : (r : Row) (first : StateName) (old w : World) → IsValid r first old (name_at r place.Break) w →
     Within w → w.current ≡ Some pipe → (divided w).point.index < w.setting.limit →
-    Stood r first old (name_at r place.CellBefore) (reading (divided w))
+    IsValid r first old (name_at r place.CellBefore) (reading (divided w))
 pipe-taken r first old w h within is lt =
     then-sees r first old (name_at r place.Break) (name_at r place.CellBefore) w (divided w) h within
     (pipe-step r w is) refl lt
 
 -- or waited for
-pub pipe-waits : (r : Row) (first : StateName) (old w : World) → Stood r first old (name_at r place.Break) w →
+pub pipe-waits : (r : Row) (first : StateName) (old w : World) → IsValid r first old (name_at r place.Break) w →
     Within w → w.current ≡ Some pipe →
     RunsHere (RowStep r) first old (Next (name_at r place.CellBefore)) (divided w)
 pipe-waits r first old w h within is =
@@ -296,11 +302,11 @@ word-begins r w x seen within text is =
     let inner = name_at r place.Data in
     let u : World = entered_link w Data text_link in
     subst (Passes (RowStep r) first w inner) (sym is)
-    (stood-passes r first w inner u
+    (is_valid-passes r first w inner u
     (record {
-      came =
+      arrived =
           λ is_end s v named saw may.
-          then-stays (RowStep r) is_end s v first inner w u (came-first (RowStep r) first w is_end s v named saw may)
+          then-stays (RowStep r) is_end s v first inner w u (arrived-first (RowStep r) first w is_end s v named saw may)
           (stepped r place.Break w (Retry inner) u (begins-code r w (piece w.current) text)) refl within refl seen;
       current = seen;
       may = inl refl;
@@ -318,25 +324,25 @@ takes-so : (r : Row) → TakesSo (RowStep r) (name_at r place.Data) Plain
 takes-so r w b e h =
     stepped r place.Data (reading w) (Next (name_at r place.Data)) (stayed Plain w) (data-takes r (reading w) b e h)
 
-pub word-taken : (r : Row) (first : StateName) (old w u : World) → Stood r first old (name_at r place.Data) w →
+pub word-taken : (r : Row) (first : StateName) (old w u : World) → IsValid r first old (name_at r place.Data) w →
     Within w → SeesSome Plain w u → u.point.index < u.setting.limit →
-    Stood r first old (name_at r place.Data) (reading u)
+    IsValid r first old (name_at r place.Data) (reading u)
 word-taken r first old w u h within some lt = record {
-  came =
+  arrived =
       λ is_end s v named saw may.
       then-seen (RowStep r) is_end s v (name_at r place.Data) Plain w u (takes-so r)
-      (h.came is_end s v named saw may) h.current within some lt;
+      (h.arrived is_end s v named saw may) h.current within some lt;
   current = refl;
   may = inr lt;
   setting = some-setting Plain w u some ∙ h.setting;
 }
 
 -- and waits for more
-pub word-waits : (r : Row) (first : StateName) (old w u : World) → Stood r first old (name_at r place.Data) w →
+pub word-waits : (r : Row) (first : StateName) (old w u : World) → IsValid r first old (name_at r place.Data) w →
     Within w → SeesSome Plain w u → w.point.index < w.setting.limit → u.setting.limit ≤ u.point.index →
     RunsHere (RowStep r) first old (Next (name_at r place.Data)) u
 word-waits r first old w u h within some lt le = λ is_end s v named saw may.
-    then-waits (RowStep r) is_end s v (name_at r place.Data) Plain w u (takes-so r) (h.came is_end s v named saw may)
+    then-waits (RowStep r) is_end s v (name_at r place.Data) Plain w u (takes-so r) (h.arrived is_end s v named saw may)
     h.current within some lt le
 
 -- No less is left where it began,
@@ -400,12 +406,12 @@ pub escapes-none : (r : Row) (w : World) → w.current ≡ looks w → Within w 
     Passes (RowStep r) (name_at r place.Escape) w (name_at r place.Data) w
 escapes-none r w seen within none =
     let name = name_at r place.Escape in
-    stood-passes r name w (name_at r place.Data) w
+    is_valid-passes r name w (name_at r place.Data) w
     (record {
-      came =
+      arrived =
           λ is_end s v named saw may.
           then-stays (RowStep r) is_end s v name (name_at r place.Data) w w
-          (came-first (RowStep r) name w is_end s v named saw may)
+          (arrived-first (RowStep r) name w is_end s v named saw may)
           (stepped r place.Escape w (Retry (name_at r place.Data)) w (ap (escape_code r w) none)) refl within refl seen;
       current = seen;
       may = inl refl;
@@ -413,13 +419,13 @@ escapes-none r w seen within none =
     })
 
 -- What is left falls in a word from where it had begun, or from where one has reached in it;
-pub come-down : (old w new : World) →
+pub become-down : (old w new : World) →
     (w ≡ old) ⊎ (cells_left w.setting.limit w.point < cells_left old.setting.limit old.point) →
     cells_left new.setting.limit new.point < cells_left w.setting.limit w.point →
     cells_left new.setting.limit new.point < cells_left old.setting.limit old.point
-come-down old w new (inl e) less =
+become-down old w new (inl e) less =
     subst (λ (y : World). cells_left new.setting.limit new.point < cells_left y.setting.limit y.point) e less
-come-down old w new (inr lt) less = omega (arith, lt, less)
+become-down old w new (inr lt) less = omega (arith, lt, less)
 
 -- and so it has at its end, if text was where it had begun.
 pub end-rests : (old w : World) →
@@ -439,30 +445,30 @@ end-falls old w (inr lt) text none = lt
 
 -- Where a word ends, it is after a part of the row.
 ends-code : (r : Row) (w : World) (o : Option ℕ) → is_text (piece o) ≡ false →
-    data_code r w (piece o) ≡ behind_part r (exited w Data) (sees_white o)
+    data_code r w (piece o) ≡ after_part r (exited w Data) (sees_white o)
 ends-code r w None e = refl
 ends-code r w (Some b) e = go (nat_eq b 10) (is_white b) (nat_eq b 124) (nat_eq b 92) refl refl refl refl
   where
     go : (x y z v : Bool) → nat_eq b 10 ≡ x → is_white b ≡ y → nat_eq b 124 ≡ z → nat_eq b 92 ≡ v →
-        data_code r w (piece_of b) ≡ behind_part r (exited w Data) (is_white b)
+        data_code r w (piece_of b) ≡ after_part r (exited w Data) (is_white b)
     go true y z v a k m t =
         let is : b ≡ 10 = grind (arith, nat_tests) in
-        subst (λ (i : ℕ). data_code r w (piece_of i) ≡ behind_part r (exited w Data) (is_white i)) (sym is) refl
+        subst (λ (i : ℕ). data_code r w (piece_of i) ≡ after_part r (exited w Data) (is_white i)) (sym is) refl
     go false true z v a k m t = rw (a, k) refl
     go false false true v a k m t = rw (a, k, m) refl
     go false false false true a k m t = let no : true ≡ false = rw (a, k, m, t) at e in cc
     go false false false false a k m t = let no : true ≡ false = rw (a, k, m, t) at e in cc
 
 pub ended-step : (r : Row) (w x : World) → x ≡ exited w Data → is_text (piece w.current) ≡ false →
-    RowStep r (name_at r place.Data) w (behind_part r x (sees_white x.current)).to
-    (behind_part r x (sees_white x.current)).world
+    RowStep r (name_at r place.Data) w (after_part r x (sees_white x.current)).to
+    (after_part r x (sees_white x.current)).world
 ended-step r w x is none =
     let P : World → Type 0 = λ y.
-    RowStep r (name_at r place.Data) w (behind_part r y (sees_white y.current)).to
-    (behind_part r y (sees_white y.current)).world in
+    RowStep r (name_at r place.Data) w (after_part r y (sees_white y.current)).to
+    (after_part r y (sees_white y.current)).world in
     subst P (sym is)
-    (stepped r place.Data w (behind_part r (exited w Data) (sees_white w.current)).to
-    (behind_part r (exited w Data) (sees_white w.current)).world (ends-code r w w.current none))
+    (stepped r place.Data w (after_part r (exited w Data) (sees_white w.current)).to
+    (after_part r (exited w Data) (sees_white w.current)).world (ends-code r w w.current none))
 
 -- Where a row begins, it is after a part of it, too.
 pub begun-stays : (r : Row) (w x : World) → x ≡ begun r w →
@@ -473,14 +479,14 @@ begun-stays Body w x is =
     (ap (λ (y : World). y.setting) is, ap (λ (y : World). y.point) is, ap (λ (y : World). y.current) is)
 
 pub begun-step : (r : Row) (w x : World) → x ≡ begun r w →
-    RowStep r (name_at r place.Start) w (behind_part r x (sees_white x.current)).to
-    (behind_part r x (sees_white x.current)).world
+    RowStep r (name_at r place.Start) w (after_part r x (sees_white x.current)).to
+    (after_part r x (sees_white x.current)).world
 begun-step r w x is =
     let P : World → Type 0 = λ y.
-    RowStep r (name_at r place.Start) w (behind_part r y (sees_white w.current)).to
-    (behind_part r y (sees_white w.current)).world in
+    RowStep r (name_at r place.Start) w (after_part r y (sees_white w.current)).to
+    (after_part r y (sees_white w.current)).world in
     let Q : Option ℕ → Type 0 = λ o.
-    RowStep r (name_at r place.Start) w (behind_part r x (sees_white o)).to (behind_part r x (sees_white o)).world in
+    RowStep r (name_at r place.Start) w (after_part r x (sees_white o)).to (after_part r x (sees_white o)).world in
     subst Q (sym (begun-stays r w x is).2) (subst P (sym is) (OfRow place.Start refl refl refl))
 
 pub on-ok : {T E : Type 0} → (x : Result T E) (P : Type 0) → is_ok x ≡ true → OnOk x P → P

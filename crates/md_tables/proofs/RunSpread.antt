@@ -14,7 +14,7 @@ use Rattle.md_events.specs.Ahead.{begins_white, line_cells, white_end, white_res
 use Rattle.md_events.specs.Events.Nested.{enter, exit, pair}
 use Rattle.md_events.specs.Events.Places.{past_byte}
 use Rattle.md_events.proofs.AheadLemmas.{white-no_ending}
-use Rattle.md_events.proofs.FeedLines.{behind_last, byte_cells, cell, columns_more, next_column, spread, tab_cells}
+use Rattle.md_events.proofs.FeedLines.{after_last, byte_cells, cell, columns_more, next_column, spread, tab_cells}
 use Rattle.md_events.proofs.FeedLines.{tab_end, tab_end-last, tab_end-next, tab_end-stop}
 
 -- Runs by cells and by bytes, of which one is whitespace: each byte does the same, and so does a column of a tab.
@@ -38,7 +38,7 @@ tab-white : (R : Type 0) (white : R) (turns : R → Point → List Event → Lis
     (line : Line) (n byte : ℕ) (p q : Point) (ys : List Cell) → is_white byte ≡ true →
     F white (tab_cells line n byte p ++ ys) q ≡ F white ys (tab_end n p)
 tab-white R white turns F G are line zero byte p q ys e =
-    are.more byte (behind_last p) line ys q e ∙ ap (F white ys) (tab_end-last p)
+    are.more byte (after_last p) line ys q e ∙ ap (F white ys) (tab_end-last p)
 tab-white R white turns F G are line (suc n) byte p q ys e =
     are.more byte (next_column p) line (tab_cells line n 32 (next_column p) ++ ys) q e
     ∙ tab-white R white turns F G are line n 32 (next_column p) (next_column p) ys refl
@@ -50,7 +50,7 @@ tab-run : (R : Type 0) (white : R) (turns : R → Point → List Event → List 
     (run : R) (line : Line) (n : ℕ) (p : Point) (ys : List Cell) →
     F run (tab_cells line n 9 p ++ ys) p ≡ turns run p (F white ys (tab_end n p))
 tab-run R white turns F G are run line zero p ys =
-    are.column run (behind_last p) line ys p ∙ ap (λ (q : Point). turns run p (F white ys q)) (tab_end-last p)
+    are.column run (after_last p) line ys p ∙ ap (λ (q : Point). turns run p (F white ys q)) (tab_end-last p)
 tab-run R white turns F G are run line (suc n) p ys =
     are.column run (next_column p) line (tab_cells line n 32 (next_column p) ++ ys) p
     ∙ ap (turns run p)
@@ -126,20 +126,20 @@ white-run R white apart F are zero (c ∷ cs) q h = white-ends R white apart F a
 white-run R white apart F are (suc room) (c ∷ cs) q h =
     go (is_white c.byte) refl (λ k. white-run R white apart F are room cs c.after k)
   where
-    Behind : Bool → List Event
-    Behind t =
+    Following : Bool → List Event
+    Following t =
         exit SpaceOrTab (cond t (white_end room cs c.after) q)
         ∷ F apart (line_cells (cond t (white_rest room cs) (c ∷ cs))) (cond t (white_end room cs c.after) q)
 
     go : (x : Bool) → is_white c.byte ≡ x →
-        (begins_white (white_rest room cs) ≡ false → F white (line_cells cs) c.after ≡ Behind true) →
-        F white (line_cells (c ∷ cs)) q ≡ Behind (is_white c.byte)
+        (begins_white (white_rest room cs) ≡ false → F white (line_cells cs) c.after ≡ Following true) →
+        F white (line_cells (c ∷ cs)) q ≡ Following (is_white c.byte)
     go true e more =
         ap (λ (l : List Cell). F white l q) (line-white c cs e)
         ∙ are.more c (line_cells cs) q e
         ∙ more (sym (ap (λ (t : Bool). begins_white (cond t (white_rest room cs) (c ∷ cs))) e) ∙ h)
-        ∙ sym (ap Behind e)
-    go false e more = white-ends R white apart F are c cs q e ∙ sym (ap Behind e)
+        ∙ sym (ap Following e)
+    go false e more = white-ends R white apart F are c cs q e ∙ sym (ap Following e)
 
 -- with the runs after it, it is all the runs
 pub front-run : (R : Type 0) (white apart : R) (F : R → List Cell → Point → List Event) →

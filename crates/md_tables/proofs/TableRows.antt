@@ -65,7 +65,7 @@ same-begin text.Escaped b q = refl
 text-begun : (run : text.Run) (line : List ℕ) (p q : Point) → AreParts (text.opens run q ++ row_runs run line p)
 text-begun run [] p q = text-run run p q
 text-begun run (b ∷ bs) p q =
-    go (text.goes_on run b) (text-begun (text.next run b) bs (past_byte b p) q)
+    go (text.is_continued run b) (text-begun (text.next run b) bs (past_byte b p) q)
     (text-begun (text.begun b) bs (past_byte b p) p)
   where
     go : (x : Bool) → AreParts (text.opens (text.next run b) q ++ row_runs (text.next run b) bs (past_byte b p)) →
@@ -102,7 +102,7 @@ delimiter-begun : (run : delimiter.Run) (line : List ℕ) (p q : Point) →
     AreParts (delimiter.opens run q ++ delimiter_runs run line p)
 delimiter-begun run [] p q = delimiter-run run p q
 delimiter-begun run (b ∷ bs) p q =
-    go (delimiter.goes_on run b) (delimiter-begun run bs (past_byte b p) q)
+    go (delimiter.is_continued run b) (delimiter-begun run bs (past_byte b p) q)
     (delimiter-begun (delimiter.begun b) bs (past_byte b p) p)
   where
     go : (x : Bool) → AreParts (delimiter.opens run q ++ delimiter_runs run bs (past_byte b p)) →

@@ -12,7 +12,7 @@ use Rattle.md_events.specs.Events.Nested.{around, enter, exit}
 use Rattle.md_tables.specs.Cells.{Step, celled, ends_row, ends_with, is_row, step}
 use Rattle.md_tables.specs.TableLines.{Table, TableLine, TableRow, body_given, lines_celled, lines_read}
 use Rattle.md_tables.specs.TableLines.{row_celled, row_read, row_name, table_begin, table_read, table_given}
-use Rattle.md_tables.specs.Tabled.{behind, bound_by, bound_of, next, passes, tabled, tabled_from}
+use Rattle.md_tables.specs.Tabled.{following, bound_by, bound_of, next, passes, tabled, tabled_from}
 use Rattle.md_tables.specs.declared.cells.RowKind.{RowKind}
 use Rattle.md_tables.specs.declared.cells.RowKind.TheVariants.{Delimiter, Text}
 use Rattle.md_tables.specs.declared.cells.Stage.{Stage}
@@ -125,7 +125,7 @@ tabled-end : (section : Section) (stage : Stage) (k : RowKind) (q : Point) (es :
     in_table section ≡ true →
     tabled_from section stage (exit (row_name k) q ∷ es)
     ≡ celled stage (exit (row_name k) q ∷ [])
-    ++ (behind section (row_bound k) q ++ tabled_from (next section (row_bound k)) row.Outside es)
+    ++ (following section (row_bound k) q ++ tabled_from (next section (row_bound k)) row.Outside es)
 unfolding celled
 tabled-end Outside stage k q es within = absurd (let no : false ≡ true = within in cc)
 tabled-end Head stage Text q es within = rw append-nil refl
@@ -145,13 +145,13 @@ tabled-inside : (section : Section) (stage : Stage) (k : RowKind) (q : Point) (x
     in_table section ≡ true → AreFree xs →
     tabled_from section stage (xs ++ exit (row_name k) q ∷ es)
     ≡ celled stage (xs ++ exit (row_name k) q ∷ [])
-    ++ (behind section (row_bound k) q ++ tabled_from (next section (row_bound k)) row.Outside es)
+    ++ (following section (row_bound k) q ++ tabled_from (next section (row_bound k)) row.Outside es)
 unfolding celled
 tabled-inside section stage k q [] es within h = tabled-end section stage k q es within
 tabled-inside section stage k q (x ∷ xs) es within h =
     let end : Event = exit (row_name k) q in
     let rest : List Event =
-    behind section (row_bound k) q ++ tabled_from (next section (row_bound k)) row.Outside es in
+    following section (row_bound k) q ++ tabled_from (next section (row_bound k)) row.Outside es in
     let s : Step = step stage x (xs ++ end ∷ []) in
     let same : step stage x (xs ++ end ∷ es) ≡ step stage x (xs ++ end ∷ []) =
     step-looks stage x (xs ++ end ∷ es) (xs ++ end ∷ [])
@@ -165,7 +165,7 @@ tabled-rest : (section : Section) (k : RowKind) (r : TableRow) (es : List Event)
     AreFree r.inside →
     tabled_from section (row.Front k) ((r.inside ++ exit (row_name k) r.ends ∷ []) ++ es)
     ≡ celled (row.Front k) (r.inside ++ exit (row_name k) r.ends ∷ [])
-    ++ (behind section (row_bound k) r.ends ++ tabled_from (next section (row_bound k)) row.Outside es)
+    ++ (following section (row_bound k) r.ends ++ tabled_from (next section (row_bound k)) row.Outside es)
 tabled-rest section k r es within h =
     ap (tabled_from section (row.Front k)) (append_assoc r.inside (exit (row_name k) r.ends ∷ []) es)
     ∙ tabled-inside section (row.Front k) k r.ends r.inside es within h
@@ -268,7 +268,7 @@ pub tabled-table : (t : Table) (es : List Event) → IsFreeTable t →
 tabled-table t es h =
     let end : Event = exit n.GfmTable t.ends in
     let lines : List Event = lines_read t.body in
-    let behind_head : List Event = body_given t.body t.ends ++ end ∷ tabled es in
+    let after_head : List Event = body_given t.body t.ends ++ end ∷ tabled es in
     let d : TableRow = t.delimiter.row in
     ap (λ (l : List Event). table_begin t ∷ enter n.GfmTableHead t.begins ∷ l)
     (ap (tabled_from Head row.Outside)

@@ -11,9 +11,9 @@ use Rattle.md_engine.specs.Place.{IsPlaced}
 use Rattle.md_leaves.proofs.SpannedLemmas.{AtPoint}
 use Rattle.md_events.specs.Events.Nested.{enter, exit}
 use Rattle.md_events.specs.Parts.{ArePlaced}
-use Rattle.md_tables.specs.Goes.{in_all}
-use Rattle.md_tables.specs.Tabled.{begins_table, behind, given, in_front, bound_of, next, passes, tabled, tabled_from}
-use Rattle.md_tables.specs.Tabled.{with_cells}
+use Rattle.md_tables.specs.Proceeds.{in_all}
+use Rattle.md_tables.specs.Tabled.{begins_table, following, given, in_front, bound_of, next, passes, tabled}
+use Rattle.md_tables.specs.Tabled.{tabled_from, with_cells}
 use Rattle.md_tables.specs.declared.cells.Stage.{Stage}
 use Rattle.md_tables.specs.declared.cells.Stage.TheVariants as row
 use Rattle.md_tables.specs.declared.tables.Bound.{Bound}
@@ -21,7 +21,7 @@ use Rattle.md_tables.specs.declared.tables.Bound.TheVariants.{BeginsRow, BeginsT
 use Rattle.md_tables.specs.declared.tables.Section.{Section}
 use Rattle.md_tables.specs.declared.tables.Section.TheVariants.{Between, Body, Head, Outside}
 use Rattle.md_tables.specs.declared.tables.Walk.{Walk}
-use Rattle.md_tables.proofs.CellsLemmas.{GoesOver, one-kept, step-kept}
+use Rattle.md_tables.proofs.CellsLemmas.{KeptOver, one-kept, step-kept}
 
 -- Events that pass.
 
@@ -35,7 +35,7 @@ pub passes-given : (e : Event) (es : List Event) → passes Outside e ≡ true �
 passes-given e es h = go (bound_of e) h
   where
     go : (m : Bound) → not (begins_table m) ≡ true →
-        (in_front Outside m e.point ++ (e ∷ []) ++ behind Outside m e.point)
+        (in_front Outside m e.point ++ (e ∷ []) ++ following Outside m e.point)
         ++ tabled_from (next Outside m) row.Outside es
         ≡ e ∷ tabled es
     go BeginsTable k = absurd (let no : false ≡ true = k in cc)
@@ -113,10 +113,10 @@ walk-stepped section now stage after events old new all at d within is same ther
     ∙ ap (λ (l : List Event). old ++ tabled_from section stage l) (sym (drop_more events at d within)) ∙ so_far)
 
 -- A step from some place on is one of the whole walk.
-pub walk-goes : (old new : Walk) (events all : List Event) (at many : ℕ) →
+pub walk-proceeds : (old new : Walk) (events all : List Event) (at many : ℕ) →
     in_all new (drop many (drop at events)) ≡ in_all old (drop at events) → in_all old (drop at events) ≡ all →
     in_all new (drop (at + many) events) ≡ all
-walk-goes old new events all at many step so_far = ap (in_all new) (sym (drop-drop many at events)) ∙ step ∙ so_far
+walk-proceeds old new events all at many step so_far = ap (in_all new) (sym (drop-drop many at events)) ∙ step ∙ so_far
 
 -- At the end all is given.
 pub walk-done : (section : Section) (stage : Stage) (events given all : List Event) (at : ℕ) → length events ≤ at →
@@ -127,7 +127,7 @@ walk-done section stage events given all at end so_far =
 
 -- What holds of events continues to hold.
 
-front-kept : (P : Event → Type 0) → GoesOver P → (section : Section) (b : Bound) (e : Event) → P e →
+front-kept : (P : Event → Type 0) → KeptOver P → (section : Section) (b : Bound) (e : Event) → P e →
     All P (in_front section b e.point)
 front-kept P over Between BeginsRow e h =
     one-kept P (enter n.GfmTableBody e.point) (over Enter n.GfmTableBody e refl h)
@@ -135,15 +135,15 @@ front-kept P over Body EndsTable e h =
     one-kept P (exit n.GfmTableBody e.point) (over Exit n.GfmTableBody e refl h)
 front-kept P over _ _ e h = All-nil P
 
-behind-kept : (P : Event → Type 0) → GoesOver P → (section : Section) (b : Bound) (e : Event) → P e →
-    All P (behind section b e.point)
-behind-kept P over Outside BeginsTable e h =
+following-kept : (P : Event → Type 0) → KeptOver P → (section : Section) (b : Bound) (e : Event) → P e →
+    All P (following section b e.point)
+following-kept P over Outside BeginsTable e h =
     one-kept P (enter n.GfmTableHead e.point) (over Enter n.GfmTableHead e refl h)
-behind-kept P over Head EndsDelimiter e h =
+following-kept P over Head EndsDelimiter e h =
     one-kept P (exit n.GfmTableHead e.point) (over Exit n.GfmTableHead e refl h)
-behind-kept P over _ _ e h = All-nil P
+following-kept P over _ _ e h = All-nil P
 
-cells-kept : (P : Event → Type 0) → GoesOver P → (section : Section) (stage : Stage) (e : Event) (es : List Event) →
+cells-kept : (P : Event → Type 0) → KeptOver P → (section : Section) (stage : Stage) (e : Event) (es : List Event) →
     P e → All P (with_cells section stage e es).given
 cells-kept P over Outside stage e es h = one-kept P e h
 cells-kept P over Head stage e es h = step-kept P over stage e es h
@@ -151,16 +151,16 @@ cells-kept P over Between stage e es h = step-kept P over stage e es h
 cells-kept P over Body stage e es h = step-kept P over stage e es h
 
 -- of all that is given for an event, if it does of that,
-pub given-kept : (P : Event → Type 0) → GoesOver P → (section : Section) (stage : Stage) (e : Event) (es : List Event) →
+pub given-kept : (P : Event → Type 0) → KeptOver P → (section : Section) (stage : Stage) (e : Event) (es : List Event) →
     P e → All P (given section stage e es)
 given-kept P over section stage e es h =
     let front = in_front section (bound_of e) e.point in
     let itself = (with_cells section stage e es).given in
-    All-append P (front ++ itself) (behind section (bound_of e) e.point)
+    All-append P (front ++ itself) (following section (bound_of e) e.point)
     (All-append P front itself (front-kept P over section (bound_of e) e h) (cells-kept P over section stage e es h))
-    (behind-kept P over section (bound_of e) e h)
+    (following-kept P over section (bound_of e) e h)
 
-tabled_from-kept : (P : Event → Type 0) → GoesOver P → (section : Section) (stage : Stage) (es : List Event) →
+tabled_from-kept : (P : Event → Type 0) → KeptOver P → (section : Section) (stage : Stage) (es : List Event) →
     All P es → All P (tabled_from section stage es)
 tabled_from-kept P over section stage [] h = All-nil P
 tabled_from-kept P over section stage (e ∷ es) h =
@@ -171,7 +171,7 @@ tabled_from-kept P over section stage (e ∷ es) h =
     (tabled_from-kept P over now after es (All-tail P e es h))
 
 -- and of all events
-pub tabled-kept : (P : Event → Type 0) → GoesOver P → (es : List Event) → All P es → All P (tabled es)
+pub tabled-kept : (P : Event → Type 0) → KeptOver P → (es : List Event) → All P es → All P (tabled es)
 tabled-kept P over es h = tabled_from-kept P over Outside row.Outside es h
 
 -- placed events stay placed

@@ -99,8 +99,8 @@ end-more b x h =
     only (c ∷ k) whole end = let no : false ≡ true = end in cc
 
 -- whitespace after does not matter
-pub end-behind : (x w : List ℕ) → is_blank w ≡ true → trim_end (x ++ w) ≡ trim_end x
-end-behind x w h = (end-is (x ++ w) (trim_end x) (white_back x ++ w) whole (trimmed-dark x) blank).0
+pub end-following : (x w : List ℕ) → is_blank w ≡ true → trim_end (x ++ w) ≡ trim_end x
+end-following x w h = (end-is (x ++ w) (trim_end x) (white_back x ++ w) whole (trimmed-dark x) blank).0
   where
     whole : x ++ w ≡ trim_end x ++ (white_back x ++ w)
     whole = ap (λ (t : List ℕ). t ++ w) (end-whole x) ∙ append_assoc (trim_end x) (white_back x) w

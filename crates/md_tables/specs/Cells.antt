@@ -7,7 +7,7 @@ use Rattle.md_events.specs.Events.Nested.{enter, exit, is_enter, is_exit}
 use Rattle.md_tables.specs.declared.cells.RowKind.{RowKind}
 use Rattle.md_tables.specs.declared.cells.RowKind.TheVariants.{Delimiter, Text}
 use Rattle.md_tables.specs.declared.cells.Stage.{Stage}
-use Rattle.md_tables.specs.declared.cells.Stage.TheVariants.{Behind, Front, Gap, Inner, Last, Outside, Within}
+use Rattle.md_tables.specs.declared.cells.Stage.TheVariants.{Following, Front, Gap, Inner, Last, Outside, Within}
 
 -- Which event this is.
 
@@ -83,9 +83,9 @@ is_last [] = false
 is_last (e ∷ es) = ends_divider e && row_ends es
 
 -- more of what a cell holds: a further word after whitespace, or a further colon or dashes
-abbrev pub goes_on : RowKind → List Event → Bool
-goes_on Text es = has_white es && first_is (begins_inner Text) (drop 2 es)
-goes_on Delimiter es = first_is (begins_inner Delimiter) es
+abbrev pub is_continued : RowKind → List Event → Bool
+is_continued Text es = has_white es && first_is (begins_inner Text) (drop 2 es)
+is_continued Delimiter es = first_is (begins_inner Delimiter) es
 
 -- One event.
 
@@ -126,7 +126,7 @@ piece_step Delimiter e true = passed e (Inner Delimiter)
 piece_step k e false = record { given = e ∷ exit (inner_name k) e.point ∷ []; stage = Within k }
 
 abbrev pub inner_step : RowKind → Event → List Event → Step
-inner_step k e es = if ends_inner k e then piece_step k e (goes_on k es) else passed e (Inner k)
+inner_step k e es = if ends_inner k e then piece_step k e (is_continued k es) else passed e (Inner k)
 
 -- between two words, up to the begin of the second
 abbrev pub gap_step : Event → Step
@@ -135,7 +135,8 @@ gap_step e = record { given = []; stage = if begins_inner Text e then Inner Text
 -- in the last pipe
 abbrev pub last_step : RowKind → Event → Step
 last_step k e =
-    if ends_divider e then record { given = e ∷ exit (cell_name k) e.point ∷ []; stage = Behind } else passed e (Last k)
+    if ends_divider e then record { given = e ∷ exit (cell_name k) e.point ∷ []; stage = Following } else
+    passed e (Last k)
 
 abbrev pub outside_step : Event → Option RowKind → Step
 outside_step e (Some k) = passed e (Front k)
@@ -148,7 +149,7 @@ inside_step (Within k) e es = within_step k e es
 inside_step (Inner k) e es = inner_step k e es
 inside_step Gap e es = gap_step e
 inside_step (Last k) e es = last_step k e
-inside_step Behind e es = passed e Behind
+inside_step Following e es = passed e Following
 
 -- at the end of a row, which ends a cell
 abbrev pub ends_with : Stage → Event → List Event

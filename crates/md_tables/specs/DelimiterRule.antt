@@ -31,11 +31,11 @@ pub data Place : Type 0 where
   -- in its dashes
   Dashes : Place
   -- after a cell
-  Behind : Place
+  Following : Place
 
 -- what a byte does there
 pub data Move : Type 0 where
-  Goes : Place → Move
+  Proceeds : Place → Move
   -- it begins the dashes of a cell
   Counts : Move
   -- it is a colon or a pipe
@@ -47,16 +47,16 @@ abbrev pub move : Place → Mark → Move
 move Front Divides = Marks Open
 move Front Aligns = Marks Left
 move Front Dash = Counts
-move Open White = Goes Open
+move Open White = Proceeds Open
 move Open Aligns = Marks Left
 move Open Dash = Counts
 move Left Dash = Counts
-move Dashes White = Goes Behind
+move Dashes White = Proceeds Following
 move Dashes Divides = Marks Open
-move Dashes Aligns = Marks Behind
-move Dashes Dash = Goes Dashes
-move Behind White = Goes Behind
-move Behind Divides = Marks Open
+move Dashes Aligns = Marks Following
+move Dashes Dash = Proceeds Dashes
+move Following White = Proceeds Following
+move Following Divides = Marks Open
 move _ _ = Fails
 
 -- whether a row may end there
@@ -65,7 +65,7 @@ may_end Front = false
 may_end Open = true
 may_end Left = false
 may_end Dashes = true
-may_end Behind = true
+may_end Following = true
 
 abbrev pub counted : Scratch → Scratch
 counted s = record s { size = s.size + 1 }
@@ -75,7 +75,7 @@ met s = record s { seen = true }
 
 -- what a byte leads to
 abbrev pub led : Move → Scratch → (Place → Scratch → Bool) → Bool
-led (Goes q) s on = on q s
+led (Proceeds q) s on = on q s
 led Counts s on = on Dashes (counted s)
 led (Marks q) s on = on q (met s)
 led Fails s on = false
@@ -99,12 +99,12 @@ pub data Run : Type 0 where
 abbrev pub begun : ℕ → Run
 begun b = if is_white b then Space else if b == pipe then Pipe else if b == colon then Colon else Filler
 
-abbrev pub goes_on : Run → ℕ → Bool
-goes_on Apart b = false
-goes_on Space b = is_white b
-goes_on Pipe b = false
-goes_on Colon b = false
-goes_on Filler b = b == hyphen
+abbrev pub is_continued : Run → ℕ → Bool
+is_continued Apart b = false
+is_continued Space b = is_white b
+is_continued Pipe b = false
+is_continued Colon b = false
+is_continued Filler b = b == hyphen
 
 -- the events at the begin and at the end of a run
 abbrev pub opens : Run → Point → List Event
@@ -125,7 +125,7 @@ closes Filler p = exit GfmTableDelimiterFiller p ∷ []
 abbrev pub runs : Run → List Cell → Point → List Event
 runs run [] p = closes run p
 runs run (c ∷ cs) p =
-    if goes_on run c.byte then runs run cs c.after
+    if is_continued run c.byte then runs run cs c.after
     else closes run p ++ opens (begun c.byte) p ++ runs (begun c.byte) cs c.after
 
 abbrev pub row_opens : Point → List Event
@@ -150,8 +150,8 @@ in_row run place cells h =
     else Refuses (uncounted h.scratch) h.flags
 
 -- after whitespace that is passed at once, where there was some
-unfoldable pub behind_white : Place → List Cell → Here → Outcome
-behind_white place cells h =
+unfoldable pub following_white : Place → List Cell → Here → Outcome
+following_white place cells h =
     if begins_white cells then Refuses (uncounted h.scratch) h.flags else in_row Apart place cells h
 
 -- the whole rule: a small indent, and a row after it
@@ -173,11 +173,11 @@ abbrev pub delimiter_behaves : ParseOptions → TableState → List Cell → Her
 delimiter_behaves options its.HeadDelimiterStart cells h = delimiter_at options cells h
 delimiter_behaves options its.HeadDelimiterBefore cells h = in_row Apart Front cells h
 delimiter_behaves options its.HeadDelimiterCellBefore cells h = in_row Apart Open cells h
-delimiter_behaves options its.HeadDelimiterValueBefore cells h = behind_white Open cells h
+delimiter_behaves options its.HeadDelimiterValueBefore cells h = following_white Open cells h
 delimiter_behaves options its.HeadDelimiterLeftAlignmentAfter cells h = in_row Apart Left cells h
 delimiter_behaves options its.HeadDelimiterFiller cells h = in_row Filler Dashes cells h
-delimiter_behaves options its.HeadDelimiterRightAlignmentAfter cells h = in_row Apart Behind cells h
-delimiter_behaves options its.HeadDelimiterCellAfter cells h = behind_white Behind cells h
+delimiter_behaves options its.HeadDelimiterRightAlignmentAfter cells h = in_row Apart Following cells h
+delimiter_behaves options its.HeadDelimiterCellAfter cells h = following_white Following cells h
 delimiter_behaves options _ cells h = Refuses (uncounted h.scratch) h.flags
 
 pub record HasDelimiter (B : Behaviour) (options : ParseOptions) : Type 0 where

@@ -19,7 +19,7 @@ use Rattle.md_engine.specs.Scheme.{Position, Scheme, nowhere, of_owners, ranked}
 use Rattle.md_engine.specs.World.{World}
 use Rattle.md_meaning.specs.Ascii.{colon, hyphen, pipe}
 use Rattle.md_meaning.specs.Rest.{is_small}
-use Rattle.md_events.specs.Look.{looks_behind, may_with}
+use Rattle.md_events.specs.Look.{looks_after, may_with}
 use Rattle.md_events.specs.Spaces.{IsRest, rest_ready}
 use Rattle.md_events.specs.Transition.{Transition}
 use Rattle.md_tables.specs.Delimiter.{DelimiterNeeds, IsCounting, delimiter_scheme, delimiter_transition}
@@ -61,7 +61,7 @@ begins_code w true = start_code w w.flags.leaf
 begins_code w false = record { to = Nok; world = w }
 
 abbrev pub start_transition : World → Transition
-start_transition w = begins_code w (may_with (may_begin w.flags.leaf) (looks_behind w))
+start_transition w = begins_code w (may_with (may_begin w.flags.leaf) (looks_after w))
 
 -- after the indent of a head its first part begins
 abbrev pub head_row_start_transition : World → Transition

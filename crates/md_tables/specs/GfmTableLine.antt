@@ -64,14 +64,14 @@ table_adds options _ cells p = delimiter_adds options cells p
 abbrev pub delimiter_runs : delimiter.Run → List ℕ → Point → List Event
 delimiter_runs run [] p = delimiter.closes run p
 delimiter_runs run (b ∷ bs) p =
-    if delimiter.goes_on run b then delimiter_runs run bs (past_byte b p)
+    if delimiter.is_continued run b then delimiter_runs run bs (past_byte b p)
     else delimiter.closes run p ++ delimiter.opens (delimiter.begun b) p
     ++ delimiter_runs (delimiter.begun b) bs (past_byte b p)
 
 abbrev pub row_runs : row.Run → List ℕ → Point → List Event
 row_runs run [] p = row.closes run p
 row_runs run (b ∷ bs) p =
-    if row.goes_on run b then row_runs (row.next run b) bs (past_byte b p)
+    if row.is_continued run b then row_runs (row.next run b) bs (past_byte b p)
     else row.closes run p ++ row.opens (row.begun b) p ++ row_runs (row.begun b) bs (past_byte b p)
 
 -- the events of the line

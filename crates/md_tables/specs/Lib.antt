@@ -13,4 +13,4 @@ pub mod RowCells
 pub mod HeadStates
 pub mod Heads
 pub mod DelimiterCells
-pub mod Goes
+pub mod Proceeds

@@ -96,9 +96,9 @@ shut Head w = exited w GfmTableRow
 shut Body w = exited (exited w GfmTableRow) GfmTable
 
 -- after a part of the row, by whether whitespace is here
-abbrev pub behind_part : Row → World → Bool → Transition
-behind_part r w true = white_then w 1 any_size (Next (name_at r place.Break)) Nok
-behind_part r w false = record { to = Retry (name_at r place.Break); world = w }
+abbrev pub after_part : Row → World → Bool → Transition
+after_part r w true = white_then w 1 any_size (Next (name_at r place.Break)) Nok
+after_part r w false = record { to = Retry (name_at r place.Break); world = w }
 
 -- by what is here
 abbrev pub at_break_code : Row → World → Piece → Transition
@@ -112,9 +112,9 @@ at_break_code r w Escapes = record { to = Retry (name_at r place.Data); world = 
 at_break_code r w Other = record { to = Retry (name_at r place.Data); world = entered_link w Data text_link }
 
 abbrev pub data_code : Row → World → Piece → Transition
-data_code r w Ends = behind_part r (exited w Data) false
-data_code r w White = behind_part r (exited w Data) true
-data_code r w Divides = behind_part r (exited w Data) false
+data_code r w Ends = after_part r (exited w Data) false
+data_code r w White = after_part r (exited w Data) true
+data_code r w Divides = after_part r (exited w Data) false
 data_code r w Escapes = record { to = Next (name_at r place.Escape); world = taken w }
 data_code r w Other = record { to = Next (name_at r place.Data); world = taken w }
 
@@ -125,7 +125,7 @@ escape_code r w false = record { to = Retry (name_at r place.Data); world = w }
 
 -- each state with what it does, where there is memory
 abbrev pub start_transition : Row → World → Transition
-start_transition r w = behind_part r (begun r w) (sees_white w.current)
+start_transition r w = after_part r (begun r w) (sees_white w.current)
 
 abbrev pub at_break_transition : Row → World → Transition
 at_break_transition r w = at_break_code r w (piece w.current)
@@ -137,7 +137,7 @@ abbrev pub escape_transition : Row → World → Transition
 escape_transition r w = escape_code r w (is_escaped w.current)
 
 abbrev pub cell_before_transition : Row → World → Transition
-cell_before_transition r w = behind_part r w (sees_white w.current)
+cell_before_transition r w = after_part r w (sees_white w.current)
 
 -- all of them
 abbrev pub row_transition : Row → Place → World → Transition

@@ -36,15 +36,15 @@ onto b (Shut cell white) = Shut (b ∷ cell) white
 onto b (Divides cell cells) = Divides (b ∷ cell) cells
 
 -- after a pipe, by these bytes and the cells in them
-abbrev pub behind_pipe : List ℕ → Cells → Cells
-behind_pipe bs cells = if is_blank bs then Shut [] bs else Divides [] cells
+abbrev pub after_pipe : List ℕ → Cells → Cells
+after_pipe bs cells = if is_blank bs then Shut [] bs else Divides [] cells
 
 -- the cells of what is left of a line; `escaped` says that a backslash takes the byte that is next
 unfoldable pub cells_of : Bool → List ℕ → Cells
 cells_of escaped [] = Ends []
 cells_of true (b ∷ bs) = onto b (cells_of false bs)
 cells_of false (b ∷ bs) =
-    if b == pipe then behind_pipe bs (cells_of false bs) else onto b (cells_of (b == backslash) bs)
+    if b == pipe then after_pipe bs (cells_of false bs) else onto b (cells_of (b == backslash) bs)
 
 -- The events.
 

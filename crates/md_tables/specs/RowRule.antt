@@ -44,12 +44,12 @@ abbrev pub begun : ℕ → Run
 begun b = if is_white b then White else if b == pipe then Pipe else in_text b
 
 -- whether a run continues with this byte: a word continues up to whitespace, or a pipe that no backslash takes
-abbrev pub goes_on : Run → ℕ → Bool
-goes_on Apart b = false
-goes_on White b = is_white b
-goes_on Pipe b = false
-goes_on Text b = not (is_white b || (b == pipe))
-goes_on Escaped b = not (is_white b)
+abbrev pub is_continued : Run → ℕ → Bool
+is_continued Apart b = false
+is_continued White b = is_white b
+is_continued Pipe b = false
+is_continued Text b = not (is_white b || (b == pipe))
+is_continued Escaped b = not (is_white b)
 
 -- the run that it is then
 abbrev pub next : Run → ℕ → Run
@@ -76,7 +76,7 @@ closes Escaped p = exit Data p ∷ []
 abbrev pub runs : Run → List Cell → Point → List Event
 runs run [] p = closes run p
 runs run (c ∷ cs) p =
-    if goes_on run c.byte then runs (next run c.byte) cs c.after
+    if is_continued run c.byte then runs (next run c.byte) cs c.after
     else closes run p ++ opens (begun c.byte) p ++ runs (begun c.byte) cs c.after
 
 -- the events at the begin and at the end of a row

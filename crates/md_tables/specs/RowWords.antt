@@ -43,13 +43,13 @@ pub record Passes (T : Step) (first : StateName) (old : World) (name : StateName
   pub setting : w.setting ≡ old.setting
 
 -- From a state of a row another of them is reached, or a state with which the row is left.
-abbrev pub GoesTo : Row → StateName → World → StateName → Option State → World → Type 0
-GoesTo r first old next None w = Passes (RowStep r) first old next w
-GoesTo r first old next (Some to) w = to ≢ Error → RunsHere (RowStep r) first old to w × SeesOn to old w
+abbrev pub ProceedsTo : Row → StateName → World → StateName → Option State → World → Type 0
+ProceedsTo r first old next None w = Passes (RowStep r) first old next w
+ProceedsTo r first old next (Some to) w = to ≢ Error → RunsHere (RowStep r) first old to w × SeesOn to old w
 
 -- the next of its parts is reached
-abbrev pub Goes : Row → StateName → World → Option State → World → Type 0
-Goes r first old result w = GoesTo r first old (name_at r place.Break) result w
+abbrev pub Proceeds : Row → StateName → World → Option State → World → Type 0
+Proceeds r first old result w = ProceedsTo r first old (name_at r place.Break) result w
 
 -- What is here was taken, and what follows it is seen at a place of the row, or waited for.
 abbrev pub TakesTo : Row → Place → World → Option State → World → Type 0

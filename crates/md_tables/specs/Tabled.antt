@@ -44,10 +44,10 @@ in_front Body EndsTable p = exit n.GfmTableBody p ∷ []
 in_front _ _ p = []
 
 -- the head begins after the begin of the table, and ends after the delimiter row
-abbrev pub behind : Section → Bound → Point → List Event
-behind Outside BeginsTable p = enter n.GfmTableHead p ∷ []
-behind Head EndsDelimiter p = exit n.GfmTableHead p ∷ []
-behind _ _ p = []
+abbrev pub following : Section → Bound → Point → List Event
+following Outside BeginsTable p = enter n.GfmTableHead p ∷ []
+following Head EndsDelimiter p = exit n.GfmTableHead p ∷ []
+following _ _ p = []
 
 -- the section of a table in which one is after an event
 abbrev pub next : Section → Bound → Section
@@ -66,7 +66,7 @@ with_cells _ stage e es = step stage e es
 abbrev pub given : Section → Stage → Event → List Event → List Event
 given section stage e es =
     in_front section (bound_of e) e.point ++ (with_cells section stage e es).given
-    ++ behind section (bound_of e) e.point
+    ++ following section (bound_of e) e.point
 
 -- what is given from there on
 abbrev pub tabled_from : Section → Stage → List Event → List Event

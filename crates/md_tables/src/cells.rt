@@ -7,7 +7,7 @@
 ghost use Rattle.std.specs.Prelude.{◌≡◌, ◌++◌, ◌∷◌, [], None, OnOk};
 ghost use Rattle.md_events.specs.Events.Nested.{enter, exit};
 ghost use Rattle.md_tables.specs.Cells.{begins_divider, begins_inner, begins_row, cell_name, ends_divider};
-ghost use Rattle.md_tables.specs.Cells.{ends_inner, ends_row, goes_on, has_white, inner_name, is_inner, is_last};
+ghost use Rattle.md_tables.specs.Cells.{ends_inner, ends_row, is_continued, has_white, inner_name, is_inner, is_last};
 ghost use Rattle.md_tables.specs.Cells.{divider_step, ends_with, front_step, gap_step, inner_step, inside_step};
 ghost use Rattle.md_tables.specs.Cells.{last_step, outside_step, piece_step, row_ends, step, within_step};
 
@@ -39,7 +39,7 @@ pub enum Stage {
     /// In the pipe that ends a row.
     Last(RowKind),
     /// After it.
-    Behind,
+    Following,
 }
 
 /// Which row begins here, if one does.
@@ -139,8 +139,8 @@ fn is_last(events: &[Event]) -> bool
 
 /// Whether what a cell holds continues after a piece of it.
 #[inline(always)]
-pub(crate) fn goes_on(kind: RowKind, events: &[Event]) -> bool
-    ensures { result ≡ goes_on kind events.now }
+pub(crate) fn is_continued(kind: RowKind, events: &[Event]) -> bool
+    ensures { result ≡ is_continued kind events.now }
 {
     match kind {
         RowKind::Text => {
@@ -277,13 +277,13 @@ impl Walk {
     }
 
     /// Goes on in a cell.
-    fn within(&mut self, kind: RowKind, event: &Event, behind: &[Event]) -> Result<(), Message>
+    fn within(&mut self, kind: RowKind, event: &Event, following: &[Event]) -> Result<(), Message>
         ensures given { OnOk result
-            (self.new.given.items ≡ self.old.given.items ++ (within_step kind event.now behind.now).given) }
-        ensures stage { OnOk result (self.new.stage ≡ (within_step kind event.now behind.now).stage) }
+            (self.new.given.items ≡ self.old.given.items ++ (within_step kind event.now following.now).given) }
+        ensures stage { OnOk result (self.new.stage ≡ (within_step kind event.now following.now).stage) }
     {
         if begins_divider(event) {
-            return self.divide(kind, event, is_last(behind));
+            return self.divide(kind, event, is_last(following));
         }
         if begins_inner(kind, event) {
             return self.enter_inner(kind, event);
@@ -292,12 +292,12 @@ impl Walk {
     }
 
     /// Goes on after a piece of what a cell holds, by whether that continues.
-    fn piece(&mut self, kind: RowKind, event: &Event, goes_on: bool) -> Result<(), Message>
+    fn piece(&mut self, kind: RowKind, event: &Event, is_continued: bool) -> Result<(), Message>
         ensures given { OnOk result
-            (self.new.given.items ≡ self.old.given.items ++ (piece_step kind event.now goes_on).given) }
-        ensures stage { OnOk result (self.new.stage ≡ (piece_step kind event.now goes_on).stage) }
+            (self.new.given.items ≡ self.old.given.items ++ (piece_step kind event.now is_continued).given) }
+        ensures stage { OnOk result (self.new.stage ≡ (piece_step kind event.now is_continued).stage) }
     {
-        if !goes_on {
+        if !is_continued {
             return self.exit_inner(kind, event);
         }
         match kind {
@@ -310,13 +310,13 @@ impl Walk {
     }
 
     /// Goes on in what a cell holds.
-    fn inner(&mut self, kind: RowKind, event: &Event, behind: &[Event]) -> Result<(), Message>
+    fn inner(&mut self, kind: RowKind, event: &Event, following: &[Event]) -> Result<(), Message>
         ensures given { OnOk result
-            (self.new.given.items ≡ self.old.given.items ++ (inner_step kind event.now behind.now).given) }
-        ensures stage { OnOk result (self.new.stage ≡ (inner_step kind event.now behind.now).stage) }
+            (self.new.given.items ≡ self.old.given.items ++ (inner_step kind event.now following.now).given) }
+        ensures stage { OnOk result (self.new.stage ≡ (inner_step kind event.now following.now).stage) }
     {
         if ends_inner(kind, event) {
-            self.piece(kind, event, goes_on(kind, behind))
+            self.piece(kind, event, is_continued(kind, following))
         } else {
             self.pass(event, Stage::Inner(kind))
         }
@@ -341,7 +341,7 @@ impl Walk {
         ensures stage { OnOk result (self.new.stage ≡ (last_step kind event.now).stage) }
     {
         if ends_divider(event) {
-            self.pass(event, Stage::Behind)?;
+            self.pass(event, Stage::Following)?;
             self.exit_cell(kind, event.point)
         } else {
             self.pass(event, Stage::Last(kind))
@@ -361,23 +361,23 @@ impl Walk {
     }
 
     /// Goes on in a row, or outside.
-    fn inside(&mut self, event: &Event, behind: &[Event]) -> Result<(), Message>
+    fn inside(&mut self, event: &Event, following: &[Event]) -> Result<(), Message>
         ensures given { OnOk result
             (self.new.given.items ≡
-            self.old.given.items ++ (inside_step self.old.stage event.now behind.now).given) }
-        ensures stage { OnOk result (self.new.stage ≡ (inside_step self.old.stage event.now behind.now).stage) }
+            self.old.given.items ++ (inside_step self.old.stage event.now following.now).given) }
+        ensures stage { OnOk result (self.new.stage ≡ (inside_step self.old.stage event.now following.now).stage) }
     {
         match self.stage {
             Stage::Outside => self.outside(event),
             Stage::Front(kind) => self.front(kind, event),
-            Stage::Within(kind) => self.within(kind, event, behind),
-            Stage::Inner(kind) => self.inner(kind, event, behind),
+            Stage::Within(kind) => self.within(kind, event, following),
+            Stage::Inner(kind) => self.inner(kind, event, following),
             Stage::Gap => {
                 self.gap(event);
                 Ok(())
             }
             Stage::Last(kind) => self.last(kind, event),
-            Stage::Behind => self.pass(event, Stage::Behind),
+            Stage::Following => self.pass(event, Stage::Following),
         }
     }
 
@@ -394,15 +394,15 @@ impl Walk {
     }
 
     /// Goes on with an event, before these.
-    pub(crate) fn step(&mut self, event: &Event, behind: &[Event]) -> Result<(), Message>
+    pub(crate) fn step(&mut self, event: &Event, following: &[Event]) -> Result<(), Message>
         ensures given { OnOk result
-            (self.new.given.items ≡ self.old.given.items ++ (step self.old.stage event.now behind.now).given) }
-        ensures stage { OnOk result (self.new.stage ≡ (step self.old.stage event.now behind.now).stage) }
+            (self.new.given.items ≡ self.old.given.items ++ (step self.old.stage event.now following.now).given) }
+        ensures stage { OnOk result (self.new.stage ≡ (step self.old.stage event.now following.now).stage) }
     {
         if ends_row(event) {
             self.end_row(event)
         } else {
-            self.inside(event, behind)
+            self.inside(event, following)
         }
     }
 }

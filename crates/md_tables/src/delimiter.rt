@@ -46,18 +46,18 @@ fn uncounted(scratch: Scratch) -> Scratch
 
 /// Goes on after whitespace, if some is here, and at most so much of it.
 #[inline(always)]
-fn behind_white(tokenizer: &mut Tokenizer, max: usize, next: TableState) -> State
+fn following_white(tokenizer: &mut Tokenizer, max: usize, next: TableState) -> State
     ensures to { result ≢ State.Error →
         result ≡ (white_on (world tokenizer.old) max next (sees_white tokenizer.old.current)).to }
     ensures world { result ≢ State.Error →
         world tokenizer.new ≡ (white_on (world tokenizer.old) max next (sees_white tokenizer.old.current)).world }
     ensures full { OnError result (IsFull tokenizer.new) }
 {
-    let behind = StateName::GfmTable(next);
+    let following = StateName::GfmTable(next);
     if is_space_or_tab(tokenizer.current) {
-        space_or_tab_min_max(tokenizer, 0, max, State::Next(behind), State::Nok)
+        space_or_tab_min_max(tokenizer, 0, max, State::Next(following), State::Nok)
     } else {
-        State::Retry(behind)
+        State::Retry(following)
     }
 }
 
@@ -92,7 +92,7 @@ pub fn head_delimiter_start(tokenizer: &mut Tokenizer) -> State
     or_error!(tokenizer.enter_link(Name::GfmTable, FURTHER));
     or_error!(tokenizer.enter(Name::GfmTableDelimiterRow));
     let max = small_indent(tokenizer);
-    behind_white(tokenizer, max, TableState::HeadDelimiterBefore)
+    following_white(tokenizer, max, TableState::HeadDelimiterBefore)
 }
 
 /// Before the first cell, or at a pipe.
@@ -134,7 +134,7 @@ pub fn head_delimiter_cell_before(tokenizer: &mut Tokenizer) -> State
     requires { IsAt DelimiterNeeds (StateName.GfmTable TableState.HeadDelimiterCellBefore) (world tokenizer.old) }
     ensures { IsTableState TableState.HeadDelimiterCellBefore (world tokenizer.old) result tokenizer.new }
 {
-    behind_white(tokenizer, usize::MAX, TableState::HeadDelimiterValueBefore)
+    following_white(tokenizer, usize::MAX, TableState::HeadDelimiterValueBefore)
 }
 
 /// Before a cell, or at the end of the row after a pipe.
@@ -235,7 +235,7 @@ pub fn head_delimiter_right_alignment_after(tokenizer: &mut Tokenizer) -> State
         (world tokenizer.old) }
     ensures { IsTableState TableState.HeadDelimiterRightAlignmentAfter (world tokenizer.old) result tokenizer.new }
 {
-    behind_white(tokenizer, usize::MAX, TableState::HeadDelimiterCellAfter)
+    following_white(tokenizer, usize::MAX, TableState::HeadDelimiterCellAfter)
 }
 
 /// After a cell and the whitespace that follows it.

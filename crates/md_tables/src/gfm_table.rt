@@ -32,7 +32,7 @@ use md_engine::state::gfm_table::State as TableState;
 use md_engine::state::{Name as StateName, State};
 use md_engine::stay::Stay;
 use md_engine::tokenizer::{HeldLeaf, OpenText, Tokenizer};
-use md_events::space_or_tab::look_behind;
+use md_events::space_or_tab::look_after_white;
 use md_scan::columns::is_small;
 
 /// Whether the last line of this text may be the head of a table.
@@ -71,7 +71,7 @@ pub fn start(tokenizer: &mut Tokenizer) -> State
     requires { IsAt TableNeeds (StateName.GfmTable TableState.Start) (world tokenizer.old) }
     ensures { IsSureTableState TableState.Start (world tokenizer.old) result tokenizer.new }
 {
-    let first = look_behind(tokenizer);
+    let first = look_after_white(tokenizer);
     if !may_begin(tokenizer.flags.leaf, first) {
         return State::Nok;
     }

@@ -11,7 +11,7 @@ ghost use Rattle.std.specs.Option.{option_map};
 ghost use Rattle.md_engine.specs.Found.{found_in};
 ghost use Rattle.md_engine.specs.Full.{IsFull};
 ghost use Rattle.md_engine.specs.Place.{IsPlaced};
-ghost use Rattle.md_engine.specs.Scheme.{stands};
+ghost use Rattle.md_engine.specs.Scheme.{valid};
 ghost use Rattle.md_engine.specs.World.{looks, world};
 ghost use Rattle.md_engine.specs.declared.configuration.ParseOptions.{ParseOptions};
 ghost use Rattle.md_engine.specs.declared.state.Name.{Name as StateName};
@@ -46,7 +46,7 @@ use std::mem;
 #[inline(always)]
 fn call_state(tokenizer: &mut Tokenizer, name: StateName) -> State
     requires current { (world tokenizer.old).current ≡ looks (world tokenizer.old) }
-    requires stands { stands head_scheme (world tokenizer.old) (State.Next name) }
+    requires valid { valid head_scheme (world tokenizer.old) (State.Next name) }
     ensures { IsRun HeadStep name (world tokenizer.old) (IsFull tokenizer.new) result tokenizer.new }
 {
     match name {

@@ -1,13 +1,13 @@
 // Parts of a table that are passed at once: their begin, and their end right after it.
 
 ghost use Rattle.std.specs.Prelude.{◌≡◌, ◌≤◌, ◌+◌, ◌∷◌, IfOk, drop, length, true};
-ghost use Rattle.md_tables.specs.Goes.{IsWithin, begins_body, ends_head, ends_text_row, in_all, in_table, is_between};
-ghost use Rattle.md_tables.specs.Goes.{is_ending, is_pair};
+ghost use Rattle.md_tables.specs.Proceeds.{IsWithin, begins_body, ends_head, ends_text_row, in_all, in_table};
+ghost use Rattle.md_tables.specs.Proceeds.{is_between, is_ending, is_pair};
 ghost use Rattle.md_tables.specs.Cells.{is_divider, is_inner, is_white};
-ghost use Rattle.md_tables.specs.declared.cells.Stage.TheVariants.{Behind, Front, Inner, Outside, Within};
+ghost use Rattle.md_tables.specs.declared.cells.Stage.TheVariants.{Following, Front, Inner, Outside, Within};
 
 use crate::cells::{
-    RowKind, Stage, begins_row, cell_name, ends_inner, goes_on, inner_name, is_inner, row_ends,
+    RowKind, Stage, begins_row, cell_name, ends_inner, inner_name, is_continued, is_inner, row_ends,
 };
 use crate::giving::{
     give, give_between, give_first, give_last, give_two, give_two_first, give_two_last, give_whole,
@@ -105,7 +105,7 @@ impl Walk {
         kind: RowKind,
         begin: &Event,
         end: &Event,
-        behind: &[Event],
+        following: &[Event],
     ) -> Result<(usize, bool), Message>
         requires section { in_table self.old.section ≡ true }
         requires stage { self.old.rows.stage ≡ Within kind }
@@ -114,11 +114,11 @@ impl Walk {
         ensures stays { IfOk result (λ part. part.1 ≡ true → IsWithin kind part.0 self.new.rows.stage) }
         ensures within { IfOk result (λ part. part.0 ≤ 2) }
         ensures in_all { IfOk result (λ part.
-            in_all self.new (drop part.0 (begin.now ∷ end.now ∷ behind.now))
-            ≡ in_all self.old (begin.now ∷ end.now ∷ behind.now)) }
+            in_all self.new (drop part.0 (begin.now ∷ end.now ∷ following.now))
+            ≡ in_all self.old (begin.now ∷ end.now ∷ following.now)) }
     {
         let name = inner_name(kind);
-        if goes_on(kind, behind) {
+        if is_continued(kind, following) {
             give_first(&mut self.rows.given, name, begin)?;
             self.rows.stage = Stage::Inner(kind);
             return Ok((1, false));
@@ -135,23 +135,23 @@ impl Walk {
         kind: RowKind,
         begin: &Event,
         end: &Event,
-        behind: &[Event],
+        following: &[Event],
     ) -> Result<(usize, bool), Message>
         requires section { in_table self.old.section ≡ true }
         requires stage { self.old.rows.stage ≡ Within kind }
         requires pipe { is_pair is_divider begin.now end.now ≡ true }
         ensures section { in_table self.new.section ≡ true }
         ensures stays { IfOk result (λ part. part.1 ≡ true → IsWithin kind part.0 self.new.rows.stage) }
-        ensures within { IfOk result (λ part. part.0 ≤ 2 + length behind.now) }
+        ensures within { IfOk result (λ part. part.0 ≤ 2 + length following.now) }
         ensures in_all { IfOk result (λ part.
-            in_all self.new (drop part.0 (begin.now ∷ end.now ∷ behind.now))
-            ≡ in_all self.old (begin.now ∷ end.now ∷ behind.now)) }
+            in_all self.new (drop part.0 (begin.now ∷ end.now ∷ following.now))
+            ≡ in_all self.old (begin.now ∷ end.now ∷ following.now)) }
     {
         let name = cell_name(kind);
-        if row_ends(behind) {
+        if row_ends(following) {
             give_two_last(&mut self.rows.given, begin, end, name)?;
-            self.rows.stage = Stage::Behind;
-            let many = self.part_behind(behind)?;
+            self.rows.stage = Stage::Following;
+            let many = self.part_after(following)?;
             return Ok((2 + many, false));
         }
         give_between(&mut self.rows.given, name, begin, end)?;
@@ -170,7 +170,7 @@ impl Walk {
         ensures in_all { IfOk result
             (λ part. in_all self.new (drop part.0 events.now) ≡ in_all self.old events.now) }
     {
-        let [begin, end, behind @ ..] = events else {
+        let [begin, end, following @ ..] = events else {
             return Ok((0, false));
         };
         if is_white_pair(begin, end) {
@@ -178,10 +178,10 @@ impl Walk {
             return Ok((2, true));
         }
         if is_piece(kind, begin, end) {
-            return self.piece_within(kind, begin, end, behind);
+            return self.piece_within(kind, begin, end, following);
         }
         if is_pipe(begin, end) {
-            return self.pipe_within(kind, begin, end, behind);
+            return self.pipe_within(kind, begin, end, following);
         }
         Ok((0, false))
     }
@@ -215,13 +215,13 @@ impl Walk {
         ensures within { IfOk result (λ many. many ≤ length events.now) }
         ensures in_all { IfOk result (λ many. in_all self.new (drop many events.now) ≡ in_all self.old events.now) }
     {
-        let [end, behind @ ..] = events else {
+        let [end, following @ ..] = events else {
             return Ok(0);
         };
         if !ends_inner(kind, end) {
             return Ok(0);
         }
-        if !goes_on(kind, behind) {
+        if !is_continued(kind, following) {
             give_last(&mut self.rows.given, end, inner_name(kind))?;
             self.rows.stage = Stage::Within(kind);
             return Ok(1);
@@ -229,7 +229,7 @@ impl Walk {
         match kind {
             RowKind::Text => Ok(4),
             RowKind::Delimiter => {
-                give_two(&mut self.rows.given, end, &behind[0])?;
+                give_two(&mut self.rows.given, end, &following[0])?;
                 Ok(2)
             }
         }
@@ -293,9 +293,9 @@ impl Walk {
 
     /// Goes on after the last pipe of a row with the end of the row, which may end the head.
     #[inline(always)]
-    fn part_behind(&mut self, events: &[Event]) -> Result<usize, Message>
+    fn part_after(&mut self, events: &[Event]) -> Result<usize, Message>
         requires section { in_table self.old.section ≡ true }
-        requires stage { self.old.rows.stage ≡ Behind }
+        requires stage { self.old.rows.stage ≡ Following }
         ensures section { in_table self.new.section ≡ true }
         ensures within { IfOk result (λ many. many ≤ length events.now) }
         ensures in_all { IfOk result (λ many. in_all self.new (drop many events.now) ≡ in_all self.old events.now) }
@@ -332,7 +332,7 @@ impl Walk {
             Stage::Inner(RowKind::Delimiter) => self.part_inner(RowKind::Delimiter, events),
             Stage::Front(kind) => self.part_front(kind, events),
             Stage::Outside => self.part_outside(events),
-            Stage::Behind => self.part_behind(events),
+            Stage::Following => self.part_after(events),
             _ => Ok(0),
         }
     }

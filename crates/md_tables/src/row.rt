@@ -17,7 +17,7 @@ ghost use Rattle.md_engine.specs.declared.state.State.{State};
 ghost use Rattle.md_events.specs.Spaces.{sees_white};
 ghost use Rattle.md_events.specs.Stays.{TakesEach};
 ghost use Rattle.md_events.specs.Transition.{IsAt, NeedsNothing};
-ghost use Rattle.md_tables.specs.Row.{begun, behind_part};
+ghost use Rattle.md_tables.specs.Row.{begun, after_part};
 ghost use Rattle.md_tables.specs.Row.{place_of, row_transition, state_at};
 ghost use Rattle.md_tables.specs.RowRule.{IsRowState, IsSureRowState};
 
@@ -110,11 +110,11 @@ pub(crate) fn name_at(row: Row, place: Place) -> StateName
 }
 
 /// Goes on after a part of the row: after whitespace, if some is here.
-pub(crate) fn behind_part(tokenizer: &mut Tokenizer, row: Row) -> State
+pub(crate) fn after_part(tokenizer: &mut Tokenizer, row: Row) -> State
     ensures to { result ≢ State.Error →
-        result ≡ (behind_part row (world tokenizer.old) (sees_white tokenizer.old.current)).to }
+        result ≡ (after_part row (world tokenizer.old) (sees_white tokenizer.old.current)).to }
     ensures world { result ≢ State.Error →
-        world tokenizer.new ≡ (behind_part row (world tokenizer.old) (sees_white tokenizer.old.current)).world }
+        world tokenizer.new ≡ (after_part row (world tokenizer.old) (sees_white tokenizer.old.current)).world }
     ensures full { OnError result (IsFull tokenizer.new) }
 {
     let next = name_at(row, Place::Break);
@@ -151,7 +151,7 @@ pub fn start(tokenizer: &mut Tokenizer, row: Row) -> State
     ensures { IsRowState row Place.Start (world tokenizer.old) result tokenizer.new }
 {
     or_error!(begin_row(tokenizer, row));
-    behind_part(tokenizer, row)
+    after_part(tokenizer, row)
 }
 
 /// Between two parts of a row, or at its end.
@@ -207,7 +207,7 @@ pub fn data(tokenizer: &mut Tokenizer, row: Row) -> State
     match tokenizer.current {
         None | Some(b'\n' | b' ' | b'\t' | b'|') => {
             or_error!(tokenizer.exit(Name::Data));
-            behind_part(tokenizer, row)
+            after_part(tokenizer, row)
         }
         Some(byte) => {
             let place = if byte == b'\\' {
@@ -258,7 +258,7 @@ pub fn cell_before(tokenizer: &mut Tokenizer, row: Row) -> State
     requires { IsAt NeedsNothing (StateName.GfmTable (state_at row Place.CellBefore)) (world tokenizer.old) }
     ensures { IsRowState row Place.CellBefore (world tokenizer.old) result tokenizer.new }
 {
-    behind_part(tokenizer, row)
+    after_part(tokenizer, row)
 }
 
 /// What a state of a row only takes.

@@ -15,11 +15,11 @@ ghost use Rattle.md_engine.specs.declared.stay.Stay.{Stay};
 ghost use Rattle.md_meaning.specs.Ascii.{pipe};
 ghost use Rattle.md_events.specs.Spaces.{sees_white};
 ghost use Rattle.md_events.specs.Transition.{IsAt, NeedsNothing};
-ghost use Rattle.md_tables.specs.Row.{behind_part, is_escaped, is_text, name_at, piece};
-ghost use Rattle.md_tables.specs.RowWords.{Goes, GoesTo, IsGap, RowStep, TakesTo, divided, is_backslash};
+ghost use Rattle.md_tables.specs.Row.{after_part, is_escaped, is_text, name_at, piece};
+ghost use Rattle.md_tables.specs.RowWords.{Proceeds, ProceedsTo, IsGap, RowStep, TakesTo, divided, is_backslash};
 ghost use Rattle.md_events.specs.States.{IsRun};
 
-use crate::row::{Place, Row, TEXT_LINK, at_break, begin_row, behind_part, name_at};
+use crate::row::{Place, Row, TEXT_LINK, after_part, at_break, begin_row, name_at};
 use md_engine::class::Class;
 use md_engine::event::Name;
 use md_engine::message::Message;
@@ -95,11 +95,11 @@ fn gap(tokenizer: &mut Tokenizer, row: Row) -> Option<State>
     ensures none { result ≡ None → IsGap (world tokenizer.old) (world tokenizer.new) }
     ensures to { IfSome result
         (λ to. to ≢ State.Error →
-        to ≡ (behind_part row (world tokenizer.old) (sees_white tokenizer.old.current)).to) }
+        to ≡ (after_part row (world tokenizer.old) (sees_white tokenizer.old.current)).to) }
     ensures world { IfSome result
         (λ to. to ≢ State.Error →
         world tokenizer.new ≡
-        (behind_part row (world tokenizer.old) (sees_white tokenizer.old.current)).world) }
+        (after_part row (world tokenizer.old) (sees_white tokenizer.old.current)).world) }
     ensures full { IfSome result (λ to. OnError to (IsFull tokenizer.new)) }
 {
     if is_one_space(tokenizer) {
@@ -108,7 +108,7 @@ fn gap(tokenizer: &mut Tokenizer, row: Row) -> Option<State>
         }
         None
     } else if is_space_or_tab(tokenizer.current) {
-        Some(behind_part(tokenizer, row))
+        Some(after_part(tokenizer, row))
     } else {
         None
     }
@@ -134,7 +134,7 @@ fn take_to(tokenizer: &mut Tokenizer, row: Row, place: Place) -> Option<State>
 fn pass_plain(tokenizer: &mut Tokenizer, row: Row) -> Option<State>
     requires at { IsAt NeedsNothing (name_at row Place.Data) (world tokenizer.old) }
     requires inside { (world tokenizer.old).point.index < (world tokenizer.old).setting.limit }
-    ensures goes { GoesTo row (name_at row Place.Data) (world tokenizer.old) (name_at row Place.Data) result
+    ensures proceeds { ProceedsTo row (name_at row Place.Data) (world tokenizer.old) (name_at row Place.Data) result
         (world tokenizer.new) }
     ensures rests { result ≡ None →
         cells_left (world tokenizer.new).setting.limit (world tokenizer.new).point ≤
@@ -163,7 +163,7 @@ fn pass_plain(tokenizer: &mut Tokenizer, row: Row) -> Option<State>
 #[inline(always)]
 fn pass_escape(tokenizer: &mut Tokenizer, row: Row) -> Option<State>
     requires { IsAt NeedsNothing (name_at row Place.Escape) (world tokenizer.old) }
-    ensures goes { GoesTo row (name_at row Place.Escape) (world tokenizer.old) (name_at row Place.Data) result
+    ensures proceeds { ProceedsTo row (name_at row Place.Escape) (world tokenizer.old) (name_at row Place.Data) result
         (world tokenizer.new) }
     ensures rests { result ≡ None →
         cells_left (world tokenizer.new).setting.limit (world tokenizer.new).point ≤
@@ -188,7 +188,7 @@ fn pass_escape(tokenizer: &mut Tokenizer, row: Row) -> Option<State>
 fn pass_text(tokenizer: &mut Tokenizer, row: Row) -> Option<State>
     requires at { IsAt NeedsNothing (name_at row Place.Data) (world tokenizer.old) }
     requires text { is_text (piece (world tokenizer.old).current) ≡ true }
-    ensures goes { GoesTo row (name_at row Place.Data) (world tokenizer.old) (name_at row Place.Data) result
+    ensures proceeds { ProceedsTo row (name_at row Place.Data) (world tokenizer.old) (name_at row Place.Data) result
         (world tokenizer.new) }
     ensures inside { result ≡ None → (world tokenizer.new).point.index < (world tokenizer.new).setting.limit }
     ensures falls { result ≡ None →
@@ -210,7 +210,7 @@ fn pass_text(tokenizer: &mut Tokenizer, row: Row) -> Option<State>
 #[inline(always)]
 fn pass_rest(tokenizer: &mut Tokenizer, row: Row) -> Option<State>
     requires { IsAt NeedsNothing (name_at row Place.Data) (world tokenizer.old) }
-    ensures goes { GoesTo row (name_at row Place.Data) (world tokenizer.old) (name_at row Place.Data) result
+    ensures proceeds { ProceedsTo row (name_at row Place.Data) (world tokenizer.old) (name_at row Place.Data) result
         (world tokenizer.new) }
     ensures ends { result ≡ None → is_text (piece (world tokenizer.new).current) ≡ false }
     ensures falls { result ≡ None →
@@ -241,7 +241,7 @@ fn pass_rest(tokenizer: &mut Tokenizer, row: Row) -> Option<State>
 #[inline(always)]
 fn end_word(tokenizer: &mut Tokenizer, row: Row) -> Option<State>
     requires { IsAt NeedsNothing (name_at row Place.Data) (world tokenizer.old) }
-    ensures goes { Goes row (name_at row Place.Data) (world tokenizer.old) result (world tokenizer.new) }
+    ensures proceeds { Proceeds row (name_at row Place.Data) (world tokenizer.old) result (world tokenizer.new) }
     ensures rests { result ≡ None →
         cells_left (world tokenizer.new).setting.limit (world tokenizer.new).point ≤
         cells_left (world tokenizer.old).setting.limit (world tokenizer.old).point }
@@ -271,7 +271,7 @@ fn end_word(tokenizer: &mut Tokenizer, row: Row) -> Option<State>
 fn pass_word(tokenizer: &mut Tokenizer, row: Row) -> Option<State>
     requires at { IsAt NeedsNothing (name_at row Place.Break) (world tokenizer.old) }
     requires text { is_text (piece (world tokenizer.old).current) ≡ true }
-    ensures goes { Goes row (name_at row Place.Break) (world tokenizer.old) result (world tokenizer.new) }
+    ensures proceeds { Proceeds row (name_at row Place.Break) (world tokenizer.old) result (world tokenizer.new) }
     ensures falls { result ≡ None →
         cells_left (world tokenizer.new).setting.limit (world tokenizer.new).point <
         cells_left (world tokenizer.old).setting.limit (world tokenizer.old).point }
@@ -298,7 +298,7 @@ fn pass_word(tokenizer: &mut Tokenizer, row: Row) -> Option<State>
 fn pass_pipe(tokenizer: &mut Tokenizer, row: Row) -> Option<State>
     requires at { IsAt NeedsNothing (name_at row Place.Break) (world tokenizer.old) }
     requires pipe { (world tokenizer.old).current ≡ Some pipe }
-    ensures goes { Goes row (name_at row Place.Break) (world tokenizer.old) result (world tokenizer.new) }
+    ensures proceeds { Proceeds row (name_at row Place.Break) (world tokenizer.old) result (world tokenizer.new) }
     ensures falls { result ≡ None →
         cells_left (world tokenizer.new).setting.limit (world tokenizer.new).point <
         cells_left (world tokenizer.old).setting.limit (world tokenizer.old).point }
@@ -324,7 +324,7 @@ fn pass_pipe(tokenizer: &mut Tokenizer, row: Row) -> Option<State>
 #[inline(always)]
 fn pass_part(tokenizer: &mut Tokenizer, row: Row) -> Option<State>
     requires { IsAt NeedsNothing (name_at row Place.Break) (world tokenizer.old) }
-    ensures goes { Goes row (name_at row Place.Break) (world tokenizer.old) result (world tokenizer.new) }
+    ensures proceeds { Proceeds row (name_at row Place.Break) (world tokenizer.old) result (world tokenizer.new) }
     ensures falls { result ≡ None →
         cells_left (world tokenizer.new).setting.limit (world tokenizer.new).point <
         cells_left (world tokenizer.old).setting.limit (world tokenizer.old).point }
@@ -371,7 +371,7 @@ fn parts(tokenizer: &mut Tokenizer, row: Row) -> State
 #[inline(always)]
 fn begin(tokenizer: &mut Tokenizer, row: Row) -> Option<State>
     requires { IsAt NeedsNothing (name_at row Place.Start) (world tokenizer.old) }
-    ensures goes { Goes row (name_at row Place.Start) (world tokenizer.old) result (world tokenizer.new) }
+    ensures proceeds { Proceeds row (name_at row Place.Start) (world tokenizer.old) result (world tokenizer.new) }
     ensures full { IfSome result (λ to. OnError to (IsFull tokenizer.new)) }
 {
     if begin_row(tokenizer, row).is_err() {
@@ -389,9 +389,9 @@ fn begin(tokenizer: &mut Tokenizer, row: Row) -> Option<State>
 ///      ^   ^
 /// ```
 #[inline(always)]
-fn behind_pipe(tokenizer: &mut Tokenizer, row: Row) -> Option<State>
+fn after_pipe(tokenizer: &mut Tokenizer, row: Row) -> Option<State>
     requires { IsAt NeedsNothing (name_at row Place.CellBefore) (world tokenizer.old) }
-    ensures goes { Goes row (name_at row Place.CellBefore) (world tokenizer.old) result (world tokenizer.new) }
+    ensures proceeds { Proceeds row (name_at row Place.CellBefore) (world tokenizer.old) result (world tokenizer.new) }
     ensures full { IfSome result (λ to. OnError to (IsFull tokenizer.new)) }
 {
     gap(tokenizer, row)
@@ -406,9 +406,9 @@ fn behind_pipe(tokenizer: &mut Tokenizer, row: Row) -> Option<State>
 ///         ^
 /// ```
 #[inline(always)]
-fn behind_backslash(tokenizer: &mut Tokenizer, row: Row) -> Option<State>
+fn after_backslash(tokenizer: &mut Tokenizer, row: Row) -> Option<State>
     requires { IsAt NeedsNothing (name_at row Place.Escape) (world tokenizer.old) }
-    ensures goes { Goes row (name_at row Place.Escape) (world tokenizer.old) result (world tokenizer.new) }
+    ensures proceeds { Proceeds row (name_at row Place.Escape) (world tokenizer.old) result (world tokenizer.new) }
     ensures full { IfSome result (λ to. OnError to (IsFull tokenizer.new)) }
 {
     if let Some(state) = pass_escape(tokenizer, row) {
@@ -421,15 +421,15 @@ fn behind_backslash(tokenizer: &mut Tokenizer, row: Row) -> Option<State>
 #[inline(always)]
 fn reach(tokenizer: &mut Tokenizer, row: Row, place: Place) -> Option<State>
     requires { IsAt NeedsNothing (name_at row place) (world tokenizer.old) }
-    ensures goes { Goes row (name_at row place) (world tokenizer.old) result (world tokenizer.new) }
+    ensures proceeds { Proceeds row (name_at row place) (world tokenizer.old) result (world tokenizer.new) }
     ensures full { IfSome result (λ to. OnError to (IsFull tokenizer.new)) }
 {
     match place {
         Place::Start => begin(tokenizer, row),
         Place::Break => None,
         Place::Data => end_word(tokenizer, row),
-        Place::Escape => behind_backslash(tokenizer, row),
-        Place::CellBefore => behind_pipe(tokenizer, row),
+        Place::Escape => after_backslash(tokenizer, row),
+        Place::CellBefore => after_pipe(tokenizer, row),
     }
 }
 
@@ -437,7 +437,8 @@ fn reach(tokenizer: &mut Tokenizer, row: Row, place: Place) -> Option<State>
 #[inline(always)]
 pub fn call(tokenizer: &mut Tokenizer, row: Row, place: Place) -> State
     requires { IsAt NeedsNothing (name_at row place) (world tokenizer.old) }
-    ensures { IsRun (RowStep row) (name_at row place) (world tokenizer.old) (IsFull tokenizer.new) result tokenizer.new }
+    ensures { IsRun (RowStep row) (name_at row place) (world tokenizer.old) (IsFull tokenizer.new) result
+        tokenizer.new }
 {
     match reach(tokenizer, row, place) {
         Some(state) => state,

@@ -15,8 +15,9 @@ ghost use Rattle.std.specs.List.{prefix_len};
 ghost use Rattle.md_events.specs.Parts.{ArePlaced};
 ghost use Rattle.md_engine.specs.declared.event.Kind.{Kind};
 ghost use Rattle.md_tables.specs.declared.tables.Bound.{Bound};
-ghost use Rattle.md_tables.specs.Goes.{in_all, in_table};
-ghost use Rattle.md_tables.specs.Tabled.{behind, bound_by, bound_of, given, in_front, next, passes, tabled, with_cells};
+ghost use Rattle.md_tables.specs.Proceeds.{in_all, in_table};
+ghost use Rattle.md_tables.specs.Tabled.{following, bound_by, bound_of, given, in_front, next, passes, tabled};
+ghost use Rattle.md_tables.specs.Tabled.{with_cells};
 
 use crate::cells;
 use crate::cells::{Stage, plain};
@@ -164,9 +165,10 @@ impl Walk {
     }
 
     /// Begins or ends the head after an event.
-    fn put_behind(&mut self, bound: Bound, event: &Event) -> Result<(), Message>
+    fn put_after(&mut self, bound: Bound, event: &Event) -> Result<(), Message>
         ensures given { OnOk result
-            (self.new.rows.given.items ≡ self.old.rows.given.items ++ behind self.old.section bound event.now.point) }
+            (self.new.rows.given.items ≡ self.old.rows.given.items
+            ++ following self.old.section bound event.now.point) }
         ensures section { self.new.section ≡ self.old.section }
         ensures stage { self.new.rows.stage ≡ self.old.rows.stage }
     {
@@ -186,37 +188,37 @@ impl Walk {
 
     /// Gives an event itself: in a table, with the cells of its row.
     #[inline(always)]
-    fn put(&mut self, event: &Event, behind: &[Event]) -> Result<(), Message>
+    fn put(&mut self, event: &Event, following: &[Event]) -> Result<(), Message>
         ensures given { OnOk result
             (self.new.rows.given.items ≡
             self.old.rows.given.items
-            ++ (with_cells self.old.section self.old.rows.stage event.now behind.now).given) }
+            ++ (with_cells self.old.section self.old.rows.stage event.now following.now).given) }
         ensures section { self.new.section ≡ self.old.section }
         ensures stage { OnOk result
-            (self.new.rows.stage ≡ (with_cells self.old.section self.old.rows.stage event.now behind.now).stage) }
+            (self.new.rows.stage ≡ (with_cells self.old.section self.old.rows.stage event.now following.now).stage) }
     {
         match self.section {
             Section::Outside => self.rows.pass(event, Stage::Outside),
-            _ => self.rows.step(event, behind),
+            _ => self.rows.step(event, following),
         }
     }
 
     /// Goes on with an event, before these.
-    fn step(&mut self, event: &Event, behind: &[Event]) -> Result<(), Message>
+    fn step(&mut self, event: &Event, following: &[Event]) -> Result<(), Message>
         ensures given { OnOk result
             (self.new.rows.given.items ≡
-            self.old.rows.given.items ++ given self.old.section self.old.rows.stage event.now behind.now) }
+            self.old.rows.given.items ++ given self.old.section self.old.rows.stage event.now following.now) }
         ensures section { OnOk result (self.new.section ≡ next self.old.section (bound_of event.now)) }
         ensures stage { OnOk result
-            (self.new.rows.stage ≡ (with_cells self.old.section self.old.rows.stage event.now behind.now).stage) }
+            (self.new.rows.stage ≡ (with_cells self.old.section self.old.rows.stage event.now following.now).stage) }
     {
         if !may_bound(event.name) {
-            return self.put(event, behind);
+            return self.put(event, following);
         }
         let bound = bound_of(event);
         self.put_in_front(bound, event)?;
-        self.put(event, behind)?;
-        self.put_behind(bound, event)?;
+        self.put(event, following)?;
+        self.put_after(bound, event)?;
         self.section = next(self.section, bound);
         Ok(())
     }

@@ -22,7 +22,7 @@ use Rattle.md_meaning.specs.State.{InFootnote}
 use Rattle.md_meaning.specs.Tree.{Blocks, End, Footnote, More}
 use Rattle.md_meaning.specs.Wrapped.{IsItemable}
 use Rattle.md_meaning.proofs.PrefixedLines.{first-line}
-use Rattle.md_meaning.proofs.WrapLaw.{GoesOn, Opens, Wrap, Wraps, labels-alone, wrap-law}
+use Rattle.md_meaning.proofs.WrapLaw.{IsContinued, Opens, Wrap, Wraps, labels-alone, wrap-law}
 use Rattle.md_wrap.specs.Footnoted.{IsFootnoteOf, NestsInFootnote, first_prefix, footnoted, further_prefix, x_label}
 
 abbrev footnote_wrap : Wrap
@@ -65,9 +65,9 @@ footnote-opens options b bytes on white =
     refl
 
 -- it continues over a further line, blank or not
-footnote-goes_on : (options : ParseOptions) (line : List ℕ) → GoesOn options footnote_wrap line
+footnote-is_continued : (options : ParseOptions) (line : List ℕ) → IsContinued options footnote_wrap line
 unfolding footnote_continues
-footnote-goes_on options line =
+footnote-is_continued options line =
     ap (λ (t : Bool). cond t (Some (record { container = InFootnote x_label; rest = rest_at 4 line })) None)
     (go (is_blank line) (white_columns 4 line))
   where
@@ -83,7 +83,7 @@ footnote-wraps options b bytes on white = record {
   no_front = λ bytes. refl;
   is_prefix = (refl, (refl, (refl, (refl, tt))));
   opens = footnote-opens options b bytes on white;
-  goes_on = footnote-goes_on options;
+  is_continued = footnote-is_continued options;
 }
 
 -- the tree of the text is in one footnote definition

@@ -109,11 +109,11 @@ pub line-boundary : (text : List ℕ) (at : ℕ) → IsUtf8 text → at < length
     IsCharBoundary text (at + ending_len (drop at text))
 line-boundary text at u lt here =
     let ascii : get_or text at 0 < 128 = ending-ascii (get_or text at 0) here in
-    let behind : IsUtf8 (drop at text) = IsUtf8-drop text at u (IsCharBoundary-before_ascii text at lt ascii) in
+    let following : IsUtf8 (drop at text) = IsUtf8-drop text at u (IsCharBoundary-before_ascii text at lt ascii) in
     let first : get_or (drop at text) 0 0 ≡ get_or text (at + 0) 0 = get_or-drop at text 0 0 in
     let same : at + 0 ≡ at = omega arith in
     let low : get_or (drop at text) 0 0 < 128 = rw (first, same) ascii in
     IsCharBoundary-from_rest text at (ending_len (drop at text)) (omega (arith, lt))
-    (ending-boundary (drop at text) behind low)
+    (ending-boundary (drop at text) following low)
 
 -- One line more has its prefix.

@@ -84,11 +84,11 @@ fn prefixed(alloc: Global, text: &str, first: &str, further: &str) -> Result<Str
     let mut prefix = first;
     let mut left = text;
     'lines: while !left.is_empty() {
-        let (line, behind) = left.split_at(line_len(left));
+        let (line, following) = left.split_at(line_len(left));
         push(&mut wrapped, prefix)?;
         push(&mut wrapped, line)?;
         prefix = further;
-        left = behind;
+        left = following;
     }
     Ok(wrapped)
 }

@@ -36,15 +36,15 @@ depth_at around Enter = around
 depth_at around Exit = around - 1
 
 -- how many parts are open after an event
-abbrev pub open_behind : ℕ → Kind → ℕ
-open_behind around Enter = around + 1
-open_behind around Exit = around - 1
+abbrev pub open_following : ℕ → Kind → ℕ
+open_following around Enter = around + 1
+open_following around Exit = around - 1
 
 -- the lines of events, where so many parts are open before the first
 abbrev pub printed_within : ℕ → List Event → List ℕ
 printed_within around [] = []
 printed_within around (e ∷ es) =
-    printed_event (depth_at around e.kind) e ++ printed_within (open_behind around e.kind) es
+    printed_event (depth_at around e.kind) e ++ printed_within (open_following around e.kind) es
 
 -- the lines of all events of a text
 abbrev pub printed_events : List Event → List ℕ

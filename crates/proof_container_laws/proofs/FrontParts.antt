@@ -12,23 +12,23 @@ use Rattle.md_containers.proofs.UnlistedLemmas.{NoListing}
 use Rattle.md_containers.specs.Unlisted.{in_place}
 use Rattle.md_meaning.specs.Rest.{is_blank}
 use Rattle.md_outline.specs.Between.{is_between}
-use Rattle.md_outline.specs.Roles.{is_plain, is_told}
+use Rattle.md_outline.specs.Roles.{is_plain, is_recorded}
 use Rattle.md_events.specs.Events.Inline.{pair_unless_empty}
 use Rattle.md_events.specs.Events.Nested.{around, exit, pair}
-use Rattle.md_events.specs.Events.Pieces.{piece_stands, stands_over}
+use Rattle.md_events.specs.Events.Pieces.{is_valid_piece, may_cover}
 use Rattle.md_events.specs.Events.Places.{at_or_before, same_place}
 use Rattle.md_events.specs.Events.Spelled.{role}
 use Rattle.md_events.proofs.EndingsLemmas.{AreOthers, others-append}
 use Rattle.md_events.proofs.NestedLemmas.{balanced-none}
-use Rattle.proof_frame.proofs.BetweenFacts.{AreBetween, around-between, between-append, between-behind, between-pair}
+use Rattle.proof_frame.proofs.BetweenFacts.{AreBetween, around-between, between-append, between-following, between-pair}
 use Rattle.proof_frame.proofs.BetweenFacts.{is_low, white-between}
 use Rattle.proof_frame.proofs.EachEvent.{each-append}
 use Rattle.proof_frame.proofs.EventNames.{is_front}
-use Rattle.proof_frame.proofs.LeafStands.{unlisted-both}
+use Rattle.proof_frame.proofs.LeafAllowed.{unlisted-both}
 use Rattle.proof_frame.proofs.OtherNames.{Other, others-around}
 use Rattle.proof_frame.proofs.PartedFacts.{PrefixesAtLineStart, Still, around-sits, clear, sits-append}
-use Rattle.proof_frame.proofs.PieceFacts.{PiecesValid, Starts, begins-cut, piece-stands, span, stood-append, stood-around}
-use Rattle.proof_frame.proofs.PieceFacts.{stood-none, stood-pair}
+use Rattle.proof_frame.proofs.PieceFacts.{PiecesValid, Starts, begins-cut, piece-valid, span, is_valid-append}
+use Rattle.proof_frame.proofs.PieceFacts.{is_valid-around, is_valid-none, is_valid-pair}
 use Rattle.proof_frame.proofs.PiecesLemmas.{Covered, tiled-append, tiled-around, tiled-none, tiled-pair}
 use Rattle.proof_frame.proofs.PlainFacts.{ArePlain, plain-append, plain-around, plain-nil}
 use Rattle.proof_frame.proofs.PrefixFacts.{PrefixFacts}
@@ -42,7 +42,7 @@ pub record FrontPart (bytes : List ℕ) (p q : Point) (es : List Event) : Type 0
   pub nested : Nested_in p q es
   pub tiled : Covered p q es
   -- their pieces are over what their names say, and none ends a line
-  pub stood : PiecesValid bytes es
+  pub is_valid : PiecesValid bytes es
   pub others : AreOthers es
   -- they are between characters, if they begin so
   pub between : is_between bytes p.index ≡ true → AreBetween bytes es × (is_between bytes q.index ≡ true)
@@ -60,7 +60,7 @@ part-facts h line clear = record {
   nested = h.nested;
   line = line;
   tiled = h.tiled;
-  stood = h.stood;
+  is_valid = h.is_valid;
   others = h.others;
   clear = clear;
   between = h.between;
@@ -72,7 +72,7 @@ pub part-none : {bytes : List ℕ} (p q : Point) → IsTrue (at_or_before p q) �
 part-none {bytes = bytes} p q onward same ends = record {
   nested = (balanced-none, (tt, onward));
   tiled = tiled-none p q same;
-  stood = stood-none bytes;
+  is_valid = is_valid-none bytes;
   others = refl;
   between = λ from. (refl, ends from);
   names = tt;
@@ -87,7 +87,7 @@ pub part-append : {bytes : List ℕ} {p q r : Point} {xs ys : List Event} → Fr
 part-append {bytes = bytes} {p = p} {q = q} {r = r} {xs = xs} {ys = ys} h k = record {
   nested = nested_in-append p q r xs ys h.nested k.nested;
   tiled = tiled-append p q r xs ys h.tiled k.tiled;
-  stood = stood-append bytes xs ys h.stood k.stood;
+  is_valid = is_valid-append bytes xs ys h.is_valid k.is_valid;
   others = others-append xs ys h.others k.others;
   between = λ from.
       let first = h.between from in
@@ -103,20 +103,20 @@ abbrev pub IsFrontName : Name → Type 0
 IsFrontName name = Other name × (is_front name ≡ true) × (is_plain (role name) ≡ true) × (in_place name ≡ name)
 
 -- a point that cuts no tab is clear, be the text there said or not
-pub told-whole : (bytes : List ℕ) (name : Name) (p : Point) → p.vs ≡ 0 →
-    (not (is_told (role name)) || clear bytes p) ≡ true
-told-whole bytes name p e = or_right (not (is_told (role name))) (clear bytes p) (rw e refl)
+pub recorded-whole : (bytes : List ℕ) (name : Name) (p : Point) → p.vs ≡ 0 →
+    (not (is_recorded (role name)) || clear bytes p) ≡ true
+recorded-whole bytes name p e = or_right (not (is_recorded (role name))) (clear bytes p) (rw e refl)
 
 -- a pair
 pub part-pair : {bytes : List ℕ} (name : Name) (p q : Point) → IsFrontName name →
-    PrefixesAtLineStart bytes (pair name p q) → (not (is_told (role name)) || clear bytes p) ≡ true →
-    (not (is_told (role name)) || clear bytes q) ≡ true → IsTrue (at_or_before p q) →
-    piece_stands bytes (span name p q) ≡ true →
+    PrefixesAtLineStart bytes (pair name p q) → (not (is_recorded (role name)) || clear bytes p) ≡ true →
+    (not (is_recorded (role name)) || clear bytes q) ≡ true → IsTrue (at_or_before p q) →
+    is_valid_piece bytes (span name p q) ≡ true →
     (is_between bytes p.index ≡ true → is_between bytes q.index ≡ true) → FrontPart bytes p q (pair name p q)
-part-pair {bytes = bytes} name p q is sits begin end onward stands ends = record {
+part-pair {bytes = bytes} name p q is sits begin end onward valid ends = record {
   nested = pair-nested name p q onward;
   tiled = tiled-pair name p q;
-  stood = stood-pair bytes name p q stands;
+  is_valid = is_valid-pair bytes name p q valid;
   others = others-around name p q [] is.0 refl;
   between = λ from. (between-pair bytes name p q from (ends from), ends from);
   names = ((is.1, refl), ((is.1, refl), tt));
@@ -126,11 +126,11 @@ part-pair {bytes = bytes} name p q is sits begin end onward stands ends = record
 }
 
 -- whitespace, which may begin and end within a tab, if there is any
-white-stands : (bytes : List ℕ) (p q : Point) → same_place p q ≡ false →
-    stands_over n.SpaceOrTab (slice_range bytes p.index q.index) ≡ true →
-    piece_stands bytes (span n.SpaceOrTab p q) ≡ true
-white-stands bytes p q apart blank =
-    piece-stands bytes n.SpaceOrTab p q apart (begins-cut n.SpaceOrTab p refl) (or_right (q.vs == 0) true refl) blank
+white-valid : (bytes : List ℕ) (p q : Point) → same_place p q ≡ false →
+    may_cover n.SpaceOrTab (slice_range bytes p.index q.index) ≡ true →
+    is_valid_piece bytes (span n.SpaceOrTab p q) ≡ true
+white-valid bytes p q apart blank =
+    piece-valid bytes n.SpaceOrTab p q apart (begins-cut n.SpaceOrTab p refl) (or_right (q.vs == 0) true refl) blank
 
 pub part-white : {bytes : List ℕ} (p q : Point) → IsTrue (at_or_before p q) →
     is_blank (slice_range bytes p.index q.index) ≡ true → FrontPart bytes p q (pair_unless_empty n.SpaceOrTab p q)
@@ -143,17 +143,17 @@ part-white {bytes = bytes} p q onward blank = go (same_place p q) refl
     go true e = part-none p q onward e ends
     go false e =
         part-pair n.SpaceOrTab p q (refl, refl, refl, refl) (λ ys h. h) refl refl onward
-        (white-stands bytes p q e blank)
+        (white-valid bytes p q e blank)
         ends
 
 -- a pair around others, which is no text
 pub part-around : {bytes : List ℕ} (name : Name) (p q : Point) (es : List Event) → IsFrontName name →
-    Still (role name) → is_told (role name) ≡ false → Starts es → FrontPart bytes p q es →
+    Still (role name) → is_recorded (role name) ≡ false → Starts es → FrontPart bytes p q es →
     FrontPart bytes p q (around name p q es)
 part-around {bytes = bytes} name p q es is still untold starts h = record {
   nested = around-nested name p q es h.nested;
   tiled = tiled-around name p q es h.tiled;
-  stood = stood-around bytes name p q es starts h.stood;
+  is_valid = is_valid-around bytes name p q es starts h.is_valid;
   others = others-around name p q es is.0 h.others;
   between = λ from. let inside = h.between from in (around-between bytes name p q es from inside.1 inside.0, inside.1);
   names = ((is.1, refl), each-append IsFrontEvent es (exit name q ∷ []) h.names ((is.1, refl), tt));
@@ -162,11 +162,11 @@ part-around {bytes = bytes} name p q es is still untold starts h = record {
   unlisted = (is.3, unlisted-both es (exit name q ∷ []) h.unlisted (is.3, tt));
 }
   where
-    whole : (r : Point) → (not (is_told (role name)) || clear bytes r) ≡ true
+    whole : (r : Point) → (not (is_recorded (role name)) || clear bytes r) ≡ true
     whole r = ap (λ x. not x || clear bytes r) untold
 
 -- after a byte of ASCII is between characters
 pub low-past : (bytes : List ℕ) (p q : Point) → is_low (slice_index bytes p.index) ≡ true → q.index - 1 ≡ p.index →
     is_between bytes q.index ≡ true
 low-past bytes p q low back =
-    between-behind bytes q.index (subst (λ (i : ℕ). is_low (slice_index bytes i) ≡ true) (sym back) low)
+    between-following bytes q.index (subst (λ (i : ℕ). is_low (slice_index bytes i) ≡ true) (sym back) low)

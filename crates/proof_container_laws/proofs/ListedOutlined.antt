@@ -18,13 +18,13 @@ use Rattle.md_events.specs.Events.Spelled.{AsDigits, AsFootnoteLabel, AsItemMark
 use Rattle.md_events.specs.Events.Spelled.{IsEnding, IsPrefix, IsQuiet, IsQuoteMarker, ItemShape, OrderedShape, Role}
 use Rattle.md_events.specs.Events.Spelled.{Shape, TextRole, UnorderedShape, byte_at, is_ordered, role, spelled}
 use Rattle.md_containers.specs.ItemsHeld.{ItemsHeld}
-use Rattle.md_containers.specs.ItemsStand as stand
-use Rattle.md_containers.specs.ItemsStand.{AmongBlocks, InFront, InLabel, Inner, IsMarkerAt, ItemsStand, MayBegin}
-use Rattle.md_containers.specs.ItemsStand.{MayEnd, MayStand, Site, inner_behind, inner_in, is_list_marker, root}
-use Rattle.md_containers.specs.ItemsStand.{site_after}
-use Rattle.md_containers.specs.Listed.{Begins, Ends, Place, Stays, Turn, given, given_by, goes_on, is_item, list_begin}
-use Rattle.md_containers.specs.Listed.{list_end, list_name, listed, listed_from, marker_ahead, marker_by, next_item}
-use Rattle.md_containers.specs.Listed.{outside, place_after, place_behind, turn}
+use Rattle.md_containers.specs.ItemsAllowed as are_valid
+use Rattle.md_containers.specs.ItemsAllowed.{AmongBlocks, InFront, InLabel, Inner, IsMarkerAt, ItemsAllowed, MayBegin}
+use Rattle.md_containers.specs.ItemsAllowed.{MayEnd, MayBeHere, Site, inner_after, inner_in, is_list_marker, root}
+use Rattle.md_containers.specs.ItemsAllowed.{site_after}
+use Rattle.md_containers.specs.Listed.{Begins, Ends, Place, Stays, Turn, given, given_by, is_continued, is_item}
+use Rattle.md_containers.specs.Listed.{list_begin, list_end, list_name, listed, listed_from, marker_ahead, marker_by}
+use Rattle.md_containers.specs.Listed.{next_item, outside, place_after, place_following, turn}
 use Rattle.md_containers.proofs.ListedKept.{by-turn}
 use Rattle.md_containers.proofs.ListedLemmas.{passes-given}
 use Rattle.md_containers.proofs.ListedNests.{listed-nested}
@@ -33,13 +33,13 @@ use Rattle.md_containers.proofs.ListedPartSteps.{marker-text}
 use Rattle.md_containers.proofs.ListedReads.{listed-spelled}
 use Rattle.md_outline.specs.Between.{is_between}
 use Rattle.md_outline.specs.HeadingDepths.{are_shallow}
-use Rattle.md_outline.specs.LinesStand as lined
-use Rattle.md_outline.specs.LinesStand.{LinesStand, site_by}
-use Rattle.md_outline.specs.ListsBegin.{AllTold, AtItem, AtLabel, AtMarker, InMarker, ListsBegin, MayFollow, Stage}
+use Rattle.md_outline.specs.LinesAllowed as lined
+use Rattle.md_outline.specs.LinesAllowed.{LinesAllowed, site_by}
+use Rattle.md_outline.specs.ListsBegin.{AllRecorded, AtItem, AtLabel, AtMarker, InMarker, ListsBegin, MayFollow, Stage}
 use Rattle.md_outline.specs.ListsBegin.{marks, stage_by}
 use Rattle.md_outline.specs.Outlined.{IsOutlined, IsUnlisted, OpenTextSpan, are_parted, has_shown_name, is_unparted}
-use Rattle.md_outline.specs.Outlined.{parts_by, span_by, tells_between}
-use Rattle.md_outline.specs.Roles.{is_shown, is_told}
+use Rattle.md_outline.specs.Outlined.{parts_by, span_by, text_begins_between}
+use Rattle.md_outline.specs.Roles.{is_shown, is_recorded}
 use Rattle.md_outline.proofs.OutlineLemmas.{all-between, names-shown}
 use Rattle.proof_container_laws.proofs.GroupedDepths.{grouped-shallow}
 
@@ -63,7 +63,7 @@ given-holds P Ends place marker next e of h = go place.markers
   where
     go : (markers : List ℕ) → list_all P (e ∷ list_end markers next e.point) ≡ true
     go [] = and_from (P e) true h refl
-    go (m ∷ markers) = by (goes_on m next)
+    go (m ∷ markers) = by (is_continued m next)
       where
         by : (x : Bool) → list_all P (e ∷ (if x then [] else exit (list_name m) e.point ∷ [])) ≡ true
         by true = and_from (P e) true h refl
@@ -93,11 +93,11 @@ list-shown m = go (is_ordered m)
     go false = refl
 
 list-untold : (bytes : List ℕ) (m : ℕ) (p : Point) →
-    (not (is_told (role (list_name m))) || is_between bytes (byte_at p)) ≡ true
+    (not (is_recorded (role (list_name m))) || is_between bytes (byte_at p)) ≡ true
 list-untold bytes m p = go (is_ordered m)
   where
     go : (x : Bool) →
-        (not (is_told (role (if x then n.ListOrdered else n.ListUnordered))) || is_between bytes (byte_at p)) ≡ true
+        (not (is_recorded (role (if x then n.ListOrdered else n.ListUnordered))) || is_between bytes (byte_at p)) ≡ true
     go true = refl
     go false = refl
 
@@ -141,11 +141,11 @@ parted-kept bytes span place (e ∷ es) h =
     (λ k.
     let parts = and_parts (parts_by bytes Exit item e.point span) (are_parted bytes span es) k in
     let none : is_unparted span ≡ true = sym (holds-parted bytes Exit (ItemShape 0 []) e.point span) ∙ parts.0 in
-    let rest : List Event = listed_from bytes (place_behind place (next_item bytes es)) es in
+    let rest : List Event = listed_from bytes (place_following place (next_item bytes es)) es in
     holder-parted bytes Exit item (ItemShape 0 []) e.point span
     (list_end place.markers (next_item bytes es) e.point ++ rest)
     refl none
-    (ends place.markers rest none (parted-kept bytes span (place_behind place (next_item bytes es)) es parts.1)))
+    (ends place.markers rest none (parted-kept bytes span (place_following place (next_item bytes es)) es parts.1)))
     (passed (λ s. parted-kept bytes s place es))
     e.kind e.name h
   where
@@ -175,7 +175,7 @@ parted-kept bytes span place (e ∷ es) h =
     ends : (markers : List ℕ) (rest : List Event) → is_unparted span ≡ true → are_parted bytes span rest ≡ true →
         are_parted bytes span (list_end markers (next_item bytes es) e.point ++ rest) ≡ true
     ends [] rest none k = k
-    ends (m ∷ markers) rest none k = by (goes_on m (next_item bytes es))
+    ends (m ∷ markers) rest none k = by (is_continued m (next_item bytes es))
       where
         by : (x : Bool) →
             are_parted bytes span ((if x then [] else exit (list_name m) e.point ∷ []) ++ rest) ≡ true
@@ -200,58 +200,58 @@ parted-kept bytes span place (e ∷ es) h =
 
 -- an item begins and ends outside of them
 item-outside : (bytes : List ℕ) (site : lined.Site) (kind : Kind) (p : Point) →
-    lined.MayStand bytes site kind (ContainerRole (ItemShape 0 [])) p → site ≡ lined.Outside
+    lined.MayBeHere bytes site kind (ContainerRole (ItemShape 0 [])) p → site ≡ lined.Outside
 item-outside bytes lined.Outside kind p may = refl
 item-outside bytes _ Enter p may = absurd may
 item-outside bytes _ Exit p may = absurd may
 
 -- and so may a list
 list-outside : (bytes : List ℕ) (kind : Kind) (m : ℕ) (p : Point) (es : List Event) →
-    LinesStand bytes lined.Outside es →
-    lined.MayStand bytes lined.Outside kind (role (list_name m)) p
-    × LinesStand bytes (site_by bytes lined.Outside kind (role (list_name m)) p) es
+    LinesAllowed bytes lined.Outside es →
+    lined.MayBeHere bytes lined.Outside kind (role (list_name m)) p
+    × LinesAllowed bytes (site_by bytes lined.Outside kind (role (list_name m)) p) es
 list-outside bytes kind m p es h = go kind (is_ordered m)
   where
     go : (kind : Kind) (x : Bool) →
-        lined.MayStand bytes lined.Outside kind (role (if x then n.ListOrdered else n.ListUnordered)) p
-        × LinesStand bytes
+        lined.MayBeHere bytes lined.Outside kind (role (if x then n.ListOrdered else n.ListUnordered)) p
+        × LinesAllowed bytes
         (site_by bytes lined.Outside kind (role (if x then n.ListOrdered else n.ListUnordered)) p) es
     go Enter true = (tt, h)
     go Enter false = (tt, h)
     go Exit true = (tt, h)
     go Exit false = (tt, h)
 
-lines-kept : (bytes : List ℕ) (site : lined.Site) (place : Place) (es : List Event) → LinesStand bytes site es →
-    LinesStand bytes site (listed_from bytes place es)
+lines-kept : (bytes : List ℕ) (site : lined.Site) (place : Place) (es : List Event) → LinesAllowed bytes site es →
+    LinesAllowed bytes site (listed_from bytes place es)
 lines-kept bytes site place [] h = h
 lines-kept bytes site place (e ∷ es) h =
     by-turn
     (λ (kind : Kind) (name : Name).
-    LinesStand bytes site (record e { kind = kind; name = name } ∷ es) →
-    LinesStand bytes site (listed_from bytes place (record e { kind = kind; name = name } ∷ es)))
+    LinesAllowed bytes site (record e { kind = kind; name = name } ∷ es) →
+    LinesAllowed bytes site (listed_from bytes place (record e { kind = kind; name = name } ∷ es)))
     (λ k.
     let out : site ≡ lined.Outside = item-outside bytes site Enter e.point k.0 in
     subst
     (λ (s : lined.Site).
-    LinesStand bytes s (listed_from bytes place (record e { kind = Enter; name = n.ListItem } ∷ es)))
+    LinesAllowed bytes s (listed_from bytes place (record e { kind = Enter; name = n.ListItem } ∷ es)))
     (sym out)
     (begins place.within
     (lines-kept bytes lined.Outside inside es
-    (subst (λ (s : lined.Site). LinesStand bytes (site_by bytes s Enter item e.point) es) out k.1))))
+    (subst (λ (s : lined.Site). LinesAllowed bytes (site_by bytes s Enter item e.point) es) out k.1))))
     (λ k.
     let out : site ≡ lined.Outside = item-outside bytes site Exit e.point k.0 in
-    let behind : Place = place_behind place (next_item bytes es) in
+    let following : Place = place_following place (next_item bytes es) in
     subst
     (λ (s : lined.Site).
-    LinesStand bytes s (listed_from bytes place (record e { kind = Exit; name = n.ListItem } ∷ es)))
+    LinesAllowed bytes s (listed_from bytes place (record e { kind = Exit; name = n.ListItem } ∷ es)))
     (sym out) (
       tt,
-      ends place.markers (listed_from bytes behind es)
-          (lines-kept bytes lined.Outside behind es
-          (subst (λ (s : lined.Site). LinesStand bytes (site_by bytes s Exit item e.point) es) out k.1)),
+      ends place.markers (listed_from bytes following es)
+          (lines-kept bytes lined.Outside following es
+          (subst (λ (s : lined.Site). LinesAllowed bytes (site_by bytes s Exit item e.point) es) out k.1)),
     ))
     (λ kind name i k.
-    subst (LinesStand bytes site) (sym (passes-given bytes place (record e { kind = kind; name = name }) es i))
+    subst (LinesAllowed bytes site) (sym (passes-given bytes place (record e { kind = kind; name = name }) es i))
     (k.0, lines-kept bytes (site_by bytes site kind (role name) e.point) place es k.1))
     e.kind e.name h
   where
@@ -261,8 +261,8 @@ lines-kept bytes site place (e ∷ es) h =
     inside : Place
     inside = record { within = false; markers = marker_ahead bytes es ∷ place.markers }
 
-    begins : (within : Bool) → LinesStand bytes lined.Outside (listed_from bytes inside es) →
-        LinesStand bytes lined.Outside
+    begins : (within : Bool) → LinesAllowed bytes lined.Outside (listed_from bytes inside es) →
+        LinesAllowed bytes lined.Outside
         ((list_begin within (marker_ahead bytes es) e.point ++ record e { kind = Enter; name = n.ListItem } ∷ [])
         ++ listed_from bytes inside es)
     begins true k = (tt, k)
@@ -270,13 +270,13 @@ lines-kept bytes site place (e ∷ es) h =
         list-outside bytes Enter (marker_ahead bytes es) e.point
         (record e { kind = Enter; name = n.ListItem } ∷ listed_from bytes inside es) (tt, k)
 
-    ends : (markers : List ℕ) (rest : List Event) → LinesStand bytes lined.Outside rest →
-        LinesStand bytes lined.Outside (list_end markers (next_item bytes es) e.point ++ rest)
+    ends : (markers : List ℕ) (rest : List Event) → LinesAllowed bytes lined.Outside rest →
+        LinesAllowed bytes lined.Outside (list_end markers (next_item bytes es) e.point ++ rest)
     ends [] rest k = k
-    ends (m ∷ markers) rest k = by (goes_on m (next_item bytes es))
+    ends (m ∷ markers) rest k = by (is_continued m (next_item bytes es))
       where
         by : (x : Bool) →
-            LinesStand bytes lined.Outside ((if x then [] else exit (list_name m) e.point ∷ []) ++ rest)
+            LinesAllowed bytes lined.Outside ((if x then [] else exit (list_name m) e.point ∷ []) ++ rest)
         by true = k
         by false = list-outside bytes Exit m e.point rest k
 
@@ -284,29 +284,30 @@ lines-kept bytes site place (e ∷ es) h =
 
 -- what is to come of a list or a footnote definition, by what is innermost and the marker ahead
 abbrev IsAt : List ℕ → Stage → Inner → ℕ → Type 0
-IsAt bytes AllTold InLabel ahead = ⊥
-IsAt bytes AllTold inner ahead = Unit {0}
+IsAt bytes AllRecorded InLabel ahead = ⊥
+IsAt bytes AllRecorded inner ahead = Unit {0}
 IsAt bytes AtLabel InLabel ahead = Unit {0}
 IsAt bytes (AtMarker shape) InFront ahead = shape ≡ list_shape ahead
-IsAt bytes (InMarker shape p) (stand.InMarker q) ahead =
+IsAt bytes (InMarker shape p) (are_valid.InMarker q) ahead =
     (p ≡ q) × IsMarkerAt bytes q × (shape ≡ list_shape (get_or bytes q.index 0))
 IsAt bytes _ _ ahead = ⊥
 
 -- no event is of a list, and the label of a footnote definition is before its blocks alone
-told-passed : (bytes : List ℕ) (held : List Bool) (inner : Inner) (kind : Kind) (x : Role) (p : Point)
-    (ahead behind : ℕ) → MayStand bytes (record { held = held; inner = inner }) kind x p →
-    IsAt bytes AllTold inner ahead →
-    MayFollow bytes AllTold kind x p
-    × IsAt bytes (stage_by AllTold kind x p) (site_after (record { held = held; inner = inner }) kind x p).inner behind
-told-passed bytes held InLabel kind x p ahead behind may at = absurd at
-told-passed bytes held _ Enter (TextRole AsFootnoteLabel) p ahead behind may at = absurd may
-told-passed bytes held _ Exit (TextRole AsFootnoteLabel) p ahead behind may at = absurd may
-told-passed bytes held AmongBlocks Enter (ContainerRole (FootnoteShape label)) p ahead behind may at = (tt, tt)
-told-passed bytes held _ Enter (ContainerRole (FootnoteShape label)) p ahead behind may at = absurd may
-told-passed bytes held _ Enter (ContainerRole OrderedShape) p ahead behind may at = absurd may
-told-passed bytes held _ Enter (ContainerRole UnorderedShape) p ahead behind may at = absurd may
-told-passed bytes held _ Enter _ p ahead behind may at = (tt, tt)
-told-passed bytes held _ Exit _ p ahead behind may at = (tt, tt)
+recorded-passed : (bytes : List ℕ) (held : List Bool) (inner : Inner) (kind : Kind) (x : Role) (p : Point)
+    (ahead following : ℕ) → MayBeHere bytes (record { held = held; inner = inner }) kind x p →
+    IsAt bytes AllRecorded inner ahead →
+    MayFollow bytes AllRecorded kind x p
+    × IsAt bytes (stage_by AllRecorded kind x p)
+    (site_after (record { held = held; inner = inner }) kind x p).inner following
+recorded-passed bytes held InLabel kind x p ahead following may at = absurd at
+recorded-passed bytes held _ Enter (TextRole AsFootnoteLabel) p ahead following may at = absurd may
+recorded-passed bytes held _ Exit (TextRole AsFootnoteLabel) p ahead following may at = absurd may
+recorded-passed bytes held AmongBlocks Enter (ContainerRole (FootnoteShape label)) p ahead following may at = (tt, tt)
+recorded-passed bytes held _ Enter (ContainerRole (FootnoteShape label)) p ahead following may at = absurd may
+recorded-passed bytes held _ Enter (ContainerRole OrderedShape) p ahead following may at = absurd may
+recorded-passed bytes held _ Enter (ContainerRole UnorderedShape) p ahead following may at = absurd may
+recorded-passed bytes held _ Enter _ p ahead following may at = (tt, tt)
+recorded-passed bytes held _ Exit _ p ahead following may at = (tt, tt)
 
 -- the byte at a marker is one of the list that it names
 marks-shape : (b : ℕ) → is_list_marker b ≡ true → marks (list_shape b) b ≡ true
@@ -326,47 +327,47 @@ marker-marks bytes shape p from q same at is one =
 
 -- an event of no item
 at-passed : (bytes : List ℕ) (stage : Stage) (held : List Bool) (inner : Inner) (kind : Kind) (x : Role) (p : Point)
-    (behind : ℕ) → MayStand bytes (record { held = held; inner = inner }) kind x p → is_item x ≡ false →
-    IsAt bytes stage inner (marker_by kind x (get_or bytes p.index 0) behind) →
+    (following : ℕ) → MayBeHere bytes (record { held = held; inner = inner }) kind x p → is_item x ≡ false →
+    IsAt bytes stage inner (marker_by kind x (get_or bytes p.index 0) following) →
     MayFollow bytes stage kind x p ×
-    IsAt bytes (stage_by stage kind x p) (site_after (record { held = held; inner = inner }) kind x p).inner behind
-at-passed bytes AllTold held inner kind x p behind may passes at =
-    told-passed bytes held inner kind x p (marker_by kind x (get_or bytes p.index 0) behind) behind may at
-at-passed bytes AtLabel held InLabel Enter IsPrefix p behind may passes at = (tt, tt)
-at-passed bytes AtLabel held InLabel Exit IsPrefix p behind may passes at = (tt, tt)
-at-passed bytes AtLabel held InLabel Enter IsQuoteMarker p behind may passes at = (tt, tt)
-at-passed bytes AtLabel held InLabel Exit IsQuoteMarker p behind may passes at = (tt, tt)
-at-passed bytes AtLabel held InLabel Enter IsEnding p behind may passes at = (tt, tt)
-at-passed bytes AtLabel held InLabel Exit IsEnding p behind may passes at = (tt, tt)
-at-passed bytes AtLabel held InLabel Enter IsQuiet p behind may passes at = (tt, tt)
-at-passed bytes AtLabel held InLabel Exit IsQuiet p behind may passes at = (tt, tt)
-at-passed bytes AtLabel held InLabel Enter (TextRole AsFootnoteLabel) p behind may passes at = (tt, tt)
-at-passed bytes AtLabel held InLabel Exit (TextRole AsFootnoteLabel) p behind may passes at = (tt, tt)
-at-passed bytes AtLabel held InLabel _ _ p behind may passes at = absurd may
-at-passed bytes (AtMarker shape) held InFront Enter IsQuiet p behind may passes at = (tt, at)
-at-passed bytes (AtMarker shape) held InFront Exit IsQuiet p behind may passes at = (tt, at)
-at-passed bytes (AtMarker shape) held InFront Enter (TextRole AsDigits) p behind may passes at = (tt, at)
-at-passed bytes (AtMarker shape) held InFront Exit (TextRole AsDigits) p behind may passes at = (tt, at)
-at-passed bytes (AtMarker shape) held InFront Enter (TextRole AsItemMarker) p behind may passes at =
+    IsAt bytes (stage_by stage kind x p) (site_after (record { held = held; inner = inner }) kind x p).inner following
+at-passed bytes AllRecorded held inner kind x p following may passes at =
+    recorded-passed bytes held inner kind x p (marker_by kind x (get_or bytes p.index 0) following) following may at
+at-passed bytes AtLabel held InLabel Enter IsPrefix p following may passes at = (tt, tt)
+at-passed bytes AtLabel held InLabel Exit IsPrefix p following may passes at = (tt, tt)
+at-passed bytes AtLabel held InLabel Enter IsQuoteMarker p following may passes at = (tt, tt)
+at-passed bytes AtLabel held InLabel Exit IsQuoteMarker p following may passes at = (tt, tt)
+at-passed bytes AtLabel held InLabel Enter IsEnding p following may passes at = (tt, tt)
+at-passed bytes AtLabel held InLabel Exit IsEnding p following may passes at = (tt, tt)
+at-passed bytes AtLabel held InLabel Enter IsQuiet p following may passes at = (tt, tt)
+at-passed bytes AtLabel held InLabel Exit IsQuiet p following may passes at = (tt, tt)
+at-passed bytes AtLabel held InLabel Enter (TextRole AsFootnoteLabel) p following may passes at = (tt, tt)
+at-passed bytes AtLabel held InLabel Exit (TextRole AsFootnoteLabel) p following may passes at = (tt, tt)
+at-passed bytes AtLabel held InLabel _ _ p following may passes at = absurd may
+at-passed bytes (AtMarker shape) held InFront Enter IsQuiet p following may passes at = (tt, at)
+at-passed bytes (AtMarker shape) held InFront Exit IsQuiet p following may passes at = (tt, at)
+at-passed bytes (AtMarker shape) held InFront Enter (TextRole AsDigits) p following may passes at = (tt, at)
+at-passed bytes (AtMarker shape) held InFront Exit (TextRole AsDigits) p following may passes at = (tt, at)
+at-passed bytes (AtMarker shape) held InFront Enter (TextRole AsItemMarker) p following may passes at =
     (tt, (refl, may, at))
-at-passed bytes (AtMarker shape) held InFront _ _ p behind may passes at = absurd may
-at-passed bytes (InMarker shape q) held (stand.InMarker r) Exit (TextRole AsItemMarker) p behind may passes at =
+at-passed bytes (AtMarker shape) held InFront _ _ p following may passes at = absurd may
+at-passed bytes (InMarker shape q) held (are_valid.InMarker r) Exit (TextRole AsItemMarker) p following may passes at =
     (marker-marks bytes shape p q r at.0 at.1 at.2 may, tt)
-at-passed bytes (InMarker shape q) held (stand.InMarker r) _ _ p behind may passes at = absurd may
-at-passed bytes _ held _ kind x p behind may passes at = absurd at
+at-passed bytes (InMarker shape q) held (are_valid.InMarker r) _ _ p following may passes at = absurd may
+at-passed bytes _ held _ kind x p following may passes at = absurd at
 
 -- where an item begins or ends, no marker is to come
 at-item : (bytes : List ℕ) (stage : Stage) (held : List Bool) (inner : Inner) (kind : Kind) (p : Point) (ahead : ℕ) →
-    MayStand bytes (record { held = held; inner = inner }) kind (ContainerRole (ItemShape 0 [])) p →
+    MayBeHere bytes (record { held = held; inner = inner }) kind (ContainerRole (ItemShape 0 [])) p →
     IsAt bytes stage inner ahead →
-    AllTold ≡ stage
-at-item bytes AllTold held inner kind p ahead may at = refl
+    AllRecorded ≡ stage
+at-item bytes AllRecorded held inner kind p ahead may at = refl
 at-item bytes AtLabel held InLabel Enter p ahead may at = absurd may
 at-item bytes AtLabel held InLabel Exit p ahead may at = absurd may
 at-item bytes (AtMarker shape) held InFront Enter p ahead may at = absurd may
 at-item bytes (AtMarker shape) held InFront Exit p ahead may at = absurd may
-at-item bytes (InMarker shape q) held (stand.InMarker r) Enter p ahead may at = absurd may
-at-item bytes (InMarker shape q) held (stand.InMarker r) Exit p ahead may at = absurd may
+at-item bytes (InMarker shape q) held (are_valid.InMarker r) Enter p ahead may at = absurd may
+at-item bytes (InMarker shape q) held (are_valid.InMarker r) Exit p ahead may at = absurd may
 at-item bytes _ held _ kind p ahead may at = absurd at
 
 in-front : (bytes : List ℕ) (inner : Inner) (p : Point) → MayBegin bytes p inner (ContainerRole (ItemShape 0 [])) →
@@ -376,65 +377,66 @@ in-front bytes _ p may = absurd may
 
 item-ends : (bytes : List ℕ) (held : List Bool) (inner : Inner) (p : Point) (ahead : ℕ) →
     MayEnd held p inner (ContainerRole (ItemShape 0 [])) →
-    IsAt bytes AllTold (inner_behind inner (ContainerRole (ItemShape 0 []))) ahead
+    IsAt bytes AllRecorded (inner_after inner (ContainerRole (ItemShape 0 []))) ahead
 item-ends bytes held AmongBlocks p ahead may = tt
 item-ends bytes held _ p ahead may = absurd may
 
 -- the begin and the end of a list
 list-follows : (bytes : List ℕ) (m : ℕ) (kind : Kind) (p : Point) →
-    MayFollow bytes AllTold kind (role (list_name m)) p
+    MayFollow bytes AllRecorded kind (role (list_name m)) p
 list-follows bytes m kind p = go kind (is_ordered m)
   where
     go : (kind : Kind) (x : Bool) →
-        MayFollow bytes AllTold kind (role (if x then n.ListOrdered else n.ListUnordered)) p
+        MayFollow bytes AllRecorded kind (role (if x then n.ListOrdered else n.ListUnordered)) p
     go Enter true = tt
     go Enter false = tt
     go Exit true = tt
     go Exit false = tt
 
-list-stage : (m : ℕ) (p : Point) → AtItem (list_shape m) ≡ stage_by AllTold Enter (role (list_name m)) p
+list-stage : (m : ℕ) (p : Point) → AtItem (list_shape m) ≡ stage_by AllRecorded Enter (role (list_name m)) p
 list-stage m p = go (is_ordered m)
   where
     go : (x : Bool) → AtItem (if x then OrderedShape else UnorderedShape)
-        ≡ stage_by AllTold Enter (role (if x then n.ListOrdered else n.ListUnordered)) p
+        ≡ stage_by AllRecorded Enter (role (if x then n.ListOrdered else n.ListUnordered)) p
     go true = refl
     go false = refl
 
 lists-begun : (bytes : List ℕ) (stage : Stage) (site : Site) (place : Place) (es : List Event) →
-    ItemsStand bytes site es → IsAt bytes stage site.inner (marker_ahead bytes es) →
+    ItemsAllowed bytes site es → IsAt bytes stage site.inner (marker_ahead bytes es) →
     ListsBegin bytes stage (listed_from bytes place es)
-lists-begun bytes stage site place [] stands at = tt
-lists-begun bytes stage site place (e ∷ es) stands at =
+lists-begun bytes stage site place [] valid at = tt
+lists-begun bytes stage site place (e ∷ es) valid at =
     by-turn
     (λ (kind : Kind) (name : Name).
-    ItemsStand bytes site (record e { kind = kind; name = name } ∷ es) →
+    ItemsAllowed bytes site (record e { kind = kind; name = name } ∷ es) →
     IsAt bytes stage site.inner (marker_ahead bytes (record e { kind = kind; name = name } ∷ es)) →
     ListsBegin bytes stage (listed_from bytes place (record e { kind = kind; name = name } ∷ es)))
-    (λ stands at.
+    (λ valid at.
     subst
     (λ (s : Stage). ListsBegin bytes s (listed_from bytes place (record e { kind = Enter; name = n.ListItem } ∷ es)))
-    (at-item bytes stage site.held site.inner Enter e.point 0 stands.0 at)
-    (begins place.within stands.0
+    (at-item bytes stage site.held site.inner Enter e.point 0 valid.0 at)
+    (begins place.within valid.0
     (λ (s : Stage) (k : IsAt bytes s (inner_in e.point site.inner item) (marker_ahead bytes es)).
-    lists-begun bytes s (site_after site Enter item e.point) inside es stands.1 k)))
-    (λ stands at.
+    lists-begun bytes s (site_after site Enter item e.point) inside es valid.1 k)))
+    (λ valid at.
     subst
     (λ (s : Stage). ListsBegin bytes s (listed_from bytes place (record e { kind = Exit; name = n.ListItem } ∷ es)))
-    (at-item bytes stage site.held site.inner Exit e.point 0 stands.0 at) (
+    (at-item bytes stage site.held site.inner Exit e.point 0 valid.0 at) (
       tt,
-      ends place.markers (listed_from bytes (place_behind place (next_item bytes es)) es)
-          (lists-begun bytes AllTold (site_after site Exit item e.point) (place_behind place (next_item bytes es)) es
-          stands.1 (item-ends bytes site.held site.inner e.point (marker_ahead bytes es) stands.0)),
+      ends place.markers (listed_from bytes (place_following place (next_item bytes es)) es)
+          (lists-begun bytes AllRecorded (site_after site Exit item e.point)
+          (place_following place (next_item bytes es)) es
+          valid.1 (item-ends bytes site.held site.inner e.point (marker_ahead bytes es) valid.0)),
     ))
-    (λ kind name i stands at.
+    (λ kind name i valid at.
     let now =
-    at-passed bytes stage site.held site.inner kind (role name) e.point (marker_ahead bytes es) stands.0 i at in
+    at-passed bytes stage site.held site.inner kind (role name) e.point (marker_ahead bytes es) valid.0 i at in
     subst (ListsBegin bytes stage) (sym (passes-given bytes place (record e { kind = kind; name = name }) es i)) (
       now.0,
       lists-begun bytes (stage_by stage kind (role name) e.point) (site_after site kind (role name) e.point) place es
-          stands.1 now.1,
+          valid.1 now.1,
     ))
-    e.kind e.name stands at
+    e.kind e.name valid at
   where
     item : Role
     item = ContainerRole (ItemShape 0 [])
@@ -446,13 +448,13 @@ lists-begun bytes stage site place (e ∷ es) stands at =
         ((s : Stage) →
         IsAt bytes s (inner_in e.point site.inner (ContainerRole (ItemShape 0 []))) (marker_ahead bytes es) →
         ListsBegin bytes s (listed_from bytes inside es)) →
-        ListsBegin bytes AllTold
+        ListsBegin bytes AllRecorded
         ((list_begin within (marker_ahead bytes es) e.point ++ record e { kind = Enter; name = n.ListItem } ∷ [])
         ++ listed_from bytes inside es)
     begins true may go = (
       tt,
-      go AllTold
-          (subst (λ (inner : Inner). IsAt bytes AllTold inner (marker_ahead bytes es))
+      go AllRecorded
+          (subst (λ (inner : Inner). IsAt bytes AllRecorded inner (marker_ahead bytes es))
           (in-front bytes site.inner e.point may) tt),
     )
     begins false may go = (
@@ -470,22 +472,23 @@ lists-begun bytes stage site place (e ∷ es) stands at =
           ),
     )
 
-    ends : (markers : List ℕ) (rest : List Event) → ListsBegin bytes AllTold rest →
-        ListsBegin bytes AllTold (list_end markers (next_item bytes es) e.point ++ rest)
+    ends : (markers : List ℕ) (rest : List Event) → ListsBegin bytes AllRecorded rest →
+        ListsBegin bytes AllRecorded (list_end markers (next_item bytes es) e.point ++ rest)
     ends [] rest k = k
-    ends (m ∷ markers) rest k = by (goes_on m (next_item bytes es))
+    ends (m ∷ markers) rest k = by (is_continued m (next_item bytes es))
       where
-        by : (x : Bool) → ListsBegin bytes AllTold ((if x then [] else exit (list_name m) e.point ∷ []) ++ rest)
+        by : (x : Bool) → ListsBegin bytes AllRecorded ((if x then [] else exit (list_name m) e.point ∷ []) ++ rest)
         by true = k
         by false = (list-follows bytes m Exit e.point, k)
 
 -- All of it.
 
 -- events with lists around their items may be outlined
-pub listed-outlined : (bytes : List ℕ) (events : List Event) → IsUnlisted events bytes → ItemsStand bytes root events →
+pub listed-outlined : (bytes : List ℕ) (events : List Event) → IsUnlisted events bytes →
+    ItemsAllowed bytes root events →
     Nested events → ItemsHeld [] events → are_shallow (spelled events bytes) ≡ true →
     IsOutlined (listed bytes events) bytes
-listed-outlined bytes events is stands nested held depths = record {
+listed-outlined bytes events is valid nested held depths = record {
   balanced = (listed-nested bytes events nested held).balanced;
   names =
       listed-holds has_shown_name bytes outside events (λ m e h. (list-shown m, list-shown m))
@@ -495,11 +498,11 @@ listed-outlined bytes events is stands nested held depths = record {
       all-between bytes (listed bytes events)
       (listed-holds (λ (e : Event). is_between bytes e.point.index) bytes outside events (λ m e h. (h, h)) is.between);
   texts =
-      listed-holds (tells_between bytes) bytes outside events
+      listed-holds (text_begins_between bytes) bytes outside events
       (λ m e h. (list-untold bytes m e.point, list-untold bytes m e.point)) is.texts;
   parted = parted-kept bytes None outside events is.parted;
-  lists = lists-begun bytes AllTold root outside events stands tt;
+  lists = lists-begun bytes AllRecorded root outside events valid tt;
   lines = lines-kept bytes lined.Outside outside events is.lines;
   depths =
-      ap are_shallow (listed-spelled bytes events stands) ∙ grouped-shallow (spelled events bytes) depths;
+      ap are_shallow (listed-spelled bytes events valid) ∙ grouped-shallow (spelled events bytes) depths;
 }

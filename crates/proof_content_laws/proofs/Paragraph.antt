@@ -1,3 +1,3 @@
 -- Paragraphs.
 pub mod Laws
-pub mod Stands
+pub mod Valid

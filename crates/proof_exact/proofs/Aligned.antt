@@ -7,7 +7,7 @@ use Rattle.md_meaning.specs.Rest.{Rest}
 use Rattle.md_meaning.specs.State.{Container, Leaf, NoLeaf, OpenCode, OpenFence, OpenHtml, OpenParagraph, OpenTable}
 use Rattle.md_meaning.specs.State.{Path, spot}
 use Rattle.md_meaning.specs.Step.{step}
-use Rattle.md_exact.specs.Blocks.{goes_on as goes_on_role}
+use Rattle.md_exact.specs.Blocks.{is_continued as role_continues}
 use Rattle.md_exact.specs.Places.{TextLine, whole}
 use Rattle.md_exact.specs.Rows.{rows_of}
 use Rattle.proof_frame.specs.Change.{against, is_none, others_of}
@@ -17,16 +17,16 @@ use Rattle.proof_frame.specs.Row.{BlankRow, LeafRow, Row, RowKind, TextRow}
 use Rattle.proof_literal_laws.specs.Leaf.CodeIndented.{is_code}
 use Rattle.md_registry.specs.Registry.{leaf}
 use Rattle.md_registry.proofs.Registry.{laws}
-use Rattle.proof_rows.specs.Fronted.{Prefixed, contained, prefixes_behind, prefixes_on}
+use Rattle.proof_rows.specs.Fronted.{Prefixed, contained, prefixes_after, prefixes_on}
 use Rattle.proof_rows.specs.Rows.{line_kind}
-use Rattle.proof_rows.specs.Stands.{containers_of, still_of}
+use Rattle.proof_rows.specs.Valid.{containers_of, still_of}
 use Rattle.proof_rows.proofs.FurtherSpan.{met-none}
 use Rattle.proof_rows.proofs.KindLemmas.{kind-starts}
 use Rattle.proof_exact.proofs.ExactRoles.{AreMet, EndsTo, IsMet, first-role, meets-leaf}
-use Rattle.proof_exact.proofs.GroupRuns.{goes-role, goes_by, is_open_code}
-use Rattle.proof_exact.proofs.GroupsMatch.{AreAligned, FirstBelow, Fits, IsBelow, Pairs, goes_kind}
+use Rattle.proof_exact.proofs.GroupRuns.{proceeds-role, continues_by, is_open_code}
+use Rattle.proof_exact.proofs.GroupsMatch.{AreAligned, FirstBelow, Fits, IsBelow, Pairs, kind_continues}
 use Rattle.proof_exact.proofs.RowRoles.{MeetsLeaf, in_code}
-use Rattle.proof_exact.proofs.TextRuns.{text-goes}
+use Rattle.proof_exact.proofs.TextRuns.{text-proceeds}
 
 -- What a line meets where no text is open is no text.
 
@@ -46,7 +46,7 @@ contained-unlazy options cs still r e = go new.containers
     others = others_of cs on.containers
 
     new : Prefixed
-    new = prefixes_behind options still others on
+    new = prefixes_after options still others on
 
     go : (opens : List Container) → takes_lazy (against still others opens) ≡ false
     go [] = met-unlazy (is_none others) still e
@@ -55,25 +55,26 @@ contained-unlazy options cs still r e = go new.containers
 -- A line after another.
 
 line-below : (options : ParseOptions) (bytes : List ℕ) (p : Path) (line : TextLine) (row next : Row) →
-    still_of p ≡ row.behind → row.closed_after ≡ next.change.closes → IsMet options bytes p line next →
+    still_of p ≡ row.following → row.closed_after ≡ next.change.closes → IsMet options bytes p line next →
     IsBelow row next
-line-below options bytes p line row next behind ends is = record {
-  met = λ may. (meets-leaf options bytes p line next is).met may ∙ behind;
+line-below options bytes p line row next following ends is = record {
+  met = λ may. (meets-leaf options bytes p line next is).met may ∙ following;
   unlazy =
       λ e. ap takes_lazy is.on
-      ∙ contained-unlazy options (containers_of p) (still_of p) (whole line) (ap takes_lazy behind ∙ e);
+      ∙ contained-unlazy options (containers_of p) (still_of p) (whole line) (ap takes_lazy following ∙ e);
   text =
-      λ lazy text. text-goes options (containers_of p) (still_of p) (whole line) row next
-      (ap takes_lazy behind ∙ lazy) is.on is.change (is.is.kind ∙ ap₂ (line_kind options) is.on is.rest_is) text ends;
+      λ lazy text. text-proceeds options (containers_of p) (still_of p) (whole line) row next
+      (ap takes_lazy following ∙ lazy) is.on is.change
+      (is.is.kind ∙ ap₂ (line_kind options) is.on is.rest_is) text ends;
 }
 
 first-below : (options : ParseOptions) (bytes : List ℕ) (p : Path) (row : Row) (lines : List TextLine)
-    (rows : List Row) → still_of p ≡ row.behind → EndsTo row rows → AreMet options bytes p lines rows →
+    (rows : List Row) → still_of p ≡ row.following → EndsTo row rows → AreMet options bytes p lines rows →
     FirstBelow row rows
-first-below options bytes p row lines [] behind ends are = tt
-first-below options bytes p row [] (next ∷ rows) behind ends are = absurd are
-first-below options bytes p row (line ∷ lines) (next ∷ rows) behind ends are =
-    line-below options bytes p line row next behind ends are.0
+first-below options bytes p row lines [] following ends are = tt
+first-below options bytes p row [] (next ∷ rows) following ends are = absurd are
+first-below options bytes p row (line ∷ lines) (next ∷ rows) following ends are =
+    line-below options bytes p line row next following ends are.0
 
 -- It continues the leaf before it by its role just where its row says so.
 
@@ -85,9 +86,9 @@ code-kind (OpenFence o lines) = refl
 code-kind (OpenHtml kind lines) = refl
 code-kind (OpenTable delimiter cells) = refl
 
-goes-same : (options : ParseOptions) (bytes : List ℕ) (open_leaf : Leaf) (row : Row) (rows : List Row) →
-    MeetsLeaf options bytes open_leaf row → goes_by open_leaf row rows row.kind ≡ goes_kind row rows row.kind
-goes-same options bytes open_leaf row rows meets = go row.kind refl
+proceeds-same : (options : ParseOptions) (bytes : List ℕ) (open_leaf : Leaf) (row : Row) (rows : List Row) →
+    MeetsLeaf options bytes open_leaf row → continues_by open_leaf row rows row.kind ≡ kind_continues row rows row.kind
+proceeds-same options bytes open_leaf row rows meets = go row.kind refl
   where
     line : (l : LeafName) → row.kind ≡ LeafRow l → (x : Bool) → (leaf l).further row.on ≡ x →
         (x && (not (is_open_code open_leaf) || in_code row rows)) ≡ (x && (not (is_code row.on) || in_code row rows))
@@ -97,7 +98,7 @@ goes-same options bytes open_leaf row rows meets = go row.kind refl
         let on = meets.met ((laws l).meets options row.on meets.is.rest starts further) in
         ap (λ (x : Bool). not x || in_code row rows) (sym (code-kind open_leaf) ∙ ap is_code (sym on))
 
-    go : (kind : RowKind) → row.kind ≡ kind → goes_by open_leaf row rows kind ≡ goes_kind row rows kind
+    go : (kind : RowKind) → row.kind ≡ kind → continues_by open_leaf row rows kind ≡ kind_continues row rows kind
     go BlankRow e = refl
     go (LeafRow l) e = line l e ((leaf l).further row.on) refl
     go TextRow e = refl
@@ -115,12 +116,12 @@ aligned options bytes Fit p (line ∷ lines) (row ∷ rows) are pairs =
       record {
         line = is.own;
         is = is.is;
-        goes =
-            ap goes_on_role (first-role options bytes p (line ∷ lines) (row ∷ rows) are)
-            ∙ goes-role options (spot p).leaf is.is.rest row rows
-            ∙ goes-same options bytes (spot p).leaf row rows (meets-leaf options bytes p line row is);
+        proceeds =
+            ap role_continues (first-role options bytes p (line ∷ lines) (row ∷ rows) are)
+            ∙ proceeds-role options (spot p).leaf is.is.rest row rows
+            ∙ proceeds-same options bytes (spot p).leaf row rows (meets-leaf options bytes p line row is);
         fits = pairs.0;
       },
-      first-below options bytes after row lines rows is.behind are.1 are.2,
+      first-below options bytes after row lines rows is.following are.1 are.2,
       aligned options bytes Fit after lines rows are.2 pairs.1,
     )

@@ -15,9 +15,9 @@ use Rattle.proof_exact.proofs.LeafGroups.{Taken, headed-same, leaf-same, lines-t
 use Rattle.proof_exact.proofs.Put.{AllPut, ArePut, IsPut}
 use Rattle.proof_exact.proofs.TextGroups.{WithLast, lines-same, turned-same, with-last}
 
-pub behind-put : (ess : List (List Row)) → AllPut ess → ArePut ess
-behind-put [] put = tt
-behind-put (es ∷ ess) put = (put.1, put.2)
+pub following-put : (ess : List (List Row)) → AllPut ess → ArePut ess
+following-put [] put = tt
+following-put (es ∷ ess) put = (put.1, put.2)
 
 -- a group before others, where the first lines that are put together are its
 group-step : (options : ParseOptions) (bytes : List ℕ) (g : Group) (r : FrameRow) (rs : List FrameRow)
@@ -25,16 +25,16 @@ group-step : (options : ParseOptions) (bytes : List ℕ) (g : Group) (r : FrameR
     TakesLines (Fit options bytes) (r ∷ rs) More ess → ArePut ess →
     ((x : Row) (xs : List Row) → Fit options bytes x r → Pairs (Fit options bytes) xs rs → IsPut (x ∷ xs) →
     unlisted_group options (x ∷ xs) ≡ tabled_group options bytes g) →
-    ((behind : List (List Row)) → More behind → AllPut behind → events ≡ unlisted_groups options behind) →
+    ((following : List (List Row)) → More following → AllPut following → events ≡ unlisted_groups options following) →
     tabled_group options bytes g ++ events ≡ unlisted_groups options ess
 group-step options bytes g r rs More events ess takes put group same =
-    ap₂ (λ (es fs : List Event). es ++ fs) (sym (group t.x t.xs t.fit t.pairs puts.0)) (same t.behind t.more puts.1)
+    ap₂ (λ (es fs : List Event). es ++ fs) (sym (group t.x t.xs t.fit t.pairs puts.0)) (same t.following t.more puts.1)
     ∙ sym (ap (unlisted_groups options) t.same)
   where
     t : Taken (Fit options bytes) r rs More ess
     t = lines-taken (Fit options bytes) r rs More ess takes
 
-    puts : ArePut ((t.x ∷ t.xs) ∷ t.behind)
+    puts : ArePut ((t.x ∷ t.xs) ∷ t.following)
     puts = subst ArePut t.same put
 
 pub groups-same : (options : ParseOptions) (bytes : List ℕ) → length bytes < 2 ^ 61 → (gs : List Group)
@@ -44,7 +44,7 @@ groups-same options bytes small [] ess are match put = sym (ap (unlisted_groups 
 groups-same options bytes small (Single r ∷ gs) ess are match put =
     group-step options bytes (Single r) r [] (GroupsMatch (Fit options bytes) gs) (tabled_groups options bytes gs) ess
     match put (λ x xs fit pairs puts. single xs x fit pairs)
-    (λ behind more puts. groups-same options bytes small gs behind are.1 more (behind-put behind puts))
+    (λ following more puts. groups-same options bytes small gs following are.1 more (following-put following puts))
   where
     single : (xs : List Row) (x : Row) → Fit options bytes x r → Pairs (Fit options bytes) xs [] →
         unlisted_group options (x ∷ xs) ≡ tabled_group options bytes (Single r)
@@ -53,11 +53,11 @@ groups-same options bytes small (Single r ∷ gs) ess are match put =
 groups-same options bytes small (Lines r rs ∷ gs) ess are match put =
     group-step options bytes (Lines r rs) r rs (GroupsMatch (Fit options bytes) gs) (tabled_groups options bytes gs)
     ess match put (λ x xs fit pairs puts. lines-same options bytes x r xs rs small fit pairs puts are.0)
-    (λ behind more puts. groups-same options bytes small gs behind are.3 more (behind-put behind puts))
+    (λ following more puts. groups-same options bytes small gs following are.3 more (following-put following puts))
 groups-same options bytes small (Turned r rs under ∷ gs) ess are match put =
     group-step options bytes (Turned r rs under) r (rs ++ under ∷ []) (GroupsMatch (Fit options bytes) gs)
     (tabled_groups options bytes gs) ess match put (λ x xs fit pairs puts. turned x xs fit pairs puts)
-    (λ behind more puts. groups-same options bytes small gs behind are.4 more (behind-put behind puts))
+    (λ following more puts. groups-same options bytes small gs following are.4 more (following-put following puts))
   where
     turned : (x : Row) (xs : List Row) → Fit options bytes x r → Pairs (Fit options bytes) xs (rs ++ under ∷ []) →
         IsPut (x ∷ xs) → unlisted_group options (x ∷ xs) ≡ tabled_group options bytes (Turned r rs under)
@@ -70,7 +70,7 @@ groups-same options bytes small (Turned r rs under ∷ gs) ess are match put =
 groups-same options bytes small (Headed r next rs ∷ gs) ess are match put =
     group-step options bytes (Headed r next rs) r (next ∷ rs) (GroupsMatch (Fit options bytes) gs)
     (tabled_groups options bytes gs) ess match put (λ x xs fit pairs puts. headed xs x fit pairs puts)
-    (λ behind more puts. groups-same options bytes small gs behind are.4 more (behind-put behind puts))
+    (λ following more puts. groups-same options bytes small gs following are.4 more (following-put following puts))
   where
     headed : (xs : List Row) (x : Row) → Fit options bytes x r → Pairs (Fit options bytes) xs (next ∷ rs) →
         IsPut (x ∷ xs) → unlisted_group options (x ∷ xs) ≡ tabled_group options bytes (Headed r next rs)
@@ -79,5 +79,6 @@ groups-same options bytes small (Headed r next rs ∷ gs) ess are match put =
         headed-same options bytes x y r next ys rs fit pairs.0 pairs.1 puts are.0 are.1
 groups-same options bytes small (LeafLines r rs ∷ gs) ess are match put =
     leaf-same options bytes r rs (GroupsMatch (Fit options bytes) gs) (tabled_groups options bytes gs)
-    (λ behind more puts. groups-same options bytes small gs behind are.2 more (behind-put behind puts)) ess are.0 are.4
+    (λ following more puts. groups-same options bytes small gs following are.2 more (following-put following puts))
+    ess are.0 are.4
     match put

@@ -13,7 +13,7 @@ use Rattle.md_engine.specs.declared.event.Point.{Point}
 use Rattle.md_engine.specs.Meaning.{Cell}
 use Rattle.md_meaning.specs.Bytes.{is_end}
 use Rattle.md_meaning.specs.Definition.{Cut, definition_at}
-use Rattle.md_meaning.specs.Rest.{Rest, behind_indent}
+use Rattle.md_meaning.specs.Rest.{Rest, after_indent}
 use Rattle.md_meaning.proofs.TextsLemmas.{NoEnding}
 use Rattle.md_link_definitions.specs.DefinitionRule.{DefinitionParts, definition_end, definition_events}
 use Rattle.md_link_definitions.specs.DefinitionRule.{definition_parts, definition_rest}
@@ -24,20 +24,20 @@ use Rattle.md_events.proofs.RestCells.{rest_cells}
 use Rattle.proof_frame.specs.Laid.{LineBreak, laid}
 use Rattle.proof_frame.specs.LineColumns.{rest_of}
 use Rattle.proof_frame.specs.RestLine.{rest_line}
-use Rattle.proof_frame.specs.Row.{Row as FrameRow, behind_row, ending_events, last_row}
+use Rattle.proof_frame.specs.Row.{Row as FrameRow, after_row, ending_events, last_row}
 use Rattle.proof_frame.proofs.IndentRemoved.Columns.{rest-again}
 use Rattle.proof_frame.proofs.LeafLines.Cuts.{ending-is}
 use Rattle.proof_content_laws.specs.Defined.{defined_unread}
 use Rattle.proof_content_laws.proofs.Defined.Along.{Turn, breaks, no_line}
 use Rattle.proof_content_laws.proofs.Defined.Takes.{Walk, over-end}
 use Rattle.proof_content_laws.proofs.Defined.Takes as Line
-use Rattle.proof_rows.specs.Rows.{behind_cut, cut_at_most, cut_by, further_lines, lines_cells}
+use Rattle.proof_rows.specs.Rows.{after_cut, cut_at_most, cut_by, further_lines, lines_cells}
 use Rattle.proof_rows.proofs.ContentCut.{lines-split}
 use Rattle.proof_rows.proofs.Defined.Cells.{lines-are, lines-walk, lines_are, turns_of, uncut-no_ending}
-use Rattle.proof_rows.proofs.Defined.Cut.{IsBehind, IsCut, Taken, lines-cut, taken}
+use Rattle.proof_rows.proofs.Defined.Cut.{IsAfter, IsCut, Taken, lines-cut, taken}
 use Rattle.proof_rows.proofs.GroupLemmas.{row-line}
 use Rattle.proof_rows.proofs.GroupLines.{AreLines}
-use Rattle.proof_rows.proofs.JoinedLemmas.{behind-is}
+use Rattle.proof_rows.proofs.JoinedLemmas.{following-is}
 use Rattle.proof_rows.proofs.RowFacts.{IsRow}
 use Rattle.proof_rows.proofs.Text.Reads.{none-found}
 use Rattle.md_exact.specs.Leaves.{onto_next}
@@ -60,9 +60,9 @@ use Rattle.proof_exact_lines.proofs.Strands.{NextOn, next-on}
 
 -- a line of a text is where its row does
 pub record IsAt (text : List ℕ) (x : Row) (r : FrameRow) : Type 0 where
-  pub behind : List ℕ
-  pub line_in : LineIn text behind x.line
-  pub on : OnLine text behind x.line x.rest r.first
+  pub following : List ℕ
+  pub line_in : LineIn text following x.line
+  pub on : OnLine text following x.line x.rest r.first
 
 abbrev pub AreAt : List ℕ → Row → List Row → FrameRow → List FrameRow → Type 0
 AreAt text x [] r [] = IsAt text x r
@@ -82,7 +82,7 @@ rest-is options text line x r is here end =
     (record { column = is.column; cut = is.cut; text_is = own })
   where
     begins : BeginsAt x.line x.rest r.first
-    begins = on-begins text here.behind x.line x.rest r.first here.line_in here.on
+    begins = on-begins text here.following x.line x.rest r.first here.line_in here.on
 
     own : drop r.first.index text ≡ rest_line is.rest ++ drop r.end.index text
     own = row-line options text line r is ∙ ap (λ (l : List ℕ). l ++ drop r.end.index text) is.line_is
@@ -99,13 +99,13 @@ rest-is options text line x r is here end =
 
     bytes : rest_bytes x.rest ≡ rest_line is.rest
     bytes =
-        same-front (rest_bytes x.rest) (rest_line is.rest) here.behind (drop r.end.index text) size
-        (sym here.on.stands.text_is ∙ own)
+        same-front (rest_bytes x.rest) (rest_line is.rest) here.following (drop r.end.index text) size
+        (sym here.on.valid.text_is ∙ own)
 
 begins-is : (options : ParseOptions) (text line : List ℕ) (x : Row) (r : FrameRow) → (is : IsRow options text line r) →
     IsAt text x r → x.rest ≡ is.rest → Begins text x r.first
 begins-is options text line x r is here same = record {
-  behind = here.behind;
+  following = here.following;
   line_in = here.line_in;
   on = here.on;
   plain =
@@ -117,14 +117,14 @@ begins-is options text line x r is here same = record {
 some-ending : (x : Row) (r : FrameRow) (q : Point) → SameLine x r → r.after ≡ Some q → is_end x.line.ending ≡ false
 some-ending x r q line after = go (is_end x.line.ending) refl
   where
-    told : ending n.LineEnding x.line ≡ pair n.LineEnding r.end q
-    told = line.ending n.LineEnding ∙ ending-is n.LineEnding r q after
+    recorded : ending n.LineEnding x.line ≡ pair n.LineEnding r.end q
+    recorded = line.ending n.LineEnding ∙ ending-is n.LineEnding r q after
 
     go : (t : Bool) → is_end x.line.ending ≡ t → t ≡ false
     go true e =
         let none : ending n.LineEnding x.line ≡ [] =
         ap (λ (t : Bool). cond t [] (pair n.LineEnding (place x.line (line_end x.line)) (next_line x.line))) e in
-        let no : [] ≡ pair n.LineEnding r.end q = sym none ∙ told in
+        let no : [] ≡ pair n.LineEnding r.end q = sym none ∙ recorded in
         cc
     go false e = refl
 
@@ -140,7 +140,7 @@ along-are options text x [] r [] h here are =
       cells_are =
           ap (λ (s : Rest). rest_cells no_line s r.first) (sym same)
           ∙ sym (append-nil (rest_cells no_line x.rest r.first));
-      behind = (refl, refl);
+      following = (refl, refl);
     }
 along-are options text x (y ∷ ys) r (next ∷ rs) h here are =
     let same = rest-is options text h.0 x r h.1 here.0 are.0.end in
@@ -150,12 +150,12 @@ along-are options text x (y ∷ ys) r (next ∷ rs) h here are =
       begins = begins-is options text h.0 x r h.1 here.0 same;
       stop = c ∷ more;
       cells_are = ap (λ (s : Rest). rest_cells no_line s r.first ++ c ∷ more) (sym same);
-      behind = record {
+      following = record {
         d = c;
         more = more;
         turn = record {
           end = r.end;
-          break = record { after = behind_row r; front = next.front };
+          break = record { after = after_row r; front = next.front };
           first = next.first;
           cells = lines_cells options text next rs;
         };
@@ -175,9 +175,9 @@ along-are options text x (y ∷ ys) r [] h here are = absurd are
 -- after the first of them are as many as there are turns
 along-length : (text : List ℕ) (x : Row) (xs : List Row) (p : Point) (cells : List Cell) (turns : List Turn) →
     Along text (x ∷ xs) p cells turns → length xs ≡ length turns
-along-length text x [] p cells turns h = sym (ap (λ (l : List Turn). length l) h.behind.1)
+along-length text x [] p cells turns h = sym (ap (λ (l : List Turn). length l) h.following.1)
 along-length text x (y ∷ ys) p cells turns h =
-    let o = h.behind in
+    let o = h.following in
     let more = along-length text y ys o.d.after o.more o.left o.along in
     let size = ap (λ (l : List Turn). length l) o.turns_are in
     omega (arith, more, size)
@@ -198,18 +198,18 @@ IsKept Agree =
     (x y : Row) (ys : List Row) (r next : FrameRow) (rs : List FrameRow) → Agree x (y ∷ ys) r (next ∷ rs) →
     Agree y ys next rs
 
-agree-behind : (Agree : Relation) → IsKept Agree → (x : Row) (passed : List Row) (y : Row) (ys : List Row)
+agree-following : (Agree : Relation) → IsKept Agree → (x : Row) (passed : List Row) (y : Row) (ys : List Row)
     (r : FrameRow) (own : List FrameRow) (next : FrameRow) (rs : List FrameRow) → length passed ≡ length own →
     Agree x (passed ++ y ∷ ys) r (own ++ next ∷ rs) → Agree y ys next rs
-agree-behind Agree kept x [] y ys r [] next rs e h = kept x y ys r next rs h
-agree-behind Agree kept x (p ∷ ps) y ys r (o ∷ os) next rs e h =
-    agree-behind Agree kept p ps y ys o os next rs (omega (arith, e))
+agree-following Agree kept x [] y ys r [] next rs e h = kept x y ys r next rs h
+agree-following Agree kept x (p ∷ ps) y ys r (o ∷ os) next rs e h =
+    agree-following Agree kept p ps y ys o os next rs (omega (arith, e))
     (kept x p (ps ++ y ∷ ys) r o (os ++ next ∷ rs) h)
-agree-behind Agree kept x [] y ys r (o ∷ os) next rs e h = absurd (omega (arith, e))
-agree-behind Agree kept x (p ∷ ps) y ys r [] next rs e h = absurd (omega (arith, e))
+agree-following Agree kept x [] y ys r (o ∷ os) next rs e h = absurd (omega (arith, e))
+agree-following Agree kept x (p ∷ ps) y ys r [] next rs e h = absurd (omega (arith, e))
 
 -- Lines of the exact list and rows that may follow one another in a text.
-record Stands (options : ParseOptions) (text : List ℕ) (Agree : Relation) (x : Row) (xs : List Row) (r : FrameRow)
+record Valid (options : ParseOptions) (text : List ℕ) (Agree : Relation) (x : Row) (xs : List Row) (r : FrameRow)
     (rs : List FrameRow) : Type 0 where
   lines : AreLines options text r rs
   along : Along text (x ∷ xs) r.first (lines_cells options text r rs) (turns_of options text r rs)
@@ -219,7 +219,7 @@ record Stands (options : ParseOptions) (text : List ℕ) (Agree : Relation) (x :
 abbrev Same : ParseOptions → List ℕ → Relation → (List Row → List Event) → (FrameRow → List FrameRow → List Event) →
     Type 0
 Same options text Agree before more =
-    (x : Row) (xs : List Row) (r : FrameRow) (rs : List FrameRow) → Stands options text Agree x xs r rs →
+    (x : Row) (xs : List Row) (r : FrameRow) (rs : List FrameRow) → Valid options text Agree x xs r rs →
     before (x ∷ xs) ≡ more r rs
 
 -- After a definition: nothing, or the ending of its line and the other lines.
@@ -227,19 +227,19 @@ module _ (options : ParseOptions) (text : List ℕ) (Agree : Relation) (kept : I
     (before : List Row → List Event) (none : before [] ≡ []) (more : FrameRow → List FrameRow → List Event)
     (same : Same options text Agree before more) where
   -- the lines after its last line, by the cells and turns after it
-  behind-step : (last : Point) (d : DefinitionParts) (x : Row) (passed : List Row) (end : Row) (others : List Row)
+  following-step : (last : Point) (d : DefinitionParts) (x : Row) (passed : List Row) (end : Row) (others : List Row)
       (size : ℕ) (left : List Turn) (r : FrameRow) (own below : List FrameRow) →
       Walk text last (definition_end d) (definition_rest d) left →
       Along text (at end (past size end.rest) ∷ others) (definition_end d) (definition_rest d) left →
       place end.line (line_end end.line) ≡ definition_end d → definition_end d ≡ (last_row r own).end →
-      left ≡ turns_of options text (last_row r own) below → IsBehind options text d below →
+      left ≡ turns_of options text (last_row r own) below → IsAfter options text d below →
       AreLines options text r (own ++ below) → length passed ≡ length own →
       Agree x (passed ++ others) r (own ++ below) →
-      onto_next (end ∷ others) ++ before others ≡ behind_cut more (last_row r own) below
-  behind-step last d x passed end [] size left r own [] walk along at_end ends are rest lines few agree = none
-  behind-step last d x passed end (y ∷ ys) size left r own [] walk along at_end ends are rest lines few agree =
-      let o = along.behind in let bad : [] ≡ o.turn ∷ o.left = sym are ∙ o.turns_are in cc
-  behind-step last d x passed end others size left r own (next ∷ below) walk along at_end ends are rest lines few
+      onto_next (end ∷ others) ++ before others ≡ after_cut more (last_row r own) below
+  following-step last d x passed end [] size left r own [] walk along at_end ends are rest lines few agree = none
+  following-step last d x passed end (y ∷ ys) size left r own [] walk along at_end ends are rest lines few agree =
+      let o = along.following in let bad : [] ≡ o.turn ∷ o.left = sym are ∙ o.turns_are in cc
+  following-step last d x passed end others size left r own (next ∷ below) walk along at_end ends are rest lines few
       agree =
       by others
       (next-on text (at end (past size end.rest)) others z z [] c cs left over.left tt refl here over.turn) agree
@@ -270,7 +270,7 @@ module _ (options : ParseOptions) (text : List ℕ) (Agree : Relation) (kept : I
       t : Turn
       t = record {
         end = f.end;
-        break = record { after = behind_row f; front = next.front };
+        break = record { after = after_row f; front = next.front };
         first = next.first;
         cells = cs;
       }
@@ -294,7 +294,7 @@ module _ (options : ParseOptions) (text : List ℕ) (Agree : Relation) (kept : I
       by : (others : List Row) →
           NextOn text (at end (past size end.rest)) others c cs over.turn.turn over.left →
           Agree x (passed ++ others) r (own ++ next ∷ below) →
-          onto_next (end ∷ others) ++ before others ≡ behind_cut more f (next ∷ below)
+          onto_next (end ∷ others) ++ before others ≡ after_cut more f (next ∷ below)
       by others on agree =
           ap (λ (l : List Row). onto_next (end ∷ l) ++ before l) on.rows_are
           ∙ ap₂ (λ (es fs : List Event). es ++ fs) onto
@@ -302,13 +302,13 @@ module _ (options : ParseOptions) (text : List ℕ) (Agree : Relation) (kept : I
             lines = split.7;
             along = subst (Along text (on.next ∷ on.further) next.first cs) left_is on.along;
             agree =
-                agree-behind Agree kept x passed on.next on.further r own next below few
+                agree-following Agree kept x passed on.next on.further r own next below few
                 (subst (λ (l : List Row). Agree x (passed ++ l) r (own ++ next ∷ below)) on.rows_are agree);
           }))
         where
           after : next_line end.line ≡ split.3
           after =
-              sym on.after ∙ ap (λ (u : Turn). u.break.after) turn_is ∙ behind-is f split.3 split.4
+              sym on.after ∙ ap (λ (u : Turn). u.break.after) turn_is ∙ following-is f split.3 split.4
 
           front : on.next.front ≡ next.front
           front = sym on.front ∙ ap (λ (u : Turn). u.break.front) turn_is
@@ -325,20 +325,20 @@ module _ (options : ParseOptions) (text : List ℕ) (Agree : Relation) (kept : I
   -- a definition before lines
   definition-step : length text < 2 ^ 61 → (x : Row) (xs : List Row) (r : FrameRow) (rs : List FrameRow)
       (d : DefinitionParts) →
-      Stands options text Agree x xs r rs → definition_parts (lines_cells options text r rs) ≡ Some d →
-      let first = on_first behind_indent (x ∷ xs) in
+      Valid options text Agree x xs r rs → definition_parts (lines_cells options text r rs) ≡ Some d →
+      let first = on_first after_indent (x ∷ xs) in
       let end = Texts.definition_end first in
       let k = further_lines d r in
       gap (x ∷ xs) first ++ definition first ++ onto_next end ++ before (drop 1 end) ≡
-      defined_unread d r (take k rs) ++ behind_cut more (last_row r (take k rs)) (drop k rs)
-  definition-step small x xs r rs d stands e =
+      defined_unread d r (take k rs) ++ after_cut more (last_row r (take k rs)) (drop k rs)
+  definition-step small x xs r rs d valid e =
       ap (λ (l : List Row). (events ++ onto_next l) ++ before (drop 1 l)) on.end_is
       ∙ append_assoc events (onto_next (on.end ∷ on.more)) (before on.more)
       ∙ subst
       (λ (k : ℕ).
       events ++ (onto_next (on.end ∷ on.more) ++ before on.more) ≡
-      defined_unread d r (take k rs) ++ behind_cut more (last_row r (take k rs)) (drop k rs)) (sym count)
-      (ap₂ (λ (es fs : List Event). es ++ fs) (sym unread) behind)
+      defined_unread d r (take k rs) ++ after_cut more (last_row r (take k rs)) (drop k rs)) (sym count)
+      (ap₂ (λ (es fs : List Event). es ++ fs) (sym unread) following)
     where
       cells : List Cell
       cells = lines_cells options text r rs
@@ -347,19 +347,19 @@ module _ (options : ParseOptions) (text : List ℕ) (Agree : Relation) (kept : I
       last = (last_row r rs).end
 
       first : List Row
-      first = on_first behind_indent (x ∷ xs)
+      first = on_first after_indent (x ∷ xs)
 
       events : List Event
       events = gap (x ∷ xs) first ++ definition first
 
       walk : Walk text last r.first cells (turns_of options text r rs)
-      walk = lines-walk options text small r rs stands.lines
+      walk = lines-walk options text small r rs valid.lines
 
       on : DefinitionOn text last r.first d (turns_of options text r rs) (x ∷ xs)
-      on = definition-on text last r.first cells d (turns_of options text r rs) (x ∷ xs) e walk stands.along
+      on = definition-on text last r.first cells d (turns_of options text r rs) (x ∷ xs) e walk valid.along
 
       cut : IsCut options text r rs d
-      cut = lines-cut options text small r rs stands.lines d e
+      cut = lines-cut options text small r rs valid.lines d e
 
       took : List Turn
       took = on.takes.took
@@ -388,25 +388,26 @@ module _ (options : ParseOptions) (text : List ℕ) (Agree : Relation) (kept : I
 
       passed : length on.onward.passed ≡ length (take m rs)
       passed =
-          let start = along-length text x xs r.first cells (turns_of options text r rs) stands.along in
+          let start = along-length text x xs r.first cells (turns_of options text r rs) valid.along in
           let end = along-length text (at on.end (past on.size on.end.rest)) on.more (definition_end d)
           (definition_rest d) on.left on.along in
           let turns = ap (λ (l : List Turn). length l) on.takes.turns_are in
           let parts = length-append took on.left in
           let rows : length xs ≡ length (on.onward.passed ++ on.more) =
-          ap (λ (l : List Row). length l) on.onward.behind in
+          ap (λ (l : List Row). length l) on.onward.following in
           let sum = length-append on.onward.passed on.more in
           let size = length-take-le m rs known.many in
           omega (arith, start, end, turns, parts, rows, sum, size)
 
-      behind : onto_next (on.end ∷ on.more) ++ before on.more ≡ behind_cut more (last_row r (take m rs)) (drop m rs)
-      behind =
-          behind-step last d x on.onward.passed on.end on.more on.size on.left r (take m rs) (drop m rs) on.takes.walk
+      following : onto_next (on.end ∷ on.more) ++ before on.more ≡ after_cut more (last_row r (take m rs)) (drop m rs)
+      following =
+          following-step last d x on.onward.passed on.end on.more on.size on.left r (take m rs)
+          (drop m rs) on.takes.walk
           on.along on.stops (subst (λ (k : ℕ). definition_end d ≡ (last_row r (take k rs)).end) count cut.end)
-          known.left_are (subst (λ (k : ℕ). IsBehind options text d (drop k rs)) count cut.rest)
-          (subst (AreLines options text r) (sym all) stands.lines) passed
-          (subst (λ (l : List Row). Agree x l r (take m rs ++ drop m rs)) on.onward.behind
-          (subst (Agree x xs r) (sym all) stands.agree))
+          known.left_are (subst (λ (k : ℕ). IsAfter options text d (drop k rs)) count cut.rest)
+          (subst (AreLines options text r) (sym all) valid.lines) passed
+          (subst (λ (l : List Row). Agree x l r (take m rs ++ drop m rs)) on.onward.following
+          (subst (Agree x xs r) (sym all) valid.agree))
 
 -- Definitions one after the other.
 
@@ -429,10 +430,10 @@ module _ (options : ParseOptions) (text : List ℕ) (small : length text < 2 ^ 6
     (same : (x : Row) (xs : List Row) (r : FrameRow) (rs : List FrameRow) → Agree x xs r rs →
     remain (x ∷ xs) ≡ also r rs) (on : options.constructs.definition ≡ true) where
   cut-same : (size : ℕ) (x : Row) (xs : List Row) (r : FrameRow) (rs : List FrameRow) →
-      Stands options text Agree x xs r rs →
+      Valid options text Agree x xs r rs →
       text_events remain size (x ∷ xs) ≡ cut_at_most defined_unread also options text size r rs
-  cut-same zero x xs r rs stands = same x xs r rs stands.agree
-  cut-same (suc size) x xs r rs stands =
+  cut-same zero x xs r rs valid = same x xs r rs valid.agree
+  cut-same (suc size) x xs r rs valid =
       go options.constructs.definition on (definition_parts cells) refl
       (λ y ys next below h. cut-same size y ys next below h)
     where
@@ -440,12 +441,12 @@ module _ (options : ParseOptions) (text : List ℕ) (small : length text < 2 ^ 6
       cells = lines_cells options text r rs
 
       first : List Row
-      first = on_first behind_indent (x ∷ xs)
+      first = on_first after_indent (x ∷ xs)
 
       found : is_some (definition_at (lines_left first)) ≡ is_some (definition_parts cells)
       found =
           definition-found text (last_row r rs).end r.first cells (turns_of options text r rs) (x ∷ xs)
-          (lines-walk options text small r rs stands.lines) stands.along
+          (lines-walk options text small r rs valid.lines) valid.along
 
       more : FrameRow → List FrameRow → List Event
       more = cut_at_most defined_unread also options text size
@@ -463,11 +464,11 @@ module _ (options : ParseOptions) (text : List ℕ) (small : length text < 2 ^ 6
           Same options text Agree (text_events remain size) more →
           text_events remain (suc size) (x ∷ xs) ≡ cut_by defined_unread also more (cond flag o None) r rs
       go false off o e further = cc
-      go true is None e further = by false (ap is_some e) ∙ same x xs r rs stands.agree
+      go true is None e further = by false (ap is_some e) ∙ same x xs r rs valid.agree
       go true is (Some d) e further =
           by true (ap is_some e)
           ∙ definition-step options text Agree kept (text_events remain size) (none-left remain size none) more further
-          small x xs r rs d stands e
+          small x xs r rs d valid e
 
 -- so many definitions at most
 abbrev pub most : ParseOptions → List Row → ℕ
@@ -492,8 +493,8 @@ texts-cut options text small remain also Agree kept none same x xs r rs lines he
         subst (λ (l : List Cell). Along text (x ∷ xs) r.first l (turns_of options text r rs))
         (sym (lines-are options text small r rs lines)) (along-are options text x xs r rs lines here are)
 
-    stands : Stands options text Agree x xs r rs
-    stands = record { lines = lines; along = along; agree = agree }
+    valid : Valid options text Agree x xs r rs
+    valid = record { lines = lines; along = along; agree = agree }
 
     size : length xs ≡ length rs
     size =
@@ -508,7 +509,7 @@ texts-cut options text small remain also Agree kept none same x xs r rs lines he
     go true on =
         ap (λ (t : Bool). text_events remain (cond t (suc (length xs)) 0) (x ∷ xs)) on
         ∙ ap (λ (k : ℕ). text_events remain (suc k) (x ∷ xs)) size
-        ∙ cut-same options text small Agree kept remain also none same on (suc (length rs)) x xs r rs stands
+        ∙ cut-same options text small Agree kept remain also none same on (suc (length rs)) x xs r rs valid
     go false off =
         ap (λ (t : Bool). text_events remain (cond t (suc (length xs)) 0) (x ∷ xs)) off
         ∙ same x xs r rs agree

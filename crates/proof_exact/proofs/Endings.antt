@@ -15,14 +15,14 @@ use Rattle.md_meaning.specs.State.{Leaf, NoLeaf, OpenCode, OpenFence, OpenHtml, 
 use Rattle.md_events.specs.Events.Places.{column_past, columns_from}
 use Rattle.md_events.proofs.RestCells.{Cut}
 use Rattle.md_exact.specs.Places.{TextLine}
-use Rattle.md_exact.specs.Rows.{BehindCode, First, FirstText, Further, FurtherText, Head, Role, is_blank_role}
+use Rattle.md_exact.specs.Rows.{AfterCode, First, FirstText, Further, FurtherText, Head, Role, is_blank_role}
 use Rattle.md_exact.specs.Rows as exact
 use Rattle.proof_exact.proofs.Tails.{last_ending}
 use Rattle.proof_exact_lines.proofs.BeginsAt.{BeginsAt}
 use Rattle.proof_frame.specs.EndingName.{ending_name}
-use Rattle.proof_frame.specs.HeldLeaf.{has_lines, kind_of_leaf, may_go_on, takes_lazy}
-use Rattle.proof_frame.specs.LeafName.{CodeFurther, CodeIndented, Fence, FenceFurther, GfmTable, HeadingAtx, HeadingSetext}
-use Rattle.proof_frame.specs.LeafName.{HtmlFlow, HtmlFurther, LeafName, ThematicBreak}
+use Rattle.proof_frame.specs.HeldLeaf.{has_lines, kind_of_leaf, may_continue, takes_lazy}
+use Rattle.proof_frame.specs.LeafName.{CodeFurther, CodeIndented, Fence, FenceFurther, GfmTable, HeadingAtx}
+use Rattle.proof_frame.specs.LeafName.{HeadingSetext, HtmlFlow, HtmlFurther, LeafName, ThematicBreak}
 use Rattle.proof_frame.specs.Row.{BlankRow, LeafRow, Row, RowKind, TextRow, any_framed, ending_of, is_blank_by}
 use Rattle.proof_frame.specs.Row.{is_empty_row, is_framed}
 use Rattle.proof_frame.proofs.LeafLines.Rest.{row_unread}
@@ -36,7 +36,7 @@ use Rattle.proof_rows.proofs.Text.Parted.{text-nonblank}
 use Rattle.proof_rows.proofs.ContainedLemmas.{lines-open}
 use Rattle.proof_exact.proofs.GroupsMatch.{code-held}
 use Rattle.proof_exact.proofs.KindRoles.{further_role, leaf_role}
-use Rattle.proof_exact.proofs.RowRoles.{IsCode, behind_code, code-further, code-is, further_rows, is_headed}
+use Rattle.proof_exact.proofs.RowRoles.{IsCode, following_code, code-further, code-is, further_rows, is_headed}
 use Rattle.proof_exact.proofs.RowRoles.{row_role, row_role_by}
 
 -- Whether nothing at all is on a line: each byte is a column at least.
@@ -114,15 +114,15 @@ pub record IsNamed (options : ParseOptions) (bytes : List ℕ) (x : exact.Row) (
   pub open_leaf : Leaf
   pub below : List Row
   pub role : x.role ≡ row_role options open_leaf is.rest r below
-  pub met : may_go_on r.on ≡ true → r.on ≡ kind_of_leaf open_leaf
+  pub met : may_continue r.on ≡ true → r.on ≡ kind_of_leaf open_leaf
   -- only the first line of a text may begin in another column than the first, and that continues no leaf
-  pub first : may_go_on r.on ≡ true → x.line.column ≡ 0
+  pub first : may_continue r.on ≡ true → x.line.column ≡ 0
 
 -- nothing is on a line of a leaf just if its row says so
-nothing-stands : (options : ParseOptions) (bytes : List ℕ) (x : exact.Row) (r : Row) → IsNamed options bytes x r →
+nothing-valid : (options : ParseOptions) (bytes : List ℕ) (x : exact.Row) (r : Row) → IsNamed options bytes x r →
     (l : LeafName) → r.kind ≡ LeafRow l →
     is_end x.line.bytes ≡ (is_empty_row r && (r.first.column == 1))
-nothing-stands options bytes x r is l kind = go (has_lines r.on) refl
+nothing-valid options bytes x r is l kind = go (has_lines r.on) refl
   where
     go : (t : Bool) → has_lines r.on ≡ t → is_end x.line.bytes ≡ (is_empty_row r && (r.first.column == 1))
     go false e =
@@ -152,7 +152,7 @@ stays-code GfmTable e = cc
 
 -- whether it is one after code that does not belong to it, or is not known to belong to it
 abbrev pub IsLast : Role → Rest → RowKind → Type 0
-IsLast role r kind = kind ≡ LeafRow CodeFurther → (is_blank r.bytes ≡ false) ⊎ (role ≡ BehindCode)
+IsLast role r kind = kind ≡ LeafRow CodeFurther → (is_blank r.bytes ≡ false) ⊎ (role ≡ AfterCode)
 
 blank-leaf : (options : ParseOptions) (bytes : List ℕ) (x : exact.Row) (r : Row) → (is : IsNamed options bytes x r) →
     (l : LeafName) → r.kind ≡ LeafRow l → IsLast x.role is.is.rest r.kind →
@@ -162,7 +162,7 @@ blank-leaf options bytes x r is l kind last = go (leaf l).stays_blank refl
     rest : Rest
     rest = is.is.rest
 
-    role : x.role ≡ behind_code (leaf_role options is.open_leaf r.on rest l) r is.below
+    role : x.role ≡ following_code (leaf_role options is.open_leaf r.on rest l) r is.below
     role = is.role ∙ ap (row_role_by options is.open_leaf rest r is.below) kind
 
     starts : (leaf l).starts options r.on rest ≡ true
@@ -199,24 +199,24 @@ blank-leaf options bytes x r is l kind last = go (leaf l).stays_blank refl
         by : (t : Bool) → is_blank rest.bytes ≡ t → is_blank_role x.role ≡ is_blank rest.bytes
         by true e = blank (last named)
           where
-            blank : (is_blank rest.bytes ≡ false) ⊎ (x.role ≡ BehindCode) → is_blank_role x.role ≡ is_blank rest.bytes
+            blank : (is_blank rest.bytes ≡ false) ⊎ (x.role ≡ AfterCode) → is_blank_role x.role ≡ is_blank rest.bytes
             blank (inl dark) = let bad : true ≡ false = sym e ∙ dark in cc
-            blank (inr behind) = ap is_blank_role behind ∙ sym e
+            blank (inr following) = ap is_blank_role following ∙ sym e
         by false e =
             ap is_blank_role
             (role
             ∙ ap₂
-            (λ (k : LeafName) (open_leaf : Leaf). behind_code (leaf_role options open_leaf r.on rest k) r is.below)
+            (λ (k : LeafName) (open_leaf : Leaf). following_code (leaf_role options open_leaf r.on rest k) r is.below)
             same opened.is
             ∙ ap
             (λ (t : Bool).
-            behind_code
-            (cond t (Further (OpenCode opened.lines)) (First ((leaf CodeFurther).comes options NoLeaf rest))) r
+            following_code
+            (cond t (Further (OpenCode opened.lines)) (First ((leaf CodeFurther).becomes options NoLeaf rest))) r
             is.below)
             is_on
             ∙ ap
             (λ (t : Bool).
-            cond (t || any_framed row_unread (further_rows is.below)) (Further (OpenCode opened.lines)) BehindCode)
+            cond (t || any_framed row_unread (further_rows is.below)) (Further (OpenCode opened.lines)) AfterCode)
             (framed ∙ ap not e))
             ∙ sym e
 
@@ -224,7 +224,7 @@ blank-leaf options bytes x r is l kind last = go (leaf l).stays_blank refl
     other : (leaf l).stays_blank ≡ false → (t : Bool) → (leaf l).further r.on ≡ t → (opened : Leaf) →
         is.open_leaf ≡ opened →
         is_blank_role
-        (behind_code (cond t (further_role opened (leaf l).heads) (First ((leaf l).comes options NoLeaf rest))) r
+        (following_code (cond t (further_role opened (leaf l).heads) (First ((leaf l).becomes options NoLeaf rest))) r
         is.below) ≡
         false
     other none false e opened f = refl
@@ -234,7 +234,7 @@ blank-leaf options bytes x r is l kind last = go (leaf l).stays_blank refl
         cc
     other none true e (OpenParagraph lines) f = by (leaf l).heads
       where
-        by : (h : Bool) → is_blank_role (behind_code (further_role (OpenParagraph lines) h) r is.below) ≡ false
+        by : (h : Bool) → is_blank_role (following_code (further_role (OpenParagraph lines) h) r is.below) ≡ false
         by true = refl
         by false = refl
     other none true e NoLeaf f = refl
@@ -278,7 +278,7 @@ name-same options bytes x r is last = to (go r.kind refl)
         ∙ sym (ap (λ (kind : RowKind). is_blank_by kind r) e)
     go (LeafRow l) e =
         ap₂ (λ (a b : Bool). a || b) (blank-leaf options bytes x r is l e last)
-        (nothing-stands options bytes x r is l e)
+        (nothing-valid options bytes x r is l e)
         ∙ sym
         (ap (λ (kind : RowKind). is_blank_by kind r) e ∙ is.is.empty
         ∙ ap

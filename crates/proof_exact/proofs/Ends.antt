@@ -13,18 +13,18 @@ use Rattle.md_engine.specs.declared.event.Point.{Point}
 use Rattle.md_engine.specs.declared.tokenizer.held_leaf.HeldLeaf.{HeldLeaf}
 use Rattle.md_engine.specs.declared.tokenizer.held_leaf.HeldLeaf.TheVariants as held_leaf
 use Rattle.md_meaning.specs.Containers.{Taken}
-use Rattle.md_meaning.specs.Leaves.{LeafResult, NoText, goes_on, starts}
+use Rattle.md_meaning.specs.Leaves.{LeafResult, NoText, is_continued, starts}
 use Rattle.md_meaning.specs.Rest.{Rest, is_blank}
 use Rattle.md_meaning.specs.State.{Container, InFootnote, InItem, InQuote, Leaf, NoLeaf, OpenCode, OpenFence, OpenHtml}
 use Rattle.md_meaning.specs.State.{OpenParagraph, OpenTable, Path, spot}
 use Rattle.md_meaning.specs.Step.{step, with_lazy}
 use Rattle.md_events.specs.Events.Nested.{exit}
 use Rattle.md_exact.specs.Places.{TextLine, line_end, place, whole}
-use Rattle.md_exact.specs.Prefixes.{behind_all, containers, gone_on, new_containers}
+use Rattle.md_exact.specs.Prefixes.{following_all, containers, taken_prefixes, new_containers}
 use Rattle.md_exact.specs.Rows as exact
 use Rattle.md_exact.specs.Rows.{Blank, First, FirstText, Further, FurtherText, Role, first_or, next_stays, role_on}
 use Rattle.md_exact.specs.Rows.{row_of, rows_of}
-use Rattle.proof_frame.specs.Change.{Change, change_by, ends_of, is_none, open_behind, others_of}
+use Rattle.proof_frame.specs.Change.{Change, change_by, ends_of, is_none, open_following, others_of}
 use Rattle.proof_frame.specs.ContainerNames.{container_name}
 use Rattle.proof_frame.specs.HeldLeaf.{kind_of_leaf, lazy_of, met_by, takes_lazy}
 use Rattle.proof_frame.specs.Row.{BlankRow, LeafRow, Row, RowKind, TextRow}
@@ -32,7 +32,7 @@ use Rattle.md_registry.specs.OpenSpan.{IsBuiltLeaf}
 use Rattle.md_registry.specs.Registry.{leaf}
 use Rattle.proof_rows.specs.Fronted.{Contained}
 use Rattle.proof_rows.specs.Rows.{closes_before, is_text, line_kind}
-use Rattle.proof_rows.specs.Stands.{IsPlain, containers_of, still_of}
+use Rattle.proof_rows.specs.Valid.{IsPlain, containers_of, still_of}
 use Rattle.proof_exact_lines.specs.Unlisted.{plain_ends, without_lists}
 use Rattle.proof_exact_lines.proofs.RowEvents.{ends-plain}
 use Rattle.proof_exact.proofs.ExactRoles.{AreMet, contained-by, contained_at, none-new}
@@ -66,7 +66,7 @@ kind-text options open_leaf on r BlankRow = sym (and_right (takes_lazy on) false
 kind-text options open_leaf on r (LeafRow l) = go ((leaf l).further on) ∙ sym (and_right (takes_lazy on) false refl)
   where
     go : (x : Bool) →
-        is_further_text (cond x (further_role open_leaf (leaf l).heads) (First ((leaf l).comes options NoLeaf r))) ≡
+        is_further_text (cond x (further_role open_leaf (leaf l).heads) (First ((leaf l).becomes options NoLeaf r))) ≡
         false
     go true = further-none open_leaf (leaf l).heads
     go false = refl
@@ -90,7 +90,7 @@ lazy-text options open_leaf r = go (is_some (with_lazy options open_leaf r))
 
     go : (x : Bool) → is_further_text (cond x FurtherText (role_on options NoLeaf r)) ≡ x
     go true = refl
-    go false = plain (is_some (goes_on options NoLeaf r)) (is_blank r.bytes) (starts options NoText r)
+    go false = plain (is_some (is_continued options NoLeaf r)) (is_blank r.bytes) (starts options NoText r)
 
 lazy-takes : (held : HeldLeaf) → takes_lazy (lazy_of held) ≡ takes_lazy held
 lazy-takes (held_leaf.Text at) = refl
@@ -125,13 +125,13 @@ stays-same options p line below plain =
     ∙ sym (ap (λ (c : Contained). c.change.closes) (contained-by options p line plain))
   where
     on : List Taken
-    on = gone_on options p (whole line)
+    on = taken_prefixes options p (whole line)
 
     all : Bool
     all = length on == length (containers p)
 
     inner : Rest
-    inner = behind_all (whole line) on
+    inner = following_all (whole line) on
 
     new : List Taken
     new = new_containers options p all inner
@@ -140,7 +140,7 @@ stays-same options p line below plain =
     none = length new == 0
 
     rest : Rest
-    rest = behind_all inner new
+    rest = following_all inner new
 
     still : HeldLeaf
     still = still_of p
@@ -219,14 +219,14 @@ closed-same options bytes p (line ∷ lines) (row ∷ rows) open_now is are =
 pub line-ends : (options : ParseOptions) (bytes : List ℕ) (p : Path) (line : TextLine) (row : Row)
     (lines : List TextLine) (rows : List Row) →
     KnowsStep options → AreMet options bytes p (line ∷ lines) (row ∷ rows) →
-    row.closed_after ≡ closes_before (open_behind row.change) rows → place line (line_end line) ≡ row.end →
+    row.closed_after ≡ closes_before (open_following row.change) rows → place line (line_end line) ≡ row.end →
     without_lists (row_of options p line (rows_of options (step options p (whole line)) lines)).ends ≡
     ends_of row.closed_after row.end
 line-ends options bytes p line row lines rows knows are closed end =
     let after : Path = step options p (whole line) in
     ends-plain options p line (rows_of options after lines)
     ∙ ap₂ plain_ends
-    (closed-same options bytes after lines rows (open_behind row.change)
-    (knows.containers p (whole line) are.0.plain ∙ sym (ap open_behind are.0.change)) are.2
+    (closed-same options bytes after lines rows (open_following row.change)
+    (knows.containers p (whole line) are.0.plain ∙ sym (ap open_following are.0.change)) are.2
     ∙ sym closed) end
     ∙ plain-same row.closed_after row.end

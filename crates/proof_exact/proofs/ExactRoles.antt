@@ -10,18 +10,18 @@ use Rattle.md_meaning.specs.Rest.{Rest}
 use Rattle.md_meaning.specs.State.{Path, spot}
 use Rattle.md_meaning.specs.Step.{step}
 use Rattle.md_exact.specs.Places.{TextLine, whole}
-use Rattle.md_exact.specs.Prefixes.{behind_all, containers, gone_on, new_containers}
+use Rattle.md_exact.specs.Prefixes.{following_all, containers, taken_prefixes, new_containers}
 use Rattle.md_exact.specs.Rows as exact
 use Rattle.md_exact.specs.Rows.{Role, next_role, role_before, row_of, rows_of}
 use Rattle.proof_frame.specs.Change.{is_none}
-use Rattle.proof_frame.specs.HeldLeaf.{may_go_on, met_by}
+use Rattle.proof_frame.specs.HeldLeaf.{may_continue, met_by}
 use Rattle.proof_frame.specs.Row.{Row}
-use Rattle.proof_rows.specs.Fronted.{Contained, contained, contained_behind, contained_of}
+use Rattle.proof_rows.specs.Fronted.{Contained, contained, contained_after, contained_of}
 use Rattle.proof_rows.specs.Rows.{line_kind}
-use Rattle.proof_rows.specs.Stands.{IsPlain, containers_of, still_of}
+use Rattle.proof_rows.specs.Valid.{IsPlain, containers_of, still_of}
 use Rattle.proof_rows.proofs.ContainedLemmas.{contained-still}
 use Rattle.proof_rows.proofs.RowFacts.{IsRow}
-use Rattle.proof_exact.proofs.Opened.{all-same, gone_on-same, held_in, new-same, prefixed}
+use Rattle.proof_exact.proofs.Opened.{all-same, taken_prefixes-same, held_in, new-same, prefixed}
 use Rattle.proof_exact.proofs.KindRoles.{kind_role, line-role}
 use Rattle.proof_exact.proofs.RowRoles.{IsNext, MeetsLeaf, next-line, next-none, role-before, row_role}
 
@@ -36,17 +36,18 @@ none-new [] = refl
 none-new (t ∷ ts) = let some : (length (t ∷ ts) == 0) ≡ false = grind (arith, nat_tests) in sym some
 
 pub contained-by : (options : ParseOptions) (p : Path) (line : TextLine) → IsPlain p →
-    let on = gone_on options p (whole line) in
+    let on = taken_prefixes options p (whole line) in
     let all = length on == length (containers p) in
-    let inner = behind_all (whole line) on in
+    let inner = following_all (whole line) on in
     let new = new_containers options p all inner in
     contained_at options p (whole line) ≡
     contained_of options (containers_of p) (still_of p) (prefixed (whole line) on) (prefixed inner new)
 unfolding contained
 contained-by options p line plain =
-    ap (contained_behind options (containers_of p) (still_of p)) (gone_on-same options p (whole line))
+    ap (contained_after options (containers_of p) (still_of p)) (taken_prefixes-same options p (whole line))
     ∙ ap
-    (contained_of options (containers_of p) (still_of p) (prefixed (whole line) (gone_on options p (whole line))))
+    (contained_of options (containers_of p) (still_of p)
+    (prefixed (whole line) (taken_prefixes options p (whole line))))
     (new-same options p (whole line) plain)
 
 -- A line of the exact list by itself, before these.
@@ -59,19 +60,19 @@ role-alone options p line below plain =
     ∙ ap₂ (λ (met : HeldLeaf) (r : Rest). to met r) (sym met) (sym (ap (λ (c : Contained). c.rest) by))
   where
     on : List Taken
-    on = gone_on options p (whole line)
+    on = taken_prefixes options p (whole line)
 
     all : Bool
     all = length on == length (containers p)
 
     inner : Rest
-    inner = behind_all (whole line) on
+    inner = following_all (whole line) on
 
     new : List Taken
     new = new_containers options p all inner
 
     rest : Rest
-    rest = behind_all inner new
+    rest = following_all inner new
 
     to : HeldLeaf → Rest → Role
     to met r = role_before (next_role below) r (kind_role options (spot p).leaf met r (line_kind options met r))
@@ -94,7 +95,7 @@ pub record IsMet (options : ParseOptions) (bytes : List ℕ) (p : Path) (line : 
   pub rest_is : is.rest ≡ (contained_at options p (whole line)).rest
   pub on : row.on ≡ (contained_at options p (whole line)).on
   pub change : row.change ≡ (contained_at options p (whole line)).change
-  pub behind : still_of (step options p (whole line)) ≡ row.behind
+  pub following : still_of (step options p (whole line)) ≡ row.following
 
 -- the containers that end after it are those that end before the next
 abbrev pub EndsTo : Row → List Row → Type 0
@@ -114,7 +115,7 @@ meets-leaf options bytes p line row is = record {
   is = is.is;
   met =
       λ may. is.on
-      ∙ contained-still options (containers_of p) (still_of p) (whole line) (ap may_go_on (sym is.on) ∙ may);
+      ∙ contained-still options (containers_of p) (still_of p) (whole line) (ap may_continue (sym is.on) ∙ may);
 }
 
 -- The first of these lines is what its row is before the others.
@@ -149,7 +150,7 @@ first-role options bytes p (line ∷ lines) (row ∷ rows) are =
     (λ kind. role_before (next_role below) is.is.rest (kind_role options (spot p).leaf row.on is.is.rest kind))
     (sym is.is.kind)
     ∙ role-before options bytes (spot p).leaf row (next_role below) rows (meets-leaf options bytes p line row is)
-    (subst (λ (behind : HeldLeaf). IsNext (next_role below) behind rows) is.behind
+    (subst (λ (following : HeldLeaf). IsNext (next_role below) following rows) is.following
     (next-known options bytes after lines rows are.2 (first-role options bytes after lines rows are.2)))
   where
     is : IsMet options bytes p line row

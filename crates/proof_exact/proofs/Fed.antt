@@ -26,13 +26,13 @@ use Rattle.proof_exact_lines.proofs.Front.{begin}
 use Rattle.proof_exact_lines.proofs.BeginsAt.{BeginsAt}
 use Rattle.proof_exact_lines.proofs.LeafLines.{ends-at}
 use Rattle.proof_exact_lines.proofs.OnLine.{on-begins}
-use Rattle.proof_frame.specs.Change.{open_behind}
-use Rattle.proof_frame.specs.HeldLeaf.{may_go_on}
+use Rattle.proof_frame.specs.Change.{open_following}
+use Rattle.proof_frame.specs.HeldLeaf.{may_continue}
 use Rattle.proof_frame.specs.Row.{Row, ending_events}
 use Rattle.proof_frame.proofs.RegistryRead.{AreRead}
 use Rattle.proof_rows.specs.Fronted.{Contained}
 use Rattle.proof_rows.specs.Rows.{closes_before, held_at}
-use Rattle.proof_rows.specs.Stands.{containers_of, still_of}
+use Rattle.proof_rows.specs.Valid.{containers_of, still_of}
 use Rattle.proof_exact.proofs.ExactRoles.{AreMet, IsMet, contained-by, first-role, meets-leaf}
 use Rattle.proof_exact.proofs.GroupsMatch.{Pairs}
 use Rattle.proof_exact.proofs.RowsMet.{KnowsStep}
@@ -47,9 +47,9 @@ use Rattle.proof_exact.proofs.RowFronts.{IsFronted, further-front, line-fronted,
 pub record IsFed (options : ParseOptions) (bytes : List ℕ) (open_before : List Container) (still : HeldLeaf)
     (line : TextLine) (row : Row) : Type 0 where
   pub said : Line
-  pub behind : List ℕ
+  pub following : List ℕ
   pub stop : List Cell
-  pub within : LineIn bytes behind line
+  pub within : LineIn bytes following line
   pub stops : Stops stop
   pub short : length (line_cells said line stop) < 2 ^ 63
   pub read : AreRead open_before
@@ -63,8 +63,8 @@ pub record IsFed (options : ParseOptions) (bytes : List ℕ) (open_before : List
 abbrev pub AreFed : ParseOptions → List ℕ → List Container → HeldLeaf → List TextLine → List Row → Type 0
 AreFed options bytes open_before still [] [] = Unit {0}
 AreFed options bytes open_before still (line ∷ lines) (row ∷ rows) =
-    IsFed options bytes open_before still line row × (row.closed_after ≡ closes_before (open_behind row.change) rows)
-    × AreFed options bytes (open_behind row.change) row.behind lines rows
+    IsFed options bytes open_before still line row × (row.closed_after ≡ closes_before (open_following row.change) rows)
+    × AreFed options bytes (open_following row.change) row.following lines rows
 AreFed options bytes open_before still _ _ = ⊥
 
 -- A line that is read so fits its row, where this path is open before it.
@@ -72,19 +72,19 @@ line-fit : (options : ParseOptions) (bytes : List ℕ) (p : Path) (line : TextLi
     (rows : List Row) →
     KnowsStep options → (are : AreMet options bytes p (line ∷ lines) (row ∷ rows)) →
     IsFed options bytes (containers_of p) (still_of p) line row →
-    row.closed_after ≡ closes_before (open_behind row.change) rows →
+    row.closed_after ≡ closes_before (open_following row.change) rows →
     Fit options bytes (row_of options p line (rows_of options (step options p (whole line)) lines)) row
 line-fit options bytes p line row lines rows knows are fed closed = record {
   own = met.own;
   is = met.is;
   rest = rest;
-  behind = fed.behind;
+  following = fed.following;
   within = fed.within;
   on = on;
   ending = ends;
-  next = next (is_end line.ending) refl ∙ sym (ap behind_by fed.after);
+  next = next (is_end line.ending) refl ∙ sym (ap after_by fed.after);
   front = fronted.front ∙ sym fed.front;
-  further = λ goes. further-front options p line below goes ∙ fronted.front ∙ sym fed.front;
+  further = λ proceeds. further-front options p line below proceeds ∙ fronted.front ∙ sym fed.front;
   ends = line-ends options bytes p line row lines rows knows are closed end;
   name =
       λ last. name-same options bytes x row named (subst (λ (r : Rest). IsLast x.role r row.kind) (sym rest) last);
@@ -103,22 +103,22 @@ line-fit options bytes p line row lines rows knows are fed closed = record {
     x : exact.Row
     x = row_of options p line below
 
-    fronted : IsFronted bytes fed.behind line x
+    fronted : IsFronted bytes fed.following line x
         (held_at options (containers_of p) (still_of p) (line_cells fed.said line fed.stop) (line_start line))
     fronted =
-        line-fronted options fed.said bytes fed.behind line p fed.stop below met.plain fed.read fed.within fed.stops
+        line-fronted options fed.said bytes fed.following line p fed.stop below met.plain fed.read fed.within fed.stops
         fed.short
 
-    on : OnLine bytes fed.behind line x.rest row.first
-    on = subst (OnLine bytes fed.behind line x.rest) (sym fed.first) fronted.on
+    on : OnLine bytes fed.following line x.rest row.first
+    on = subst (OnLine bytes fed.following line x.rest) (sym fed.first) fronted.on
 
     rest : met.is.rest ≡ x.rest
     rest = met.rest_is ∙ ap (λ (c : Contained). c.rest) (contained-by options p line met.plain)
 
     at : BeginsAt line met.is.rest row.first
     at =
-        on-begins bytes fed.behind line met.is.rest row.first fed.within
-        (subst (λ (r : Rest). OnLine bytes fed.behind line r row.first) (sym rest) on)
+        on-begins bytes fed.following line met.is.rest row.first fed.within
+        (subst (λ (r : Rest). OnLine bytes fed.following line r row.first) (sym rest) on)
 
     end : place line (line_end line) ≡ row.end
     end =
@@ -129,8 +129,8 @@ line-fit options bytes p line row lines rows knows are fed closed = record {
     ending_by : Name → Option Point → List Event
     ending_by name after = elim after [ None ↦ [] | Some q ↦ pair name row.end q ]
 
-    behind_by : Option Point → Point
-    behind_by after = elim after [ None ↦ row.end | Some q ↦ q ]
+    after_by : Option Point → Point
+    after_by after = elim after [ None ↦ row.end | Some q ↦ q ]
 
     ends : (name : Name) → ending name line ≡ ending_events name row
     ends name =
@@ -142,7 +142,7 @@ line-fit options bytes p line row lines rows knows are fed closed = record {
         go true = refl
         go false = refl
 
-    next : (t : Bool) → is_end line.ending ≡ t → next_line line ≡ behind_by (cond t None (Some (next_line line)))
+    next : (t : Bool) → is_end line.ending ≡ t → next_line line ≡ after_by (cond t None (Some (next_line line)))
     next true e =
         ap
         (λ (t : Bool).
@@ -151,7 +151,7 @@ line-fit options bytes p line row lines rows knows are fed closed = record {
         ∙ end
     next false e = refl
 
-    may_meet : may_go_on row.on ≡ true → row.on ≡ still_of p
+    may_meet : may_continue row.on ≡ true → row.on ≡ still_of p
     may_meet = (meets-leaf options bytes p line row met).met
 
     named : IsNamed options bytes x row
@@ -167,9 +167,9 @@ line-fit options bytes p line row lines rows knows are fed closed = record {
       first = first fed.column;
     }
       where
-        first : (line.column ≡ 0) ⊎ (still_of p ≡ held_leaf.None) → may_go_on row.on ≡ true → line.column ≡ 0
+        first : (line.column ≡ 0) ⊎ (still_of p ≡ held_leaf.None) → may_continue row.on ≡ true → line.column ≡ 0
         first (inl zero) may = zero
-        first (inr none) may = let bad : true ≡ false = sym may ∙ ap may_go_on (may_meet may ∙ none) in absurd (cc)
+        first (inr none) may = let bad : true ≡ false = sym may ∙ ap may_continue (may_meet may ∙ none) in absurd (cc)
 
 -- So do all of them.
 pub lines-fit : (options : ParseOptions) (bytes : List ℕ) (p : Path) (lines : List TextLine) (rows : List Row) →
@@ -184,5 +184,5 @@ lines-fit options bytes p (line ∷ lines) (row ∷ rows) knows are fed = (
   lines-fit options bytes (step options p (whole line)) lines rows knows are.2
       (subst₂
       (λ (cs : List Container) (still : HeldLeaf). AreFed options bytes cs still lines rows)
-      (ap open_behind are.0.change ∙ sym (knows.containers p (whole line) are.0.plain)) (sym are.0.behind) fed.2),
+      (ap open_following are.0.change ∙ sym (knows.containers p (whole line) are.0.plain)) (sym are.0.following) fed.2),
 )

@@ -26,14 +26,14 @@ use Rattle.md_exact.specs.Places.{TextLine, line_at, line_end, lines_from, next_
 use Rattle.md_exact.proofs.OnLine.{LineIn, whole-on}
 use Rattle.md_exact.proofs.PlaceLemmas.{line_start}
 use Rattle.proof_exact_lines.proofs.Front.{begin}
-use Rattle.proof_frame.specs.Change.{open_behind}
+use Rattle.proof_frame.specs.Change.{open_following}
 use Rattle.proof_frame.specs.Row.{Row}
 use Rattle.proof_frame.proofs.RegistryRead.{AreRead}
 use Rattle.proof_frame.proofs.RestRows.{rest-ending}
 use Rattle.proof_frame.proofs.LineTexts.{without-one}
 use Rattle.proof_rows.specs.Fronted.{Contained, contained}
-use Rattle.proof_rows.specs.Rows.{Held, after_ending, behind_held, held_at, onto_rows, row_of, rows_at, rows_by}
-use Rattle.proof_exact.proofs.TextLines.{begin-behind, placed-behind, some-ending}
+use Rattle.proof_rows.specs.Rows.{Held, after_ending, after_held, held_at, onto_rows, row_of, rows_at, rows_by}
+use Rattle.proof_exact.proofs.TextLines.{begin-following, placed-following, some-ending}
 use Rattle.proof_rows.specs.WithoutMdx.{IsWithoutMdx}
 use Rattle.proof_rows.proofs.FrontRows.{held-is}
 use Rattle.proof_exact.proofs.Fed.{AreFed, IsFed}
@@ -43,52 +43,52 @@ use Rattle.md_leaves.proofs.OneLine.{line-whole}
 -- One line.
 
 -- after its cells these are
-stops-fed : (options : ParseOptions) (said : Line) (bytes behind : List ℕ) (open_before : List Container)
+stops-fed : (options : ParseOptions) (said : Line) (bytes following : List ℕ) (open_before : List Container)
     (still : HeldLeaf) (line : TextLine) (stop : List Cell) →
-    IsWithoutMdx options → LineIn bytes behind line → AreRead open_before → Stops stop →
+    IsWithoutMdx options → LineIn bytes following line → AreRead open_before → Stops stop →
     length (line_cells said line stop) < 2 ^ 63 →
     let h = held_at options open_before still (line_cells said line stop) (line_start line) in
-    AreRead (open_behind h.change) × (from_ending h.cells ≡ stop)
-stops-fed options said bytes behind open_before still line stop built is read k short =
+    AreRead (open_following h.change) × (from_ending h.cells ≡ stop)
+stops-fed options said bytes following open_before still line stop built is read k short =
     let h : Held = held_at options open_before still (line_cells said line stop) (line_start line) in
     let c : Contained = contained options open_before still (whole line) in
-    let has = held-is options said bytes behind open_before still (whole line) stop (line_start line) built read
-    (whole-on bytes behind line is).stands is.plain k short in
-    let column = has.stands.column in (
+    let has = held-is options said bytes following open_before still (whole line) stop (line_start line) built read
+    (whole-on bytes following line is).valid is.plain k short in
+    let column = has.valid.column in (
       has.read,
       ap from_ending has.fed
-          ∙ rest-ending said c.rest h.point stop has.no_ending k (omega (arith, column)) has.stands.cut,
+          ∙ rest-ending said c.rest h.point stop has.no_ending k (omega (arith, column)) has.valid.cut,
     )
 
 -- the rows after a line, by the cells that are after its own
-abbrev behind_by : ParseOptions → ℕ → Held → List Cell → List Row
-behind_by options n h cells = elim cells [
+abbrev after_by : ParseOptions → ℕ → Held → List Cell → List Row
+after_by options n h cells = elim cells [
   | [] ↦ []
-  | c ∷ cs ↦ rows_at options n (open_behind h.change) (behind_held options h) cs c.after
+  | c ∷ cs ↦ rows_at options n (open_following h.change) (after_held options h) cs c.after
 ]
 
 -- so it is a line before those
-onto-fed : (options : ParseOptions) (n : ℕ) (said : Line) (bytes behind : List ℕ) (open_before : List Container)
+onto-fed : (options : ParseOptions) (n : ℕ) (said : Line) (bytes following : List ℕ) (open_before : List Container)
     (still : HeldLeaf) (line : TextLine) (lines : List TextLine) (cells stop : List Cell) →
-    IsWithoutMdx options → LineIn bytes behind line → AreRead open_before → length cells < 2 ^ 63 → Stops stop →
+    IsWithoutMdx options → LineIn bytes following line → AreRead open_before → length cells < 2 ^ 63 → Stops stop →
     (line.column ≡ 0) ⊎ (still ≡ held_leaf.None) →
     after_ending stop ≡ cond (is_end line.ending) None (Some (next_line line)) → cells ≡ line_cells said line stop →
-    ((h : Held) → AreRead (open_behind h.change) →
-    AreFed options bytes (open_behind h.change) (behind_held options h) lines (behind_by options n h stop)) →
+    ((h : Held) → AreRead (open_following h.change) →
+    AreFed options bytes (open_following h.change) (after_held options h) lines (after_by options n h stop)) →
     AreFed options bytes open_before still (line ∷ lines)
     (rows_at options (suc n) open_before still cells (line_start line))
-onto-fed options n said bytes behind open_before still line lines cells stop built is read short k column after fed
+onto-fed options n said bytes following open_before still line lines cells stop built is read short k column after fed
     further =
     let own : List Cell = line_cells said line stop in
     let few : length own < 2 ^ 63 = subst (λ (l : List Cell). length l < 2 ^ 63) fed short in
     let h : Held = held_at options open_before still own (line_start line) in
-    let stops = stops-fed options said bytes behind open_before still line stop built is read k few in
-    let row : Row = row_of options h (behind_by options n h stop) in
-    let rows : rows_by options h (rows_at options n) ≡ row ∷ behind_by options n h stop =
-    ap (λ (l : List Cell). onto_rows options h (behind_by options n h l)) stops.1 in
+    let stops = stops-fed options said bytes following open_before still line stop built is read k few in
+    let row : Row = row_of options h (after_by options n h stop) in
+    let rows : rows_by options h (rows_at options n) ≡ row ∷ after_by options n h stop =
+    ap (λ (l : List Cell). onto_rows options h (after_by options n h l)) stops.1 in
     let one : IsFed options bytes open_before still line row = record {
       said = said;
-      behind = behind;
+      following = following;
       stop = stop;
       within = is;
       stops = k;
@@ -115,10 +115,10 @@ pub record ReadsAll (x : Setting) : Type 0 where
   pub skips : x.skips ≡ []
 
 -- a line begins in the text
-line-in : (bytes behind : List ℕ) (line : TextLine) → NoEnding line.bytes → Placed bytes (line_start line) →
-    drop line.index bytes ≡ line.bytes ++ behind → LineIn bytes behind line
-line-in bytes behind line plain placed is = record {
-  stands = record { index = placed.index; text_is = is };
+line-in : (bytes following : List ℕ) (line : TextLine) → NoEnding line.bytes → Placed bytes (line_start line) →
+    drop line.index bytes ≡ line.bytes ++ following → LineIn bytes following line
+line-in bytes following line plain placed is = record {
+  valid = record { index = placed.index; text_is = is };
   plain = plain;
   begins = placed;
 }
@@ -202,16 +202,17 @@ rows-fed options (suc n) x open_before still number index column text fulls buil
     AreFed options x.bytes open_before still
     (own ∷ cond t [] (lines_from (number + 1) (index + length full) 0 more))
     (rows_at options (suc n) open_before still (text_feed x p) p)) (sym some)
-    (onto-fed options n x.line x.bytes behind open_before still own
+    (onto-fed options n x.line x.bytes following open_before still own
     (lines_from (number + 1) (index + length full) 0 more) (text_feed x p) (cell 10 q x.line ∷ text_feed x q) built
-    (line-in x.bytes behind own (subst NoEnding (sym bytes) h) placed
-    (at ∙ ap (λ (l : List ℕ). l ++ behind) (sym bytes))) read few refl first
+    (line-in x.bytes following own (subst NoEnding (sym bytes) h) placed
+    (at ∙ ap (λ (l : List ℕ). l ++ following) (sym bytes))) read few refl first
     (ap (λ (r : Point). Some r) next ∙ sym (ap (λ (t : Bool). cond t None (Some (next_line own))) some))
     (fed ∙ ap (λ (l : List ℕ). spread x.line l p ++ cell 10 q x.line ∷ text_feed x q) (sym bytes))
     (λ held those.
-    rows-fed options n x (open_behind held.change) (behind_held options held) (number + 1) (index + length full) 0 rest
+    rows-fed options n x (open_following held.change) (after_held options held) (number + 1)
+    (index + length full) 0 rest
     more built is those
-    (subst (Placed x.bytes) behind-is (placed-behind x.bytes ending rest end at_end before there)) (inl refl)
+    (subst (Placed x.bytes) following-is (placed-following x.bytes ending rest end at_end before there)) (inl refl)
     (drop-past x.bytes index full rest (at ∙ sym (append_assoc line (ending_bytes ending) rest))) same left))
   where
     p : Point
@@ -220,8 +221,8 @@ rows-fed options (suc n) x open_before still number index column text fulls buil
     full : List ℕ
     full = line ++ ending_bytes ending
 
-    behind : List ℕ
-    behind = ending_bytes ending ++ rest
+    following : List ℕ
+    following = ending_bytes ending ++ rest
 
     own : TextLine
     own = line_at number index column full
@@ -241,8 +242,8 @@ rows-fed options (suc n) x open_before still number index column text fulls buil
     q : Point
     q = begin (number + 1) (index + length full) 0
 
-    behind-is : past_ending ending end ≡ q
-    behind-is = begin-behind number index column line ending
+    following-is : past_ending ending end ≡ q
+    following-is = begin-following number index column line ending
 
     next : q ≡ next_line own
     next =
@@ -262,19 +263,19 @@ rows-fed options (suc n) x open_before still number index column text fulls buil
     few = (text-follows x x.limit true small (omega arith) (λ e. refl)).short p
 
     there : Placed x.bytes end
-    there = placed-text x.bytes p line behind placed at h
+    there = placed-text x.bytes p line following placed at h
 
-    at_end : drop end.index x.bytes ≡ behind
-    at_end = ap (λ (i : ℕ). drop i x.bytes) (past-index line p) ∙ drop-past x.bytes index line behind at
+    at_end : drop end.index x.bytes ≡ following
+    at_end = ap (λ (i : ℕ). drop i x.bytes) (past-index line p) ∙ drop-past x.bytes index line following at
 
     fed : text_feed x p ≡ spread x.line line p ++ cell 10 q x.line ∷ text_feed x q
     fed =
-        let size = front-within x.bytes index line behind at placed.index in
+        let size = front-within x.bytes index line following at placed.index in
         let limit = is.limit in
         let here = past-index line p in
         let parts = length-append (ending_bytes ending) rest in
         let one = ending-some ending in
-        line-feed x line behind p (record {
+        line-feed x line following p (record {
           small = small;
           text = at;
           no_ending = h;
@@ -290,7 +291,7 @@ rows-fed options (suc n) x open_before still number index column text fulls buil
           within = omega (arith, limit, size, here, parts, one);
           begun = begun-none x (past_ending ending end) is.skips;
         })
-        ∙ ap (λ (r : Point). cell 10 r x.line ∷ text_feed x r) behind-is)
+        ∙ ap (λ (r : Point). cell 10 r x.line ∷ text_feed x r) following-is)
 
     left : length (text_feed x q) < n
     left =

@@ -10,16 +10,17 @@ use Rattle.md_engine.specs.declared.tokenizer.held_leaf.OpenText.{OpenText}
 use Rattle.md_meaning.specs.Rest.{Rest, is_blank}
 use Rattle.md_meaning.specs.State.{Leaf, NoLeaf, OpenCode, OpenFence, OpenHtml, OpenParagraph, OpenTable}
 use Rattle.md_events.specs.Events.Places.{past_text}
-use Rattle.md_exact.specs.Blocks.{goes_on, tail}
+use Rattle.md_exact.specs.Blocks.{is_continued, tail}
 use Rattle.md_exact.specs.Places.{ending}
-use Rattle.md_exact.specs.Rows.{BehindCode, Blank, Delimiter, First, FirstText, Further, FurtherText, Head, Role, Row}
+use Rattle.md_exact.specs.Rows.{AfterCode, Blank, Delimiter, First, FirstText, Further, FurtherText, Head, Role, Row}
 use Rattle.md_exact.specs.Rows.{Underline}
-use Rattle.proof_frame.specs.HeldLeaf.{kind_of_leaf, may_go_on, takes_lazy}
+use Rattle.proof_frame.specs.HeldLeaf.{kind_of_leaf, may_continue, takes_lazy}
 use Rattle.proof_frame.specs.LeafName.{CodeFurther, LeafName}
 use Rattle.proof_frame.specs.RestLine.{rest_line}
-use Rattle.proof_frame.specs.Row.{BlankRow, LeafRow, Row as FrameRow, RowKind, TextRow, ending_events, ending_of, row_line}
+use Rattle.proof_frame.specs.Row.{BlankRow, LeafRow, Row as FrameRow, RowKind, TextRow, ending_events, ending_of}
+use Rattle.proof_frame.specs.Row.{row_line}
 use Rattle.md_registry.specs.Registry.{leaf}
-use Rattle.proof_rows.specs.Rows.{line_behind, tail_events}
+use Rattle.proof_rows.specs.Rows.{line_following, tail_events}
 use Rattle.proof_rows.proofs.KindLemmas.{kind-starts}
 use Rattle.proof_exact.proofs.Tails.{last_ending}
 use Rattle.proof_exact_lines.proofs.BeginsAt.{rest_bytes}
@@ -29,7 +30,7 @@ use Rattle.proof_exact_lines.proofs.Spans.{SameLine}
 use Rattle.proof_exact_lines.specs.Unlisted.{without_lists}
 use Rattle.proof_exact_lines.proofs.GroupEvents.{ending-none, without-append, without-none}
 use Rattle.proof_exact.proofs.KindRoles.{further_role}
-use Rattle.proof_exact.proofs.RowRoles.{behind_code, in_code, is_headed, row_role_by}
+use Rattle.proof_exact.proofs.RowRoles.{following_code, in_code, is_headed, row_role_by}
 use Rattle.proof_exact.proofs.Fit.{Fit}
 use Rattle.proof_exact_lines.proofs.Tables.{IsTableLine, table-line}
 
@@ -45,7 +46,7 @@ own-is options bytes x r fit = fit.is.line_is ∙ ap rest_line fit.rest
 
 pub read-as : (options : ParseOptions) (bytes : List ℕ) (x : Row) (r : FrameRow) → Fit options bytes x r → ReadAs x r
 read-as options bytes x r fit = record {
-  at = on-begins bytes fit.behind x.line x.rest r.first fit.within fit.on;
+  at = on-begins bytes fit.following x.line x.rest r.first fit.within fit.on;
   end = fit.is.end ∙ ap (λ (l : List ℕ). past_text l r.first) (own-is options bytes x r fit);
 }
 
@@ -55,9 +56,9 @@ line-is options bytes x r fit = fit.is.text ∙ own-is options bytes x r fit
 
 -- a line that continues a leaf, and a first line, if before it is what the row has there
 pub further-same : (options : ParseOptions) (bytes : List ℕ) (x : Row) (r : FrameRow) → Fit options bytes x r →
-    goes_on x.role ≡ true → SameLine x r
-further-same options bytes x r fit goes =
-    same-line x r (read-as options bytes x r fit) fit.ending (fit.further goes)
+    is_continued x.role ≡ true → SameLine x r
+further-same options bytes x r fit proceeds =
+    same-line x r (read-as options bytes x r fit) fit.ending (fit.further proceeds)
 
 pub first-same : (options : ParseOptions) (bytes : List ℕ) (x : Row) (r : FrameRow) → Fit options bytes x r →
     SameLine (with_front r.front x) r
@@ -68,14 +69,14 @@ first-same options bytes x r fit =
 pub first-table : (options : ParseOptions) (bytes : List ℕ) (x : Row) (r : FrameRow) → Fit options bytes x r →
     IsTableLine bytes (with_front r.front x) r
 first-table options bytes x r fit =
-    table-line bytes fit.behind (with_front r.front x) r fit.within fit.on (read-as options bytes x r fit).end
+    table-line bytes fit.following (with_front r.front x) r fit.within fit.on (read-as options bytes x r fit).end
     fit.ending refl
 
 pub further-table : (options : ParseOptions) (bytes : List ℕ) (x : Row) (r : FrameRow) → Fit options bytes x r →
-    goes_on x.role ≡ true → IsTableLine bytes x r
-further-table options bytes x r fit goes =
-    table-line bytes fit.behind x r fit.within fit.on (read-as options bytes x r fit).end fit.ending
-    (fit.further goes)
+    is_continued x.role ≡ true → IsTableLine bytes x r
+further-table options bytes x r fit proceeds =
+    table-line bytes fit.following x r fit.within fit.on (read-as options bytes x r fit).end fit.ending
+    (fit.further proceeds)
 
 -- Its leaf.
 
@@ -85,10 +86,10 @@ leaf-starts options bytes x r fit l e =
     subst (λ (rest : Rest). (leaf l).starts options r.on rest ≡ true) fit.rest
     (kind-starts options r.on fit.is.rest l (sym fit.is.kind ∙ e))
 
-pub leaf-behind : (options : ParseOptions) (bytes : List ℕ) (x : Row) (r : FrameRow) → Fit options bytes x r →
-    (l : LeafName) → r.kind ≡ LeafRow l → r.behind ≡ (leaf l).holds options r.on x.rest
-leaf-behind options bytes x r fit l e =
-    fit.is.behind ∙ ap (line_behind options r.on fit.is.rest) e ∙ ap ((leaf l).holds options r.on) fit.rest
+pub leaf-following : (options : ParseOptions) (bytes : List ℕ) (x : Row) (r : FrameRow) → Fit options bytes x r →
+    (l : LeafName) → r.kind ≡ LeafRow l → r.following ≡ (leaf l).holds options r.on x.rest
+leaf-following options bytes x r fit l e =
+    fit.is.following ∙ ap (line_following options r.on fit.is.rest) e ∙ ap ((leaf l).holds options r.on) fit.rest
 
 pub leaf-added : (options : ParseOptions) (bytes : List ℕ) (x : Row) (r : FrameRow) → Fit options bytes x r →
     (l : LeafName) → r.kind ≡ LeafRow l → r.inside ≡ (leaf l).added options r.on (rest_bytes x.rest) r.first
@@ -109,30 +110,30 @@ blank-role options bytes x r fit e = role-by options bytes x r fit BlankRow e
 -- the first line of a leaf
 pub first-role : (options : ParseOptions) (bytes : List ℕ) (x : Row) (r : FrameRow) → Fit options bytes x r →
     (l : LeafName) → r.kind ≡ LeafRow l → (leaf l).further r.on ≡ false →
-    x.role ≡ First ((leaf l).comes options NoLeaf x.rest)
+    x.role ≡ First ((leaf l).becomes options NoLeaf x.rest)
 first-role options bytes x r fit l e begins =
     role-by options bytes x r fit (LeafRow l) e
     ∙ ap
     (λ (t : Bool).
-    behind_code
-    (cond t (further_role fit.open_leaf (leaf l).heads) (First ((leaf l).comes options NoLeaf x.rest))) r fit.below)
+    following_code
+    (cond t (further_role fit.open_leaf (leaf l).heads) (First ((leaf l).becomes options NoLeaf x.rest))) r fit.below)
     begins
 
 -- a further one
 further-by : (options : ParseOptions) (bytes : List ℕ) (x : Row) (r : FrameRow) → (fit : Fit options bytes x r) →
     (l : LeafName) → r.kind ≡ LeafRow l → (leaf l).further r.on ≡ true →
-    x.role ≡ behind_code (further_role fit.open_leaf (leaf l).heads) r fit.below
-further-by options bytes x r fit l e goes =
+    x.role ≡ following_code (further_role fit.open_leaf (leaf l).heads) r fit.below
+further-by options bytes x r fit l e proceeds =
     role-by options bytes x r fit (LeafRow l) e
     ∙ ap
     (λ (t : Bool).
-    behind_code
-    (cond t (further_role fit.open_leaf (leaf l).heads) (First ((leaf l).comes options NoLeaf x.rest))) r fit.below)
-    goes
+    following_code
+    (cond t (further_role fit.open_leaf (leaf l).heads) (First ((leaf l).becomes options NoLeaf x.rest))) r fit.below)
+    proceeds
 
 on-text : (open_leaf : Leaf) (heads : Bool) (r : FrameRow) (below : List FrameRow) →
     takes_lazy (kind_of_leaf open_leaf) ≡ true →
-    behind_code (further_role open_leaf heads) r below ≡ cond heads Delimiter Underline
+    following_code (further_role open_leaf heads) r below ≡ cond heads Delimiter Underline
 on-text (OpenParagraph lines) true r below e = refl
 on-text (OpenParagraph lines) false r below e = refl
 on-text NoLeaf heads r below e = cc
@@ -145,19 +146,19 @@ on-text (OpenTable delimiter cells) heads r below e = cc
 pub text-further : (options : ParseOptions) (bytes : List ℕ) (x : Row) (r : FrameRow) → Fit options bytes x r →
     (l : LeafName) → r.kind ≡ LeafRow l → (leaf l).further r.on ≡ true → (at : OpenText) → r.on ≡ held_leaf.Text at →
     x.role ≡ cond (leaf l).heads Delimiter Underline
-text-further options bytes x r fit l e goes at on =
-    further-by options bytes x r fit l e goes
+text-further options bytes x r fit l e proceeds at on =
+    further-by options bytes x r fit l e proceeds
     ∙ on-text fit.open_leaf (leaf l).heads r fit.below
-    (ap takes_lazy (sym (fit.met (ap may_go_on on)) ∙ on))
+    (ap takes_lazy (sym (fit.met (ap may_continue on)) ∙ on))
 
 -- a line of code that does not continue it is after it
 alone-code : (open_leaf : Leaf) (r : FrameRow) (below : List FrameRow) → kind_of_leaf open_leaf ≡ held_leaf.Code →
-    goes_on (behind_code (further_role open_leaf false) r below) ≡ false →
-    behind_code (further_role open_leaf false) r below ≡ BehindCode
+    is_continued (following_code (further_role open_leaf false) r below) ≡ false →
+    following_code (further_role open_leaf false) r below ≡ AfterCode
 alone-code (OpenCode lines) r below e alone = go (in_code r below) alone
   where
-    go : (x : Bool) → goes_on (cond x (Further (OpenCode lines)) BehindCode) ≡ false →
-        cond x (Further (OpenCode lines)) BehindCode ≡ BehindCode
+    go : (x : Bool) → is_continued (cond x (Further (OpenCode lines)) AfterCode) ≡ false →
+        cond x (Further (OpenCode lines)) AfterCode ≡ AfterCode
     go true h = cc
     go false h = refl
 alone-code (OpenParagraph lines) r below e alone = cc
@@ -176,14 +177,14 @@ code-on (held_leaf.Html kind) e = cc
 code-on held_leaf.Table e = cc
 
 pub code-alone : (options : ParseOptions) (bytes : List ℕ) (x : Row) (r : FrameRow) → Fit options bytes x r →
-    r.kind ≡ LeafRow CodeFurther → (leaf CodeFurther).further r.on ≡ true → goes_on x.role ≡ false →
-    x.role ≡ BehindCode
-code-alone options bytes x r fit e goes alone =
-    let role = further-by options bytes x r fit CodeFurther e goes in
-    let on : r.on ≡ held_leaf.Code = code-on r.on goes in
+    r.kind ≡ LeafRow CodeFurther → (leaf CodeFurther).further r.on ≡ true → is_continued x.role ≡ false →
+    x.role ≡ AfterCode
+code-alone options bytes x r fit e proceeds alone =
+    let role = further-by options bytes x r fit CodeFurther e proceeds in
+    let on : r.on ≡ held_leaf.Code = code-on r.on proceeds in
     role
-    ∙ alone-code fit.open_leaf r fit.below (sym (fit.met (ap may_go_on on)) ∙ on)
-    (sym (ap goes_on role) ∙ alone)
+    ∙ alone-code fit.open_leaf r fit.below (sym (fit.met (ap may_continue on)) ∙ on)
+    (sym (ap is_continued role) ∙ alone)
 
 -- text
 abbrev pub IsTextRole : Role → Type 0
@@ -206,7 +207,7 @@ text-role options bytes x r fit e =
 
 -- it may be the last line of a leaf: it is no blank line within code
 abbrev pub MayEnd : Row → FrameRow → Type 0
-MayEnd x r = r.kind ≡ LeafRow CodeFurther → (is_blank x.rest.bytes ≡ false) ⊎ (x.role ≡ BehindCode)
+MayEnd x r = r.kind ≡ LeafRow CodeFurther → (is_blank x.rest.bytes ≡ false) ⊎ (x.role ≡ AfterCode)
 
 pub tail-same : (options : ParseOptions) (bytes : List ℕ) (x : Row) (r : FrameRow) → Fit options bytes x r →
     MayEnd x r → without_lists (tail (x ∷ [])) ≡ tail_events (ending_of r.kind r) r

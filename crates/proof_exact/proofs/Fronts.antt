@@ -9,7 +9,7 @@ use Rattle.proof_frame.specs.Laid.{LineBreak, laid}
 use Rattle.proof_frame.specs.Row.{Row, breaks_of, last_row}
 use Rattle.md_link_definitions.specs.DefinitionRule.{DefinitionParts, definition_events}
 use Rattle.proof_rows.specs.BlockList.{heading_unread, lines_unread, text_unread, turned_unread}
-use Rattle.proof_rows.specs.Rows.{behind_cut, cut_at_most, cut_by, further_lines, lines_cells}
+use Rattle.proof_rows.specs.Rows.{after_cut, cut_at_most, cut_by, further_lines, lines_cells}
 use Rattle.proof_rows.proofs.GroupLines.{AreLines}
 use Rattle.proof_rows.proofs.RowFacts.{IsRow}
 
@@ -25,11 +25,11 @@ breaks-with front r (next ∷ rs) = refl
 abbrev Remains : (Row → List Row → List Event) → Type 0
 Remains remain = (front : List Event) (r : Row) (rs : List Row) → remain (row_with front r) rs ≡ remain r rs
 
-behind-with : (more : Row → List Row → List Event) (front : List Event) (r : Row) (own rest : List Row) →
-    behind_cut more (last_row (row_with front r) own) rest ≡ behind_cut more (last_row r own) rest
-behind-with more front r [] [] = refl
-behind-with more front r [] (next ∷ rest) = refl
-behind-with more front r (next ∷ own) rest = refl
+following-with : (more : Row → List Row → List Event) (front : List Event) (r : Row) (own rest : List Row) →
+    after_cut more (last_row (row_with front r) own) rest ≡ after_cut more (last_row r own) rest
+following-with more front r [] [] = refl
+following-with more front r [] (next ∷ rest) = refl
+following-with more front r (next ∷ own) rest = refl
 
 cut-with : (options : ParseOptions) (bytes : List ℕ) (remain : Row → List Row → List Event) (size : ℕ)
     (front : List Event) (r : Row) (rs : List Row) → Remains remain →
@@ -56,7 +56,7 @@ cut-with options bytes remain size front r rs same =
         let own : List Row = take (further_lines d r) rs in
         ap₂ (λ (es fs : List Event). es ++ fs)
         (ap (λ (breaks : List LineBreak). laid breaks (definition_events d r.first)) (breaks-with front r own))
-        (behind-with more front r own (drop (further_lines d r) rs))
+        (following-with more front r own (drop (further_lines d r) rs))
 
 lines-with : Remains lines_unread
 lines-with front r [] = refl
@@ -84,7 +84,7 @@ row-front options bytes line front r is = record {
   small = is.small;
   line_is = is.line_is;
   kind = is.kind;
-  behind = is.behind;
+  following = is.following;
   no_ending = is.no_ending;
   text = is.text;
   size = is.size;

@@ -4,35 +4,35 @@ use Rattle.std.specs.Prelude.{◌&&◌, ◌||◌, not, if◌then◌else◌}
 use Rattle.md_engine.specs.declared.configuration.ParseOptions.{ParseOptions}
 use Rattle.md_meaning.specs.Rest.{Rest}
 use Rattle.md_meaning.specs.State.{Leaf, NoLeaf, OpenCode, OpenFence, OpenHtml, OpenParagraph, OpenTable}
-use Rattle.md_exact.specs.Blocks.{goes_on, grouped, onto}
+use Rattle.md_exact.specs.Blocks.{is_continued, grouped, onto}
 use Rattle.md_exact.specs.Rows as exact
-use Rattle.md_exact.specs.Rows.{BehindCode, First, FirstText, Further, FurtherText, Head}
+use Rattle.md_exact.specs.Rows.{AfterCode, First, FirstText, Further, FurtherText, Head}
 use Rattle.proof_frame.specs.HeldLeaf.{takes_lazy}
 use Rattle.proof_frame.specs.LeafName.{LeafName}
 use Rattle.proof_frame.specs.Row.{BlankRow, LeafRow, Row, RowKind, TextRow}
 use Rattle.md_registry.specs.Registry.{leaf}
 use Rattle.proof_exact.proofs.KindRoles.{further_role}
-use Rattle.proof_exact.proofs.RowRoles.{behind_code, in_code, is_headed, row_role, row_role_by}
+use Rattle.proof_exact.proofs.RowRoles.{following_code, in_code, is_headed, row_role, row_role_by}
 
 -- Those after a line that are put together with it, and the others.
 abbrev pub run : List exact.Row → List exact.Row
 run [] = []
-run (row ∷ rows) = if goes_on row.role then row ∷ run rows else []
+run (row ∷ rows) = if is_continued row.role then row ∷ run rows else []
 
-abbrev pub behind_run : List exact.Row → List exact.Row
-behind_run [] = []
-behind_run (row ∷ rows) = if goes_on row.role then behind_run rows else row ∷ rows
+abbrev pub after_run : List exact.Row → List exact.Row
+after_run [] = []
+after_run (row ∷ rows) = if is_continued row.role then after_run rows else row ∷ rows
 
 pub grouped-run : (row : exact.Row) (rows : List exact.Row) →
-    grouped (row ∷ rows) ≡ (row ∷ run rows) ∷ grouped (behind_run rows)
+    grouped (row ∷ rows) ≡ (row ∷ run rows) ∷ grouped (after_run rows)
 grouped-run row [] = refl
 grouped-run row (next ∷ rows) =
-    ap (onto row) (grouped-run next rows) ∙ go (goes_on next.role) (sym (grouped-run next rows))
+    ap (onto row) (grouped-run next rows) ∙ go (is_continued next.role) (sym (grouped-run next rows))
   where
-    go : (x : Bool) → (next ∷ run rows) ∷ grouped (behind_run rows) ≡ grouped (next ∷ rows) →
-        cond x ((row ∷ next ∷ run rows) ∷ grouped (behind_run rows))
-        ((row ∷ []) ∷ (next ∷ run rows) ∷ grouped (behind_run rows)) ≡
-        (row ∷ cond x (next ∷ run rows) []) ∷ grouped (cond x (behind_run rows) (next ∷ rows))
+    go : (x : Bool) → (next ∷ run rows) ∷ grouped (after_run rows) ≡ grouped (next ∷ rows) →
+        cond x ((row ∷ next ∷ run rows) ∷ grouped (after_run rows))
+        ((row ∷ []) ∷ (next ∷ run rows) ∷ grouped (after_run rows)) ≡
+        (row ∷ cond x (next ∷ run rows) []) ∷ grouped (cond x (after_run rows) (next ∷ rows))
     go true below = refl
     go false below = ap (λ (gs : List (List exact.Row)). (row ∷ []) ∷ gs) below
 
@@ -42,44 +42,46 @@ abbrev pub is_open_code : Leaf → Bool
 is_open_code (OpenCode lines) = true
 is_open_code open_leaf = false
 
-abbrev pub goes_by : Leaf → Row → List Row → RowKind → Bool
-goes_by open_leaf row rows BlankRow = false
-goes_by open_leaf row rows (LeafRow l) =
+abbrev pub continues_by : Leaf → Row → List Row → RowKind → Bool
+continues_by open_leaf row rows BlankRow = false
+continues_by open_leaf row rows (LeafRow l) =
     (leaf l).further row.on && (not (is_open_code open_leaf) || in_code row rows)
-goes_by open_leaf row rows TextRow = not (is_headed rows) && takes_lazy row.on
+continues_by open_leaf row rows TextRow = not (is_headed rows) && takes_lazy row.on
 
-goes-leaf : (open_leaf : Leaf) (heads : Bool) (row : Row) (rows : List Row) →
-    goes_on (behind_code (further_role open_leaf heads) row rows) ≡ (not (is_open_code open_leaf) || in_code row rows)
-goes-leaf (OpenCode lines) heads row rows = go (in_code row rows)
+proceeds-leaf : (open_leaf : Leaf) (heads : Bool) (row : Row) (rows : List Row) →
+    is_continued (following_code (further_role open_leaf heads) row rows) ≡
+    (not (is_open_code open_leaf) || in_code row rows)
+proceeds-leaf (OpenCode lines) heads row rows = go (in_code row rows)
   where
-    go : (x : Bool) → goes_on (cond x (Further (OpenCode lines)) BehindCode) ≡ x
+    go : (x : Bool) → is_continued (cond x (Further (OpenCode lines)) AfterCode) ≡ x
     go true = refl
     go false = refl
-goes-leaf (OpenParagraph lines) true row rows = refl
-goes-leaf (OpenParagraph lines) false row rows = refl
-goes-leaf NoLeaf heads row rows = refl
-goes-leaf (OpenFence o lines) heads row rows = refl
-goes-leaf (OpenHtml kind lines) heads row rows = refl
-goes-leaf (OpenTable delimiter cells) heads row rows = refl
+proceeds-leaf (OpenParagraph lines) true row rows = refl
+proceeds-leaf (OpenParagraph lines) false row rows = refl
+proceeds-leaf NoLeaf heads row rows = refl
+proceeds-leaf (OpenFence o lines) heads row rows = refl
+proceeds-leaf (OpenHtml kind lines) heads row rows = refl
+proceeds-leaf (OpenTable delimiter cells) heads row rows = refl
 
-pub goes-role : (options : ParseOptions) (open_leaf : Leaf) (r : Rest) (row : Row) (rows : List Row) →
-    goes_on (row_role options open_leaf r row rows) ≡ goes_by open_leaf row rows row.kind
-goes-role options open_leaf r row rows = go row.kind
+pub proceeds-role : (options : ParseOptions) (open_leaf : Leaf) (r : Rest) (row : Row) (rows : List Row) →
+    is_continued (row_role options open_leaf r row rows) ≡ continues_by open_leaf row rows row.kind
+proceeds-role options open_leaf r row rows = go row.kind
   where
     line : (l : LeafName) (x : Bool) →
-        goes_on
-        (behind_code (cond x (further_role open_leaf (leaf l).heads) (First ((leaf l).comes options NoLeaf r))) row
+        is_continued
+        (following_code (cond x (further_role open_leaf (leaf l).heads) (First ((leaf l).becomes options NoLeaf r))) row
         rows) ≡
         (x && (not (is_open_code open_leaf) || in_code row rows))
-    line l true = goes-leaf open_leaf (leaf l).heads row rows
+    line l true = proceeds-leaf open_leaf (leaf l).heads row rows
     line l false = refl
 
-    text : (x y : Bool) → goes_on (cond x Head (cond y FurtherText FirstText)) ≡ (not x && y)
+    text : (x y : Bool) → is_continued (cond x Head (cond y FurtherText FirstText)) ≡ (not x && y)
     text true y = refl
     text false true = refl
     text false false = refl
 
-    go : (kind : RowKind) → goes_on (row_role_by options open_leaf r row rows kind) ≡ goes_by open_leaf row rows kind
+    go : (kind : RowKind) → is_continued (row_role_by options open_leaf r row rows kind) ≡
+        continues_by open_leaf row rows kind
     go BlankRow = refl
     go (LeafRow l) = line l ((leaf l).further row.on)
     go TextRow = text (is_headed rows) (takes_lazy row.on)

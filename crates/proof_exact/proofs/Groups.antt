@@ -12,8 +12,8 @@ use Rattle.md_meaning.specs.Rest.{trim_start}
 use Rattle.md_exact.specs.Blocks.{events_by, tail}
 use Rattle.md_exact.specs.Leaves.{content_line}
 use Rattle.md_exact.specs.Rows.{Role, Row}
-use Rattle.proof_frame.specs.LeafName.{CodeFurther, CodeIndented, Fence, FenceFurther, GfmTable, HeadingAtx, HeadingSetext}
-use Rattle.proof_frame.specs.LeafName.{HtmlFlow, HtmlFurther, LeafName, ThematicBreak}
+use Rattle.proof_frame.specs.LeafName.{CodeFurther, CodeIndented, Fence, FenceFurther, GfmTable, HeadingAtx}
+use Rattle.proof_frame.specs.LeafName.{HeadingSetext, HtmlFlow, HtmlFurther, LeafName, ThematicBreak}
 use Rattle.proof_frame.specs.Row.{BlankRow, LeafRow, Row as FrameRow, RowKind, TextRow, blank_line}
 use Rattle.proof_leaf_laws.specs.Leaf.ThematicBreak.{is_ruled}
 use Rattle.md_registry.specs.Registry.{leaf}

@@ -6,11 +6,11 @@ use Rattle.md_engine.specs.declared.configuration.ParseOptions.{ParseOptions}
 use Rattle.md_engine.specs.declared.tokenizer.held_leaf.HeldLeaf.{HeldLeaf}
 use Rattle.md_engine.specs.declared.tokenizer.held_leaf.HeldLeaf.TheVariants as held_leaf
 use Rattle.md_engine.specs.declared.tokenizer.held_leaf.OpenText.{OpenText}
-use Rattle.md_exact.specs.Blocks.{goes_on as goes_on_role, grouped, onto}
+use Rattle.md_exact.specs.Blocks.{is_continued as role_continues, grouped, onto}
 use Rattle.md_exact.specs.Rows as exact
-use Rattle.proof_frame.specs.HeldLeaf.{may_go_on, takes_lazy}
-use Rattle.proof_frame.specs.LeafName.{CodeFurther, CodeIndented, Fence, FenceFurther, GfmTable, HeadingAtx, HeadingSetext}
-use Rattle.proof_frame.specs.LeafName.{HtmlFlow, HtmlFurther, LeafName, ThematicBreak}
+use Rattle.proof_frame.specs.HeldLeaf.{may_continue, takes_lazy}
+use Rattle.proof_frame.specs.LeafName.{CodeFurther, CodeIndented, Fence, FenceFurther, GfmTable, HeadingAtx}
+use Rattle.proof_frame.specs.LeafName.{HeadingSetext, HtmlFlow, HtmlFurther, LeafName, ThematicBreak}
 use Rattle.proof_frame.specs.Row.{BlankRow, LeafRow, Row, RowKind, TextRow, any_framed, is_framed}
 use Rattle.proof_frame.proofs.LeafLines.Bare.{inner, outer}
 use Rattle.proof_frame.proofs.LeafLines.Rest.{row_unread}
@@ -20,14 +20,15 @@ use Rattle.md_registry.specs.Registry.{further_of, leaf}
 use Rattle.md_registry.proofs.SpanLeaves.{further-is}
 use Rattle.md_registry.proofs.Registry.{laws}
 use Rattle.md_registry.proofs.UnderNames.{under-shuts}
-use Rattle.proof_rows.specs.Rows.{Group, Headed, LeafLines, Lines, Single, Turned, goes_on, groups, is_further, is_last}
-use Rattle.proof_rows.specs.Rows.{is_text, line_behind, onto_groups, onto_leaf, onto_span, onto_underline, takes_head}
+use Rattle.proof_rows.specs.Rows.{Group, Headed, LeafLines, Lines, Single, Turned, is_continued, groups, is_further}
+use Rattle.proof_rows.specs.Rows.{is_last, is_text, line_following, onto_groups, onto_leaf, onto_span, onto_underline}
+use Rattle.proof_rows.specs.Rows.{takes_head}
 use Rattle.proof_rows.proofs.GroupLines.{Begins, FirstIs, onto-first}
-use Rattle.proof_rows.proofs.LineBehind.{further-may}
+use Rattle.proof_rows.proofs.LineAfter.{further-may}
 use Rattle.proof_rows.proofs.RowFacts.{IsRow}
-use Rattle.proof_exact.proofs.GroupRuns.{behind_run, grouped-run, run}
-use Rattle.proof_exact.proofs.RowRoles.{behind-lazy, code-further, further_rows, in_code, is_headed}
-use Rattle.proof_exact.proofs.SpanGroups.{behind_further, further-several, head-group, span-alone, span-group}
+use Rattle.proof_exact.proofs.GroupRuns.{after_run, grouped-run, run}
+use Rattle.proof_exact.proofs.RowRoles.{following-lazy, code-further, further_rows, in_code, is_headed}
+use Rattle.proof_exact.proofs.SpanGroups.{after_further, further-several, head-group, span-alone, span-group}
 
 -- What the lines of a group are.
 
@@ -55,9 +56,9 @@ abbrev pub within_leaf : Bool → List Row → List Row
 within_leaf code [] = []
 within_leaf code (row ∷ rows) = if code then inner row_unread (row ∷ rows) else row ∷ rows
 
-abbrev pub behind_leaf : Bool → List Row → List Row
-behind_leaf code [] = []
-behind_leaf code (row ∷ rows) = if code then outer row_unread (row ∷ rows) else []
+abbrev pub following_leaf : Bool → List Row → List Row
+following_leaf code [] = []
+following_leaf code (row ∷ rows) = if code then outer row_unread (row ∷ rows) else []
 
 abbrev pub GroupsMatch : Fits → List Group → List (List exact.Row) → Type 0
 GroupsMatch Fit [] ess = ess ≡ []
@@ -67,30 +68,30 @@ GroupsMatch Fit (Turned row rows under ∷ gs) ess =
     TakesLines Fit (row ∷ (rows ++ under ∷ [])) (GroupsMatch Fit gs) ess
 GroupsMatch Fit (Headed row next rows ∷ gs) ess = TakesLines Fit (row ∷ next ∷ rows) (GroupsMatch Fit gs) ess
 GroupsMatch Fit (LeafLines row rows ∷ gs) ess =
-    TakesLines Fit (row ∷ within_leaf (is_code row.behind) rows)
-    (TakesEach Fit (behind_leaf (is_code row.behind) rows) (GroupsMatch Fit gs)) ess
+    TakesLines Fit (row ∷ within_leaf (is_code row.following) rows)
+    (TakesEach Fit (following_leaf (is_code row.following) rows) (GroupsMatch Fit gs)) ess
 
 -- What is known of a line and of those after it.
 
 -- whether it continues the leaf before it
-abbrev pub goes_kind : Row → List Row → RowKind → Bool
-goes_kind row rows BlankRow = false
-goes_kind row rows (LeafRow l) = (leaf l).further row.on && (not (is_code row.on) || in_code row rows)
-goes_kind row rows TextRow = not (is_headed rows) && takes_lazy row.on
+abbrev pub kind_continues : Row → List Row → RowKind → Bool
+kind_continues row rows BlankRow = false
+kind_continues row rows (LeafRow l) = (leaf l).further row.on && (not (is_code row.on) || in_code row rows)
+kind_continues row rows TextRow = not (is_headed rows) && takes_lazy row.on
 
 pub record IsAligned (options : ParseOptions) (bytes : List ℕ) (Fit : Fits) (e : exact.Row) (row : Row)
     (rows : List Row) : Type 0 where
   pub line : List ℕ
   pub is : IsRow options bytes line row
-  pub goes : goes_on_role e.role ≡ goes_kind row rows row.kind
+  pub proceeds : role_continues e.role ≡ kind_continues row rows row.kind
   pub fits : Fit e row
 
 -- and of the line after it: what it meets is what this one has left open, and it continues text where no container
 -- opens on it
 pub record IsBelow (row next : Row) : Type 0 where
-  pub met : may_go_on next.on ≡ true → next.on ≡ row.behind
-  pub unlazy : takes_lazy row.behind ≡ false → takes_lazy next.on ≡ false
-  pub text : takes_lazy row.behind ≡ true → next.kind ≡ TextRow → takes_lazy next.on ≡ goes_on row next
+  pub met : may_continue next.on ≡ true → next.on ≡ row.following
+  pub unlazy : takes_lazy row.following ≡ false → takes_lazy next.on ≡ false
+  pub text : takes_lazy row.following ≡ true → next.kind ≡ TextRow → takes_lazy next.on ≡ is_continued row next
 
 abbrev pub FirstBelow : Row → List Row → Type 0
 FirstBelow row [] = Unit {0}
@@ -108,7 +109,7 @@ inside-false : (rows : List Row) → within_leaf false rows ≡ rows
 inside-false [] = refl
 inside-false (row ∷ rows) = refl
 
-outside-false : (rows : List Row) → behind_leaf false rows ≡ []
+outside-false : (rows : List Row) → following_leaf false rows ≡ []
 outside-false [] = refl
 outside-false (row ∷ rows) = refl
 
@@ -116,7 +117,7 @@ inside-true : (rows : List Row) → within_leaf true rows ≡ inner row_unread r
 inside-true [] = refl
 inside-true (row ∷ rows) = refl
 
-outside-true : (rows : List Row) → behind_leaf true rows ≡ outer row_unread rows
+outside-true : (rows : List Row) → following_leaf true rows ≡ outer row_unread rows
 outside-true [] = refl
 outside-true (row ∷ rows) = refl
 
@@ -176,32 +177,32 @@ line-code options on r GfmTable e = other-code options on r GfmTable (λ bad. cc
 
 further-code : (options : ParseOptions) (bytes line : List ℕ) (row : Row) (l : LeafName) →
     IsRow options bytes line row → row.kind ≡ LeafRow l → is_further row.kind row.on ≡ true →
-    is_code row.behind ≡ is_code row.on
+    is_code row.following ≡ is_code row.on
 further-code options bytes line row l is e further =
-    ap is_code (is.behind ∙ ap (line_behind options row.on is.rest) e)
+    ap is_code (is.following ∙ ap (line_following options row.on is.rest) e)
     ∙ line-code options row.on is.rest l (ap (λ (kind : RowKind). is_further kind row.on) (sym e) ∙ further)
 
 -- where nothing is open on which a line may go, none goes
 shut-further : (options : ParseOptions) (bytes line : List ℕ) (row next : Row) → IsRow options bytes line next →
-    IsBelow row next → may_go_on row.behind ≡ false → is_further next.kind next.on ≡ false
+    IsBelow row next → may_continue row.following ≡ false → is_further next.kind next.on ≡ false
 shut-further options bytes line row next is below shut = go (is_further next.kind next.on) refl
   where
     go : (x : Bool) → is_further next.kind next.on ≡ x → x ≡ false
     go false e = refl
     go true e =
         let may = further-may options bytes line next is e in
-        let bad : true ≡ false = sym may ∙ ap may_go_on (below.met may) ∙ shut in cc
+        let bad : true ≡ false = sym may ∙ ap may_continue (below.met may) ∙ shut in cc
 
 and-none : (x : Bool) → (x && false) ≡ false
 and-none true = refl
 and-none false = refl
 
 -- where no text is open, only a line that continues what is open is put together with the line before it
-unlazy-goes : (row next : Row) (rows : List Row) → IsBelow row next → takes_lazy row.behind ≡ false →
-    is_further next.kind next.on ≡ false → goes_kind next rows next.kind ≡ false
-unlazy-goes row next rows below unlazy begins = go next.kind begins
+unlazy-proceeds : (row next : Row) (rows : List Row) → IsBelow row next → takes_lazy row.following ≡ false →
+    is_further next.kind next.on ≡ false → kind_continues next rows next.kind ≡ false
+unlazy-proceeds row next rows below unlazy begins = go next.kind begins
   where
-    go : (kind : RowKind) → is_further kind next.on ≡ false → goes_kind next rows kind ≡ false
+    go : (kind : RowKind) → is_further kind next.on ≡ false → kind_continues next rows kind ≡ false
     go BlankRow e = refl
     go (LeafRow l) e = ap (λ (x : Bool). x && (not (is_code next.on) || in_code next rows)) e
     go TextRow e =
@@ -225,8 +226,8 @@ alone-step Fit e f fs ess row gs g fit alone more =
 span-step : (Fit : Fits) (e f : exact.Row) (fs : List exact.Row) (ess : List (List exact.Row)) (row next : Row)
     (rows : List Row) (More : List (List exact.Row) → Type 0) (code any : Bool) →
     Fit e row → any_framed row_unread (next ∷ rows) ≡ any →
-    TakesLines Fit (next ∷ within_leaf code rows) (TakesEach Fit (behind_leaf code rows) More) ((f ∷ fs) ∷ ess) →
-    TakesLines Fit (row ∷ within_leaf code (next ∷ rows)) (TakesEach Fit (behind_leaf code (next ∷ rows)) More)
+    TakesLines Fit (next ∷ within_leaf code rows) (TakesEach Fit (following_leaf code rows) More) ((f ∷ fs) ∷ ess) →
+    TakesLines Fit (row ∷ within_leaf code (next ∷ rows)) (TakesEach Fit (following_leaf code (next ∷ rows)) More)
     (joined e f fs ess (not code || any))
 span-step Fit e f fs ess row next rows More false any fit some below = (
   (fit, subst (λ (l : List Row). Pairs Fit (f ∷ fs) (next ∷ l)) (inside-false rows) below.0),
@@ -258,7 +259,7 @@ span-step Fit e f fs ess row next rows More true false fit none below =
 head-step : (Fit : Fits) (e f : exact.Row) (fs : List exact.Row) (ess : List (List exact.Row)) (row next : Row)
     (rows : List Row) (More : List (List exact.Row) → Type 0) (code : Bool) →
     Fit e row → code ≡ false →
-    TakesLines Fit (next ∷ within_leaf code rows) (TakesEach Fit (behind_leaf code rows) More) ((f ∷ fs) ∷ ess) →
+    TakesLines Fit (next ∷ within_leaf code rows) (TakesEach Fit (following_leaf code rows) More) ((f ∷ fs) ∷ ess) →
     TakesLines Fit (row ∷ next ∷ rows) More ((e ∷ f ∷ fs) ∷ ess)
 head-step Fit e f fs ess row next rows More true fit other below = cc
 head-step Fit e f fs ess row next rows More false fit other below = (
@@ -290,10 +291,10 @@ text-first next (row ∷ rows) e none =
     go (Single first_row ∷ gs) first = refl
     go (Headed first_row under more ∷ gs) first = refl
     go (Lines first_row more ∷ gs) first =
-        either (goes_on next first_row) (Lines next (first_row ∷ more) ∷ gs)
+        either (is_continued next first_row) (Lines next (first_row ∷ more) ∷ gs)
         (Lines next [] ∷ Lines first_row more ∷ gs) refl refl
     go (Turned first_row more under ∷ gs) first =
-        either (goes_on next first_row) (Turned next (first_row ∷ more) under ∷ gs)
+        either (is_continued next first_row) (Turned next (first_row ∷ more) under ∷ gs)
         (Lines next [] ∷ Turned first_row more under ∷ gs) refl refl
     go (LeafLines first_row more ∷ gs) first =
         subst
@@ -308,21 +309,21 @@ text-first next (row ∷ rows) e none =
 
 text-step : (Fit : Fits) (e f : exact.Row) (fs : List exact.Row) (ess : List (List exact.Row)) (row next : Row)
     (g : Bool) (gs : List Group) →
-    Fit e row → g ≡ goes_on row next → IsTextFirst next gs → GroupsMatch Fit gs ((f ∷ fs) ∷ ess) →
+    Fit e row → g ≡ is_continued row next → IsTextFirst next gs → GroupsMatch Fit gs ((f ∷ fs) ∷ ess) →
     GroupsMatch Fit (onto_groups row TextRow gs) (joined e f fs ess g)
-text-step Fit e f fs ess row next g (Lines first rows ∷ gs) fit goes same more =
+text-step Fit e f fs ess row next g (Lines first rows ∷ gs) fit proceeds same more =
     subst (λ (x : Bool). GroupsMatch Fit (onto_groups row TextRow (Lines first rows ∷ gs)) (joined e f fs ess x))
-    (sym (goes ∙ ap (goes_on row) (sym same))) (go (goes_on row first))
+    (sym (proceeds ∙ ap (is_continued row) (sym same))) (go (is_continued row first))
   where
     go : (x : Bool) →
         GroupsMatch Fit (cond x (Lines row (first ∷ rows) ∷ gs) (Lines row [] ∷ Lines first rows ∷ gs))
         (joined e f fs ess x)
     go true = ((fit, more.0), more.1)
     go false = ((fit, tt), more)
-text-step Fit e f fs ess row next g (Turned first rows under ∷ gs) fit goes same more =
+text-step Fit e f fs ess row next g (Turned first rows under ∷ gs) fit proceeds same more =
     subst
     (λ (x : Bool). GroupsMatch Fit (onto_groups row TextRow (Turned first rows under ∷ gs)) (joined e f fs ess x))
-    (sym (goes ∙ ap (goes_on row) (sym same))) (go (goes_on row first))
+    (sym (proceeds ∙ ap (is_continued row) (sym same))) (go (is_continued row first))
   where
     go : (x : Bool) →
         GroupsMatch Fit
@@ -330,14 +331,15 @@ text-step Fit e f fs ess row next g (Turned first rows under ∷ gs) fit goes sa
         (joined e f fs ess x)
     go true = ((fit, more.0), more.1)
     go false = ((fit, tt), more)
-text-step Fit e f fs ess row next g [] fit goes same more = absurd same
-text-step Fit e f fs ess row next g (Single first ∷ gs) fit goes same more = absurd same
-text-step Fit e f fs ess row next g (Headed first under rows ∷ gs) fit goes same more = absurd same
-text-step Fit e f fs ess row next g (LeafLines first rows ∷ gs) fit goes same more = absurd same
+text-step Fit e f fs ess row next g [] fit proceeds same more = absurd same
+text-step Fit e f fs ess row next g (Single first ∷ gs) fit proceeds same more = absurd same
+text-step Fit e f fs ess row next g (Headed first under rows ∷ gs) fit proceeds same more = absurd same
+text-step Fit e f fs ess row next g (LeafLines first rows ∷ gs) fit proceeds same more = absurd same
 
 -- text before a line of a leaf of several that takes no head: no line continues that
 stops-further : (options : ParseOptions) (bytes : List ℕ) (Fit : Fits) (next : Row) (es : List exact.Row)
-    (rows : List Row) → FirstBelow next rows → AreAligned options bytes Fit es rows → may_go_on next.behind ≡ false →
+    (rows : List Row) → FirstBelow next rows → AreAligned options bytes Fit es rows →
+    may_continue next.following ≡ false →
     further_rows rows ≡ []
 stops-further options bytes Fit next es [] first are shut = refl
 stops-further options bytes Fit next [] (row ∷ rows) first are shut = absurd are
@@ -370,44 +372,45 @@ abbrev groups_after : LineStep → List Group
 groups_after s = groups (s.next ∷ s.rows)
 
 abbrev is_joined : LineStep → Bool
-is_joined s = goes_kind s.next s.rows s.next.kind
+is_joined s = kind_continues s.next s.rows s.next.kind
 
 -- the further lines of the leaf of the next line, and the groups after them
 abbrev further_lines : LineStep → List Row
 further_lines s = further_rows s.rows
 
 abbrev groups_below : LineStep → List Group
-groups_below s = groups (behind_further s.rows)
+groups_below s = groups (after_further s.rows)
 
 abbrev Matches : LineStep → List Group → Bool → Type 0
 Matches s here x = GroupsMatch s.Fit here (joined s.e s.f s.fs s.ess x)
 
 -- nothing is open after the line
-single-step : (s : LineStep) → s.row.behind ≡ held_leaf.None → Matches s (Single s.row ∷ groups_after s) (is_joined s)
+single-step : (s : LineStep) → s.row.following ≡ held_leaf.None →
+    Matches s (Single s.row ∷ groups_after s) (is_joined s)
 single-step s none =
     alone-step s.Fit s.e s.f s.fs s.ess s.row (groups_after s) (is_joined s) s.are.0.fits
-    (unlazy-goes s.row s.next s.rows s.are.1 (ap takes_lazy none)
-    (shut-further s.options s.bytes s.are.2.0.line s.row s.next s.are.2.0.is s.are.1 (ap may_go_on none))) s.more
+    (unlazy-proceeds s.row s.next s.rows s.are.1 (ap takes_lazy none)
+    (shut-further s.options s.bytes s.are.2.0.line s.row s.next s.are.2.0.is s.are.1 (ap may_continue none))) s.more
 
 -- a line that continues a leaf meets what is open, and is put together with the line before it but for blank lines
-meets-open : (s : LineStep) → is_further s.next.kind s.next.on ≡ true → s.next.on ≡ s.row.behind
+meets-open : (s : LineStep) → is_further s.next.kind s.next.on ≡ true → s.next.on ≡ s.row.following
 meets-open s y = s.are.1.met (further-may s.options s.bytes s.are.2.0.line s.next s.are.2.0.is y)
 
 joined-further : (s : LineStep) (m : LeafName) → s.next.kind ≡ LeafRow m → is_further s.next.kind s.next.on ≡ true →
     is_joined s ≡ (not (is_code s.next.on) || any_framed row_unread (s.next ∷ further_lines s))
 joined-further s m k y =
-    ap (goes_kind s.next s.rows) k
+    ap (kind_continues s.next s.rows) k
     ∙ ap (λ (x : Bool). x && (not (is_code s.next.on) || in_code s.next s.rows))
     (ap (λ (kind : RowKind). is_further kind s.next.on) (sym k) ∙ y)
 
 -- a line of a leaf of several
-leaf-step : (s : LineStep) → takes_lazy s.row.behind ≡ false → (y : Bool) → is_further s.next.kind s.next.on ≡ y →
+leaf-step : (s : LineStep) → takes_lazy s.row.following ≡ false → (y : Bool) → is_further s.next.kind s.next.on ≡ y →
     (kind : RowKind) → s.next.kind ≡ kind → Matches s (onto_span s.row (groups_after s)) (is_joined s)
 leaf-step s unlazy false y kind k =
     subst (λ (l : List Group). Matches s l (is_joined s))
     (sym (span-alone s.row (groups_after s) (onto-first Begins s.next s.next.kind (groups s.rows) y)))
     (alone-step s.Fit s.e s.f s.fs s.ess s.row (groups_after s) (is_joined s) s.are.0.fits
-    (unlazy-goes s.row s.next s.rows s.are.1 unlazy y) s.more)
+    (unlazy-proceeds s.row s.next s.rows s.are.1 unlazy y) s.more)
 leaf-step s unlazy true y BlankRow k =
     let bad : false ≡ true = ap (λ (kind : RowKind). is_further kind s.next.on) (sym k) ∙ y in absurd (cc)
 leaf-step s unlazy true y TextRow k =
@@ -419,11 +422,11 @@ leaf-step s unlazy true y (LeafRow m) k =
     (joined-further s m k y
     ∙ ap (λ (x : Bool). not x || any_framed row_unread (s.next ∷ further_lines s)) (ap is_code (meets-open s y))))
     (span-step s.Fit s.e s.f s.fs s.ess s.row s.next (further_lines s) (GroupsMatch s.Fit (groups_below s))
-    (is_code s.row.behind) (any_framed row_unread (s.next ∷ further_lines s)) s.are.0.fits refl
+    (is_code s.row.following) (any_framed row_unread (s.next ∷ further_lines s)) s.are.0.fits refl
     (subst
     (λ (x : Bool).
     TakesLines s.Fit (s.next ∷ within_leaf x (further_lines s))
-    (TakesEach s.Fit (behind_leaf x (further_lines s)) (GroupsMatch s.Fit (groups_below s))) ((s.f ∷ s.fs) ∷ s.ess))
+    (TakesEach s.Fit (following_leaf x (further_lines s)) (GroupsMatch s.Fit (groups_below s))) ((s.f ∷ s.fs) ∷ s.ess))
     (further-code s.options s.bytes s.are.2.0.line s.next m s.are.2.0.is k y ∙ ap is_code (meets-open s y))
     (subst (λ (l : List Group). GroupsMatch s.Fit l ((s.f ∷ s.fs) ∷ s.ess)) same s.more))))
   where
@@ -451,12 +454,13 @@ text-alone s first same onto_first none =
 
 -- that is one line
 single-kind : (s : LineStep) (kind : RowKind) → s.next.kind ≡ kind →
-    onto_groups s.next kind (groups s.rows) ≡ Single s.next ∷ groups s.rows → goes_kind s.next s.rows kind ≡ false →
+    onto_groups s.next kind (groups s.rows) ≡ Single s.next ∷ groups s.rows →
+    kind_continues s.next s.rows kind ≡ false →
     WithText s
 single-kind s kind k onto_first none =
     text-alone s (Single s.next ∷ groups s.rows)
     (ap (λ (x : RowKind). onto_groups s.next x (groups s.rows)) k ∙ onto_first) refl
-    (ap (goes_kind s.next s.rows) k ∙ none)
+    (ap (kind_continues s.next s.rows) k ∙ none)
 
 single-leaf : (s : LineStep) (m : LeafName) → s.next.kind ≡ LeafRow m → (leaf m).ends ≡ true → WithText s
 single-leaf s m k ends =
@@ -475,10 +479,10 @@ underlined s y h more_rows =
     (cond (y && is_last more_rows) (Turned s.row [] s.next ∷ groups_below s)
     (Lines s.row [] ∷ LeafLines s.next more_rows ∷ groups_below s))
 
-text-held : (s : LineStep) → s.row.kind ≡ TextRow → IsTextHeld s.row.behind
+text-held : (s : LineStep) → s.row.kind ≡ TextRow → IsTextHeld s.row.following
 text-held s e = record {
   at = _;
-  is = s.are.0.is.behind ∙ ap (line_behind s.options s.row.on s.are.0.is.rest) e;
+  is = s.are.0.is.following ∙ ap (line_following s.options s.row.on s.are.0.is.rest) e;
 }
 
 several-leaf : (s : LineStep) → s.row.kind ≡ TextRow → (m : LeafName) → s.next.kind ≡ LeafRow m →
@@ -487,14 +491,14 @@ several-leaf : (s : LineStep) → s.row.kind ≡ TextRow → (m : LeafName) → 
 several-leaf s text m k several false y h heads =
     text-alone s (LeafLines s.next (further_lines s) ∷ groups_below s) (span-group s.next s.rows m k several)
     (ap (λ (x : Bool). underlined s x (takes_head s.next.kind) (further_lines s)) y)
-    (ap (goes_kind s.next s.rows) k
+    (ap (kind_continues s.next s.rows) k
     ∙ ap (λ (x : Bool). x && (not (is_code s.next.on) || in_code s.next s.rows))
     (ap (λ (kind : RowKind). is_further kind s.next.on) (sym k) ∙ y))
 several-leaf s text m k several true y h heads =
     subst (λ (x : Bool). Matches s (onto_groups s.row TextRow (groups_after s)) x) (sym is_true)
     (subst (λ (l : List Group). Matches s l true) (sym (ap (onto_groups s.row TextRow) same)) (by h heads))
   where
-    held : IsTextHeld s.row.behind
+    held : IsTextHeld s.row.following
     held = text-held s text
 
     on : s.next.on ≡ held_leaf.Text held.at
@@ -521,7 +525,7 @@ several-leaf s text m k several true y h heads =
         subst (λ (l : List Group). Matches s l true)
         (sym (ap₂ (λ (a b : Bool). underlined s a b (further_lines s)) y heads))
         (head-step s.Fit s.e s.f s.fs s.ess s.row s.next (further_lines s) (GroupsMatch s.Fit (groups_below s))
-        (is_code s.next.behind) s.are.0.fits
+        (is_code s.next.following) s.are.0.fits
         (further-code s.options s.bytes s.are.2.0.line s.next m s.are.2.0.is k y ∙ ap is_code on) lines)
     by false heads =
         subst (λ (l : List Group). Matches s l true)
@@ -532,8 +536,8 @@ several-leaf s text m k several true y h heads =
         none : further_lines s ≡ []
         none =
             stops-further s.options s.bytes s.Fit s.next s.es s.rows s.are.2.1 s.are.2.2
-            (ap may_go_on
-            (s.are.2.0.is.behind ∙ ap (line_behind s.options s.next.on s.are.2.0.is.rest) k
+            (ap may_continue
+            (s.are.2.0.is.following ∙ ap (line_following s.options s.next.on s.are.2.0.is.rest) k
             ∙ under-shuts held.at m continues_text (ap takes_head (sym k) ∙ heads) s.options s.next.on
             s.are.2.0.is.rest))
 
@@ -551,13 +555,13 @@ more-text s text k true headed = head s.rows refl headed
     head : (l : List Row) → s.rows ≡ l → is_headed l ≡ true → WithText s
     head [] same_rows h = cc
     head (under ∷ l) same_rows h =
-        text-alone s (Headed s.next under (further_rows l) ∷ groups (behind_further l))
+        text-alone s (Headed s.next under (further_rows l) ∷ groups (after_further l))
         (ap (λ (r : List Row). groups (s.next ∷ r)) same_rows ∙ head-group s.next under l k h) refl
-        (ap (goes_kind s.next s.rows) k ∙ ap (λ (x : Bool). not x && takes_lazy s.next.on) headed)
+        (ap (kind_continues s.next s.rows) k ∙ ap (λ (x : Bool). not x && takes_lazy s.next.on) headed)
 more-text s text k false headed =
     text-step s.Fit s.e s.f s.fs s.ess s.row s.next (is_joined s) (groups_after s) s.are.0.fits
-    (ap (goes_kind s.next s.rows) k ∙ ap (λ (x : Bool). not x && takes_lazy s.next.on) headed
-    ∙ s.are.1.text (behind-lazy s.options s.bytes s.are.0.line s.row s.are.0.is ∙ ap is_text text) k)
+    (ap (kind_continues s.next s.rows) k ∙ ap (λ (x : Bool). not x && takes_lazy s.next.on) headed
+    ∙ s.are.1.text (following-lazy s.options s.bytes s.are.0.line s.row s.are.0.is ∙ ap is_text text) k)
     (text-first s.next s.rows k headed) s.more
 
 text-by : (s : LineStep) → s.row.kind ≡ TextRow → (kind : RowKind) → s.next.kind ≡ kind → WithText s
@@ -581,17 +585,17 @@ match-step s = by_kind s.row.kind refl
         Matches s (onto_leaf x s.row (groups_after s)) (is_joined s)
     by_ends l e true ends =
         single-step s
-        (is.behind ∙ ap (line_behind s.options s.row.on is.rest) e
+        (is.following ∙ ap (line_following s.options s.row.on is.rest) e
         ∙ ((laws l).shut ends s.options s.row.on).1 is.rest)
     by_ends l e false several =
-        leaf-step s (behind-lazy s.options s.bytes s.are.0.line s.row is ∙ ap is_text e)
+        leaf-step s (following-lazy s.options s.bytes s.are.0.line s.row is ∙ ap is_text e)
         (is_further s.next.kind s.next.on) refl s.next.kind refl
 
     by_kind : (kind : RowKind) → s.row.kind ≡ kind →
         Matches s (onto_groups s.row s.row.kind (groups_after s)) (is_joined s)
     by_kind BlankRow e =
         subst (λ (kind : RowKind). Matches s (onto_groups s.row kind (groups_after s)) (is_joined s)) (sym e)
-        (single-step s (is.behind ∙ ap (line_behind s.options s.row.on is.rest) e))
+        (single-step s (is.following ∙ ap (line_following s.options s.row.on is.rest) e))
     by_kind (LeafRow l) e =
         subst (λ (kind : RowKind). Matches s (onto_groups s.row kind (groups_after s)) (is_joined s)) (sym e)
         (by_ends l e (leaf l).ends refl)
@@ -623,7 +627,7 @@ groups-match options bytes Fit (e ∷ f ∷ es) (row ∷ next ∷ rows) are =
     subst (λ (ess : List (List exact.Row)). GroupsMatch Fit (groups (row ∷ next ∷ rows)) ess)
     (sym
     (ap (onto e) (grouped-run f es)
-    ∙ ap (joined e f (run es) (grouped (behind_run es))) are.2.0.goes))
+    ∙ ap (joined e f (run es) (grouped (after_run es))) are.2.0.proceeds))
     (match-step
     (record {
       options = options;
@@ -633,7 +637,7 @@ groups-match options bytes Fit (e ∷ f ∷ es) (row ∷ next ∷ rows) are =
       f = f;
       es = es;
       fs = run es;
-      ess = grouped (behind_run es);
+      ess = grouped (after_run es);
       row = row;
       next = next;
       rows = rows;

@@ -11,13 +11,13 @@ use Rattle.md_meaning.specs.Leaves.{LazyText, LeafResult, NoText, Text, starts, 
 use Rattle.md_meaning.specs.Rest.{Rest, is_blank}
 use Rattle.md_meaning.specs.State.{Innermost, Leaf, NoLeaf, OpenParagraph, ParagraphLine, cut, kept, shut_paragraph}
 use Rattle.md_meaning.specs.State.{texts}
-use Rattle.md_meaning.specs.Step.{came, with_lazy}
+use Rattle.md_meaning.specs.Step.{became, with_lazy}
 use Rattle.md_meaning.specs.Tree.{Blocks, End}
 use Rattle.md_exact.specs.Rows.{Blank, Delimiter, First, FirstText, Further, FurtherText, Role, Underline, first_or}
 use Rattle.md_exact.specs.Rows.{fresh_role, role_on}
 use Rattle.md_leaves.specs.HeadingSetext.{may_turn}
 use Rattle.md_link_definitions.specs.Progress.{is_none_left}
-use Rattle.proof_frame.specs.HeldLeaf.{has_lines, kind_of_leaf, may_go_on, met_by, takes_lazy}
+use Rattle.proof_frame.specs.HeldLeaf.{has_lines, kind_of_leaf, may_continue, met_by, takes_lazy}
 use Rattle.proof_frame.specs.Leaf.Paragraph.{open_lines}
 use Rattle.proof_frame.specs.LeafName.{GfmTable, LeafName}
 use Rattle.proof_frame.specs.Row.{BlankRow, LeafRow, RowKind, TextRow}
@@ -28,7 +28,7 @@ use Rattle.proof_table_laws.proofs.GfmTable.Found.{table-found}
 use Rattle.md_registry.specs.OpenSpan.{IsBuiltLeaf, IsOpenSpan}
 use Rattle.md_registry.specs.Registry.{leaf}
 use Rattle.md_registry.proofs.HeadingSetext.Found.{setext-found}
-use Rattle.md_registry.proofs.LeafStarts.{came_of, leaf_at, lost-none, setext-taken, text-starts}
+use Rattle.md_registry.proofs.LeafStarts.{result_of, leaf_at, lost-none, setext-taken, text-starts}
 use Rattle.md_registry.proofs.Registry.{insider-none, text-laws}
 use Rattle.proof_rows.specs.Rows.{is_further, kind_of, line_kind}
 use Rattle.proof_rows.proofs.ContainedLemmas.{lines-unlazy}
@@ -36,8 +36,8 @@ use Rattle.proof_rows.proofs.FurtherSpan.{FurtherSpan, context-none, further-spa
 use Rattle.proof_rows.proofs.FurtherSpan.{other_kind, span-lazy}
 use Rattle.proof_rows.proofs.KindLemmas.{kind-plain}
 use Rattle.proof_rows.proofs.RegistryFound.{or_table, other_at, table-last, untabled-at, untext-found}
-use Rattle.proof_rows.proofs.TextFound.{Ended, behind-text, ended, knows-head, lazy_on, may-left, text-others, text_on}
-use Rattle.proof_rows.proofs.TextFound.{underlined-untabled, unturned-setext}
+use Rattle.proof_rows.proofs.TextFound.{Ended, following-text, ended, knows-head, lazy_on, may-left, text-others}
+use Rattle.proof_rows.proofs.TextFound.{text_on, underlined-untabled, unturned-setext}
 
 -- a line that continues this open leaf: on text it is an underline, or a delimiter row, which takes a head
 abbrev pub further_role : Leaf → Bool → Role
@@ -47,7 +47,7 @@ further_role open_leaf heads = Further open_leaf
 -- a line of a leaf that is no text: one that continues the open leaf, or the first of another
 abbrev pub leaf_role : ParseOptions → Leaf → HeldLeaf → Rest → LeafName → Role
 leaf_role options open_leaf on r l =
-    if (leaf l).further on then further_role open_leaf (leaf l).heads else First ((leaf l).comes options NoLeaf r)
+    if (leaf l).further on then further_role open_leaf (leaf l).heads else First ((leaf l).becomes options NoLeaf r)
 
 -- a line of any kind, where this leaf is open before it, and the line meets that as this one
 abbrev pub kind_role : ParseOptions → Leaf → HeldLeaf → Rest → RowKind → Role
@@ -66,11 +66,11 @@ plain-role options open_leaf on r unlazy dark begins =
     ∙ go (other_at options on r) begins
   where
     go : (o : Option LeafName) → is_further (kind_of o) on ≡ false →
-        first_or FirstText (came_of options r o) ≡ kind_role options open_leaf on r (kind_of o)
+        first_or FirstText (result_of options r o) ≡ kind_role options open_leaf on r (kind_of o)
     go None begins = ap (λ (x : Bool). cond x FurtherText FirstText) (sym unlazy)
     go (Some l) begins =
         ap
-        (λ (x : Bool). cond x (further_role open_leaf (leaf l).heads) (First ((leaf l).comes options NoLeaf r)))
+        (λ (x : Bool). cond x (further_role open_leaf (leaf l).heads) (First ((leaf l).becomes options NoLeaf r)))
         (sym begins)
 
 -- where it meets no leaf
@@ -120,7 +120,7 @@ span-role : (options : ParseOptions) (r : Rest) (open_leaf : Leaf) → FurtherSp
     role_on options open_leaf r ≡
     kind_role options open_leaf (kind_of_leaf open_leaf) r (line_kind options (kind_of_leaf open_leaf) r)
 span-role options r open_leaf is =
-    ap (λ (o : Option LeafResult). cond (is_some o) (Further open_leaf) fresh) (is.goes options r)
+    ap (λ (o : Option LeafResult). cond (is_some o) (Further open_leaf) fresh) (is.proceeds options r)
     ∙ go (is.takes options r)
     ∙ ap (kind_role options open_leaf on r) (sym (is.kind options r))
   where
@@ -142,13 +142,13 @@ span-role options r open_leaf is =
         (ap (λ (x : Bool). is_further (cond x BlankRow other) on) (sym e) ∙ other-begins options on r is.lines)
 
     go : (x : Bool) →
-        cond (is_some (cond x (Some ((leaf is.name).comes options open_leaf r)) None)) (Further open_leaf) fresh ≡
+        cond (is_some (cond x (Some ((leaf is.name).becomes options open_leaf r)) None)) (Further open_leaf) fresh ≡
         kind_role options open_leaf on r (cond x (LeafRow is.name) (other_kind options on r))
     go true =
         sym
         (ap
         (λ (x : Bool).
-        cond x (further_role open_leaf (leaf is.name).heads) (First ((leaf is.name).comes options NoLeaf r)))
+        cond x (further_role open_leaf (leaf is.name).heads) (First ((leaf is.name).becomes options NoLeaf r)))
         is.further
         ∙ further-span_role open_leaf (leaf is.name).heads is.lines)
     go false = by (is_blank r.bytes) refl
@@ -179,11 +179,11 @@ delimiter-starts options bs k ks r = subst Done (sym is.is) (at_end is.front is.
         lines : List ParagraphLine
         lines = front ++ last ∷ []
 
-        come : Innermost
-        come =
-            came (shut_paragraph options bs (texts front)) (table_leaf.comes options (text_leaf.held lines) r)
+        become : Innermost
+        become =
+            became (shut_paragraph options bs (texts front)) (table_leaf.becomes options (text_leaf.held lines) r)
 
-        go : (x : Bool) → is_some (cond x (Some come) None) ≡ x
+        go : (x : Bool) → is_some (cond x (Some become) None) ≡ x
         go true = refl
         go false = refl
 
@@ -227,15 +227,15 @@ text-dark options k ks r dark = go (may_turn options on) refl
     last false = refl
 
     by : setext_leaf.starts options on r ≡ false → (o : Option LeafName) → other_at options on r ≡ o →
-        first_or (row (is_some (table_at options End lines r))) (came_of options r o) ≡
+        first_or (row (is_some (table_at options End lines r))) (result_of options r o) ≡
         to (or_table (table_leaf.starts options on r) o)
     by e None found = ap row (delimiter-starts options End k ks r) ∙ last (table_leaf.starts options on r)
     by e (Some l) found =
         sym
         (ap
         (λ (x : Bool).
-        cond x (further_role (text_leaf.held lines) (leaf l).heads) (First ((leaf l).comes options NoLeaf r)))
-        (behind-text options (open_lines lines) r l e found))
+        cond x (further_role (text_leaf.held lines) (leaf l).heads) (First ((leaf l).becomes options NoLeaf r)))
+        (following-text options (open_lines lines) r l e found))
 
     other : underline_depth options r ≡ None → setext_leaf.starts options on r ≡ false → Done None
     other none e =
@@ -332,13 +332,13 @@ text-lazy_role options r k ks =
         (role_on options NoLeaf r)
 
     -- the first leaf that starts goes neither on text that the line is lazy for nor on none
-    apart : (met : HeldLeaf) → may_go_on met ≡ false → is_blank r.bytes ≡ false → (l : LeafName) →
+    apart : (met : HeldLeaf) → may_continue met ≡ false → is_blank r.bytes ≡ false → (l : LeafName) →
         leaf_at options met r ≡ Some l → has_lines met ≡ false →
-        kind_role options (text_leaf.held (k ∷ ks)) met r (LeafRow l) ≡ First ((leaf l).comes options NoLeaf r)
+        kind_role options (text_leaf.held (k ∷ ks)) met r (LeafRow l) ≡ First ((leaf l).becomes options NoLeaf r)
     apart met none dark l found other =
         ap
         (λ (x : Bool).
-        cond x (further_role (text_leaf.held (k ∷ ks)) (leaf l).heads) (First ((leaf l).comes options NoLeaf r)))
+        cond x (further_role (text_leaf.held (k ∷ ks)) (leaf l).heads) (First ((leaf l).becomes options NoLeaf r)))
         (ap (λ (kind : RowKind). is_further kind met)
         (sym
         (kind-plain options met r (insider-none met other) ∙ ap (kind_by met) dark
@@ -346,7 +346,7 @@ text-lazy_role options r k ks =
         ∙ none-further options met r none)
 
     by : is_blank r.bytes ≡ false → (o : Option LeafName) → leaf_at options on r ≡ o →
-        lazy false (came_of options r o) ≡ to (kind_of o)
+        lazy false (result_of options r o) ≡ to (kind_of o)
     by dark None found = refl
     by dark (Some l) found =
         let first = text-starts options (open_lines (k ∷ ks)) r l found in
@@ -363,7 +363,7 @@ text-lazy_role options r k ks =
         ap (λ (x : Bool). lazy x (starts options LazyText r)) e
         ∙ ap (lazy false)
         (untext-found options on LazyText r refl refl e
-        ∙ ap (came_of options r) (sym (untabled-at options on r refl)))
+        ∙ ap (result_of options r) (sym (untabled-at options on r refl)))
         ∙ by e (leaf_at options on r) refl ∙ ap (λ (x : Bool). to (kind_by on x)) (sym e)
 
 pub lazy-role : (options : ParseOptions) (r : Rest) (open_leaf : Leaf) → IsBuiltLeaf open_leaf →

@@ -20,32 +20,32 @@ use Rattle.md_meaning.specs.State.{kept}
 use Rattle.proof_table_laws.proofs.GfmTable.Span.{table-begins}
 use Rattle.md_exact.specs.Blocks.{events_by, tail}
 use Rattle.md_exact.specs.Rows.{Delimiter, Role, Row}
-use Rattle.proof_frame.specs.LeafName.{CodeFurther, CodeIndented, Fence, FenceFurther, GfmTable, HeadingAtx, HeadingSetext}
-use Rattle.proof_frame.specs.LeafName.{HtmlFlow, HtmlFurther, LeafName, ThematicBreak}
-use Rattle.proof_frame.specs.Row.{LeafRow, Row as FrameRow, any_framed, ending_of, last_row, span_behind}
+use Rattle.proof_frame.specs.LeafName.{CodeFurther, CodeIndented, Fence, FenceFurther, GfmTable, HeadingAtx}
+use Rattle.proof_frame.specs.LeafName.{HeadingSetext, HtmlFlow, HtmlFurther, LeafName, ThematicBreak}
+use Rattle.proof_frame.specs.Row.{LeafRow, Row as FrameRow, any_framed, ending_of, last_row, span_after}
 use Rattle.proof_frame.specs.Row.{span_by}
 use Rattle.proof_frame.proofs.LeafLines.Bare.{inner, outer}
 use Rattle.md_registry.specs.Registry.{further_of, leaf}
 use Rattle.md_registry.proofs.UnderNames.{heads-table}
 use Rattle.proof_rows.specs.BlockList.{tabled_group}
-use Rattle.proof_rows.specs.Rows.{Headed, LeafLines, line_behind, tail_events}
+use Rattle.proof_rows.specs.Rows.{Headed, LeafLines, line_following, tail_events}
 use Rattle.proof_rows.proofs.GroupLines.{AreSpan, Begins, IsHead, IsSpanLine, line-further, span-begins}
 use Rattle.proof_rows.proofs.HeadedTable.{headed-is, headed-table}
 use Rattle.proof_rows.proofs.KindLemmas.{kind-starts}
-use Rattle.proof_rows.proofs.LineBehind.{line-heads}
+use Rattle.proof_rows.proofs.LineAfter.{line-heads}
 use Rattle.proof_exact.proofs.Tails.{tail-last}
 use Rattle.proof_exact_lines.proofs.Spans.{own}
 use Rattle.proof_exact_lines.proofs.TextLines.{last_of}
 use Rattle.proof_exact_lines.specs.Unlisted.{unlisted_group, unlisted_groups, without_lists}
-use Rattle.proof_exact.proofs.GroupsMatch.{Pairs, TakesEach, TakesLines, behind_leaf, within_leaf}
+use Rattle.proof_exact.proofs.GroupsMatch.{Pairs, TakesEach, TakesLines, following_leaf, within_leaf}
 use Rattle.proof_exact.proofs.Fit.{Fit}
 use Rattle.proof_exact_lines.proofs.Tables.{AreTableLines, table-walked}
-use Rattle.proof_exact.proofs.Behind.{GoOn, behind-goes, front-goes, inner-ends, inner-outer, outer-none}
-use Rattle.proof_exact.proofs.Behind.{span-goes}
+use Rattle.proof_exact.proofs.Following.{AllContinue, following-proceeds, front-proceeds, inner-ends, inner-outer}
+use Rattle.proof_exact.proofs.Following.{outer-none, span-proceeds}
 use Rattle.proof_exact.proofs.FitLines.{MayEnd, first-table, further-table, text-further, with_front}
 use Rattle.proof_exact.proofs.Groups.{group-same}
 use Rattle.proof_exact.proofs.Put.{AllGo, AllPut, ArePut, IsPut}
-use Rattle.proof_exact.proofs.Several.{behind-same, code-ends, code-lines, fence-group, html-group, other-ends}
+use Rattle.proof_exact.proofs.Several.{following-same, code-ends, code-lines, fence-group, html-group, other-ends}
 use Rattle.proof_exact.proofs.Several.{tails-same}
 
 -- The first lines that are put together.
@@ -53,11 +53,11 @@ pub record Taken (Fit : Row → FrameRow → Type 0) (r : FrameRow) (rs : List F
     (More : List (List Row) → Type 0) (ess : List (List Row)) : Type 0 where
   pub x : Row
   pub xs : List Row
-  pub behind : List (List Row)
-  pub same : ess ≡ (x ∷ xs) ∷ behind
+  pub following : List (List Row)
+  pub same : ess ≡ (x ∷ xs) ∷ following
   pub fit : Fit x r
   pub pairs : Pairs Fit xs rs
-  pub more : More behind
+  pub more : More following
 
 pub lines-taken : (Fit : Row → FrameRow → Type 0) (r : FrameRow) (rs : List FrameRow)
     (More : List (List Row) → Type 0) (ess : List (List Row)) → TakesLines Fit (r ∷ rs) More ess →
@@ -67,7 +67,7 @@ lines-taken Fit r rs More ([] ∷ ess) takes = absurd takes.0
 lines-taken Fit r rs More ((x ∷ xs) ∷ ess) takes = record {
   x = x;
   xs = xs;
-  behind = ess;
+  following = ess;
   same = refl;
   fit = takes.0.0;
   pairs = takes.0.1;
@@ -78,7 +78,7 @@ lines-taken Fit r rs More ((x ∷ xs) ∷ ess) takes = record {
 
 lone-same : (options : ParseOptions) (bytes : List ℕ) (l : LeafName) (x : Row) (r : FrameRow) (xs : List Row)
     (rs : List FrameRow) →
-    Fit options bytes x r → Pairs (Fit options bytes) xs rs → GoOn l r rs → (l ≡ CodeFurther → ⊥) →
+    Fit options bytes x r → Pairs (Fit options bytes) xs rs → AllContinue l r rs → (l ≡ CodeFurther → ⊥) →
     (r.kind ≡ LeafRow CodeFurther → ⊥) → events_by options x.role (x ∷ xs) ≡ span_by own r rs →
     unlisted_group options (x ∷ xs) ≡ tabled_group options bytes (LeafLines r rs)
 lone-same options bytes l x r xs rs fit pairs are other first events =
@@ -95,21 +95,21 @@ code-same : (options : ParseOptions) (bytes : List ℕ) (x : Row) (r : FrameRow)
     (rs more : List FrameRow) (More : List (List Row) → Type 0) (events : List Event) →
     ((ess : List (List Row)) → More ess → AllPut ess → events ≡ unlisted_groups options ess) →
     (ess : List (List Row)) → Fit options bytes x r → r.kind ≡ LeafRow CodeIndented →
-    Pairs (Fit options bytes) xs rs → AllGo xs → GoOn CodeFurther r (rs ++ more) → any_framed own more ≡ false →
-    (span_by own r (rs ++ more) ≡ events_by options x.role (x ∷ xs) ++ span_behind own (last_row r rs) more) →
+    Pairs (Fit options bytes) xs rs → AllGo xs → AllContinue CodeFurther r (rs ++ more) → any_framed own more ≡ false →
+    (span_by own r (rs ++ more) ≡ events_by options x.role (x ∷ xs) ++ span_after own (last_row r rs) more) →
     Fit options bytes (last_of x xs) (last_row r rs) → MayEnd (last_of x xs) (last_row r rs) →
     TakesEach (Fit options bytes) more More ess → AllPut ess →
     tabled_group options bytes (LeafLines r (rs ++ more)) ++ events ≡
     unlisted_group options (x ∷ xs) ++ unlisted_groups options ess
-code-same options bytes x r xs rs more More events same ess fit kind pairs goes are none joined last may takes put =
+code-same options bytes x r xs rs more More events same ess fit kind pairs proceeds are none joined last may takes put =
     ap (λ (l : FrameRow). ((r.front ++ span_by own r (rs ++ more)) ++ ending l) ++ events) (last-row r rs more)
     ∙ ap₂ (λ (es fs : List Event). ((es ++ fs) ++ ending (last_row (last_row r rs) more)) ++ events) (sym fit.front)
     joined
-    ∙ regroup (without_lists x.front) leaf_events (span_behind own (last_row r rs) more)
+    ∙ regroup (without_lists x.front) leaf_events (span_after own (last_row r rs) more)
     (ending (last_row (last_row r rs) more)) events
     ∙ ap (λ (es : List Event). (without_lists x.front ++ leaf_events) ++ es)
-    (behind-same options bytes (last_of x xs) (last_row r rs) more More events same ess last may
-    (behind-goes CodeFurther r rs more are) none takes put)
+    (following-same options bytes (last_of x xs) (last_row r rs) more More events same ess last may
+    (following-proceeds CodeFurther r rs more are) none takes put)
     ∙ again (without_lists x.front) leaf_events (without_lists (tail (last_of x xs ∷ []))) (unlisted_groups options ess)
     ∙ ap
     (λ (es : List Event).
@@ -140,23 +140,23 @@ within-false : (rows : List FrameRow) → within_leaf false rows ≡ rows
 within-false [] = refl
 within-false (row ∷ rows) = refl
 
-behind-false : (rows : List FrameRow) → behind_leaf false rows ≡ []
-behind-false [] = refl
-behind-false (row ∷ rows) = refl
+following-false : (rows : List FrameRow) → following_leaf false rows ≡ []
+following-false [] = refl
+following-false (row ∷ rows) = refl
 
 within-true : (rows : List FrameRow) → within_leaf true rows ≡ inner own rows
 within-true [] = refl
 within-true (row ∷ rows) = refl
 
-behind-true : (rows : List FrameRow) → behind_leaf true rows ≡ outer own rows
-behind-true [] = refl
-behind-true (row ∷ rows) = refl
+following-true : (rows : List FrameRow) → following_leaf true rows ≡ outer own rows
+following-true [] = refl
+following-true (row ∷ rows) = refl
 
 abbrev Takes : (options : ParseOptions) (bytes : List ℕ) → FrameRow → List FrameRow →
     (List (List Row) → Type 0) → Bool → List (List Row) → Type 0
 Takes options bytes r rs More code ess =
     TakesLines (Fit options bytes) (r ∷ within_leaf code rs)
-    (TakesEach (Fit options bytes) (behind_leaf code rs) More) ess
+    (TakesEach (Fit options bytes) (following_leaf code rs) More) ess
 
 html-kinds : (kind : Option HtmlKind) (line : List ℕ) → is_code (left_by kind line) ≡ false
 html-kinds None line = refl
@@ -170,7 +170,7 @@ pub leaf-same : (options : ParseOptions) (bytes : List ℕ) (r : FrameRow) (rs :
     (More : List (List Row) → Type 0) (events : List Event) →
     ((ess : List (List Row)) → More ess → AllPut ess → events ≡ unlisted_groups options ess) →
     (ess : List (List Row)) → AreSpan options bytes r rs → Begins r →
-    Takes options bytes r rs More (is_code r.behind) ess → ArePut ess →
+    Takes options bytes r rs More (is_code r.following) ess → ArePut ess →
     tabled_group options bytes (LeafLines r rs) ++ events ≡ unlisted_groups options ess
 leaf-same options bytes r rs More events same ess are begins takes put =
     by line.name line.kind line.open_leaf first are_on
@@ -181,112 +181,113 @@ leaf-same options bytes r rs More events same ess are begins takes put =
     first : (leaf line.name).further r.on ≡ false
     first = line-further options bytes r line false begins
 
-    are_on : (l : LeafName) → further_of l ≡ l → further_of line.name ≡ l → GoOn l r rs
-    are_on l same_name e = span-goes options bytes l r rs same_name are e
+    are_on : (l : LeafName) → further_of l ≡ l → further_of line.name ≡ l → AllContinue l r rs
+    are_on l same_name e = span-proceeds options bytes l r rs same_name are e
 
     -- of a leaf that is no code
-    lone : (l : LeafName) → is_code r.behind ≡ false → (l ≡ CodeFurther → ⊥) →
-        (r.kind ≡ LeafRow CodeFurther → ⊥) → GoOn l r rs →
+    lone : (l : LeafName) → is_code r.following ≡ false → (l ≡ CodeFurther → ⊥) →
+        (r.kind ≡ LeafRow CodeFurther → ⊥) → AllContinue l r rs →
         ((x : Row) (xs : List Row) → Fit options bytes x r → Pairs (Fit options bytes) xs rs → AllGo xs →
         events_by options x.role (x ∷ xs) ≡ span_by own r rs) →
         tabled_group options bytes (LeafLines r rs) ++ events ≡ unlisted_groups options ess
-    lone l code other not_code goes group =
+    lone l code other not_code proceeds group =
         ap₂ (λ (es fs : List Event). es ++ fs)
-        (sym (lone-same options bytes l t.x r t.xs rs t.fit pairs goes other not_code
+        (sym (lone-same options bytes l t.x r t.xs rs t.fit pairs proceeds other not_code
         (group t.x t.xs t.fit pairs puts.0.1)))
-        (same t.behind (subst (λ (l : List FrameRow). TakesEach (Fit options bytes) l More t.behind)
-        (behind-false rs) t.more) puts.1)
+        (same t.following (subst (λ (l : List FrameRow). TakesEach (Fit options bytes) l More t.following)
+        (following-false rs) t.more) puts.1)
         ∙ sym (ap (unlisted_groups options) t.same)
       where
         t : Taken (Fit options bytes) r (within_leaf false rs)
-            (TakesEach (Fit options bytes) (behind_leaf false rs) More) ess
+            (TakesEach (Fit options bytes) (following_leaf false rs) More) ess
         t =
             lines-taken (Fit options bytes) r (within_leaf false rs)
-            (TakesEach (Fit options bytes) (behind_leaf false rs) More) ess
+            (TakesEach (Fit options bytes) (following_leaf false rs) More) ess
             (subst (λ (c : Bool). Takes options bytes r rs More c ess) code takes)
 
         pairs : Pairs (Fit options bytes) t.xs rs
         pairs = subst (Pairs (Fit options bytes) t.xs) (within-false rs) t.pairs
 
-        puts : ArePut ((t.x ∷ t.xs) ∷ t.behind)
+        puts : ArePut ((t.x ∷ t.xs) ∷ t.following)
         puts = subst ArePut t.same put
 
     -- of code
-    code : r.kind ≡ LeafRow CodeIndented → is_code r.behind ≡ true → GoOn CodeFurther r rs →
+    code : r.kind ≡ LeafRow CodeIndented → is_code r.following ≡ true → AllContinue CodeFurther r rs →
         tabled_group options bytes (LeafLines r rs) ++ events ≡ unlisted_groups options ess
-    code kind held goes =
+    code kind held proceeds =
         ap (λ (l : List FrameRow). tabled_group options bytes (LeafLines r l) ++ events) (sym (inner-outer rs))
-        ∙ code-same options bytes t.x r t.xs (inner own rs) (outer own rs) More events same t.behind t.fit kind pairs
+        ∙ code-same options bytes t.x r t.xs (inner own rs) (outer own rs) More events same t.following t.fit kind pairs
         puts.0.1 on (outer-none rs)
         (code-lines options bytes t.x r t.xs (inner own rs) (outer own rs) t.fit kind pairs puts.0.1
-        (front-goes CodeFurther r (inner own rs) (outer own rs) on) (inner-ends rs) (outer-none rs))
+        (front-proceeds CodeFurther r (inner own rs) (outer own rs) on) (inner-ends rs) (outer-none rs))
         (last-fit options bytes t.x r t.xs (inner own rs) t.fit pairs)
         (code-ends options bytes t.x r t.xs (inner own rs) kind pairs (inner-ends rs))
-        (subst (λ (l : List FrameRow). TakesEach (Fit options bytes) l More t.behind) (behind-true rs) t.more) puts.1
+        (subst (λ (l : List FrameRow). TakesEach (Fit options bytes) l More t.following)
+        (following-true rs) t.more) puts.1
         ∙ sym (ap (unlisted_groups options) t.same)
       where
         t : Taken (Fit options bytes) r (within_leaf true rs)
-            (TakesEach (Fit options bytes) (behind_leaf true rs) More) ess
+            (TakesEach (Fit options bytes) (following_leaf true rs) More) ess
         t =
             lines-taken (Fit options bytes) r (within_leaf true rs)
-            (TakesEach (Fit options bytes) (behind_leaf true rs) More) ess
+            (TakesEach (Fit options bytes) (following_leaf true rs) More) ess
             (subst (λ (c : Bool). Takes options bytes r rs More c ess) held takes)
 
         pairs : Pairs (Fit options bytes) t.xs (inner own rs)
         pairs = subst (Pairs (Fit options bytes) t.xs) (within-true rs) t.pairs
 
-        puts : ArePut ((t.x ∷ t.xs) ∷ t.behind)
+        puts : ArePut ((t.x ∷ t.xs) ∷ t.following)
         puts = subst ArePut t.same put
 
-        on : GoOn CodeFurther r (inner own rs ++ outer own rs)
-        on = subst (GoOn CodeFurther r) (sym (inner-outer rs)) goes
+        on : AllContinue CodeFurther r (inner own rs ++ outer own rs)
+        on = subst (AllContinue CodeFurther r) (sym (inner-outer rs)) proceeds
 
     starts : (l : LeafName) → r.kind ≡ LeafRow l → (leaf l).starts options r.on line.is.rest ≡ true
     starts l kind = kind-starts options r.on line.is.rest l (sym line.is.kind ∙ kind)
 
-    held : (l : LeafName) → r.kind ≡ LeafRow l → r.behind ≡ (leaf l).holds options r.on line.is.rest
-    held l kind = line.is.behind ∙ ap (line_behind options r.on line.is.rest) kind
+    held : (l : LeafName) → r.kind ≡ LeafRow l → r.following ≡ (leaf l).holds options r.on line.is.rest
+    held l kind = line.is.following ∙ ap (line_following options r.on line.is.rest) kind
 
     by : (l : LeafName) → r.kind ≡ LeafRow l → (leaf l).ends ≡ false → (leaf l).further r.on ≡ false →
-        ((m : LeafName) → further_of m ≡ m → further_of l ≡ m → GoOn m r rs) →
+        ((m : LeafName) → further_of m ≡ m → further_of l ≡ m → AllContinue m r rs) →
         tabled_group options bytes (LeafLines r rs) ++ events ≡ unlisted_groups options ess
-    by CodeIndented kind several first goes =
-        code kind (ap is_code (held CodeIndented kind)) (goes CodeFurther refl refl)
-    by Fence kind several first goes =
+    by CodeIndented kind several first proceeds =
+        code kind (ap is_code (held CodeIndented kind)) (proceeds CodeFurther refl refl)
+    by Fence kind several first proceeds =
         lone FenceFurther (ap is_code (held Fence kind)) (λ e. cc)
-        (λ e. let bad : LeafRow Fence ≡ LeafRow CodeFurther = sym kind ∙ e in cc) (goes FenceFurther refl refl)
-        (λ x xs fit pairs go. fence-group options bytes x r xs rs fit kind pairs go (goes FenceFurther refl refl))
-    by HtmlFlow kind several first goes =
+        (λ e. let bad : LeafRow Fence ≡ LeafRow CodeFurther = sym kind ∙ e in cc) (proceeds FenceFurther refl refl)
+        (λ x xs fit pairs go. fence-group options bytes x r xs rs fit kind pairs go (proceeds FenceFurther refl refl))
+    by HtmlFlow kind several first proceeds =
         lone HtmlFurther
         (ap is_code (held HtmlFlow kind) ∙ html-kinds (kind_begun line.is.rest) line.is.rest.bytes) (λ e. cc)
-        (λ e. let bad : LeafRow HtmlFlow ≡ LeafRow CodeFurther = sym kind ∙ e in cc) (goes HtmlFurther refl refl)
-        (λ x xs fit pairs go. html-group options bytes x r xs rs fit kind pairs go (goes HtmlFurther refl refl))
-    by CodeFurther kind several first goes =
+        (λ e. let bad : LeafRow HtmlFlow ≡ LeafRow CodeFurther = sym kind ∙ e in cc) (proceeds HtmlFurther refl refl)
+        (λ x xs fit pairs go. html-group options bytes x r xs rs fit kind pairs go (proceeds HtmlFurther refl refl))
+    by CodeFurther kind several first proceeds =
         let met = (and_parts (is_code r.on) (is_blank line.is.rest.bytes || nat_le 4 (indent line.is.rest))
         (starts CodeFurther kind)).0 in
         let bad : true ≡ false = sym met ∙ first in absurd (cc)
-    by FenceFurther kind several first goes =
+    by FenceFurther kind several first proceeds =
         let bad : true ≡ false = sym (starts FenceFurther kind) ∙ first in absurd (cc)
-    by HtmlFurther kind several first goes =
+    by HtmlFurther kind several first proceeds =
         let met = (and_parts (is_html r.on) (not (ends_in_front r.on && is_blank line.is.rest.bytes))
         (starts HtmlFurther kind)).0 in
         let bad : true ≡ false = sym met ∙ first in absurd (cc)
-    by HeadingSetext kind several first goes =
+    by HeadingSetext kind several first proceeds =
         absurd (setext-begins options r.on line.is.rest (starts HeadingSetext kind) first)
-    by GfmTable kind several first goes =
+    by GfmTable kind several first proceeds =
         absurd (table-begins options r.on line.is.rest (starts GfmTable kind) first)
-    by HeadingAtx kind several first goes = absurd (cc)
-    by ThematicBreak kind several first goes = absurd (cc)
+    by HeadingAtx kind several first proceeds = absurd (cc)
+    by ThematicBreak kind several first proceeds = absurd (cc)
 
 -- A table.
 
 tables-are : (options : ParseOptions) (bytes : List ℕ) (xs : List Row) (rs : List FrameRow) →
     Pairs (Fit options bytes) xs rs → AllGo xs → AreTableLines bytes xs rs
-tables-are options bytes [] [] pairs goes = tt
-tables-are options bytes (x ∷ xs) (r ∷ rs) pairs goes =
-    (further-table options bytes x r pairs.0 goes.0, tables-are options bytes xs rs pairs.1 goes.1)
-tables-are options bytes [] (r ∷ rs) pairs goes = absurd pairs
-tables-are options bytes (x ∷ xs) [] pairs goes = absurd pairs
+tables-are options bytes [] [] pairs proceeds = tt
+tables-are options bytes (x ∷ xs) (r ∷ rs) pairs proceeds =
+    (further-table options bytes x r pairs.0 proceeds.0, tables-are options bytes xs rs pairs.1 proceeds.1)
+tables-are options bytes [] (r ∷ rs) pairs proceeds = absurd pairs
+tables-are options bytes (x ∷ xs) [] pairs proceeds = absurd pairs
 
 pub headed-same : (options : ParseOptions) (bytes : List ℕ) (x y : Row) (r next : FrameRow) (xs : List Row)
     (rs : List FrameRow) →
@@ -298,7 +299,7 @@ headed-same options bytes x y r next xs rs fit fits pairs put head are =
     (tails-same options bytes y next xs rs fits pairs
     (λ e. absurd
     (other-ends GfmTable next rs (λ k. cc)
-    (λ k. let bad : LeafRow GfmTable ≡ LeafRow CodeFurther = sym kind ∙ k in cc) goes e)))
+    (λ k. let bad : LeafRow GfmTable ≡ LeafRow CodeFurther = sym kind ∙ k in cc) proceeds e)))
     (ap (λ (role : Role). events_by options role (x ∷ y ∷ xs)) (put.0.delimiter role)
     ∙ sym
     (table-walked bytes (with_front r.front x) y xs r next rs
@@ -314,8 +315,8 @@ headed-same options bytes x y r next xs rs fit fits pairs put head are =
     kind : next.kind ≡ LeafRow GfmTable
     kind = line.kind ∙ ap LeafRow name
 
-    goes : GoOn GfmTable next rs
-    goes = span-goes options bytes GfmTable next rs refl are (ap further_of name)
+    proceeds : AllContinue GfmTable next rs
+    proceeds = span-proceeds options bytes GfmTable next rs refl are (ap further_of name)
 
     at : OpenText
     at = open_text (step (progress_of r.on) (trim_start head.is.rest.bytes)) (kept head.is.rest)
@@ -325,4 +326,4 @@ headed-same options bytes x y r next xs rs fit fits pairs put head are =
         text-further options bytes y next fits GfmTable kind
         (subst (λ (l : LeafName). (leaf l).further next.on ≡ true) name
         (line-further options bytes next line true head.further)) at
-        (head.on ∙ head.is.behind ∙ ap (line_behind options r.on head.is.rest) head.text)
+        (head.on ∙ head.is.following ∙ ap (line_following options r.on head.is.rest) head.text)

@@ -1,5 +1,5 @@
 pub mod Put
-pub mod Behind
+pub mod Following
 pub mod FitLines
 pub mod Fronts
 pub mod Groups

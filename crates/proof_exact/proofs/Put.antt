@@ -3,17 +3,17 @@
 use Rattle.std.proofs.Common.{◌≡◌, Bool, true, false, cond, List, [], ◌∷◌, refl, ap, sym, ◌∙◌, subst}
 use Rattle.std.specs.Option.{is_some}
 use Rattle.md_engine.specs.declared.configuration.ParseOptions.{ParseOptions}
-use Rattle.md_meaning.specs.Leaves.{goes_on as goes_on_leaf}
+use Rattle.md_meaning.specs.Leaves.{is_continued as continues_leaf}
 use Rattle.md_meaning.specs.Rest.{Rest, is_blank}
 use Rattle.md_meaning.specs.State.{Leaf, OpenCode, Path}
 use Rattle.md_meaning.specs.Step.{step}
 use Rattle.md_meaning.specs.Tree.{Line}
-use Rattle.md_exact.specs.Blocks.{goes_on, grouped}
+use Rattle.md_exact.specs.Blocks.{is_continued, grouped}
 use Rattle.md_exact.specs.Places.{TextLine, whole}
-use Rattle.md_exact.specs.Rows.{BehindCode, Blank, Delimiter, First, FirstText, Further, FurtherText, Head, Role, Row}
+use Rattle.md_exact.specs.Rows.{AfterCode, Blank, Delimiter, First, FirstText, Further, FurtherText, Head, Role, Row}
 use Rattle.md_exact.specs.Rows.{Underline, fresh_role, next_role, role_before, role_on, row_of, rows_of}
 use Rattle.proof_exact_lines.proofs.LeafLast.{fresh-cases}
-use Rattle.proof_exact.proofs.GroupRuns.{behind_run, grouped-run, run}
+use Rattle.proof_exact.proofs.GroupRuns.{after_run, grouped-run, run}
 
 -- A line before one with this role.
 pub record HeadBy (role next : Role) : Type 0 where
@@ -30,7 +30,7 @@ AreHeads (row ∷ rows) = HeadBy row.role (next_role rows) × AreHeads rows
 -- all of these continue the line before them
 abbrev pub AllGo : List Row → Type 0
 AllGo [] = Unit {0}
-AllGo (row ∷ rows) = (goes_on row.role ≡ true) × AllGo rows
+AllGo (row ∷ rows) = (is_continued row.role ≡ true) × AllGo rows
 
 abbrev pub IsPut : List Row → Type 0
 IsPut [] = Unit {0}
@@ -39,7 +39,7 @@ IsPut (row ∷ rows) = HeadBy row.role (next_role rows) × AllGo rows
 -- the first line of a group continues none
 abbrev pub Starts : List Row → Type 0
 Starts [] = Unit {0}
-Starts (row ∷ rows) = goes_on row.role ≡ false
+Starts (row ∷ rows) = is_continued row.role ≡ false
 
 abbrev pub AllPut : List (List Row) → Type 0
 AllPut [] = Unit {0}
@@ -54,31 +54,31 @@ ArePut (rows ∷ groups) = IsPut rows × AllPut groups
 
 all-go : (rows : List Row) → AllGo (run rows)
 all-go [] = tt
-all-go (row ∷ rows) = go (goes_on row.role) refl (all-go rows)
+all-go (row ∷ rows) = go (is_continued row.role) refl (all-go rows)
   where
-    go : (x : Bool) → goes_on row.role ≡ x → AllGo (run rows) → AllGo (cond x (row ∷ run rows) [])
+    go : (x : Bool) → is_continued row.role ≡ x → AllGo (run rows) → AllGo (cond x (row ∷ run rows) [])
     go true e more = (e, more)
     go false e more = tt
 
 -- the next line after a line is the next one of its group, if it continues
 run-head : (role : Role) (rows : List Row) → HeadBy role (next_role rows) → HeadBy role (next_role (run rows))
 run-head role [] by = by
-run-head role (row ∷ rows) by = go (goes_on row.role) refl
+run-head role (row ∷ rows) by = go (is_continued row.role) refl
   where
-    go : (x : Bool) → goes_on row.role ≡ x → HeadBy role (next_role (cond x (row ∷ run rows) []))
+    go : (x : Bool) → is_continued row.role ≡ x → HeadBy role (next_role (cond x (row ∷ run rows) []))
     go true e = by
     go false e = record {
-      head = λ h. let goes : true ≡ false = sym (ap goes_on (by.head h)) ∙ e in cc;
+      head = λ h. let proceeds : true ≡ false = sym (ap is_continued (by.head h)) ∙ e in cc;
       delimiter = λ h. cc;
     }
 
 -- the groups from the first line on that continues none
 abbrev FirstStarts : List Row → Type 0
 FirstStarts [] = Unit {0}
-FirstStarts (row ∷ rows) = goes_on row.role ≡ false
+FirstStarts (row ∷ rows) = is_continued row.role ≡ false
 
 abbrev Both : List Row → Type 0
-Both rows = ArePut (grouped rows) × AllPut (grouped (behind_run rows))
+Both rows = ArePut (grouped rows) × AllPut (grouped (after_run rows))
 
 put-starts : (rows : List Row) → FirstStarts rows → ArePut (grouped rows) → AllPut (grouped rows)
 put-starts [] first are = tt
@@ -91,12 +91,12 @@ both-put [] are = (tt, tt)
 both-put (row ∷ rows) are = onto (both-put rows are.1)
   where
     onto : Both rows → Both (row ∷ rows)
-    onto below = (first, go (goes_on row.role) refl)
+    onto below = (first, go (is_continued row.role) refl)
       where
         first : ArePut (grouped (row ∷ rows))
         first = subst ArePut (sym (grouped-run row rows)) ((run-head row.role rows are.0, all-go rows), below.1)
 
-        go : (x : Bool) → goes_on row.role ≡ x → AllPut (grouped (cond x (behind_run rows) (row ∷ rows)))
+        go : (x : Bool) → is_continued row.role ≡ x → AllPut (grouped (cond x (after_run rows) (row ∷ rows)))
         go true e = below.1
         go false e = put-starts (row ∷ rows) e first
 
@@ -116,8 +116,8 @@ other-by role next plain other = record {
 }
 
 code-by : (next : Role) (lines : List Line) → (next ≡ Delimiter → ⊥) → (x : Bool) →
-    HeadBy (cond x BehindCode (Further (OpenCode lines))) next
-code-by next lines other true = other-by BehindCode next tt other
+    HeadBy (cond x AfterCode (Further (OpenCode lines))) next
+code-by next lines other true = other-by AfterCode next tt other
 code-by next lines other false = other-by (Further (OpenCode lines)) next tt other
 
 -- what a line is before one that is this
@@ -136,11 +136,11 @@ by-before Underline r (Further (OpenCode lines)) h = code-by Underline lines (λ
 by-before Underline r _ h = other-by _ Underline h (λ e. cc)
 by-before Head r (Further (OpenCode lines)) h = code-by Head lines (λ e. cc) (is_blank r.bytes)
 by-before Head r _ h = other-by _ Head h (λ e. cc)
-by-before BehindCode r (Further (OpenCode lines)) h = code-by BehindCode lines (λ e. cc) (is_blank r.bytes)
-by-before BehindCode r _ h = other-by _ BehindCode h (λ e. cc)
+by-before AfterCode r (Further (OpenCode lines)) h = code-by AfterCode lines (λ e. cc) (is_blank r.bytes)
+by-before AfterCode r _ h = other-by _ AfterCode h (λ e. cc)
 
 plain-role : (options : ParseOptions) (leaf : Leaf) (r : Rest) → NoHead (role_on options leaf r)
-plain-role options leaf r = go (is_some (goes_on_leaf options leaf r)) (is_blank r.bytes)
+plain-role options leaf r = go (is_some (continues_leaf options leaf r)) (is_blank r.bytes)
   where
     go : (x y : Bool) → NoHead (cond x (Further leaf) (cond y Blank (fresh_role options leaf r)))
     go true y = tt

@@ -20,8 +20,9 @@ use Rattle.md_events.proofs.FeedLines.{Stops, byte_cells, cell, columns_more, sp
 use Rattle.md_events.specs.Events.Places.{past_byte}
 use Rattle.md_events.proofs.RestCells.{rest_cells}
 use Rattle.md_exact.specs.Places.{TextLine, whole}
-use Rattle.md_exact.specs.Blocks.{goes_on}
-use Rattle.md_exact.specs.Prefixes.{begins, behind_all, containers, further_prefixes, gone_on, new_containers, opened}
+use Rattle.md_exact.specs.Blocks.{is_continued}
+use Rattle.md_exact.specs.Prefixes.{begins, following_all, containers, further_prefixes, taken_prefixes, new_containers}
+use Rattle.md_exact.specs.Prefixes.{opened}
 use Rattle.md_exact.specs.Rows as exact
 use Rattle.md_exact.specs.Rows.{Blank, Delimiter, FirstText, Further, FurtherText, Role, first_or, next_role}
 use Rattle.md_exact.specs.Rows.{role_before, role_on, row_of}
@@ -29,9 +30,9 @@ use Rattle.md_exact.proofs.OnLine.{LineIn, OnLine, whole-on}
 use Rattle.md_exact.proofs.PlaceLemmas.{line_start}
 use Rattle.proof_frame.specs.Change.{interrupts, is_none, others_of}
 use Rattle.proof_frame.proofs.RegistryRead.{AreRead}
-use Rattle.proof_rows.specs.Rows.{Front, Held, continued_prefixes, held_at, is_inside, new_behind, no_front}
+use Rattle.proof_rows.specs.Rows.{Front, Held, continued_prefixes, held_at, is_inside, new_after, no_front}
 use Rattle.proof_rows.specs.Rows.{opened_prefixes}
-use Rattle.proof_rows.specs.Stands.{IsPlain, containers_of, still_of}
+use Rattle.proof_rows.specs.Valid.{IsPlain, containers_of, still_of}
 use Rattle.proof_rows.proofs.FurtherSpan.{built-concrete}
 use Rattle.proof_exact_lines.specs.Unlisted.{plain_begins, without_lists}
 use Rattle.proof_exact_lines.proofs.RowEvents.{front-plain}
@@ -75,29 +76,29 @@ rest-long said r p stop = go r.spaces
 
 -- The containers that open after those that continued.
 
-new-same : (options : ParseOptions) (said : Line) (bytes behind : List ℕ) (line : TextLine) (p : Path)
-    (stop : List Cell) (went : Front) →
-    IsPlain p → LineIn bytes behind line → Stops stop →
-    let on = gone_on options p (whole line) in
-    let inner = behind_all (whole line) on in
+new-same : (options : ParseOptions) (said : Line) (bytes following : List ℕ) (line : TextLine) (p : Path)
+    (stop : List Cell) (proceeded : Front) →
+    IsPlain p → LineIn bytes following line → Stops stop →
+    let on = taken_prefixes options p (whole line) in
+    let inner = following_all (whole line) on in
     let new = new_containers options p (length on == length (containers p)) inner in
-    IsFront said bytes behind line stop on (further_prefixes line (whole line) on) inner went →
-    IsFront said bytes behind line stop new (plain_begins line inner new) (behind_all inner new)
-    (new_behind options (still_of p) (others_of (containers_of p) went.containers) went)
-new-same options said bytes behind line p stop went plain is k has =
+    IsFront said bytes following line stop on (further_prefixes line (whole line) on) inner proceeded →
+    IsFront said bytes following line stop new (plain_begins line inner new) (following_all inner new)
+    (new_after options (still_of p) (others_of (containers_of p) proceeded.containers) proceeded)
+new-same options said bytes following line p stop proceeded plain is k has =
     subst₂
     (λ (x y : Bool).
-    Done (cond x [] (opened options y (length inner.bytes) inner)) (new_behind options (still_of p) others went))
+    Done (cond x [] (opened options y (length inner.bytes) inner)) (new_after options (still_of p) others proceeded))
     (sym inside) (sym interrupting) (go (is_inside (still_of p) others) (interrupts (still_of p) others))
   where
     on : List Taken
-    on = gone_on options p (whole line)
+    on = taken_prefixes options p (whole line)
 
     inner : Rest
-    inner = behind_all (whole line) on
+    inner = following_all (whole line) on
 
     others : List Container
-    others = others_of (containers_of p) went.containers
+    others = others_of (containers_of p) proceeded.containers
 
     all : (length on == length (containers p)) ≡ is_none others
     all =
@@ -115,20 +116,20 @@ new-same options said bytes behind line p stop went plain is k has =
         ap₂ (λ (x y : Bool). x && y) all (text-same (spot p).leaf) ∙ and_comm (is_none others) _
 
     Done : List Taken → Front → Type 0
-    Done ts f = IsFront said bytes behind line stop ts (plain_begins line inner ts) (behind_all inner ts) f
+    Done ts f = IsFront said bytes following line stop ts (plain_begins line inner ts) (following_all inner ts) f
 
-    short : length (rest_cells said inner went.point ++ stop) < 2 ^ 63
+    short : length (rest_cells said inner proceeded.point ++ stop) < 2 ^ 63
     short = let size = ap (λ (l : List Cell). length l) has.cells in let few = has.short in omega (arith, size, few)
 
-    long : length inner.bytes ≤ length went.cells
+    long : length inner.bytes ≤ length proceeded.cells
     long =
         let size = ap (λ (l : List Cell). length l) has.cells in
-        let most = rest-long said inner went.point stop in omega (arith, size, most)
+        let most = rest-long said inner proceeded.point stop in omega (arith, size, most)
 
     go : (x y : Bool) →
         Done (cond x [] (opened options y (length inner.bytes) inner))
-        (cond x (no_front went.cells went.point)
-        (opened_prefixes options y (length went.cells) went.cells went.point))
+        (cond x (no_front proceeded.cells proceeded.point)
+        (opened_prefixes options y (length proceeded.cells) proceeded.cells proceeded.point))
     go true y = record {
       containers = refl;
       events = refl;
@@ -138,37 +139,39 @@ new-same options said bytes behind line p stop went plain is k has =
       short = has.short;
     }
     go false y =
-        subst (λ (ts : List Taken). Done ts (opened_prefixes options y (length went.cells) went.cells went.point))
-        (opened-enough options y (length went.cells) (length inner.bytes) inner long (omega arith))
+        subst (λ (ts : List Taken). Done ts (opened_prefixes options y (length proceeded.cells) proceeded.cells
+        proceeded.point))
+        (opened-enough options y (length proceeded.cells) (length inner.bytes) inner long (omega arith))
         (subst
         (λ (l : List Cell).
-        Done (opened options y (length went.cells) inner)
-        (opened_prefixes options y (length went.cells) l went.point)) (sym has.cells)
-        (opened-same options said bytes behind line y (length went.cells) inner went.point stop is has.on has.plain k
+        Done (opened options y (length proceeded.cells) inner)
+        (opened_prefixes options y (length proceeded.cells) l proceeded.point)) (sym has.cells)
+        (opened-same options said bytes following line y (length proceeded.cells) inner proceeded.point stop is
+        has.on has.plain k
         short))
 
 -- So what is before a line is what its cells have, but for the begins of lists, and its rest is where the cells after
 -- that begin.
-pub record IsFronted (bytes behind : List ℕ) (line : TextLine) (x : exact.Row) (h : Held) : Type 0 where
+pub record IsFronted (bytes following : List ℕ) (line : TextLine) (x : exact.Row) (h : Held) : Type 0 where
   pub front : without_lists x.front ≡ h.front
-  pub on : OnLine bytes behind line x.rest h.point
+  pub on : OnLine bytes following line x.rest h.point
 
 -- the cells of a line
 abbrev pub line_cells : Line → TextLine → List Cell → List Cell
 line_cells said line stop = rest_cells said (whole line) (line_start line) ++ stop
 
-pub line-fronted : (options : ParseOptions) (said : Line) (bytes behind : List ℕ) (line : TextLine) (p : Path)
+pub line-fronted : (options : ParseOptions) (said : Line) (bytes following : List ℕ) (line : TextLine) (p : Path)
     (stop : List Cell) (below : List exact.Row) →
-    IsPlain p → AreRead (containers_of p) → LineIn bytes behind line → Stops stop →
+    IsPlain p → AreRead (containers_of p) → LineIn bytes following line → Stops stop →
     length (line_cells said line stop) < 2 ^ 63 →
-    IsFronted bytes behind line (row_of options p line below)
+    IsFronted bytes following line (row_of options p line below)
     (held_at options (containers_of p) (still_of p) (line_cells said line stop) (line_start line))
 unfolding held_at
-line-fronted options said bytes behind line p stop below plain read is k short =
-    let went = continued_prefixes options (containers_of p) (line_cells said line stop) (line_start line) in
-    let has = continued-same options said bytes behind line p (whole line) (line_start line) stop read is
-    (whole-on bytes behind line is) is.plain k short in
-    let new = new-same options said bytes behind line p stop went plain is k has in
+line-fronted options said bytes following line p stop below plain read is k short =
+    let proceeded = continued_prefixes options (containers_of p) (line_cells said line stop) (line_start line) in
+    let has = continued-same options said bytes following line p (whole line) (line_start line) stop read is
+    (whole-on bytes following line is) is.plain k short in
+    let new = new-same options said bytes following line p stop proceeded plain is k has in
     record {
       front =
           front-plain options p line below ∙ ap₂ (λ (es fs : List Event). es ++ fs) has.events new.events;
@@ -177,40 +180,40 @@ line-fronted options said bytes behind line p stop below plain read is k short =
 
 -- Before a line that continues a leaf no container opens.
 
-before-begins : (next : Role) (r : Rest) (role : Role) → goes_on role ≡ false →
-    goes_on (role_before next r role) ≡ false
+before-begins : (next : Role) (r : Rest) (role : Role) → is_continued role ≡ false →
+    is_continued (role_before next r role) ≡ false
 before-begins Delimiter r role e = refl
 before-begins (Further open_leaf) r role e = e
 before-begins next r (Further (OpenCode lines)) e = cc
 before-begins _ r _ e = e
 
-role-begins : (options : ParseOptions) (r : Rest) → goes_on (role_on options NoLeaf r) ≡ false
+role-begins : (options : ParseOptions) (r : Rest) → is_continued (role_on options NoLeaf r) ≡ false
 role-begins options r = go (is_blank r.bytes) (starts options NoText r)
   where
-    go : (x : Bool) (o : Option LeafResult) → goes_on (cond x Blank (first_or FirstText o)) ≡ false
+    go : (x : Bool) (o : Option LeafResult) → is_continued (cond x Blank (first_or FirstText o)) ≡ false
     go true o = refl
     go false None = refl
     go false (Some c) = refl
 
 pub further-front : (options : ParseOptions) (p : Path) (line : TextLine) (below : List exact.Row) →
-    goes_on (row_of options p line below).role ≡ true →
+    is_continued (row_of options p line below).role ≡ true →
     (row_of options p line below).front ≡ without_lists (row_of options p line below).front
-further-front options p line below goes = go new refl
+further-front options p line below proceeds = go new refl
   where
     on : List Taken
-    on = gone_on options p (whole line)
+    on = taken_prefixes options p (whole line)
 
     all : Bool
     all = length on == length (containers p)
 
     inner : Rest
-    inner = behind_all (whole line) on
+    inner = following_all (whole line) on
 
     new : List Taken
     new = new_containers options p all inner
 
     rest : Rest
-    rest = behind_all inner new
+    rest = following_all inner new
 
     after : Path
     after = step options p (whole line)
@@ -236,6 +239,6 @@ further-front options p line below goes = go new refl
         let some : (length (t ∷ ts) == 0) ≡ false = grind (arith, nat_tests) in
         let role = ap (role_by all) (ap (λ (l : List Taken). length l == 0) e ∙ some) ∙ opens all in
         let bad : true ≡ false =
-        sym goes ∙ ap (λ (role : Role). goes_on (role_before (next_role below) rest role)) role
+        sym proceeds ∙ ap (λ (role : Role). is_continued (role_before (next_role below) rest role)) role
         ∙ before-begins (next_role below) rest (role_on options NoLeaf rest) (role-begins options rest) in
         absurd (cc)

@@ -9,17 +9,17 @@ use Rattle.md_meaning.specs.Rest.{Rest, is_blank}
 use Rattle.md_meaning.specs.State.{Leaf, NoLeaf, OpenCode, OpenFence, OpenHtml, OpenParagraph, OpenTable}
 use Rattle.md_meaning.specs.Step.{is_open_text}
 use Rattle.md_meaning.specs.Tree.{Line}
-use Rattle.md_exact.specs.Rows.{BehindCode, Blank, Delimiter, First, FirstText, Further, FurtherText, Head, Role}
+use Rattle.md_exact.specs.Rows.{AfterCode, Blank, Delimiter, First, FirstText, Further, FurtherText, Head, Role}
 use Rattle.md_exact.specs.Rows.{Underline, role_before}
-use Rattle.proof_frame.specs.HeldLeaf.{kind_of_leaf, may_go_on, takes_lazy}
-use Rattle.proof_frame.specs.LeafName.{CodeFurther, CodeIndented, Fence, FenceFurther, GfmTable, HeadingAtx, HeadingSetext}
-use Rattle.proof_frame.specs.LeafName.{HtmlFlow, HtmlFurther, LeafName, ThematicBreak}
+use Rattle.proof_frame.specs.HeldLeaf.{kind_of_leaf, may_continue, takes_lazy}
+use Rattle.proof_frame.specs.LeafName.{CodeFurther, CodeIndented, Fence, FenceFurther, GfmTable, HeadingAtx}
+use Rattle.proof_frame.specs.LeafName.{HeadingSetext, HtmlFlow, HtmlFurther, LeafName, ThematicBreak}
 use Rattle.proof_frame.specs.Row.{BlankRow, LeafRow, Row, RowKind, TextRow, any_framed, is_framed}
 use Rattle.proof_frame.proofs.LeafLines.Rest.{row_unread}
 use Rattle.proof_literal_laws.proofs.CodeIndented.Rows.{in-framed, row-in}
 use Rattle.md_registry.specs.Registry.{leaf}
 use Rattle.md_registry.proofs.Registry.{laws}
-use Rattle.proof_rows.specs.Rows.{is_further, is_text, line_behind, takes_head}
+use Rattle.proof_rows.specs.Rows.{is_further, is_text, line_following, takes_head}
 use Rattle.proof_rows.proofs.KindLemmas.{kind-starts}
 use Rattle.proof_rows.proofs.RowFacts.{IsRow}
 use Rattle.proof_rows.proofs.RowLeaf.{row-as}
@@ -39,15 +39,15 @@ further_rows (row ∷ rows) = if is_further row.kind row.on then row ∷ further
 abbrev pub in_code : Row → List Row → Bool
 in_code row rows = any_framed row_unread (row ∷ further_rows rows)
 
-abbrev pub behind_code : Role → Row → List Row → Role
-behind_code (Further (OpenCode lines)) row rows = if in_code row rows then Further (OpenCode lines) else BehindCode
-behind_code role row rows = role
+abbrev pub following_code : Role → Row → List Row → Role
+following_code (Further (OpenCode lines)) row rows = if in_code row rows then Further (OpenCode lines) else AfterCode
+following_code role row rows = role
 
 -- what a line of any kind is before these, where this leaf is open before it
 abbrev pub row_role_by : ParseOptions → Leaf → Rest → Row → List Row → RowKind → Role
 row_role_by options open_leaf r row rows BlankRow = Blank
 row_role_by options open_leaf r row rows (LeafRow l) =
-    behind_code (leaf_role options open_leaf row.on r l) row rows
+    following_code (leaf_role options open_leaf row.on r l) row rows
 row_role_by options open_leaf r row rows TextRow =
     if is_headed rows then Head else if takes_lazy row.on then FurtherText else FirstText
 
@@ -72,10 +72,10 @@ before-by (Further open_leaf) r role e = refl
 before-by next r (Further (OpenCode lines)) e = cc
 before-by _ r _ e = refl
 
-behind-other : (role : Role) (row : Row) (rows : List Row) → is_code_role role ≡ false →
-    behind_code role row rows ≡ role
-behind-other (Further (OpenCode lines)) row rows e = cc
-behind-other _ row rows e = refl
+following-other : (role : Role) (row : Row) (rows : List Row) → is_code_role role ≡ false →
+    following_code role row rows ≡ role
+following-other (Further (OpenCode lines)) row rows e = cc
+following-other _ row rows e = refl
 
 -- A line is a delimiter row only where text is open, and it takes a head.
 
@@ -85,15 +85,15 @@ no-heads false = refl
 
 delimiter-leaf : (open_leaf : Leaf) (further heads : Bool) (first : Role) (row : Row) (rows : List Row) →
     is_delimiter first ≡ false → is_code_role first ≡ false →
-    is_delimiter (behind_code (cond further (further_role open_leaf heads) first) row rows) ≡
+    is_delimiter (following_code (cond further (further_role open_leaf heads) first) row rows) ≡
     (is_open_text open_leaf && (further && heads))
 delimiter-leaf open_leaf false heads first row rows other plain =
-    ap is_delimiter (behind-other first row rows plain) ∙ other ∙ no-heads (is_open_text open_leaf)
+    ap is_delimiter (following-other first row rows plain) ∙ other ∙ no-heads (is_open_text open_leaf)
 delimiter-leaf (OpenParagraph lines) true true first row rows other plain = refl
 delimiter-leaf (OpenParagraph lines) true false first row rows other plain = refl
 delimiter-leaf (OpenCode lines) true heads first row rows other plain = go (in_code row rows)
   where
-    go : (x : Bool) → is_delimiter (cond x (Further (OpenCode lines)) BehindCode) ≡ false
+    go : (x : Bool) → is_delimiter (cond x (Further (OpenCode lines)) AfterCode) ≡ false
     go true = refl
     go false = refl
 delimiter-leaf NoLeaf true heads first row rows other plain = refl
@@ -106,7 +106,8 @@ delimiter-by : (options : ParseOptions) (open_leaf : Leaf) (r : Rest) (row : Row
     (is_open_text open_leaf && (is_further kind row.on && takes_head kind))
 delimiter-by options open_leaf r row rows BlankRow = no-heads (is_open_text open_leaf)
 delimiter-by options open_leaf r row rows (LeafRow l) =
-    delimiter-leaf open_leaf ((leaf l).further row.on) (leaf l).heads (First ((leaf l).comes options NoLeaf r)) row rows
+    delimiter-leaf open_leaf ((leaf l).further row.on) (leaf l).heads
+    (First ((leaf l).becomes options NoLeaf r)) row rows
     refl refl
 delimiter-by options open_leaf r row rows TextRow =
     go (is_headed rows) (takes_lazy row.on) ∙ no-heads (is_open_text open_leaf)
@@ -121,45 +122,45 @@ code-before : (options : ParseOptions) (lines : List Line) (r : Rest) (next : Ro
     (s : Rest) (before : List Line) →
     role_before (row_role_by options (OpenCode lines) r next rows kind) s (Further (OpenCode before)) ≡
     cond (is_further kind next.on && in_code next rows) (Further (OpenCode before))
-    (cond (is_blank s.bytes) BehindCode (Further (OpenCode before)))
+    (cond (is_blank s.bytes) AfterCode (Further (OpenCode before)))
 code-before options lines r next rows BlankRow s before = refl
 code-before options lines r next rows (LeafRow l) s before = go ((leaf l).further next.on)
   where
     within : (x : Bool) →
-        role_before (cond x (Further (OpenCode lines)) BehindCode) s (Further (OpenCode before)) ≡
-        cond x (Further (OpenCode before)) (cond (is_blank s.bytes) BehindCode (Further (OpenCode before)))
+        role_before (cond x (Further (OpenCode lines)) AfterCode) s (Further (OpenCode before)) ≡
+        cond x (Further (OpenCode before)) (cond (is_blank s.bytes) AfterCode (Further (OpenCode before)))
     within true = refl
     within false = refl
 
     go : (x : Bool) →
         role_before
-        (behind_code
-        (cond x (further_role (OpenCode lines) (leaf l).heads) (First ((leaf l).comes options NoLeaf r))) next rows) s
+        (following_code
+        (cond x (further_role (OpenCode lines) (leaf l).heads) (First ((leaf l).becomes options NoLeaf r))) next rows) s
         (Further (OpenCode before)) ≡
         cond (x && in_code next rows) (Further (OpenCode before))
-        (cond (is_blank s.bytes) BehindCode (Further (OpenCode before)))
+        (cond (is_blank s.bytes) AfterCode (Further (OpenCode before)))
     go true = within (in_code next rows)
     go false = refl
 code-before options lines r next rows TextRow s before = go (is_headed rows) (takes_lazy next.on)
   where
     go : (x y : Bool) →
         role_before (cond x Head (cond y FurtherText FirstText)) s (Further (OpenCode before)) ≡
-        cond (is_blank s.bytes) BehindCode (Further (OpenCode before))
+        cond (is_blank s.bytes) AfterCode (Further (OpenCode before))
     go true y = refl
     go false true = refl
     go false false = refl
 
 -- What is known of the line after one that leaves this leaf open; these lines begin with it.
-pub record IsNext (next : Role) (behind : HeldLeaf) (rows : List Row) : Type 0 where
-  pub delimiter : is_delimiter next ≡ (takes_lazy behind && is_headed rows)
-  pub code : behind ≡ held_leaf.Code → (r : Rest) (lines : List Line) →
+pub record IsNext (next : Role) (following : HeldLeaf) (rows : List Row) : Type 0 where
+  pub delimiter : is_delimiter next ≡ (takes_lazy following && is_headed rows)
+  pub code : following ≡ held_leaf.Code → (r : Rest) (lines : List Line) →
       role_before next r (Further (OpenCode lines)) ≡
       cond (any_framed row_unread (further_rows rows)) (Further (OpenCode lines))
-      (cond (is_blank r.bytes) BehindCode (Further (OpenCode lines)))
+      (cond (is_blank r.bytes) AfterCode (Further (OpenCode lines)))
 
 -- none is
-pub next-none : (behind : HeldLeaf) → IsNext Blank behind []
-next-none behind = record { delimiter = no-heads (takes_lazy behind); code = λ e r lines. refl }
+pub next-none : (following : HeldLeaf) → IsNext Blank following []
+next-none following = record { delimiter = no-heads (takes_lazy following); code = λ e r lines. refl }
 
 -- or this is one
 text-open : (open_leaf : Leaf) → is_open_text open_leaf ≡ takes_lazy (kind_of_leaf open_leaf)
@@ -198,14 +199,14 @@ next-line options open_leaf r next rows = record {
     code : kind_of_leaf open_leaf ≡ held_leaf.Code → (s : Rest) (lines : List Line) →
         role_before (row_role options open_leaf r next rows) s (Further (OpenCode lines)) ≡
         cond (any_framed row_unread (further_rows (next ∷ rows))) (Further (OpenCode lines))
-        (cond (is_blank s.bytes) BehindCode (Further (OpenCode lines)))
+        (cond (is_blank s.bytes) AfterCode (Further (OpenCode lines)))
     code e s lines =
         let is : IsCode open_leaf = code-is open_leaf e in
         ap (λ (l : Leaf). role_before (row_role options l r next rows) s (Further (OpenCode lines))) is.is
         ∙ code-before options is.lines r next rows next.kind s lines
         ∙ ap
         (λ (x : Bool).
-        cond x (Further (OpenCode lines)) (cond (is_blank s.bytes) BehindCode (Further (OpenCode lines))))
+        cond x (Further (OpenCode lines)) (cond (is_blank s.bytes) AfterCode (Further (OpenCode lines))))
         (by (is_further next.kind next.on))
 
 -- What is known of a line that meets a leaf, where this one is open before it.
@@ -213,14 +214,14 @@ pub record MeetsLeaf (options : ParseOptions) (bytes : List ℕ) (open_leaf : Le
   pub line : List ℕ
   pub is : IsRow options bytes line row
   -- if it may continue what it meets, that is the open leaf
-  pub met : may_go_on row.on ≡ true → row.on ≡ kind_of_leaf open_leaf
+  pub met : may_continue row.on ≡ true → row.on ≡ kind_of_leaf open_leaf
 
 -- text is open after it if it is text
-pub behind-lazy : (options : ParseOptions) (bytes line : List ℕ) (row : Row) → IsRow options bytes line row →
-    takes_lazy row.behind ≡ is_text row.kind
-behind-lazy options bytes line row is = ap takes_lazy is.behind ∙ go row.kind
+pub following-lazy : (options : ParseOptions) (bytes line : List ℕ) (row : Row) → IsRow options bytes line row →
+    takes_lazy row.following ≡ is_text row.kind
+following-lazy options bytes line row is = ap takes_lazy is.following ∙ go row.kind
   where
-    go : (kind : RowKind) → takes_lazy (line_behind options row.on is.rest kind) ≡ is_text kind
+    go : (kind : RowKind) → takes_lazy (line_following options row.on is.rest kind) ≡ is_text kind
     go BlankRow = refl
     go (LeafRow l) = ((laws l).not_lazy options row.on).1 is.rest
     go TextRow = refl
@@ -239,7 +240,7 @@ code-further GfmTable e = cc
 
 -- So it is before these lines what its kind says.
 pub role-before : (options : ParseOptions) (bytes : List ℕ) (open_leaf : Leaf) (row : Row) (next : Role)
-    (rows : List Row) → (meets : MeetsLeaf options bytes open_leaf row) → IsNext next row.behind rows →
+    (rows : List Row) → (meets : MeetsLeaf options bytes open_leaf row) → IsNext next row.following rows →
     role_before next meets.is.rest (kind_role options open_leaf row.on meets.is.rest row.kind) ≡
     row_role options open_leaf meets.is.rest row rows
 role-before options bytes open_leaf row next rows meets known = go row.kind refl
@@ -255,44 +256,44 @@ role-before options bytes open_leaf row next rows meets known = go row.kind refl
     headed kind e =
         known.delimiter
         ∙ ap (λ (x : Bool). x && is_headed rows)
-        (behind-lazy options bytes meets.line row is ∙ ap is_text e)
+        (following-lazy options bytes meets.line row is ∙ ap is_text e)
 
     -- a line of a leaf that is no further line of code
     other : (l : LeafName) → row.kind ≡ LeafRow l → (role : Role) → is_code_role role ≡ false →
-        role_before next r role ≡ behind_code role row rows
+        role_before next r role ≡ following_code role row rows
     other l e role plain =
         before-by next r role plain ∙ ap (λ (x : Bool). cond x Head role) (headed (LeafRow l) e)
-        ∙ sym (behind-other role row rows plain)
+        ∙ sym (following-other role row rows plain)
 
     -- one that is
     blank : (x y : Bool) (lines : List Line) →
-        cond y (Further (OpenCode lines)) (cond x BehindCode (Further (OpenCode lines))) ≡
-        cond (not x || y) (Further (OpenCode lines)) BehindCode
+        cond y (Further (OpenCode lines)) (cond x AfterCode (Further (OpenCode lines))) ≡
+        cond (not x || y) (Further (OpenCode lines)) AfterCode
     blank true y lines = refl
     blank false true lines = refl
     blank false false lines = refl
 
     code : (l : LeafName) → row.kind ≡ LeafRow l → (leaf l).further row.on ≡ true → (lines : List Line) →
         open_leaf ≡ OpenCode lines →
-        role_before next r (Further (OpenCode lines)) ≡ behind_code (Further (OpenCode lines)) row rows
+        role_before next r (Further (OpenCode lines)) ≡ following_code (Further (OpenCode lines)) row rows
     code l e further lines same =
         let may = (laws l).meets options row.on r (kind-starts options row.on r l (sym is.kind ∙ e)) further in
         let on : row.on ≡ held_leaf.Code = meets.met may ∙ ap kind_of_leaf same in
         let name : l ≡ CodeFurther = code-further l (ap (leaf l).further (sym on) ∙ further) in
         let kind : row.kind ≡ LeafRow CodeFurther = e ∙ ap LeafRow name in
-        let left : row.behind ≡ held_leaf.Code = is.behind ∙ ap (line_behind options row.on r) kind in
+        let left : row.following ≡ held_leaf.Code = is.following ∙ ap (line_following options row.on r) kind in
         let framed : is_framed row.inside ≡ not (is_blank r.bytes) =
         in-framed bytes row (row-in options bytes row (row-as options bytes meets.line row is CodeFurther kind)) in
         known.code left r lines
         ∙ blank (is_blank r.bytes) (any_framed row_unread (further_rows rows)) lines
         ∙ ap
         (λ (x : Bool).
-        cond (x || any_framed row_unread (further_rows rows)) (Further (OpenCode lines)) BehindCode)
+        cond (x || any_framed row_unread (further_rows rows)) (Further (OpenCode lines)) AfterCode)
         (sym framed)
 
     by_leaf : (l : LeafName) → row.kind ≡ LeafRow l → (leaf l).further row.on ≡ true → (opened : Leaf) →
         open_leaf ≡ opened → (heads : Bool) →
-        role_before next r (further_role opened heads) ≡ behind_code (further_role opened heads) row rows
+        role_before next r (further_role opened heads) ≡ following_code (further_role opened heads) row rows
     by_leaf l e further (OpenCode lines) same heads = code l e further lines same
     by_leaf l e further (OpenParagraph lines) same true = other l e Delimiter refl
     by_leaf l e further (OpenParagraph lines) same false = other l e Underline refl
@@ -302,10 +303,10 @@ role-before options bytes open_leaf row next rows meets known = go row.kind refl
     by_leaf l e further (OpenTable delimiter cells) same heads = other l e (Further (OpenTable delimiter cells)) refl
 
     by_line : (l : LeafName) → row.kind ≡ LeafRow l → (x : Bool) → (leaf l).further row.on ≡ x →
-        let role = cond x (further_role open_leaf (leaf l).heads) (First ((leaf l).comes options NoLeaf r)) in
-        role_before next r role ≡ behind_code role row rows
+        let role = cond x (further_role open_leaf (leaf l).heads) (First ((leaf l).becomes options NoLeaf r)) in
+        role_before next r role ≡ following_code role row rows
     by_line l e true further = by_leaf l e further open_leaf refl (leaf l).heads
-    by_line l e false further = other l e (First ((leaf l).comes options NoLeaf r)) refl
+    by_line l e false further = other l e (First ((leaf l).becomes options NoLeaf r)) refl
 
     text : row.kind ≡ TextRow → (x : Bool) →
         role_before next r (cond x FurtherText FirstText) ≡ cond (is_headed rows) Head (cond x FurtherText FirstText)

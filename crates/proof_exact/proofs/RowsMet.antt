@@ -7,12 +7,12 @@ use Rattle.md_meaning.specs.Rest.{Rest}
 use Rattle.md_meaning.specs.State.{Container, Path}
 use Rattle.md_meaning.specs.Step.{step}
 use Rattle.md_exact.specs.Places.{TextLine, whole}
-use Rattle.proof_frame.specs.Change.{open_behind}
+use Rattle.proof_frame.specs.Change.{open_following}
 use Rattle.proof_frame.specs.RestLine.{rest_line}
 use Rattle.proof_frame.specs.Row.{Row}
 use Rattle.proof_rows.specs.Fronted.{rest_from}
-use Rattle.proof_rows.specs.Rows.{line_behind, line_kind}
-use Rattle.proof_rows.specs.Stands.{IsPlain, containers_of, still_of}
+use Rattle.proof_rows.specs.Rows.{line_following, line_kind}
+use Rattle.proof_rows.specs.Valid.{IsPlain, containers_of, still_of}
 use Rattle.proof_rows.proofs.RowFacts.{AreRows, IsLine}
 use Rattle.proof_exact.proofs.ExactRoles.{AreMet, IsMet, contained_at}
 
@@ -21,10 +21,10 @@ use Rattle.proof_exact.proofs.ExactRoles.{AreMet, IsMet, contained_at}
 pub record KnowsStep (options : ParseOptions) : Type 0 where
   pub plain : (p : Path) (r : Rest) → IsPlain p → IsPlain (step options p r)
   pub containers : (p : Path) (r : Rest) → IsPlain p →
-      containers_of (step options p r) ≡ open_behind (contained_at options p r).change
+      containers_of (step options p r) ≡ open_following (contained_at options p r).change
   pub still : (p : Path) (r : Rest) → IsPlain p →
       let c = contained_at options p r in
-      still_of (step options p r) ≡ line_behind options c.on c.rest (line_kind options c.on c.rest)
+      still_of (step options p r) ≡ line_following options c.on c.rest (line_kind options c.on c.rest)
 
 -- lines have these bytes; the first begins in this column, and the others in the first
 abbrev pub HaveBytes : ℕ → List TextLine → List (List ℕ) → Type 0
@@ -48,10 +48,10 @@ line-met options bytes p q line own row knows plain same is = record {
   rest_is = rest;
   on = on;
   change = is.change ∙ ap (λ (r : Rest). (contained_at options p r).change) (sym same);
-  behind =
+  following =
       knows.still p (whole line) plain
-      ∙ ap₂ (λ (met : HeldLeaf) (r : Rest). line_behind options met r (line_kind options met r)) (sym on) (sym rest)
-      ∙ ap (line_behind options row.on is.is.rest) (sym is.is.kind) ∙ sym is.is.behind;
+      ∙ ap₂ (λ (met : HeldLeaf) (r : Rest). line_following options met r (line_kind options met r)) (sym on) (sym rest)
+      ∙ ap (line_following options row.on is.is.rest) (sym is.is.kind) ∙ sym is.is.following;
 }
   where
     rest : is.is.rest ≡ (contained_at options p (whole line)).rest
@@ -86,7 +86,7 @@ rows-met options bytes p q (line ∷ next ∷ lines) (own ∷ after ∷ owns) (r
       AreRows options bytes cs still are.2 (after ∷ owns) (below ∷ rows))
       (sym
       (knows.containers p (whole line) plain
-      ∙ ap (λ (r : Rest). open_behind (contained_at options p r).change) same)) (sym met.behind) are.5),
+      ∙ ap (λ (r : Rest). open_following (contained_at options p r).change) same)) (sym met.following) are.5),
 )
   where
     same : whole line ≡ rest_from q own

@@ -29,11 +29,11 @@ use Rattle.md_events.specs.Events.Spelled.{role}
 use Rattle.md_exact.specs.Blocks.{events_by, leaf_events, tail}
 use Rattle.md_exact.specs.Leaves.{content_line, fence, fenced_line, leaf as leaf_lines}
 use Rattle.md_exact.specs.Places.{TextLine}
-use Rattle.md_exact.specs.Rows.{BehindCode, Role, Row}
+use Rattle.md_exact.specs.Rows.{AfterCode, Role, Row}
 use Rattle.proof_frame.specs.Change.{ends_of}
 use Rattle.proof_frame.specs.LeafName.{CodeFurther, CodeIndented, Fence, FenceFurther, HtmlFlow, HtmlFurther, LeafName}
 use Rattle.proof_frame.specs.Row.{LeafRow, Row as FrameRow, any_framed, ending_events, ending_of, is_framed, last_row}
-use Rattle.proof_frame.specs.Row.{span_behind, span_by}
+use Rattle.proof_frame.specs.Row.{span_after, span_by}
 use Rattle.proof_literal_laws.specs.Leaf.CodeIndented.{is_code}
 use Rattle.proof_literal_laws.specs.Leaf.Fence.{held_of, opening_at}
 use Rattle.proof_literal_laws.specs.Leaf.FenceFurther.{further_line, opening_of}
@@ -46,16 +46,16 @@ use Rattle.proof_rows.specs.Rows.{tail_events}
 use Rattle.proof_rows.proofs.KindLemmas.{kind-filled}
 use Rattle.proof_rows.proofs.RowLeaf.{row-as}
 use Rattle.proof_exact_lines.proofs.BeginsAt.{rest_bytes}
-use Rattle.proof_exact_lines.proofs.FlowLines.{behind-blank, first-code, first-fence, first-html, further-code}
+use Rattle.proof_exact_lines.proofs.FlowLines.{following-blank, first-code, first-fence, first-html, further-code}
 use Rattle.proof_exact_lines.proofs.FlowLines.{further-fence, further-html}
 use Rattle.proof_exact_lines.proofs.Spans.{Adds, AreLines, EndsFramed, fence-joined, leaf-joined, own}
 use Rattle.proof_exact_lines.proofs.TextLines.{last_of}
 use Rattle.proof_exact_lines.specs.Unlisted.{unlisted_groups, without_lists}
 use Rattle.proof_exact.proofs.GroupsMatch.{Pairs, TakesEach}
 use Rattle.proof_exact.proofs.Fit.{Fit}
-use Rattle.proof_exact.proofs.Behind.{GoOn}
+use Rattle.proof_exact.proofs.Following.{AllContinue}
 use Rattle.proof_exact.proofs.FitLines.{MayEnd, code-alone, first-role, first-same, further-same, leaf-added}
-use Rattle.proof_exact.proofs.FitLines.{leaf-behind, leaf-starts, read-as, tail-same, with_front}
+use Rattle.proof_exact.proofs.FitLines.{leaf-following, leaf-starts, read-as, tail-same, with_front}
 use Rattle.proof_exact.proofs.Put.{AllGo, AllPut}
 
 -- What is before the first line is in no leaf.
@@ -75,20 +75,22 @@ fence-front options o front x (y ∷ ys) = refl
 further-lines : (options : ParseOptions) (bytes : List ℕ) (l : LeafName) (name : Name)
     (inside : TextLine → Rest → List Event) →
     ((x : Row) (r : FrameRow) → Fit options bytes x r → r.kind ≡ LeafRow l → Adds name (inside x.line x.rest) r) →
-    (r : FrameRow) (xs : List Row) (rs : List FrameRow) → Pairs (Fit options bytes) xs rs → AllGo xs → GoOn l r rs →
+    (r : FrameRow) (xs : List Row) (rs : List FrameRow) → Pairs (Fit options bytes) xs rs → AllGo xs →
+    AllContinue l r rs →
     AreLines name inside xs rs
-further-lines options bytes l name inside adds r [] [] pairs goes are = tt
-further-lines options bytes l name inside adds r (y ∷ ys) (next ∷ rs) pairs goes are = (
-  further-same options bytes y next pairs.0 goes.0,
+further-lines options bytes l name inside adds r [] [] pairs proceeds are = tt
+further-lines options bytes l name inside adds r (y ∷ ys) (next ∷ rs) pairs proceeds are = (
+  further-same options bytes y next pairs.0 proceeds.0,
   adds y next pairs.0 are.0,
-  further-lines options bytes l name inside adds next ys rs pairs.1 goes.1 are.4,
+  further-lines options bytes l name inside adds next ys rs pairs.1 proceeds.1 are.4,
 )
-further-lines options bytes l name inside adds r [] (next ∷ rs) pairs goes are = absurd pairs
-further-lines options bytes l name inside adds r (y ∷ ys) [] pairs goes are = absurd pairs
+further-lines options bytes l name inside adds r [] (next ∷ rs) pairs proceeds are = absurd pairs
+further-lines options bytes l name inside adds r (y ∷ ys) [] pairs proceeds are = absurd pairs
 
 lines-framed : (options : ParseOptions) (bytes : List ℕ) (l : LeafName) →
     ((on : HeldLeaf) (line : List ℕ) (p : Point) → is_framed ((leaf l).added options on line p) ≡ true) →
-    (r : FrameRow) (xs : List Row) (rs : List FrameRow) → Pairs (Fit options bytes) xs rs → GoOn l r rs → EndsFramed rs
+    (r : FrameRow) (xs : List Row) (rs : List FrameRow) → Pairs (Fit options bytes) xs rs →
+    AllContinue l r rs → EndsFramed rs
 lines-framed options bytes l framed r [] [] pairs are = tt
 lines-framed options bytes l framed r (y ∷ []) (next ∷ []) pairs are =
     ap is_framed (leaf-added options bytes y next pairs.0 l are.0)
@@ -115,7 +117,7 @@ tails-same options bytes x r (y ∷ ys) [] fit pairs may = absurd pairs
 
 -- the last of the lines of a leaf that is no code
 pub other-ends : (l : LeafName) (r : FrameRow) (rs : List FrameRow) → (l ≡ CodeFurther → ⊥) →
-    (r.kind ≡ LeafRow CodeFurther → ⊥) → GoOn l r rs → (last_row r rs).kind ≡ LeafRow CodeFurther → ⊥
+    (r.kind ≡ LeafRow CodeFurther → ⊥) → AllContinue l r rs → (last_row r rs).kind ≡ LeafRow CodeFurther → ⊥
 other-ends l r [] other first are e = first e
 other-ends l r (next ∷ rs) other first are e =
     other-ends l next rs other (λ k. let same : LeafRow l ≡ LeafRow CodeFurther = sym are.0 ∙ k in other (cc)) are.4 e
@@ -162,8 +164,8 @@ some-bytes r dark = go r.spaces r.bytes dark
 pub html-group : (options : ParseOptions) (bytes : List ℕ) (x : Row) (r : FrameRow) (xs : List Row)
     (rs : List FrameRow) →
     Fit options bytes x r → r.kind ≡ LeafRow HtmlFlow → Pairs (Fit options bytes) xs rs → AllGo xs →
-    GoOn HtmlFurther r rs → events_by options x.role (x ∷ xs) ≡ span_by own r rs
-html-group options bytes x r xs rs fit kind pairs goes are =
+    AllContinue HtmlFurther r rs → events_by options x.role (x ∷ xs) ≡ span_by own r rs
+html-group options bytes x r xs rs fit kind pairs proceeds are =
     ap (λ (role : Role). events_by options role (x ∷ xs)) (first-role options bytes x r fit HtmlFlow kind refl)
     ∙ html-events options (kind_begun x.rest) x.rest (x ∷ xs)
     ∙ sym
@@ -174,7 +176,7 @@ html-group options bytes x r xs rs fit kind pairs goes are =
     (leaf-added options bytes x r fit HtmlFlow kind))
     (further-lines options bytes HtmlFurther n.HtmlFlow (content_line n.HtmlFlowData 0)
     (λ y next fits e. further-html y next (read-as options bytes y next fits)
-    (leaf-added options bytes y next fits HtmlFurther e)) r xs rs pairs goes are)
+    (leaf-added options bytes y next fits HtmlFurther e)) r xs rs pairs proceeds are)
     (lines-framed options bytes HtmlFurther (html-framed options) r xs rs pairs are) refl
     ∙ append-nil _
     ∙ leaf-front n.HtmlFlow (content_line n.HtmlFlowData 0) r.front x xs)
@@ -214,17 +216,17 @@ on-fence o on h (inr e) = let bad : true ≡ false = sym h ∙ ap is_fence e in 
 
 further-fences : (options : ParseOptions) (bytes : List ℕ) (o : Opening) → 1 ≤ o.size →
     (r : FrameRow) (xs : List Row) (rs : List FrameRow) →
-    Left o r.behind → Pairs (Fit options bytes) xs rs → AllGo xs → GoOn FenceFurther r rs →
+    Left o r.following → Pairs (Fit options bytes) xs rs → AllGo xs → AllContinue FenceFurther r rs →
     AreLines (block_name o.marker) (fenced_line options o) xs rs
-further-fences options bytes o some r [] [] left pairs goes are = tt
-further-fences options bytes o some r (y ∷ ys) (next ∷ rs) left pairs goes are = (
-  further-same options bytes y next pairs.0 goes.0,
+further-fences options bytes o some r [] [] left pairs proceeds are = tt
+further-fences options bytes o some r (y ∷ ys) (next ∷ rs) left pairs proceeds are = (
+  further-same options bytes y next pairs.0 proceeds.0,
   further-fence options o y next (read-as options bytes y next pairs.0) some
       (leaf-added options bytes y next pairs.0 FenceFurther are.0
       ∙ ap (λ (met : HeldLeaf). further_line options met (rest_bytes y.rest) next.first) on),
   further-fences options bytes o some next ys rs
-      (subst (Left o) (sym (leaf-behind options bytes y next pairs.0 FenceFurther are.0))
-      (go (is_fence next.on) (closes options (opening_of next.on) y.rest))) pairs.1 goes.1 are.4,
+      (subst (Left o) (sym (leaf-following options bytes y next pairs.0 FenceFurther are.0))
+      (go (is_fence next.on) (closes options (opening_of next.on) y.rest))) pairs.1 proceeds.1 are.4,
 )
   where
     on : next.on ≡ held_of o
@@ -234,20 +236,21 @@ further-fences options bytes o some r (y ∷ ys) (next ∷ rs) left pairs goes a
     go true true = inr refl
     go true false = inl on
     go false b = inr refl
-further-fences options bytes o some r [] (next ∷ rs) left pairs goes are = absurd pairs
-further-fences options bytes o some r (y ∷ ys) [] left pairs goes are = absurd pairs
+further-fences options bytes o some r [] (next ∷ rs) left pairs proceeds are = absurd pairs
+further-fences options bytes o some r (y ∷ ys) [] left pairs proceeds are = absurd pairs
 
 pub fence-group : (options : ParseOptions) (bytes : List ℕ) (x : Row) (r : FrameRow) (xs : List Row)
     (rs : List FrameRow) →
     Fit options bytes x r → r.kind ≡ LeafRow Fence → Pairs (Fit options bytes) xs rs → AllGo xs →
-    GoOn FenceFurther r rs → events_by options x.role (x ∷ xs) ≡ span_by own r rs
-fence-group options bytes x r xs rs fit kind pairs goes are =
+    AllContinue FenceFurther r rs → events_by options x.role (x ∷ xs) ≡ span_by own r rs
+fence-group options bytes x r xs rs fit kind pairs proceeds are =
     ap (λ (role : Role). events_by options role (x ∷ xs)) (first-role options bytes x r fit Fence kind refl)
     ∙ sym
     (fence-joined options o (with_front r.front x) r xs rs (block-lines o.marker)
     (first-same options bytes x r fit)
     (first-fence o x r (read-as options bytes x r fit) refl some (leaf-added options bytes x r fit Fence kind))
-    (further-fences options bytes o some r xs rs (inl (leaf-behind options bytes x r fit Fence kind)) pairs goes are)
+    (further-fences options bytes o some r xs rs (inl (leaf-following options bytes x r fit Fence kind))
+    pairs proceeds are)
     (lines-framed options bytes FenceFurther (fence-framed options) r xs rs pairs are)
     ∙ fence-front options o r.front x xs)
   where
@@ -262,16 +265,16 @@ fence-group options bytes x r xs rs fit kind pairs goes are =
 pub code-lines : (options : ParseOptions) (bytes : List ℕ) (x : Row) (r : FrameRow) (xs : List Row)
     (rs more : List FrameRow) →
     Fit options bytes x r → r.kind ≡ LeafRow CodeIndented → Pairs (Fit options bytes) xs rs → AllGo xs →
-    GoOn CodeFurther r rs → EndsFramed rs → any_framed own more ≡ false →
-    span_by own r (rs ++ more) ≡ events_by options x.role (x ∷ xs) ++ span_behind own (last_row r rs) more
-code-lines options bytes x r xs rs more fit kind pairs goes are ends none =
+    AllContinue CodeFurther r rs → EndsFramed rs → any_framed own more ≡ false →
+    span_by own r (rs ++ more) ≡ events_by options x.role (x ∷ xs) ++ span_after own (last_row r rs) more
+code-lines options bytes x r xs rs more fit kind pairs proceeds are ends none =
     leaf-joined n.CodeIndented (content_line n.CodeFlowChunk 4) (with_front r.front x) r xs rs more refl
     (first-same options bytes x r fit)
     (first-code x r (read-as options bytes x r fit) (leaf-added options bytes x r fit CodeIndented kind))
     (further-lines options bytes CodeFurther n.CodeIndented (content_line n.CodeFlowChunk 4)
     (λ y next fits e. further-code y next (read-as options bytes y next fits)
-    (leaf-added options bytes y next fits CodeFurther e)) r xs rs pairs goes are) ends none
-    ∙ ap (λ (es : List Event). es ++ span_behind own (last_row r rs) more)
+    (leaf-added options bytes y next fits CodeFurther e)) r xs rs pairs proceeds are) ends none
+    ∙ ap (λ (es : List Event). es ++ span_after own (last_row r rs) more)
     (leaf-front n.CodeIndented (content_line n.CodeFlowChunk 4) r.front x xs
     ∙ sym
     (ap (λ (role : Role). events_by options role (x ∷ xs))
@@ -315,26 +318,26 @@ code-ends options bytes x r [] (next ∷ rs) kind pairs framed e = absurd pairs
 code-ends options bytes x r (y ∷ ys) [] kind pairs framed e = absurd pairs
 
 -- Blank lines after it, before what is after them: each is alone.
-pub behind-same : (options : ParseOptions) (bytes : List ℕ) (x : Row) (r : FrameRow) (more : List FrameRow)
+pub following-same : (options : ParseOptions) (bytes : List ℕ) (x : Row) (r : FrameRow) (more : List FrameRow)
     (More : List (List Row) → Type 0) (events : List Event) →
     ((ess : List (List Row)) → More ess → AllPut ess → events ≡ unlisted_groups options ess) →
-    (ess : List (List Row)) → Fit options bytes x r → MayEnd x r → GoOn CodeFurther r more →
+    (ess : List (List Row)) → Fit options bytes x r → MayEnd x r → AllContinue CodeFurther r more →
     any_framed own more ≡ false → TakesEach (Fit options bytes) more More ess → AllPut ess →
     let last : FrameRow = last_row r more in
-    (span_behind own r more ++ tail_events (ending_of last.kind last) last) ++ events ≡
+    (span_after own r more ++ tail_events (ending_of last.kind last) last) ++ events ≡
     without_lists (tail (x ∷ [])) ++ unlisted_groups options ess
-behind-same options bytes x r [] More events same ess fit may are none takes put =
+following-same options bytes x r [] More events same ess fit may are none takes put =
     ap₂ (λ (es fs : List Event). es ++ fs) (sym (tail-same options bytes x r fit may)) (same ess takes put)
-behind-same options bytes x r (next ∷ more) More events same [] fit may are none takes put = absurd takes
-behind-same options bytes x r (next ∷ more) More events same ([] ∷ ess) fit may are none takes put = absurd takes.0
-behind-same options bytes x r (next ∷ more) More events same ((y ∷ z ∷ ys) ∷ ess) fit may are none takes put =
+following-same options bytes x r (next ∷ more) More events same [] fit may are none takes put = absurd takes
+following-same options bytes x r (next ∷ more) More events same ([] ∷ ess) fit may are none takes put = absurd takes.0
+following-same options bytes x r (next ∷ more) More events same ((y ∷ z ∷ ys) ∷ ess) fit may are none takes put =
     absurd takes.0.1
-behind-same options bytes x r (next ∷ more) More events same ((y ∷ []) ∷ ess) fit may are none takes put =
+following-same options bytes x r (next ∷ more) More events same ((y ∷ []) ∷ ess) fit may are none takes put =
     regroup (ending_events (ending_of r.kind r) r) next.front (map (renamed Outside) next.inside)
-    (span_behind own next more) (tail_events (ending_of last.kind last) last) events
+    (span_after own next more) (tail_events (ending_of last.kind last) last) events
     ∙ ap₂ (λ (es fs : List Event). es ++ fs)
     (ap₂ (λ (es fs : List Event). es ++ fs) (ap₂ (λ (es fs : List Event). es ++ fs) ended (sym fits.front)) inside)
-    (behind-same options bytes y next more More events same ess fits (λ e. inr role) are.4 parts.1 takes.1 put.2)
+    (following-same options bytes y next more More events same ess fits (λ e. inr role) are.4 parts.1 takes.1 put.2)
     ∙ again (without_lists (tail (x ∷ []))) (without_lists y.front) (events_by options y.role (y ∷ []))
     (without_lists (tail (y ∷ []))) (unlisted_groups options ess)
   where
@@ -347,7 +350,7 @@ behind-same options bytes x r (next ∷ more) More events same ((y ∷ []) ∷ e
     parts : (is_framed next.inside ≡ false) × (any_framed own more ≡ false)
     parts = or_parts (is_framed next.inside) (any_framed own more) none
 
-    role : y.role ≡ BehindCode
+    role : y.role ≡ AfterCode
     role = code-alone options bytes y next fits are.0 are.2 put.0
 
     blank : is_blank y.rest.bytes ≡ true
@@ -360,7 +363,7 @@ behind-same options bytes x r (next ∷ more) More events same ((y ∷ []) ∷ e
 
     inside : map (renamed Outside) next.inside ≡ events_by options y.role (y ∷ [])
     inside =
-        behind-blank y next (read-as options bytes y next fits)
+        following-blank y next (read-as options bytes y next fits)
         (leaf-added options bytes y next fits CodeFurther are.0) blank
         ∙ sym
         (append-nil (content_line n.SpaceOrTab 4 y.line y.rest ++ [])

@@ -3,8 +3,8 @@ use Rattle.std.proofs.Common.{◌≡◌, Bool, true, false, cond, List, [], ◌�
 use Rattle.std.specs.Prelude.{◌&&◌, if◌then◌else◌}
 use Rattle.std.proofs.lemmas.Bool.{and_parts}
 use Rattle.md_engine.specs.declared.tokenizer.held_leaf.HeldLeaf.{HeldLeaf}
-use Rattle.proof_frame.specs.LeafName.{CodeFurther, CodeIndented, Fence, FenceFurther, GfmTable, HeadingAtx, HeadingSetext}
-use Rattle.proof_frame.specs.LeafName.{HtmlFlow, HtmlFurther, LeafName, ThematicBreak}
+use Rattle.proof_frame.specs.LeafName.{CodeFurther, CodeIndented, Fence, FenceFurther, GfmTable, HeadingAtx}
+use Rattle.proof_frame.specs.LeafName.{HeadingSetext, HtmlFlow, HtmlFurther, LeafName, ThematicBreak}
 use Rattle.proof_frame.specs.Row.{BlankRow, LeafRow, Row, RowKind, TextRow}
 use Rattle.md_registry.specs.Registry.{leaf}
 use Rattle.proof_rows.specs.Rows.{Group, Headed, LeafLines, Lines, Single, Turned, groups, is_further, is_last}
@@ -13,9 +13,9 @@ use Rattle.proof_rows.proofs.GroupLines.{Begins, FirstIs, onto-first}
 use Rattle.proof_exact.proofs.RowRoles.{further_rows, is_headed}
 
 -- those after the lines that continue a leaf
-abbrev pub behind_further : List Row → List Row
-behind_further [] = []
-behind_further (row ∷ rows) = if is_further row.kind row.on then behind_further rows else row ∷ rows
+abbrev pub after_further : List Row → List Row
+after_further [] = []
+after_further (row ∷ rows) = if is_further row.kind row.on then after_further rows else row ∷ rows
 
 -- a line that continues a leaf is one of a leaf of several lines
 pub further-several : (l : LeafName) (on : HeldLeaf) → (leaf l).further on ≡ true → (leaf l).ends ≡ false
@@ -44,7 +44,7 @@ span-alone row (LeafLines next rows ∷ gs) first =
 
 -- A line of a leaf of several lines, and all lines after it that continue a leaf, are one group.
 pub span-group : (row : Row) (rows : List Row) (l : LeafName) → row.kind ≡ LeafRow l → (leaf l).ends ≡ false →
-    groups (row ∷ rows) ≡ LeafLines row (further_rows rows) ∷ groups (behind_further rows)
+    groups (row ∷ rows) ≡ LeafLines row (further_rows rows) ∷ groups (after_further rows)
 span-group row [] l e several =
     ap (λ (kind : RowKind). onto_groups row kind []) e ∙ ap (λ (x : Bool). onto_leaf x row []) several
 span-group row (next ∷ rows) l e several =
@@ -56,12 +56,12 @@ span-group row (next ∷ rows) l e several =
 
     to : Bool → List Group
     to x =
-        LeafLines row (cond x (next ∷ further_rows rows) []) ∷ groups (cond x (behind_further rows) (next ∷ rows))
+        LeafLines row (cond x (next ∷ further_rows rows) []) ∷ groups (cond x (after_further rows) (next ∷ rows))
 
     Below : Type 0
     Below =
         (m : LeafName) → next.kind ≡ LeafRow m → (leaf m).ends ≡ false →
-        below ≡ LeafLines next (further_rows rows) ∷ groups (behind_further rows)
+        below ≡ LeafLines next (further_rows rows) ∷ groups (after_further rows)
 
     within : Below → (m : LeafName) → next.kind ≡ LeafRow m → is_further next.kind next.on ≡ true →
         onto_span row below ≡ to true
@@ -71,8 +71,8 @@ span-group row (next ∷ rows) l e several =
         (further-several m next.on (ap (λ (kind : RowKind). is_further kind next.on) (sym k) ∙ further)))
         ∙ ap
         (λ (x : Bool).
-        cond x (LeafLines row (next ∷ further_rows rows) ∷ groups (behind_further rows))
-        (LeafLines row [] ∷ LeafLines next (further_rows rows) ∷ groups (behind_further rows))) further
+        cond x (LeafLines row (next ∷ further_rows rows) ∷ groups (after_further rows))
+        (LeafLines row [] ∷ LeafLines next (further_rows rows) ∷ groups (after_further rows))) further
 
     go : Below → (x : Bool) → is_further next.kind next.on ≡ x → (kind : RowKind) → next.kind ≡ kind →
         onto_span row below ≡ to (is_further next.kind next.on)
@@ -86,7 +86,7 @@ span-group row (next ∷ rows) l e several =
 
 -- Text before a line that takes it as its head is a group with it and with the lines that continue that.
 pub head-group : (row next : Row) (rows : List Row) → row.kind ≡ TextRow → is_headed (next ∷ rows) ≡ true →
-    groups (row ∷ next ∷ rows) ≡ Headed row next (further_rows rows) ∷ groups (behind_further rows)
+    groups (row ∷ next ∷ rows) ≡ Headed row next (further_rows rows) ∷ groups (after_further rows)
 head-group row next rows e headed =
     ap (λ (kind : RowKind). onto_groups row kind (groups (next ∷ rows))) e ∙ go next.kind refl
   where
@@ -95,17 +95,17 @@ head-group row next rows e headed =
 
     go : (kind : RowKind) → next.kind ≡ kind →
         onto_groups row TextRow (groups (next ∷ rows)) ≡
-        Headed row next (further_rows rows) ∷ groups (behind_further rows)
+        Headed row next (further_rows rows) ∷ groups (after_further rows)
     go (LeafRow m) k =
         let several =
         further-several m next.on (ap (λ (kind : RowKind). is_further kind next.on) (sym k) ∙ both.0) in
         ap (onto_groups row TextRow) (span-group next rows m k several)
         ∙ ap
         (λ (x : Bool).
-        cond x (Headed row next (further_rows rows) ∷ groups (behind_further rows))
+        cond x (Headed row next (further_rows rows) ∷ groups (after_further rows))
         (cond (is_further next.kind next.on && is_last (further_rows rows))
-        (Turned row [] next ∷ groups (behind_further rows))
-        (Lines row [] ∷ LeafLines next (further_rows rows) ∷ groups (behind_further rows)))) headed
+        (Turned row [] next ∷ groups (after_further rows))
+        (Lines row [] ∷ LeafLines next (further_rows rows) ∷ groups (after_further rows)))) headed
     go BlankRow k =
         let bad : false ≡ true = ap (λ (kind : RowKind). is_further kind next.on) (sym k) ∙ both.0 in absurd (cc)
     go TextRow k =

@@ -12,7 +12,7 @@ use Rattle.md_link_definitions.specs.OpenText.{open_text}
 use Rattle.md_link_definitions.specs.Progress.{progress_of, step}
 use Rattle.md_meaning.specs.Rest.{Rest, is_blank, trim_start}
 use Rattle.md_meaning.specs.State.{kept}
-use Rattle.md_exact.specs.Blocks.{events_by, goes_on, tail}
+use Rattle.md_exact.specs.Blocks.{events_by, is_continued, tail}
 use Rattle.md_exact.specs.Leaves.{leaf as leaf_lines, runs_line}
 use Rattle.md_exact.specs.Places.{is_same, line_end}
 use Rattle.md_exact.specs.Rows.{Delimiter, FirstText, FurtherText, Head, Role, Row, Underline, next_role}
@@ -22,7 +22,7 @@ use Rattle.proof_frame.specs.Row.{LeafRow, Row as FrameRow, RowKind, TextRow, en
 use Rattle.md_registry.specs.Registry.{leaf}
 use Rattle.md_registry.proofs.UnderNames.{further-text}
 use Rattle.proof_rows.specs.BlockList.{tabled_group}
-use Rattle.proof_rows.specs.Rows.{Lines, Turned, is_further, line_behind, tail_events, takes_head}
+use Rattle.proof_rows.specs.Rows.{Lines, Turned, is_further, line_following, tail_events, takes_head}
 use Rattle.proof_rows.proofs.GroupLines.{AreLines, IsUnder}
 use Rattle.proof_rows.proofs.SpelledParagraphs.{text-filled}
 use Rattle.proof_exact.proofs.CutTexts.{AreAt, IsAt}
@@ -82,16 +82,16 @@ texts-at options bytes x r xs rs fit pairs = first xs rs pairs
   where
     further : (x : Row) (r : FrameRow) (xs : List Row) (rs : List FrameRow) →
         Fit options bytes x r → Pairs (Fit options bytes) xs rs → AreAt bytes x xs r rs
-    further x r [] [] fit pairs = record { behind = fit.behind; line_in = fit.within; on = fit.on }
+    further x r [] [] fit pairs = record { following = fit.following; line_in = fit.within; on = fit.on }
     further x r (y ∷ ys) (next ∷ rs) fit pairs = (
-      record { behind = fit.behind; line_in = fit.within; on = fit.on },
+      record { following = fit.following; line_in = fit.within; on = fit.on },
       further y next ys rs pairs.0 pairs.1,
     )
     further x r [] (next ∷ rs) fit pairs = absurd pairs
     further x r (y ∷ ys) [] fit pairs = absurd pairs
 
     at : IsAt bytes x (row_with x.front r)
-    at = record { behind = fit.behind; line_in = fit.within; on = fit.on }
+    at = record { following = fit.following; line_in = fit.within; on = fit.on }
 
     first : (xs : List Row) (rs : List FrameRow) → Pairs (Fit options bytes) xs rs →
         AreAt bytes x xs (row_with x.front r) rs
@@ -102,16 +102,16 @@ texts-at options bytes x r xs rs fit pairs = first xs rs pairs
 
 texts-same : (options : ParseOptions) (bytes : List ℕ) (x : Row) (r : FrameRow) (xs : List Row) (rs : List FrameRow) →
     Fit options bytes x r → Pairs (Fit options bytes) xs rs → AllGo xs → AreTexts x xs (row_with x.front r) rs
-texts-same options bytes x r xs rs fit pairs goes = first xs rs pairs goes
+texts-same options bytes x r xs rs fit pairs proceeds = first xs rs pairs proceeds
   where
     further : (x : Row) (r : FrameRow) (xs : List Row) (rs : List FrameRow) →
-        Fit options bytes x r → goes_on x.role ≡ true → Pairs (Fit options bytes) xs rs → AllGo xs →
+        Fit options bytes x r → is_continued x.role ≡ true → Pairs (Fit options bytes) xs rs → AllGo xs →
         AreTexts x xs r rs
-    further x r [] [] fit go pairs goes = further-same options bytes x r fit go
-    further x r (y ∷ ys) (next ∷ rs) fit go pairs goes =
-        (further-same options bytes x r fit go, fit.next, further y next ys rs pairs.0 goes.0 pairs.1 goes.1)
-    further x r [] (next ∷ rs) fit go pairs goes = absurd pairs
-    further x r (y ∷ ys) [] fit go pairs goes = absurd pairs
+    further x r [] [] fit go pairs proceeds = further-same options bytes x r fit go
+    further x r (y ∷ ys) (next ∷ rs) fit go pairs proceeds =
+        (further-same options bytes x r fit go, fit.next, further y next ys rs pairs.0 proceeds.0 pairs.1 proceeds.1)
+    further x r [] (next ∷ rs) fit go pairs proceeds = absurd pairs
+    further x r (y ∷ ys) [] fit go pairs proceeds = absurd pairs
 
     same : SameLine x (row_with x.front r)
     same =
@@ -120,11 +120,11 @@ texts-same options bytes x r xs rs fit pairs goes = first xs rs pairs goes
 
     first : (xs : List Row) (rs : List FrameRow) → Pairs (Fit options bytes) xs rs → AllGo xs →
         AreTexts x xs (row_with x.front r) rs
-    first [] [] pairs goes = same
-    first (y ∷ ys) (next ∷ rs) pairs goes =
-        (same, fit.next, further y next ys rs pairs.0 goes.0 pairs.1 goes.1)
-    first [] (next ∷ rs) pairs goes = absurd pairs
-    first (y ∷ ys) [] pairs goes = absurd pairs
+    first [] [] pairs proceeds = same
+    first (y ∷ ys) (next ∷ rs) pairs proceeds =
+        (same, fit.next, further y next ys rs pairs.0 proceeds.0 pairs.1 proceeds.1)
+    first [] (next ∷ rs) pairs proceeds = absurd pairs
+    first (y ∷ ys) [] pairs proceeds = absurd pairs
 
 some-same : (bytes : List ℕ) (y : Bool) → is_blank bytes ≡ false → ((length bytes == 0) && y) ≡ false
 some-same [] y h = cc
@@ -147,8 +147,8 @@ last-some options bytes x r (y ∷ ys) [] fit pairs are = absurd pairs
 are-text : (options : ParseOptions) (bytes : List ℕ) (x : Row) (r : FrameRow) (xs : List Row) (rs : List FrameRow) →
     Fit options bytes x r → Pairs (Fit options bytes) xs rs → AllGo xs → AreLines options bytes r rs →
     IsText x xs (row_with x.front r) rs
-are-text options bytes x r xs rs fit pairs goes are = record {
-  are = texts-same options bytes x r xs rs fit pairs goes;
+are-text options bytes x r xs rs fit pairs proceeds are = record {
+  are = texts-same options bytes x r xs rs fit pairs proceeds;
   some = last-some options bytes x r xs rs fit pairs are;
 }
 
@@ -160,13 +160,13 @@ last-kind options bytes r (next ∷ rs) are = last-kind options bytes next rs ar
 
 pub record LeavesText (r : FrameRow) : Type 0 where
   pub at : OpenText
-  pub is : r.behind ≡ held_leaf.Text at
+  pub is : r.following ≡ held_leaf.Text at
 
 last-leaves : (options : ParseOptions) (bytes : List ℕ) (r : FrameRow) (rs : List FrameRow) →
     AreLines options bytes r rs → LeavesText (last_row r rs)
 last-leaves options bytes r [] are = record {
   at = open_text (step (progress_of r.on) (trim_start are.1.rest.bytes)) (kept are.1.rest);
-  is = are.1.behind ∙ ap (line_behind options r.on are.1.rest) are.2;
+  is = are.1.following ∙ ap (line_following options r.on are.1.rest) are.2;
 }
 last-leaves options bytes r (next ∷ rs) are = last-leaves options bytes next rs are.7
 
@@ -256,7 +256,7 @@ turned-same options bytes x u r under xs rs small fit pairs fits put are is =
     (ap is_underline role) (lines-front options bytes x.front r rs are)
     (texts-at options bytes x r xs rs fit pairs)
     (are-text options bytes x r xs rs fit pairs (front-go xs (u ∷ []) put.1) are)
-    (further-same options bytes u under fits (ap goes_on role)) inside
+    (further-same options bytes u under fits (ap is_continued role)) inside
     ∙ turned-with options bytes x.front r rs under)
   where
     left : LeavesText (last_row r rs)
@@ -265,12 +265,12 @@ turned-same options bytes x u r under xs rs small fit pairs fits put are is =
     on : under.on ≡ held_leaf.Text left.at
     on = is.on ∙ left.is
 
-    goes : (leaf is.name).further under.on ≡ true
-    goes = ap (λ (k : RowKind). is_further k under.on) (sym is.kind) ∙ is.further
+    proceeds : (leaf is.name).further under.on ≡ true
+    proceeds = ap (λ (k : RowKind). is_further k under.on) (sym is.kind) ∙ is.further
 
     name : is.name ≡ HeadingSetext
     name =
-        further-text left.at is.name (ap (leaf is.name).further (sym on) ∙ goes)
+        further-text left.at is.name (ap (leaf is.name).further (sym on) ∙ proceeds)
         (ap takes_head (sym is.kind) ∙ is.heads)
 
     kind : under.kind ≡ LeafRow HeadingSetext
@@ -282,7 +282,7 @@ turned-same options bytes x u r under xs rs small fit pairs fits put are is =
     role : u.role ≡ Underline
     role =
         text-further options bytes u under fits HeadingSetext kind
-        (subst (λ (l : LeafName). (leaf l).further under.on ≡ true) name goes) left.at on
+        (subst (λ (l : LeafName). (leaf l).further under.on ≡ true) name proceeds) left.at on
 
     inside : leaf_lines n.HeadingSetextUnderline (runs_line n.HeadingSetextUnderlineSequence) (u ∷ []) ≡ under.inside
     inside =

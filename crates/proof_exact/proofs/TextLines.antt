@@ -25,7 +25,7 @@ use Rattle.md_exact.specs.Blocks.{front_size, text_lines}
 use Rattle.md_exact.specs.Places.{TextLine, line_at, lines_from}
 use Rattle.md_exact.proofs.OnLine.{past-line}
 use Rattle.proof_exact_lines.proofs.Front.{begin}
-use Rattle.proof_exact_lines.proofs.FrontBody.{Body, Ends, Goes, front-body}
+use Rattle.proof_exact_lines.proofs.FrontBody.{Body, Ends, Proceeds, front-body}
 use Rattle.proof_exact.proofs.RowsMet.{HaveBytes}
 use Rattle.proof_frame.proofs.LineTexts.{without-one}
 use Rattle.md_leaves.proofs.OneLine.{line-whole}
@@ -67,10 +67,10 @@ have-bytes number index column text fulls (NextLine line ending rest more h befo
 -- Where a line begins.
 
 -- after an ending, which an LF after a CR belongs to
-pub placed-behind : (text : List ℕ) (ending : Ending) (rest : List ℕ) (p : Point) →
+pub placed-following : (text : List ℕ) (ending : Ending) (rest : List ℕ) (p : Point) →
     drop p.index text ≡ ending_bytes ending ++ rest → EndsBefore ending rest → Placed text p →
     Placed text (past_ending ending p)
-placed-behind text ending rest p e before placed =
+placed-following text ending rest p e before placed =
     let next = (ending-step text ending rest p e before).1 in
     let fits = front-within text p.index (ending_bytes ending) rest e placed.index in
     subst (Placed text) next
@@ -100,15 +100,15 @@ pub record LinesLeft (text : List ℕ) (lines : List TextLine) : Type 0 where
   pub placed : Placed text (begin number index column)
   pub is : lines ≡ lines_from number index column fulls
 
-lines-behind : (text full : List ℕ) (more : List (List ℕ)) (fulls : List (List ℕ)) → IsLines text fulls →
+lines-following : (text full : List ℕ) (more : List (List ℕ)) (fulls : List (List ℕ)) → IsLines text fulls →
     fulls ≡ full ∷ more → is_end (ending_of full) ≡ false → IsLines (drop (length full) text) more
-lines-behind text full more fulls NoLines e some = absurd (cc)
-lines-behind text full more fulls (LastLine b line h) e some =
+lines-following text full more fulls NoLines e some = absurd (cc)
+lines-following text full more fulls (LastLine b line h) e some =
     let same : b ∷ line ≡ full = cc in
     let bad : true ≡ false = sym (ap is_end (last-ending (b ∷ line) h)) ∙ ap (λ (l : List ℕ). is_end (ending_of l)) same
     ∙ some in
     absurd (cc)
-lines-behind text full more fulls (NextLine line ending rest below h before is same) e some =
+lines-following text full more fulls (NextLine line ending rest below h before is same) e some =
     let one : line ++ ending_bytes ending ≡ full = cc in
     let others : below ≡ more = cc in
     subst₂ (λ (l : List ℕ) (ls : List (List ℕ)). IsLines l ls)
@@ -118,10 +118,10 @@ lines-behind text full more fulls (NextLine line ending rest below h before is s
     ∙ drop-append_seam (line ++ ending_bytes ending) rest)) others is
 
 -- the next one begins after the ending of one, at a point of the text if that does
-pub begin-behind : (number index column : ℕ) (line : List ℕ) (ending : Ending) →
+pub begin-following : (number index column : ℕ) (line : List ℕ) (ending : Ending) →
     past_ending ending (past_text line (begin number index column)) ≡
     begin (number + 1) (index + length (line ++ ending_bytes ending)) 0
-begin-behind number index column line ending =
+begin-following number index column line ending =
     let p : Point = begin number index column in
     let at = past-index line p in
     let size = length-append line (ending_bytes ending) in
@@ -141,12 +141,12 @@ next-begins text left number index column full more fulls is (NextLine line endi
     let one : line ++ ending_bytes ending ≡ full = cc in
     let p : Point = begin number index column in
     let q : Point = past_text line p in
-    let behind : drop q.index text ≡ ending_bytes ending ++ rest =
+    let following : drop q.index text ≡ ending_bytes ending ++ rest =
     ap (λ (i : ℕ). drop i text) (past-index line p) ∙ drop-past text index line (ending_bytes ending ++ rest) is in
     subst (Placed text)
-    (begin-behind number index column line ending
+    (begin-following number index column line ending
     ∙ ap (λ (l : List ℕ). begin (number + 1) (index + length l) 0) one)
-    (placed-behind text ending rest q behind before
+    (placed-following text ending rest q following before
     (placed-text text p line (ending_bytes ending ++ rest) placed is h))
 
 lines-left : (text : List ℕ) (number index column : ℕ) (fulls : List (List ℕ)) → IsLines (drop index text) fulls →
@@ -188,7 +188,7 @@ lines-left text number index column (full ∷ more) are placed (suc k) =
         ⊎ LinesLeft text (drop k (cond x [] (lines_from (number + 1) (index + length full) 0 more)))) (sym e)
         (below
         (subst (λ (l : List ℕ). IsLines l more) (drop-drop (length full) index text)
-        (lines-behind (drop index text) full more (full ∷ more) are refl e))
+        (lines-following (drop index text) full more (full ∷ more) are refl e))
         (next-begins text (drop index text) number index column full more (full ∷ more) refl are refl e placed))
 
 -- After its front.
@@ -209,7 +209,7 @@ record BeginsAt (p : Point) (lines : List TextLine) : Type 0 where
   is : lines ≡ lines_from number index column fulls
 
 begins : (p : Point) (lines : List TextLine) → Body p lines → (lines ≡ []) ⊎ BeginsAt p lines
-begins p lines (Goes number index column fulls) =
+begins p lines (Proceeds number index column fulls) =
     inr
     (record { number = number; index = index; column = column; fulls = fulls; point = refl; is = refl })
 begins p lines (Ends q) = inl refl

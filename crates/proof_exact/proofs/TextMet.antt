@@ -12,7 +12,7 @@ use Rattle.md_exact.specs.Rows.{rows_of as exact_rows}
 use Rattle.proof_rows.specs.Rows.{groups}
 use Rattle.proof_rows.specs.WithoutMdx.{IsWithoutMdx}
 use Rattle.proof_rows.proofs.TextAre.{lines_of, rows_of, text-are}
-use Rattle.proof_rows.proofs.StepBehind.{containers-step, plain-step, still-step}
+use Rattle.proof_rows.proofs.StepAfter.{containers-step, plain-step, still-step}
 use Rattle.proof_exact.proofs.Aligned.{aligned}
 use Rattle.proof_exact.proofs.ExactRoles.{AreMet}
 use Rattle.proof_exact.proofs.GroupsMatch.{Fits, GroupsMatch, Pairs, groups-match}

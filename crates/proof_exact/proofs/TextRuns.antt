@@ -9,8 +9,8 @@ use Rattle.md_meaning.specs.State.{Container}
 use Rattle.proof_frame.specs.Change.{Change, against, change_by, is_none, others_of}
 use Rattle.proof_frame.specs.HeldLeaf.{met_by, takes_lazy}
 use Rattle.proof_frame.specs.Row.{Row, RowKind, TextRow}
-use Rattle.proof_rows.specs.Fronted.{Prefixed, contained, prefixes_behind, prefixes_on}
-use Rattle.proof_rows.specs.Rows.{goes_on, is_lazy, is_text, line_kind}
+use Rattle.proof_rows.specs.Fronted.{Prefixed, contained, prefixes_after, prefixes_on}
+use Rattle.proof_rows.specs.Rows.{is_continued, is_lazy, is_text, line_kind}
 
 -- also where not all containers continue
 met-lazy : (all : Bool) (still : HeldLeaf) → takes_lazy still ≡ true → takes_lazy (met_by all still) ≡ true
@@ -23,14 +23,14 @@ met-lazy false (held_leaf.Fence marker size indent) e = cc
 met-lazy false (held_leaf.Html kind) e = cc
 met-lazy false held_leaf.Table e = cc
 
-changed-text : (still : HeldLeaf) (went others opens : List Container) (kind : RowKind) → takes_lazy still ≡ true →
+changed-text : (still : HeldLeaf) (proceeded others opens : List Container) (kind : RowKind) → takes_lazy still ≡ true →
     kind ≡ TextRow →
-    let change = change_by (is_lazy still opens kind) went others opens in
+    let change = change_by (is_lazy still opens kind) proceeded others opens in
     takes_lazy (against still others opens) ≡ (is_none change.closes && is_none change.opens)
-changed-text still went others opens kind lazy text =
+changed-text still proceeded others opens kind lazy text =
     go opens
     ∙ ap (λ (x : Bool).
-    let change = change_by x went others opens in is_none change.closes && is_none change.opens)
+    let change = change_by x proceeded others opens in is_none change.closes && is_none change.opens)
     (sym (ap₂ (λ (x : Bool) (k : RowKind). x && is_none opens && is_text k) lazy text))
   where
     none : (x : Bool) → false ≡ (x && false)
@@ -38,7 +38,7 @@ changed-text still went others opens kind lazy text =
     none false = refl
 
     go : (opens : List Container) →
-        let change = change_by (true && is_none opens && true) went others opens in
+        let change = change_by (true && is_none opens && true) proceeded others opens in
         takes_lazy (against still others opens) ≡ (is_none change.closes && is_none change.opens)
     go [] = met-lazy (is_none others) still lazy
     go (c ∷ opens) = none (is_none others)
@@ -59,17 +59,17 @@ contained-text options cs still r lazy text =
     others = others_of cs on.containers
 
     new : Prefixed
-    new = prefixes_behind options still others on
+    new = prefixes_after options still others on
 
     kind : RowKind
     kind = line_kind options (against still others new.containers) new.rest
 
 -- So it does by its role just where its rows say so.
-pub text-goes : (options : ParseOptions) (cs : List Container) (still : HeldLeaf) (r : Rest) (row next : Row) →
+pub text-proceeds : (options : ParseOptions) (cs : List Container) (still : HeldLeaf) (r : Rest) (row next : Row) →
     let c = contained options cs still r in
     takes_lazy still ≡ true → next.on ≡ c.on → next.change ≡ c.change → next.kind ≡ line_kind options c.on c.rest →
-    next.kind ≡ TextRow → row.closed_after ≡ next.change.closes → takes_lazy next.on ≡ goes_on row next
-text-goes options cs still r row next lazy on change kind text closed =
+    next.kind ≡ TextRow → row.closed_after ≡ next.change.closes → takes_lazy next.on ≡ is_continued row next
+text-proceeds options cs still r row next lazy on change kind text closed =
     ap takes_lazy on ∙ contained-text options cs still r lazy (sym kind ∙ text)
     ∙ sym
     (ap₂ (λ (x y : List Container). is_none x && is_none y)

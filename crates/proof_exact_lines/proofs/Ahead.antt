@@ -130,9 +130,9 @@ ahead-fewer rows ends h =
 
 -- The place is known from how many rows and bytes are left.
 
-behind-front : (front : List Row) (row : Row) (more : List Row) →
+following-front : (front : List Row) (row : Row) (more : List Row) →
     drop (length (front ++ row ∷ more) - (length more + 1)) (front ++ row ∷ more) ≡ row ∷ more
-behind-front front row more = ap (λ (k : ℕ). drop k (front ++ row ∷ more)) size ∙ go front
+following-front front row more = ap (λ (k : ℕ). drop k (front ++ row ∷ more)) size ∙ go front
   where
     size : length (front ++ row ∷ more) - (length more + 1) ≡ length front
     size = let parts = length-append front (row ∷ more) in omega (arith, parts)
@@ -150,7 +150,7 @@ ahead-is rows end ends h =
     ∙ ap (λ (l : List Row). ahead (h.front ++ h.row ∷ h.more) (length l) (length end.rest.bytes)) (sym rest)
     ∙ ap (λ (x : Row). ahead (h.front ++ h.row ∷ h.more) (length h.more) (length x.rest.bytes)) (sym one)
     ∙ ap (on_first (λ r. past (length r.bytes - length (drop h.size h.row.rest.bytes)) r))
-    (behind-front h.front h.row h.more)
+    (following-front h.front h.row h.more)
     ∙ ap (λ (k : ℕ). at h.row (past k h.row.rest) ∷ h.more) size
     ∙ sym h.ends_are
   where
@@ -179,16 +179,16 @@ back-is rows end ends h some =
 -- Rows that are passed: after the first of these are others, and then those after the first of the ends.
 pub record Onward (rows ends : List Row) : Type 0 where
   pub passed : List Row
-  pub behind : drop 1 rows ≡ passed ++ drop 1 ends
+  pub following : drop 1 rows ≡ passed ++ drop 1 ends
 
 pub onward-here : (rows : List Row) → Onward rows rows
-onward-here rows = record { passed = []; behind = refl }
+onward-here rows = record { passed = []; following = refl }
 
 pub onward-then : (rows mids ends : List Row) → Onward rows mids → Onward mids ends → Onward rows ends
 onward-then rows mids ends h k = record {
   passed = h.passed ++ k.passed;
-  behind =
-      h.behind ∙ ap (λ (l : List Row). h.passed ++ l) k.behind
+  following =
+      h.following ∙ ap (λ (l : List Row). h.passed ++ l) k.following
       ∙ sym (append_assoc h.passed k.passed (drop 1 ends));
 }
 
@@ -199,10 +199,10 @@ ahead-onward rows ends h = go h.front h.rows_are
     ends_are = sym (ap (drop 1) h.ends_are)
 
     go : (front : List Row) → rows ≡ front ++ h.row ∷ h.more → Onward rows ends
-    go [] e = record { passed = []; behind = ap (drop 1) e ∙ ends_are }
+    go [] e = record { passed = []; following = ap (drop 1) e ∙ ends_are }
     go (x ∷ xs) e = record {
       passed = xs ++ h.row ∷ [];
-      behind =
+      following =
           ap (drop 1) e ∙ ap (λ (l : List Row). xs ++ h.row ∷ l) ends_are
           ∙ sym (append_assoc xs (h.row ∷ []) (drop 1 ends));
     }

@@ -25,13 +25,13 @@ use Rattle.proof_content_laws.proofs.Defined.Along.{Turn, no_line}
 
 -- the rest of a row begins at a point of the text
 pub record Begins (text : List ℕ) (row : Row) (p : Point) : Type 0 where
-  pub behind : List ℕ
-  pub line_in : LineIn text behind row.line
-  pub on : OnLine text behind row.line row.rest p
+  pub following : List ℕ
+  pub line_in : LineIn text following row.line
+  pub on : OnLine text following row.line row.rest p
   pub plain : NoEnding row.rest.bytes
 
 pub begins-place : (text : List ℕ) (row : Row) (p : Point) → Begins text row p → place row.line row.rest ≡ p
-begins-place text row p is = place-on text is.behind row.line row.rest p is.line_in is.on
+begins-place text row p is = place-on text is.following row.line row.rest p is.line_in is.on
 
 -- no line ends in its cells
 pub row-plain : (text : List ℕ) (row : Row) (p : Point) → Begins text row p → NoFeed (rest_cells no_line row.rest p)
@@ -67,7 +67,7 @@ pub record Stopped (text : List ℕ) (row : Row) (p : Point) (cells : List Cell)
   pub begins : Begins text row p
   pub stop : List Cell
   pub cells_are : cells ≡ rest_cells no_line row.rest p ++ stop
-  pub behind : Next stop
+  pub following : Next stop
 
 -- these rows are from a point on, where these cells are left and these turns are still to come
 abbrev pub Along : List ℕ → List Row → Point → List Cell → List Turn → Type 0
@@ -104,20 +104,20 @@ pub rows-whole : (text : List ℕ) (rows : List Row) (p : Point) (cells : List C
 rows-whole text [] p cells turns h = absurd h
 rows-whole text (row ∷ []) p cells turns h =
     let on = h.begins.on in
-    let column = on.stands.column in
+    let column = on.valid.column in
     subst (AreWhole p)
     (sym
-    (h.cells_are ∙ ap (λ (l : List Cell). rest_cells no_line row.rest p ++ l) h.behind.0
+    (h.cells_are ∙ ap (λ (l : List Cell). rest_cells no_line row.rest p ++ l) h.following.0
     ∙ append-nil (rest_cells no_line row.rest p)))
-    (rest-whole no_line row.rest p on.stands.cut (omega (arith, column)))
+    (rest-whole no_line row.rest p on.valid.cut (omega (arith, column)))
 rows-whole text (row ∷ next ∷ rows) p cells turns h =
     let on = h.begins.on in
-    let o = h.behind in
-    let column = on.stands.column in
+    let o = h.following in
+    let column = on.valid.column in
     subst (AreWhole p) (sym (h.cells_are ∙ ap (λ (l : List Cell). rest_cells no_line row.rest p ++ l) o.stop_is))
     (whole-append (rest_cells no_line row.rest p) (o.d ∷ o.more) p
-    (rest-whole no_line row.rest p on.stands.cut (omega (arith, column))) (
-      inr (rest-ends row p on.stands.cut (omega (arith, column)), inl (eqb-true o.d.byte 10 o.ten)),
+    (rest-whole no_line row.rest p on.valid.cut (omega (arith, column))) (
+      inr (rest-ends row p on.valid.cut (omega (arith, column)), inl (eqb-true o.d.byte 10 o.ten)),
       rows-whole text (next ∷ rows) o.d.after o.more o.left o.along,
     ))
 
@@ -130,17 +130,17 @@ pub rows-led : (text : List ℕ) (row : Row) (rows : List Row) (p : Point) (cell
 rows-led text row [] p cells turns h =
     let on = h.begins.on in
     ap (λ (l : List Cell). cell_lines true (whole_cells p l))
-    (h.cells_are ∙ ap (λ (l : List Cell). rest_cells no_line row.rest p ++ l) h.behind.0
+    (h.cells_are ∙ ap (λ (l : List Cell). rest_cells no_line row.rest p ++ l) h.following.0
     ∙ append-nil (rest_cells no_line row.rest p))
-    ∙ rest-last no_line row.rest p h.begins.plain on.stands.cut
-    (let column = on.stands.column in omega (arith, column))
+    ∙ rest-last no_line row.rest p h.begins.plain on.valid.cut
+    (let column = on.valid.column in omega (arith, column))
 rows-led text row (next ∷ rows) p cells turns h =
     let on = h.begins.on in
-    let o = h.behind in
+    let o = h.following in
     ap (λ (l : List Cell). cell_lines true (whole_cells p l))
     (h.cells_are ∙ ap (λ (l : List Cell). rest_cells no_line row.rest p ++ l) o.stop_is)
-    ∙ rest-next no_line row.rest p o.d o.more h.begins.plain on.stands.cut
-    (let column = on.stands.column in omega (arith, column)) o.ten
+    ∙ rest-next no_line row.rest p o.d o.more h.begins.plain on.valid.cut
+    (let column = on.valid.column in omega (arith, column)) o.ten
     ∙ ap (λ (l : List (List ℕ)). trim l) (rows-led text next rows o.d.after o.more o.left o.along)
   where
     trim : List (List ℕ) → List (List ℕ)
@@ -159,18 +159,18 @@ rows-lines text [] p cells turns h whole = absurd h
 rows-lines text (row ∷ []) p cells turns h whole =
     let on = h.begins.on in
     ap (λ (l : List Cell). cell_lines false (whole_cells p l))
-    (h.cells_are ∙ ap (λ (l : List Cell). rest_cells no_line row.rest p ++ l) h.behind.0
-    ∙ append-nil (rest_cells no_line row.rest p) ∙ uncut row.rest.spaces row.rest.bytes p on.stands.cut whole)
+    (h.cells_are ∙ ap (λ (l : List Cell). rest_cells no_line row.rest p ++ l) h.following.0
+    ∙ append-nil (rest_cells no_line row.rest p) ∙ uncut row.rest.spaces row.rest.bytes p on.valid.cut whole)
     ∙ spread-last no_line row.rest.bytes p h.begins.plain whole
-    (let column = on.stands.column in omega (arith, column))
+    (let column = on.valid.column in omega (arith, column))
 rows-lines text (row ∷ next ∷ rows) p cells turns h whole =
     let on = h.begins.on in
-    let o = h.behind in
+    let o = h.following in
     ap (λ (l : List Cell). cell_lines false (whole_cells p l))
     (h.cells_are ∙ ap (λ (l : List Cell). rest_cells no_line row.rest p ++ l) o.stop_is
-    ∙ ap (λ (l : List Cell). l ++ o.d ∷ o.more) (uncut row.rest.spaces row.rest.bytes p on.stands.cut whole))
+    ∙ ap (λ (l : List Cell). l ++ o.d ∷ o.more) (uncut row.rest.spaces row.rest.bytes p on.valid.cut whole))
     ∙ spread-next no_line row.rest.bytes p o.d o.more h.begins.plain whole
-    (let column = on.stands.column in omega (arith, column)) o.ten
+    (let column = on.valid.column in omega (arith, column)) o.ten
     ∙ ap (λ (l : List (List ℕ)). row.rest.bytes ∷ l) (rows-led text next rows o.d.after o.more o.left o.along)
 
 -- Cells of two lines are the same where both end.

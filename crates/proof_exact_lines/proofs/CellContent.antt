@@ -10,7 +10,7 @@ use Rattle.md_engine.specs.declared.event.Point.{Point}
 use Rattle.md_leaves.proofs.TitleTexts.{front-passes, front-stops}
 use Rattle.md_leaves.proofs.BreakLemmas.{white-apart}
 use Rattle.md_meaning.specs.Bytes.{begins, is_end}
-use Rattle.md_meaning.specs.Rest.{Rest, behind_indent, cut_tab, is_blank, is_white, trim, trim_end, trim_start}
+use Rattle.md_meaning.specs.Rest.{Rest, after_indent, cut_tab, is_blank, is_white, trim, trim_end, trim_start}
 use Rattle.md_events.specs.Events.Places.{past_text}
 use Rattle.md_events.proofs.InlineLemmas.{past_text-append}
 use Rattle.md_events.proofs.RestLines.{trim-white}
@@ -22,15 +22,15 @@ use Rattle.proof_frame.specs.LineColumns.{part_over}
 use Rattle.md_exact.specs.Leaves.{Inner, cell_content}
 use Rattle.md_exact.specs.Places.{TextLine, past, white}
 use Rattle.proof_exact_lines.proofs.BeginsAt.{rest_bytes}
-use Rattle.proof_exact_lines.proofs.Parts.{IsBehind, Stands, past-behind, piece-is, stands-bytes, three-joined}
-use Rattle.proof_exact_lines.proofs.Parts.{white-behind}
+use Rattle.proof_exact_lines.proofs.Parts.{IsAfter, Valid, past-following, piece-is, valid-bytes, three-joined}
+use Rattle.proof_exact_lines.proofs.Parts.{white-following}
 use Rattle.proof_exact_lines.proofs.FirstCell.{IsPiped}
 
 -- two rests of known bytes, one after the other
-pub behind-from : (line : TextLine) (r s : Rest) (p : Point) (xs ys : List ℕ) → Stands line (xs ++ ys) p r →
-    Stands line ys (past_text xs p) s → IsBehind line r xs ys p s
-behind-from line r s p xs ys is at = record {
-  stands = at;
+pub following-from : (line : TextLine) (r s : Rest) (p : Point) (xs ys : List ℕ) → Valid line (xs ++ ys) p r →
+    Valid line ys (past_text xs p) s → IsAfter line r xs ys p s
+following-from line r s p xs ys is at = record {
+  valid = at;
   fewer =
       let all : length r.bytes ≡ length xs + length ys = ap (λ (l : List ℕ). length l) is.bytes_are
       ∙ length-append xs ys in
@@ -91,16 +91,16 @@ end-some : (xs ys : List ℕ) → is_end ys ≡ false → is_end (xs ++ ys) ≡ 
 end-some [] ys h = h
 end-some (b ∷ xs) ys h = refl
 
-dark-behind : (xs ys : List ℕ) → is_end ys ≡ false → ends_dark (xs ++ ys) ≡ ends_dark ys
-dark-behind [] ys h = refl
-dark-behind (b ∷ xs) ys h =
-    ap (λ (t : Bool). cond t (not (is_white b)) (ends_dark (xs ++ ys))) (end-some xs ys h) ∙ dark-behind xs ys h
+dark-following : (xs ys : List ℕ) → is_end ys ≡ false → ends_dark (xs ++ ys) ≡ ends_dark ys
+dark-following [] ys h = refl
+dark-following (b ∷ xs) ys h =
+    ap (λ (t : Bool). cond t (not (is_white b)) (ends_dark (xs ++ ys))) (end-some xs ys h) ∙ dark-following xs ys h
 
 end-front : (x : List ℕ) → is_blank x ≡ false → trim_end x ≡ white_front x ++ trim x
 end-front x h =
     (end-is x (white_front x ++ trim x) (white_back (trim_start x))
     (cell-whole x ∙ sym (append_assoc (white_front x) (trim x) (white_back (trim_start x))))
-    (dark-behind (white_front x) (trim x) (trim-some x h) ∙ trimmed-dark (trim_start x))
+    (dark-following (white_front x) (trim x) (trim-some x h) ∙ trimmed-dark (trim_start x))
     (back-blank (trim_start x))).0
 
 -- The events.
@@ -108,16 +108,16 @@ end-front x h =
 -- What is in a cell between two rests, where it is these bytes.
 pub record IsInner (inner : Inner) (part : List ℕ → Point → List Event) (Fits : List ℕ → Type 0) : Type 0 where
   pub nothing : (p : Point) → part [] p ≡ []
-  pub held : (line : TextLine) (r s : Rest) (p : Point) (xs ys : List ℕ) → Stands line (xs ++ ys) p r →
-      IsBehind line r xs ys p s → Fits xs → is_end xs ≡ false → begins (λ (b : ℕ). b == 45) ys ≡ false →
+  pub held : (line : TextLine) (r s : Rest) (p : Point) (xs ys : List ℕ) → Valid line (xs ++ ys) p r →
+      IsAfter line r xs ys p s → Fits xs → is_end xs ≡ false → begins (λ (b : ℕ). b == 45) ys ≡ false →
       inner line r s ≡ part xs p
 
 -- after it comes no hyphen, but whitespace, a pipe or nothing
-behind-apart : (tail back : List ℕ) → is_blank tail ≡ true → IsPiped back →
+following-apart : (tail back : List ℕ) → is_blank tail ≡ true → IsPiped back →
     begins (λ (b : ℕ). b == 45) (tail ++ back) ≡ false
-behind-apart [] [] blank piped = refl
-behind-apart [] (b ∷ bs) blank piped = ap (λ (c : ℕ). nat_eq c 45) (eqb-true b 124 piped)
-behind-apart (b ∷ tail) back blank piped =
+following-apart [] [] blank piped = refl
+following-apart [] (b ∷ bs) blank piped = ap (λ (c : ℕ). nat_eq c 45) (eqb-true b 124 piped)
+following-apart (b ∷ tail) back blank piped =
     white-apart b 45 (and_parts (is_white b) (is_blank tail) blank).0 refl
 
 -- in a blank cell
@@ -138,18 +138,18 @@ blank-cell part none cell p h =
 
 -- and in any other
 dark-cell : (inner : Inner) (part : List ℕ → Point → List Event) (Fits : List ℕ → Type 0) → IsInner inner part Fits →
-    (line : TextLine) (r s : Rest) (p : Point) (cell back : List ℕ) → Stands line (cell ++ back) p r →
-    Stands line back (past_text cell p) s → IsPiped back → is_blank cell ≡ false → Fits (trim cell) →
+    (line : TextLine) (r s : Rest) (p : Point) (cell back : List ℕ) → Valid line (cell ++ back) p r →
+    Valid line back (past_text cell p) s → IsPiped back → is_blank cell ≡ false → Fits (trim cell) →
     let end : Rest = past (length (trim_end cell)) r in
-    white line r (behind_indent r) ++ inner line (behind_indent r) end ++ white line end s ≡ cell_by part cell p
+    white line r (after_indent r) ++ inner line (after_indent r) end ++ white line end s ≡ cell_by part cell p
 dark-cell inner part Fits kind line r s p cell back is at piped dark fits =
     three-joined
     (piece-is line n.SpaceOrTab r begin p front (x ++ back) is.at bytes first ∙ over-white front p)
     (kind.held line begin end q text (tail ++ back) second
-    (behind-from line begin end q text (tail ++ back) second third) fits (trim-some cell dark)
-    (behind-apart tail back (back-blank x) piped))
-    (piece-is line n.SpaceOrTab end s e tail back third.at (stands-bytes line (tail ++ back) e end third)
-    (behind-from line end s e tail back third fourth) ∙ over-white tail e)
+    (following-from line begin end q text (tail ++ back) second third) fits (trim-some cell dark)
+    (following-apart tail back (back-blank x) piped))
+    (piece-is line n.SpaceOrTab end s e tail back third.at (valid-bytes line (tail ++ back) e end third)
+    (following-from line end s e tail back third fourth) ∙ over-white tail e)
   where
     front : List ℕ
     front = white_front cell
@@ -170,7 +170,7 @@ dark-cell inner part Fits kind line r s p cell back is at piped dark fits =
     e = past_text (trim cell) (past_text (white_front cell) p)
 
     begin : Rest
-    begin = behind_indent r
+    begin = after_indent r
 
     size : ℕ
     size = length (trim_end cell)
@@ -180,19 +180,19 @@ dark-cell inner part Fits kind line r s p cell back is at piped dark fits =
 
     bytes : rest_bytes r ≡ white_front cell ++ (trim_start cell ++ back)
     bytes =
-        stands-bytes line (cell ++ back) p r is ∙ ap (λ (l : List ℕ). l ++ back) (front-whole cell)
+        valid-bytes line (cell ++ back) p r is ∙ ap (λ (l : List ℕ). l ++ back) (front-whole cell)
         ∙ append_assoc front x back
 
-    first : IsBehind line r (white_front cell) (trim_start cell ++ back) p (behind_indent r)
+    first : IsAfter line r (white_front cell) (trim_start cell ++ back) p (after_indent r)
     first =
-        white-behind line r p front (x ++ back) is.at bytes (front-passes is_white cell)
+        white-following line r p front (x ++ back) is.at bytes (front-passes is_white cell)
         (dark-start x back (start-end cell ∙ dark) (front-stops is_white cell))
 
-    second : Stands line (trim cell ++ (white_back (trim_start cell) ++ back)) (past_text (white_front cell) p)
-        (behind_indent r)
+    second : Valid line (trim cell ++ (white_back (trim_start cell) ++ back)) (past_text (white_front cell) p)
+        (after_indent r)
     second =
-        subst (λ (l : List ℕ). Stands line l q begin)
-        (ap (λ (l : List ℕ). l ++ back) (end-whole x) ∙ append_assoc text tail back) first.stands
+        subst (λ (l : List ℕ). Valid line l q begin)
+        (ap (λ (l : List ℕ). l ++ back) (end-whole x) ∙ append_assoc text tail back) first.valid
 
     whole : cell ++ back ≡ (white_front cell ++ trim cell) ++ (white_back (trim_start cell) ++ back)
     whole =
@@ -202,41 +202,41 @@ dark-cell inner part Fits kind line r s p cell back is at piped dark fits =
     long : length (white_front cell ++ trim cell) ≡ length (trim_end cell)
     long = ap (λ (l : List ℕ). length l) (sym (end-front cell dark))
 
-    third : Stands line (white_back (trim_start cell) ++ back) (past_text (trim cell) (past_text (white_front cell) p))
+    third : Valid line (white_back (trim_start cell) ++ back) (past_text (trim cell) (past_text (white_front cell) p))
         (past (length (trim_end cell)) r)
     third =
-        subst (λ (z : Point). Stands line (tail ++ back) z end) (past_text-append front text p)
-        (past-behind line r p size (front ++ text) (tail ++ back) is.at
+        subst (λ (z : Point). Valid line (tail ++ back) z end) (past_text-append front text p)
+        (past-following line r p size (front ++ text) (tail ++ back) is.at
         (ap (λ (k : ℕ). cut_tab k ++ take size r.bytes) is.whole ∙ ap (take size) (is.bytes_are ∙ whole)
         ∙ take_at (front ++ text) (tail ++ back) size long)
-        (ap (drop size) (is.bytes_are ∙ whole) ∙ drop_at (front ++ text) (tail ++ back) size long)).stands
+        (ap (drop size) (is.bytes_are ∙ whole) ∙ drop_at (front ++ text) (tail ++ back) size long)).valid
 
-    fourth : Stands line back (past_text (white_back (trim_start cell)) (past_text (trim cell) (past_text (white_front
+    fourth : Valid line back (past_text (white_back (trim_start cell)) (past_text (trim cell) (past_text (white_front
         cell) p))) s
     fourth =
-        subst (λ (z : Point). Stands line back z s)
+        subst (λ (z : Point). Valid line back z s)
         (ap (λ (l : List ℕ). past_text l p) (cell-whole cell) ∙ past_text-append front (text ++ tail) p
         ∙ past_text-append text tail q) at
 
 -- What is in a cell of some bytes, which the first so many of a rest are.
 pub content-is : (inner : Inner) (part : List ℕ → Point → List Event) (Fits : List ℕ → Type 0) →
     IsInner inner part Fits →
-    (line : TextLine) (r s : Rest) (p : Point) (size : ℕ) (cell back : List ℕ) → Stands line (cell ++ back) p r →
-    Stands line back (past_text cell p) s → IsPiped back → take size r.bytes ≡ cell → Fits (trim cell) →
+    (line : TextLine) (r s : Rest) (p : Point) (size : ℕ) (cell back : List ℕ) → Valid line (cell ++ back) p r →
+    Valid line back (past_text cell p) s → IsPiped back → take size r.bytes ≡ cell → Fits (trim cell) →
     cell_content inner size line r s ≡ cell_by part cell p
 content-is inner part Fits kind line r s p size cell back is at piped same fits = ap by same ∙ go (is_blank cell) refl
   where
     dark : List ℕ → List Event
     dark l =
         let end : Rest = past (length (trim_end l)) r in
-        white line r (behind_indent r) ++ inner line (behind_indent r) end ++ white line end s
+        white line r (after_indent r) ++ inner line (after_indent r) end ++ white line end s
 
     by : List ℕ → List Event
     by l = cond (is_blank l) (white line r s) (dark l)
 
     go : (t : Bool) → is_blank cell ≡ t → cond t (white line r s) (dark cell) ≡ cell_by part cell p
     go true e =
-        piece-is line n.SpaceOrTab r s p cell back is.at (stands-bytes line (cell ++ back) p r is)
-        (behind-from line r s p cell back is at)
+        piece-is line n.SpaceOrTab r s p cell back is.at (valid-bytes line (cell ++ back) p r is)
+        (following-from line r s p cell back is at)
         ∙ over-white cell p ∙ blank-cell part kind.nothing cell p e
     go false e = dark-cell inner part Fits kind line r s p cell back is at piped e fits

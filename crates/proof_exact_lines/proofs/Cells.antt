@@ -19,7 +19,7 @@ use Rattle.proof_table_laws.proofs.GfmTable.RowCells.{EachFits}
 use Rattle.md_exact.specs.Leaves.{Inner, cell_content, cell_len, cells, past_optional}
 use Rattle.md_exact.specs.Places.{TextLine, line_end, part, past, piece, white}
 use Rattle.proof_exact_lines.proofs.BeginsAt.{begins-place, rest_bytes}
-use Rattle.proof_exact_lines.proofs.Parts.{IsBehind, Stands, piece-end, piece-is, stands-bytes, taken-front}
+use Rattle.proof_exact_lines.proofs.Parts.{IsAfter, Valid, piece-end, piece-is, valid-bytes, taken-front}
 use Rattle.proof_exact_lines.proofs.CellContent.{IsInner, content-is, over-white}
 use Rattle.proof_exact_lines.proofs.FirstCell.{IsPiped, back-piped, first-cell, from_first, len-other}
 
@@ -30,26 +30,26 @@ optional b true = b ∷ []
 optional b false = []
 
 -- after nothing
-none-behind : (line : TextLine) (r : Rest) (p : Point) (bytes : List ℕ) → Stands line bytes p r →
-    IsBehind line r [] bytes p r
-none-behind line r p bytes is = record { stands = is; fewer = omega arith }
+none-following : (line : TextLine) (r : Rest) (p : Point) (bytes : List ℕ) → Valid line bytes p r →
+    IsAfter line r [] bytes p r
+none-following line r p bytes is = record { valid = is; fewer = omega arith }
 
-pub optional-front : (b : ℕ) (line : TextLine) (r : Rest) (p : Point) (bytes : List ℕ) → Stands line bytes p r →
-    IsBehind line r (optional b (begins_with b bytes)) (after_optional b bytes) p (past_optional b r)
+pub optional-front : (b : ℕ) (line : TextLine) (r : Rest) (p : Point) (bytes : List ℕ) → Valid line bytes p r →
+    IsAfter line r (optional b (begins_with b bytes)) (after_optional b bytes) p (past_optional b r)
 optional-front b line r p [] is =
-    subst (λ (t : Bool). IsBehind line r [] [] p (cond t (past 1 r) r)) (sym (ap (begins_with b) is.bytes_are))
-    (none-behind line r p [] is)
+    subst (λ (t : Bool). IsAfter line r [] [] p (cond t (past 1 r) r)) (sym (ap (begins_with b) is.bytes_are))
+    (none-following line r p [] is)
 optional-front b line r p (c ∷ bs) is =
     subst
-    (λ (t : Bool). IsBehind line r (optional b (nat_eq c b)) (cond (nat_eq c b) bs (c ∷ bs)) p (cond t (past 1 r) r))
+    (λ (t : Bool). IsAfter line r (optional b (nat_eq c b)) (cond (nat_eq c b) bs (c ∷ bs)) p (cond t (past 1 r) r))
     (sym (ap (begins_with b) is.bytes_are)) (go (nat_eq c b) refl)
   where
     go : (t : Bool) → nat_eq c b ≡ t →
-        IsBehind line r (optional b t) (cond t bs (c ∷ bs)) p (cond t (past 1 r) r)
+        IsAfter line r (optional b t) (cond t bs (c ∷ bs)) p (cond t (past 1 r) r)
     go true e =
-        subst (λ (x : ℕ). IsBehind line r (x ∷ []) bs p (past 1 r)) (eqb-true c b e)
+        subst (λ (x : ℕ). IsAfter line r (x ∷ []) bs p (past 1 r)) (eqb-true c b e)
         (taken-front line r p 1 (c ∷ bs) is)
-    go false e = none-behind line r p (c ∷ bs) is
+    go false e = none-following line r p (c ∷ bs) is
 
 -- a pipe before a cell, if there is one
 past-pipe : (piped : Bool) (p : Point) → past_text (optional 124 piped) p ≡ past_pipe piped p
@@ -83,7 +83,7 @@ first-fits Fits cell (b ∷ bs) h = go (is_blank bs) h
 -- what the cells after a bar are
 abbrev Later : Name → Inner → (List ℕ → Point → List Event) → (List ℕ → Type 0) → ℕ → TextLine → ℕ → Type 0
 Later name inner held Fits size line most =
-    (s : Rest) (q : Point) (bs : List ℕ) → Stands line (124 ∷ bs) q s → suc (length bs) ≤ most →
+    (s : Rest) (q : Point) (bs : List ℕ) → Valid line (124 ∷ bs) q s → suc (length bs) ≤ most →
     EachFits Fits (cells_of false bs) →
     cells size name inner line s ≡ cells_by name held true (cells_of false bs) q
 
@@ -98,27 +98,27 @@ from_bar size name inner line r inside bar =
 
 bar-is : (size : ℕ) (name : Name) (inner : Inner) (held : List ℕ → Point → List Event) (Fits : List ℕ → Type 0)
     (line : TextLine) (r bar : Rest) (p : Point) (inside : List Event) (piped : Bool) (cell back : List ℕ) →
-    Stands line back (past_text cell (past_pipe piped p)) bar → IsPiped back →
+    Valid line back (past_text cell (past_pipe piped p)) bar → IsPiped back →
     EachFits Fits (from_first cell back) → Later name inner held Fits size line (length back) →
-    ((s : Rest) (q : Point) (es : List Event) (bs : List ℕ) → Stands line bs q s →
+    ((s : Rest) (q : Point) (es : List Event) (bs : List ℕ) → Valid line bs q s →
     part line name r s es ≡ around name p q es) →
     inside ≡ first_pipe piped p ++ cell_by held cell (past_pipe piped p) →
     from_bar size name inner line r inside bar ≡ cells_by name held piped (from_first cell back) p
 bar-is size name inner held Fits line r bar p inside piped cell [] at pipe fits later parts known =
-    ap by (ap is_blank after.stands.bytes_are)
+    ap by (ap is_blank after.valid.bytes_are)
     ∙ ap₂ (λ (es fs : List Event). part line name r (past_optional 124 bar) (inside ++ es) ++ fs)
-    (piece-is line n.GfmTableCellDivider bar (past_optional 124 bar) e [] [] at.at (stands-bytes line [] e bar at)
+    (piece-is line n.GfmTableCellDivider bar (past_optional 124 bar) e [] [] at.at (valid-bytes line [] e bar at)
     after)
-    (piece-end line n.SpaceOrTab (past_optional 124 bar) e [] after.stands.at
-    (stands-bytes line [] e (past_optional 124 bar) after.stands))
+    (piece-end line n.SpaceOrTab (past_optional 124 bar) e [] after.valid.at
+    (valid-bytes line [] e (past_optional 124 bar) after.valid))
     ∙ append-nil (part line name r (past_optional 124 bar) (inside ++ []))
-    ∙ parts (past_optional 124 bar) e (inside ++ []) [] after.stands
+    ∙ parts (past_optional 124 bar) e (inside ++ []) [] after.valid
     ∙ ap (around name p e) (append-nil inside ∙ known)
   where
     e : Point
     e = past_text cell (past_pipe piped p)
 
-    after : IsBehind line bar [] [] (past_text cell (past_pipe piped p)) (past_optional 124 bar)
+    after : IsAfter line bar [] [] (past_text cell (past_pipe piped p)) (past_optional 124 bar)
     after = optional-front 124 line bar (past_text cell (past_pipe piped p)) [] at
 
     by : Bool → List Event
@@ -127,16 +127,16 @@ bar-is size name inner held Fits line r bar p inside piped cell [] at pipe fits 
         part line name r end (inside ++ piece line n.GfmTableCellDivider bar end)
         ++ cond t (white line end (line_end line)) (cells size name inner line bar)
 bar-is size name inner held Fits line r bar p inside piped cell (b ∷ bs) at pipe fits later parts known =
-    ap by (ap is_blank after.stands.bytes_are) ∙ go (is_blank bs) fits
+    ap by (ap is_blank after.valid.bytes_are) ∙ go (is_blank bs) fits
   where
     e : Point
     e = past_text cell (past_pipe piped p)
 
-    stands : Stands line (124 ∷ bs) (past_text cell (past_pipe piped p)) bar
-    stands = subst (λ (x : ℕ). Stands line (x ∷ bs) e bar) (eqb-true b 124 pipe) at
+    valid : Valid line (124 ∷ bs) (past_text cell (past_pipe piped p)) bar
+    valid = subst (λ (x : ℕ). Valid line (x ∷ bs) e bar) (eqb-true b 124 pipe) at
 
-    after : IsBehind line bar (124 ∷ []) bs (past_text cell (past_pipe piped p)) (past_optional 124 bar)
-    after = optional-front 124 line bar (past_text cell (past_pipe piped p)) (124 ∷ bs) stands
+    after : IsAfter line bar (124 ∷ []) bs (past_text cell (past_pipe piped p)) (past_optional 124 bar)
+    after = optional-front 124 line bar (past_text cell (past_pipe piped p)) (124 ∷ bs) valid
 
     by : Bool → List Event
     by t =
@@ -145,7 +145,7 @@ bar-is size name inner held Fits line r bar p inside piped cell (b ∷ bs) at pi
         ++ cond t (white line end (line_end line)) (cells size name inner line bar)
 
     bytes : rest_bytes bar ≡ 124 ∷ bs
-    bytes = stands-bytes line (124 ∷ bs) (past_text cell (past_pipe piped p)) bar stands
+    bytes = valid-bytes line (124 ∷ bs) (past_text cell (past_pipe piped p)) bar valid
 
     go : (t : Bool) → EachFits Fits (cond t (Shut cell bs) (Divides cell (cells_of false bs))) →
         by t ≡ cells_by name held piped (cond t (Shut cell bs) (Divides cell (cells_of false bs))) p
@@ -153,21 +153,21 @@ bar-is size name inner held Fits line r bar p inside piped cell (b ∷ bs) at pi
         let q : Point = past_byte 124 e in
         ap₂ (λ (es fs : List Event). part line name r (past_optional 124 bar) (inside ++ es) ++ fs)
         (piece-is line n.GfmTableCellDivider bar (past_optional 124 bar) e (124 ∷ []) bs at.at bytes after)
-        (piece-end line n.SpaceOrTab (past_optional 124 bar) q bs after.stands.at
-        (stands-bytes line bs q (past_optional 124 bar) after.stands)
+        (piece-end line n.SpaceOrTab (past_optional 124 bar) q bs after.valid.at
+        (valid-bytes line bs q (past_optional 124 bar) after.valid)
         ∙ over-white bs q)
         ∙ ap (λ (es : List Event). es ++ white_part bs q)
-        (parts (past_optional 124 bar) q (inside ++ pipe_part e) bs after.stands
+        (parts (past_optional 124 bar) q (inside ++ pipe_part e) bs after.valid
         ∙ ap (around name p q)
         (ap (λ (es : List Event). es ++ pipe_part e) known
         ∙ append_assoc (first_pipe piped p) (cell_by held cell (past_pipe piped p)) (pipe_part e)))
     go false fits =
         ap₂ (λ (es fs : List Event). part line name r bar (inside ++ es) ++ fs)
         (piece-is line n.GfmTableCellDivider bar bar e [] (124 ∷ bs) at.at bytes
-        (none-behind line bar e (124 ∷ bs) stands))
-        (later bar e bs stands (omega arith) fits.1)
+        (none-following line bar e (124 ∷ bs) valid))
+        (later bar e bs valid (omega arith) fits.1)
         ∙ ap (λ (es : List Event). es ++ cells_by name held true (cells_of false bs) e)
-        (parts bar e (inside ++ []) (124 ∷ bs) stands ∙ ap (around name p e) (append-nil inside ∙ known))
+        (parts bar e (inside ++ []) (124 ∷ bs) valid ∙ ap (around name p e) (append-nil inside ∙ known))
 
 -- after a cell fewer bytes are left than before it
 back-fewer : (bytes : List ℕ) → is_end bytes ≡ false →
@@ -189,13 +189,13 @@ back-fewer (b ∷ bs) some = go (nat_eq b 124) refl
 -- All cells of some bytes.
 pub cells-are : (name : Name) (inner : Inner) (held : List ℕ → Point → List Event) (Fits : List ℕ → Type 0) →
     IsInner inner held Fits →
-    (size : ℕ) (line : TextLine) (r : Rest) (p : Point) (bytes : List ℕ) → Stands line bytes p r →
+    (size : ℕ) (line : TextLine) (r : Rest) (p : Point) (bytes : List ℕ) → Valid line bytes p r →
     is_end bytes ≡ false → length bytes ≤ size → EachFits Fits (line_cells bytes) →
     cells size name inner line r ≡ cells_by name held (begins_with 124 bytes) (line_cells bytes) p
 cells-are name inner held Fits kind zero line r p [] is some le fits = let no : true ≡ false = some in cc
 cells-are name inner held Fits kind zero line r p (b ∷ bs) is some le fits = absurd (omega (arith, le))
 cells-are name inner held Fits kind (suc size) line r p bytes is some le fits =
-    ap by (ap (cell_len false) begin-at.stands.bytes_are)
+    ap by (ap (cell_len false) begin-at.valid.bytes_are)
     ∙ bar-is size name inner held Fits line r (past len begin) p (inside len) piped cell back bar
     (back-piped false rest) fits-first
     (λ s z bs at most fits.
@@ -233,17 +233,17 @@ cells-are name inner held Fits kind (suc size) line r p bytes is some le fits =
     by : ℕ → List Event
     by k = from_bar size name inner line r (inside k) (past k (past_optional 124 r))
 
-    begin-at : IsBehind line r (optional 124 (begins_with 124 bytes)) (after_optional 124 bytes) p (past_optional 124 r)
+    begin-at : IsAfter line r (optional 124 (begins_with 124 bytes)) (after_optional 124 bytes) p (past_optional 124 r)
     begin-at = optional-front 124 line r p bytes is
 
-    stands : Stands line (after_optional 124 bytes) (past_pipe (begins_with 124 bytes) p) (past_optional 124 r)
-    stands = subst (λ (z : Point). Stands line rest z begin) (past-pipe piped p) begin-at.stands
+    valid : Valid line (after_optional 124 bytes) (past_pipe (begins_with 124 bytes) p) (past_optional 124 r)
+    valid = subst (λ (z : Point). Valid line rest z begin) (past-pipe piped p) begin-at.valid
 
-    bar : Stands line (drop (cell_len false (after_optional 124 bytes)) (after_optional 124 bytes))
+    bar : Valid line (drop (cell_len false (after_optional 124 bytes)) (after_optional 124 bytes))
         (past_text (take (cell_len false (after_optional 124 bytes)) (after_optional 124 bytes))
         (past_pipe (begins_with 124 bytes) p))
         (past (cell_len false (after_optional 124 bytes)) (past_optional 124 r))
-    bar = (taken-front line begin q len rest stands).stands
+    bar = (taken-front line begin q len rest valid).valid
 
     fits-first : EachFits Fits
         (from_first (take (cell_len false (after_optional 124 bytes)) (after_optional 124 bytes))
@@ -257,14 +257,14 @@ cells-are name inner held Fits kind (suc size) line r p bytes is some le fits =
     known =
         ap₂ (λ (es fs : List Event). es ++ fs)
         (piece-is line n.GfmTableCellDivider r begin p (optional 124 piped) rest is.at
-        (stands-bytes line bytes p r is ∙ optional-whole 124 bytes) begin-at
+        (valid-bytes line bytes p r is ∙ optional-whole 124 bytes) begin-at
         ∙ over-pipe piped p)
         (content-is inner held Fits kind line begin (past len begin) q len cell back
-        (subst (λ (l : List ℕ). Stands line l q begin) (sym (take-append-drop len rest)) stands) bar
+        (subst (λ (l : List ℕ). Valid line l q begin) (sym (take-append-drop len rest)) valid) bar
         (back-piped false rest)
-        (ap (take len) stands.bytes_are) (first-fits Fits cell back fits-first))
+        (ap (take len) valid.bytes_are) (first-fits Fits cell back fits-first))
 
-    parts : (s : Rest) (z : Point) (es : List Event) (bs : List ℕ) → Stands line bs z s →
+    parts : (s : Rest) (z : Point) (es : List Event) (bs : List ℕ) → Valid line bs z s →
         part line name r s es ≡ around name p z es
     parts s z es bs at =
         ap₂ (λ (a b : Point). around name a b es) (begins-place line r p is.at) (begins-place line s z at.at)

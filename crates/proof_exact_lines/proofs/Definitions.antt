@@ -13,12 +13,12 @@ use Rattle.md_engine.specs.Meaning.{Cell}
 use Rattle.md_meaning.specs.Ascii.{colon}
 use Rattle.md_meaning.specs.Definition as found
 use Rattle.md_meaning.specs.Definition.{Destination}
-use Rattle.md_meaning.specs.Rest.{Rest, behind_indent, cut_tab, indent, is_white}
+use Rattle.md_meaning.specs.Rest.{Rest, after_indent, cut_tab, indent, is_white}
 use Rattle.md_link_definitions.specs.DefinitionRule.{DefinitionParts, definition_end, definition_events}
 use Rattle.md_link_definitions.specs.DefinitionRule.{definition_parts, definition_rest, destination_begin}
-use Rattle.md_link_definitions.specs.DefinitionRule.{destination_end, destination_rest, ends_behind, is_literal}
-use Rattle.md_link_definitions.specs.DefinitionRule.{label_begin, parts_behind, parts_end, parts_labelled}
-use Rattle.md_link_definitions.specs.DefinitionRule.{parts_rest, parts_with, titled_part, title_behind}
+use Rattle.md_link_definitions.specs.DefinitionRule.{destination_end, destination_rest, ends_after, is_literal}
+use Rattle.md_link_definitions.specs.DefinitionRule.{label_begin, parts_after, parts_end, parts_labelled}
+use Rattle.md_link_definitions.specs.DefinitionRule.{parts_rest, parts_with, titled_part, title_following}
 use Rattle.md_link_definitions.specs.DestinationRule.{destination_left, destination_part}
 use Rattle.md_link_definitions.specs.GapRule.{gap_part, gap_rest, white_part}
 use Rattle.md_link_definitions.specs.LabelRule.{LabelParts, label_events, label_parts}
@@ -35,7 +35,7 @@ use Rattle.md_exact.specs.Leaves.{first_end, start}
 use Rattle.md_exact.specs.Places.{TextLine, line_end, past, place}
 use Rattle.md_exact.specs.Rows.{Row}
 use Rattle.md_exact.specs.Texts as Texts
-use Rattle.md_exact.specs.Texts.{behind_destination, behind_gap, behind_label, enclosed_part, gap, lines_left, mark}
+use Rattle.md_exact.specs.Texts.{after_destination, following_gap, after_label, enclosed_part, gap, lines_left, mark}
 use Rattle.md_exact.specs.Texts.{on_first}
 use Rattle.md_exact.proofs.OnLine.{LineIn, OnLine, indent-on}
 use Rattle.md_exact.proofs.PieceLemmas.{same-spaces}
@@ -54,26 +54,26 @@ use Rattle.proof_exact_lines.proofs.Marks.{LabelOn, label-on, mark-on}
 -- The indent.
 
 -- two rests of a line that are at one point are the same
-same-rest : (text behind : List ℕ) (line : TextLine) (r s : Rest) (p : Point) → OnLine text behind line r p →
-    OnLine text behind line s p → r ≡ s
-same-rest text behind line r s p h k =
-    ap (λ (c : ℕ). rest c r.spaces r.bytes) (omega (arith, h.stands.column, k.stands.column))
+same-rest : (text following : List ℕ) (line : TextLine) (r s : Rest) (p : Point) → OnLine text following line r p →
+    OnLine text following line s p → r ≡ s
+same-rest text following line r s p h k =
+    ap (λ (c : ℕ). rest c r.spaces r.bytes) (omega (arith, h.valid.column, k.valid.column))
     ∙ ap (λ (m : ℕ). rest s.column m r.bytes) spaces ∙ ap (rest s.column s.spaces) bytes
   where
     rest : ℕ → ℕ → List ℕ → Rest
     rest column spaces bytes = record { column = column; spaces = spaces; bytes = bytes }
 
     spaces : r.spaces ≡ s.spaces
-    spaces = same-spaces r.spaces s.spaces p h.stands.cut k.stands.cut
+    spaces = same-spaces r.spaces s.spaces p h.valid.cut k.valid.cut
 
     bytes : r.bytes ≡ s.bytes
     bytes =
         append_cancel_left (cut_tab s.spaces) r.bytes s.bytes
-        (append_cancel_right (cut_tab s.spaces ++ r.bytes) (cut_tab s.spaces ++ s.bytes) behind
-        (ap (λ (m : ℕ). (cut_tab m ++ r.bytes) ++ behind) (sym spaces) ∙ sym h.stands.text_is ∙ k.stands.text_is))
+        (append_cancel_right (cut_tab s.spaces ++ r.bytes) (cut_tab s.spaces ++ s.bytes) following
+        (ap (λ (m : ℕ). (cut_tab m ++ r.bytes) ++ following) (sym spaces) ∙ sym h.valid.text_is ∙ k.valid.text_is))
 
-same-behind : (text a b : List ℕ) (line : TextLine) → LineIn text a line → LineIn text b line → a ≡ b
-same-behind text a b line h k = append_cancel_left line.bytes a b (sym h.stands.text_is ∙ k.stands.text_is)
+same-following : (text a b : List ℕ) (line : TextLine) → LineIn text a line → LineIn text b line → a ≡ b
+same-following text a b line h k = append_cancel_left line.bytes a b (sym h.valid.text_is ∙ k.valid.text_is)
 
 -- the first of some rows is in their cells
 record FirstIn (text : List ℕ) (row : Row) (p : Point) (cells : List Cell) : Type 0 where
@@ -85,20 +85,20 @@ record FirstIn (text : List ℕ) (row : Row) (p : Point) (cells : List Cell) : T
 first-in : (text : List ℕ) (row : Row) (rows : List Row) (p : Point) (cells : List Cell) (turns : List Turn) →
     Along text (row ∷ rows) p cells turns → FirstIn text row p cells
 first-in text row [] p cells turns h =
-    record { begins = h.begins; stop = h.stop; cells_are = h.cells_are; stops = subst Stops (sym h.behind.0) tt }
+    record { begins = h.begins; stop = h.stop; cells_are = h.cells_are; stops = subst Stops (sym h.following.0) tt }
 first-in text row (next ∷ rows) p cells turns h =
-    let o = h.behind in
+    let o = h.following in
     record { begins = h.begins; stop = h.stop; cells_are = h.cells_are; stops = subst Stops (sym o.stop_is) o.ten }
 
 -- after whitespace it is after its indent
 indent-is : (text : List ℕ) (last : Point) (row : Row) (rows : List Row) (p : Point) (cells : List Cell)
     (turns : List Turn) → Walk text last p cells turns → Along text (row ∷ rows) p cells turns →
-    (on : WhiteOn text row rows p cells turns) → behind_indent row.rest ≡ past on.size row.rest
+    (on : WhiteOn text row rows p cells turns) → after_indent row.rest ≡ past on.size row.rest
 indent-is text last row rows p cells turns walk along on =
-    same-rest text is.begins.behind row.line (behind_indent row.rest) (past on.size row.rest)
+    same-rest text is.begins.following row.line (after_indent row.rest) (past on.size row.rest)
     (white_end any_size cells p) here
     (subst
-    (λ (l : List ℕ). OnLine text l row.line (past on.size row.rest) (white_end any_size cells p)) behind
+    (λ (l : List ℕ). OnLine text l row.line (past on.size row.rest) (white_end any_size cells p)) following
     there.begins.on)
   where
     is : FirstIn text row p cells
@@ -109,29 +109,29 @@ indent-is text last row rows p cells turns walk along on =
         first-in text (at row (past on.size row.rest)) rows (white_end any_size cells p) (white_rest any_size cells)
         turns on.along
 
-    behind : there.begins.behind ≡ is.begins.behind
-    behind =
-        same-behind text there.begins.behind is.begins.behind row.line there.begins.line_in is.begins.line_in
+    following : there.begins.following ≡ is.begins.following
+    following =
+        same-following text there.begins.following is.begins.following row.line there.begins.line_in is.begins.line_in
 
     few : indent row.rest ≤ any_size
     few =
-        let some = indent-length no_line text is.begins.behind row.rest p is.begins.on.stands in
+        let some = indent-length no_line text is.begins.following row.rest p is.begins.on.valid in
         let parts = length-append (rest_cells no_line row.rest p) is.stop in
         let all = ap (λ (l : List Cell). length l) is.cells_are in
         let small = walk.small in
         omega (arith, some, parts, all, small)
 
-    here : OnLine text is.begins.behind row.line (behind_indent row.rest) (white_end any_size cells p)
+    here : OnLine text is.begins.following row.line (after_indent row.rest) (white_end any_size cells p)
     here =
         subst
         (λ (l : List Cell).
-        OnLine text is.begins.behind row.line (behind_indent row.rest) (white_end any_size l p)) (sym is.cells_are)
-        (indent-on no_line text is.begins.behind row.line (indent row.rest) any_size row.rest p is.stop is.begins.on
+        OnLine text is.begins.following row.line (after_indent row.rest) (white_end any_size l p)) (sym is.cells_are)
+        (indent-on no_line text is.begins.following row.line (indent row.rest) any_size row.rest p is.stop is.begins.on
         is.stops refl few)
 
 onward-first : (f : Rest → Rest) (rows : List Row) → Onward rows (on_first f rows)
-onward-first f [] = record { passed = []; behind = refl }
-onward-first f (row ∷ rows) = record { passed = []; behind = refl }
+onward-first f [] = record { passed = []; following = refl }
+onward-first f (row ∷ rows) = record { passed = []; following = refl }
 
 -- Whether one is found.
 
@@ -141,7 +141,7 @@ some-cut (Some d) = refl
 
 pub definition-found : (text : List ℕ) (last p : Point) (cells : List Cell) (turns : List Turn) (rows : List Row) →
     Walk text last p cells turns → Along text rows p cells turns →
-    is_some (found.definition_at (lines_left (on_first behind_indent rows))) ≡ is_some (definition_parts cells)
+    is_some (found.definition_at (lines_left (on_first after_indent rows))) ≡ is_some (definition_parts cells)
 definition-found text last p cells turns [] walk along = absurd along
 definition-found text last p cells turns (row ∷ rows) walk along =
     ap (λ (r : Rest). is_some (found.definition_at (lines_left (at row r ∷ rows))))
@@ -170,7 +170,7 @@ definition-found text last p cells turns (row ∷ rows) walk along =
 label-with : (cells : List Cell) (label : LabelParts) (c : Cell) (cs : List Cell) (o : Option Destination)
     (d : DefinitionParts) → parts_with cells label c cs o ≡ Some d → label ≡ d.label
 label-with cells label c cs None d e = let bad : (let o : Option DefinitionParts = None in o) ≡ Some d = e in cc
-label-with cells label c cs (Some t) d e = go (ends_behind (parts_rest all)) e
+label-with cells label c cs (Some t) d e = go (ends_after (parts_rest all)) e
   where
     all : DefinitionParts
     all = record {
@@ -179,17 +179,17 @@ label-with cells label c cs (Some t) d e = go (ends_behind (parts_rest all)) e
       colon = c;
       more = cs;
       destination = t;
-      title = title_behind (destination_left t (gap_rest cs));
+      title = title_following (destination_left t (gap_rest cs));
     }
 
     go : (x : Bool) → cond x (Some all) None ≡ Some d → label ≡ d.label
     go true e = let same : all ≡ d = cc in ap (λ (x : DefinitionParts). x.label) same
     go false e = let bad : (let o : Option DefinitionParts = None in o) ≡ Some d = e in cc
 
-label-behind : (cells : List Cell) (label : LabelParts) (left : List Cell) (d : DefinitionParts) →
-    parts_behind cells label left ≡ Some d → label ≡ d.label
-label-behind cells label [] d e = let bad : (let o : Option DefinitionParts = None in o) ≡ Some d = e in cc
-label-behind cells label (c ∷ cs) d e = go (nat_eq c.byte colon) e
+label-following : (cells : List Cell) (label : LabelParts) (left : List Cell) (d : DefinitionParts) →
+    parts_after cells label left ≡ Some d → label ≡ d.label
+label-following cells label [] d e = let bad : (let o : Option DefinitionParts = None in o) ≡ Some d = e in cc
+label-following cells label (c ∷ cs) d e = go (nat_eq c.byte colon) e
   where
     go : (x : Bool) →
         cond x (parts_with cells label c cs (found.destination_at (line_bytes (gap_rest cs)))) None ≡ Some d →
@@ -204,7 +204,7 @@ definition-label cells d e = go (label_parts (white_rest any_size cells)) e
   where
     go : (o : Option LabelParts) → parts_labelled cells o ≡ Some d → o ≡ Some d.label
     go None e = let bad : (let o : Option DefinitionParts = None in o) ≡ Some d = e in cc
-    go (Some label) e = ap Some (label-behind cells label label.rest d e)
+    go (Some label) e = ap Some (label-following cells label label.rest d e)
 
 -- Marks and the end of a line, by any rows.
 
@@ -237,7 +237,7 @@ ends-stop [] e = tt
 ends-stop (c ∷ cs) e = e
 
 end-at : (text : List ℕ) (last : Point) (rows : List Row) (p : Point) (cells : List Cell) (turns : List Turn) →
-    ends_behind cells ≡ true → Walk text last p cells turns → Along text rows p cells turns →
+    ends_after cells ≡ true → Walk text last p cells turns → Along text rows p cells turns →
     EndAt text rows p cells turns
 end-at text last [] p cells turns ends walk along = absurd along
 end-at text last (row ∷ rows) p cells turns ends walk along =
@@ -258,14 +258,14 @@ end-at text last (row ∷ rows) p cells turns ends walk along =
 
 -- where its value begins, after the colon, and its destination, after a gap
 abbrev value_of : List Row → List Row
-value_of rows = on_first (past 1) (behind_label rows)
+value_of rows = on_first (past 1) (after_label rows)
 
 abbrev destination_of : List Row → List Row
-destination_of rows = behind_gap (value_of rows)
+destination_of rows = following_gap (value_of rows)
 
 -- and where that ends
 abbrev target_end : List Row → List Row
-target_end rows = behind_destination (destination_of rows)
+target_end rows = after_destination (destination_of rows)
 
 -- its events so far, by its cells and by rows
 abbrev head_events : DefinitionParts → Point → List Event
@@ -276,8 +276,8 @@ head_events d x =
 
 abbrev head_unread : List Row → List Event
 head_unread rows =
-    enclosed_part n.DefinitionLabel n.DefinitionLabelMarker n.DefinitionLabelString rows (behind_label rows)
-    ++ mark n.DefinitionMarker (behind_label rows) ++ gap (value_of rows) (destination_of rows)
+    enclosed_part n.DefinitionLabel n.DefinitionLabelMarker n.DefinitionLabelString rows (after_label rows)
+    ++ mark n.DefinitionMarker (after_label rows) ++ gap (value_of rows) (destination_of rows)
     ++ Texts.destination_part (destination_of rows) (target_end rows)
 
 record HeadOn (text : List ℕ) (last x : Point) (d : DefinitionParts) (turns : List Turn) (rows : List Row) :
@@ -314,7 +314,7 @@ head-on text last x d turns rows are label_is walk along = record {
     c = d.label.closer.after
 
     label : List Row
-    label = behind_label rows
+    label = after_label rows
 
     value : List Row
     value = value_of rows
@@ -523,10 +523,10 @@ pub record DefinitionOn (text : List ℕ) (last p : Point) (d : DefinitionParts)
     Type 0 where
   pub left : List Turn
   pub takes : Takes text last p turns (definition_end d) (definition_rest d) left (definition_events d p)
-      (gap rows (on_first behind_indent rows) ++ Texts.definition (on_first behind_indent rows))
+      (gap rows (on_first after_indent rows) ++ Texts.definition (on_first after_indent rows))
   pub end : Row
   pub more : List Row
-  pub end_is : Texts.definition_end (on_first behind_indent rows) ≡ end ∷ more
+  pub end_is : Texts.definition_end (on_first after_indent rows) ≡ end ∷ more
   pub stops : place end.line (line_end end.line) ≡ definition_end d
   pub onward : Onward rows (end ∷ more)
   pub size : ℕ
@@ -550,7 +550,7 @@ definition-by text last p d turns (row ∷ rows) are label_is walk along = recor
   more = inner.more;
   end_is = inner.end_is;
   stops = inner.stops;
-  onward = record { passed = inner.onward.passed; behind = inner.onward.behind };
+  onward = record { passed = inner.onward.passed; following = inner.onward.following };
   size = inner.size;
   along = inner.along;
 }
@@ -559,7 +559,7 @@ definition-by text last p d turns (row ∷ rows) are label_is walk along = recor
     x = label_begin d p
 
     first : List Row
-    first = at row (behind_indent row.rest) ∷ rows
+    first = at row (after_indent row.rest) ∷ rows
 
     known : WhiteOf text last p d.cells turns
     known = white-of text last p d.cells turns walk
@@ -567,7 +567,7 @@ definition-by text last p d turns (row ∷ rows) are label_is walk along = recor
     on : WhiteOn text row rows p d.cells turns
     on = white-on text last row rows p d.cells turns walk along
 
-    same : behind_indent row.rest ≡ past on.size row.rest
+    same : after_indent row.rest ≡ past on.size row.rest
     same = indent-is text last row rows p d.cells turns walk along on
 
     inner : InnerOn text last x d turns first

@@ -22,7 +22,7 @@ use Rattle.md_link_definitions.specs.DestinationRule.{text_part}
 use Rattle.md_link_definitions.specs.Title.{is_mark}
 use Rattle.md_link_definitions.specs.WholeCells.{whole_cells}
 use Rattle.md_link_definitions.proofs.DestinationLemmas.{line-ends, line-more, raw-cons}
-use Rattle.md_link_definitions.proofs.DestinationLines.{destination-stands, destination-texts, destination_lines}
+use Rattle.md_link_definitions.proofs.DestinationLines.{destination-valid, destination-texts, destination_lines}
 use Rattle.md_link_definitions.proofs.DestinationLines.{destination_on, with_further}
 use Rattle.md_link_definitions.proofs.DestinationWhole.{found-literal, found-neither, found-none, found-raw}
 use Rattle.md_link_definitions.proofs.DestinationWhole.{literal_found, raw_found}
@@ -34,7 +34,7 @@ use Rattle.md_events.specs.Events.Nested.{around, pair}
 use Rattle.md_events.proofs.FeedLines.{NoFeed, bytes_of, point_after-append}
 use Rattle.md_exact.specs.Rows.{Row}
 use Rattle.md_exact.specs.Texts as Texts
-use Rattle.md_exact.specs.Texts.{behind_destination, lines_left}
+use Rattle.md_exact.specs.Texts.{after_destination, lines_left}
 use Rattle.proof_content_laws.proofs.Defined.Along.{Turn}
 use Rattle.proof_content_laws.proofs.Defined.Marked.{MarkedOf, marked-of}
 use Rattle.proof_content_laws.proofs.Defined.Takes.{Takes, Walk, walk-whole}
@@ -68,12 +68,12 @@ raw-of c cs d raw other e = by known.text known.split known.found (raw-no_feed k
     more : List ℕ
     more = after is_raw_byte (line_bytes (c ∷ cs))
 
-    told : (x : Bool) → cond x (Some (record { text = text; rest = more })) None ≡ Some d → text ≡ d.text
-    told true f =
+    recorded : (x : Bool) → cond x (Some (record { text = text; rest = more })) None ≡ Some d → text ≡ d.text
+    recorded true f =
         let v : Destination = record { text = text; rest = more } in
         let here : v ≡ d = cc in
         ap (λ (w : Destination). w.text) here
-    told false f = let no : (let o : Option Destination = None in o) ≡ Some d = f in cc
+    recorded false f = let no : (let o : Option Destination = None in o) ≡ Some d = f in cc
 
     by : (front : List Cell) → front ++ known.rest ≡ c ∷ cs → text ≡ bytes_of front → NoFeed front →
         Found (c ∷ cs) d
@@ -82,7 +82,7 @@ raw-of c cs d raw other e = by known.text known.split known.found (raw-no_feed k
     by (x ∷ xs) split k none =
         let same : x ≡ c = cc in
         Raw x xs known.rest split none (ap (λ (y : Cell). is_white y.byte) same ∙ raw-no_white c.byte raw)
-        (ap (λ (y : Cell). y.byte == less_than) same ∙ other) (sym k ∙ told (balanced 0 false text) e)
+        (ap (λ (y : Cell). y.byte == less_than) same ∙ other) (sym k ∙ recorded (balanced 0 false text) e)
 
 -- between them
 literal-of : (c : Cell) (cs text rest : List Cell) (d : Destination) → c.byte ≡ less_than → NoFeed text →
@@ -170,14 +170,14 @@ destination-whole text last p cells turns d e at walk = go (destination_left d c
         walk-whole text last (destination_last d cells p) (destination_left d cells) turns
         (target-of text last p cells turns d e walk).takes.walk
         (ap (λ (l : List Cell). begins_white l) k)
-    go (c ∷ cs) k = (destination-stands p cells d at e).begins c cs k
+    go (c ∷ cs) k = (destination-valid p cells d at e).begins c cs k
 
 -- Where it is found in rows.
 
 -- the bytes of what follows it on the first line, before the other lines
 destination-rest : (row : Row) (rows : List Row) (lines : List (List ℕ)) (text : List (List ℕ)) →
     destination_on (lines_left (row ∷ rows)) ≡ Some (record { text = text; rest = lines }) →
-    behind_destination (row ∷ rows) ≡ Texts.left (row ∷ rows) lines
+    after_destination (row ∷ rows) ≡ Texts.left (row ∷ rows) lines
 destination-rest row rows lines text e = go (destination_at row.rest.bytes) refl e
   where
     further : List (List ℕ)
@@ -188,7 +188,7 @@ destination-rest row rows lines text e = go (destination_at row.rest.bytes) refl
 
     go : (o : Option Destination) → destination_at row.rest.bytes ≡ o →
         with_further further o ≡ Some (record { text = text; rest = lines }) →
-        behind_destination (row ∷ rows) ≡ Texts.left (row ∷ rows) lines
+        after_destination (row ∷ rows) ≡ Texts.left (row ∷ rows) lines
     go None k f = let no : (let o : Option Lines = None in o) ≡ Some (record { text = text; rest = lines }) = f in cc
     go (Some d) k f =
         let u : Lines = record { text = d.text ∷ []; rest = d.rest ∷ further } in
@@ -209,13 +209,13 @@ destination-found : (text : List ℕ) (row : Row) (rows : List Row) (p : Point) 
     Along text (row ∷ rows) p cells turns → p.vs ≡ 0 → AreAt p cells → destination_at (line_bytes cells) ≡ Some d →
     (ends : List Row) (left : List Turn) →
     Along text ends (destination_last d cells p) (destination_left d cells) left →
-    (destination_last d cells p).vs ≡ 0 → Ahead (row ∷ rows) ends → behind_destination (row ∷ rows) ≡ ends
-destination-found text row rows p cells turns d along whole at e ends left behind end ahead =
+    (destination_last d cells p).vs ≡ 0 → Ahead (row ∷ rows) ends → after_destination (row ∷ rows) ≡ ends
+destination-found text row rows p cells turns d along whole at e ends left following end ahead =
     destination-rest row rows lines _
     (ap destination_on (sym (rows-lines text (row ∷ rows) p cells turns along whole)) ∙ destination-texts p cells at
     ∙ ap (destination_lines p cells) e)
     ∙ left-is (row ∷ rows) ends lines ahead
-    (rows-lines text ends (destination_last d cells p) (destination_left d cells) left behind end)
+    (rows-lines text ends (destination_last d cells p) (destination_left d cells) left following end)
   where
     lines : List (List ℕ)
     lines = cell_lines false (whole_cells (destination_last d cells p) (destination_left d cells))
@@ -250,11 +250,11 @@ raw-as : (text : List ℕ) (last p : Point) (cells front rest : List Cell) (d : 
     Takes text last p turns (point_after front p) rest left (raw_begin p ++ raw_end (point_after front p))
     (Texts.destination_part rows ends) → Along text ends (point_after front p) rest left → Ahead rows ends →
     PartOn text last p cells d turns rows
-raw-as text last p cells front rest d turns rows ends left bare taken behind takes along ahead = record {
+raw-as text last p cells front rest d turns rows ends left bare taken following takes along ahead = record {
   ends = ends;
   left = left;
-  takes = rw (bare, taken, behind) takes;
-  along = rw (bare, taken, behind) along;
+  takes = rw (bare, taken, following) takes;
+  along = rw (bare, taken, following) along;
   ahead = ahead;
 }
 
@@ -329,11 +329,11 @@ literal-as : (text : List ℕ) (last p : Point) (o : Cell) (front : List Cell) (
     ++ literal_end (point_after front o.after) k.after) (Texts.destination_part rows ends) →
     Along text ends k.after rest left → Ahead rows ends →
     PartOn text last p (o ∷ (front ++ (k ∷ rest))) d turns rows
-literal-as text last p o front k rest d turns rows ends left lit taken end behind takes along ahead = record {
+literal-as text last p o front k rest d turns rows ends left lit taken end following takes along ahead = record {
   ends = ends;
   left = left;
-  takes = rw (lit, taken, end, behind) takes;
-  along = rw (lit, end, behind) along;
+  takes = rw (lit, taken, end, following) takes;
+  along = rw (lit, end, following) along;
   ahead = ahead;
 }
 
@@ -411,9 +411,9 @@ pub record DestinationOn (text : List ℕ) (last p : Point) (cells : List Cell) 
   pub left : List Turn
   pub takes : Takes text last p turns (destination_last d cells p) (destination_left d cells) left
       (destination_part (begins_literal cells) d.text cells p)
-      (Texts.destination_part rows (behind_destination rows))
-  pub along : Along text (behind_destination rows) (destination_last d cells p) (destination_left d cells) left
-  pub ahead : Ahead rows (behind_destination rows)
+      (Texts.destination_part rows (after_destination rows))
+  pub along : Along text (after_destination rows) (destination_last d cells p) (destination_left d cells) left
+  pub ahead : Ahead rows (after_destination rows)
   pub whole : (destination_last d cells p).vs ≡ 0
   pub at : AreAt (destination_last d cells p) (destination_left d cells)
 
@@ -434,7 +434,7 @@ destination-on text last p cells d turns (row ∷ rows) e walk along whole = rec
       (sym found) on.along;
   ahead = subst (Ahead (row ∷ rows)) (sym found) on.ahead;
   whole = end;
-  at = destination-stands p cells d at e;
+  at = destination-valid p cells d at e;
 }
   where
     at : AreAt p cells
@@ -446,6 +446,6 @@ destination-on text last p cells d turns (row ∷ rows) e walk along whole = rec
     on : PartOn text last p cells d turns (row ∷ rows)
     on = part-on text last p cells d turns row rows (found-of cells d e) walk along whole end
 
-    found : behind_destination (row ∷ rows) ≡ on.ends
+    found : after_destination (row ∷ rows) ≡ on.ends
     found =
         destination-found text row rows p cells turns d along whole at e on.ends on.left on.along end on.ahead

@@ -21,9 +21,9 @@ use Rattle.proof_exact_lines.specs.Unlisted.{unlisted}
 use Rattle.proof_exact_lines.proofs.ExactListed.{begun, body-listed}
 use Rattle.proof_exact_lines.proofs.GroupEvents.{ending-none, tail_name}
 use Rattle.proof_exact_lines.proofs.LeafEvents.{NoItem, OfLines, Plain, item-append, item-white, leaf-items}
-use Rattle.proof_exact_lines.proofs.LeavesStand.{leaves-stand}
+use Rattle.proof_exact_lines.proofs.LeavesAllowed.{leaves-are_valid}
 use Rattle.proof_exact_lines.proofs.ListWalk.{none-items, none-part, none-piece}
-use Rattle.proof_exact_lines.proofs.Markers.{AreIn, IsIn, lines-stand}
+use Rattle.proof_exact_lines.proofs.Markers.{AreIn, IsIn, lines-are_valid}
 
 -- The lines of a text are in it.
 
@@ -47,7 +47,7 @@ front-back (suc size) (b ∷ bytes) = ap (λ (l : List ℕ). b ∷ l) (front-bac
 
 lines-in : (text : List ℕ) (number index column : ℕ) (fulls : List (List ℕ)) → drop index text ≡ concat fulls →
     AreIn text (lines_from number index column fulls)
-lines-in text number index column [] e = (record { behind = drop index text; is = refl }, tt)
+lines-in text number index column [] e = (record { following = drop index text; is = refl }, tt)
 lines-in text number index column (full ∷ more) e =
     (first, go (is_end line.ending) (lines-in text (number + 1) (index + length full) 0 more next))
   where
@@ -57,15 +57,15 @@ lines-in text number index column (full ∷ more) e =
     bytes : List ℕ
     bytes = without_ending full
 
-    behind : List ℕ
-    behind = drop (length bytes) full
+    following : List ℕ
+    following = drop (length bytes) full
 
     first : IsIn text line
     first = record {
-      behind = behind ++ concat more;
+      following = following ++ concat more;
       is =
           e ∙ ap (λ (l : List ℕ). l ++ concat more) (front-back (prefix_len (λ (b : ℕ). not (is_ending b)) full) full)
-          ∙ append_assoc bytes behind (concat more);
+          ∙ append_assoc bytes following (concat more);
     }
 
     next : drop (index + length full) text ≡ concat more
@@ -142,8 +142,8 @@ exact-listed options text =
     (item-append (mark_events text) leaf_events (mark-items text)
     (front-items (first_byte (without_mark text)) front))
     (tail-items front))
-    (lines-stand options text begun body (drop-in text size (text_lines text) (text-in text)))
-    (leaves-stand options text body)
+    (lines-are_valid options text begun body (drop-in text size (text_lines text) (text-in text)))
+    (leaves-are_valid options text body)
   where
     size : ℕ
     size = front_size options text

@@ -11,7 +11,7 @@ use Rattle.md_code.specs.Fence.{block_name}
 use Rattle.md_leaves.specs.Spanned.{renamed}
 use Rattle.md_leaves.specs.declared.spans.Place.TheVariants.{Outside}
 use Rattle.md_meaning.specs.Bytes.{is_end}
-use Rattle.md_meaning.specs.Rest.{Rest, behind_indent, indent, is_blank, lose, run_len, trim_start}
+use Rattle.md_meaning.specs.Rest.{Rest, after_indent, indent, is_blank, lose, run_len, trim_start}
 use Rattle.md_meaning.specs.State.{Opening}
 use Rattle.md_meaning.specs.Texts.{first_byte}
 use Rattle.md_events.specs.Events.Nested.{around, pair}
@@ -27,7 +27,7 @@ use Rattle.md_exact.specs.Leaves.{content_line, fence_part, fenced_line, info_pa
 use Rattle.md_exact.specs.Places.{ending, place, white}
 use Rattle.md_exact.specs.Rows.{Row}
 use Rattle.proof_exact_lines.proofs.BeginsAt.{BeginsAt, begins-place, rest_bytes}
-use Rattle.proof_exact_lines.proofs.LeafLines.{code-behind, code-first, code-further, end_at, ends-at, fence-first}
+use Rattle.proof_exact_lines.proofs.LeafLines.{code-following, code-first, code-further, end_at, ends-at, fence-first}
 use Rattle.proof_exact_lines.proofs.LeafLines.{fence-further, html-first, html-further, linked_around}
 use Rattle.proof_exact_lines.proofs.Lost.{line-lost}
 use Rattle.proof_exact_lines.proofs.Parts.{white-front}
@@ -95,14 +95,14 @@ further-code x r is adds = go (is_blank x.rest.bytes) refl
         Framed (whole ∙ ap (λ (t : Bool). cond t inside (linked_around n.CodeIndented r.first r.end inside)) e)
 
 -- a blank line, as it is after code
-pub behind-blank : (x : Row) (r : FrameRow) → ReadAs x r →
+pub following-blank : (x : Row) (r : FrameRow) → ReadAs x r →
     r.inside ≡ code.further_events (rest_bytes x.rest) r.first → is_blank x.rest.bytes ≡ true →
     map (renamed Outside) r.inside ≡ content_line n.SpaceOrTab 4 x.line x.rest
-behind-blank x r is adds blank =
+following-blank x r is adds blank =
     ap (map (renamed Outside))
     (adds ∙ code-further x r.first is.at
     ∙ ap (λ (t : Bool). cond t inside (linked_around n.CodeIndented r.first (end_at x.rest r.first) inside)) blank)
-    ∙ code-behind x r.first is.at
+    ∙ code-following x r.first is.at
   where
     inside : List Event
     inside = content_line n.CodeFlowChunk 4 x.line x.rest
@@ -129,7 +129,7 @@ further-html x r is adds =
 
 pub first-fence : (o : Opening) (x : Row) (r : FrameRow) → ReadAs x r →
     o.marker ≡ first_byte (trim_start x.rest.bytes) → 1 ≤ run_len o.marker (trim_start x.rest.bytes) →
-    let opening : Rest = behind_indent x.rest in
+    let opening : Rest = after_indent x.rest in
     r.inside ≡ fence_line linked (rest_bytes x.rest) r.first →
     r.inside ≡
     white x.line x.rest opening
@@ -139,11 +139,11 @@ first-fence o x r is m some adds =
     adds ∙ fence-first o x r.first is.at m some
     ∙ ap₂ (λ (p q : Point). white x.line x.rest opening ++ around (block_name o.marker) p q inside)
     (sym
-    (begins-place x.line opening _ (white-front x.line x.rest r.first (rest_bytes x.rest) is.at refl).stands.at))
+    (begins-place x.line opening _ (white-front x.line x.rest r.first (rest_bytes x.rest) is.at refl).valid.at))
     (sym is.end)
   where
     opening : Rest
-    opening = behind_indent x.rest
+    opening = after_indent x.rest
 
     inside : List Event
     inside = fence_part o.marker x.line opening (info_parts o.marker x.line)

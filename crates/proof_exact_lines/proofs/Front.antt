@@ -27,7 +27,7 @@ use Rattle.md_events.specs.Events.Nested.{around, enter, exit, pair}
 use Rattle.md_events.specs.Events.Places.{past_text}
 use Rattle.md_events.proofs.InlineLemmas.{past-index}
 use Rattle.proof_frame.specs.LineColumns.{part_over}
-use Rattle.proof_leaf_laws.specs.Front.{FrontRead, behind_these, ending_of, ending_part, fence_part, line_part}
+use Rattle.proof_leaf_laws.specs.Front.{FrontRead, after_these, ending_of, ending_part, fence_part, line_part}
 use Rattle.proof_leaf_laws.specs.Front.{lines_read}
 use Rattle.proof_leaf_laws.specs.Front.{events_of, front_from, front_read, past_ending, text_front}
 use Rattle.proof_leaf_laws.specs.Front as rooms
@@ -91,7 +91,7 @@ fence-same m line fence =
     ++ exact.white line (past 3 (whole line)) (line_end line)))
     (piece line n.FrontmatterChunk (whole line) (line_end line))) fence
     ∙ ap₂ (λ (a b : Point). around n.FrontmatterFence a b inside) (place-whole line) (place-end line)
-    ∙ ap₂ (λ (xs ys : List Event). around n.FrontmatterFence p r (xs ++ ys)) sequence behind
+    ∙ ap₂ (λ (xs ys : List Event). around n.FrontmatterFence p r (xs ++ ys)) sequence following
   where
     p : Point
     p = line_start line
@@ -121,8 +121,8 @@ fence-same m line fence =
         (pair n.FrontmatterSequence (place line (whole line)) (place line (past 3 (whole line))))) apart
         ∙ ap₂ (λ (x y : Point). pair n.FrontmatterSequence x y) (place-whole line) (place-past line 3)
 
-    behind : exact.white line (past 3 (whole line)) (line_end line) ≡ part_over n.SpaceOrTab (drop 3 line.bytes) q r
-    behind =
+    following : exact.white line (past 3 (whole line)) (line_end line) ≡ part_over n.SpaceOrTab (drop 3 line.bytes) q r
+    following =
         over-same line n.SpaceOrTab (past 3 (whole line)).column (drop 3 line.bytes) q r (place-past line 3)
         (place-end line)
 
@@ -203,9 +203,9 @@ front_rest-more : (m : ℕ) (line next : TextLine) (lines : List TextLine) →
     front_rest m (line ∷ next ∷ lines) ≡
     (front_line m line (whole line) ++ exact.ending n.LineEnding line) ++ front_rest m (next ∷ lines)
 front_rest-more m line next lines =
-    ap (λ (es : List Event). (front_line m line (whole line) ++ es ++ inside) ++ behind)
+    ap (λ (es : List Event). (front_line m line (whole line) ++ es ++ inside) ++ following)
     (append-nil (exact.ending n.LineEnding line))
-    ∙ append_assoc (front_line m line (whole line) ++ exact.ending n.LineEnding line) inside behind
+    ∙ append_assoc (front_line m line (whole line) ++ exact.ending n.LineEnding line) inside following
   where
     rows : List Row
     rows = map front_row (next ∷ lines)
@@ -213,8 +213,8 @@ front_rest-more m line next lines =
     inside : List Event
     inside = joined (front_line m) rows
 
-    behind : List Event
-    behind = exit n.Frontmatter (start (last_end rows)) ∷ tail rows
+    following : List Event
+    following = exit n.Frontmatter (start (last_end rows)) ∷ tail rows
 
 -- where a line begins
 abbrev pub begin : ℕ → ℕ → ℕ → Point
@@ -273,7 +273,7 @@ more-same m number index column full (next ∷ ls) first g all e read below =
     (below g all.1
     (ap (λ (x : Point). lines_read m (next ∷ ls) x) (sym (begins-next number index column full all.0)) ∙ read))
     ∙ by (is_front_fence m (without_ending next))
-    ∙ ap (λ (x : Bool). front_rest m (line ∷ take size (cond x [] (second ∷ behind)))) (sym all.0)
+    ∙ ap (λ (x : Bool). front_rest m (line ∷ take size (cond x [] (second ∷ following)))) (sym all.0)
   where
     line : TextLine
     line = line_at number index column full
@@ -284,8 +284,8 @@ more-same m number index column full (next ∷ ls) first g all e read below =
     second : TextLine
     second = line_at (number + 1) (index + length full) 0 next
 
-    behind : List TextLine
-    behind =
+    following : List TextLine
+    following =
         cond (is_end second.ending) [] (lines_from (number + 1 + 1) (index + length full + length next) 0 ls)
 
     more_size : ℕ
@@ -293,10 +293,10 @@ more-same m number index column full (next ∷ ls) first g all e read below =
 
     by : (t : Bool) →
         (front_line m line (whole line) ++ exact.ending n.LineEnding line)
-        ++ front_rest m (take (cond t 1 (suc more_size)) (second ∷ behind)) ≡
-        front_rest m (line ∷ take (cond t 1 (suc more_size)) (second ∷ behind))
+        ++ front_rest m (take (cond t 1 (suc more_size)) (second ∷ following)) ≡
+        front_rest m (line ∷ take (cond t 1 (suc more_size)) (second ∷ following))
     by true = sym (front_rest-more m line second [])
-    by false = sym (front_rest-more m line second (take more_size behind))
+    by false = sym (front_rest-more m line second (take more_size following))
 
 -- What is read of lines is what their rows have, up to the first fence.
 lines-same : (m : ℕ) (fulls : List (List ℕ)) (number index column : ℕ) (f : FrontRead) → AllEnd fulls →
@@ -320,13 +320,13 @@ lines-same m (full ∷ more) number index column f all read =
     size : ℕ
     size = upto (is_front_fence m) (map without_ending more)
 
-    behind : List TextLine
-    behind = lines_from (number + 1) (index + length full) 0 more
+    following : List TextLine
+    following = lines_from (number + 1) (index + length full) 0 more
 
     Below : Type 0
     Below =
         (h : FrontRead) → AllEnd more → lines_read m more (begin (number + 1) (index + length full) 0) ≡ Some h →
-        h.events ≡ front_rest m (take size behind)
+        h.events ≡ front_rest m (take size following)
 
     -- a fence
     last : is_front_fence m line.bytes ≡ true →
@@ -352,8 +352,8 @@ lines-same m (full ∷ more) number index column f all read =
     -- or another line
     further : Below → is_front_fence m line.bytes ≡ false → (o : Option FrontRead) →
         lines_read m more (past_ending line.ending q) ≡ o →
-        option_map (behind_these (line_part line.bytes p ++ ending_part line.ending q)) o ≡ Some f →
-        f.events ≡ front_rest m (line ∷ take size (cond (is_end line.ending) [] behind))
+        option_map (after_these (line_part line.bytes p ++ ending_part line.ending q)) o ≡ Some f →
+        f.events ≡ front_rest m (line ∷ take size (cond (is_end line.ending) [] following))
     further below other None found none = absurd (cc)
     further below other (Some g) found same =
         sym (ap events_of same)
@@ -366,10 +366,10 @@ lines-same m (full ∷ more) number index column f all read =
           events = fence_part line.bytes p ++ exit n.Frontmatter q ∷ ending_part line.ending q;
           point = past_ending line.ending q;
         }))
-        (option_map (behind_these (line_part line.bytes p ++ ending_part line.ending q))
+        (option_map (after_these (line_part line.bytes p ++ ending_part line.ending q))
         (lines_read m more (past_ending line.ending q))) ≡
         Some f →
-        f.events ≡ front_rest m (take (cond t 1 (suc size)) (line ∷ cond (is_end line.ending) [] behind))
+        f.events ≡ front_rest m (take (cond t 1 (suc size)) (line ∷ cond (is_end line.ending) [] following))
     go below true e is = sym (ap events_of is) ∙ last e
     go below false e is = further below e (lines_read m more (past_ending line.ending q)) refl is
 
@@ -389,7 +389,7 @@ any-is m (full ∷ more) p =
     these : List Event
     these = line_part (without_ending full) p ++ ending_part (ending_of full) q
 
-    kept : (o : Option FrontRead) → is_some o ≡ is_some (option_map (behind_these these) o)
+    kept : (o : Option FrontRead) → is_some o ≡ is_some (option_map (after_these these) o)
     kept None = refl
     kept (Some f) = refl
 
@@ -405,7 +405,7 @@ any-is m (full ∷ more) p =
               fence_part (without_ending full) p ++ exit n.Frontmatter q ∷ ending_part (ending_of full) q;
           point = past_ending (ending_of full) q;
         }))
-        (option_map (behind_these these) (lines_read m more (past_ending (ending_of full) q))))
+        (option_map (after_these these) (lines_read m more (past_ending (ending_of full) q))))
     go true e = refl
     go false e = e ∙ kept (lines_read m more (past_ending (ending_of full) q))
 
@@ -484,11 +484,11 @@ front-by options text column (full ∷ more) is = go options.constructs.frontmat
     ls : List (List ℕ)
     ls = map without_ending more
 
-    behind : List TextLine
-    behind = cond (is_end line.ending) [] (lines_from (1 + 1) (column + length full) 0 more)
+    following : List TextLine
+    following = cond (is_end line.ending) [] (lines_from (1 + 1) (column + length full) 0 more)
 
     whole_by : Option Front → List Event
-    whole_by o = front_whole (first_byte text) (take (size_by (line.bytes ∷ ls) o) (line ∷ behind))
+    whole_by o = front_whole (first_byte text) (take (size_by (line.bytes ∷ ls) o) (line ∷ following))
 
     closed : ℕ → Bool → Option Front
     closed m t =
@@ -504,15 +504,15 @@ front-by options text column (full ∷ more) is = go options.constructs.frontmat
     some : (m : ℕ) (f : FrontRead) → is_front_fence m line.bytes ≡ true →
         lines_read m more (past_ending line.ending q) ≡ Some f →
         (enter n.Frontmatter p ∷ fence_part line.bytes p ++ ending_part line.ending q) ++ f.events ≡
-        front_whole m (line ∷ take (upto (is_front_fence m) ls) behind)
+        front_whole m (line ∷ take (upto (is_front_fence m) ls) following)
     some m f fence read =
         ap (λ (es : List Event). enter n.Frontmatter p ∷ es)
         (more-same m 1 column column full more (fence_part line.bytes p) f (full-ends text (full ∷ more) is)
         (fence-same m line fence) read
         (λ h ends here. lines-same m more (1 + 1) (column + length full) 0 h ends here))
-        ∙ ap (λ (x : Point). enter n.Frontmatter x ∷ front_rest m (line ∷ take (upto (is_front_fence m) ls) behind))
+        ∙ ap (λ (x : Point). enter n.Frontmatter x ∷ front_rest m (line ∷ take (upto (is_front_fence m) ls) following))
         (sym (place-whole line))
-        ∙ sym (whole-more m line (take (upto (is_front_fence m) ls) behind))
+        ∙ sym (whole-more m line (take (upto (is_front_fence m) ls) following))
 
     by : (o : Option ℕ) → front_marker line.bytes ≡ o →
         events_of (front_from o full more p) ≡ whole_by (front_by o ls)
@@ -522,7 +522,7 @@ front-by options text column (full ∷ more) is = go options.constructs.frontmat
         read : (o : Option FrontRead) → lines_read m more (past_ending line.ending q) ≡ o →
             events_of
             (option_map
-            (behind_these (enter n.Frontmatter p ∷ fence_part line.bytes p ++ ending_part line.ending q)) o) ≡
+            (after_these (enter n.Frontmatter p ∷ fence_part line.bytes p ++ ending_part line.ending q)) o) ≡
             whole_by (closed m (list_any (is_front_fence m) ls))
         read None found =
             sym
@@ -530,8 +530,8 @@ front-by options text column (full ∷ more) is = go options.constructs.frontmat
             (any-is m more (past_ending line.ending q) ∙ ap is_some found))
         read (Some f) found =
             some m f fence found
-            ∙ ap (λ (k : ℕ). front_whole k (line ∷ take (upto (is_front_fence m) ls) behind)) (sym byte)
-            ∙ ap (λ (k : ℕ). front_whole (first_byte text) (take k (line ∷ behind)))
+            ∙ ap (λ (k : ℕ). front_whole k (line ∷ take (upto (is_front_fence m) ls) following)) (sym byte)
+            ∙ ap (λ (k : ℕ). front_whole (first_byte text) (take k (line ∷ following)))
             (sym (upto-is (is_front_fence m) ls any))
             ∙ sym (ap (λ (t : Bool). whole_by (closed m t)) any)
           where

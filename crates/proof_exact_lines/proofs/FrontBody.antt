@@ -16,7 +16,7 @@ use Rattle.md_meaning.specs.Preamble.{without_mark}
 use Rattle.md_meaning.specs.Tree.{Frontmatter}
 use Rattle.md_events.specs.Events.Nested.{enter, exit}
 use Rattle.md_events.specs.Events.Places.{past_text}
-use Rattle.proof_leaf_laws.specs.Front.{FrontRead, behind_these, body_point, ending_of, ending_part, fence_part}
+use Rattle.proof_leaf_laws.specs.Front.{FrontRead, after_these, body_point, ending_of, ending_part, fence_part}
 use Rattle.proof_leaf_laws.specs.Front.{front_from}
 use Rattle.proof_leaf_laws.specs.Front.{front_read, line_part, lines_read, mark_end, past_ending, point_or, text_front}
 use Rattle.proof_leaf_laws.proofs.FullLines.{IsLines, full-lines}
@@ -26,7 +26,7 @@ use Rattle.proof_exact_lines.proofs.Front.{AllEnd, any-is, begin, begins-next, f
 
 -- these lines begin at a point, or there are none
 pub data Body : Point → List TextLine → Type 0 where
-  Goes : (number index column : ℕ) (fulls : List (List ℕ)) →
+  Proceeds : (number index column : ℕ) (fulls : List (List ℕ)) →
       Body (begin number index column) (lines_from number index column fulls)
   Ends : (p : Point) → Body p []
 
@@ -35,10 +35,10 @@ point_of other None = other
 point_of other (Some f) = f.point
 
 -- after a line the next one begins, if it has an ending
-behind-line : (number index column : ℕ) (full : List ℕ) (more : List (List ℕ)) →
+following-line : (number index column : ℕ) (full : List ℕ) (more : List (List ℕ)) →
     Body (past_ending (ending_of full) (past_text (without_ending full) (begin number index column)))
     (cond (is_end (ending_of full)) [] (lines_from (number + 1) (index + length full) 0 more))
-behind-line number index column full more = go (is_end (ending_of full)) refl
+following-line number index column full more = go (is_end (ending_of full)) refl
   where
     go : (x : Bool) → is_end (ending_of full) ≡ x →
         Body (past_ending (ending_of full) (past_text (without_ending full) (begin number index column)))
@@ -46,31 +46,31 @@ behind-line number index column full more = go (is_end (ending_of full)) refl
     go true e = Ends (past_ending (ending_of full) (past_text (without_ending full) (begin number index column)))
     go false e =
         subst (λ (q : Point). Body q (lines_from (number + 1) (index + length full) 0 more))
-        (sym (begins-next number index column full e)) (Goes (number + 1) (index + length full) 0 more)
+        (sym (begins-next number index column full e)) (Proceeds (number + 1) (index + length full) 0 more)
 
 -- after lines that are read the body begins
-abbrev BodyBehind : ℕ → List (List ℕ) → List TextLine → FrontRead → Type 0
-BodyBehind m fulls lines f = Body f.point (drop (upto (is_front_fence m) (map without_ending fulls)) lines)
+abbrev BodyAfter : ℕ → List (List ℕ) → List TextLine → FrontRead → Type 0
+BodyAfter m fulls lines f = Body f.point (drop (upto (is_front_fence m) (map without_ending fulls)) lines)
 
 further-body : (m number index column : ℕ) (full : List ℕ) (more : List (List ℕ)) (g : FrontRead) →
     AllEnd (full ∷ more) →
     lines_read m more (past_ending (ending_of full) (past_text (without_ending full) (begin number index column))) ≡
     Some g →
     ((h : FrontRead) → AllEnd more → lines_read m more (begin (number + 1) (index + length full) 0) ≡ Some h →
-    BodyBehind m more (lines_from (number + 1) (index + length full) 0 more) h) →
-    BodyBehind m more (cond (is_end (ending_of full)) [] (lines_from (number + 1) (index + length full) 0 more)) g
+    BodyAfter m more (lines_from (number + 1) (index + length full) 0 more) h) →
+    BodyAfter m more (cond (is_end (ending_of full)) [] (lines_from (number + 1) (index + length full) 0 more)) g
 further-body m number index column full [] g all read below = absurd (cc)
 further-body m number index column full (next ∷ more) g all read below =
     subst
     (λ (x : Bool).
-    BodyBehind m (next ∷ more) (cond x [] (lines_from (number + 1) (index + length full) 0 (next ∷ more))) g)
+    BodyAfter m (next ∷ more) (cond x [] (lines_from (number + 1) (index + length full) 0 (next ∷ more))) g)
     (sym all.0)
     (below g all.1
     (ap (λ (q : Point). lines_read m (next ∷ more) q) (sym (begins-next number index column full all.0)) ∙ read))
 
 lines-body : (m : ℕ) (fulls : List (List ℕ)) (number index column : ℕ) (f : FrontRead) → AllEnd fulls →
     lines_read m fulls (begin number index column) ≡ Some f →
-    BodyBehind m fulls (lines_from number index column fulls) f
+    BodyAfter m fulls (lines_from number index column fulls) f
 lines-body m [] number index column f all read = absurd (cc)
 lines-body m (full ∷ more) number index column f all read =
     go (λ h ends here. lines-body m more (number + 1) (index + length full) 0 h ends here)
@@ -88,22 +88,22 @@ lines-body m (full ∷ more) number index column f all read =
     size : ℕ
     size = upto (is_front_fence m) (map without_ending more)
 
-    behind : List TextLine
-    behind = cond (is_end line.ending) [] (lines_from (number + 1) (index + length full) 0 more)
+    following : List TextLine
+    following = cond (is_end line.ending) [] (lines_from (number + 1) (index + length full) 0 more)
 
     Below : Type 0
     Below =
         (h : FrontRead) → AllEnd more → lines_read m more (begin (number + 1) (index + length full) 0) ≡ Some h →
-        BodyBehind m more (lines_from (number + 1) (index + length full) 0 more) h
+        BodyAfter m more (lines_from (number + 1) (index + length full) 0 more) h
 
     these : List Event
     these = line_part line.bytes p ++ ending_part line.ending q
 
     further : Below → (o : Option FrontRead) → lines_read m more (past_ending line.ending q) ≡ o →
-        option_map (behind_these these) o ≡ Some f → Body f.point (drop size behind)
+        option_map (after_these these) o ≡ Some f → Body f.point (drop size following)
     further below None found none = absurd (cc)
     further below (Some g) found same =
-        subst (λ (x : Point). Body x (drop size behind)) (ap (point_of p) same)
+        subst (λ (x : Point). Body x (drop size following)) (ap (point_of p) same)
         (further-body m number index column full more g all found below)
 
     go : Below → (t : Bool) →
@@ -113,11 +113,11 @@ lines-body m (full ∷ more) number index column f all read =
           events = fence_part line.bytes p ++ exit n.Frontmatter q ∷ ending_part line.ending q;
           point = past_ending line.ending q;
         }))
-        (option_map (behind_these these) (lines_read m more (past_ending line.ending q))) ≡
+        (option_map (after_these these) (lines_read m more (past_ending line.ending q))) ≡
         Some f →
-        Body f.point (drop (cond t 1 (suc size)) (line ∷ behind))
+        Body f.point (drop (cond t 1 (suc size)) (line ∷ following))
     go below true is =
-        subst (λ (x : Point). Body x behind) (ap (point_of p) is) (behind-line number index column full more)
+        subst (λ (x : Point). Body x following) (ap (point_of p) is) (following-line number index column full more)
     go below false is = further below (lines_read m more (past_ending line.ending q)) refl is
 
 body-by : (options : ParseOptions) (text : List ℕ) (column : ℕ) (fulls : List (List ℕ)) → IsLines text fulls →
@@ -125,7 +125,7 @@ body-by : (options : ParseOptions) (text : List ℕ) (column : ℕ) (fulls : Lis
     (drop (size_by (map without_ending fulls) (front_of options (map without_ending fulls)))
     (lines_from 1 column column fulls))
 unfolding front_of
-body-by options text column [] is = Goes 1 column column []
+body-by options text column [] is = Proceeds 1 column column []
 body-by options text column (full ∷ more) is = go options.constructs.frontmatter
   where
     line : TextLine
@@ -140,11 +140,11 @@ body-by options text column (full ∷ more) is = go options.constructs.frontmatt
     ls : List (List ℕ)
     ls = map without_ending more
 
-    behind : List TextLine
-    behind = cond (is_end line.ending) [] (lines_from (1 + 1) (column + length full) 0 more)
+    following : List TextLine
+    following = cond (is_end line.ending) [] (lines_from (1 + 1) (column + length full) 0 more)
 
     left_by : Option Front → List TextLine
-    left_by o = drop (size_by (line.bytes ∷ ls) o) (line ∷ behind)
+    left_by o = drop (size_by (line.bytes ∷ ls) o) (line ∷ following)
 
     closed : ℕ → Bool → Option Front
     closed m t =
@@ -157,22 +157,23 @@ body-by options text column (full ∷ more) is = go options.constructs.frontmatt
         None
 
     by : (o : Option ℕ) → Body (point_or p (front_from o full more p)) (left_by (front_by o ls))
-    by None = Goes 1 column column (full ∷ more)
+    by None = Proceeds 1 column column (full ∷ more)
     by (Some m) = read (lines_read m more (past_ending line.ending q)) refl
       where
         these : List Event
         these = enter n.Frontmatter p ∷ fence_part line.bytes p ++ ending_part line.ending q
 
         read : (o : Option FrontRead) → lines_read m more (past_ending line.ending q) ≡ o →
-            Body (point_or p (option_map (behind_these these) o)) (left_by (closed m (list_any (is_front_fence m) ls)))
+            Body (point_or p (option_map (after_these these) o)) (left_by (closed m (list_any (is_front_fence m) ls)))
         read None found =
             subst (λ (t : Bool). Body p (left_by (closed m t)))
-            (sym (any-is m more (past_ending line.ending q) ∙ ap is_some found)) (Goes 1 column column (full ∷ more))
+            (sym (any-is m more (past_ending line.ending q) ∙ ap is_some found))
+            (Proceeds 1 column column (full ∷ more))
         read (Some f) found =
             let any : list_any (is_front_fence m) ls ≡ true = any-is m more (past_ending line.ending q)
             ∙ ap is_some found in
             subst (λ (t : Bool). Body f.point (left_by (closed m t))) (sym any)
-            (subst (λ (k : ℕ). Body f.point (drop k (line ∷ behind))) (sym (upto-is (is_front_fence m) ls any))
+            (subst (λ (k : ℕ). Body f.point (drop k (line ∷ following))) (sym (upto-is (is_front_fence m) ls any))
             (further-body m 1 column column full more f (full-ends text (full ∷ more) is) found
             (λ h ends here. lines-body m more (1 + 1) (column + length full) 0 h ends here)))
 
@@ -180,7 +181,7 @@ body-by options text column (full ∷ more) is = go options.constructs.frontmatt
         Body (point_or p (cond x (front_from (front_marker line.bytes) full more p) None))
         (left_by (cond x (front_by (front_marker line.bytes) ls) None))
     go true = by (front_marker line.bytes)
-    go false = Goes 1 column column (full ∷ more)
+    go false = Proceeds 1 column column (full ∷ more)
 
 -- The lines after the front of a text begin where its body does.
 pub front-body : (options : ParseOptions) (text : List ℕ) →

@@ -9,7 +9,7 @@ use Rattle.md_engine.specs.Meaning.{Cell}
 use Rattle.md_containers.specs.Footnote.{footnote_width}
 use Rattle.md_containers.specs.FootnotePrefix.{as_footnote, footnote_further}
 use Rattle.md_containers.specs.ItemPrefix.{ItemPassed, item_further, item_indented, item_same}
-use Rattle.md_containers.proofs.ItemLines.{GoesFurther, ItemAgrees, further-agrees}
+use Rattle.md_containers.proofs.ItemLines.{ContinuesFurther, ItemAgrees, further-agrees}
 use Rattle.md_meaning.specs.Containers.{Taken, footnote_continues, item_continues}
 use Rattle.md_meaning.specs.Rest.{Rest, indent, is_blank, lose}
 use Rattle.md_meaning.specs.State.{InFootnote, InItem}
@@ -25,10 +25,11 @@ use Rattle.md_exact.proofs.OnLine.{LineIn, OnLine, lose-on}
 use Rattle.md_exact.proofs.PieceLemmas.{white-on}
 
 -- what such a container has on a further line
-pub record HasFurther (text behind : List ℕ) (line : TextLine) (r : Rest) (passed : ItemPassed) (left : Rest) : Type 0
+pub record HasFurther (text following : List ℕ) (line : TextLine) (r : Rest) (passed : ItemPassed)
+    (left : Rest) : Type 0
   where
     pub events : white line r left ≡ passed.events
-    pub on : OnLine text behind line left passed.point
+    pub on : OnLine text following line left passed.point
 
 -- it ends after the columns that it loses, also where nothing is left to lose
 further-point : (digits : List ℕ) (marker width : ℕ) (blank : Bool) (cells : List Cell) (p : Point)
@@ -58,36 +59,37 @@ further-point digits marker width blank cells p passed e =
 
 -- the columns that are lost
 further-has : (digits : List ℕ) (marker width : ℕ) (blank : Bool) → 1 ≤ width → (cell_line : Line)
-    (text behind : List ℕ) (line : TextLine) (r : Rest) (p : Point) (stop : List Cell) (passed : ItemPassed)
+    (text following : List ℕ) (line : TextLine) (r : Rest) (p : Point) (stop : List Cell) (passed : ItemPassed)
     (t : Taken) →
-    LineIn text behind line → OnLine text behind line r p → NoEnding r.bytes → Stops stop →
+    LineIn text following line → OnLine text following line r p → NoEnding r.bytes → Stops stop →
     item_further digits marker width blank (rest_cells cell_line r p ++ stop) p ≡ Some passed →
-    item_continues digits marker width blank r ≡ Some t → HasFurther text behind line r passed (lose width r)
-further-has digits marker width blank some cell_line text behind line r p stop passed t is on plain k e f = record {
+    item_continues digits marker width blank r ≡ Some t → HasFurther text following line r passed (lose width r)
+further-has digits marker width blank some cell_line text following line r p stop passed t is on plain k e f = record {
   events =
-      white-on text behind line r (lose width r) p passed.point is on on_left
+      white-on text following line r (lose width r) p passed.point is on on_left
       ∙ sym
       (agreed (item_further digits marker width blank cells p) (item_continues digits marker width blank r) e f
-      (further-agrees digits marker width blank some cell_line text behind r stop p on.stands plain k)).events;
+      (further-agrees digits marker width blank some cell_line text following r stop p on.valid plain k)).events;
   on = on_left;
 }
   where
     cells : List Cell
     cells = rest_cells cell_line r p ++ stop
 
-    on_left : OnLine text behind line (lose width r) passed.point
+    on_left : OnLine text following line (lose width r) passed.point
     on_left =
-        subst (OnLine text behind line (lose width r)) (sym (further-point digits marker width blank cells p passed e))
-        (lose-on cell_line text behind line width r p stop on k)
+        subst (OnLine text following line (lose width r))
+        (sym (further-point digits marker width blank cells p passed e))
+        (lose-on cell_line text following line width r p stop on k)
 
-    Goes : ItemPassed → Taken → Type 0
-    Goes o u = GoesFurther cell_line text behind p (past_rest r p) stop cells o u
+    Proceeds : ItemPassed → Taken → Type 0
+    Proceeds o u = ContinuesFurther cell_line text following p (past_rest r p) stop cells o u
 
-    agreed : (o : Option ItemPassed) (u : Option Taken) → o ≡ Some passed → u ≡ Some t → ItemAgrees Goes o u →
-        Goes passed t
+    agreed : (o : Option ItemPassed) (u : Option Taken) → o ≡ Some passed → u ≡ Some t → ItemAgrees Proceeds o u →
+        Proceeds passed t
     agreed o u g h agrees =
-        subst (λ (x : Option ItemPassed). ItemAgrees Goes x (Some t)) g
-        (subst (λ (x : Option Taken). ItemAgrees Goes o x) h agrees)
+        subst (λ (x : Option ItemPassed). ItemAgrees Proceeds x (Some t)) g
+        (subst (λ (x : Option Taken). ItemAgrees Proceeds o x) h agrees)
 
 abbrev taken_rest : Taken → Option Taken → Rest
 taken_rest t None = t.rest
@@ -95,16 +97,16 @@ taken_rest t (Some u) = u.rest
 
 -- An item continues with the events of its cells,
 pub item-same : (digits : List ℕ) (marker width : ℕ) (blank : Bool) → 1 ≤ width → (cell_line : Line)
-    (text behind : List ℕ) (line : TextLine) (r : Rest) (p : Point) (stop : List Cell) (passed : ItemPassed)
+    (text following : List ℕ) (line : TextLine) (r : Rest) (p : Point) (stop : List Cell) (passed : ItemPassed)
     (t : Taken) →
-    LineIn text behind line → OnLine text behind line r p → NoEnding r.bytes → Stops stop →
+    LineIn text following line → OnLine text following line r p → NoEnding r.bytes → Stops stop →
     item_further digits marker width blank (rest_cells cell_line r p ++ stop) p ≡ Some passed →
-    item_continues digits marker width blank r ≡ Some t → HasFurther text behind line r passed t.rest
+    item_continues digits marker width blank r ≡ Some t → HasFurther text following line r passed t.rest
 unfolding item_continues
-item-same digits marker width blank some cell_line text behind line r p stop passed t is on plain k e f =
-    subst (HasFurther text behind line r passed)
+item-same digits marker width blank some cell_line text following line r p stop passed t is on plain k e f =
+    subst (HasFurther text following line r passed)
     (lost (cond (is_blank r.bytes) (not blank) (nat_le width (indent r))) f)
-    (further-has digits marker width blank some cell_line text behind line r p stop passed t is on plain k e f)
+    (further-has digits marker width blank some cell_line text following line r p stop passed t is on plain k e f)
   where
     lost : (x : Bool) →
         cond x (Some (record { container = InItem digits marker width false; rest = lose width r })) None ≡ Some t →
@@ -113,13 +115,14 @@ item-same digits marker width blank some cell_line text behind line r p stop pas
     lost false g = absurd (cc)
 
 -- and so does a footnote definition.
-pub footnote-same : (label : List ℕ) (cell_line : Line) (text behind : List ℕ) (line : TextLine) (r : Rest) (p : Point)
+pub footnote-same : (label : List ℕ) (cell_line : Line) (text following : List ℕ) (line : TextLine)
+    (r : Rest) (p : Point)
     (stop : List Cell) (passed : ItemPassed) (t : Taken) →
-    LineIn text behind line → OnLine text behind line r p → NoEnding r.bytes → Stops stop →
+    LineIn text following line → OnLine text following line r p → NoEnding r.bytes → Stops stop →
     footnote_further label (rest_cells cell_line r p ++ stop) p ≡ Some passed →
-    footnote_continues label r ≡ Some t → HasFurther text behind line r passed t.rest
+    footnote_continues label r ≡ Some t → HasFurther text following line r passed t.rest
 unfolding footnote_continues item_continues
-footnote-same label cell_line text behind line r p stop passed t is on plain k e f =
+footnote-same label cell_line text following line r p stop passed t is on plain k e f =
     by (item_further [] 0 footnote_width false cells p) refl e
   where
     cells : List Cell
@@ -137,15 +140,16 @@ footnote-same label cell_line text behind line r p stop passed t is on plain k e
     lost false false g = absurd (cc)
 
     by : (o : Option ItemPassed) → item_further [] 0 footnote_width false cells p ≡ o →
-        as_footnote label o ≡ Some passed → HasFurther text behind line r passed t.rest
+        as_footnote label o ≡ Some passed → HasFurther text following line r passed t.rest
     by None g h = absurd (cc)
     by (Some own) g h =
         let both = lost (is_blank r.bytes) (nat_le 4 (indent r)) f in
-        let has = further-has [] 0 footnote_width false (omega arith) cell_line text behind line r p stop own as_item is
+        let has = further-has [] 0 footnote_width false (omega arith) cell_line text following line r p stop
+        own as_item is
         on plain k g both.0 in
-        subst (λ (x : ItemPassed). HasFurther text behind line r x t.rest) (ap passed_of h)
+        subst (λ (x : ItemPassed). HasFurther text following line r x t.rest) (ap passed_of h)
         (subst
-        (λ (s : Rest). HasFurther text behind line r (record own { container = InFootnote label }) s) both.1
+        (λ (s : Rest). HasFurther text following line r (record own { container = InFootnote label }) s) both.1
         (record { events = has.events; on = has.on }))
       where
         passed_of : Option ItemPassed → ItemPassed

@@ -32,7 +32,7 @@ use Rattle.md_events.proofs.WalkedLemmas.{one-point}
 use Rattle.md_exact.specs.Leaves.{first_end, onto_next, start}
 use Rattle.md_exact.specs.Places.{TextLine, line_end, next_line, part, past, place, white, whole}
 use Rattle.md_exact.specs.Rows.{Row}
-use Rattle.md_exact.specs.Texts.{behind_gap, gap, lines_left}
+use Rattle.md_exact.specs.Texts.{following_gap, gap, lines_left}
 use Rattle.md_exact.proofs.OnLine.{LineIn, OnLine, past-on, place-on, whole-on}
 use Rattle.md_exact.proofs.PlaceLemmas.{before-is, cut_len, line_start}
 use Rattle.proof_content_laws.proofs.Defined.Along.{Turn, no_line}
@@ -48,10 +48,10 @@ use Rattle.proof_exact_lines.proofs.Strands.{LineOn, NextOn, line-on, next-on}
 -- The end of a line.
 
 -- where nothing is left of a line its end is
-pub end-place : (text behind : List ℕ) (line : TextLine) (r : Rest) (q : Point) → LineIn text behind line →
-    OnLine text behind line r q → r.bytes ≡ [] → r.spaces ≡ 0 → place line (line_end line) ≡ q
-end-place text behind line r q is on none uncut =
-    ap (place line) (sym same) ∙ place-on text behind line (past size (whole line)) e is at_end
+pub end-place : (text following : List ℕ) (line : TextLine) (r : Rest) (q : Point) → LineIn text following line →
+    OnLine text following line r q → r.bytes ≡ [] → r.spaces ≡ 0 → place line (line_end line) ≡ q
+end-place text following line r q is on none uncut =
+    ap (place line) (sym same) ∙ place-on text following line (past size (whole line)) e is at_end
     ∙ one-point text e q at_end.placed on.placed index vs
   where
     size : ℕ
@@ -60,8 +60,9 @@ end-place text behind line r q is on none uncut =
     e : Point
     e = past_text (take size line.bytes) (line_start line)
 
-    at_end : OnLine text behind line (past size (whole line)) e
-    at_end = past-on text behind line size (whole line) (line_start line) (whole-on text behind line is) refl is.plain
+    at_end : OnLine text following line (past size (whole line)) e
+    at_end = past-on text following line size (whole line) (line_start line)
+        (whole-on text following line is) refl is.plain
 
     taken : take size line.bytes ≡ line.bytes
     taken = ap (take size) (sym (append-nil line.bytes)) ∙ take_at line.bytes [] size refl
@@ -88,13 +89,13 @@ end-place text behind line r q is on none uncut =
     index : e.index ≡ q.index
     index =
         by e.index q.index (length (drop size line.bytes)) (length r.bytes) 0 (cut_len r.spaces)
-        (before-is text behind line (past size (whole line)) e is.stands at_end.stands at_end.onward
+        (before-is text following line (past size (whole line)) e is.valid at_end.valid at_end.onward
         at_end.placed.index)
-        (before-is text behind line r q is.stands on.stands on.onward on.placed.index)
+        (before-is text following line r q is.valid on.valid on.onward on.placed.index)
         (ap (λ (l : List ℕ). length l) left) (ap (λ (l : List ℕ). length l) none) refl (ap cut_len uncut)
 
     vs : e.vs ≡ q.vs
-    vs = at_end.stands.cut ∙ sym (subst (λ (k : ℕ). Cut k q) uncut on.stands.cut)
+    vs = at_end.valid.cut ∙ sym (subst (λ (k : ℕ). Cut k q) uncut on.valid.cut)
 
 -- nothing is left where no cell or that of an ending comes next, and the end of the line is there
 ending-bytes : (text : List ℕ) (row : Row) (r : Rest) (q : Point) (l stop : List Cell) → Begins text (at row r) q →
@@ -143,7 +144,7 @@ end-on text row r q l stop is uncut stops e = record {
     none = ending-bytes text row r q l stop is uncut stops e
 
     ends : place row.line (line_end row.line) ≡ q
-    ends = end-place text is.behind row.line r q is.line_in is.on none uncut
+    ends = end-place text is.following row.line r q is.line_in is.on none uncut
 
 -- Whitespace.
 
@@ -206,7 +207,7 @@ white-on text last row rows p cells turns walk along = record {
     on : LineOn text row rows p e split.front rest turns
     on =
         line-on text row rows p split.front rest turns
-        (subst (λ (l : List Cell). Along text (row ∷ rows) p l turns) split.split along) walk.stands
+        (subst (λ (l : List Cell). Along text (row ∷ rows) p l turns) split.split along) walk.valid
         (on-line text last p split.front rest turns split.none
         (subst (λ (l : List Cell). Walk text last p l turns) split.split walk)).steps
         (ap (λ (x : Point). x.vs) split.end
@@ -477,7 +478,7 @@ first-byte text row rows p c cs turns along whole plain =
 pub gap-found : (text : List ℕ) (last p : Point) (cells : List Cell) (turns : List Turn) (rows : List Row) →
     Walk text last p cells turns → Along text rows p cells turns → p.vs ≡ 0 → (c : Cell) (cs : List Cell) →
     gap_rest cells ≡ c ∷ cs → is_white c.byte ≡ false → (c.byte == 10) ≡ false →
-    (g : GapOn text last p cells turns rows) → behind_gap rows ≡ g.ends
+    (g : GapOn text last p cells turns rows) → following_gap rows ≡ g.ends
 gap-found text last p cells turns rows walk along whole c cs e dark plain g =
     left-is rows g.ends (after_gap (lines_left rows)) g.ahead
     (ap after_gap (sym (rows-lines text rows p cells turns along whole))

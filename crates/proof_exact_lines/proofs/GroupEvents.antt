@@ -14,11 +14,11 @@ use Rattle.md_meaning.specs.State.{Container, InFootnote, InItem, InQuote, Path}
 use Rattle.md_events.specs.Events.Blocks.{is_block}
 use Rattle.md_events.specs.Events.Nested.{enter, exit, pair}
 use Rattle.md_events.specs.Events.Spelled.{role}
-use Rattle.md_exact.specs.Blocks.{events_by, goes_on, group_events, grouped, onto, tail}
+use Rattle.md_exact.specs.Blocks.{events_by, is_continued, group_events, grouped, onto, tail}
 use Rattle.md_exact.specs.Places.{TextLine, ending, line_end, next_line, place}
 use Rattle.md_exact.specs.Prefixes.{begin, begins, blocks_before, end_in_item, list_name}
-use Rattle.md_exact.specs.Rows.{Row, container_name, ends_from, is_blank_role, list_ends, list_goes_on, next_role}
-use Rattle.proof_exact_lines.specs.Unlisted.{LeafStands, LeavesStand, NoneIs, is_list, opening_prefix, plain_begin}
+use Rattle.md_exact.specs.Rows.{Row, container_name, ends_from, is_blank_role, list_ends, list_continued, next_role}
+use Rattle.proof_exact_lines.specs.Unlisted.{LeafAllowed, LeavesAllowed, NoneIs, is_list, opening_prefix, plain_begin}
 use Rattle.proof_exact_lines.specs.Unlisted.{plain_begins, plain_ends, unlisted_groups, without_lists}
 use Rattle.proof_exact_lines.proofs.ListWalk.{opening-none}
 
@@ -88,7 +88,7 @@ end-without : (depth : ℕ) (c : Container) (p : Point) (below : List Row) →
 end-without depth (InQuote kind) p below = refl
 end-without depth (InItem digits marker width starts_blank) p below =
     ap (λ (l : List Event). exit n.ListItem p ∷ l)
-    (without-list marker (list_goes_on depth marker below) (λ name. exit name p) (λ name. refl))
+    (without-list marker (list_continued depth marker below) (λ name. exit name p) (λ name. refl))
 end-without depth (InFootnote label) p below = refl
 
 -- and such that end
@@ -121,22 +121,22 @@ ending-none row = go (is_end row.line.ending) (is_blank_role row.role || is_end 
 -- the lines of the first leaf, and the leaves after it
 abbrev pub first_group : List Row → List Row
 first_group [] = []
-first_group (row ∷ below) = row ∷ cond (goes_on (next_role below)) (first_group below) []
+first_group (row ∷ below) = row ∷ cond (is_continued (next_role below)) (first_group below) []
 
 abbrev pub rest_groups : List Row → List (List Row)
 rest_groups [] = []
-rest_groups (row ∷ below) = cond (goes_on (next_role below)) (rest_groups below) (grouped below)
+rest_groups (row ∷ below) = cond (is_continued (next_role below)) (rest_groups below) (grouped below)
 
 pub grouped-first : (row : Row) (below : List Row) →
     grouped (row ∷ below) ≡ first_group (row ∷ below) ∷ rest_groups (row ∷ below)
 grouped-first row [] = refl
 grouped-first row (next ∷ below) =
-    let inner : List Row = cond (goes_on (next_role below)) (first_group below) [] in
+    let inner : List Row = cond (is_continued (next_role below)) (first_group below) [] in
     let more : List (List Row) = rest_groups (next ∷ below) in
     ap (onto row) (grouped-first next below)
-    ∙ ap (λ (gs : List (List Row)). cond (goes_on next.role) ((row ∷ next ∷ inner) ∷ more) ((row ∷ []) ∷ gs))
+    ∙ ap (λ (gs : List (List Row)). cond (is_continued next.role) ((row ∷ next ∷ inner) ∷ more) ((row ∷ []) ∷ gs))
     (sym (grouped-first next below))
-    ∙ go (goes_on next.role) (next ∷ inner) more
+    ∙ go (is_continued next.role) (next ∷ inner) more
   where
     go : (x : Bool) (group : List Row) (more : List (List Row)) →
         cond x ((row ∷ group) ∷ more) ((row ∷ []) ∷ grouped (next ∷ below))
@@ -152,44 +152,44 @@ abbrev pub all_unlisted : ParseOptions → List Row → List Event
 all_unlisted options rows = unlisted_groups options (grouped rows)
 
 -- after the leaf of the first line
-abbrev pub behind_leaf : ParseOptions → List Row → List Event
-behind_leaf options [] = []
-behind_leaf options (row ∷ below) =
-    cond (goes_on (next_role below)) (behind_leaf options below) (tail (row ∷ []) ++ all_events options below)
+abbrev pub following_leaf : ParseOptions → List Row → List Event
+following_leaf options [] = []
+following_leaf options (row ∷ below) =
+    cond (is_continued (next_role below)) (following_leaf options below) (tail (row ∷ []) ++ all_events options below)
 
-abbrev pub unlisted_behind : ParseOptions → List Row → List Event
-unlisted_behind options [] = []
-unlisted_behind options (row ∷ below) =
-    cond (goes_on (next_role below)) (unlisted_behind options below)
+abbrev pub unlisted_after : ParseOptions → List Row → List Event
+unlisted_after options [] = []
+unlisted_after options (row ∷ below) =
+    cond (is_continued (next_role below)) (unlisted_after options below)
     (without_lists (tail (row ∷ [])) ++ all_unlisted options below)
 
-behind-first : (options : ParseOptions) (row : Row) (below : List Row) →
+following-first : (options : ParseOptions) (row : Row) (below : List Row) →
     tail (first_group (row ∷ below)) ++ flat_map (group_events options) (rest_groups (row ∷ below))
-    ≡ behind_leaf options (row ∷ below)
-behind-first options row [] = refl
-behind-first options row (next ∷ below) = go (goes_on next.role) (behind-first options next below)
+    ≡ following_leaf options (row ∷ below)
+following-first options row [] = refl
+following-first options row (next ∷ below) = go (is_continued next.role) (following-first options next below)
   where
     go : (x : Bool) →
         tail (first_group (next ∷ below)) ++ flat_map (group_events options) (rest_groups (next ∷ below))
-        ≡ behind_leaf options (next ∷ below) →
+        ≡ following_leaf options (next ∷ below) →
         tail (row ∷ cond x (first_group (next ∷ below)) [])
         ++ flat_map (group_events options) (cond x (rest_groups (next ∷ below)) (grouped (next ∷ below)))
-        ≡ cond x (behind_leaf options (next ∷ below)) (tail (row ∷ []) ++ all_events options (next ∷ below))
+        ≡ cond x (following_leaf options (next ∷ below)) (tail (row ∷ []) ++ all_events options (next ∷ below))
     go true more = more
     go false more = refl
 
 unlisted-first : (options : ParseOptions) (row : Row) (below : List Row) →
     without_lists (tail (first_group (row ∷ below))) ++ unlisted_groups options (rest_groups (row ∷ below))
-    ≡ unlisted_behind options (row ∷ below)
+    ≡ unlisted_after options (row ∷ below)
 unlisted-first options row [] = refl
-unlisted-first options row (next ∷ below) = go (goes_on next.role) (unlisted-first options next below)
+unlisted-first options row (next ∷ below) = go (is_continued next.role) (unlisted-first options next below)
   where
     go : (x : Bool) →
         without_lists (tail (first_group (next ∷ below))) ++ unlisted_groups options (rest_groups (next ∷ below))
-        ≡ unlisted_behind options (next ∷ below) →
+        ≡ unlisted_after options (next ∷ below) →
         without_lists (tail (row ∷ cond x (first_group (next ∷ below)) []))
         ++ unlisted_groups options (cond x (rest_groups (next ∷ below)) (grouped (next ∷ below)))
-        ≡ cond x (unlisted_behind options (next ∷ below))
+        ≡ cond x (unlisted_after options (next ∷ below))
         (without_lists (tail (row ∷ [])) ++ all_unlisted options (next ∷ below))
     go true more = more
     go false more = refl
@@ -200,7 +200,7 @@ first_leaf options row below = events_by options row.role (first_group (row ∷ 
 
 pub all-first : (options : ParseOptions) (row : Row) (below : List Row) →
     all_events options (row ∷ below)
-    ≡ row.front ++ (first_leaf options row below ++ behind_leaf options (row ∷ below))
+    ≡ row.front ++ (first_leaf options row below ++ following_leaf options (row ∷ below))
 all-first options row below =
     let group : List Row = first_group (row ∷ below) in
     let leaf : List Event = first_leaf options row below in
@@ -208,11 +208,11 @@ all-first options row below =
     ap (flat_map (group_events options)) (grouped-first row below)
     ∙ append_assoc (row.front ++ leaf) (tail group) more
     ∙ append_assoc row.front leaf (tail group ++ more)
-    ∙ ap (λ (l : List Event). row.front ++ (leaf ++ l)) (behind-first options row below)
+    ∙ ap (λ (l : List Event). row.front ++ (leaf ++ l)) (following-first options row below)
 
 pub unlisted-all : (options : ParseOptions) (row : Row) (below : List Row) →
     all_unlisted options (row ∷ below)
-    ≡ without_lists row.front ++ (first_leaf options row below ++ unlisted_behind options (row ∷ below))
+    ≡ without_lists row.front ++ (first_leaf options row below ++ unlisted_after options (row ∷ below))
 unlisted-all options row below =
     let group : List Row = first_group (row ∷ below) in
     let leaf : List Event = first_leaf options row below in
@@ -223,20 +223,20 @@ unlisted-all options row below =
     ∙ ap (λ (l : List Event). without_lists row.front ++ (leaf ++ l)) (unlisted-first options row below)
 
 -- after a line on which the leaf ends: what ends there, and its ending
-pub behind-last : (options : ParseOptions) (row : Row) (below : List Row) → goes_on (next_role below) ≡ false →
-    behind_leaf options (row ∷ below)
+pub following-last : (options : ParseOptions) (row : Row) (below : List Row) → is_continued (next_role below) ≡ false →
+    following_leaf options (row ∷ below)
     ≡ row.ends ++ (ending (tail_name row) row.line ++ all_events options below)
-behind-last options row below e =
-    ap (λ (x : Bool). cond x (behind_leaf options below) (tail (row ∷ []) ++ all_events options below)) e
+following-last options row below e =
+    ap (λ (x : Bool). cond x (following_leaf options below) (tail (row ∷ []) ++ all_events options below)) e
     ∙ append_assoc row.ends (ending (tail_name row) row.line) (all_events options below)
 
-pub unlisted-last : (options : ParseOptions) (row : Row) (below : List Row) → goes_on (next_role below) ≡ false →
-    unlisted_behind options (row ∷ below)
+pub unlisted-last : (options : ParseOptions) (row : Row) (below : List Row) → is_continued (next_role below) ≡ false →
+    unlisted_after options (row ∷ below)
     ≡ without_lists row.ends ++ (ending (tail_name row) row.line ++ all_unlisted options below)
 unlisted-last options row below e =
     ap
     (λ (x : Bool).
-    cond x (unlisted_behind options below) (without_lists (tail (row ∷ [])) ++ all_unlisted options below))
+    cond x (unlisted_after options below) (without_lists (tail (row ∷ [])) ++ all_unlisted options below))
     e
     ∙ ap (λ (l : List Event). l ++ all_unlisted options below)
     (without-append row.ends (ending (tail_name row) row.line)
@@ -246,6 +246,6 @@ unlisted-last options row below e =
 
 -- what each group owes
 pub leaves-first : (options : ParseOptions) (bytes : List ℕ) (row : Row) (below : List Row) →
-    LeavesStand options bytes (grouped (row ∷ below)) →
-    LeafStands options bytes (first_group (row ∷ below)) × LeavesStand options bytes (rest_groups (row ∷ below))
-leaves-first options bytes row below h = subst (LeavesStand options bytes) (grouped-first row below) h
+    LeavesAllowed options bytes (grouped (row ∷ below)) →
+    LeafAllowed options bytes (first_group (row ∷ below)) × LeavesAllowed options bytes (rest_groups (row ∷ below))
+leaves-first options bytes row below h = subst (LeavesAllowed options bytes) (grouped-first row below) h

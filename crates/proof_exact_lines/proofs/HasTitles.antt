@@ -12,14 +12,14 @@ use Rattle.md_meaning.specs.Definition.{after_gap, alone, title_after}
 use Rattle.md_meaning.specs.Enclosed.{Lines}
 use Rattle.md_meaning.specs.Rest.{is_blank, is_parted, is_white}
 use Rattle.md_link_definitions.specs.CellLines.{cell_lines}
-use Rattle.md_link_definitions.specs.DefinitionRule.{ends_behind, lone, title_behind, titled_end, titled_part}
+use Rattle.md_link_definitions.specs.DefinitionRule.{ends_after, lone, title_following, titled_end, titled_part}
 use Rattle.md_link_definitions.specs.DefinitionRule.{titled_rest}
 use Rattle.md_link_definitions.specs.GapRule.{begins_gap, gap_end, gap_part, gap_rest}
 use Rattle.md_link_definitions.specs.TitleRule.{TitleParts, title_events, title_parts}
 use Rattle.md_link_definitions.specs.WholeCells.{AreWhole, whole_cells}
 use Rattle.md_link_definitions.proofs.CellLineLemmas.{AreMarks}
-use Rattle.md_link_definitions.proofs.DefinitionLemmas.{blank-ends, gap-length, title-behind}
-use Rattle.md_link_definitions.proofs.GapLines.{AreAt, gap-lines, gap-parted, gap-stands}
+use Rattle.md_link_definitions.proofs.DefinitionLemmas.{blank-ends, gap-length, title-following}
+use Rattle.md_link_definitions.proofs.GapLines.{AreAt, gap-lines, gap-parted, gap-valid}
 use Rattle.md_link_definitions.proofs.LineCells.{further, lines-first}
 use Rattle.md_link_definitions.proofs.TitleLemmas.{title-marks}
 use Rattle.md_link_definitions.proofs.TitleTexts.{title-texts, title_texts}
@@ -27,9 +27,9 @@ use Rattle.md_events.specs.Ahead.{from_ending, line_cells}
 use Rattle.md_events.specs.Spaces.{any_size}
 use Rattle.md_events.proofs.FeedLines.{bytes_of}
 use Rattle.md_exact.specs.Rows.{Row}
-use Rattle.md_exact.specs.Texts.{behind_gap, behind_title, enclosed_part, gap, has_title}
+use Rattle.md_exact.specs.Texts.{following_gap, after_title, enclosed_part, gap, has_title}
 use Rattle.proof_content_laws.proofs.Defined.Along.{Turn}
-use Rattle.proof_content_laws.proofs.Defined.Marked.{TitleAre, behind-gap, title-are}
+use Rattle.proof_content_laws.proofs.Defined.Marked.{TitleAre, following-gap, title-are}
 use Rattle.proof_content_laws.proofs.Defined.Takes.{Takes, Walk, takes-none, takes-then}
 use Rattle.proof_exact_lines.proofs.Ahead.{Ahead, Onward, ahead-onward, onward-here, onward-then}
 use Rattle.proof_exact_lines.proofs.Along.{Along, rows-lines}
@@ -44,7 +44,7 @@ lone-some : (t : TitleParts) → AreWhole t.closer.after t.rest → length t.res
 lone-some t are small =
     ap (λ (l : List (List ℕ)). is_some (alone (Some (record { text = text; rest = l }))))
     (lines-first t.closer.after t.rest are)
-    ∙ go (is_blank line) ∙ blank-ends any_size t.closer.after t.rest small are ∙ sym (by (ends_behind t.rest))
+    ∙ go (is_blank line) ∙ blank-ends any_size t.closer.after t.rest small are ∙ sym (by (ends_after t.rest))
   where
     text : List (List ℕ)
     text = cell_lines false (whole_cells t.opener.after t.text)
@@ -75,14 +75,14 @@ title-lone p cells at small = ap is_some (texts p cells at) ∙ go (title_parts 
     go : (o : Option TitleParts) → title_parts cells ≡ o → is_some (alone (title_texts o)) ≡ is_some (lone o)
     go None e = refl
     go (Some t) e =
-        let behind = title-behind p cells t at.are e in
-        let fewer = behind.fewer in
-        lone-some t behind.at.are (omega (arith, fewer))
+        let following = title-following p cells t at.are e in
+        let fewer = following.fewer in
+        lone-some t following.at.are (omega (arith, fewer))
 
 -- and after a gap
 title-some : (p : Point) (cells : List Cell) (line : List ℕ) (lines : List (List ℕ)) → AreAt p cells →
     length cells ≤ any_size → cell_lines false (whole_cells p cells) ≡ line ∷ lines →
-    is_some (title_after line lines) ≡ is_some (title_behind cells)
+    is_some (title_after line lines) ≡ is_some (title_following cells)
 unfolding found.title_at cell_lines
 title-some p [] line lines at small e =
     let first : [] ≡ line = cc in
@@ -90,14 +90,14 @@ title-some p [] line lines at small e =
     ap₂ (λ (l : List ℕ) (m : List (List ℕ)). is_some (title_after l m)) (sym first) (sym none)
 title-some p (c ∷ cs) line lines at small e = go (begins_gap (c ∷ cs)) refl
   where
-    go : (x : Bool) → begins_gap (c ∷ cs) ≡ x → is_some (title_after line lines) ≡ is_some (title_behind (c ∷ cs))
+    go : (x : Bool) → begins_gap (c ∷ cs) ≡ x → is_some (title_after line lines) ≡ is_some (title_following (c ∷ cs))
     go true k =
         let parted : is_parted line ≡ true = gap-parted p c cs line lines (at.begins c cs refl) e ∙ k in
         let left = gap-length (c ∷ cs) in
         rw (parted, k)
         (ap (λ (l : List (List ℕ)). is_some (found.title_at (after_gap l))) (sym e)
         ∙ gap-lines (λ (l : List (List ℕ)). is_some (found.title_at l)) p (c ∷ cs) refl small at.are
-        ∙ title-lone (gap_end (c ∷ cs) p) (gap_rest (c ∷ cs)) (gap-stands p (c ∷ cs) small at.are)
+        ∙ title-lone (gap_end (c ∷ cs) p) (gap_rest (c ∷ cs)) (gap-valid p (c ∷ cs) small at.are)
         (omega (arith, left)))
     go false k =
         let parted : is_parted line ≡ false = gap-parted p c cs line lines (at.begins c cs refl) e ∙ k in
@@ -106,7 +106,7 @@ title-some p (c ∷ cs) line lines at small e = go (begins_gap (c ∷ cs)) refl
 -- So by rows.
 has-title : (text : List ℕ) (rows : List Row) (p : Point) (cells : List Cell) (turns : List Turn) →
     Along text rows p cells turns → p.vs ≡ 0 → AreAt p cells → length cells ≤ any_size →
-    has_title rows ≡ is_some (title_behind cells)
+    has_title rows ≡ is_some (title_following cells)
 has-title text [] p cells turns along whole at small = absurd along
 has-title text (row ∷ rows) p cells turns along whole at small =
     title-some p cells _ _ at small (rows-lines text (row ∷ rows) p cells turns along whole)
@@ -116,9 +116,9 @@ pub record GapAt (text : List ℕ) (last p : Point) (cells : List Cell) (turns :
     Type 0 where
   pub left : List Turn
   pub takes : Takes text last p turns (gap_end cells p) (gap_rest cells) left (gap_part cells p)
-      (gap rows (behind_gap rows))
-  pub along : Along text (behind_gap rows) (gap_end cells p) (gap_rest cells) left
-  pub ahead : Ahead rows (behind_gap rows)
+      (gap rows (following_gap rows))
+  pub along : Along text (following_gap rows) (gap_end cells p) (gap_rest cells) left
+  pub ahead : Ahead rows (following_gap rows)
 
 pub gap-at : (text : List ℕ) (last p : Point) (cells : List Cell) (turns : List Turn) (rows : List Row) →
     Walk text last p cells turns → Along text rows p cells turns → p.vs ≡ 0 → (c : Cell) (cs : List Cell) →
@@ -137,20 +137,20 @@ gap-at text last p cells turns rows walk along whole c cs e dark plain = record 
     on : GapOn text last p cells turns rows
     on = gap-on text last p cells turns rows walk along
 
-    is : behind_gap rows ≡ on.ends
+    is : following_gap rows ≡ on.ends
     is = gap-found text last p cells turns rows walk along whole c cs e dark plain on
 
 -- A title with the gap before it, or nothing.
 
 -- where a title that follows a destination ends, and what it has, by whether there is one
 abbrev end_by : Bool → List Row → List Row
-end_by x rows = cond x (behind_title (behind_gap rows)) rows
+end_by x rows = cond x (after_title (following_gap rows)) rows
 
 abbrev tail_by : Bool → List Row → List Event
 tail_by x rows =
     cond x
-    (gap rows (behind_gap rows)
-    ++ enclosed_part n.DefinitionTitle n.DefinitionTitleMarker n.DefinitionTitleString (behind_gap rows)
+    (gap rows (following_gap rows)
+    ++ enclosed_part n.DefinitionTitle n.DefinitionTitleMarker n.DefinitionTitleString (following_gap rows)
     (end_by x rows))
     []
 
@@ -183,18 +183,18 @@ titled-some text last p cells t turns rows e walk along whole = (
   title.left,
   takes-then text last p turns q (gap_rest cells) g.left (gap_part cells p) (gap rows mid) t.closer.after t.rest
       title.left (title_events t q)
-      (enclosed_part n.DefinitionTitle n.DefinitionTitleMarker n.DefinitionTitleString mid (behind_title mid)) g.takes
+      (enclosed_part n.DefinitionTitle n.DefinitionTitleMarker n.DefinitionTitleString mid (after_title mid)) g.takes
       title.takes,
   title.along,
-  onward-then rows mid (behind_title mid) (ahead-onward rows mid g.ahead)
-      (ahead-onward mid (behind_title mid) title.ahead),
+  onward-then rows mid (after_title mid) (ahead-onward rows mid g.ahead)
+      (ahead-onward mid (after_title mid) title.ahead),
 )
   where
     q : Point
     q = gap_end cells p
 
     mid : List Row
-    mid = behind_gap rows
+    mid = following_gap rows
 
     are : TitleAre (gap_rest cells) t
     are = title-are (gap_rest cells) t e
@@ -212,7 +212,7 @@ titled-some text last p cells t turns rows e walk along whole = (
 
 pub titled-on : (text : List ℕ) (last p : Point) (cells : List Cell) (o : Option TitleParts) (turns : List Turn)
     (rows : List Row) →
-    title_behind cells ≡ o → Walk text last p cells turns → Along text rows p cells turns → p.vs ≡ 0 →
+    title_following cells ≡ o → Walk text last p cells turns → Along text rows p cells turns → p.vs ≡ 0 →
     AreAt p cells → TitledOn text last p cells o turns rows
 titled-on text last p cells o turns rows e walk along whole at =
     all (subst (TitledBy text last p cells o turns rows) (sym same) (go o e))
@@ -220,9 +220,9 @@ titled-on text last p cells o turns rows e walk along whole at =
     same : has_title rows ≡ is_some o
     same = has-title text rows p cells turns along whole at walk.small ∙ ap is_some e
 
-    go : (o : Option TitleParts) → title_behind cells ≡ o → TitledBy text last p cells o turns rows (is_some o)
+    go : (o : Option TitleParts) → title_following cells ≡ o → TitledBy text last p cells o turns rows (is_some o)
     go None e = (turns, takes-none text last p cells turns walk, along, onward-here rows)
-    go (Some t) e = titled-some text last p cells t turns rows (behind-gap cells t e) walk along whole
+    go (Some t) e = titled-some text last p cells t turns rows (following-gap cells t e) walk along whole
 
     all : TitledBy text last p cells o turns rows (has_title rows) → TitledOn text last p cells o turns rows
     all h = record { left = h.0; takes = h.1; along = h.2; onward = h.3 }

@@ -18,15 +18,15 @@ use Rattle.md_leaves.proofs.TitleTexts.{Parted, Shape, parted}
 use Rattle.md_leaves.proofs.HeadingLemmas.{white-no_hash}
 use Rattle.md_meaning.specs.Bytes.{begins}
 use Rattle.md_meaning.specs.Leaves.{heading_text}
-use Rattle.md_meaning.specs.Rest.{Rest, behind_indent, cut_tab, is_white, run_len}
+use Rattle.md_meaning.specs.Rest.{Rest, after_indent, cut_tab, is_white, run_len}
 use Rattle.md_events.specs.Events.Places.{past_text}
 use Rattle.md_events.proofs.InlineLemmas.{past_text-append}
 use Rattle.proof_frame.specs.LineColumns.{part_over}
 use Rattle.md_exact.specs.Leaves.{heading_line}
 use Rattle.md_exact.specs.Places.{TextLine, past}
 use Rattle.proof_exact_lines.proofs.BeginsAt.{BeginsAt, rest_bytes}
-use Rattle.proof_exact_lines.proofs.Parts.{IsBehind, piece-end, past-behind, piece-is, run-behind}
-use Rattle.proof_exact_lines.proofs.Parts.{stands-bytes, text-is, text_over, white-behind}
+use Rattle.proof_exact_lines.proofs.Parts.{IsAfter, piece-end, past-following, piece-is, run-following}
+use Rattle.proof_exact_lines.proofs.Parts.{valid-bytes, text-is, text_over, white-following}
 
 -- Runs of whitespace, of `#` and of whitespace again.
 
@@ -80,15 +80,15 @@ pub heading-line : (line : TextLine) (r : Rest) (p : Point) → BeginsAt line r 
 heading-line line r p at =
     parts-joined
     (piece-is line n.SpaceOrTab r opening p x.indent rest1 at x.whole first)
-    (piece-is line n.HeadingAtxSequence opening opened p1 x.hashes rest2 first.stands.at
-    (stands-bytes line rest1 p1 opening first.stands) second)
-    (piece-is line n.SpaceOrTab opened begin p2 x.gap rest3 second.stands.at
-    (stands-bytes line rest2 p2 opened second.stands) third)
-    (text-is line Text n.HeadingAtxText begin end p3 text x.back third.stands fourth ∙ text-linked text p3 p4)
-    (piece-is line n.SpaceOrTab end closing p4 back.white (back.hashes ++ back.more) fourth.stands.at behind fifth)
-    (piece-is line n.HeadingAtxSequence closing closed p5 back.hashes back.more fifth.stands.at
-    (stands-bytes line (back.hashes ++ back.more) p5 closing fifth.stands) sixth)
-    (piece-end line n.SpaceOrTab closed p6 back.more sixth.stands.at left)
+    (piece-is line n.HeadingAtxSequence opening opened p1 x.hashes rest2 first.valid.at
+    (valid-bytes line rest1 p1 opening first.valid) second)
+    (piece-is line n.SpaceOrTab opened begin p2 x.gap rest3 second.valid.at
+    (valid-bytes line rest2 p2 opened second.valid) third)
+    (text-is line Text n.HeadingAtxText begin end p3 text x.back third.valid fourth ∙ text-linked text p3 p4)
+    (piece-is line n.SpaceOrTab end closing p4 back.white (back.hashes ++ back.more) fourth.valid.at following fifth)
+    (piece-is line n.HeadingAtxSequence closing closed p5 back.hashes back.more fifth.valid.at
+    (valid-bytes line (back.hashes ++ back.more) p5 closing fifth.valid) sixth)
+    (piece-end line n.SpaceOrTab closed p6 back.more sixth.valid.at left)
     ∙ sym parts
   where
     all : List ℕ
@@ -113,19 +113,19 @@ heading-line line r p at =
     rest1 = x.hashes ++ rest2
 
     opening : Rest
-    opening = behind_indent r
+    opening = after_indent r
 
     opened : Rest
     opened = past (run_len 35 opening.bytes) opening
 
     begin : Rest
-    begin = behind_indent opened
+    begin = after_indent opened
 
     end : Rest
     end = past (length (heading_text opened.bytes)) begin
 
     closing : Rest
-    closing = behind_indent end
+    closing = after_indent end
 
     closed : Rest
     closed = past (run_len 35 closing.bytes) closing
@@ -148,45 +148,46 @@ heading-line line r p at =
     p6 : Point
     p6 = past_text back.hashes p5
 
-    first : IsBehind line r x.indent rest1 p opening
-    first = white-behind line r p x.indent rest1 at x.whole x.indent_is x.behind_indent
+    first : IsAfter line r x.indent rest1 p opening
+    first = white-following line r p x.indent rest1 at x.whole x.indent_is x.after_indent
 
-    second : IsBehind line opening x.hashes rest2 p1 opened
-    second = run-behind is_hash line opening p1 x.hashes rest2 first.stands x.hashes_are x.behind_hashes
+    second : IsAfter line opening x.hashes rest2 p1 opened
+    second = run-following is_hash line opening p1 x.hashes rest2 first.valid x.hashes_are x.after_hashes
 
-    third : IsBehind line opened x.gap rest3 p2 begin
+    third : IsAfter line opened x.gap rest3 p2 begin
     third =
-        white-behind line opened p2 x.gap rest3 second.stands.at (stands-bytes line rest2 p2 opened second.stands)
-        x.gap_is x.behind_gap
+        white-following line opened p2 x.gap rest3 second.valid.at (valid-bytes line rest2 p2 opened second.valid)
+        x.gap_is x.following_gap
 
     size : length text ≡ length (heading_text opened.bytes)
     size =
         ap (λ (l : List ℕ). length l) x.text_is
-        ∙ ap (λ (l : List ℕ). length (heading_text l)) (sym second.stands.bytes_are)
+        ∙ ap (λ (l : List ℕ). length (heading_text l)) (sym second.valid.bytes_are)
 
-    fourth : IsBehind line begin text x.back p3 end
+    fourth : IsAfter line begin text x.back p3 end
     fourth =
-        past-behind line begin p3 (length (heading_text opened.bytes)) text x.back third.stands.at
-        (ap (λ (k : ℕ). cut_tab k ++ take (length (heading_text opened.bytes)) begin.bytes) third.stands.whole
-        ∙ ap (take (length (heading_text opened.bytes))) third.stands.bytes_are
+        past-following line begin p3 (length (heading_text opened.bytes)) text x.back third.valid.at
+        (ap (λ (k : ℕ). cut_tab k ++ take (length (heading_text opened.bytes)) begin.bytes) third.valid.whole
+        ∙ ap (take (length (heading_text opened.bytes))) third.valid.bytes_are
         ∙ take_at text x.back (length (heading_text opened.bytes)) size)
-        (ap (drop (length (heading_text opened.bytes))) third.stands.bytes_are
+        (ap (drop (length (heading_text opened.bytes))) third.valid.bytes_are
         ∙ drop_at text x.back (length (heading_text opened.bytes)) size)
 
-    behind : rest_bytes end ≡ back.white ++ (back.hashes ++ back.more)
-    behind = stands-bytes line x.back p4 end fourth.stands ∙ back.is
+    following : rest_bytes end ≡ back.white ++ (back.hashes ++ back.more)
+    following = valid-bytes line x.back p4 end fourth.valid ∙ back.is
 
-    fifth : IsBehind line end back.white (back.hashes ++ back.more) p4 closing
+    fifth : IsAfter line end back.white (back.hashes ++ back.more) p4 closing
     fifth =
-        white-behind line end p4 back.white (back.hashes ++ back.more) fourth.stands.at behind back.white_is back.apart
+        white-following line end p4 back.white (back.hashes ++ back.more) fourth.valid.at following
+        back.white_is back.apart
 
-    sixth : IsBehind line closing back.hashes back.more p5 closed
+    sixth : IsAfter line closing back.hashes back.more p5 closed
     sixth =
-        run-behind is_hash line closing p5 back.hashes back.more fifth.stands back.hashes_are
+        run-following is_hash line closing p5 back.hashes back.more fifth.valid back.hashes_are
         (no_hash back.more back.more_is)
 
     left : rest_bytes closed ≡ back.more
-    left = stands-bytes line back.more p6 closed sixth.stands
+    left = valid-bytes line back.more p6 closed sixth.valid
 
     parts : unread_title (title_of all p) ≡
         (Three x.indent x.hashes x.gap p ++ linked_text (chunk_unless_empty (length text) p3 p4))

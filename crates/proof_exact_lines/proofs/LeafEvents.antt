@@ -11,7 +11,7 @@ use Rattle.md_engine.specs.declared.event.Point.{Point}
 use Rattle.md_meaning.specs.Ascii.{dollar, hash, hyphen, colon, pipe}
 use Rattle.md_meaning.specs.Bytes.{is_end}
 use Rattle.md_meaning.specs.Leaves.{closes, first_word, heading_text}
-use Rattle.md_meaning.specs.Rest.{Rest, behind_indent, is_blank, lose, run_len, trim_end}
+use Rattle.md_meaning.specs.Rest.{Rest, after_indent, is_blank, lose, run_len, trim_end}
 use Rattle.md_meaning.specs.State.{Opening}
 use Rattle.md_meaning.specs.Texts.{first_byte}
 use Rattle.md_events.specs.Events.Blocks.{is_block}
@@ -100,7 +100,7 @@ leaf-items name inside e h row rows k =
 runs-items : (size : ℕ) (name : Name) → is_item (role name) ≡ false → OfLines (runs size name)
 runs-items zero name e line r = tt
 runs-items (suc size) name e line r =
-    let marks = behind_indent r in
+    let marks = after_indent r in
     let after = past (run_len (first_byte marks.bytes) marks.bytes) marks in
     item-append (white line r marks ++ piece line name marks after) (runs size name line after)
     (item-append (white line r marks) (piece line name marks after) (item-white line r marks)
@@ -112,31 +112,31 @@ runs_line-items name e line r = runs-items (length r.bytes) name e line r
 
 pub heading-items : OfLines heading_line
 heading-items line r =
-    let opening = behind_indent r in
-    let behind_opening = past (run_len hash opening.bytes) opening in
-    let text = behind_indent behind_opening in
-    let behind_text = past (length (heading_text behind_opening.bytes)) text in
-    let closing = behind_indent behind_text in
-    let behind_closing = past (run_len hash closing.bytes) closing in
+    let opening = after_indent r in
+    let after_opening = past (run_len hash opening.bytes) opening in
+    let text = after_indent after_opening in
+    let after_text = past (length (heading_text after_opening.bytes)) text in
+    let closing = after_indent after_text in
+    let after_closing = past (run_len hash closing.bytes) closing in
     let a = white line r opening in
-    let b = piece line n.HeadingAtxSequence opening behind_opening in
-    let c = white line behind_opening text in
-    let d = text_part line Text n.HeadingAtxText text behind_text in
-    let e = white line behind_text closing in
-    let f = piece line n.HeadingAtxSequence closing behind_closing in
-    let g = white line behind_closing (line_end line) in
+    let b = piece line n.HeadingAtxSequence opening after_opening in
+    let c = white line after_opening text in
+    let d = text_part line Text n.HeadingAtxText text after_text in
+    let e = white line after_text closing in
+    let f = piece line n.HeadingAtxSequence closing after_closing in
+    let g = white line after_closing (line_end line) in
     item-append (a ++ b ++ c ++ d ++ e ++ f) g
     (item-append (a ++ b ++ c ++ d ++ e) f
     (item-append (a ++ b ++ c ++ d) e
     (item-append (a ++ b ++ c) d
     (item-append (a ++ b) c
     (item-append a b (item-white line r opening)
-    (none-piece is_item line n.HeadingAtxSequence opening behind_opening refl))
-    (item-white line behind_opening text))
-    (item-text line Text n.HeadingAtxText text behind_text refl))
-    (item-white line behind_text closing))
-    (none-piece is_item line n.HeadingAtxSequence closing behind_closing refl))
-    (item-white line behind_closing (line_end line))
+    (none-piece is_item line n.HeadingAtxSequence opening after_opening refl))
+    (item-white line after_opening text))
+    (item-text line Text n.HeadingAtxText text after_text refl))
+    (item-white line after_text closing))
+    (none-piece is_item line n.HeadingAtxSequence closing after_closing refl))
+    (item-white line after_closing (line_end line))
 
 pub content-items : (name : Name) (columns : ℕ) → is_item (role name) ≡ false → OfLines (content_line name columns)
 content-items name columns e line r =
@@ -168,16 +168,16 @@ info-items : (m : ℕ) (line : TextLine) (r : Rest) → NoItem (info_parts m lin
 info-items m line r = item-append (white line r text) _ (item-white line r text) (go (m == dollar))
   where
     text : Rest
-    text = behind_indent r
+    text = after_indent r
 
-    behind_word : Rest
-    behind_word = past (length (first_word text.bytes)) text
+    after_word : Rest
+    after_word = past (length (first_word text.bytes)) text
 
     meta : Rest
-    meta = behind_indent behind_word
+    meta = after_indent after_word
 
     info : List Event
-    info = text_part line String n.CodeFencedFenceInfo text behind_word
+    info = text_part line String n.CodeFencedFenceInfo text after_word
 
     last : List Event
     last = text_part line String n.CodeFencedFenceMeta meta (line_end line)
@@ -185,12 +185,12 @@ info-items m line r = item-append (white line r text) _ (item-white line r text)
     go : (x : Bool) →
         NoItem
         (cond x (text_part line String n.MathFlowFenceMeta text (line_end line))
-        (info ++ white line behind_word meta ++ last))
+        (info ++ white line after_word meta ++ last))
     go true = item-text line String n.MathFlowFenceMeta text (line_end line) refl
     go false =
-        item-append (info ++ white line behind_word meta) last
-        (item-append info (white line behind_word meta)
-        (item-text line String n.CodeFencedFenceInfo text behind_word refl) (item-white line behind_word meta))
+        item-append (info ++ white line after_word meta) last
+        (item-append info (white line after_word meta)
+        (item-text line String n.CodeFencedFenceInfo text after_word refl) (item-white line after_word meta))
         (item-text line String n.CodeFencedFenceMeta meta (line_end line) refl)
 
 fenced-items : (options : ParseOptions) (o : Opening) → OfLines (fenced_line options o)
@@ -199,14 +199,14 @@ fenced-items options o line r = go (closes options o r)
     go : (x : Bool) →
         NoItem
         (cond x
-        (white line r (behind_indent r)
-        ++ fence_part o.marker line (behind_indent r) (λ after. white line after (line_end line)))
+        (white line r (after_indent r)
+        ++ fence_part o.marker line (after_indent r) (λ after. white line after (line_end line)))
         (content_line (for_marker o.marker n.CodeFlowChunk n.MathFlowChunk) o.indent line r))
     go true =
-        item-append (white line r (behind_indent r))
-        (fence_part o.marker line (behind_indent r) (λ after. white line after (line_end line)))
-        (item-white line r (behind_indent r))
-        (fence_part-items o.marker line (behind_indent r) (λ after. white line after (line_end line))
+        item-append (white line r (after_indent r))
+        (fence_part o.marker line (after_indent r) (λ after. white line after (line_end line)))
+        (item-white line r (after_indent r))
+        (fence_part-items o.marker line (after_indent r) (λ after. white line after (line_end line))
         (λ after. item-white line after (line_end line)))
     go false =
         content-items (for_marker o.marker n.CodeFlowChunk n.MathFlowChunk) o.indent
@@ -215,7 +215,7 @@ fenced-items options o line r = go (closes options o r)
 pub fence-items : (options : ParseOptions) (o : Opening) (row : Row) (rows : List Row) → Plain rows →
     NoItem (fence options o (row ∷ rows))
 fence-items options o row rows h =
-    let first : Row = record row { rest = behind_indent row.rest } in
+    let first : Row = record row { rest = after_indent row.rest } in
     let part = fence_part o.marker row.line first.rest (info_parts o.marker row.line) in
     let inside = part ++ onto_next (row ∷ rows) ++ joined (fenced_line options o) rows in
     item-append (white row.line row.rest first.rest)
@@ -259,7 +259,7 @@ cell-items inner h size line r s = go (is_blank bytes)
     bytes = take size r.bytes
 
     begin : Rest
-    begin = behind_indent r
+    begin = after_indent r
 
     end : Rest
     end = past (length (trim_end bytes)) r
@@ -320,7 +320,7 @@ cells-items (suc size) name e inner h line r = by (cells-items size name e inner
 row-items : (name cell : Name) → is_item (role name) ≡ false → is_item (role cell) ≡ false → (inner : Inner) →
     OfCells inner → OfLines (row_line name cell inner)
 row-items name cell e f inner h line r =
-    let after = behind_indent r in
+    let after = after_indent r in
     none-part is_item line name r (line_end line) (white line r after ++ cells (length r.bytes) cell inner line after) e
     (item-append (white line r after) (cells (length r.bytes) cell inner line after) (item-white line r after)
     (cells-items (length r.bytes) cell f inner h line after))

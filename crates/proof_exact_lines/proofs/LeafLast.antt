@@ -8,26 +8,26 @@ use Rattle.md_meaning.specs.Ascii.{dollar, hash}
 use Rattle.md_meaning.specs.Definition.{Cut, Defined, cut_definitions, definition_at}
 use Rattle.md_meaning.specs.Html.{HtmlKind, html_ends, html_kind}
 use Rattle.md_meaning.specs.Leaves.{Finished, LeafResult, NoText, Opened, ParagraphContext, Text, allows, break_at}
-use Rattle.md_meaning.specs.Leaves.{closes, code_at, code_goes_on, code_line, ends_at_blank, fence_at, fence_from}
-use Rattle.md_meaning.specs.Leaves.{fence_goes_on, goes_on, heading_at, heading_lines, heading_text, html_at, html_by}
-use Rattle.md_meaning.specs.Leaves.{html_goes_on, html_line, is_fence_marker, is_free, is_head_of, is_rule, least_size}
-use Rattle.md_meaning.specs.Leaves.{may_start, opening, starts, table_at, table_by, table_goes_on, underline_depth}
-use Rattle.md_meaning.specs.Leaves.{underlined, underlined_by, with_line}
+use Rattle.md_meaning.specs.Leaves.{closes, code_at, code_continued, code_line, ends_at_blank, fence_at, fence_from}
+use Rattle.md_meaning.specs.Leaves.{fence_continued, is_continued, heading_at, heading_lines, heading_text, html_at}
+use Rattle.md_meaning.specs.Leaves.{html_by, html_continued, html_line, is_fence_marker, is_free, is_head_of, is_rule}
+use Rattle.md_meaning.specs.Leaves.{least_size, may_start, opening, starts, table_at, table_by, table_continued}
+use Rattle.md_meaning.specs.Leaves.{underline_depth, underlined, underlined_by, with_line}
 use Rattle.md_meaning.specs.Rest.{Rest, has_small_indent, indent, is_blank, is_parted, line_of, lose, run_len, trim}
 use Rattle.md_meaning.specs.Rest.{trim_start}
 use Rattle.md_meaning.specs.State.{Innermost, Leaf, NoLeaf, OpenCode, OpenFence, OpenHtml, OpenParagraph, OpenTable}
 use Rattle.md_meaning.specs.State.{Opening, ParagraphLine, cut, fence_block, shut_paragraph, texts, then_block}
 use Rattle.md_meaning.specs.State.{then_definitions, then_leaf, then_paragraph}
-use Rattle.md_meaning.specs.Step.{came, fresh_by, fresh_line, leaf_line, leaf_line_by, on_or_fresh, row_or_text}
+use Rattle.md_meaning.specs.Step.{became, fresh_by, fresh_line, leaf_line, leaf_line_by, on_or_fresh, row_or_text}
 use Rattle.md_meaning.specs.Step.{spot_of, text_by, text_line, underline_or_text}
 use Rattle.md_meaning.specs.Table.{delimiter_columns, row_cells}
 use Rattle.md_meaning.specs.Tree.{Block, Blocks, Break, Definition, End, Fence, Heading, Html, Line, Math, More}
 use Rattle.md_meaning.specs.Tree.{Paragraph}
 use Rattle.md_meaning.proofs.DefinitionLemmas.{cut_definitions-none, cut_definitions-some}
 use Rattle.md_meaning.proofs.FindsLemmas.{Finds, first-found, none-found, some-found, unless-found, when-found}
-use Rattle.md_exact.specs.Rows.{BehindCode, Blank, Delimiter, First, FirstText, Further, FurtherText, Role, Underline}
+use Rattle.md_exact.specs.Rows.{AfterCode, Blank, Delimiter, First, FirstText, Further, FurtherText, Role, Underline}
 use Rattle.md_exact.specs.Rows.{first_or, fresh_role, is_blank_role, role_on}
-use Rattle.proof_exact_lines.specs.Last.{HasLine, item_of, last_behind, last_in, last_of}
+use Rattle.proof_exact_lines.specs.Last.{HasLine, item_of, last_after, last_in, last_of}
 
 -- What a line brings.
 
@@ -37,13 +37,13 @@ IsBuilt NoLeaf = ⊥
 IsBuilt (OpenParagraph lines) = ⊥
 IsBuilt leaf = Unit {0}
 
-abbrev pub Comes : LeafResult → Type 0
-Comes (Opened leaf) = IsBuilt leaf
-Comes (Finished block) = item_of block ≡ None
+abbrev pub Becomes : LeafResult → Type 0
+Becomes (Opened leaf) = IsBuilt leaf
+Becomes (Finished block) = item_of block ≡ None
 
 -- where a test passes, what is open
-opened-when : (x : Bool) (leaf : Leaf) → IsBuilt leaf → Finds (cond x (Some (Opened leaf)) None) Comes
-opened-when x leaf h = when-found Comes x (Some (Opened leaf)) (λ e. some-found Comes (Opened leaf) h)
+opened-when : (x : Bool) (leaf : Leaf) → IsBuilt leaf → Finds (cond x (Some (Opened leaf)) None) Becomes
+opened-when x leaf h = when-found Becomes x (Some (Opened leaf)) (λ e. some-found Becomes (Opened leaf) h)
 
 -- what begins: code, a fence, HTML, a heading or a break
 abbrev pub Starts : LeafResult → Type 0
@@ -56,15 +56,15 @@ Starts (Finished (Heading depth lines)) = Unit {0}
 Starts (Finished (Html lines)) = Unit {0}
 Starts (Finished block) = ⊥
 
-starts-come : (c : LeafResult) → Starts c → Comes c
-starts-come (Opened (OpenCode lines)) h = tt
-starts-come (Opened (OpenFence o lines)) h = tt
-starts-come (Opened (OpenHtml kind lines)) h = tt
-starts-come (Opened _) h = absurd h
-starts-come (Finished Break) h = refl
-starts-come (Finished (Heading depth lines)) h = refl
-starts-come (Finished (Html lines)) h = refl
-starts-come (Finished _) h = absurd h
+starts-become : (c : LeafResult) → Starts c → Becomes c
+starts-become (Opened (OpenCode lines)) h = tt
+starts-become (Opened (OpenFence o lines)) h = tt
+starts-become (Opened (OpenHtml kind lines)) h = tt
+starts-become (Opened _) h = absurd h
+starts-become (Finished Break) h = refl
+starts-become (Finished (Heading depth lines)) h = refl
+starts-become (Finished (Html lines)) h = refl
+starts-become (Finished _) h = absurd h
 
 -- where a test passes
 when-starts : (x : Bool) (c : LeafResult) → Starts c → Finds (cond x (Some c) None) Starts
@@ -142,56 +142,58 @@ leaf-starts options against r =
     (first-found Starts (heading_at options r) (break_at options r) (heading_at-starts options r)
     (break_at-starts options r))))
 
-pub starts-comes : (options : ParseOptions) (against : ParagraphContext) (r : Rest) →
-    Finds (starts options against r) Comes
-starts-comes options against r = λ c e. starts-come c (leaf-starts options against r c e)
+pub starts-becomes : (options : ParseOptions) (against : ParagraphContext) (r : Rest) →
+    Finds (starts options against r) Becomes
+starts-becomes options against r = λ c e. starts-become c (leaf-starts options against r c e)
 
-fence_block-comes : (o : Opening) (lines : List Line) (closed : Bool) → item_of (fence_block o lines closed) ≡ None
-fence_block-comes o lines closed = go (o.marker == dollar)
+fence_block-becomes : (o : Opening) (lines : List Line) (closed : Bool) → item_of (fence_block o lines closed) ≡ None
+fence_block-becomes o lines closed = go (o.marker == dollar)
   where
     go : (x : Bool) → item_of (cond x (Math o.meta lines closed) (Fence o.marker o.info o.meta lines closed)) ≡ None
     go true = refl
     go false = refl
 
-fence_on-comes : (options : ParseOptions) (o : Opening) (lines : List Line) (r : Rest) →
-    Comes (fence_goes_on options o lines r)
-unfolding fence_goes_on
-fence_on-comes options o lines r = go (closes options o r)
+fence_on-becomes : (options : ParseOptions) (o : Opening) (lines : List Line) (r : Rest) →
+    Becomes (fence_continued options o lines r)
+unfolding fence_continued
+fence_on-becomes options o lines r = go (closes options o r)
   where
     go : (x : Bool) →
-        Comes
+        Becomes
         (cond x (Finished (fence_block o lines true))
         (Opened (OpenFence o (lines ++ line_of (lose o.indent r) ∷ []))))
-    go true = fence_block-comes o lines true
+    go true = fence_block-becomes o lines true
     go false = tt
 
-code_on-comes : (lines : List Line) (r : Rest) → Finds (code_goes_on lines r) Comes
-unfolding code_goes_on
-code_on-comes lines r =
+code_on-becomes : (lines : List Line) (r : Rest) → Finds (code_continued lines r) Becomes
+unfolding code_continued
+code_on-becomes lines r =
     opened-when (is_blank r.bytes || nat_le 4 (indent r)) (OpenCode (lines ++ code_line r ∷ [])) tt
 
-html_on-comes : (kind : HtmlKind) (lines : List Line) (r : Rest) → Finds (html_goes_on kind lines r) Comes
-unfolding html_goes_on
-html_on-comes kind lines r =
-    unless-found Comes (ends_at_blank kind && is_blank r.bytes) (Some (html_line kind lines r))
-    (some-found Comes (html_line kind lines r)
-    (starts-come (html_line kind lines r) (html_line-starts kind lines r)))
+html_on-becomes : (kind : HtmlKind) (lines : List Line) (r : Rest) → Finds (html_continued kind lines r) Becomes
+unfolding html_continued
+html_on-becomes kind lines r =
+    unless-found Becomes (ends_at_blank kind && is_blank r.bytes) (Some (html_line kind lines r))
+    (some-found Becomes (html_line kind lines r)
+    (starts-become (html_line kind lines r) (html_line-starts kind lines r)))
 
-table_on-comes : (options : ParseOptions) (delimiter : List ℕ) (rows : List (List (List ℕ))) (r : Rest) →
-    Finds (table_goes_on options delimiter rows r) Comes
-unfolding table_goes_on
-table_on-comes options delimiter rows r =
-    let come : LeafResult = Opened (OpenTable delimiter (rows ++ row_cells r.bytes ∷ [])) in
-    unless-found Comes (is_blank r.bytes || is_some (starts options NoText r)) (Some come) (some-found Comes come tt)
+table_on-becomes : (options : ParseOptions) (delimiter : List ℕ) (rows : List (List (List ℕ))) (r : Rest) →
+    Finds (table_continued options delimiter rows r) Becomes
+unfolding table_continued
+table_on-becomes options delimiter rows r =
+    let become : LeafResult = Opened (OpenTable delimiter (rows ++ row_cells r.bytes ∷ [])) in
+    unless-found Becomes (is_blank r.bytes || is_some (starts options NoText r)) (Some become)
+    (some-found Becomes become tt)
 
-pub goes_on-comes : (options : ParseOptions) (leaf : Leaf) (r : Rest) → Finds (goes_on options leaf r) Comes
-goes_on-comes options NoLeaf r = none-found Comes
-goes_on-comes options (OpenParagraph lines) r = none-found Comes
-goes_on-comes options (OpenCode lines) r = code_on-comes lines r
-goes_on-comes options (OpenFence o lines) r =
-    some-found Comes (fence_goes_on options o lines r) (fence_on-comes options o lines r)
-goes_on-comes options (OpenHtml kind lines) r = html_on-comes kind lines r
-goes_on-comes options (OpenTable delimiter rows) r = table_on-comes options delimiter rows r
+pub is_continued-becomes : (options : ParseOptions) (leaf : Leaf) (r : Rest) →
+    Finds (is_continued options leaf r) Becomes
+is_continued-becomes options NoLeaf r = none-found Becomes
+is_continued-becomes options (OpenParagraph lines) r = none-found Becomes
+is_continued-becomes options (OpenCode lines) r = code_on-becomes lines r
+is_continued-becomes options (OpenFence o lines) r =
+    some-found Becomes (fence_continued options o lines r) (fence_on-becomes options o lines r)
+is_continued-becomes options (OpenHtml kind lines) r = html_on-becomes kind lines r
+is_continued-becomes options (OpenTable delimiter rows) r = table_on-becomes options delimiter rows r
 
 -- Blocks.
 
@@ -238,11 +240,11 @@ paragraph-last options bs (line ∷ lines) h = cut-last options bs line.text (te
 
 -- and so does any other
 pub leaf-last : (options : ParseOptions) (bs : Blocks) (leaf : Leaf) → HasLine leaf →
-    last_of (then_leaf options bs leaf) ≡ last_behind leaf bs
+    last_of (then_leaf options bs leaf) ≡ last_after leaf bs
 leaf-last options bs NoLeaf h = refl
 leaf-last options bs (OpenParagraph lines) h = paragraph-last options bs lines h
 leaf-last options bs (OpenCode lines) h = last-then bs _
-leaf-last options bs (OpenFence o lines) h = last-then bs _ ∙ fence_block-comes o lines false
+leaf-last options bs (OpenFence o lines) h = last-then bs _ ∙ fence_block-becomes o lines false
 leaf-last options bs (OpenHtml kind lines) h = last-then bs _
 leaf-last options bs (OpenTable delimiter rows) h = last-then bs _
 
@@ -253,20 +255,20 @@ pub record Ends (s : Innermost) : Type 0 where
   pub last : last_in s ≡ None
   pub text : HasLine s.leaf
 
-pub came-ends : (bs : Blocks) (c : LeafResult) → Comes c → Ends (came bs c)
-came-ends bs (Opened NoLeaf) h = absurd h
-came-ends bs (Opened (OpenParagraph lines)) h = absurd h
-came-ends bs (Opened leaf) h = record { last = refl; text = tt }
-came-ends bs (Finished block) h = record { last = last-then bs block ∙ h; text = tt }
+pub became-ends : (bs : Blocks) (c : LeafResult) → Becomes c → Ends (became bs c)
+became-ends bs (Opened NoLeaf) h = absurd h
+became-ends bs (Opened (OpenParagraph lines)) h = absurd h
+became-ends bs (Opened leaf) h = record { last = refl; text = tt }
+became-ends bs (Finished block) h = record { last = last-then bs block ∙ h; text = tt }
 
 line-ends : (bs : Blocks) (lines : List ParagraphLine) (r : Rest) → Ends (with_line bs lines r)
 line-ends bs [] r = record { last = refl; text = tt }
 line-ends bs (line ∷ lines) r = record { last = refl; text = tt }
 
-fresh-by : (options : ParseOptions) (bs : Blocks) (r : Rest) (c : Option LeafResult) → Finds c Comes →
+fresh-by : (options : ParseOptions) (bs : Blocks) (r : Rest) (c : Option LeafResult) → Finds c Becomes →
     Ends (fresh_by bs r c)
 fresh-by options bs r None h = line-ends bs [] r
-fresh-by options bs r (Some c) h = came-ends bs c (h c refl)
+fresh-by options bs r (Some c) h = became-ends bs c (h c refl)
 
 -- of a line after these blocks
 pub fresh-ends : (options : ParseOptions) (bs : Blocks) (r : Rest) → is_blank r.bytes ≡ false →
@@ -274,7 +276,7 @@ pub fresh-ends : (options : ParseOptions) (bs : Blocks) (r : Rest) → is_blank 
 unfolding fresh_line
 fresh-ends options bs r e =
     subst (λ (x : Bool). Ends (cond x (spot_of bs) (fresh_by bs r (starts options NoText r)))) (sym e)
-    (fresh-by options bs r (starts options NoText r) (starts-comes options NoText r))
+    (fresh-by options bs r (starts options NoText r) (starts-becomes options NoText r))
 
 pub fresh-blank : (options : ParseOptions) (bs : Blocks) (r : Rest) → is_blank r.bytes ≡ true →
     fresh_line options bs r ≡ spot_of bs
@@ -315,15 +317,15 @@ row-ends bs lines r None h = line-ends bs lines r
 row-ends bs lines r (Some s) h = h s refl
 
 text-by : (options : ParseOptions) (bs : Blocks) (lines : List ParagraphLine) (r : Rest) (c : Option LeafResult) →
-    Finds c Comes → Ends (text_by options bs lines r c)
+    Finds c Becomes → Ends (text_by options bs lines r c)
 text-by options bs lines r None h = row-ends bs lines r (table_at options bs lines r) (table-ends options bs lines r)
-text-by options bs lines r (Some c) h = came-ends (then_leaf options bs (OpenParagraph lines)) c (h c refl)
+text-by options bs lines r (Some c) h = became-ends (then_leaf options bs (OpenParagraph lines)) c (h c refl)
 
 depth-ends : (options : ParseOptions) (bs : Blocks) (lines : List ParagraphLine) (r : Rest) (depth : Option ℕ) →
     Ends (underline_or_text options bs lines r depth)
 unfolding underlined
 depth-ends options bs lines r None =
-    text-by options bs lines r (starts options Text r) (starts-comes options Text r)
+    text-by options bs lines r (starts options Text r) (starts-becomes options Text r)
 depth-ends options bs lines r (Some depth) = underlined-by bs lines r depth (cut options (texts lines))
 
 text-blank : (options : ParseOptions) (bs : Blocks) (lines : List ParagraphLine) (r : Rest) → is_blank r.bytes ≡ true →
@@ -350,24 +352,27 @@ text-ends options bs lines r e =
 -- Any line.
 
 -- one that continues the leaf that is open
-on-ends : (options : ParseOptions) (s : Innermost) (r : Rest) (o : Option LeafResult) → Finds o Comes →
+on-ends : (options : ParseOptions) (s : Innermost) (r : Rest) (o : Option LeafResult) → Finds o Becomes →
     is_some o ≡ true → Ends (on_or_fresh options s r o)
 on-ends options s r None h e = absurd (cc)
-on-ends options s r (Some c) h e = came-ends s.here c (h c refl)
+on-ends options s r (Some c) h e = became-ends s.here c (h c refl)
 
-pub further-ends : (options : ParseOptions) (s : Innermost) (r : Rest) → is_some (goes_on options s.leaf r) ≡ true →
+pub further-ends : (options : ParseOptions) (s : Innermost) (r : Rest) →
+    is_some (is_continued options s.leaf r) ≡ true →
     Ends (leaf_line options s r)
 further-ends options s r e = go s.leaf refl
   where
-    goes : Leaf → Bool
-    goes leaf = is_some (goes_on options leaf r)
+    proceeds : Leaf → Bool
+    proceeds leaf = is_some (is_continued options leaf r)
 
-    on : (leaf : Leaf) → s.leaf ≡ leaf → Ends (on_or_fresh options s r (goes_on options leaf r))
-    on leaf l = on-ends options s r (goes_on options leaf r) (goes_on-comes options leaf r) (ap goes (sym l) ∙ e)
+    on : (leaf : Leaf) → s.leaf ≡ leaf → Ends (on_or_fresh options s r (is_continued options leaf r))
+    on leaf l = on-ends options s r (is_continued options leaf r) (is_continued-becomes options leaf r)
+        (ap proceeds (sym l) ∙ e)
 
     go : (leaf : Leaf) → s.leaf ≡ leaf → Ends (leaf_line_by options s r leaf)
-    go NoLeaf l = let none : goes NoLeaf ≡ true = ap goes (sym l) ∙ e in absurd (cc)
-    go (OpenParagraph lines) l = let none : goes (OpenParagraph lines) ≡ true = ap goes (sym l) ∙ e in absurd (cc)
+    go NoLeaf l = let none : proceeds NoLeaf ≡ true = ap proceeds (sym l) ∙ e in absurd (cc)
+    go (OpenParagraph lines) l = let none : proceeds (OpenParagraph lines) ≡ true = ap proceeds (sym l)
+        ∙ e in absurd (cc)
     go (OpenCode lines) l = on (OpenCode lines) l
     go (OpenFence o lines) l = on (OpenFence o lines) l
     go (OpenHtml kind lines) l = on (OpenHtml kind lines) l
@@ -387,7 +392,7 @@ unmet-closed options s r None e = record {
 }
 
 unmet-line : (options : ParseOptions) (s : Innermost) (r : Rest) (leaf : Leaf) → HasLine leaf →
-    is_some (goes_on options leaf r) ≡ false → s.leaf ≡ leaf → Unmet options s r (leaf_line_by options s r leaf)
+    is_some (is_continued options leaf r) ≡ false → s.leaf ≡ leaf → Unmet options s r (leaf_line_by options s r leaf)
 unmet-line options s r NoLeaf h e l = record {
   blank = λ b. fresh-blank options s.here r b ∙ ap (λ (x : Leaf). spot_of (then_leaf options s.here x)) (sym l);
   other = λ b. fresh-ends options s.here r b;
@@ -396,12 +401,13 @@ unmet-line options s r (OpenParagraph lines) h e l = record {
   blank = λ b. text-blank options s.here lines r b ∙ ap (λ (x : Leaf). spot_of (then_leaf options s.here x)) (sym l);
   other = λ b. text-ends options s.here lines r b;
 }
-unmet-line options s r (OpenCode lines) h e l = unmet-closed options s r (goes_on options (OpenCode lines) r) e
-unmet-line options s r (OpenFence o lines) h e l = unmet-closed options s r (goes_on options (OpenFence o lines) r) e
+unmet-line options s r (OpenCode lines) h e l = unmet-closed options s r (is_continued options (OpenCode lines) r) e
+unmet-line options s r (OpenFence o lines) h e l = unmet-closed options s r
+    (is_continued options (OpenFence o lines) r) e
 unmet-line options s r (OpenHtml kind lines) h e l =
-    unmet-closed options s r (goes_on options (OpenHtml kind lines) r) e
+    unmet-closed options s r (is_continued options (OpenHtml kind lines) r) e
 unmet-line options s r (OpenTable delimiter rows) h e l =
-    unmet-closed options s r (goes_on options (OpenTable delimiter rows) r) e
+    unmet-closed options s r (is_continued options (OpenTable delimiter rows) r) e
 
 -- What a line is.
 
@@ -446,13 +452,13 @@ IsCode leaf = ⊥
 
 abbrev pub Leaves : Role → Leaf → Type 0
 Leaves Blank leaf = leaf ≡ NoLeaf
-Leaves BehindCode leaf = leaf ≡ NoLeaf
+Leaves AfterCode leaf = leaf ≡ NoLeaf
 Leaves (Further (OpenCode lines)) leaf = IsCode leaf
 Leaves role leaf = Unit {0}
 
 further-leaves : (options : ParseOptions) (s : Innermost) (r : Rest) (leaf : Leaf) →
-    is_some (goes_on options leaf r) ≡ true → Leaves (Further leaf) (leaf_line_by options s r leaf).leaf
-unfolding code_goes_on
+    is_some (is_continued options leaf r) ≡ true → Leaves (Further leaf) (leaf_line_by options s r leaf).leaf
+unfolding code_continued
 further-leaves options s r (OpenCode lines) e = go (is_blank r.bytes || nat_le 4 (indent r)) e
   where
     go : (x : Bool) →
@@ -474,16 +480,16 @@ pub record Met (options : ParseOptions) (s : Innermost) (r : Rest) : Type 0 wher
   pub leaves : Leaves (role_on options s.leaf r) (leaf_line options s r).leaf
 
 pub meets : (options : ParseOptions) (s : Innermost) (r : Rest) → HasLine s.leaf → Met options s r
-meets options s r h = go (is_some (goes_on options s.leaf r)) refl (is_blank r.bytes) refl
+meets options s r h = go (is_some (is_continued options s.leaf r)) refl (is_blank r.bytes) refl
   where
     role : Bool → Bool → Role
     role x y = cond x (Further s.leaf) (cond y Blank (fresh_role options s.leaf r))
 
-    by : (x y : Bool) → is_some (goes_on options s.leaf r) ≡ x → is_blank r.bytes ≡ y →
+    by : (x y : Bool) → is_some (is_continued options s.leaf r) ≡ x → is_blank r.bytes ≡ y →
         role_on options s.leaf r ≡ role x y
     by x y e b = ap₂ role e b
 
-    ends : (x y : Bool) → is_some (goes_on options s.leaf r) ≡ x → is_blank r.bytes ≡ y →
+    ends : (x y : Bool) → is_some (is_continued options s.leaf r) ≡ x → is_blank r.bytes ≡ y →
         is_blank_role (role x y) ≡ false → Leaves (role x y) (leaf_line options s r).leaf →
         Ends (leaf_line options s r) → Met options s r
     ends x y e b filled leaves is = record {
@@ -492,7 +498,7 @@ meets options s r h = go (is_some (goes_on options s.leaf r)) refl (is_blank r.b
       leaves = subst (λ (a : Role). Leaves a (leaf_line options s r).leaf) (sym (by x y e b)) leaves;
     }
 
-    go : (x : Bool) → is_some (goes_on options s.leaf r) ≡ x → (y : Bool) → is_blank r.bytes ≡ y → Met options s r
+    go : (x : Bool) → is_some (is_continued options s.leaf r) ≡ x → (y : Bool) → is_blank r.bytes ≡ y → Met options s r
     go true e y b =
         ends true y e b refl (further-leaves options s r s.leaf e) (further-ends options s r e)
     go false e true b =

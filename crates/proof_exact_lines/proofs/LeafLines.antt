@@ -20,7 +20,7 @@ use Rattle.md_leaves.proofs.TitleRuns.{pass-first, pass-rest}
 use Rattle.md_leaves.proofs.TitleTexts.{front-passes, front-stops}
 use Rattle.md_meaning.specs.Bytes.{begins, is_end}
 use Rattle.md_meaning.specs.Leaves.{is_rule, is_rule_marker}
-use Rattle.md_meaning.specs.Rest.{Rest, behind_indent, cut_tab, indent, is_blank, is_white, lose, run_len, trim_start}
+use Rattle.md_meaning.specs.Rest.{Rest, after_indent, cut_tab, indent, is_blank, is_white, lose, run_len, trim_start}
 use Rattle.md_meaning.specs.State.{Opening}
 use Rattle.md_meaning.specs.Texts.{first_byte}
 use Rattle.md_events.specs.Events.Nested.{around, enter_link, exit, pair}
@@ -50,7 +50,7 @@ use Rattle.proof_exact_lines.proofs.Fences.{further-line, opening-fence, white-f
 use Rattle.proof_exact_lines.proofs.Heading.{heading-line}
 use Rattle.proof_exact_lines.proofs.Lost.{line-lost}
 use Rattle.proof_exact_lines.proofs.OnLine.{begins-again}
-use Rattle.proof_exact_lines.proofs.Parts.{end-behind}
+use Rattle.proof_exact_lines.proofs.Parts.{end-following}
 use Rattle.proof_exact_lines.proofs.Runs.{AreMarks, is_mark, line-runs}
 
 -- A leaf on one line.
@@ -61,7 +61,7 @@ end_at r p = past_text (rest_bytes r) p
 
 pub ends-at : (line : TextLine) (r : Rest) (p : Point) → BeginsAt line r p → place line (line_end line) ≡ end_at r p
 ends-at line r p at =
-    begins-place line (line_end line) (end_at r p) (end-behind line r p (rest_bytes r) at refl).stands.at
+    begins-place line (line_end line) (end_at r p) (end-following line r p (rest_bytes r) at refl).valid.at
 
 -- a leaf on a line is what is in it, from its begin to the end of the line
 pub leaf-one : (name : Name) (inside : TextLine → Rest → List Event) (row : Row) (p : Point) →
@@ -224,10 +224,10 @@ code-further row p at =
     inside = content_line n.CodeFlowChunk 4 row.line row.rest
 
 -- after code its chunks are whitespace
-pub code-behind : (row : Row) (p : Point) → BeginsAt row.line row.rest p →
+pub code-following : (row : Row) (p : Point) → BeginsAt row.line row.rest p →
     map (renamed Outside) (content_line n.CodeFlowChunk 4 row.line row.rest) ≡
     content_line n.SpaceOrTab 4 row.line row.rest
-code-behind row p at =
+code-following row p at =
     ap (map (renamed Outside)) (line-lost n.CodeFlowChunk 4 row.line row.rest p at)
     ∙ go (nat_lt 0 4 && nat_lt 0 (indent row.rest)) (rest_bytes (lose 4 row.rest)) (past_columns 4 row.rest p)
     ∙ sym (line-lost n.SpaceOrTab 4 row.line row.rest p at)
@@ -268,7 +268,7 @@ html-further row p at = ap (linked_around n.HtmlFlow p (end_at row.rest p)) (sym
 -- the opening line: its indent, and the fence
 pub fence-first : (o : Opening) (row : Row) (p : Point) → BeginsAt row.line row.rest p →
     o.marker ≡ first_byte (trim_start row.rest.bytes) → 1 ≤ run_len o.marker (trim_start row.rest.bytes) →
-    let first : Rest = behind_indent row.rest in
+    let first : Rest = after_indent row.rest in
     let q : Point = past_white (rest_bytes row.rest) p in
     fence_line linked (rest_bytes row.rest) p ≡
     white row.line row.rest first

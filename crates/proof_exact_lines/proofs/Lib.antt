@@ -6,7 +6,7 @@ pub mod FurtherPrefixes
 pub mod Items
 pub mod Footnotes
 pub mod BeginsAt
-pub mod BehindIndent
+pub mod AfterIndent
 pub mod Parts
 pub mod Heading
 pub mod Runs
@@ -28,7 +28,7 @@ pub mod ExactListed
 pub mod Markers
 pub mod LeafEvents
 pub mod TextEvents
-pub mod LeavesStand
+pub mod LeavesAllowed
 pub mod ExactText
 pub mod FirstCell
 pub mod CellContent

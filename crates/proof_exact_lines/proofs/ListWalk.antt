@@ -12,22 +12,22 @@ use Rattle.md_engine.specs.declared.event.Content.TheVariants.{String}
 use Rattle.md_meaning.specs.declared.alert.AlertKind.{AlertKind}
 use Rattle.md_meaning.specs.Alert.{marker_of}
 use Rattle.md_meaning.specs.Containers.{Taken}
-use Rattle.md_meaning.specs.Rest.{Rest, behind_indent, lose}
+use Rattle.md_meaning.specs.Rest.{Rest, after_indent, lose}
 use Rattle.md_meaning.specs.State.{Container, InFootnote, InItem, InQuote, Path}
 use Rattle.md_meaning.specs.Tree.{Blocks, End, Item, More}
 use Rattle.md_events.specs.Events.Blocks.{is_block}
 use Rattle.md_events.specs.Events.Nested.{enter, exit, is_enter}
 use Rattle.md_events.specs.Events.Spelled.{ContainerRole, Role, role}
-use Rattle.md_containers.specs.Listed.{Place, goes_on, is_item, is_marker, listed_from, marker_ahead}
+use Rattle.md_containers.specs.Listed.{Place, is_continued, is_item, is_marker, listed_from, marker_ahead}
 use Rattle.md_containers.specs.Listed.{list_begin, list_name, marker_by, next_item}
 use Rattle.md_containers.proofs.ListedLemmas.{passes-given}
 use Rattle.md_exact.specs.Places.{TextLine, chunk, is_same, part, past, piece, place, text_part, white}
 use Rattle.md_exact.specs.Prefixes.{alert_part, begin, begins, blocks_before, end_in_item, footnote_prefix}
 use Rattle.md_exact.specs.Prefixes.{further_prefix, further_prefixes, item_prefix, quote_prefix}
-use Rattle.md_exact.specs.Rows.{Row, container_name, ends_from, list_ends, list_goes_on}
-use Rattle.proof_exact_lines.specs.Last.{goes_between, last_of, marker_in}
-use Rattle.proof_exact_lines.specs.Unlisted.{MarkerAt, MarkerStands, MarkersStand, NoneIs, opening_prefix, plain_begin}
-use Rattle.proof_exact_lines.specs.Unlisted.{plain_begins, plain_ends, pushed}
+use Rattle.md_exact.specs.Rows.{Row, container_name, ends_from, list_ends, list_continued}
+use Rattle.proof_exact_lines.specs.Last.{continues_between, last_of, marker_in}
+use Rattle.proof_exact_lines.specs.Unlisted.{MarkerAt, MarkerAllowed, MarkersAllowed, NoneIs, opening_prefix}
+use Rattle.proof_exact_lines.specs.Unlisted.{plain_begin, plain_begins, plain_ends, pushed}
 use Rattle.proof_exact_lines.proofs.StepLast.{held_in}
 
 -- Events that no list turns on.
@@ -82,10 +82,11 @@ next-passes bytes (e ∷ es) rest h =
 abbrev is_ahead : Role → Bool
 is_ahead x = is_block x || is_marker x
 
-marker-skips : (kind : Kind) (x : Role) (byte behind : ℕ) → is_ahead x ≡ false → marker_by kind x byte behind ≡ behind
-marker-skips kind x byte behind h = go (is_block x) (is_marker x) (is_enter kind) h
+marker-skips : (kind : Kind) (x : Role) (byte following : ℕ) → is_ahead x ≡ false →
+    marker_by kind x byte following ≡ following
+marker-skips kind x byte following h = go (is_block x) (is_marker x) (is_enter kind) h
   where
-    go : (a b c : Bool) → (a || b) ≡ false → cond a 0 (cond (c && b) byte behind) ≡ behind
+    go : (a b c : Bool) → (a || b) ≡ false → cond a 0 (cond (c && b) byte following) ≡ following
     go true b c e = absurd (cc)
     go false true c e = absurd (cc)
     go false false true e = refl
@@ -105,15 +106,15 @@ item-marker bytes line digits marker r s rest h =
     (append_assoc front (enter n.ListItemPrefix (place line value) ∷ (inside ++ end)) rest
     ∙ ap (λ (l : List Event). front ++ enter n.ListItemPrefix (place line value) ∷ l)
     (append_assoc inside end rest
-    ∙ ap (λ (l : List Event). l ++ (end ++ rest)) (append_assoc digit_events mark behind)
-    ∙ append_assoc digit_events (mark ++ behind) (end ++ rest)
-    ∙ ap (λ (l : List Event). digit_events ++ l) (append_assoc mark behind (end ++ rest))))
+    ∙ ap (λ (l : List Event). l ++ (end ++ rest)) (append_assoc digit_events mark following)
+    ∙ append_assoc digit_events (mark ++ following) (end ++ rest)
+    ∙ ap (λ (l : List Event). digit_events ++ l) (append_assoc mark following (end ++ rest))))
     ∙ marker-passes bytes front _ (none-piece is_ahead line n.SpaceOrTab r value refl)
     ∙ marker-passes bytes digit_events _ (none-piece is_ahead line n.ListItemValue value at refl)
     ∙ by (is_same at after) h.one ∙ h.byte
   where
     value : Rest
-    value = behind_indent r
+    value = after_indent r
 
     at : Rest
     at = past (length digits) value
@@ -130,18 +131,18 @@ item-marker bytes line digits marker r s rest h =
     mark : List Event
     mark = piece line n.ListItemMarker at after
 
-    behind : List Event
-    behind = white line after s
+    following : List Event
+    following = white line after s
 
     inside : List Event
-    inside = digit_events ++ mark ++ behind
+    inside = digit_events ++ mark ++ following
 
     end : List Event
     end = exit n.ListItemPrefix (place line s) ∷ []
 
     by : (x : Bool) → x ≡ false →
         marker_ahead bytes
-        (cond x [] (part line n.ListItemMarker at after []) ++ (behind ++ (end ++ rest)))
+        (cond x [] (part line n.ListItemMarker at after []) ++ (following ++ (end ++ rest)))
         ≡ get_or bytes (place line at).index 0
     by true e = absurd (cc)
     by false e = refl
@@ -154,7 +155,7 @@ white-none line r s = none-piece is_block line n.SpaceOrTab r s refl
 alert-none : (line : TextLine) (kind : Option AlertKind) (r s : Rest) → NoneIs is_block (alert_part line kind r s)
 alert-none line None r s = tt
 alert-none line (Some kind) r s =
-    let bracket = behind_indent r in
+    let bracket = after_indent r in
     let after = past (length (marker_of kind)) bracket in
     none-append is_block (white line r bracket ++ piece line n.BlockQuoteMarker bracket after) (white line after s)
     (none-append is_block (white line r bracket) (piece line n.BlockQuoteMarker bracket after)
@@ -163,7 +164,7 @@ alert-none line (Some kind) r s =
 
 quote-none : (line : TextLine) (kind : Option AlertKind) (r s : Rest) → NoneIs is_block (quote_prefix line kind r s)
 quote-none line kind r s =
-    let marker = behind_indent r in
+    let marker = after_indent r in
     let after = past 1 marker in
     let column = lose 1 after in
     let mark = piece line n.BlockQuoteMarker marker after in
@@ -179,7 +180,7 @@ quote-none line kind r s =
 
 item-none : (line : TextLine) (digits : List ℕ) (r s : Rest) → NoneIs is_block (item_prefix line digits r s)
 item-none line digits r s =
-    let value = behind_indent r in
+    let value = after_indent r in
     let marker = past (length digits) value in
     let after = past 1 marker in
     let number = piece line n.ListItemValue value marker in
@@ -202,7 +203,7 @@ text_part-none line content name r s h = go (is_same r s)
 
 footnote-none : (line : TextLine) (label : List ℕ) (r s : Rest) → NoneIs is_block (footnote_prefix line label r s)
 footnote-none line label r s =
-    let bracket = behind_indent r in
+    let bracket = after_indent r in
     let hat = past 1 bracket in
     let text = past 1 hat in
     let close = past (length label) text in
@@ -259,13 +260,13 @@ pub markers-append : (ms : List ℕ) (cs ds : List Container) →
 markers-append ms [] ds = refl
 markers-append ms (c ∷ cs) ds = markers-append (pushed ms (marker_in c)) cs ds
 
-pub none-between : (last : Option ℕ) → goes_between last None ≡ false
+pub none-between : (last : Option ℕ) → continues_between last None ≡ false
 none-between None = refl
 none-between (Some m) = refl
 
 -- Containers that open.
 
-pub last-item : (m : ℕ) (bs : Blocks) → goes_between (last_of bs) (Some m) ≡ end_in_item m bs
+pub last-item : (m : ℕ) (bs : Blocks) → continues_between (last_of bs) (Some m) ≡ end_in_item m bs
 last-item m End = refl
 last-item m (More (Item k d x) End) = refl
 last-item m (More _ End) = refl
@@ -273,7 +274,7 @@ last-item m (More b (More next bs)) = last-item m (More next bs)
 
 -- an item that opens is known from its marker
 pub begin-next : (bytes : List ℕ) (line : TextLine) (c : Container) (r s : Rest) (rest : List Event) →
-    MarkerStands bytes line c r → next_item bytes (plain_begin line c r s ++ rest) ≡ marker_in c
+    MarkerAllowed bytes line c r → next_item bytes (plain_begin line c r s ++ rest) ≡ marker_in c
 begin-next bytes line (InQuote kind) r s rest h = refl
 begin-next bytes line (InItem digits marker width starts_blank) r s rest h =
     ap (λ (m : ℕ). Some m) (item-marker bytes line digits marker r s rest h)
@@ -281,8 +282,8 @@ begin-next bytes line (InFootnote label) r s rest h = refl
 
 -- where a list continues before it as the blocks there say
 pub begin-walk : (bytes : List ℕ) (line : TextLine) (after : Path) (depth : ℕ) (c : Container) (r s : Rest)
-    (within : Bool) (ms : List ℕ) (rest : List Event) → MarkerStands bytes line c r →
-    within ≡ goes_between (last_of (blocks_before depth after)) (marker_in c) →
+    (within : Bool) (ms : List ℕ) (rest : List Event) → MarkerAllowed bytes line c r →
+    within ≡ continues_between (last_of (blocks_before depth after)) (marker_in c) →
     listed_from bytes (record { within = within; markers = ms }) (plain_begin line c r s ++ rest)
     ≡ begin line after depth c r s
     ++ listed_from bytes (record { within = false; markers = pushed ms (marker_in c) }) rest
@@ -321,7 +322,7 @@ begin-walk bytes line after depth (InFootnote label) r s within ms rest h e =
 
 -- those that open in one that opens: nothing is before them
 inner-walk : (bytes : List ℕ) (line : TextLine) (after : Path) (depth : ℕ) (r : Rest) (ts : List Taken)
-    (ms : List ℕ) (rest : List Event) → MarkersStand bytes line r ts →
+    (ms : List ℕ) (rest : List Event) → MarkersAllowed bytes line r ts →
     ((deep : ℕ) → depth ≤ deep → blocks_before deep after ≡ End) →
     listed_from bytes (record { within = false; markers = ms }) (plain_begins line r ts ++ rest)
     ≡ begins line after depth r ts
@@ -334,15 +335,15 @@ inner-walk bytes line after depth r (t ∷ ts) ms rest h deeper =
     ap (listed_from bytes (record { within = false; markers = ms }))
     (append_assoc plain (plain_begins line t.rest ts) rest)
     ∙ begin-walk bytes line after depth t.container r t.rest false ms (plain_begins line t.rest ts ++ rest) h.0
-    (sym (ap (λ (bs : Blocks). goes_between (last_of bs) (marker_in t.container)) (deeper depth (omega arith))))
+    (sym (ap (λ (bs : Blocks). continues_between (last_of bs) (marker_in t.container)) (deeper depth (omega arith))))
     ∙ ap (λ (l : List Event). first ++ l)
     (inner-walk bytes line after (suc depth) t.rest ts markers rest h.1 (λ deep le. deeper deep (omega arith)))
     ∙ sym (append_assoc first (begins line after (suc depth) t.rest ts) _)
 
 -- all that open
 pub begins-walk : (bytes : List ℕ) (line : TextLine) (after : Path) (depth : ℕ) (r : Rest) (t : Taken)
-    (ts : List Taken) (within : Bool) (ms : List ℕ) (rest : List Event) → MarkersStand bytes line r (t ∷ ts) →
-    within ≡ goes_between (last_of (blocks_before depth after)) (marker_in t.container) →
+    (ts : List Taken) (within : Bool) (ms : List ℕ) (rest : List Event) → MarkersAllowed bytes line r (t ∷ ts) →
+    within ≡ continues_between (last_of (blocks_before depth after)) (marker_in t.container) →
     ((deep : ℕ) → suc depth ≤ deep → blocks_before deep after ≡ End) →
     listed_from bytes (record { within = within; markers = ms }) (plain_begins line r (t ∷ ts) ++ rest)
     ≡ begins line after depth r (t ∷ ts)
@@ -358,31 +359,32 @@ begins-walk bytes line after depth r t ts within ms rest h e deeper =
     ∙ sym (append_assoc first (begins line after (suc depth) t.rest ts) _)
 
 pub begins-next : (bytes : List ℕ) (line : TextLine) (r : Rest) (t : Taken) (ts : List Taken) (rest : List Event) →
-    MarkersStand bytes line r (t ∷ ts) → next_item bytes (plain_begins line r (t ∷ ts) ++ rest) ≡ marker_in t.container
+    MarkersAllowed bytes line r (t ∷ ts) → next_item bytes (plain_begins line r (t ∷ ts) ++ rest) ≡
+    marker_in t.container
 begins-next bytes line r t ts rest h =
     ap (next_item bytes) (append_assoc (plain_begin line t.container r t.rest) (plain_begins line t.rest ts) rest)
     ∙ begin-next bytes line t.container r t.rest (plain_begins line t.rest ts ++ rest) h.0
 
 -- Containers that end.
 
-some-goes : (m : ℕ) (next : Option ℕ) → goes_on m next ≡ goes_between (Some m) next
-some-goes m None = refl
-some-goes m (Some k) = refl
+some-proceeds : (m : ℕ) (next : Option ℕ) → is_continued m next ≡ continues_between (Some m) next
+some-proceeds m None = refl
+some-proceeds m (Some k) = refl
 
 -- one of them: where it is an item, its list continues as the lines below say
 pub end-walk : (bytes : List ℕ) (depth : ℕ) (c : Container) (p : Point) (below : List Row) (ms : List ℕ)
-    (rest : List Event) → ((m : ℕ) → list_goes_on depth m below ≡ goes_on m (next_item bytes rest)) →
+    (rest : List Event) → ((m : ℕ) → list_continued depth m below ≡ is_continued m (next_item bytes rest)) →
     listed_from bytes (record { within = false; markers = pushed ms (marker_in c) })
     (exit (container_name c) p ∷ rest)
     ≡ (exit (container_name c) p ∷ list_ends depth c p below)
-    ++ listed_from bytes (record { within = goes_between (marker_in c) (next_item bytes rest); markers = ms }) rest
+    ++ listed_from bytes (record { within = continues_between (marker_in c) (next_item bytes rest); markers = ms }) rest
 end-walk bytes depth (InQuote kind) p below ms rest h = refl
 end-walk bytes depth (InItem digits marker width starts_blank) p below ms rest h =
     ap₂
     (λ (x y : Bool).
     (exit n.ListItem p ∷ (cond x [] (exit (list_name marker) p ∷ [])))
     ++ listed_from bytes (record { within = y; markers = ms }) rest)
-    (sym (h marker)) (some-goes marker (next_item bytes rest))
+    (sym (h marker)) (some-proceeds marker (next_item bytes rest))
 end-walk bytes depth (InFootnote label) p below ms rest h = refl
 
 end-next : (bytes : List ℕ) (c : Container) (p : Point) (rest : List Event) →
@@ -401,7 +403,7 @@ ends-next bytes c (d ∷ cs) p rest =
 -- Several of them, where the outermost has so many around it: one that ends within another is the last in its list.
 inner-ends : (bytes : List ℕ) (depth : ℕ) (cs : List Container) (p : Point) (below : List Row) (ms : List ℕ)
     (rest : List Event) → next_item bytes rest ≡ None →
-    ((deep m : ℕ) → depth ≤ deep → list_goes_on deep m below ≡ false) →
+    ((deep m : ℕ) → depth ≤ deep → list_continued deep m below ≡ false) →
     listed_from bytes (record { within = false; markers = markers_from ms cs }) (plain_ends cs p ++ rest)
     ≡ ends_from depth cs p below ++ listed_from bytes (record { within = false; markers = ms }) rest
 inner-ends bytes depth [] p below ms rest e deeper = refl
@@ -413,21 +415,22 @@ inner-ends bytes depth (c ∷ cs) p below ms rest e deeper =
     ∙ inner-ends bytes (suc depth) cs p below (pushed ms (marker_in c)) (exit (container_name c) p ∷ rest)
     (end-next bytes c p rest) (λ deep m le. deeper deep m (omega arith))
     ∙ ap (λ (l : List Event). ends ++ l)
-    (end-walk bytes depth c p below ms rest (λ m. deeper depth m (omega arith) ∙ ap (goes_on m) (sym e))
+    (end-walk bytes depth c p below ms rest (λ m. deeper depth m (omega arith) ∙ ap (is_continued m) (sym e))
     ∙ ap
     (λ (x : Bool).
     (exit (container_name c) p ∷ list_ends depth c p below)
     ++ listed_from bytes (record { within = x; markers = ms }) rest)
-    (ap (goes_between (marker_in c)) e ∙ none-between (marker_in c)))
+    (ap (continues_between (marker_in c)) e ∙ none-between (marker_in c)))
     ∙ sym (append_assoc ends (exit (container_name c) p ∷ list_ends depth c p below) _)
 
 -- all of them: only the list of the outermost may continue
 pub ends-walk : (bytes : List ℕ) (depth : ℕ) (c : Container) (cs : List Container) (p : Point) (below : List Row)
-    (ms : List ℕ) (rest : List Event) → ((m : ℕ) → list_goes_on depth m below ≡ goes_on m (next_item bytes rest)) →
-    ((deep m : ℕ) → suc depth ≤ deep → list_goes_on deep m below ≡ false) →
+    (ms : List ℕ) (rest : List Event) →
+    ((m : ℕ) → list_continued depth m below ≡ is_continued m (next_item bytes rest)) →
+    ((deep m : ℕ) → suc depth ≤ deep → list_continued deep m below ≡ false) →
     listed_from bytes (record { within = false; markers = markers_from ms (c ∷ cs) }) (plain_ends (c ∷ cs) p ++ rest)
     ≡ ends_from depth (c ∷ cs) p below
-    ++ listed_from bytes (record { within = goes_between (marker_in c) (next_item bytes rest); markers = ms }) rest
+    ++ listed_from bytes (record { within = continues_between (marker_in c) (next_item bytes rest); markers = ms }) rest
 ends-walk bytes depth c cs p below ms rest h deeper =
     let end : List Event = exit (container_name c) p ∷ [] in
     let ends : List Event = ends_from (suc depth) cs p below in

@@ -18,7 +18,7 @@ use Rattle.proof_frame.specs.LineColumns.{columns_part, lost_line, next_point, p
 use Rattle.md_exact.specs.Leaves.{content_line}
 use Rattle.md_exact.specs.Places.{TextLine, is_same, line_end, place, white}
 use Rattle.proof_exact_lines.proofs.BeginsAt.{BeginsAt, begins-place, columns-snoc, rest_at, rest_bytes}
-use Rattle.proof_exact_lines.proofs.Parts.{end-behind, piece-end}
+use Rattle.proof_exact_lines.proofs.Parts.{end-following, piece-end}
 
 abbrev rest : ℕ → ℕ → List ℕ → Rest
 rest column spaces bytes = record { column = column; spaces = spaces; bytes = bytes }
@@ -29,11 +29,11 @@ abbrev Next : TextLine → Rest → Point → Type 0
 Next line r p = BeginsAt line (without_first r) (next_point (without_first r) p)
 
 -- after the last column of a byte
-behind_byte : (line : TextLine) (column spaces b : ℕ) (more bytes : List ℕ) (p : Point) →
+after_byte : (line : TextLine) (column spaces b : ℕ) (more bytes : List ℕ) (p : Point) →
     (is : BeginsAt line (rest column spaces more) p) → cut_tab spaces ++ more ≡ b ∷ bytes →
     columns_from line.column (is.front ++ b ∷ []) ≡ p.column →
     BeginsAt line (rest_at (column + 1) bytes) (record p { column = p.column + 1; index = p.index + 1; vs = 0 })
-behind_byte line column spaces b more bytes p is e columns =
+after_byte line column spaces b more bytes p is e columns =
     let index : length (is.front ++ b ∷ []) ≡ length is.front + 1 = length-append is.front (b ∷ []) in
     record {
       front = is.front ++ b ∷ [];
@@ -82,12 +82,12 @@ tab-next : (line : TextLine) (column spaces n : ℕ) (more bytes : List ℕ) (p 
     BeginsAt line (rest column spaces more) p → cut_tab spaces ++ more ≡ 9 ∷ bytes → n ≡ columns_more p →
     BeginsAt line (rest (column + 1) n bytes) (next_point (rest (column + 1) n bytes) p)
 tab-next line column spaces zero more bytes p is e left =
-    behind_byte line column spaces 9 more bytes p is e (tab-stops line (rest column spaces more) p is (sym left))
+    after_byte line column spaces 9 more bytes p is e (tab-stops line (rest column spaces more) p is (sym left))
 tab-next line column spaces (suc n) more bytes p is e left =
     let some : (suc n == 0) ≡ false = grind (arith, nat_tests) in
-    let behind : Point = record p { column = p.column + 1; index = p.index + 1; vs = 0 } in
+    let following : Point = record p { column = p.column + 1; index = p.index + 1; vs = 0 } in
     let within : Point = record p { column = p.column + 1; vs = p.vs + 1 } in
-    subst (λ (t : Bool). BeginsAt line (rest (column + 1) (suc n) bytes) (cond t behind within)) (sym some)
+    subst (λ (t : Bool). BeginsAt line (rest (column + 1) (suc n) bytes) (cond t following within)) (sym some)
     (within_tab line column spaces n more bytes p is e left)
 
 begins-column : (line : TextLine) (r : Rest) (p : Point) → BeginsAt line r p → 0 < indent r → Next line r p
@@ -120,7 +120,7 @@ begins-column line r p = go r.column r.spaces r.bytes
         by false e true f =
             subst (λ (t : Bool). P (cond t tabbed (cond (b == 32) spaced same))) (sym e)
             (subst (λ (t : Bool). P (cond t spaced same)) (sym f)
-            (behind_byte line column 0 b (b ∷ bytes) bytes p is refl
+            (after_byte line column 0 b (b ∷ bytes) bytes p is refl
             (columns-snoc line.column b is.front
             ∙ ap (λ (t : Bool). cond t (before + tab_columns before) (before + 1)) e
             ∙ omega (arith, is.columns, is.cut))))
@@ -255,9 +255,9 @@ pub lost-end : (lost : ℕ) (line : TextLine) (r : Rest) (p : Point) → BeginsA
 lost-end lost line r p at =
     sym
     (begins-place line (line_end line) _
-    (end-behind line (lose lost r) (past_columns lost r p) (rest_bytes (lose lost r)) (begins-lost lost line r p at)
-    refl).stands.at)
-    ∙ begins-place line (line_end line) _ (end-behind line r p (rest_bytes r) at refl).stands.at
+    (end-following line (lose lost r) (past_columns lost r p) (rest_bytes (lose lost r)) (begins-lost lost line r p at)
+    refl).valid.at)
+    ∙ begins-place line (line_end line) _ (end-following line r p (rest_bytes r) at refl).valid.at
 
 -- A line of code, HTML or math.
 pub line-lost : (name : Name) (lost : ℕ) (line : TextLine) (r : Rest) (p : Point) → BeginsAt line r p →

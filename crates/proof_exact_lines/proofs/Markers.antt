@@ -13,16 +13,16 @@ use Rattle.md_meaning.specs.Alert.{alert_at, marker_of}
 use Rattle.md_meaning.specs.Ascii.{caret, dot, left_bracket, right_parenthesis, space, tab}
 use Rattle.md_meaning.specs.Containers.{Labelled, Marker, Taken, continues, footnote_by, footnote_continues}
 use Rattle.md_meaning.specs.Containers.{footnote_label, is_bullet, is_digit, item_by, item_continues, item_padding}
-use Rattle.md_meaning.specs.Containers.{list_marker, marker_behind, opens, opens_footnote, opens_item, opens_quote}
+use Rattle.md_meaning.specs.Containers.{list_marker, marker_following, opens, opens_footnote, opens_item, opens_quote}
 use Rattle.md_meaning.specs.Containers.{quote_taken, taken_as, with_kind}
-use Rattle.md_meaning.specs.Rest.{Rest, behind, behind_indent, has_small_indent, indent, is_blank, lose, tab_columns}
+use Rattle.md_meaning.specs.Rest.{Rest, following, after_indent, has_small_indent, indent, is_blank, lose, tab_columns}
 use Rattle.md_meaning.specs.Rest.{without_column}
 use Rattle.md_meaning.specs.State.{At, Container, InFootnote, InItem, InQuote, Path, Within, spot}
 use Rattle.md_meaning.specs.Step.{is_concrete, is_open_text, step}
 use Rattle.md_meaning.proofs.FindsLemmas.{Finds, first-found, none-found, some-found, when-found}
 use Rattle.md_exact.specs.Places.{TextLine, whole}
-use Rattle.md_exact.specs.Prefixes.{behind_all, containers, gone_on, new_containers, opened}
-use Rattle.proof_exact_lines.specs.Unlisted.{LinesStand, MarkerAt, MarkerStands, MarkersStand}
+use Rattle.md_exact.specs.Prefixes.{following_all, containers, taken_prefixes, new_containers, opened}
+use Rattle.proof_exact_lines.specs.Unlisted.{LinesAllowed, MarkerAt, MarkerAllowed, MarkersAllowed}
 
 -- The end of a line.
 
@@ -66,13 +66,13 @@ lose-end (suc n) r =
     let s : Rest = without_column r.column r.spaces r.bytes in
     ends-on r.bytes s.bytes (lose n s).bytes (column-end r.column r.spaces r.bytes) (lose-end n s)
 
-behind-end : (n : ℕ) (r : Rest) → EndsWith r.bytes (behind n r).bytes
-behind-end n r = drop-end n r.bytes
+following-end : (n : ℕ) (r : Rest) → EndsWith r.bytes (following n r).bytes
+following-end n r = drop-end n r.bytes
 
 -- after so many bytes of it, and then so many columns
-behind-lose : (n m : ℕ) (r : Rest) → EndsWith r.bytes (lose m (behind n r)).bytes
-behind-lose n m r = ends-on r.bytes (behind n r).bytes (lose m (behind n r)).bytes (behind-end n r)
-    (lose-end m (behind n r))
+following-lose : (n m : ℕ) (r : Rest) → EndsWith r.bytes (lose m (following n r)).bytes
+following-lose n m r = ends-on r.bytes (following n r).bytes (lose m (following n r)).bytes (following-end n r)
+    (lose-end m (following n r))
 
 -- Containers.
 
@@ -82,7 +82,7 @@ record Marked (bytes digits : List ℕ) (marker : ℕ) : Type 0 where
   is : drop (length digits) bytes ≡ marker ∷ more
 
 abbrev IsMarked : Rest → Container → Type 0
-IsMarked r (InItem digits marker width starts_blank) = Marked (behind_indent r).bytes digits marker
+IsMarked r (InItem digits marker width starts_blank) = Marked (after_indent r).bytes digits marker
 IsMarked r c = Unit {0}
 
 -- what opens leaves an end of the rest, and an item has its marker there
@@ -96,7 +96,7 @@ unfolding quote_taken
 quote-leaves options kind r = go _
   where
     t : Taken
-    t = record { container = InQuote kind; rest = lose 1 (behind 1 (behind_indent r)) }
+    t = record { container = InQuote kind; rest = lose 1 (following 1 (after_indent r)) }
 
     go : (x : Bool) → Finds (cond x (Some t) None) (Leaves r)
     go x =
@@ -105,8 +105,8 @@ quote-leaves options kind r = go _
         some-found (Leaves r) t
         (record {
           end =
-              ends-on r.bytes (behind_indent r).bytes t.rest.bytes (lose-end (indent r) r)
-              (behind-lose 1 1 (behind_indent r));
+              ends-on r.bytes (after_indent r).bytes t.rest.bytes (lose-end (indent r) r)
+              (following-lose 1 1 (after_indent r));
           marked = tt;
         }))
 
@@ -119,14 +119,14 @@ kind-leaves options r (Some t) h = some-found (Leaves r) (taken_as t (alert_at o
     go : (a : Option AlertKind) → Leaves r (taken_as t a)
     go None = h t refl
     go (Some kind) =
-        let marker : Rest = behind_indent t.rest in
+        let marker : Rest = after_indent t.rest in
         let n : ℕ = length (marker_of kind) in
-        let after : Rest = behind n marker in
+        let after : Rest = following n marker in
         record {
           end =
-              ends-on r.bytes t.rest.bytes (behind_indent after).bytes (h t refl).end
-              (ends-on t.rest.bytes marker.bytes (behind_indent after).bytes (lose-end (indent t.rest) t.rest)
-              (behind-lose n (indent after) marker));
+              ends-on r.bytes t.rest.bytes (after_indent after).bytes (h t refl).end
+              (ends-on t.rest.bytes marker.bytes (after_indent after).bytes (lose-end (indent t.rest) t.rest)
+              (following-lose n (indent after) marker));
           marked = tt;
         }
 
@@ -139,10 +139,10 @@ opens-quote options r =
 abbrev HasMarker : List ℕ → Marker → Type 0
 HasMarker bytes marker = Marked bytes marker.digits marker.byte
 
-behind-marker : (digits bytes rest : List ℕ) → drop (length digits) bytes ≡ rest →
-    Finds (marker_behind digits rest) (HasMarker bytes)
-behind-marker digits bytes [] e = none-found (HasMarker bytes)
-behind-marker digits bytes (b ∷ more) e =
+following-marker : (digits bytes rest : List ℕ) → drop (length digits) bytes ≡ rest →
+    Finds (marker_following digits rest) (HasMarker bytes)
+following-marker digits bytes [] e = none-found (HasMarker bytes)
+following-marker digits bytes (b ∷ more) e =
     when-found (HasMarker bytes) ((b == dot) || (b == right_parenthesis)) (Some (record { digits = digits; byte = b }))
     (λ f. some-found (HasMarker bytes) (record { digits = digits; byte = b }) (record { more = more; is = e }))
 
@@ -158,26 +158,26 @@ list-marker (b ∷ bytes) = go (is_bullet b) (nat_le 1 (length digits) && nat_le
 
     go : (x y : Bool) →
         Finds
-        (cond x (Some bullet) (cond y (marker_behind digits (drop (length digits) (b ∷ bytes))) None))
+        (cond x (Some bullet) (cond y (marker_following digits (drop (length digits) (b ∷ bytes))) None))
         (HasMarker (b ∷ bytes))
     go true y = some-found (HasMarker (b ∷ bytes)) bullet (record { more = bytes; is = refl })
-    go false true = behind-marker digits (b ∷ bytes) (drop (length digits) (b ∷ bytes)) refl
+    go false true = following-marker digits (b ∷ bytes) (drop (length digits) (b ∷ bytes)) refl
     go false false = none-found (HasMarker (b ∷ bytes))
 
 item-leaves : (options : ParseOptions) (interrupting : Bool) (r : Rest) (o : Option Marker) →
-    Finds o (HasMarker (behind_indent r).bytes) →
-    Finds (item_by options interrupting (indent r) (behind_indent r) o) (Leaves r)
+    Finds o (HasMarker (after_indent r).bytes) →
+    Finds (item_by options interrupting (indent r) (after_indent r) o) (Leaves r)
 item-leaves options interrupting r None h = none-found (Leaves r)
 item-leaves options interrupting r (Some marker) h = go _ _ _
   where
     from : Rest
-    from = behind_indent r
+    from = after_indent r
 
     size : ℕ
     size = length marker.digits + 1
 
     padding : ℕ
-    padding = item_padding (behind size from)
+    padding = item_padding (following size from)
 
     go : (x : Bool) (width : ℕ) (blank : Bool) →
         Finds
@@ -185,20 +185,20 @@ item-leaves options interrupting r (Some marker) h = go _ _ _
         (Some
         (record {
           container = InItem marker.digits marker.byte width blank;
-          rest = lose padding (behind size from);
+          rest = lose padding (following size from);
         }))
         None)
         (Leaves r)
     go x width blank =
         let t : Taken = record {
           container = InItem marker.digits marker.byte width blank;
-          rest = lose padding (behind size from);
+          rest = lose padding (following size from);
         } in
         when-found (Leaves r) x (Some t)
         (λ e.
         some-found (Leaves r) t
         (record {
-          end = ends-on r.bytes from.bytes t.rest.bytes (lose-end (indent r) r) (behind-lose size padding from);
+          end = ends-on r.bytes from.bytes t.rest.bytes (lose-end (indent r) r) (following-lose size padding from);
           marked = h marker refl;
         }))
 
@@ -209,27 +209,27 @@ opens-item options interrupting r = go _
   where
     go : (x : Bool) →
         Finds
-        (cond x (item_by options interrupting (indent r) (behind_indent r) (list_marker (behind_indent r).bytes)) None)
+        (cond x (item_by options interrupting (indent r) (after_indent r) (list_marker (after_indent r).bytes)) None)
         (Leaves r)
     go x =
         when-found (Leaves r) x
-        (item_by options interrupting (indent r) (behind_indent r) (list_marker (behind_indent r).bytes))
+        (item_by options interrupting (indent r) (after_indent r) (list_marker (after_indent r).bytes))
         (λ e.
-        item-leaves options interrupting r (list_marker (behind_indent r).bytes)
-        (list-marker (behind_indent r).bytes))
+        item-leaves options interrupting r (list_marker (after_indent r).bytes)
+        (list-marker (after_indent r).bytes))
 
-footnote-leaves : (r : Rest) (o : Option Labelled) → Finds (footnote_by (behind_indent r) o) (Leaves r)
+footnote-leaves : (r : Rest) (o : Option Labelled) → Finds (footnote_by (after_indent r) o) (Leaves r)
 footnote-leaves r None = none-found (Leaves r)
 footnote-leaves r (Some l) = go _
   where
     from : Rest
-    from = behind_indent r
+    from = after_indent r
 
     after : Rest
-    after = behind (length l.label + 4) from
+    after = following (length l.label + 4) from
 
     t : Taken
-    t = record { container = InFootnote l.label; rest = behind_indent after }
+    t = record { container = InFootnote l.label; rest = after_indent after }
 
     go : (x : Bool) → Finds (cond x (Some t) None) (Leaves r)
     go x =
@@ -239,7 +239,7 @@ footnote-leaves r (Some l) = go _
         (record {
           end =
               ends-on r.bytes from.bytes t.rest.bytes (lose-end (indent r) r)
-              (behind-lose (length l.label + 4) (indent after) from);
+              (following-lose (length l.label + 4) (indent after) from);
           marked = tt;
         }))
 
@@ -248,12 +248,12 @@ unfolding opens_footnote
 opens-footnote options r =
     go
     (options.constructs.gfm_footnote_definition && has_small_indent options r
-    && starts_with nat_eq (behind_indent r).bytes (left_bracket ∷ caret ∷ []))
-    (footnote_label false (drop 2 (behind_indent r).bytes))
+    && starts_with nat_eq (after_indent r).bytes (left_bracket ∷ caret ∷ []))
+    (footnote_label false (drop 2 (after_indent r).bytes))
   where
-    go : (x : Bool) (o : Option Labelled) → Finds (cond x (footnote_by (behind_indent r) o) None) (Leaves r)
+    go : (x : Bool) (o : Option Labelled) → Finds (cond x (footnote_by (after_indent r) o) None) (Leaves r)
     go x o =
-        when-found (Leaves r) x (footnote_by (behind_indent r) o) (λ e. footnote-leaves r o)
+        when-found (Leaves r) x (footnote_by (after_indent r) o) (λ e. footnote-leaves r o)
 
 opens-leaves : (options : ParseOptions) (interrupting : Bool) (r : Rest) →
     Finds (opens options interrupting r) (Leaves r)
@@ -289,36 +289,38 @@ continues-end options (InQuote kind) r = λ t e. (quote-leaves options kind r t 
 continues-end options (InItem digits marker width starts_blank) r = item-end digits marker width starts_blank r
 continues-end options (InFootnote label) r = footnote-end label r
 
-gone-end : (options : ParseOptions) (p : Path) (r : Rest) → EndsWith r.bytes (behind_all r (gone_on options p r)).bytes
+gone-end : (options : ParseOptions) (p : Path) (r : Rest) →
+    EndsWith r.bytes (following_all r (taken_prefixes options p r)).bytes
 gone-end options (At s) r = all-end r.bytes
 gone-end options (Within before c p) r = go (gone-end options p) (continues options c r) (continues-end options c r)
   where
-    go : ((s : Rest) → EndsWith s.bytes (behind_all s (gone_on options p s)).bytes) → (o : Option Taken) →
+    go : ((s : Rest) → EndsWith s.bytes (following_all s (taken_prefixes options p s)).bytes) → (o : Option Taken) →
         Finds o (Ends r) →
-        let on : List Taken = elim o [ Some t ↦ t ∷ gone_on options p t.rest | None ↦ [] ] in
-        EndsWith r.bytes (behind_all r on).bytes
+        let on : List Taken = elim o [ Some t ↦ t ∷ taken_prefixes options p t.rest | None ↦ [] ] in
+        EndsWith r.bytes (following_all r on).bytes
     go below None h = all-end r.bytes
     go below (Some t) h =
-        ends-on r.bytes t.rest.bytes (behind_all t.rest (gone_on options p t.rest)).bytes (h t refl) (below t.rest)
+        ends-on r.bytes t.rest.bytes (following_all t.rest (taken_prefixes options p t.rest)).bytes (h t refl)
+        (below t.rest)
 
 -- Markers.
 
 -- a line is in a text
 pub record IsIn (text : List ℕ) (line : TextLine) : Type 0 where
-  pub behind : List ℕ
-  pub is : drop line.index text ≡ line.bytes ++ behind
+  pub following : List ℕ
+  pub is : drop line.index text ≡ line.bytes ++ following
 
 marker-at : (text : List ℕ) (line : TextLine) (digits : List ℕ) (marker : ℕ) (r : Rest) → IsIn text line →
-    EndsWith line.bytes r.bytes → Marked (behind_indent r).bytes digits marker → MarkerAt text line digits marker r
+    EndsWith line.bytes r.bytes → Marked (after_indent r).bytes digits marker → MarkerAt text line digits marker r
 marker-at text line digits marker r in_text end marked = record {
   byte =
       ap (λ (n : ℕ). get_or text (line.index + n) 0) size
       ∙ sym (get_or-drop line.index text (length front.front) 0)
       ∙ ap (λ (l : List ℕ). get_or l (length front.front) 0)
       (in_text.is
-      ∙ ap (λ (l : List ℕ). l ++ in_text.behind) (front.is ∙ ap (λ (l : List ℕ). front.front ++ l) marked.is)
-      ∙ append_assoc front.front (marker ∷ marked.more) in_text.behind)
-      ∙ get_or-append_seam front.front marker (marked.more ++ in_text.behind) 0;
+      ∙ ap (λ (l : List ℕ). l ++ in_text.following) (front.is ∙ ap (λ (l : List ℕ). front.front ++ l) marked.is)
+      ∙ append_assoc front.front (marker ∷ marked.more) in_text.following)
+      ∙ get_or-append_seam front.front marker (marked.more ++ in_text.following) 0;
   one =
       ap
       (λ (l : List ℕ). (length l == length (drop 1 l)) && true)
@@ -327,7 +329,7 @@ marker-at text line digits marker r in_text end marked = record {
 }
   where
     from : Rest
-    from = behind_indent r
+    from = after_indent r
 
     left : List ℕ
     left = drop (length digits) from.bytes
@@ -349,23 +351,23 @@ marker-at text line digits marker r in_text end marked = record {
     unlike n = false_from_ne_true (suc n == n) (λ e. absurd (omega (arith, eqb-true (suc n) n e)))
 
 container-at : (text : List ℕ) (line : TextLine) (r : Rest) (c : Container) → IsIn text line →
-    EndsWith line.bytes r.bytes → IsMarked r c → MarkerStands text line c r
+    EndsWith line.bytes r.bytes → IsMarked r c → MarkerAllowed text line c r
 container-at text line r (InQuote kind) in_text end marked = tt
 container-at text line r (InItem digits marker width starts_blank) in_text end marked =
     marker-at text line digits marker r in_text end marked
 container-at text line r (InFootnote label) in_text end marked = tt
 
 opened-at : (options : ParseOptions) (text : List ℕ) (line : TextLine) (interrupting : Bool) (n : ℕ) (r : Rest) →
-    IsIn text line → EndsWith line.bytes r.bytes → MarkersStand text line r (opened options interrupting n r)
+    IsIn text line → EndsWith line.bytes r.bytes → MarkersAllowed text line r (opened options interrupting n r)
 opened-at options text line interrupting zero r in_text end = tt
 opened-at options text line interrupting (suc n) r in_text end =
     go (λ s. opened-at options text line false n s in_text) (opens options interrupting r)
     (opens-leaves options interrupting r)
   where
-    go : ((s : Rest) → EndsWith line.bytes s.bytes → MarkersStand text line s (opened options false n s)) →
+    go : ((s : Rest) → EndsWith line.bytes s.bytes → MarkersAllowed text line s (opened options false n s)) →
         (o : Option Taken) → Finds o (Leaves r) →
         let new : List Taken = elim o [ Some t ↦ t ∷ opened options false n t.rest | None ↦ [] ] in
-        MarkersStand text line r new
+        MarkersAllowed text line r new
     go below None h = tt
     go below (Some t) h = (
       container-at text line r t.container in_text end (h t refl).marked,
@@ -373,13 +375,13 @@ opened-at options text line interrupting (suc n) r in_text end =
     )
 
 new-at : (options : ParseOptions) (text : List ℕ) (line : TextLine) (p : Path) (all : Bool) (r : Rest) →
-    IsIn text line → EndsWith line.bytes r.bytes → MarkersStand text line r (new_containers options p all r)
+    IsIn text line → EndsWith line.bytes r.bytes → MarkersAllowed text line r (new_containers options p all r)
 new-at options text line p all r in_text end = go (all && is_concrete (spot p).leaf)
   where
     interrupting : Bool
     interrupting = all && is_open_text (spot p).leaf
 
-    go : (x : Bool) → MarkersStand text line r (cond x [] (opened options interrupting (length r.bytes) r))
+    go : (x : Bool) → MarkersAllowed text line r (cond x [] (opened options interrupting (length r.bytes) r))
     go true = tt
     go false = opened-at options text line interrupting (length r.bytes) r in_text end
 
@@ -388,12 +390,12 @@ AreIn text [] = Unit {0}
 AreIn text (line ∷ lines) = IsIn text line × AreIn text lines
 
 -- So lines of a text have their markers there.
-pub lines-stand : (options : ParseOptions) (text : List ℕ) (p : Path) (lines : List TextLine) → AreIn text lines →
-    LinesStand options text p lines
-lines-stand options text p [] h = tt
-lines-stand options text p (line ∷ lines) h =
-    let on : List Taken = gone_on options p (whole line) in (
-      new-at options text line p (length on == length (containers p)) (behind_all (whole line) on) h.0
+pub lines-are_valid : (options : ParseOptions) (text : List ℕ) (p : Path) (lines : List TextLine) → AreIn text lines →
+    LinesAllowed options text p lines
+lines-are_valid options text p [] h = tt
+lines-are_valid options text p (line ∷ lines) h =
+    let on : List Taken = taken_prefixes options p (whole line) in (
+      new-at options text line p (length on == length (containers p)) (following_all (whole line) on) h.0
           (gone-end options p (whole line)),
-      lines-stand options text (step options p (whole line)) lines h.1,
+      lines-are_valid options text (step options p (whole line)) lines h.1,
     )

@@ -24,12 +24,13 @@ use Rattle.md_exact.specs.Leaves.{span}
 use Rattle.md_exact.specs.Places.{is_same, part, past, place}
 use Rattle.md_exact.specs.Rows.{Row}
 use Rattle.md_exact.specs.Texts as Texts
-use Rattle.md_exact.specs.Texts.{behind_label, chunks as row_chunks, enclosed_part, left, mark}
+use Rattle.md_exact.specs.Texts.{after_label, chunks as row_chunks, enclosed_part, left, mark}
 use Rattle.md_exact.specs.Texts.{text_span}
 use Rattle.proof_frame.specs.Laid.{LineBreak, laid}
 use Rattle.proof_content_laws.proofs.Defined.Along.{Turn, breaks}
 use Rattle.proof_content_laws.proofs.Defined.Marked.{LabelAre, MarkedOf, label-are, marked-of}
-use Rattle.proof_content_laws.proofs.Defined.Takes.{Takes, Walk, on-line, reaches, takes-around, takes-quiet, takes-then}
+use Rattle.proof_content_laws.proofs.Defined.Takes.{Takes, Walk, on-line, reaches, takes-around, takes-quiet}
+use Rattle.proof_content_laws.proofs.Defined.Takes.{takes-then}
 use Rattle.proof_content_laws.proofs.Defined.Targets.{ByteOf, byte-of}
 use Rattle.proof_exact_lines.proofs.Ahead.{Ahead, ahead-from, ahead-to, at, back-is, left-is}
 use Rattle.proof_exact_lines.proofs.Along.{Along, row-place, rows-lines, rows-start, rows-whole}
@@ -53,7 +54,7 @@ mark-on text last row rows p c cs turns dark plain walk along = by on.size one o
 
     on : LineOn text row rows p c.after (c ∷ []) cs turns
     on =
-        line-on text row rows p (c ∷ []) cs turns along walk.stands
+        line-on text row rows p (c ∷ []) cs turns along walk.valid
         (on-line text last p (c ∷ []) cs turns (plain, tt) walk).steps byte.is.1.whole
 
     one : on.size ≡ 1
@@ -310,21 +311,21 @@ pub record LabelOn (text : List ℕ) (last p : Point) (t : LabelParts) (turns : 
     Type 0 where
   pub left : List Turn
   pub takes : Takes text last p turns t.closer.after t.rest left (label_events t p)
-      (enclosed_part n.DefinitionLabel n.DefinitionLabelMarker n.DefinitionLabelString rows (behind_label rows))
-  pub along : Along text (behind_label rows) t.closer.after t.rest left
-  pub ahead : Ahead rows (behind_label rows)
+      (enclosed_part n.DefinitionLabel n.DefinitionLabelMarker n.DefinitionLabelString rows (after_label rows))
+  pub along : Along text (after_label rows) t.closer.after t.rest left
+  pub ahead : Ahead rows (after_label rows)
 
 -- a label is found in rows where their cells begin with one
 label-found : (text : List ℕ) (rows : List Row) (p : Point) (cells : List Cell) (turns : List Turn) (t : LabelParts) →
     Along text rows p cells turns → p.vs ≡ 0 → label_parts cells ≡ Some t →
     (ends : List Row) (left : List Turn) → Along text ends t.closer.after t.rest left → t.closer.after.vs ≡ 0 →
-    Ahead rows ends → behind_label rows ≡ ends
-label-found text rows p cells turns t along whole e ends left behind end ahead =
+    Ahead rows ends → after_label rows ≡ ends
+label-found text rows p cells turns t along whole e ends left following end ahead =
     ap (λ (o : Option Lines). elim o [ Some label ↦ Texts.left rows label.rest | None ↦ [] ])
     (ap label_at (sym (rows-lines text rows p cells turns along whole))
     ∙ label-lines p cells whole (rows-whole text rows p cells turns along) ∙ ap label_lines e)
     ∙ left-is rows ends (cell_lines false (whole_cells t.closer.after t.rest)) ahead
-    (rows-lines text ends t.closer.after t.rest left behind end)
+    (rows-lines text ends t.closer.after t.rest left following end)
 
 label-strung : (cells : List Cell) (p : Point) → cells ≢ [] →
     strung n.DefinitionLabelString cells p ≡
@@ -385,7 +386,7 @@ label-on text last p cells t turns (row ∷ rows) e walk along = record {
         marked-of text last p t.opener t.text t.closer t.rest turns (rw opens refl) (rw opens refl) (rw closes refl)
         (rw closes refl) walked
 
-    found : behind_label (row ∷ rows) ≡ on.ends
+    found : after_label (row ∷ rows) ≡ on.ends
     found =
         label-found text (row ∷ rows) p cells turns t along marked.opens.0 e on.ends on.left on.along
         marked.closes.1.whole on.ahead

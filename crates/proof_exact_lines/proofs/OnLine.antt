@@ -28,17 +28,17 @@ few text p placed = go (p.vs == 0) (first_byte (drop p.index text) == 9) refl pl
     go false true e h = grind (arith, nat_tests)
     go false false e h = cc
 
-pub on-begins : (text behind : List ℕ) (line : TextLine) (r : Rest) (p : Point) → LineIn text behind line →
-    OnLine text behind line r p → BeginsAt line r p
-on-begins text behind line r p is on = record {
+pub on-begins : (text following : List ℕ) (line : TextLine) (r : Rest) (p : Point) → LineIn text following line →
+    OnLine text following line r p → BeginsAt line r p
+on-begins text following line r p is on = record {
   front = take size line.bytes;
   bytes_are = sym (take-append-drop size line.bytes) ∙ ap (λ (l : List ℕ). take size line.bytes ++ l) left;
   number = on.number;
   index = let long : length (take size line.bytes) ≡ size = length-take-le size line.bytes fits in
       let onward = on.onward in omega (arith, long, onward);
-  column = on.stands.column;
+  column = on.valid.column;
   columns = on.placed.column ∙ ap (λ (c : ℕ). c + p.vs + 1) columns;
-  cut = on.stands.cut;
+  cut = on.valid.cut;
   within = let few = few text p on.placed in omega (arith, few, columns);
 }
   where
@@ -46,7 +46,7 @@ on-begins text behind line r p is on = record {
     size = p.index - line.index
 
     index : p.index ≡ line.index + before line r
-    index = before-is text behind line r p is.stands on.stands on.onward on.placed.index
+    index = before-is text following line r p is.valid on.valid on.onward on.placed.index
 
     fits : size ≤ length line.bytes
     fits = less (cut_len r.spaces) index
@@ -59,17 +59,17 @@ on-begins text behind line r p is on = record {
 
     left : drop size line.bytes ≡ cut_tab r.spaces ++ r.bytes
     left =
-        append_cancel_right (drop size line.bytes) (cut_tab r.spaces ++ r.bytes) behind
-        (sym (drop-append-le size line.bytes behind fits)
-        ∙ ap (drop size) (sym is.stands.text_is)
+        append_cancel_right (drop size line.bytes) (cut_tab r.spaces ++ r.bytes) following
+        (sym (drop-append-le size line.bytes following fits)
+        ∙ ap (drop size) (sym is.valid.text_is)
         ∙ drop-drop size line.index text
         ∙ ap (λ (n : ℕ). drop n text) there
-        ∙ on.stands.text_is)
+        ∙ on.valid.text_is)
 
     columns : columns_before text p.index ≡ columns_from line.column (take size line.bytes)
     columns =
         ap (columns_before text) (sym there)
-        ∙ columns-in text behind line size is.stands is.plain is.begins fits
+        ∙ columns-in text following line size is.valid is.plain is.begins fits
 
 -- The rest is known by its bytes and the point.
 pub begins-again : (line : TextLine) (r : Rest) (p : Point) → BeginsAt line r p → rest_of p (rest_bytes r) ≡ r

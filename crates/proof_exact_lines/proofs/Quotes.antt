@@ -11,14 +11,14 @@ use Rattle.md_engine.specs.declared.event.Name.TheVariants as n
 use Rattle.md_engine.specs.declared.event.Point.{Point}
 use Rattle.md_engine.specs.declared.tokenizer.Line.{Line}
 use Rattle.md_engine.specs.Meaning.{Cell}
-use Rattle.md_containers.specs.QuoteRule.{behind_end, behind_events, front_events, marker_end, marker_events}
+use Rattle.md_containers.specs.QuoteRule.{after_end, after_events, front_events, marker_end, marker_events}
 use Rattle.md_containers.specs.QuoteRule.{prefix_end, prefix_events}
 use Rattle.md_containers.proofs.QuoteLines.{HasWhite, white-walk}
 use Rattle.md_meaning.specs.declared.alert.AlertKind.{AlertKind}
 use Rattle.md_meaning.specs.Containers.{Taken, quote_taken}
 use Rattle.md_meaning.specs.Lines.{begins_with}
 use Rattle.md_meaning.specs.Rest as rests
-use Rattle.md_meaning.specs.Rest.{Rest, behind_indent, has_small_indent, indent, is_white, lose}
+use Rattle.md_meaning.specs.Rest.{Rest, after_indent, has_small_indent, indent, is_white, lose}
 use Rattle.md_meaning.specs.State.{InQuote}
 use Rattle.md_meaning.proofs.TextsLemmas.{NoEnding}
 use Rattle.md_events.specs.Ahead.{begins_white, white_end, white_rest}
@@ -42,12 +42,12 @@ rest column spaces bytes = record { column = column; spaces = spaces; bytes = by
 
 -- One column of whitespace, if there is one.
 record OneColumn (cells : List Cell) (p : Point) : Type 0 where
-  events : behind_events cells p ≡ pair_unless_empty n.SpaceOrTab p (behind_end cells p)
-  end : behind_end cells p ≡ white_end 1 cells p
+  events : after_events cells p ≡ pair_unless_empty n.SpaceOrTab p (after_end cells p)
+  end : after_end cells p ≡ white_end 1 cells p
 
-one-column : (cell_line : Line) (text behind : List ℕ) (r : Rest) (p : Point) (stop : List Cell) →
-    RestAt text behind r p → Stops stop → OneColumn (rest_cells cell_line r p ++ stop) p
-one-column cell_line text behind r p stop at k = go (indent r) refl
+one-column : (cell_line : Line) (text following : List ℕ) (r : Rest) (p : Point) (stop : List Cell) →
+    RestAt text following r p → Stops stop → OneColumn (rest_cells cell_line r p ++ stop) p
+one-column cell_line text following r p stop at k = go (indent r) refl
   where
     cells : List Cell
     cells = rest_cells cell_line r p ++ stop
@@ -72,15 +72,15 @@ one-column cell_line text behind r p stop at k = go (indent r) refl
     go zero e = none cells (bare-cells cell_line r p stop e k)
     go (suc m) e =
         let lt : 0 < indent r = omega (arith, e) in
-        let first = column-first cell_line text behind r p at lt in
-        let step = column-step cell_line text behind r p at lt first in
+        let first = column-first cell_line text following r p at lt in
+        let step = column-step cell_line text following r p at lt first in
         let left : List Cell = rest_cells cell_line (without_first r) first.at ++ stop in
         let same : cells ≡ cell first.byte first.at cell_line ∷ left = ap (λ (l : List Cell). l ++ stop) first.cells in
-        let end : behind_end cells p ≡ first.at = ap (λ (l : List Cell). behind_end l p) same
+        let end : after_end cells p ≡ first.at = ap (λ (l : List Cell). after_end l p) same
         ∙ ap (λ (t : Bool). cond t first.at p) first.white in
         record {
           events =
-              ap (λ (l : List Cell). behind_events l p) same
+              ap (λ (l : List Cell). after_events l p) same
               ∙ ap (λ (t : Bool). cond t (pair n.SpaceOrTab p first.at) []) first.white
               ∙ sym (ap (λ (t : Bool). cond t [] (pair n.SpaceOrTab p first.at)) step.apart)
               ∙ ap (pair_unless_empty n.SpaceOrTab p) (sym end);
@@ -95,25 +95,25 @@ one-column cell_line text behind r p stop at k = go (indent r) refl
 -- Where the `>` is the next byte.
 
 -- what is of a prefix there, up to its end
-record FromMarker (text behind : List ℕ) (line : TextLine) (m : Rest) (cells : List Cell) (p : Point) : Type 0 where
+record FromMarker (text following : List ℕ) (line : TextLine) (m : Rest) (cells : List Cell) (p : Point) : Type 0 where
   marker : piece line n.BlockQuoteMarker m (past 1 m) ++ white line (past 1 m) (lose 1 (past 1 m)) ≡
       pair n.BlockQuoteMarker p (past_byte 62 p) ++ pair_unless_empty n.SpaceOrTab (past_byte 62 p) (marker_end cells p)
   events : marker_events cells p ≡
       enter n.BlockQuotePrefix p
       ∷ pair n.BlockQuoteMarker p (past_byte 62 p)
       ++ pair_unless_empty n.SpaceOrTab (past_byte 62 p) (marker_end cells p)
-  left : OnLine text behind line (lose 1 (past 1 m)) (marker_end cells p)
+  left : OnLine text following line (lose 1 (past 1 m)) (marker_end cells p)
 
-from-marker : (cell_line : Line) (text behind : List ℕ) (line : TextLine) (column : ℕ) (bytes : List ℕ) (p : Point)
+from-marker : (cell_line : Line) (text following : List ℕ) (line : TextLine) (column : ℕ) (bytes : List ℕ) (p : Point)
     (stop : List Cell) →
     let m = rest column 0 (62 ∷ bytes) in
-    LineIn text behind line → OnLine text behind line m p → NoEnding bytes → Stops stop →
-    FromMarker text behind line m (rest_cells cell_line m p ++ stop) p
-from-marker cell_line text behind line column bytes p stop is on plain k = record {
+    LineIn text following line → OnLine text following line m p → NoEnding bytes → Stops stop →
+    FromMarker text following line m (rest_cells cell_line m p ++ stop) p
+from-marker cell_line text following line column bytes p stop is on plain k = record {
   marker = ap₂ (λ (xs ys : List Event). xs ++ ys)
-      (piece-on text behind line n.BlockQuoteMarker m after p q is on on_after
+      (piece-on text following line n.BlockQuoteMarker m after p q is on on_after
       ∙ ap (λ (t : Bool). cond t [] (pair n.BlockQuoteMarker p q)) apart)
-      (white-on text behind line after (lose 1 after) q end is on_after left);
+      (white-on text following line after (lose 1 after) q end is on_after left);
   events = ap (λ (es : List Event). enter n.BlockQuotePrefix p ∷ pair n.BlockQuoteMarker p q ++ es) one.events;
   left = left;
 }
@@ -131,18 +131,18 @@ from-marker cell_line text behind line column bytes p stop is on plain k = recor
     cells = rest_cells cell_line after q ++ stop
 
     end : Point
-    end = behind_end cells q
+    end = after_end cells q
 
-    on_after : OnLine text behind line after q
-    on_after = past-on text behind line 1 m p on refl (refl, plain)
+    on_after : OnLine text following line after q
+    on_after = past-on text following line 1 m p on refl (refl, plain)
 
     one : OneColumn cells q
-    one = one-column cell_line text behind after q stop on_after.stands k
+    one = one-column cell_line text following after q stop on_after.valid k
 
-    left : OnLine text behind line (lose 1 after) end
+    left : OnLine text following line (lose 1 after) end
     left =
-        subst (OnLine text behind line (lose 1 after)) (sym one.end)
-        (lose-on cell_line text behind line 1 after q stop on_after k)
+        subst (OnLine text following line (lose 1 after)) (sym one.end)
+        (lose-on cell_line text following line 1 after q stop on_after k)
 
     apart : same_place p q ≡ false
     apart = grind (arith, nat_tests)
@@ -150,13 +150,13 @@ from-marker cell_line text behind line column bytes p stop is on plain k = recor
 -- The whole prefix.
 
 -- what the prefix of a quote has up to its end, and where it ends
-pub record HasFront (options : ParseOptions) (text behind : List ℕ) (line : TextLine) (r : Rest) (cells : List Cell)
+pub record HasFront (options : ParseOptions) (text following : List ℕ) (line : TextLine) (r : Rest) (cells : List Cell)
     (p : Point) (t : Taken) : Type 0 where
   pub marker : Point
-  pub indent : white line r (behind_indent r) ≡ pair_unless_empty n.SpaceOrTab p marker
-  pub on_marker : OnLine text behind line (behind_indent r) marker
-  pub inside : piece line n.BlockQuoteMarker (behind_indent r) (past 1 (behind_indent r))
-      ++ white line (past 1 (behind_indent r)) (lose 1 (past 1 (behind_indent r))) ≡
+  pub indent : white line r (after_indent r) ≡ pair_unless_empty n.SpaceOrTab p marker
+  pub on_marker : OnLine text following line (after_indent r) marker
+  pub inside : piece line n.BlockQuoteMarker (after_indent r) (past 1 (after_indent r))
+      ++ white line (past 1 (after_indent r)) (lose 1 (past 1 (after_indent r))) ≡
       pair n.BlockQuoteMarker marker (past_byte 62 marker)
       ++ pair_unless_empty n.SpaceOrTab (past_byte 62 marker) (prefix_end options cells p)
   pub events : front_events options cells p ≡
@@ -164,16 +164,16 @@ pub record HasFront (options : ParseOptions) (text behind : List ℕ) (line : Te
       ++ (enter n.BlockQuotePrefix marker
       ∷ (pair n.BlockQuoteMarker marker (past_byte 62 marker)
       ++ pair_unless_empty n.SpaceOrTab (past_byte 62 marker) (prefix_end options cells p)))
-  pub rest_is : lose 1 (past 1 (behind_indent r)) ≡ t.rest
-  pub on_left : OnLine text behind line t.rest (prefix_end options cells p)
+  pub rest_is : lose 1 (past 1 (after_indent r)) ≡ t.rest
+  pub on_left : OnLine text following line t.rest (prefix_end options cells p)
 
-pub has-front : (options : ParseOptions) (kind : Option AlertKind) (cell_line : Line) (text behind : List ℕ)
+pub has-front : (options : ParseOptions) (kind : Option AlertKind) (cell_line : Line) (text following : List ℕ)
     (line : TextLine) (r : Rest) (p : Point) (stop : List Cell) (t : Taken) →
-    LineIn text behind line → OnLine text behind line r p → NoEnding r.bytes → Stops stop →
+    LineIn text following line → OnLine text following line r p → NoEnding r.bytes → Stops stop →
     length (rest_cells cell_line r p ++ stop) < 2 ^ 63 → quote_taken options kind r ≡ Some t →
-    HasFront options text behind line r (rest_cells cell_line r p ++ stop) p t
+    HasFront options text following line r (rest_cells cell_line r p ++ stop) p t
 unfolding quote_taken
-has-front options kind cell_line text behind line r p stop t is on plain k short taken =
+has-front options kind cell_line text following line r p stop t is on plain k short taken =
     go (has_small_indent options r) refl taken
   where
     room : ℕ
@@ -183,63 +183,63 @@ has-front options kind cell_line text behind line r p stop t is on plain k short
     cells = rest_cells cell_line r p ++ stop
 
     m : Rest
-    m = behind_indent r
+    m = after_indent r
 
     marker : Point
     marker = white_end room cells p
 
     Goal : Type 0
-    Goal = HasFront options text behind line r cells p t
+    Goal = HasFront options text following line r cells p t
 
     made : Option Taken
-    made = Some (record { container = InQuote kind; rest = lose 1 (rests.behind 1 m) })
+    made = Some (record { container = InQuote kind; rest = lose 1 (rests.following 1 m) })
 
     -- a small indent fits
     fits : has_small_indent options r ≡ true → indent r ≤ room
     fits e =
         let size = length-append (rest_cells cell_line r p) stop in
         small-room options r (length cells) e
-        (let most = indent-length cell_line text behind r p on.stands in omega arith) short
+        (let most = indent-length cell_line text following r p on.valid in omega arith) short
 
     -- where the next byte is `>`
     done : indent r ≤ room → (bytes : List ℕ) → m ≡ rest m.column 0 (62 ∷ bytes) → made ≡ Some t → Goal
     done le bytes same f = record {
       marker = marker;
-      indent = white-on text behind line r m p marker is on on_marker;
+      indent = white-on text following line r m p marker is on on_marker;
       on_marker = on_marker;
       inside = from.marker;
       events = ap₂ (λ (xs ys : List Event). xs ++ ys) walked.events from.events;
       rest_is = rest_is;
-      on_left = subst (λ (s : Rest). OnLine text behind line s (prefix_end options cells p)) rest_is from.left;
+      on_left = subst (λ (s : Rest). OnLine text following line s (prefix_end options cells p)) rest_is from.left;
     }
       where
-        taken_is : HasIndent cell_line text behind room r p stop m
-        taken_is = indent-taken cell_line text behind room r p stop on.stands k le
+        taken_is : HasIndent cell_line text following room r p stop m
+        taken_is = indent-taken cell_line text following room r p stop on.valid k le
 
         walked : HasWhite text cells p marker
-        walked = white-walk cell_line text behind (indent r) room r p stop on.stands k refl le
+        walked = white-walk cell_line text following (indent r) room r p stop on.valid k refl le
 
-        on_marker : OnLine text behind line m marker
-        on_marker = indent-on cell_line text behind line (indent r) room r p stop on k refl le
+        on_marker : OnLine text following line m marker
+        on_marker = indent-on cell_line text following line (indent r) room r p stop on k refl le
 
         bare_bytes : NoEnding bytes
         bare_bytes = (subst (λ (s : Rest). NoEnding s.bytes) same (lose-no_ending (indent r) r plain)).1
 
-        from : FromMarker text behind line m (white_rest room cells) marker
+        from : FromMarker text following line m (white_rest room cells) marker
         from =
-            subst (λ (l : List Cell). FromMarker text behind line m l marker) (sym taken_is.cells)
-            (subst (λ (s : Rest). FromMarker text behind line s (rest_cells cell_line s marker ++ stop) marker)
+            subst (λ (l : List Cell). FromMarker text following line m l marker) (sym taken_is.cells)
+            (subst (λ (s : Rest). FromMarker text following line s (rest_cells cell_line s marker ++ stop) marker)
             (sym same)
-            (from-marker cell_line text behind line m.column bytes marker stop is
-            (subst (λ (s : Rest). OnLine text behind line s marker) same on_marker) bare_bytes k))
+            (from-marker cell_line text following line m.column bytes marker stop is
+            (subst (λ (s : Rest). OnLine text following line s marker) same on_marker) bare_bytes k))
 
-        further : past 1 (rest m.column 0 (62 ∷ bytes)) ≡ rests.behind 1 (rest m.column 0 (62 ∷ bytes))
+        further : past 1 (rest m.column 0 (62 ∷ bytes)) ≡ rests.following 1 (rest m.column 0 (62 ∷ bytes))
         further = ap (λ (c : ℕ). rest c 0 bytes) (omega arith)
 
         rest_is : lose 1 (past 1 m) ≡ t.rest
         rest_is =
-            ap (lose 1) (subst (λ (s : Rest). past 1 s ≡ rests.behind 1 s) (sym same) further)
-            ∙ ap (rest_of (rests.behind 1 m)) f
+            ap (lose 1) (subst (λ (s : Rest). past 1 s ≡ rests.following 1 s) (sym same) further)
+            ∙ ap (rest_of (rests.following 1 m)) f
           where
             rest_of : Rest → Option Taken → Rest
             rest_of other None = other
@@ -250,7 +250,7 @@ has-front options kind cell_line text behind line r p stop t is on plain k short
     go false e f = absurd (cc)
     go true e f =
         at m.spaces m.bytes refl
-        (bare m (indent-taken cell_line text behind room r p stop on.stands k (fits e)).none) f
+        (bare m (indent-taken cell_line text following room r p stop on.valid k (fits e)).none) f
       where
         at : (spaces : ℕ) (bytes : List ℕ) → m ≡ rest m.column spaces bytes → Bare spaces bytes →
             cond (begins_with 62 bytes) made None ≡ Some t → Goal
@@ -264,14 +264,14 @@ has-front options kind cell_line text behind line r p stop t is on plain k short
                 done (fits e) bytes (same ∙ ap (λ (c : ℕ). rest m.column 0 (c ∷ bytes)) (eqb-true b 62 h)) g
 
 -- A quote continues with the events of its prefix.
-pub quote-same : (options : ParseOptions) (kind : Option AlertKind) (cell_line : Line) (text behind : List ℕ)
+pub quote-same : (options : ParseOptions) (kind : Option AlertKind) (cell_line : Line) (text following : List ℕ)
     (line : TextLine) (r : Rest) (p : Point) (stop : List Cell) (t : Taken) →
-    LineIn text behind line → OnLine text behind line r p → NoEnding r.bytes → Stops stop →
+    LineIn text following line → OnLine text following line r p → NoEnding r.bytes → Stops stop →
     length (rest_cells cell_line r p ++ stop) < 2 ^ 63 → quote_taken options kind r ≡ Some t →
     quote_prefix line None r t.rest ≡ prefix_events options (rest_cells cell_line r p ++ stop) p
-quote-same options kind cell_line text behind line r p stop t is on plain k short taken =
+quote-same options kind cell_line text following line r p stop t is on plain k short taken =
     ap₂ (λ (xs ys : List Event). xs ++ ys) has.indent
-    (part-on text behind line n.BlockQuotePrefix m t.rest has.marker end _ is has.on_marker has.on_left
+    (part-on text following line n.BlockQuotePrefix m t.rest has.marker end _ is has.on_marker has.on_left
     ∙ ap (λ (es : List Event). around n.BlockQuotePrefix has.marker end es) (append-nil _ ∙ has.inside))
     ∙ sym (append_assoc (pair_unless_empty n.SpaceOrTab p has.marker) inner (exit n.BlockQuotePrefix end ∷ []))
     ∙ ap (λ (es : List Event). es ++ exit n.BlockQuotePrefix end ∷ []) (sym has.events)
@@ -280,13 +280,13 @@ quote-same options kind cell_line text behind line r p stop t is on plain k shor
     cells = rest_cells cell_line r p ++ stop
 
     m : Rest
-    m = behind_indent r
+    m = after_indent r
 
     end : Point
     end = prefix_end options cells p
 
-    has : HasFront options text behind line r cells p t
-    has = has-front options kind cell_line text behind line r p stop t is on plain k short taken
+    has : HasFront options text following line r cells p t
+    has = has-front options kind cell_line text following line r p stop t is on plain k short taken
 
     inner : List Event
     inner =

@@ -20,7 +20,7 @@ use Rattle.md_exact.specs.Places.{TextLine, past}
 use Rattle.md_exact.proofs.OnLine.{OnLine, past-line}
 use Rattle.md_exact.proofs.PieceLemmas.{same-spaces}
 use Rattle.md_exact.proofs.PlaceLemmas.{past-column}
-use Rattle.proof_content_laws.proofs.Defined.Along.{Stands, Steps, no_line}
+use Rattle.proof_content_laws.proofs.Defined.Along.{Valid, Steps, no_line}
 use Rattle.proof_content_laws.proofs.Defined.Runs.{RunOf, run-of}
 use Rattle.proof_content_laws.proofs.Defined.Strands.{run-some}
 
@@ -37,22 +37,23 @@ cut-plain : (spaces : ℕ) (bytes : List ℕ) → NoEnding bytes → NoEnding (c
 cut-plain zero bytes h = h
 cut-plain (suc n) bytes h = (refl, h)
 
-pub past-cut : (text behind : List ℕ) (line : TextLine) (n : ℕ) (r : Rest) (p : Point) → OnLine text behind line r p →
+pub past-cut : (text following : List ℕ) (line : TextLine) (n : ℕ) (r : Rest) (p : Point) →
+    OnLine text following line r p →
     NoEnding (take n r.bytes) → (past_text (cut_tab r.spaces ++ take n r.bytes) p).vs ≡ 0 →
-    OnLine text behind line (past n r) (past_text (cut_tab r.spaces ++ take n r.bytes) p)
-past-cut text behind line n r p on plain whole = record {
-  stands = record {
+    OnLine text following line (past n r) (past_text (cut_tab r.spaces ++ take n r.bytes) p)
+past-cut text following line n r p on plain whole = record {
+  valid = record {
     column =
-        past-column front p (omega (arith, on.stands.column))
-        ∙ ap (λ (c : ℕ). c + 1) (cut-columns r.spaces r.column p (take n r.bytes) on.stands.column on.stands.cut);
+        past-column front p (omega (arith, on.valid.column))
+        ∙ ap (λ (c : ℕ). c + 1) (cut-columns r.spaces r.column p (take n r.bytes) on.valid.column on.valid.cut);
     cut = whole;
     text_is =
         ap (λ (i : ℕ). drop i text) (past-index front p) ∙ sym (drop-drop (length front) p.index text)
         ∙ ap (drop (length front)) parts
-        ∙ drop-append_seam front (drop n r.bytes ++ behind);
+        ∙ drop-append_seam front (drop n r.bytes ++ following);
   };
   placed =
-      placed-text text p front (drop n r.bytes ++ behind) on.placed parts
+      placed-text text p front (drop n r.bytes ++ following) on.placed parts
       (cut-plain r.spaces (take n r.bytes) plain);
   onward = let index = past-index front p in omega (arith, on.onward, index);
   number = past-line front p ∙ on.number;
@@ -61,10 +62,10 @@ past-cut text behind line n r p on plain whole = record {
     front : List ℕ
     front = cut_tab r.spaces ++ take n r.bytes
 
-    parts : drop p.index text ≡ front ++ (drop n r.bytes ++ behind)
+    parts : drop p.index text ≡ front ++ (drop n r.bytes ++ following)
     parts =
-        on.stands.text_is
-        ∙ ap (λ (l : List ℕ). (cut_tab r.spaces ++ l) ++ behind) (sym (take-append-drop n r.bytes))
+        on.valid.text_is
+        ∙ ap (λ (l : List ℕ). (cut_tab r.spaces ++ l) ++ following) (sym (take-append-drop n r.bytes))
         ∙ simp append_assoc
 
 -- The bytes of cells before others.
@@ -103,25 +104,25 @@ front-then line b c bs cs rest stop p same more = record {
   rest_is = more.rest_is;
 }
 
-front-of : (line : Line) (text bytes tail behind : List ℕ) (rest stop : List Cell) (p : Point) → NoEnding text →
-    Stops stop → text ++ tail ≡ bytes ++ behind → spread line bytes p ++ stop ≡ spread line text p ++ rest →
+front-of : (line : Line) (text bytes tail following : List ℕ) (rest stop : List Cell) (p : Point) → NoEnding text →
+    Stops stop → text ++ tail ≡ bytes ++ following → spread line bytes p ++ stop ≡ spread line text p ++ rest →
     Front line bytes text rest stop p
-front-of line [] bytes tail behind rest stop p none stops e k =
+front-of line [] bytes tail following rest stop p none stops e k =
     record { more = bytes; bytes_are = refl; rest_is = sym k }
-front-of line (b ∷ bs) [] tail behind rest stop p none stops e k =
+front-of line (b ∷ bs) [] tail following rest stop p none stops e k =
     absurd
     (fed (spread line (b ∷ bs) p) rest stop (no_feed-spread line (b ∷ bs) p none)
     (λ l. byte-some line b p (first-none (byte_cells line b p) (spread line bs (past_byte b p)) l)) stops k)
-front-of line (b ∷ bs) (c ∷ cs) tail behind rest stop p none stops e k =
+front-of line (b ∷ bs) (c ∷ cs) tail following rest stop p none stops e k =
     let same : c ≡ b = cc in
-    let tails : bs ++ tail ≡ cs ++ behind = cc in
+    let tails : bs ++ tail ≡ cs ++ following = cc in
     let q = past_byte b p in
     let cells : byte_cells line b p ++ (spread line cs q ++ stop) ≡ byte_cells line b p ++ (spread line bs q ++ rest) =
     sym (append_assoc (byte_cells line b p) (spread line cs q) stop)
     ∙ ap (λ (x : ℕ). (byte_cells line x p ++ spread line cs (past_byte x p)) ++ stop) (sym same)
     ∙ k ∙ append_assoc (byte_cells line b p) (spread line bs q) rest in
     front-then line b c bs cs rest stop p same
-    (front-of line bs cs tail behind rest stop q none.1 stops tails
+    (front-of line bs cs tail following rest stop q none.1 stops tails
     (append_cancel_left (byte_cells line b p) (spread line cs q ++ stop) (spread line bs q ++ rest) cells))
 
 -- Cells of a line.
@@ -144,11 +145,11 @@ cut-cells (suc n) bytes text p stop rest e =
     (sym (append_assoc front (spread no_line bytes q) stop) ∙ e ∙ append_assoc front (spread no_line text q) rest)
 
 -- Some cells of it, and those of the rest after them.
-pub record RestOn (text behind : List ℕ) (line : TextLine) (r : Rest) (p q : Point) (xs rest stop : List Cell) :
+pub record RestOn (text following : List ℕ) (line : TextLine) (r : Rest) (p q : Point) (xs rest stop : List Cell) :
     Type 0 where
   pub size : ℕ
   pub fits : size ≤ length r.bytes
-  pub on : OnLine text behind line (past size r) q
+  pub on : OnLine text following line (past size r) q
   pub cells : rest ≡ rest_cells no_line (past size r) q ++ stop
   pub index : q.index ≡ p.index + length (cut_tab r.spaces ++ take size r.bytes)
   pub some : xs ≢ [] → p.index < q.index
@@ -163,23 +164,23 @@ some-bytes (x ∷ xs) p spaces bytes some e = go (cut_tab spaces ++ bytes) (run-
     go [] h = absurd (h refl)
     go (y ∷ ys) h = omega arith
 
-pub rest-on : (text behind : List ℕ) (line : TextLine) (r : Rest) (p : Point) (xs rest stop : List Cell) →
-    OnLine text behind line r p → Stands text p → Steps text p xs → (point_after xs p).vs ≡ 0 → Stops stop →
-    xs ++ rest ≡ rest_cells no_line r p ++ stop → RestOn text behind line r p (point_after xs p) xs rest stop
-rest-on text behind line r p xs rest stop on stands steps whole stops e = record {
+pub rest-on : (text following : List ℕ) (line : TextLine) (r : Rest) (p : Point) (xs rest stop : List Cell) →
+    OnLine text following line r p → Valid text p → Steps text p xs → (point_after xs p).vs ≡ 0 → Stops stop →
+    xs ++ rest ≡ rest_cells no_line r p ++ stop → RestOn text following line r p (point_after xs p) xs rest stop
+rest-on text following line r p xs rest stop on valid steps whole stops e = record {
   size = length t;
   fits =
       let parts = length-append t front.more in
       let all = ap (λ (l : List ℕ). length l) front.bytes_are in omega (arith, parts, all);
   on =
-      subst (OnLine text behind line (past (length t) r)) (sym end)
-      (past-cut text behind line (length t) r p on (subst NoEnding (sym taken) run.no_ending)
+      subst (OnLine text following line (past (length t) r)) (sym end)
+      (past-cut text following line (length t) r p on (subst NoEnding (sym taken) run.no_ending)
       (ap (λ (x : Point). x.vs) (sym end) ∙ whole));
   cells =
       front.rest_is
       ∙ ap (λ (l : List ℕ). spread no_line l (past_text t (past_cut r.spaces p)) ++ stop) (sym left)
       ∙ ap (λ (x : Point). spread no_line (drop (length t) r.bytes) x ++ stop)
-      (cut-end r.spaces p t stands.column on.stands.cut ∙ sym ends);
+      (cut-end r.spaces p t valid.column on.valid.cut ∙ sym ends);
   index = ap (λ (x : Point). x.index) end ∙ past-index (cut_tab r.spaces ++ take (length t) r.bytes) p;
   some = λ some.
       let index = ap (λ (x : Point). x.index) ends ∙ past-index (cut_tab r.spaces ++ t) p in
@@ -192,24 +193,25 @@ rest-on text behind line r p xs rest stop on stands steps whole stops e = record
     q = point_after xs p
 
     run : RunOf text p q xs
-    run = run-of text p xs stands steps whole
+    run = run-of text p xs valid steps whole
 
     t : List ℕ
     t = run.text
 
     spaces : run.spaces ≡ r.spaces
-    spaces = same-spaces run.spaces r.spaces p run.cut on.stands.cut
+    spaces = same-spaces run.spaces r.spaces p run.cut on.valid.cut
 
-    bytes : t ++ drop q.index text ≡ r.bytes ++ behind
+    bytes : t ++ drop q.index text ≡ r.bytes ++ following
     bytes =
-        append_cancel_left (cut_tab r.spaces) (t ++ drop q.index text) (r.bytes ++ behind)
+        append_cancel_left (cut_tab r.spaces) (t ++ drop q.index text) (r.bytes ++ following)
         (sym (append_assoc (cut_tab r.spaces) t (drop q.index text))
-        ∙ ap (λ (n : ℕ). (cut_tab n ++ t) ++ drop q.index text) (sym spaces) ∙ sym run.here ∙ on.stands.text_is
-        ∙ append_assoc (cut_tab r.spaces) r.bytes behind)
+        ∙ ap (λ (n : ℕ). (cut_tab n ++ t) ++ drop q.index text) (sym spaces) ∙ sym run.here ∙ on.valid.text_is
+        ∙ append_assoc (cut_tab r.spaces) r.bytes following)
 
     front : Front no_line r.bytes t rest stop (past_cut r.spaces p)
     front =
-        front-of no_line t r.bytes (drop q.index text) behind rest stop (past_cut r.spaces p) run.no_ending stops bytes
+        front-of no_line t r.bytes (drop q.index text) following rest stop
+        (past_cut r.spaces p) run.no_ending stops bytes
         (cut-cells r.spaces r.bytes t p stop rest
         (sym e ∙ ap (λ (l : List Cell). l ++ rest) run.cells_are
         ∙ ap (λ (n : ℕ). cells_by no_line n t p ++ rest) spaces))

@@ -8,7 +8,7 @@ use Rattle.md_meaning.specs.Rest.{Rest}
 use Rattle.md_meaning.specs.State.{Path}
 use Rattle.md_meaning.specs.Step.{step}
 use Rattle.md_exact.specs.Places.{TextLine, line_end, place, whole}
-use Rattle.md_exact.specs.Prefixes.{begins, behind_all, containers, further_prefixes, gone_on, new_containers}
+use Rattle.md_exact.specs.Prefixes.{begins, following_all, containers, further_prefixes, taken_prefixes, new_containers}
 use Rattle.md_exact.specs.Rows.{Row, next_stays, row_of}
 use Rattle.proof_exact_lines.specs.Unlisted.{plain_begins, plain_ends, without_lists}
 use Rattle.proof_exact_lines.proofs.GroupEvents.{begins-without, ends-without, without-append, without-none}
@@ -16,14 +16,14 @@ use Rattle.proof_exact_lines.proofs.ListWalk.{further-none}
 
 -- the prefixes of those that continue, and those that open
 pub front-plain : (options : ParseOptions) (p : Path) (line : TextLine) (below : List Row) →
-    let on = gone_on options p (whole line) in
-    let inner = behind_all (whole line) on in
+    let on = taken_prefixes options p (whole line) in
+    let inner = following_all (whole line) on in
     let new = new_containers options p (length on == length (containers p)) inner in
     without_lists (row_of options p line below).front
     ≡ further_prefixes line (whole line) on ++ plain_begins line inner new
 front-plain options p line below =
-    let on : List Taken = gone_on options p (whole line) in
-    let inner : Rest = behind_all (whole line) on in
+    let on : List Taken = taken_prefixes options p (whole line) in
+    let inner : Rest = following_all (whole line) on in
     let new : List Taken = new_containers options p (length on == length (containers p)) inner in
     let after : Path = step options p (whole line) in
     without-append (further_prefixes line (whole line) on) (begins line after (length on) inner new)

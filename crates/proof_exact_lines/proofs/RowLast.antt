@@ -8,7 +8,7 @@ use Rattle.std.proofs.lemmas.List.{length-append, length-drop, length-map, take-
 use Rattle.md_engine.specs.declared.configuration.ParseOptions.{ParseOptions}
 use Rattle.md_meaning.specs.declared.alert.AlertKind.{AlertKind}
 use Rattle.md_meaning.specs.Containers.{Taken, continues, footnote_continues, item_continues, quote_taken}
-use Rattle.md_meaning.specs.Leaves.{LeafResult, NoText, goes_on, starts}
+use Rattle.md_meaning.specs.Leaves.{LeafResult, NoText, is_continued, starts}
 use Rattle.md_meaning.specs.Rest.{Rest, is_blank}
 use Rattle.md_meaning.specs.State.{At, Container, InFootnote, InItem, InQuote, Innermost, Leaf, NoLeaf, OpenCode}
 use Rattle.md_meaning.specs.State.{OpenFence, OpenHtml, OpenParagraph, OpenTable, Path, Within, spot}
@@ -17,11 +17,11 @@ use Rattle.md_meaning.specs.Tree.{Blocks}
 use Rattle.md_meaning.proofs.FindsLemmas.{Finds, some-found, when-found}
 use Rattle.md_exact.specs.Blocks as blocks
 use Rattle.md_exact.specs.Places.{TextLine, line_end, place, whole}
-use Rattle.md_exact.specs.Prefixes.{begins, behind_all, containers, further_prefixes, gone_on}
-use Rattle.md_exact.specs.Rows.{BehindCode, Blank, Delimiter, First, FirstText, Further, FurtherText, Head, Role, Row}
+use Rattle.md_exact.specs.Prefixes.{begins, following_all, containers, further_prefixes, taken_prefixes}
+use Rattle.md_exact.specs.Rows.{AfterCode, Blank, Delimiter, First, FirstText, Further, FurtherText, Head, Role, Row}
 use Rattle.md_exact.specs.Rows.{Underline, ends_from, first_or, is_blank_role, next_role, next_stays, role_before}
 use Rattle.md_exact.specs.Rows.{role_on, row_of}
-use Rattle.proof_exact_lines.specs.Last.{HasLine, last_at, last_behind, last_in, marker_in}
+use Rattle.proof_exact_lines.specs.Last.{HasLine, last_at, last_after, last_in, marker_in}
 use Rattle.proof_exact_lines.specs.Unlisted.{pushed}
 use Rattle.proof_exact_lines.proofs.LeafLast.{IsCode, Leaves, Met, meets}
 use Rattle.proof_exact_lines.proofs.ListWalk.{markers-append, markers_from}
@@ -87,29 +87,30 @@ continues-marker options (InItem digits marker width starts_blank) r = item-keep
 continues-marker options (InFootnote label) r = footnote-keeps label r
 
 pub gone-markers : (options : ParseOptions) (p : Path) (r : Rest) (ms : List ℕ) →
-    markers_from ms (held_in (gone_on options p r))
-    ≡ markers_from ms (take (length (gone_on options p r)) (containers p))
+    markers_from ms (held_in (taken_prefixes options p r))
+    ≡ markers_from ms (take (length (taken_prefixes options p r)) (containers p))
 gone-markers options (At s) r ms = refl
 gone-markers options (Within before c p) r ms =
     go (gone-markers options p) (continues options c r) (continues-marker options c r)
   where
     go : ((s : Rest) (ns : List ℕ) →
-        markers_from ns (held_in (gone_on options p s))
-        ≡ markers_from ns (take (length (gone_on options p s)) (containers p))) →
+        markers_from ns (held_in (taken_prefixes options p s))
+        ≡ markers_from ns (take (length (taken_prefixes options p s)) (containers p))) →
         (o : Option Taken) → Finds o (HasMarker (marker_in c)) →
-        let on : List Taken = elim o [ Some t ↦ t ∷ gone_on options p t.rest | None ↦ [] ] in
+        let on : List Taken = elim o [ Some t ↦ t ∷ taken_prefixes options p t.rest | None ↦ [] ] in
         markers_from ms (held_in on) ≡ markers_from ms (take (length on) (c ∷ containers p))
     go below None h = refl
     go below (Some t) h =
-        ap (λ (m : Option ℕ). markers_from (pushed ms m) (held_in (gone_on options p t.rest))) (h t refl)
+        ap (λ (m : Option ℕ). markers_from (pushed ms m) (held_in (taken_prefixes options p t.rest))) (h t refl)
         ∙ below t.rest (pushed ms (marker_in c))
 
-pub gone-fewer : (options : ParseOptions) (p : Path) (r : Rest) → length (gone_on options p r) ≤ length (containers p)
+pub gone-fewer : (options : ParseOptions) (p : Path) (r : Rest) → length (taken_prefixes options p r) ≤
+    length (containers p)
 gone-fewer options (At s) r = omega arith
 gone-fewer options (Within before c p) r = go (gone-fewer options p) (continues options c r)
   where
-    go : ((s : Rest) → length (gone_on options p s) ≤ length (containers p)) → (o : Option Taken) →
-        let on : List Taken = elim o [ Some t ↦ t ∷ gone_on options p t.rest | None ↦ [] ] in
+    go : ((s : Rest) → length (taken_prefixes options p s) ≤ length (containers p)) → (o : Option Taken) →
+        let on : List Taken = elim o [ Some t ↦ t ∷ taken_prefixes options p t.rest | None ↦ [] ] in
         length on ≤ suc (length (containers p))
     go below None = omega arith
     go below (Some t) = let more = below t.rest in omega arith
@@ -121,7 +122,7 @@ abbrev pub IsOpen : Leaf → Type 0
 IsOpen NoLeaf = ⊥
 IsOpen leaf = Unit {0}
 
-pub open-last : (leaf : Leaf) (bs : Blocks) → IsOpen leaf → last_behind leaf bs ≡ None
+pub open-last : (leaf : Leaf) (bs : Blocks) → IsOpen leaf → last_after leaf bs ≡ None
 open-last NoLeaf bs h = absurd h
 open-last (OpenParagraph lines) bs h = refl
 open-last (OpenCode lines) bs h = refl
@@ -129,18 +130,18 @@ open-last (OpenFence o lines) bs h = refl
 open-last (OpenHtml kind lines) bs h = refl
 open-last (OpenTable delimiter rows) bs h = refl
 
-first-goes : (o : Option LeafResult) → blocks.goes_on (first_or FirstText o) ≡ false
-first-goes None = refl
-first-goes (Some c) = refl
+first-proceeds : (o : Option LeafResult) → blocks.is_continued (first_or FirstText o) ≡ false
+first-proceeds None = refl
+first-proceeds (Some c) = refl
 
 -- what continues a leaf meets one that is open
-role-open : (options : ParseOptions) (leaf : Leaf) (r : Rest) → blocks.goes_on (role_on options leaf r) ≡ true →
+role-open : (options : ParseOptions) (leaf : Leaf) (r : Rest) → blocks.is_continued (role_on options leaf r) ≡ true →
     IsOpen leaf
 role-open options NoLeaf r e = go (is_blank r.bytes) e
   where
-    go : (x : Bool) → blocks.goes_on (cond x Blank (first_or FirstText (starts options NoText r))) ≡ true → ⊥
+    go : (x : Bool) → blocks.is_continued (cond x Blank (first_or FirstText (starts options NoText r))) ≡ true → ⊥
     go true e = absurd (cc)
-    go false e = let none = first-goes (starts options NoText r) in absurd (cc)
+    go false e = let none = first-proceeds (starts options NoText r) in absurd (cc)
 role-open options (OpenParagraph lines) r e = tt
 role-open options (OpenCode lines) r e = tt
 role-open options (OpenFence o lines) r e = tt
@@ -156,9 +157,9 @@ lazy-open options (OpenHtml kind lines) r e = absurd (cc)
 lazy-open options (OpenTable delimiter rows) r e = absurd (cc)
 
 -- before a line that continues none: a blank line of code is after it
-abbrev behind_code : Rest → Role → Role
-behind_code r (Further (OpenCode lines)) = cond (is_blank r.bytes) BehindCode (Further (OpenCode lines))
-behind_code r role = role
+abbrev following_code : Rest → Role → Role
+following_code r (Further (OpenCode lines)) = cond (is_blank r.bytes) AfterCode (Further (OpenCode lines))
+following_code r role = role
 
 -- what the next line is says no more
 abbrev PassesBack : Role → Type 0
@@ -166,12 +167,12 @@ PassesBack Delimiter = ⊥
 PassesBack (Further leaf) = ⊥
 PassesBack role = Unit {0}
 
-none-back : (next : Role) → blocks.goes_on next ≡ false → PassesBack next
+none-back : (next : Role) → blocks.is_continued next ≡ false → PassesBack next
 none-back (Further leaf) e = absurd (cc)
 none-back Delimiter e = absurd (cc)
 none-back _ e = tt
 
-code-before : (next : Role) (r : Rest) (role : Role) → PassesBack next → role_before next r role ≡ behind_code r role
+code-before : (next : Role) (r : Rest) (role : Role) → PassesBack next → role_before next r role ≡ following_code r role
 code-before Blank r (Further (OpenCode lines)) h = refl
 code-before Blank r _ h = refl
 code-before (First c) r (Further (OpenCode lines)) h = refl
@@ -180,8 +181,8 @@ code-before FirstText r (Further (OpenCode lines)) h = refl
 code-before FirstText r _ h = refl
 code-before Head r (Further (OpenCode lines)) h = refl
 code-before Head r _ h = refl
-code-before BehindCode r (Further (OpenCode lines)) h = refl
-code-before BehindCode r _ h = refl
+code-before AfterCode r (Further (OpenCode lines)) h = refl
+code-before AfterCode r _ h = refl
 code-before FurtherText r (Further (OpenCode lines)) h = refl
 code-before FurtherText r _ h = refl
 code-before Underline r (Further (OpenCode lines)) h = refl
@@ -190,28 +191,28 @@ code-before (Further leaf) r role h = absurd h
 code-before Delimiter r role h = absurd h
 
 -- whether a line is between two blocks: it is then a blank line, and the last block stays the same
-behind-last : (r : Rest) (role : Role) (x : Option ℕ) → (blocks.goes_on role ≡ true → x ≡ None) →
-    cond (is_blank_role role) x None ≡ cond (is_blank_role (behind_code r role)) x None
-behind-last r (Further (OpenCode lines)) x h = go (is_blank r.bytes)
+following-last : (r : Rest) (role : Role) (x : Option ℕ) → (blocks.is_continued role ≡ true → x ≡ None) →
+    cond (is_blank_role role) x None ≡ cond (is_blank_role (following_code r role)) x None
+following-last r (Further (OpenCode lines)) x h = go (is_blank r.bytes)
   where
-    go : (b : Bool) → None ≡ cond (is_blank_role (cond b BehindCode (Further (OpenCode lines)))) x None
+    go : (b : Bool) → None ≡ cond (is_blank_role (cond b AfterCode (Further (OpenCode lines)))) x None
     go true = sym (h refl)
     go false = refl
-behind-last r _ x h = refl
+following-last r _ x h = refl
 
-pub before-last : (next : Role) (r : Rest) (role : Role) (x : Option ℕ) → blocks.goes_on next ≡ false →
-    (blocks.goes_on role ≡ true → x ≡ None) →
+pub before-last : (next : Role) (r : Rest) (role : Role) (x : Option ℕ) → blocks.is_continued next ≡ false →
+    (blocks.is_continued role ≡ true → x ≡ None) →
     cond (is_blank_role role) x None ≡ cond (is_blank_role (role_before next r role)) x None
 before-last next r role x e h =
-    behind-last r role x h
+    following-last r role x h
     ∙ ap (λ (a : Role). cond (is_blank_role a) x None) (sym (code-before next r role (none-back next e)))
 
 -- a line continues a leaf by what it meets alone
-before-goes : (next : Role) (r : Rest) (role : Role) → blocks.goes_on (role_before next r role) ≡ true →
-    blocks.goes_on role ≡ true
-before-goes next r role e = go next e
+before-proceeds : (next : Role) (r : Rest) (role : Role) → blocks.is_continued (role_before next r role) ≡ true →
+    blocks.is_continued role ≡ true
+before-proceeds next r role e = go next e
   where
-    code : (role : Role) → blocks.goes_on (behind_code r role) ≡ true → blocks.goes_on role ≡ true
+    code : (role : Role) → blocks.is_continued (following_code r role) ≡ true → blocks.is_continued role ≡ true
     code (Further (OpenCode lines)) e = refl
     code (Further _) e = refl
     code Blank e = e
@@ -221,18 +222,18 @@ before-goes next r role e = go next e
     code Underline e = e
     code Head e = e
     code Delimiter e = e
-    code BehindCode e = e
+    code AfterCode e = e
 
-    go : (next : Role) → blocks.goes_on (role_before next r role) ≡ true → blocks.goes_on role ≡ true
+    go : (next : Role) → blocks.is_continued (role_before next r role) ≡ true → blocks.is_continued role ≡ true
     go Delimiter e = absurd (cc)
     go (Further leaf) e = e
-    go Blank e = code role (ap blocks.goes_on (sym (code-before Blank r role tt)) ∙ e)
-    go (First c) e = code role (ap blocks.goes_on (sym (code-before (First c) r role tt)) ∙ e)
-    go FirstText e = code role (ap blocks.goes_on (sym (code-before FirstText r role tt)) ∙ e)
-    go Head e = code role (ap blocks.goes_on (sym (code-before Head r role tt)) ∙ e)
-    go BehindCode e = code role (ap blocks.goes_on (sym (code-before BehindCode r role tt)) ∙ e)
-    go FurtherText e = code role (ap blocks.goes_on (sym (code-before FurtherText r role tt)) ∙ e)
-    go Underline e = code role (ap blocks.goes_on (sym (code-before Underline r role tt)) ∙ e)
+    go Blank e = code role (ap blocks.is_continued (sym (code-before Blank r role tt)) ∙ e)
+    go (First c) e = code role (ap blocks.is_continued (sym (code-before (First c) r role tt)) ∙ e)
+    go FirstText e = code role (ap blocks.is_continued (sym (code-before FirstText r role tt)) ∙ e)
+    go Head e = code role (ap blocks.is_continued (sym (code-before Head r role tt)) ∙ e)
+    go AfterCode e = code role (ap blocks.is_continued (sym (code-before AfterCode r role tt)) ∙ e)
+    go FurtherText e = code role (ap blocks.is_continued (sym (code-before FurtherText r role tt)) ∙ e)
+    go Underline e = code role (ap blocks.is_continued (sym (code-before Underline r role tt)) ∙ e)
 
 -- a leaf that is open may continue in a line that is this
 abbrev IsFurther : Role → Type 0
@@ -244,7 +245,7 @@ Follows NoLeaf role = ⊥
 Follows (OpenCode lines) role = IsFurther role
 Follows leaf role = Unit {0}
 
-pub follows-last : (leaf : Leaf) (bs : Blocks) (role : Role) → Follows leaf role → last_behind leaf bs ≡ None
+pub follows-last : (leaf : Leaf) (bs : Blocks) (role : Role) → Follows leaf role → last_after leaf bs ≡ None
 follows-last NoLeaf bs role h = absurd h
 follows-last (OpenParagraph lines) bs role h = refl
 follows-last (OpenCode lines) bs role h = refl
@@ -252,21 +253,21 @@ follows-last (OpenFence o lines) bs role h = refl
 follows-last (OpenHtml kind lines) bs role h = refl
 follows-last (OpenTable delimiter rows) bs role h = refl
 
-role-follows : (options : ParseOptions) (leaf : Leaf) (r : Rest) → blocks.goes_on (role_on options leaf r) ≡ true →
+role-follows : (options : ParseOptions) (leaf : Leaf) (r : Rest) → blocks.is_continued (role_on options leaf r) ≡ true →
     Follows leaf (role_on options leaf r)
 role-follows options NoLeaf r e = role-open options NoLeaf r e
 role-follows options (OpenParagraph lines) r e = tt
 role-follows options (OpenCode lines) r e =
-    go (is_some (goes_on options (OpenCode lines) r)) (is_blank r.bytes) e
+    go (is_some (is_continued options (OpenCode lines) r)) (is_blank r.bytes) e
   where
     go : (x y : Bool) →
-        blocks.goes_on
+        blocks.is_continued
         (cond x (Further (OpenCode lines)) (cond y Blank (first_or FirstText (starts options NoText r))))
         ≡ true →
         IsFurther (cond x (Further (OpenCode lines)) (cond y Blank (first_or FirstText (starts options NoText r))))
     go true y e = tt
     go false true e = absurd (cc)
-    go false false e = let none = first-goes (starts options NoText r) in absurd (cc)
+    go false false e = let none = first-proceeds (starts options NoText r) in absurd (cc)
 role-follows options (OpenFence o lines) r e = tt
 role-follows options (OpenHtml kind lines) r e = tt
 role-follows options (OpenTable delimiter rows) r e = tt
@@ -282,7 +283,7 @@ lazy-follows options (OpenTable delimiter rows) r role e = tt
 
 -- it does so whatever the next line is
 before-follows : (next : Role) (r : Rest) (leaf : Leaf) (role : Role) → Follows leaf role →
-    blocks.goes_on (role_before next r role) ≡ true → Follows leaf (role_before next r role)
+    blocks.is_continued (role_before next r role) ≡ true → Follows leaf (role_before next r role)
 before-follows next r NoLeaf role h e = h
 before-follows next r (OpenParagraph lines) role h e = tt
 before-follows next r (OpenFence o lines) role h e = tt
@@ -290,51 +291,52 @@ before-follows next r (OpenHtml kind lines) role h e = tt
 before-follows next r (OpenTable delimiter rows) role h e = tt
 before-follows next r (OpenCode lines) role h e = go next e
   where
-    code : (role : Role) → IsFurther role → blocks.goes_on (behind_code r role) ≡ true → IsFurther (behind_code r role)
+    code : (role : Role) → IsFurther role → blocks.is_continued (following_code r role) ≡ true →
+        IsFurther (following_code r role)
     code (Further (OpenCode ks)) h e = by (is_blank r.bytes) e
       where
-        by : (x : Bool) → blocks.goes_on (cond x BehindCode (Further (OpenCode ks))) ≡ true →
-            IsFurther (cond x BehindCode (Further (OpenCode ks)))
+        by : (x : Bool) → blocks.is_continued (cond x AfterCode (Further (OpenCode ks))) ≡ true →
+            IsFurther (cond x AfterCode (Further (OpenCode ks)))
         by true e = absurd (cc)
         by false e = tt
     code (Further _) h e = tt
     code _ h e = absurd h
 
-    go : (next : Role) → blocks.goes_on (role_before next r role) ≡ true → IsFurther (role_before next r role)
+    go : (next : Role) → blocks.is_continued (role_before next r role) ≡ true → IsFurther (role_before next r role)
     go Delimiter e = absurd (cc)
     go (Further leaf) e = h
     go Blank e =
         subst IsFurther (sym (code-before Blank r role tt))
-        (code role h (ap blocks.goes_on (sym (code-before Blank r role tt)) ∙ e))
+        (code role h (ap blocks.is_continued (sym (code-before Blank r role tt)) ∙ e))
     go (First c) e =
         subst IsFurther (sym (code-before (First c) r role tt))
-        (code role h (ap blocks.goes_on (sym (code-before (First c) r role tt)) ∙ e))
+        (code role h (ap blocks.is_continued (sym (code-before (First c) r role tt)) ∙ e))
     go FirstText e =
         subst IsFurther (sym (code-before FirstText r role tt))
-        (code role h (ap blocks.goes_on (sym (code-before FirstText r role tt)) ∙ e))
+        (code role h (ap blocks.is_continued (sym (code-before FirstText r role tt)) ∙ e))
     go Head e =
         subst IsFurther (sym (code-before Head r role tt))
-        (code role h (ap blocks.goes_on (sym (code-before Head r role tt)) ∙ e))
-    go BehindCode e =
-        subst IsFurther (sym (code-before BehindCode r role tt))
-        (code role h (ap blocks.goes_on (sym (code-before BehindCode r role tt)) ∙ e))
+        (code role h (ap blocks.is_continued (sym (code-before Head r role tt)) ∙ e))
+    go AfterCode e =
+        subst IsFurther (sym (code-before AfterCode r role tt))
+        (code role h (ap blocks.is_continued (sym (code-before AfterCode r role tt)) ∙ e))
     go FurtherText e =
         subst IsFurther (sym (code-before FurtherText r role tt))
-        (code role h (ap blocks.goes_on (sym (code-before FurtherText r role tt)) ∙ e))
+        (code role h (ap blocks.is_continued (sym (code-before FurtherText r role tt)) ∙ e))
     go Underline e =
         subst IsFurther (sym (code-before Underline r role tt))
-        (code role h (ap blocks.goes_on (sym (code-before Underline r role tt)) ∙ e))
+        (code role h (ap blocks.is_continued (sym (code-before Underline r role tt)) ∙ e))
 
 -- a line that is not blank
 before-filled : (next : Role) (r : Rest) (role : Role) → is_blank_role role ≡ false →
-    is_blank_role (behind_code r role) ≡ false → is_blank_role (role_before next r role) ≡ false
+    is_blank_role (following_code r role) ≡ false → is_blank_role (role_before next r role) ≡ false
 before-filled Delimiter r role e f = refl
 before-filled (Further leaf) r role e f = e
 before-filled Blank r role e f = ap is_blank_role (code-before Blank r role tt) ∙ f
 before-filled (First c) r role e f = ap is_blank_role (code-before (First c) r role tt) ∙ f
 before-filled FirstText r role e f = ap is_blank_role (code-before FirstText r role tt) ∙ f
 before-filled Head r role e f = ap is_blank_role (code-before Head r role tt) ∙ f
-before-filled BehindCode r role e f = ap is_blank_role (code-before BehindCode r role tt) ∙ f
+before-filled AfterCode r role e f = ap is_blank_role (code-before AfterCode r role tt) ∙ f
 before-filled FurtherText r role e f = ap is_blank_role (code-before FurtherText r role tt) ∙ f
 before-filled Underline r role e f = ap is_blank_role (code-before Underline r role tt) ∙ f
 
@@ -347,46 +349,46 @@ first-blank next r false (Some c) e = let filled = before-filled next r (First c
 
 -- and none continues a blank line
 blank-follows : (next : Role) (r : Rest) (role : Role) (leaf : Leaf) → Leaves role leaf →
-    is_blank_role (role_before next r role) ≡ true → blocks.goes_on next ≡ true → Follows leaf next → ⊥
-blank-follows next r role leaf left e goes h = go next e goes h
+    is_blank_role (role_before next r role) ≡ true → blocks.is_continued next ≡ true → Follows leaf next → ⊥
+blank-follows next r role leaf left e proceeds h = go next e proceeds h
   where
     none : (next : Role) → leaf ≡ NoLeaf → Follows leaf next → ⊥
     none next l h = subst (λ (x : Leaf). Follows x next) l h
 
     blank : (role : Role) → Leaves role leaf → is_blank_role role ≡ true → leaf ≡ NoLeaf
     blank Blank l e = l
-    blank BehindCode l e = l
+    blank AfterCode l e = l
     blank _ l e = absurd (cc)
 
     code-follows : (leaf : Leaf) (next : Role) → IsCode leaf → (IsFurther next → ⊥) → Follows leaf next → ⊥
     code-follows (OpenCode lines) next l f h = f h
     code-follows _ next l f h = absurd l
 
-    code : (next role : Role) → Leaves role leaf → is_blank_role (behind_code r role) ≡ true → (IsFurther next → ⊥) →
+    code : (next role : Role) → Leaves role leaf → is_blank_role (following_code r role) ≡ true → (IsFurther next → ⊥) →
         Follows leaf next → ⊥
     code next (Further (OpenCode lines)) l e f h = code-follows leaf next l f h
     code next Blank l e f h = none next l h
-    code next BehindCode l e f h = none next l h
+    code next AfterCode l e f h = none next l h
     code next _ l e f h = absurd (cc)
 
-    go : (next : Role) → is_blank_role (role_before next r role) ≡ true → blocks.goes_on next ≡ true →
+    go : (next : Role) → is_blank_role (role_before next r role) ≡ true → blocks.is_continued next ≡ true →
         Follows leaf next → ⊥
-    go Delimiter e goes h = absurd (cc)
-    go (Further k) e goes h = none (Further k) (blank role left e) h
-    go FurtherText e goes h =
+    go Delimiter e proceeds h = absurd (cc)
+    go (Further k) e proceeds h = none (Further k) (blank role left e) h
+    go FurtherText e proceeds h =
         code FurtherText role left (ap is_blank_role (sym (code-before FurtherText r role tt)) ∙ e) (λ f. f) h
-    go Underline e goes h =
+    go Underline e proceeds h =
         code Underline role left (ap is_blank_role (sym (code-before Underline r role tt)) ∙ e) (λ f. f) h
-    go Blank e goes h = absurd (cc)
-    go (First c) e goes h = absurd (cc)
-    go FirstText e goes h = absurd (cc)
-    go Head e goes h = absurd (cc)
-    go BehindCode e goes h = absurd (cc)
+    go Blank e proceeds h = absurd (cc)
+    go (First c) e proceeds h = absurd (cc)
+    go FirstText e proceeds h = absurd (cc)
+    go Head e proceeds h = absurd (cc)
+    go AfterCode e proceeds h = absurd (cc)
 
 -- Rows.
 
 abbrev pub on_of : ParseOptions → Path → TextLine → List Taken
-on_of options p line = gone_on options p (whole line)
+on_of options p line = taken_prefixes options p (whole line)
 
 abbrev all_of : ParseOptions → Path → TextLine → Bool
 all_of options p line = length (on_of options p line) == length (containers p)
@@ -398,8 +400,8 @@ new_on options p line = new_of options p (all_of options p line) (whole line) (o
 abbrev row_by : ParseOptions → Path → TextLine → List Row → List Taken → Bool → Bool → Row
 row_by options p line below new none lazy =
     let on = on_of options p line in
-    let inner = behind_all (whole line) on in
-    let rest = behind_all inner new in
+    let inner = following_all (whole line) on in
+    let rest = following_all inner new in
     let after = step options p (whole line) in
     record {
       line = line;
@@ -470,10 +472,10 @@ pub record Begins (options : ParseOptions) (p : Path) (line : TextLine) (row : R
   pub front : row.front
       ≡ further_prefixes line (whole line) (on_of options p line)
       ++ begins line (step options p (whole line)) (length (on_of options p line))
-      (behind_all (whole line) (on_of options p line)) (t ∷ ts)
+      (following_all (whole line) (on_of options p line)) (t ∷ ts)
   pub opens : Opens p (on_of options p line) (t ∷ ts) (rest_of (whole line) (on_of options p line) (t ∷ ts))
       (step options p (whole line))
-  pub first : blocks.goes_on row.role ≡ false
+  pub first : blocks.is_continued row.role ≡ false
   pub blank : is_blank_role row.role ≡ true → (spot (step options p (whole line))).leaf ≡ NoLeaf
 
 pub begins-facts : (options : ParseOptions) (p : Path) (line : TextLine) (below : List Row) → HasLine (spot p).leaf →
@@ -485,7 +487,7 @@ begins-facts options p line below h t ts is_new =
       markers = sym (gone-markers options p (whole line) []);
       front = refl;
       opens = (step-facts options p (whole line) h).opens t ts is_new;
-      first = first (blocks.goes_on role) refl;
+      first = first (blocks.is_continued role) refl;
       blank = blank;
     })
   where
@@ -512,14 +514,14 @@ begins-facts options p line below h t ts is_new =
         (ap (λ (a : Role). is_blank_role (role_before (next_role below) rest a))
         (sym (none (all_of options p line))) ∙ e))
 
-    first : (x : Bool) → blocks.goes_on role ≡ x → x ≡ false
-    first true goes =
+    first : (x : Bool) → blocks.is_continued role ≡ x → x ≡ false
+    first true proceeds =
         absurd
         (leaf (all_of options p line)
         (role-open options (cond (all_of options p line && false) (spot p).leaf NoLeaf) rest
-        (before-goes (next_role below) rest
-        (role_on options (cond (all_of options p line && false) (spot p).leaf NoLeaf) rest) goes)))
-    first false goes = refl
+        (before-proceeds (next_role below) rest
+        (role_on options (cond (all_of options p line && false) (spot p).leaf NoLeaf) rest) proceeds)))
+    first false proceeds = refl
 
 -- Where none opens.
 pub record Remains (options : ParseOptions) (p : Path) (line : TextLine) (below : List Row) (row : Row) : Type 0 where
@@ -527,13 +529,13 @@ pub record Remains (options : ParseOptions) (p : Path) (line : TextLine) (below 
   pub markers : markers_from [] row.held ≡ markers_from [] (take row.stays (containers p))
   pub size : length row.held ≡ row.stays
   pub text : HasLine (spot (step options p (whole line))).leaf
-  pub last : blocks.goes_on (next_role below) ≡ false →
+  pub last : blocks.is_continued (next_role below) ≡ false →
       last_in (spot (step options p (whole line))) ≡ cond (is_blank_role row.role) (last_at row.stays p) None
   -- a line that continues a leaf meets the innermost container
-  pub all_stay : blocks.goes_on row.role ≡ true → row.stays ≡ length (containers p)
-  pub met : blocks.goes_on row.role ≡ true → Follows (spot p).leaf row.role
+  pub all_stay : blocks.is_continued row.role ≡ true → row.stays ≡ length (containers p)
+  pub met : blocks.is_continued row.role ≡ true → Follows (spot p).leaf row.role
   -- no line continues a blank line
-  pub shut : is_blank_role row.role ≡ true → blocks.goes_on (next_role below) ≡ true →
+  pub shut : is_blank_role row.role ≡ true → blocks.is_continued (next_role below) ≡ true →
       Follows (spot (step options p (whole line))).leaf (next_role below) → ⊥
 
 lazy-facts : (options : ParseOptions) (p : Path) (line : TextLine) (below : List Row) →
@@ -568,11 +570,11 @@ lazy-facts options p line below lazy is =
           λ e.
           is.ends.last
           ∙ before-last (next_role below) rest FurtherText (last_at (length cs) p) e
-          (λ goes. last-whole p ∙ none);
-      all_stay = λ goes. refl;
-      met = λ goes. lazy-follows options (spot p).leaf rest (role_before (next_role below) rest FurtherText) lazy;
+          (λ proceeds. last-whole p ∙ none);
+      all_stay = λ proceeds. refl;
+      met = λ proceeds. lazy-follows options (spot p).leaf rest (role_before (next_role below) rest FurtherText) lazy;
       shut =
-          λ e goes follows.
+          λ e proceeds follows.
           let filled = before-filled (next_role below) rest FurtherText refl refl in absurd (cc);
     }
 
@@ -590,17 +592,18 @@ kept-facts options p line below h is = record {
       ap last_in is.is ∙ met.last
       ∙ ap₂ (λ (l : Leaf) (x : Option ℕ). cond (is_blank_role (role_on options l rest)) x None) leaf is.last
       ∙ before-last (next_role below) rest base (last_at (length on) p) e
-      (λ goes. sym is.last ∙ met-last (role-open options (met_leaf all) rest goes));
-  all_stay = λ goes. eqb-true (length on) (length (containers p)) (went (before-goes (next_role below) rest base goes));
+      (λ proceeds. sym is.last ∙ met-last (role-open options (met_leaf all) rest proceeds));
+  all_stay = λ proceeds. eqb-true (length on) (length (containers p))
+      (proceeded (before-proceeds (next_role below) rest base proceeds));
   met =
-      λ goes.
+      λ proceeds.
       before-follows (next_role below) rest (spot p).leaf base
-      (leaf-open all (went (before-goes (next_role below) rest base goes))
-      (role-follows options (met_leaf all) rest (before-goes (next_role below) rest base goes)))
-      goes;
+      (leaf-open all (proceeded (before-proceeds (next_role below) rest base proceeds))
+      (role-follows options (met_leaf all) rest (before-proceeds (next_role below) rest base proceeds)))
+      proceeds;
   shut =
-      λ e goes follows.
-      blank-follows (next_role below) rest base (spot (step options p (whole line))).leaf leaves e goes follows;
+      λ e proceeds follows.
+      blank-follows (next_role below) rest base (spot (step options p (whole line))).leaf leaves e proceeds follows;
 }
   where
     on : List Taken
@@ -635,12 +638,12 @@ kept-facts options p line below h is = record {
     met-last : IsOpen (met_leaf all) → last_in is.met ≡ None
     met-last o = open-last is.met.leaf is.met.here (subst IsOpen (sym leaf) o)
 
-    went-by : (x : Bool) → IsOpen (met_leaf x) → x ≡ true
-    went-by true o = refl
-    went-by false o = absurd o
+    proceeded-by : (x : Bool) → IsOpen (met_leaf x) → x ≡ true
+    proceeded-by true o = refl
+    proceeded-by false o = absurd o
 
-    went : blocks.goes_on base ≡ true → all ≡ true
-    went goes = went-by all (role-open options (met_leaf all) rest goes)
+    proceeded : blocks.is_continued base ≡ true → all ≡ true
+    proceeded proceeds = proceeded-by all (role-open options (met_leaf all) rest proceeds)
 
     leaf-open : (x : Bool) → x ≡ true → Follows (met_leaf x) base → Follows (spot p).leaf base
     leaf-open true e o = o

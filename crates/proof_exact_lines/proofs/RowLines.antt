@@ -10,7 +10,7 @@ use Rattle.md_engine.specs.declared.event.Name.{Name}
 use Rattle.md_engine.specs.declared.event.Name.TheVariants as n
 use Rattle.md_engine.specs.declared.event.Point.{Point}
 use Rattle.md_meaning.specs.Bytes.{begins, is_end}
-use Rattle.md_meaning.specs.Rest.{Rest, behind_indent, is_blank, run_len, trim_start}
+use Rattle.md_meaning.specs.Rest.{Rest, after_indent, is_blank, run_len, trim_start}
 use Rattle.md_events.specs.Events.Nested.{around}
 use Rattle.md_events.specs.Events.Places.{past_text}
 use Rattle.md_events.proofs.InlineLemmas.{past_text-append}
@@ -29,9 +29,9 @@ use Rattle.md_exact.specs.Leaves.{Inner, cell_dashes, cell_text, past_optional, 
 use Rattle.md_exact.specs.Places.{TextLine, past, piece, white}
 use Rattle.proof_exact_lines.proofs.BeginsAt.{BeginsAt, begins-place, rest_bytes}
 use Rattle.proof_exact_lines.proofs.LeafLines.{end_at, ends-at}
-use Rattle.proof_exact_lines.proofs.Parts.{IsBehind, Stands, piece-is, run-behind, stands-bytes, text-is, text_over}
+use Rattle.proof_exact_lines.proofs.Parts.{IsAfter, Valid, piece-is, run-following, valid-bytes, text-is, text_over}
 use Rattle.proof_exact_lines.proofs.Parts.{three-joined, white-front}
-use Rattle.proof_exact_lines.proofs.CellContent.{IsInner, behind-from, over-white, start-end}
+use Rattle.proof_exact_lines.proofs.CellContent.{IsInner, following-from, over-white, start-end}
 use Rattle.proof_exact_lines.proofs.Cells.{cells-are, optional-front}
 
 -- Texts.
@@ -54,16 +54,16 @@ text-inner : IsInner cell_text (cells.text_part unread_text) Any
 text-inner = record {
   nothing = λ p. refl;
   held =
-      λ line r s p xs ys is behind fits some apart.
-      text-is line Text n.GfmTableCellText r s p xs ys is behind ∙ text-over xs p;
+      λ line r s p xs ys is following fits some apart.
+      text-is line Text n.GfmTableCellText r s p xs ys is following ∙ text-over xs p;
 }
 
 -- Dashes, with a colon perhaps on either side.
 
-left-behind : (left : Bool) (line : TextLine) (r : Rest) (p : Point) (more : List ℕ) →
-    Stands line (colons left ++ (45 ∷ more)) p r → IsBehind line r (colons left) (45 ∷ more) p (past_optional 58 r)
-left-behind true line r p more is = optional-front 58 line r p (58 ∷ 45 ∷ more) is
-left-behind false line r p more is = optional-front 58 line r p (45 ∷ more) is
+left-following : (left : Bool) (line : TextLine) (r : Rest) (p : Point) (more : List ℕ) →
+    Valid line (colons left ++ (45 ∷ more)) p r → IsAfter line r (colons left) (45 ∷ more) p (past_optional 58 r)
+left-following true line r p more is = optional-front 58 line r p (58 ∷ 45 ∷ more) is
+left-following false line r p more is = optional-front 58 line r p (45 ∷ more) is
 
 over-marker : (some : Bool) (p : Point) →
     part_over n.GfmTableDelimiterMarker (colons some) p (past_text (colons some) p) ≡ marker some p
@@ -84,8 +84,8 @@ value-some (b ∷ xs) p some = refl
 -- the three pieces between two rests
 dashes-are : (line : TextLine) (r s : Rest) (p : Point) (left right : Bool) (dashes ys : List ℕ) →
     list_all (λ (b : ℕ). b == 45) dashes ≡ true → begins (λ (b : ℕ). b == 45) ys ≡ false →
-    Stands line (colons left ++ (45 ∷ (dashes ++ (colons right ++ ys)))) p r →
-    Stands line ys (past_text (colons right) (past_text (45 ∷ dashes) (past_text (colons left) p))) s →
+    Valid line (colons left ++ (45 ∷ (dashes ++ (colons right ++ ys)))) p r →
+    Valid line ys (past_text (colons right) (past_text (45 ∷ dashes) (past_text (colons left) p))) s →
     let begin : Rest = past_optional 58 r in
     let end : Rest = past (run_len 45 begin.bytes) begin in
     piece line n.GfmTableDelimiterMarker r begin ++ piece line n.GfmTableDelimiterFiller begin end
@@ -94,12 +94,12 @@ dashes-are : (line : TextLine) (r s : Rest) (p : Point) (left right : Bool) (das
 dashes-are line r s p left right dashes ys are apart is at =
     three-joined
     (piece-is line n.GfmTableDelimiterMarker r begin p (colons left) (all ++ rest) is.at
-    (stands-bytes line (colons left ++ (all ++ rest)) p r is) first ∙ over-marker left p)
-    (piece-is line n.GfmTableDelimiterFiller begin end q all rest first.stands.at
-    (stands-bytes line (all ++ rest) q begin first.stands) second)
-    (piece-is line n.GfmTableDelimiterMarker end s e (colons right) ys second.stands.at
-    (stands-bytes line rest e end second.stands)
-    (behind-from line end s e (colons right) ys second.stands at) ∙ over-marker right e)
+    (valid-bytes line (colons left ++ (all ++ rest)) p r is) first ∙ over-marker left p)
+    (piece-is line n.GfmTableDelimiterFiller begin end q all rest first.valid.at
+    (valid-bytes line (all ++ rest) q begin first.valid) second)
+    (piece-is line n.GfmTableDelimiterMarker end s e (colons right) ys second.valid.at
+    (valid-bytes line rest e end second.valid)
+    (following-from line end s e (colons right) ys second.valid at) ∙ over-marker right e)
   where
     all : List ℕ
     all = 45 ∷ dashes
@@ -119,34 +119,34 @@ dashes-are line r s p left right dashes ys are apart is at =
     end : Rest
     end = past (run_len 45 (past_optional 58 r).bytes) (past_optional 58 r)
 
-    first : IsBehind line r (colons left) (45 ∷ (dashes ++ (colons right ++ ys))) p (past_optional 58 r)
-    first = left-behind left line r p (dashes ++ (colons right ++ ys)) is
+    first : IsAfter line r (colons left) (45 ∷ (dashes ++ (colons right ++ ys))) p (past_optional 58 r)
+    first = left-following left line r p (dashes ++ (colons right ++ ys)) is
 
     passes : AllPass (λ (b : ℕ). b == 45) (45 ∷ dashes)
     passes = AllPass-from_list_all (λ (b : ℕ). b == 45) (45 ∷ dashes) are
 
-    second : IsBehind line (past_optional 58 r) (45 ∷ dashes) (colons right ++ ys) (past_text (colons left) p)
+    second : IsAfter line (past_optional 58 r) (45 ∷ dashes) (colons right ++ ys) (past_text (colons left) p)
         (past (run_len 45 (past_optional 58 r).bytes) (past_optional 58 r))
     second =
-        run-behind (λ (b : ℕ). b == 45) line begin q all rest first.stands passes (no-dash right ys apart)
+        run-following (λ (b : ℕ). b == 45) line begin q all rest first.valid passes (no-dash right ys apart)
 
 dashes-inner : IsInner cell_dashes value_part IsValue
 dashes-inner = record { nothing = λ p. refl; held = held }
   where
-    held : (line : TextLine) (r s : Rest) (p : Point) (xs ys : List ℕ) → Stands line (xs ++ ys) p r →
-        IsBehind line r xs ys p s → IsValue xs → is_end xs ≡ false → begins (λ (b : ℕ). b == 45) ys ≡ false →
+    held : (line : TextLine) (r s : Rest) (p : Point) (xs ys : List ℕ) → Valid line (xs ++ ys) p r →
+        IsAfter line r xs ys p s → IsValue xs → is_end xs ≡ false → begins (λ (b : ℕ). b == 45) ys ≡ false →
         cell_dashes line r s ≡ value_part xs p
-    held line r s p xs ys is behind value some apart =
+    held line r s p xs ys is following value some apart =
         ap₂
         (λ (a b : Point).
         around n.GfmTableDelimiterCellValue a b
         (piece line n.GfmTableDelimiterMarker r begin ++ piece line n.GfmTableDelimiterFiller begin end
         ++ piece line n.GfmTableDelimiterMarker end s))
-        (begins-place line r p is.at) (begins-place line s (past_text xs p) behind.stands.at)
+        (begins-place line r p is.at) (begins-place line s (past_text xs p) following.valid.at)
         ∙ ap (around n.GfmTableDelimiterCellValue p (past_text xs p))
         (dashes-are line r s p a.left a.right a.dashes ys a.are apart
-        (subst (λ (l : List ℕ). Stands line l p r) bytes is)
-        (subst (λ (z : Point). Stands line ys z s) there behind.stands)
+        (subst (λ (l : List ℕ). Valid line l p r) bytes is)
+        (subst (λ (z : Point). Valid line ys z s) there following.valid)
         ∙ sym (ap (λ (l : List ℕ). delimiter_runs Apart l p) a.is ∙ value-runs a.left a.dashes a.right p a.are))
         ∙ sym (value-some xs p some)
       where
@@ -184,25 +184,25 @@ row-cells name cell inner held Fits known line r p at dark fits =
     ap₂
     (λ (a b : Point).
     around name a b
-    (white line r (behind_indent r) ++ exact.cells (length r.bytes) cell inner line (behind_indent r)))
+    (white line r (after_indent r) ++ exact.cells (length r.bytes) cell inner line (after_indent r)))
     (begins-place line r p at) (ends-at line r p at)
     ∙ ap₂ (λ (es fs : List Event). around name p (end_at r p) (es ++ fs))
-    (piece-is line n.SpaceOrTab r (behind_indent r) p (white_front all) (trim_start all) at (front-whole all) first
+    (piece-is line n.SpaceOrTab r (after_indent r) p (white_front all) (trim_start all) at (front-whole all) first
     ∙ over-white (white_front all) p)
-    (cells-are cell inner held Fits known (length r.bytes) line (behind_indent r) (past_text (white_front all) p)
-    (trim_start all) first.stands (start-end all ∙ dark) fewer fits)
+    (cells-are cell inner held Fits known (length r.bytes) line (after_indent r) (past_text (white_front all) p)
+    (trim_start all) first.valid (start-end all ∙ dark) fewer fits)
   where
     all : List ℕ
     all = rest_bytes r
 
-    first : IsBehind line r (white_front (rest_bytes r)) (trim_start (rest_bytes r)) p (behind_indent r)
+    first : IsAfter line r (white_front (rest_bytes r)) (trim_start (rest_bytes r)) p (after_indent r)
     first = white-front line r p (rest_bytes r) at refl
 
     fewer : length (trim_start (rest_bytes r)) ≤ length r.bytes
     fewer =
-        let same : length (behind_indent r).bytes ≡ length (trim_start (rest_bytes r)) =
-        ap (λ (l : List ℕ). length l) first.stands.bytes_are in
-        let less : length (behind_indent r).bytes ≤ length r.bytes = first.fewer in
+        let same : length (after_indent r).bytes ≡ length (trim_start (rest_bytes r)) =
+        ap (λ (l : List ℕ). length l) first.valid.bytes_are in
+        let less : length (after_indent r).bytes ≤ length r.bytes = first.fewer in
         omega (arith, same, less)
 
 -- a row of texts,

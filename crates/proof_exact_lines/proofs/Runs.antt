@@ -14,7 +14,7 @@ use Rattle.md_engine.specs.declared.event.Point.{Point}
 use Rattle.md_leaves.proofs.TitleRuns.{pass-first, pass-rest}
 use Rattle.md_leaves.proofs.TitleTexts.{front-passes, front-stops}
 use Rattle.md_meaning.specs.Bytes.{begins}
-use Rattle.md_meaning.specs.Rest.{Rest, behind_indent, is_white, run_len}
+use Rattle.md_meaning.specs.Rest.{Rest, after_indent, is_white, run_len}
 use Rattle.md_meaning.specs.Texts.{first_byte}
 use Rattle.md_events.specs.Events.Nested.{enter, exit}
 use Rattle.md_events.specs.Events.Places.{past_byte, past_text}
@@ -24,8 +24,8 @@ use Rattle.proof_frame.specs.LineColumns.{part_over}
 use Rattle.md_exact.specs.Leaves.{runs, runs_line}
 use Rattle.md_exact.specs.Places.{TextLine, past}
 use Rattle.proof_exact_lines.proofs.BeginsAt.{BeginsAt, rest_bytes}
-use Rattle.proof_exact_lines.proofs.Parts.{IsBehind, Stands, piece-is, run-behind, stands-bytes, three-joined}
-use Rattle.proof_exact_lines.proofs.Parts.{white-behind}
+use Rattle.proof_exact_lines.proofs.Parts.{IsAfter, Valid, piece-is, run-following, valid-bytes, three-joined}
+use Rattle.proof_exact_lines.proofs.Parts.{white-following}
 
 -- a marker, or whitespace
 abbrev pub is_mark : ℕ → ℕ → Bool
@@ -52,7 +52,7 @@ record NextRuns (m : ℕ) (bytes : List ℕ) : Type 0 where
   marks_are : AllPass (λ (b : ℕ). b == m) marks
   apart : begins is_white (marks ++ more) ≡ false
   stops : begins (λ (b : ℕ). b == m) more ≡ false
-  behind : AreMarks m (marks ++ more)
+  following : AreMarks m (marks ++ more)
   left : AreMarks m more
   some : marks ≡ [] → more ≡ []
 
@@ -80,15 +80,15 @@ next-runs m bytes h =
       more = more;
       is = all;
       white_is = front-passes is_white bytes;
-      marks_are = front-passes (λ (b : ℕ). b == m) behind;
+      marks_are = front-passes (λ (b : ℕ). b == m) following;
       apart = apart;
-      stops = front-stops (λ (b : ℕ). b == m) behind;
-      behind = parts.1;
+      stops = front-stops (λ (b : ℕ). b == m) following;
+      following = parts.1;
       left =
           (and_parts (list_all (is_mark m) marks) (list_all (is_mark m) more)
           (sym (list_all-append (is_mark m) marks more) ∙ parts.1)).1;
       some =
-          run-some m behind (ap (list_all (is_mark m)) (sym whole) ∙ parts.1) (front-stops is_white bytes);
+          run-some m following (ap (list_all (is_mark m)) (sym whole) ∙ parts.1) (front-stops is_white bytes);
     }
   where
     w : ℕ
@@ -97,17 +97,17 @@ next-runs m bytes h =
     white : List ℕ
     white = take w bytes
 
-    behind : List ℕ
-    behind = drop w bytes
+    following : List ℕ
+    following = drop w bytes
 
     marks : List ℕ
-    marks = take (run_len m behind) behind
+    marks = take (run_len m following) following
 
     more : List ℕ
-    more = drop (run_len m behind) behind
+    more = drop (run_len m following) following
 
-    whole : marks ++ more ≡ behind
-    whole = take-append-drop (run_len m behind) behind
+    whole : marks ++ more ≡ following
+    whole = take-append-drop (run_len m following) following
 
 -- Their events.
 
@@ -178,25 +178,25 @@ first-marks m (b ∷ bytes) h e =
 -- The runs of a rest, where those of what is left after the next two are known.
 runs-next : (name : Name) (m size : ℕ) (line : TextLine) (r : Rest) (p : Point) → BeginsAt line r p →
     is_white m ≡ false → AreMarks m (rest_bytes r) → length r.bytes ≤ suc size →
-    ((s : Rest) (q : Point) (bytes : List ℕ) → Stands line bytes q s → AreMarks m bytes → length bytes ≤ size →
+    ((s : Rest) (q : Point) (bytes : List ℕ) → Valid line bytes q s → AreMarks m bytes → length bytes ≤ size →
     runs size name line s ≡ mark_runs name Apart m bytes q) →
     runs (suc size) name line r ≡ mark_runs name Apart m (rest_bytes r) p
 runs-next name m size line r p at dark h small further =
     three-joined
     (piece-is line n.SpaceOrTab r marks p x.white (x.marks ++ x.more) at x.is first)
-    (piece-is line name marks after p1 x.marks x.more first.stands.at
-    (stands-bytes line (x.marks ++ x.more) p1 marks first.stands) second)
-    (further after p2 x.more second.stands x.left (fewer x.marks x.some below))
+    (piece-is line name marks after p1 x.marks x.more first.valid.at
+    (valid-bytes line (x.marks ++ x.more) p1 marks first.valid) second)
+    (further after p2 x.more second.valid x.left (fewer x.marks x.some below))
     ∙ ap (λ (es : List Event). part_over n.SpaceOrTab x.white p p1 ++ es)
     (sym (next-marks name m x.marks x.more p1 x.marks_are x.stops))
-    ∙ sym (next-white name m x.white (x.marks ++ x.more) p dark x.white_is x.behind x.apart)
+    ∙ sym (next-white name m x.white (x.marks ++ x.more) p dark x.white_is x.following x.apart)
     ∙ ap (λ (l : List ℕ). mark_runs name Apart m l p) (sym x.is)
   where
     x : NextRuns m (rest_bytes r)
     x = next-runs m (rest_bytes r) h
 
     marks : Rest
-    marks = behind_indent r
+    marks = after_indent r
 
     after : Rest
     after = past (run_len (first_byte marks.bytes) marks.bytes) marks
@@ -207,24 +207,24 @@ runs-next name m size line r p at dark h small further =
     p2 : Point
     p2 = past_text x.marks p1
 
-    first : IsBehind line r x.white (x.marks ++ x.more) p marks
-    first = white-behind line r p x.white (x.marks ++ x.more) at x.is x.white_is x.apart
+    first : IsAfter line r x.white (x.marks ++ x.more) p marks
+    first = white-following line r p x.white (x.marks ++ x.more) at x.is x.white_is x.apart
 
     size_is : run_len m marks.bytes ≡ run_len (first_byte marks.bytes) marks.bytes
     size_is =
         sym
-        (first-marks m marks.bytes (ap (list_all (is_mark m)) first.stands.bytes_are ∙ x.behind)
-        (ap (begins is_white) first.stands.bytes_are ∙ x.apart))
+        (first-marks m marks.bytes (ap (list_all (is_mark m)) first.valid.bytes_are ∙ x.following)
+        (ap (begins is_white) first.valid.bytes_are ∙ x.apart))
 
-    second : IsBehind line marks x.marks x.more p1 after
+    second : IsAfter line marks x.marks x.more p1 after
     second =
-        subst (λ (k : ℕ). IsBehind line marks x.marks x.more p1 (past k marks)) size_is
-        (run-behind (λ (b : ℕ). b == m) line marks p1 x.marks x.more first.stands x.marks_are x.stops)
+        subst (λ (k : ℕ). IsAfter line marks x.marks x.more p1 (past k marks)) size_is
+        (run-following (λ (b : ℕ). b == m) line marks p1 x.marks x.more first.valid x.marks_are x.stops)
 
     below : length (x.marks ++ x.more) ≤ suc size
     below =
         let same : length marks.bytes ≡ length (x.marks ++ x.more) =
-        ap (λ (l : List ℕ). length l) first.stands.bytes_are in
+        ap (λ (l : List ℕ). length l) first.valid.bytes_are in
         omega (arith, same, first.fewer, small)
 
     fewer : (marks : List ℕ) → (marks ≡ [] → x.more ≡ []) → length (marks ++ x.more) ≤ suc size → length x.more ≤ size
@@ -234,15 +234,15 @@ runs-next name m size line r p at dark h small further =
         omega (arith, sum, le)
 
 runs-all : (size : ℕ) (name : Name) (m : ℕ) (line : TextLine) (s : Rest) (q : Point) (bytes : List ℕ) →
-    is_white m ≡ false → Stands line bytes q s → AreMarks m bytes → length bytes ≤ size →
+    is_white m ≡ false → Valid line bytes q s → AreMarks m bytes → length bytes ≤ size →
     runs size name line s ≡ mark_runs name Apart m bytes q
 runs-all zero name m line s q [] dark is h le = refl
 runs-all zero name m line s q (b ∷ bytes) dark is h le = absurd (omega (arith, le))
 runs-all (suc size) name m line s q bytes dark is h le =
-    let same : rest_bytes s ≡ bytes = stands-bytes line bytes q s is in
+    let same : rest_bytes s ≡ bytes = valid-bytes line bytes q s is in
     let long : length s.bytes ≡ length bytes = ap (λ (l : List ℕ). length l) is.bytes_are in
     runs-next name m size line s q is.at dark (ap (list_all (is_mark m)) same ∙ h) (omega (arith, long, le))
-    (λ t u more stands marks less. runs-all size name m line t u more dark stands marks less)
+    (λ t u more valid marks less. runs-all size name m line t u more dark valid marks less)
     ∙ ap (λ (l : List ℕ). mark_runs name Apart m l q) same
 
 -- The runs of a line that has more than what is left of a cut tab.
@@ -253,4 +253,4 @@ line-runs name m line r p at dark h some =
     let size : length r.bytes ≡ suc (length r.bytes - 1) = omega arith in
     ap (λ (k : ℕ). runs k name line r) size
     ∙ runs-next name m (length r.bytes - 1) line r p at dark h (omega arith)
-    (λ t u more stands marks less. runs-all (length r.bytes - 1) name m line t u more dark stands marks less)
+    (λ t u more valid marks less. runs-all (length r.bytes - 1) name m line t u more dark valid marks less)

@@ -9,14 +9,14 @@ use Rattle.md_engine.specs.declared.event.Name.TheVariants as n
 use Rattle.md_engine.specs.declared.event.Point.{Point}
 use Rattle.md_leaves.specs.Further.{further_link}
 use Rattle.md_leaves.specs.Spanned.{has_lines}
-use Rattle.md_meaning.specs.Rest.{Rest, behind_indent}
+use Rattle.md_meaning.specs.Rest.{Rest, after_indent}
 use Rattle.md_meaning.specs.State.{Opening}
 use Rattle.md_events.specs.Events.Nested.{around, enter, enter_link, exit}
 use Rattle.md_events.specs.Events.Spelled.{role}
 use Rattle.proof_frame.specs.Row.{Row as FrameRow, any_framed, but_end, but_ends, end_by, end_of, ending_events}
-use Rattle.proof_frame.specs.Row.{inside_leaf, is_framed, last_row, span_behind, span_by, span_rest}
+use Rattle.proof_frame.specs.Row.{inside_leaf, is_framed, last_row, span_after, span_by, span_rest}
 use Rattle.proof_frame.proofs.LeafLines.Cuts.{but_end-is, but_ends-is, end-is}
-use Rattle.proof_frame.proofs.LeafLines.Framed.{rest-behind}
+use Rattle.proof_frame.proofs.LeafLines.Framed.{rest-following}
 use Rattle.md_exact.specs.Leaves.{fence, fence_part, fenced_line, for_marker, info_parts, joined, last_end, leaf}
 use Rattle.md_exact.specs.Leaves.{onto_next, start}
 use Rattle.md_exact.specs.Places.{TextLine, ending, line_end, place, white}
@@ -88,7 +88,7 @@ next-joined name inside x r y next ys more end lines same line adds framed =
     ap
     (λ (t : Bool).
     cond t (gap ++ inside_leaf next.inside ++ span_rest own (end_by end next.inside) next more)
-    (end ++ span_behind own r (next ∷ more)))
+    (end ++ span_after own r (next ∷ more)))
     framed
     ∙ ap₂ (λ (es fs : List Event). es ++ fs ++ span_rest own (end_by end next.inside) next more) onto
     (inside-is name (inside y.line y.rest) next lines adds)
@@ -106,14 +106,14 @@ rest-joined : (name : Name) (inside : TextLine → Rest → List Event) (x : Row
     EndsFramed (next ∷ rs) → any_framed own more ≡ false →
     span_rest own end r ((next ∷ rs) ++ more) ≡
     (onto_next (x ∷ y ∷ ys) ++ joined inside (y ∷ ys))
-    ++ exit name (last_row next rs).end ∷ span_behind own (last_row next rs) more
+    ++ exit name (last_row next rs).end ∷ span_after own (last_row next rs) more
 rest-joined name inside x r y next [] [] more end lines same are ends none =
     next-joined name inside x r y next [] more end lines same are.0 are.1 (any-framed next [] more ends)
     ∙ ap (λ (es : List Event). front ++ span_rest own es next more)
     (ap (λ (t : Bool). cond t (end_of next.inside) end) ends
     ∙ end-framed name (inside y.line y.rest) next are.1 ends)
-    ∙ ap (λ (es : List Event). front ++ es) (rest-behind own (exit name next.end ∷ []) next more none)
-    ∙ ap (λ (es : List Event). (onto_next (x ∷ y ∷ []) ++ es) ++ exit name next.end ∷ span_behind own next more)
+    ∙ ap (λ (es : List Event). front ++ es) (rest-following own (exit name next.end ∷ []) next more none)
+    ∙ ap (λ (es : List Event). (onto_next (x ∷ y ∷ []) ++ es) ++ exit name next.end ∷ span_after own next more)
     (sym (append-nil (inside y.line y.rest ++ []) ∙ append-nil (inside y.line y.rest)))
   where
     front : List Event
@@ -124,7 +124,7 @@ rest-joined name inside x r y next (z ∷ ys) (further ∷ rs) more end lines sa
     ∙ ap (λ (es : List Event). (onto_next (x ∷ y ∷ z ∷ ys) ++ inside y.line y.rest) ++ es)
     (rest-joined name inside y next z further ys rs more (end_by end next.inside) lines are.0 are.2 ends none)
     ∙ regroup (onto_next (x ∷ y ∷ z ∷ ys)) (inside y.line y.rest) (onto_next (y ∷ z ∷ ys)) (joined inside (z ∷ ys))
-    (exit name (last_row further rs).end ∷ span_behind own (last_row further rs) more)
+    (exit name (last_row further rs).end ∷ span_after own (last_row further rs) more)
   where
     regroup : (a b c d e : List Event) → (a ++ b) ++ ((c ++ d) ++ e) ≡ (a ++ ((b ++ c) ++ d)) ++ e
     regroup a b c d e = simp append_assoc
@@ -138,7 +138,7 @@ pub span-joined : (name : Name) (inside : TextLine → Rest → List Event) (x :
     AreLines name inside xs rs → EndsFramed rs → any_framed own more ≡ false →
     span_by own r (rs ++ more) ≡
     lead ++ around name at (last_row r rs).end (first ++ onto_next (x ∷ xs) ++ joined inside xs)
-    ++ span_behind own (last_row r rs) more
+    ++ span_after own (last_row r rs) more
 span-joined name inside x r xs rs more lead first at lines same is are ends none =
     ap₂ (λ (es fs : List Event). es ++ span_rest own fs r (rs ++ more)) begin end
     ∙ go xs rs are ends
@@ -163,18 +163,18 @@ span-joined name inside x r xs rs more lead first at lines same is are ends none
     go : (xs : List Row) (rs : List FrameRow) → AreLines name inside xs rs → EndsFramed rs →
         (lead ++ enter name at ∷ first) ++ span_rest own (exit name r.end ∷ []) r (rs ++ more) ≡
         lead ++ around name at (last_row r rs).end (first ++ onto_next (x ∷ xs) ++ joined inside xs)
-        ++ span_behind own (last_row r rs) more
+        ++ span_after own (last_row r rs) more
     go [] [] are ends =
         ap (λ (es : List Event). (lead ++ enter name at ∷ first) ++ es)
-        (rest-behind own (exit name r.end ∷ []) r more none)
-        ∙ regroup first (enter name at) (exit name r.end) (span_behind own r more)
-        ∙ ap (λ (es : List Event). (lead ++ around name at r.end es) ++ span_behind own r more)
+        (rest-following own (exit name r.end ∷ []) r more none)
+        ∙ regroup first (enter name at) (exit name r.end) (span_after own r more)
+        ∙ ap (λ (es : List Event). (lead ++ around name at r.end es) ++ span_after own r more)
         (sym (append-nil (first ++ []) ∙ append-nil first))
     go (y ∷ ys) (next ∷ rs) are ends =
         ap (λ (es : List Event). (lead ++ enter name at ∷ first) ++ es)
         (rest-joined name inside x r y next ys rs more (exit name r.end ∷ []) lines same are ends none)
         ∙ further (onto_next (x ∷ y ∷ ys)) (joined inside (y ∷ ys)) (enter name at) (exit name (last_row next rs).end)
-        (span_behind own (last_row next rs) more)
+        (span_after own (last_row next rs) more)
     go [] (next ∷ rs) are ends = absurd are
     go (y ∷ ys) [] are ends = absurd are
 
@@ -193,18 +193,18 @@ pub leaf-joined : (name : Name) (inside : TextLine → Rest → List Event) (x :
     (xs : List Row) (rs more : List FrameRow) →
     has_lines (role name) ≡ true → SameLine x r → r.inside ≡ around name r.first r.end (inside x.line x.rest) →
     AreLines name inside xs rs → EndsFramed rs → any_framed own more ≡ false →
-    span_by own r (rs ++ more) ≡ leaf name inside (x ∷ xs) ++ span_behind own (last_row r rs) more
+    span_by own r (rs ++ more) ≡ leaf name inside (x ∷ xs) ++ span_after own (last_row r rs) more
 leaf-joined name inside x r xs rs more lines same is are ends none =
     span-joined name inside x r xs rs more [] (inside x.line x.rest) r.first lines same is are ends none
     ∙ ap₂
-    (λ (p q : Point). around name p q (joined inside (x ∷ xs)) ++ span_behind own (last_row r rs) more)
+    (λ (p q : Point). around name p q (joined inside (x ∷ xs)) ++ span_after own (last_row r rs) more)
     (sym same.begin) (sym (last-ends name inside x r xs rs same.end are))
 
 -- Fences, where the opening line is its indent and a fence.
 pub fence-joined : (options : ParseOptions) (o : Opening) (x : Row) (r : FrameRow) (xs : List Row)
     (rs : List FrameRow) →
     let name : Name = for_marker o.marker n.CodeFenced n.MathFlow in
-    let opening : Rest = behind_indent x.rest in
+    let opening : Rest = after_indent x.rest in
     has_lines (role name) ≡ true → SameLine x r →
     r.inside ≡
     white x.line x.rest opening
@@ -226,7 +226,7 @@ fence-joined options o x r xs rs lines same is are ends =
     name = for_marker o.marker n.CodeFenced n.MathFlow
 
     opening : Rest
-    opening = behind_indent x.rest
+    opening = after_indent x.rest
 
     first : List Event
     first = fence_part o.marker x.line opening (info_parts o.marker x.line)

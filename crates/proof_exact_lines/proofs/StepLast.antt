@@ -15,7 +15,7 @@ use Rattle.md_meaning.specs.Step.{lazy_by, leaf_line, spot_of, step, stopped, st
 use Rattle.md_meaning.specs.Step as step
 use Rattle.md_meaning.specs.Tree.{Blocks, End}
 use Rattle.md_meaning.proofs.ContainerLemmas.{opens-leaves}
-use Rattle.md_exact.specs.Prefixes.{behind_all, blocks_before, containers, gone_on, new_containers, opened}
+use Rattle.md_exact.specs.Prefixes.{following_all, blocks_before, containers, taken_prefixes, new_containers, opened}
 use Rattle.proof_exact_lines.specs.Last.{HasLine, item_of, last_at, last_in, last_of, marker_in}
 use Rattle.proof_exact_lines.proofs.LeafLast.{Ends, fresh-blank, fresh-ends, last-then, leaf-last}
 
@@ -91,7 +91,7 @@ opened-first options interrupting r = go (length r.bytes) refl
 -- what is open in the innermost container that continued: these containers, with no block before any of them
 record Inside (r : Rest) (p : Path) (ts : List Taken) : Type 0 where
   held : containers p ≡ held_in ts
-  blank : is_blank (behind_all r ts).bytes ≡ true → (spot p).leaf ≡ NoLeaf
+  blank : is_blank (following_all r ts).bytes ≡ true → (spot p).leaf ≡ NoLeaf
   ends : Ends (spot p)
   before : (depth : ℕ) → blocks_before depth p ≡ End
 
@@ -137,19 +137,19 @@ opened-inside options (suc n) r = go (opened-inside options n) (opens options fa
 -- What is open after a line.
 
 -- whether all of the open containers continue
-abbrev goes_all : ParseOptions → Path → Rest → Bool
-goes_all options (At s) r = true
-goes_all options (Within before c p) r = elim (continues options c r) [
-  | Some t ↦ goes_all options p t.rest
+abbrev all_continue : ParseOptions → Path → Rest → Bool
+all_continue options (At s) r = true
+all_continue options (Within before c p) r = elim (continues options c r) [
+  | Some t ↦ all_continue options p t.rest
   | None ↦ false
 ]
 
 -- the containers that open after those that continue, and the rest of the line after all
 abbrev pub new_of : ParseOptions → Path → Bool → Rest → List Taken → List Taken
-new_of options p all r on = new_containers options p all (behind_all r on)
+new_of options p all r on = new_containers options p all (following_all r on)
 
 abbrev pub rest_of : Rest → List Taken → List Taken → Rest
-rest_of r on new = behind_all (behind_all r on) new
+rest_of r on new = following_all (following_all r on) new
 
 -- whether the line is lazy, where none opens
 abbrev pub lazy_of : ParseOptions → Path → Bool → Rest → Bool
@@ -338,8 +338,8 @@ more-size : (n m : ℕ) → (n == m) ≡ (suc n == suc m)
 more-size n m = search rules
 
 facts-by : (options : ParseOptions) (p : Path) (r : Rest) → HasLine (spot p).leaf →
-    let on = gone_on options p r in
-    let all = goes_all options p r in
+    let on = taken_prefixes options p r in
+    let all = all_continue options p r in
     Facts options p all r on (new_of options p all r on) (step options p r)
 unfolding all_continued stopped
 facts-by options (At s) r h =
@@ -360,11 +360,11 @@ facts-by options (At s) r h =
 facts-by options (Within before c p) r h = go (λ s. facts-by options p s h) (continues options c r)
   where
     go : ((s : Rest) →
-        let on = gone_on options p s in
-        let all = goes_all options p s in Facts options p all s on (new_of options p all s on) (step options p s)) →
+        let on = taken_prefixes options p s in
+        let all = all_continue options p s in Facts options p all s on (new_of options p all s on) (step options p s)) →
         (o : Option Taken) →
-        let on : List Taken = elim o [ Some t ↦ t ∷ gone_on options p t.rest | None ↦ [] ] in
-        let all : Bool = elim o [ Some t ↦ goes_all options p t.rest | None ↦ false ] in
+        let on : List Taken = elim o [ Some t ↦ t ∷ taken_prefixes options p t.rest | None ↦ [] ] in
+        let all : Bool = elim o [ Some t ↦ all_continue options p t.rest | None ↦ false ] in
         Facts options (Within before c p) all r on (new_of options (Within before c p) all r on)
         (elim o [
           | Some t ↦ Within before t.container (step options p t.rest)
@@ -375,30 +375,30 @@ facts-by options (Within before c p) r h = go (λ s. facts-by options p s h) (co
         (λ (new : List Taken). Facts options (Within before c p) false r [] new (stopped options before c p r))
         (sym (opened-first options false r)) (stopped-facts options before c p r (opens options false r))
     go below (Some t) =
-        let on : List Taken = gone_on options p t.rest in
-        let all : Bool = goes_all options p t.rest in
+        let on : List Taken = taken_prefixes options p t.rest in
+        let all : Bool = all_continue options p t.rest in
         within-facts options before c p r t all on (new_of options p all t.rest on) (step options p t.rest)
         (below t.rest)
 
 -- all continue if they are as many as were open
-all-went : (options : ParseOptions) (p : Path) (r : Rest) →
-    goes_all options p r ≡ (length (gone_on options p r) == length (containers p))
-all-went options (At s) r = refl
-all-went options (Within before c p) r = go (all-went options p) (continues options c r)
+all-proceeded : (options : ParseOptions) (p : Path) (r : Rest) →
+    all_continue options p r ≡ (length (taken_prefixes options p r) == length (containers p))
+all-proceeded options (At s) r = refl
+all-proceeded options (Within before c p) r = go (all-proceeded options p) (continues options c r)
   where
-    go : ((s : Rest) → goes_all options p s ≡ (length (gone_on options p s) == length (containers p))) →
+    go : ((s : Rest) → all_continue options p s ≡ (length (taken_prefixes options p s) == length (containers p))) →
         (o : Option Taken) →
-        let on : List Taken = elim o [ Some t ↦ t ∷ gone_on options p t.rest | None ↦ [] ] in
-        let all : Bool = elim o [ Some t ↦ goes_all options p t.rest | None ↦ false ] in
+        let on : List Taken = elim o [ Some t ↦ t ∷ taken_prefixes options p t.rest | None ↦ [] ] in
+        let all : Bool = elim o [ Some t ↦ all_continue options p t.rest | None ↦ false ] in
         all ≡ (length on == suc (length (containers p)))
     go below None = no-size (length (containers p))
-    go below (Some t) = below t.rest ∙ more-size (length (gone_on options p t.rest)) (length (containers p))
+    go below (Some t) = below t.rest ∙ more-size (length (taken_prefixes options p t.rest)) (length (containers p))
 
 pub step-facts : (options : ParseOptions) (p : Path) (r : Rest) → HasLine (spot p).leaf →
-    let on = gone_on options p r in
+    let on = taken_prefixes options p r in
     let all = length on == length (containers p) in
     Facts options p all r on (new_of options p all r on) (step options p r)
 step-facts options p r h =
-    let on : List Taken = gone_on options p r in
+    let on : List Taken = taken_prefixes options p r in
     subst (λ (all : Bool). Facts options p all r on (new_of options p all r on) (step options p r))
-    (all-went options p r) (facts-by options p r h)
+    (all-proceeded options p r) (facts-by options p r h)

@@ -24,7 +24,7 @@ use Rattle.md_exact.specs.Places.{chunk, is_same, next_line, past, place}
 use Rattle.md_exact.specs.Rows.{Row}
 use Rattle.md_exact.specs.Texts.{chunks as row_chunks}
 use Rattle.md_exact.proofs.PieceLemmas.{same-on}
-use Rattle.proof_content_laws.proofs.Defined.Along.{IsTurn, Stands, Steps, Turn, no_line}
+use Rattle.proof_content_laws.proofs.Defined.Along.{IsTurn, Valid, Steps, Turn, no_line}
 use Rattle.proof_content_laws.proofs.Defined.Takes as Line
 use Rattle.proof_content_laws.proofs.Defined.Takes.{Takes, Walk, on-line, over-end, takes-end, takes-none}
 use Rattle.proof_content_laws.proofs.Defined.Takes.{takes-quiet, takes-then}
@@ -61,27 +61,27 @@ pub record Further (text : List ℕ) (row : Row) (p q : Point) (xs rest stop : L
   pub bytes : p.vs ≡ 0 → q.index ≡ p.index + size
 
 pub further-on : (text : List ℕ) (row : Row) (p : Point) (xs rest stop : List Cell) → Begins text row p →
-    Stands text p → Steps text p xs → (point_after xs p).vs ≡ 0 → Stops stop →
+    Valid text p → Steps text p xs → (point_after xs p).vs ≡ 0 → Stops stop →
     xs ++ rest ≡ rest_cells no_line row.rest p ++ stop → Further text row p (point_after xs p) xs rest stop
-further-on text row p xs rest stop h stands steps whole stops e = record {
+further-on text row p xs rest stop h valid steps whole stops e = record {
   size = on.size;
   fits = on.fits;
   begins = record {
-    behind = h.behind;
+    following = h.following;
     line_in = h.line_in;
     on = on.on;
     plain = no_ending-drop on.size row.rest.bytes h.plain;
   };
   cells_are = on.cells;
   same =
-      same-on text h.behind row.rest (past on.size row.rest) p (point_after xs p) h.on.stands on.on.stands h.on.placed
+      same-on text h.following row.rest (past on.size row.rest) p (point_after xs p) h.on.valid on.on.valid h.on.placed
       on.on.placed;
   some = on.some;
-  bytes = λ whole_here. uncut row.rest.spaces h.on.stands.cut whole_here on.index;
+  bytes = λ whole_here. uncut row.rest.spaces h.on.valid.cut whole_here on.index;
 }
   where
-    on : RestOn text h.behind row.line row.rest p (point_after xs p) xs rest stop
-    on = rest-on text h.behind row.line row.rest p xs rest stop h.on stands steps whole stops e
+    on : RestOn text h.following row.line row.rest p (point_after xs p) xs rest stop
+    on = rest-on text h.following row.line row.rest p xs rest stop h.on valid steps whole stops e
 
     uncut : (spaces : ℕ) → Cut spaces p → p.vs ≡ 0 →
         (point_after xs p).index ≡ p.index + length (cut_tab spaces ++ take on.size row.rest.bytes) →
@@ -102,23 +102,23 @@ pub record LineOn (text : List ℕ) (row : Row) (rows : List Row) (p q : Point) 
   pub bytes : p.vs ≡ 0 → q.index ≡ p.index + size
 
 pub line-on : (text : List ℕ) (row : Row) (rows : List Row) (p : Point) (xs rest : List Cell) (turns : List Turn) →
-    Along text (row ∷ rows) p (xs ++ rest) turns → Stands text p → Steps text p xs → (point_after xs p).vs ≡ 0 →
+    Along text (row ∷ rows) p (xs ++ rest) turns → Valid text p → Steps text p xs → (point_after xs p).vs ≡ 0 →
     LineOn text row rows p (point_after xs p) xs rest turns
-line-on text row [] p xs rest turns h stands steps whole =
-    let f = further-on text row p xs rest h.stop h.begins stands steps whole (subst Stops (sym h.behind.0) tt)
+line-on text row [] p xs rest turns h valid steps whole =
+    let f = further-on text row p xs rest h.stop h.begins valid steps whole (subst Stops (sym h.following.0) tt)
     h.cells_are in
     record {
       size = f.size;
       fits = f.fits;
-      along = record { begins = f.begins; stop = h.stop; cells_are = f.cells_are; behind = h.behind };
+      along = record { begins = f.begins; stop = h.stop; cells_are = f.cells_are; following = h.following };
       place = begins-place text (at row (past f.size row.rest)) (point_after xs p) f.begins;
       same = f.same;
       some = f.some;
       bytes = f.bytes;
     }
-line-on text row (next ∷ rows) p xs rest turns h stands steps whole =
-    let o = h.behind in
-    let f = further-on text row p xs rest h.stop h.begins stands steps whole (subst Stops (sym o.stop_is) o.ten)
+line-on text row (next ∷ rows) p xs rest turns h valid steps whole =
+    let o = h.following in
+    let f = further-on text row p xs rest h.stop h.begins valid steps whole (subst Stops (sym o.stop_is) o.ten)
     h.cells_are in
     record {
       size = f.size;
@@ -127,7 +127,7 @@ line-on text row (next ∷ rows) p xs rest turns h stands steps whole =
         begins = f.begins;
         stop = h.stop;
         cells_are = f.cells_are;
-        behind = over-at (Along text (next ∷ rows)) row next (past f.size row.rest) h.stop turns o;
+        following = over-at (Along text (next ∷ rows)) row next (past f.size row.rest) h.stop turns o;
       };
       place = begins-place text (at row (past f.size row.rest)) (point_after xs p) f.begins;
       same = f.same;
@@ -154,13 +154,13 @@ pub next-on : (text : List ℕ) (row : Row) (rows : List Row) (p e : Point) (lin
 next-on text row [] p e line d more turns left none ten h turn =
     let parts = same-split line (rest_cells no_line row.rest p) (d ∷ more) h.stop none
     (row-plain text row p h.begins) ten
-    (subst Stops (sym h.behind.0) tt) h.cells_are in
-    absurd (no (parts.1 ∙ h.behind.0))
+    (subst Stops (sym h.following.0) tt) h.cells_are in
+    absurd (no (parts.1 ∙ h.following.0))
   where
     no : d ∷ more ≡ [] → ⊥
     no e = cc
 next-on text row (next ∷ rows) p e line d more turns left none ten h turn =
-    let o = h.behind in
+    let o = h.following in
     let parts = same-split line (rest_cells no_line row.rest p) (d ∷ more) h.stop none
     (row-plain text row p h.begins) ten
     (subst Stops (sym o.stop_is) o.ten) h.cells_are in
@@ -287,7 +287,7 @@ text-here text last p cells turns rest row rows none walk along whole = record {
     line = on-line text last p cells rest turns none walk
 
     on : LineOn text row rows p q cells rest turns
-    on = line-on text row rows p cells rest turns along walk.stands line.steps whole
+    on = line-on text row rows p cells rest turns along walk.valid line.steps whole
 
     events : row_chunks String (row ∷ rows) (at row (past on.size row.rest) ∷ rows) ≡
         cond (same_place p q) [] (chunk String p q)

@@ -15,8 +15,8 @@ use Rattle.md_tables.specs.RowCells.{row_events, unread_text}
 use Rattle.proof_frame.specs.Row.{Row as FrameRow, ending_events, last_row, row_line}
 use Rattle.proof_table_laws.specs.Headed.{headed_unread}
 use Rattle.proof_table_laws.proofs.GfmTable.DelimiterRowCells.{AreDelimiters, columns-cells}
-use Rattle.proof_table_laws.proofs.GfmTable.TableForm.{AreBodyRows, IsFilledLine, IsTable, body_behind, delimiter_part}
-use Rattle.proof_table_laws.proofs.GfmTable.TableForm.{gap_events, head_events, row_part, rows_behind, table_events}
+use Rattle.proof_table_laws.proofs.GfmTable.TableForm.{AreBodyRows, IsFilledLine, IsTable, body_after, delimiter_part}
+use Rattle.proof_table_laws.proofs.GfmTable.TableForm.{gap_events, head_events, row_part, rows_after, table_events}
 use Rattle.proof_table_laws.proofs.GfmTable.TableUnread.{line-dark, table-unread}
 use Rattle.md_exact.specs.Leaves.{delimiter_row, joined, last_end, leaf, onto_next, start, table, text_row}
 use Rattle.md_exact.specs.Places.{ending, line_end, place}
@@ -38,19 +38,19 @@ pub record IsTableLine (bytes : List ℕ) (x : Row) (r : FrameRow) : Type 0 wher
   pub line : row_line bytes r ≡ rest_bytes x.rest
 
 -- So it is where the rest of the line is at a point of the text, from which flow has read the line to its end.
-pub table-line : (text behind : List ℕ) (x : Row) (r : FrameRow) → LineIn text behind x.line →
-    OnLine text behind x.line x.rest r.first → r.end ≡ end_at x.rest r.first →
+pub table-line : (text following : List ℕ) (x : Row) (r : FrameRow) → LineIn text following x.line →
+    OnLine text following x.line x.rest r.first → r.end ≡ end_at x.rest r.first →
     ((name : Name) → ending name x.line ≡ ending_events name r) → x.front ≡ r.front → IsTableLine text x r
-table-line text behind x r is on end endings front = record {
+table-line text following x r is on end endings front = record {
   read = read;
   same = same-line x r read endings front;
   line =
-      slice-front text r.first.index r.end.index (rest_bytes x.rest) behind on.stands.text_is
+      slice-front text r.first.index r.end.index (rest_bytes x.rest) following on.valid.text_is
       (ap (λ (q : Point). q.index) end ∙ past-index (rest_bytes x.rest) r.first);
 }
   where
     read : ReadAs x r
-    read = record { at = on-begins text behind x.line x.rest r.first is on; end = end }
+    read = record { at = on-begins text following x.line x.rest r.first is on; end = end }
 
 abbrev pub AreTableLines : List ℕ → List Row → List FrameRow → Type 0
 AreTableLines bytes [] [] = Unit {0}
@@ -96,7 +96,7 @@ last-end bytes x r (y ∷ ys) [] is are = absurd are
 -- its rows, from one on
 rows-joined : (bytes : List ℕ) (before : FrameRow) (x : Row) (r : FrameRow) (xs : List Row) (rs : List FrameRow) →
     IsTableLine bytes x r → AreTableLines bytes xs rs → AreBodyRows bytes before (r ∷ rs) →
-    joined text_row (x ∷ xs) ≡ row_part unread_text bytes r ++ rows_behind unread_text bytes r rs
+    joined text_row (x ∷ xs) ≡ row_part unread_text bytes r ++ rows_after unread_text bytes r rs
 rows-joined bytes before x r [] [] is are body =
     append-nil (text_row x.line x.rest ++ [])
     ∙ ap (λ (es : List Event). es ++ []) (row-part bytes x r is body.0.line)
@@ -108,7 +108,7 @@ rows-joined bytes before x r (y ∷ ys) [] is are body = absurd are
 
 body-joined : (bytes : List ℕ) (x : Row) (r : FrameRow) (xs : List Row) (rs : List FrameRow) → IsTableLine bytes x r →
     AreTableLines bytes xs rs → AreBodyRows bytes r rs →
-    onto_next (x ∷ xs) ++ leaf n.GfmTableBody text_row xs ≡ body_behind unread_text bytes r rs
+    onto_next (x ∷ xs) ++ leaf n.GfmTableBody text_row xs ≡ body_after unread_text bytes r rs
 body-joined bytes x r [] [] is are body = refl
 body-joined bytes x r (y ∷ ys) (next ∷ rs) is are body =
     ap₂ (λ (es fs : List Event). es ++ fs) (gap-is x y ys r next is.same are.0.same)

@@ -13,20 +13,20 @@ use Rattle.md_engine.specs.declared.event.Name.TheVariants as n
 use Rattle.md_meaning.specs.Ascii.{less_than}
 use Rattle.md_meaning.specs.Definition.{Destination, after_gap, definition_at, destination_at, label_at, title_closer}
 use Rattle.md_meaning.specs.Enclosed.{Lines, enclosed_lines}
-use Rattle.md_meaning.specs.Rest.{Rest, behind_indent, is_blank}
+use Rattle.md_meaning.specs.Rest.{Rest, after_indent, is_blank}
 use Rattle.md_events.specs.Events.Blocks.{is_block}
 use Rattle.md_events.specs.Events.Spelled.{role}
 use Rattle.md_containers.specs.Listed.{is_item, next_item}
 use Rattle.md_exact.specs.Leaves.{first_end, last_end, leaf, onto_next, runs_line, span, start}
 use Rattle.md_exact.specs.Places.{TextLine, chunk, is_same, line_end, next_line, past, white}
 use Rattle.md_exact.specs.Rows.{Row}
-use Rattle.md_exact.specs.Texts.{ahead, back, behind_destination, behind_gap, behind_label, behind_title, chunks}
+use Rattle.md_exact.specs.Texts.{ahead, back, after_destination, following_gap, after_label, after_title, chunks}
 use Rattle.md_exact.specs.Texts.{definition, definition_end, destination_part, enclosed_part, gap, has_title}
 use Rattle.md_exact.specs.Texts.{is_underline}
 use Rattle.md_exact.specs.Texts.{left, lines_left, mark, next_byte, on_first, remaining, text, text_events, text_span}
 use Rattle.proof_exact_lines.specs.Unlisted.{NoneIs}
-use Rattle.proof_exact_lines.proofs.LeafEvents.{NoItem, Plain, item-append, item-around, item-chunk, leaf-items, next-none}
-use Rattle.proof_exact_lines.proofs.LeafEvents.{runs_line-items}
+use Rattle.proof_exact_lines.proofs.LeafEvents.{NoItem, Plain, item-append, item-around, item-chunk, leaf-items}
+use Rattle.proof_exact_lines.proofs.LeafEvents.{next-none, runs_line-items}
 use Rattle.proof_exact_lines.proofs.ListWalk.{next-passes, none-append, none-items, none-piece}
 
 -- Places in a text.
@@ -68,14 +68,14 @@ left-further : (rows : List Row) (lines : List (List ℕ)) → Further rows → 
 left-further rows [] h = tt
 left-further rows (bytes ∷ more) h = ahead-further rows (length more) (length bytes) h
 
-label-further : (rows : List Row) → Further rows → Further (behind_label rows)
+label-further : (rows : List Row) → Further rows → Further (after_label rows)
 label-further rows h = go (label_at (lines_left rows))
   where
     go : (o : Option Lines) → Further (elim o [ Some label ↦ left rows label.rest | None ↦ [] ])
     go None = tt
     go (Some label) = left-further rows label.rest h
 
-destination-further : (rows : List Row) → Further rows → Further (behind_destination rows)
+destination-further : (rows : List Row) → Further rows → Further (after_destination rows)
 destination-further [] h = tt
 destination-further (row ∷ rows) h = go (destination_at row.rest.bytes)
   where
@@ -84,7 +84,7 @@ destination-further (row ∷ rows) h = go (destination_at row.rest.bytes)
     go None = tt
     go (Some d) = ahead-further (row ∷ rows) (length rows) (length d.rest) h
 
-title-further : (rows : List Row) → Further rows → Further (behind_title rows)
+title-further : (rows : List Row) → Further rows → Further (after_title rows)
 title-further rows h = go (title_closer (next_byte rows))
   where
     text-further : (o : Option Lines) → Further (elim o [ Some text ↦ left rows text.rest | None ↦ [] ])
@@ -103,26 +103,26 @@ title-further rows h = go (title_closer (next_byte rows))
     go None = tt
     go (Some closer) = text-further (enclosed_lines (next_byte rows) closer (lines_left (on_first (past 1) rows)))
 
-gap-further : (rows : List Row) → Further rows → Further (behind_gap rows)
+gap-further : (rows : List Row) → Further rows → Further (following_gap rows)
 gap-further rows h = left-further rows (after_gap (lines_left rows)) h
 
-value-further : (rows : List Row) → Further rows → Further (on_first (past 1) (behind_label rows))
-value-further rows h = on_first-further (past 1) (behind_label rows) (label-further rows h)
+value-further : (rows : List Row) → Further rows → Further (on_first (past 1) (after_label rows))
+value-further rows h = on_first-further (past 1) (after_label rows) (label-further rows h)
 
 to-further : (rows : List Row) → Further rows →
-    Further (behind_destination (behind_gap (on_first (past 1) (behind_label rows))))
+    Further (after_destination (following_gap (on_first (past 1) (after_label rows))))
 to-further rows h =
-    destination-further (behind_gap (on_first (past 1) (behind_label rows)))
-    (gap-further (on_first (past 1) (behind_label rows)) (value-further rows h))
+    destination-further (following_gap (on_first (past 1) (after_label rows)))
+    (gap-further (on_first (past 1) (after_label rows)) (value-further rows h))
 
 end-further : (rows : List Row) → Further rows → Further (definition_end rows)
-end-further rows h = go (has_title behind)
+end-further rows h = go (has_title following)
   where
-    behind : List Row
-    behind = behind_destination (behind_gap (on_first (past 1) (behind_label rows)))
+    following : List Row
+    following = after_destination (following_gap (on_first (past 1) (after_label rows)))
 
-    go : (x : Bool) → Further (cond x (behind_title (behind_gap behind)) behind)
-    go true = title-further (behind_gap behind) (gap-further behind (to-further rows h))
+    go : (x : Bool) → Further (cond x (after_title (following_gap following)) following)
+    go true = title-further (following_gap following) (gap-further following (to-further rows h))
     go false = to-further rows h
 
 -- Parts of a text.
@@ -237,19 +237,19 @@ definition-items rows h =
     item-around n.Definition (start rows) (start (first_end end)) (inside (has_title to)) refl (by (has_title to))
   where
     label : List Row
-    label = behind_label rows
+    label = after_label rows
 
     value : List Row
     value = on_first (past 1) label
 
     from : List Row
-    from = behind_gap value
+    from = following_gap value
 
     to : List Row
-    to = behind_destination from
+    to = after_destination from
 
     title : List Row
-    title = behind_gap to
+    title = following_gap to
 
     end : List Row
     end = definition_end rows
@@ -335,10 +335,10 @@ text_events-items remain h (suc size) rows k =
     (is_some (definition_at (lines_left first)))
   where
     first : List Row
-    first = on_first behind_indent rows
+    first = on_first after_indent rows
 
     first-further : Further first
-    first-further = on_first-further behind_indent rows k
+    first-further = on_first-further after_indent rows k
 
     end : List Row
     end = definition_end first
@@ -369,8 +369,9 @@ Leads bytes es = (rest : List Event) → next_item bytes (es ++ rest) ≡ None
 pub leads-append : (bytes : List ℕ) (es fs : List Event) → Leads bytes es → Leads bytes (es ++ fs)
 leads-append bytes es fs h = λ rest. ap (next_item bytes) (append_assoc es fs rest) ∙ h (fs ++ rest)
 
-pub leads-behind : (bytes : List ℕ) (es fs : List Event) → NoneIs is_block es → Leads bytes fs → Leads bytes (es ++ fs)
-leads-behind bytes es fs h k =
+pub leads-following : (bytes : List ℕ) (es fs : List Event) → NoneIs is_block es → Leads bytes fs →
+    Leads bytes (es ++ fs)
+leads-following bytes es fs h k =
     λ rest. ap (next_item bytes) (append_assoc es fs rest) ∙ next-passes bytes es (fs ++ rest) h ∙ k rest
 
 abbrev Filled : List Event → Type 0
@@ -430,7 +431,7 @@ text_events-leads bytes unders zero row rows h k = remaining-leads bytes unders 
 text_events-leads bytes unders (suc size) row rows h k = go (is_some (definition_at (lines_left first)))
   where
     first : List Row
-    first = on_first behind_indent (row ∷ rows)
+    first = on_first after_indent (row ∷ rows)
 
     end : List Row
     end = definition_end first
@@ -446,7 +447,7 @@ text_events-leads bytes unders (suc size) row rows h k = go (is_some (definition
     go true =
         leads-append bytes (way ++ definition first ++ onto_next end) more
         (leads-append bytes (way ++ definition first) (onto_next end)
-        (leads-behind bytes way (definition first) (gap-none (row ∷ rows) first k) (λ rest. refl)))
+        (leads-following bytes way (definition first) (gap-none (row ∷ rows) first k) (λ rest. refl)))
     go false = remaining-leads bytes unders row rows h
 
 -- A text that begins with a line that is not blank.

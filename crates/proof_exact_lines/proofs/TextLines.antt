@@ -9,7 +9,7 @@ use Rattle.md_engine.specs.declared.event.Name.{Name}
 use Rattle.md_engine.specs.declared.event.Name.TheVariants as n
 use Rattle.md_engine.specs.declared.event.Point.{Point}
 use Rattle.md_events.specs.Events.Nested.{around, enter_link, exit}
-use Rattle.proof_frame.specs.Row.{Row as FrameRow, behind_row, last_row}
+use Rattle.proof_frame.specs.Row.{Row as FrameRow, after_row, last_row}
 use Rattle.proof_frame.specs.TextLines.{text_leaf}
 use Rattle.proof_frame.specs.UnreadText.{linked_lines}
 use Rattle.md_exact.specs.Leaves.{last_end, span}
@@ -21,7 +21,7 @@ use Rattle.proof_exact_lines.proofs.Spans.{SameLine}
 -- lines of a text: after the ending of each the next one begins
 abbrev pub AreTexts : Row → List Row → FrameRow → List FrameRow → Type 0
 AreTexts x [] r [] = SameLine x r
-AreTexts x (y ∷ ys) r (next ∷ rs) = SameLine x r × (next_line x.line ≡ behind_row r) × AreTexts y ys next rs
+AreTexts x (y ∷ ys) r (next ∷ rs) = SameLine x r × (next_line x.line ≡ after_row r) × AreTexts y ys next rs
 AreTexts x _ r _ = ⊥
 
 -- the last line
@@ -57,7 +57,7 @@ chunks-are x (y ∷ ys) r (next ∷ rs) end are at some =
     more
     ∙ ap₂ (λ (es fs : List Event). es ++ fs ++ chunks Text (y ∷ ys) (end ∷ [])) (ap₂ (chunk Text) are.0.begin are.1)
     (first-line y ys next rs are.2).front
-    ∙ ap (λ (es : List Event). (chunk Text r.first (behind_row r) ++ next.front) ++ es)
+    ∙ ap (λ (es : List Event). (chunk Text r.first (after_row r) ++ next.front) ++ es)
     (chunks-are y ys next rs end are.2 at some)
   where
     more : (suc (length ys) == 0) ≡ false
@@ -83,7 +83,7 @@ first-chunk : (r : FrameRow) (rs : List FrameRow) →
     (es : List Event) × (linked_lines n.Data text_leaf.link r rs ≡ enter_link n.Data r.first text_leaf.link ∷ es)
 first-chunk r [] = (exit n.Data r.end ∷ [], refl)
 first-chunk r (next ∷ rs) =
-    (exit n.Data (behind_row r) ∷ next.front ++ linked_lines n.Data text_leaf.link next rs, refl)
+    (exit n.Data (after_row r) ∷ next.front ++ linked_lines n.Data text_leaf.link next rs, refl)
 
 -- So the text part over them, if the last is not empty.
 pub text-lines : (name : Name) (x : Row) (xs : List Row) (r : FrameRow) (rs : List FrameRow) → AreTexts x xs r rs →

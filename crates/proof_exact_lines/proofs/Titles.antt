@@ -25,7 +25,7 @@ use Rattle.md_events.specs.Events.Nested.{around, pair}
 use Rattle.md_exact.specs.Places.{past}
 use Rattle.md_exact.specs.Rows.{Row}
 use Rattle.md_exact.specs.Texts as Texts
-use Rattle.md_exact.specs.Texts.{behind_title, enclosed_part, lines_left}
+use Rattle.md_exact.specs.Texts.{after_title, enclosed_part, lines_left}
 use Rattle.proof_content_laws.proofs.Defined.Along.{Turn}
 use Rattle.proof_content_laws.proofs.Defined.Marked.{MarkedOf, TitleAre, marked-of, title-are}
 use Rattle.proof_content_laws.proofs.Defined.Takes.{Takes, Walk}
@@ -69,11 +69,11 @@ by_mark rows lines b = elim (title_closer b) [
   | None ↦ []
 ]
 
-parts-behind : (o : Option ℕ) (closer : ℕ) (c : Cell) (cs : List Cell) (t : TitleParts) → o ≡ Some closer →
+parts-following : (o : Option ℕ) (closer : ℕ) (c : Cell) (cs : List Cell) (t : TitleParts) → o ≡ Some closer →
     parts_from o c cs ≡ Some t →
     parts_closed closer c (before_mark (is_mark c.byte closer) false cs) (from_mark (is_mark c.byte closer) false cs) ≡
     Some t
-parts-behind o closer c cs t e k = subst (λ (x : Option ℕ). parts_from x c cs ≡ Some t) e k
+parts-following o closer c cs t e k = subst (λ (x : Option ℕ). parts_from x c cs ≡ Some t) e k
 
 title-found : (text : List ℕ) (row : Row) (rows : List Row) (p : Point) (c : Cell) (cs : List Cell) (turns : List Turn)
     (closer : ℕ) (t : TitleParts) →
@@ -81,16 +81,16 @@ title-found : (text : List ℕ) (row : Row) (rows : List Row) (p : Point) (c : C
     Along text (at row (past 1 row.rest) ∷ rows) c.after cs turns → title_closer c.byte ≡ Some closer →
     title_parts (c ∷ cs) ≡ Some t → (ends : List Row) (left : List Turn) →
     Along text ends t.closer.after t.rest left → t.closer.after.vs ≡ 0 → Ahead (row ∷ rows) ends →
-    behind_title (row ∷ rows) ≡ ends
+    after_title (row ∷ rows) ≡ ends
 unfolding title_parts
-title-found text row rows p c cs turns closer t along whole inner plain from close e ends left behind end ahead =
+title-found text row rows p c cs turns closer t along whole inner plain from close e ends left following end ahead =
     ap (by_mark (row ∷ rows) lines) first
     ∙ ap
     (λ (o : Option ℕ).
     elim o [ Some k ↦ by_lines (row ∷ rows) (enclosed_lines c.byte k lines) | None ↦ [] ]) close
     ∙ ap (by_lines (row ∷ rows)) found
     ∙ left-is (row ∷ rows) ends (cell_lines false (whole_cells t.closer.after t.rest)) ahead
-    (rows-lines text ends t.closer.after t.rest left behind end)
+    (rows-lines text ends t.closer.after t.rest left following end)
   where
     lines : List (List ℕ)
     lines = lines_left (at row (past 1 row.rest) ∷ rows)
@@ -106,7 +106,7 @@ title-found text row rows p c cs turns closer t along whole inner plain from clo
         (rows-whole text (at row (past 1 row.rest) ∷ rows) c.after cs turns from)
         ∙ closed-texts closer c (before_mark (is_mark c.byte closer) false cs)
         (from_mark (is_mark c.byte closer) false cs)
-        ∙ ap title_texts (parts-behind (title_closer c.byte) closer c cs t close e)
+        ∙ ap title_texts (parts-following (title_closer c.byte) closer c cs t close e)
 
 -- Its events.
 
@@ -114,9 +114,9 @@ pub record TitleOn (text : List ℕ) (last p : Point) (t : TitleParts) (turns : 
     Type 0 where
   pub left : List Turn
   pub takes : Takes text last p turns t.closer.after t.rest left (title_events t p)
-      (enclosed_part n.DefinitionTitle n.DefinitionTitleMarker n.DefinitionTitleString rows (behind_title rows))
-  pub along : Along text (behind_title rows) t.closer.after t.rest left
-  pub ahead : Ahead rows (behind_title rows)
+      (enclosed_part n.DefinitionTitle n.DefinitionTitleMarker n.DefinitionTitleString rows (after_title rows))
+  pub along : Along text (after_title rows) t.closer.after t.rest left
+  pub ahead : Ahead rows (after_title rows)
 
 -- a mark is no whitespace, and ends no line
 pub mark-dark : (b : ℕ) → is_other b ≡ false → is_white b ≡ false
@@ -180,7 +180,7 @@ title-by text last p t turns row rows close e walk along = record {
     opener : MarkOn text row rows p t.opener (t.text ++ (t.closer ∷ t.rest)) turns
     opener = mark-on text last row rows p t.opener (t.text ++ (t.closer ∷ t.rest)) turns dark plain walk along
 
-    found : behind_title (row ∷ rows) ≡ on.ends
+    found : after_title (row ∷ rows) ≡ on.ends
     found =
         title-found text row rows p t.opener (t.text ++ (t.closer ∷ t.rest)) turns t.closer.byte t along marked.opens.0
         marked.opens.1.whole plain opener.along close e on.ends on.left on.along marked.closes.1.whole on.ahead

@@ -23,12 +23,12 @@ last_of (More b End) = item_of b
 last_of (More b (More next bs)) = last_of (More next bs)
 
 -- an open leaf is the last block
-abbrev pub last_behind : Leaf → Blocks → Option ℕ
-last_behind NoLeaf bs = last_of bs
-last_behind leaf bs = None
+abbrev pub last_after : Leaf → Blocks → Option ℕ
+last_after NoLeaf bs = last_of bs
+last_after leaf bs = None
 
 abbrev pub last_in : Innermost → Option ℕ
-last_in s = last_behind s.leaf s.here
+last_in s = last_after s.leaf s.here
 
 -- where so many of the open containers are left: the next of them is the last block there
 abbrev pub last_at : ℕ → Path → Option ℕ
@@ -37,9 +37,9 @@ last_at zero (Within before container p) = marker_in container
 last_at (suc depth) (Within before container p) = last_at depth p
 
 -- whether a list continues between an item that is last and one that is next
-abbrev pub goes_between : Option ℕ → Option ℕ → Bool
-goes_between (Some last) (Some next) = last == next
-goes_between last next = false
+abbrev pub continues_between : Option ℕ → Option ℕ → Bool
+continues_between (Some last) (Some next) = last == next
+continues_between last next = false
 
 -- an open paragraph has a line
 abbrev pub HasLine : Leaf → Type 0

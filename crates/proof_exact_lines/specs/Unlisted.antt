@@ -9,7 +9,7 @@ use Rattle.md_engine.specs.declared.event.Name.TheVariants as n
 use Rattle.md_engine.specs.declared.event.Point.{Point}
 use Rattle.md_meaning.specs.Containers.{Taken}
 use Rattle.md_meaning.specs.Preamble.{without_mark}
-use Rattle.md_meaning.specs.Rest.{Rest, behind_indent}
+use Rattle.md_meaning.specs.Rest.{Rest, after_indent}
 use Rattle.md_meaning.specs.State.{At, Container, InFootnote, InItem, InQuote, Path}
 use Rattle.md_meaning.specs.Step.{spot_of, step}
 use Rattle.md_meaning.specs.Texts.{first_byte}
@@ -20,8 +20,8 @@ use Rattle.md_containers.specs.Listed.{is_item, next_item}
 use Rattle.md_exact.specs.Blocks.{events_by, front_line, front_row, front_size, grouped, mark_events, tail, text_lines}
 use Rattle.md_exact.specs.Leaves.{leaf}
 use Rattle.md_exact.specs.Places.{TextLine, is_same, past, place, whole}
-use Rattle.md_exact.specs.Prefixes.{behind_all, containers, footnote_prefix, gone_on, item_prefix, new_containers}
-use Rattle.md_exact.specs.Prefixes.{quote_prefix}
+use Rattle.md_exact.specs.Prefixes.{following_all, containers, footnote_prefix, taken_prefixes, item_prefix}
+use Rattle.md_exact.specs.Prefixes.{new_containers, quote_prefix}
 use Rattle.md_exact.specs.Rows.{Row, container_name, is_blank_role, rows_of}
 
 -- Without lists.
@@ -86,35 +86,35 @@ pub record IsLeaf (bytes : List ℕ) (events : List Event) : Type 0 where
   pub items : NoneIs is_item events
   pub next : (rest : List Event) → next_item bytes (events ++ rest) ≡ None
 
-abbrev pub LeafStands : ParseOptions → List ℕ → List Row → Type 0
-LeafStands options bytes [] = Unit {0}
-LeafStands options bytes (row ∷ rows) =
+abbrev pub LeafAllowed : ParseOptions → List ℕ → List Row → Type 0
+LeafAllowed options bytes [] = Unit {0}
+LeafAllowed options bytes (row ∷ rows) =
     is_blank_role row.role ≡ false → IsLeaf bytes (events_by options row.role (row ∷ rows))
 
-abbrev pub LeavesStand : ParseOptions → List ℕ → List (List Row) → Type 0
-LeavesStand options bytes [] = Unit {0}
-LeavesStand options bytes (group ∷ groups) = LeafStands options bytes group × LeavesStand options bytes groups
+abbrev pub LeavesAllowed : ParseOptions → List ℕ → List (List Row) → Type 0
+LeavesAllowed options bytes [] = Unit {0}
+LeavesAllowed options bytes (group ∷ groups) = LeafAllowed options bytes group × LeavesAllowed options bytes groups
 
 -- the marker of an item that opens is in the text, a byte after its digits
 pub record MarkerAt (bytes : List ℕ) (line : TextLine) (digits : List ℕ) (marker : ℕ) (r : Rest) : Type 0 where
-  pub byte : get_or bytes (place line (past (length digits) (behind_indent r))).index 0 ≡ marker
-  pub one : is_same (past (length digits) (behind_indent r)) (past 1 (past (length digits) (behind_indent r))) ≡ false
+  pub byte : get_or bytes (place line (past (length digits) (after_indent r))).index 0 ≡ marker
+  pub one : is_same (past (length digits) (after_indent r)) (past 1 (past (length digits) (after_indent r))) ≡ false
 
-abbrev pub MarkerStands : List ℕ → TextLine → Container → Rest → Type 0
-MarkerStands bytes line (InItem digits marker width starts_blank) r = MarkerAt bytes line digits marker r
-MarkerStands bytes line c r = Unit {0}
+abbrev pub MarkerAllowed : List ℕ → TextLine → Container → Rest → Type 0
+MarkerAllowed bytes line (InItem digits marker width starts_blank) r = MarkerAt bytes line digits marker r
+MarkerAllowed bytes line c r = Unit {0}
 
-abbrev pub MarkersStand : List ℕ → TextLine → Rest → List Taken → Type 0
-MarkersStand bytes line r [] = Unit {0}
-MarkersStand bytes line r (t ∷ ts) = MarkerStands bytes line t.container r × MarkersStand bytes line t.rest ts
+abbrev pub MarkersAllowed : List ℕ → TextLine → Rest → List Taken → Type 0
+MarkersAllowed bytes line r [] = Unit {0}
+MarkersAllowed bytes line r (t ∷ ts) = MarkerAllowed bytes line t.container r × MarkersAllowed bytes line t.rest ts
 
-abbrev pub LinesStand : ParseOptions → List ℕ → Path → List TextLine → Type 0
-LinesStand options bytes p [] = Unit {0}
-LinesStand options bytes p (line ∷ lines) =
-    let on = gone_on options p (whole line) in
-    let inner = behind_all (whole line) on in
-    MarkersStand bytes line inner (new_containers options p (length on == length (containers p)) inner)
-    × LinesStand options bytes (step options p (whole line)) lines
+abbrev pub LinesAllowed : ParseOptions → List ℕ → Path → List TextLine → Type 0
+LinesAllowed options bytes p [] = Unit {0}
+LinesAllowed options bytes p (line ∷ lines) =
+    let on = taken_prefixes options p (whole line) in
+    let inner = following_all (whole line) on in
+    MarkersAllowed bytes line inner (new_containers options p (length on == length (containers p)) inner)
+    × LinesAllowed options bytes (step options p (whole line)) lines
 
 -- The markers of the items among these containers, the innermost first, before those that were there.
 

@@ -55,8 +55,8 @@ pub between-end : (bytes : List ℕ) (i : ℕ) → i ≡ length bytes → is_bet
 between-end bytes i e = grind (arith, nat_tests)
 
 -- so is one after a byte of ASCII
-pub between-behind : (bytes : List ℕ) (i : ℕ) → is_low (slice_index bytes (i - 1)) ≡ true → is_between bytes i ≡ true
-between-behind bytes i h = grind (arith, nat_tests)
+pub between-following : (bytes : List ℕ) (i : ℕ) → is_low (slice_index bytes (i - 1)) ≡ true → is_between bytes i ≡ true
+between-following bytes i h = grind (arith, nat_tests)
 
 -- and one before it
 pub between-before : (bytes : List ℕ) (i : ℕ) → is_low (slice_index bytes i) ≡ true → is_between bytes i ≡ true
@@ -76,12 +76,12 @@ ending-before bytes p q is =
     (low-at bytes (ending_bytes is.ending) p.index q.index p.index is.text is.size facts.0 (omega arith)
     (omega arith))
 
-pub ending-behind : (bytes : List ℕ) (p q : Point) → IsEnding bytes p q → is_between bytes q.index ≡ true
-ending-behind bytes p q is =
+pub ending-following : (bytes : List ℕ) (p q : Point) → IsEnding bytes p q → is_between bytes q.index ≡ true
+ending-following bytes p q is =
     let facts : (list_all is_low (ending_bytes is.ending) ≡ true) ×
     (0 < length (ending_bytes is.ending)) = ending-low is.ending in
     let size : q.index ≡ p.index + length (ending_bytes is.ending) = is.size in
-    between-behind bytes q.index
+    between-following bytes q.index
     (low-at bytes (ending_bytes is.ending) p.index q.index (q.index - 1) is.text is.size facts.0 (omega arith)
     (omega arith))
 
@@ -161,4 +161,4 @@ white-between bytes a e h k from = go (a == e) refl
     go true y = subst (λ (i : ℕ). is_between bytes i ≡ true) (eqb-true a e y) from
     go false y =
         let below : a < e = grind (arith, nat_tests) in
-        between-behind bytes e (white-at bytes a e (e - 1) h (omega (arith, below)) (omega (arith, below)))
+        between-following bytes e (white-at bytes a e (e - 1) h (omega (arith, below)) (omega (arith, below)))

@@ -16,10 +16,10 @@ use Rattle.md_events.proofs.SpelledLemmas.{Quiet, read-quiet}
 use Rattle.proof_frame.specs.Row.{blank_line}
 use Rattle.proof_frame.proofs.EventNames.{part-no_container}
 use Rattle.proof_frame.proofs.LeafFacts.{LeafFacts, LineAt}
-use Rattle.proof_frame.proofs.LeafStands.{between-stand, quiet-part, quiets-between}
-use Rattle.proof_frame.proofs.LineTexts.{line-stands}
+use Rattle.proof_frame.proofs.LeafAllowed.{between-are_valid, quiet-part, quiets-between}
+use Rattle.proof_frame.proofs.LineTexts.{line-valid}
 use Rattle.proof_frame.proofs.PartFacts.{NoLinks}
-use Rattle.proof_frame.proofs.PieceFacts.{begins-cut, over-front, over-stands}
+use Rattle.proof_frame.proofs.PieceFacts.{begins-cut, over-front, over-valid}
 use Rattle.proof_frame.proofs.PlainFacts.{plain-quiet}
 use Rattle.proof_frame.proofs.RestRows.{line-blank}
 use Rattle.proof_frame.proofs.Stretch.{Stretch, stretch-as, stretch-none, stretch-pair, white-piece}
@@ -28,14 +28,14 @@ use Rattle.proof_frame.proofs.Stretch.{Stretch, stretch-as, stretch-none, stretc
 pub quiet-facts : (bytes : List ℕ) (p q : Point) (es : List Event) → Stretch Quiet bytes p q es es → AreOthers es →
     ((text : Expression) → Leads text (blocks ∷ []) (blocks ∷ []) es) → LeafFacts bytes None false p q es es
 quiet-facts bytes p q es h others word = record {
-  stand = record {
+  are_valid = record {
     stretch = stretch-as (λ x quiet. part-no_container x (quiet-part x quiet)) h;
-    behind = false;
+    following = false;
     unread_word = word unread_text;
     word = word plain_text;
     unread_ending = others-lead line_start es refl others;
     ending = others-lead line_start es refl others;
-    stands = λ held. between-stand bytes held es (quiets-between es h.roles);
+    valid = λ held. between-are_valid bytes held es (quiets-between es h.roles);
     plain = λ whole. plain-quiet bytes es h.roles;
   };
   reads = λ r none shut. read-quiet bytes r es h.roles;
@@ -49,7 +49,7 @@ blank-facts bytes line r p q blank at =
     (go line (ap is_blank at.line_is ∙ line-blank r ∙ blank) text)
   where
     text : drop p.index bytes ≡ line ++ drop q.index bytes
-    text = line-stands bytes r line p q at
+    text = line-valid bytes r line p q at
 
     go : (line : List ℕ) → is_blank line ≡ true → drop p.index bytes ≡ line ++ drop q.index bytes →
         LeafFacts bytes None false p (past_text line p) (blank_line line p) (blank_line line p)
@@ -59,7 +59,7 @@ blank-facts bytes line r p q blank at =
         quiet-facts bytes p e (pair n.SpaceOrTab p e)
         (stretch-pair Quiet bytes n.SpaceOrTab p e
         (white-piece Quiet bytes tt) (before-text (b ∷ line) p)
-        (over-stands bytes n.SpaceOrTab p e (b ∷ line)
+        (over-valid bytes n.SpaceOrTab p e (b ∷ line)
         (over-front bytes p e (b ∷ line) (drop q.index bytes) text (omega arith) refl)
         (begins-cut n.SpaceOrTab p refl) blank)) refl (λ t outer. refl)
 

@@ -10,10 +10,10 @@ use Rattle.md_engine.specs.declared.event.Name.{Name}
 use Rattle.md_engine.specs.declared.event.Name.TheVariants as n
 use Rattle.md_engine.specs.declared.event.Point.{Point}
 use Rattle.md_events.specs.declared.inline.Chunk.{Chunk}
-use Rattle.md_events.specs.Events.Grammar.{Expression, behind, may_end, plain_text}
+use Rattle.md_events.specs.Events.Grammar.{Expression, following, may_end, plain_text}
 use Rattle.md_events.specs.Events.Inline.{is_one_line, line_end, pair_unless_empty, plain_chunk}
 use Rattle.md_events.specs.Events.Nested.{pair}
-use Rattle.md_events.specs.Events.Pieces.{is_in_line, is_line_ending, piece_stands, stands_over}
+use Rattle.md_events.specs.Events.Pieces.{is_in_line, is_line_ending, is_valid_piece, may_cover}
 use Rattle.md_events.specs.Events.Places.{at_or_before, past_text, same_place}
 use Rattle.md_meaning.specs.Lines.{is_ending, without_ending}
 use Rattle.md_meaning.specs.Texts.{split_lines}
@@ -22,8 +22,8 @@ use Rattle.md_events.proofs.GrammarLemmas.{IsWord, leads-append, leads-unless, m
 use Rattle.md_events.proofs.InlineLemmas.{past-index, past-vs}
 use Rattle.md_meaning.proofs.TextsLemmas.{Both, Ending, LineFeed, NoEnding, Return, ending_bytes}
 use Rattle.proof_frame.proofs.LineTexts.{one-last, one-next, past-whole, piece, without-none, without-one}
-use Rattle.proof_frame.proofs.PieceFacts.{Over, Starts, PiecesValid, begins-cut, begins-whole, chunk-stands, chunk_span}
-use Rattle.proof_frame.proofs.PieceFacts.{over-front, over-stands, span, stood-append, stood-unless_empty}
+use Rattle.proof_frame.proofs.PieceFacts.{Over, Starts, PiecesValid, begins-cut, begins-whole, chunk-valid, chunk_span}
+use Rattle.proof_frame.proofs.PieceFacts.{over-front, over-valid, span, is_valid-append, is_valid-unless_empty}
 use Rattle.proof_frame.proofs.PiecesLemmas.{Covered}
 
 -- Pieces.
@@ -43,7 +43,7 @@ in-line (b ∷ line) h = and_from (not (is_ending b)) (is_in_line line) (ap not 
 
 -- A chunk that is a line, with its ending or not: itself, and what the plain layer gives for it.
 pub record Chunked (bytes : List ℕ) (p q : Point) : Type 0 where
-  pub linked : piece_stands bytes (chunk_span n.Data p q) ≡ true
+  pub linked : is_valid_piece bytes (chunk_span n.Data p q) ≡ true
   pub read : PiecesValid bytes (plain_chunk bytes (record { first = p; after = q }))
   pub starts : Starts (plain_chunk bytes (record { first = p; after = q }))
 
@@ -61,11 +61,11 @@ chunked-by : (bytes line tail : List ℕ) (p q : Point) → 0 < length line → 
     PiecesValid bytes (pair_unless_empty n.LineEnding (past_text line p) q) → Chunked bytes p q
 chunked-by bytes line tail p q some none whole size slice without one ending = record {
   linked =
-      chunk-stands bytes n.Data p q (line ++ tail)
+      chunk-valid bytes n.Data p q (line ++ tail)
       (record { some = omega (arith, size, sizes); whole = whole; slice = slice }) refl one;
   read =
-      subst BothStand (sym end)
-      (stood-append bytes (pair_unless_empty n.Data p r) (pair_unless_empty n.LineEnding r q) text ending);
+      subst BothValid (sym end)
+      (is_valid-append bytes (pair_unless_empty n.Data p r) (pair_unless_empty n.LineEnding r q) text ending);
   starts =
       subst (λ (e : Point). Starts (pair_unless_empty n.Data p e ++ pair_unless_empty n.LineEnding e q)) (sym end)
       (starts-some p r (pair_unless_empty n.LineEnding r q) over.some);
@@ -74,14 +74,14 @@ chunked-by bytes line tail p q some none whole size slice without one ending = r
     r : Point
     r = past_text line p
 
-    BothStand : Point → Type 0
-    BothStand e = PiecesValid bytes (pair_unless_empty n.Data p e ++ pair_unless_empty n.LineEnding e q)
+    BothValid : Point → Type 0
+    BothValid e = PiecesValid bytes (pair_unless_empty n.Data p e ++ pair_unless_empty n.LineEnding e q)
 
     sizes : length (line ++ tail) ≡ length line + length tail
     sizes = length-append line tail
 
-    stands : drop p.index bytes ≡ line ++ (tail ++ drop q.index bytes)
-    stands =
+    valid : drop p.index bytes ≡ line ++ (tail ++ drop q.index bytes)
+    valid =
         piece bytes p.index q.index (omega (arith, size))
         ∙ ap (λ (l : List ℕ). l ++ drop q.index bytes) slice
         ∙ append_assoc line tail (drop q.index bytes)
@@ -90,12 +90,12 @@ chunked-by bytes line tail p q some none whole size slice without one ending = r
     end = ap (λ (l : List ℕ). past_text (without_ending l) p) slice ∙ ap (λ (l : List ℕ). past_text l p) without
 
     over : Over bytes p r line
-    over = over-front bytes p r line (tail ++ drop q.index bytes) stands some refl
+    over = over-front bytes p r line (tail ++ drop q.index bytes) valid some refl
 
     text : PiecesValid bytes (pair_unless_empty n.Data p r)
     text =
-        stood-unless_empty bytes n.Data p r
-        (λ apart. over-stands bytes n.Data p r line over (begins-cut n.Data p refl) (in-line line none))
+        is_valid-unless_empty bytes n.Data p r
+        (λ apart. over-valid bytes n.Data p r line over (begins-cut n.Data p refl) (in-line line none))
 
 -- a line without its ending
 pub chunked-alone : (bytes line : List ℕ) (p q : Point) → 0 < length line → NoEnding line → q.vs ≡ 0 →
@@ -106,7 +106,7 @@ chunked-alone bytes line p q some none whole size slice =
     chunked-by bytes line [] p q some none whole (omega (arith, size, long)) (slice ∙ sym same)
     (ap without_ending same ∙ without-none line none)
     (ap (λ (l : List ℕ). is_one_line (split_lines l) true) same ∙ one-last line some none true refl)
-    (stood-unless_empty bytes n.LineEnding (past_text line p) q (λ apart. absurd (here line some size apart)))
+    (is_valid-unless_empty bytes n.LineEnding (past_text line p) q (λ apart. absurd (here line some size apart)))
   where
     meets : (r : Point) → r.index ≡ q.index → r.vs ≡ q.vs → same_place r q ≡ false → ⊥
     meets r i v apart = grind (arith, nat_tests)
@@ -120,11 +120,11 @@ chunked-alone bytes line p q some none whole size slice =
         q-index = past-index (b ∷ line) p ∙ sym size
 
 -- an ending, between two points
-pub ending-stands : (bytes : List ℕ) (name : Name) (p q : Point) →
-    ((ending : Ending) → stands_over name (ending_bytes ending) ≡ true) → p.vs ≡ 0 → IsEnding bytes p q →
-    piece_stands bytes (span name p q) ≡ true
-ending-stands bytes name p q named whole is =
-    over-stands bytes name p q (ending_bytes is.ending)
+pub ending-valid : (bytes : List ℕ) (name : Name) (p q : Point) →
+    ((ending : Ending) → may_cover name (ending_bytes ending) ≡ true) → p.vs ≡ 0 → IsEnding bytes p q →
+    is_valid_piece bytes (span name p q) ≡ true
+ending-valid bytes name p q named whole is =
+    over-valid bytes name p q (ending_bytes is.ending)
     (let some = ending-some is.ending in record { some = omega (arith, is.size); whole = is.whole; slice = is.text })
     (begins-whole name p whole) (named is.ending)
 
@@ -148,15 +148,15 @@ chunked-ended bytes line p q some none slice is =
     ∙ ap (λ (l : List ℕ). line ++ l) is.text in
     chunked-by bytes line (ending_bytes is.ending) p q some none is.whole (omega (arith, is.size, index, long)) text
     (without-one line is.ending none) (one-next line is.ending none true)
-    (stood-unless_empty bytes n.LineEnding (past_text line p) q
-    (λ apart. ending-stands bytes n.LineEnding (past_text line p) q line-ending (past-whole line p some) is))
+    (is_valid-unless_empty bytes n.LineEnding (past_text line p) q
+    (λ apart. ending-valid bytes n.LineEnding (past_text line p) q line-ending (past-whole line p some) is))
 
 -- Its events are a word of a text.
 
 -- what is left of a text at the begin of a line: of the first one, and after an ending
 abbrev pub text_left : Bool → Expression
 text_left true = plain_text
-text_left false = behind n.LineEnding plain_text
+text_left false = following n.LineEnding plain_text
 
 -- a chunk: its line and its ending, either of which may be empty
 pub chunk-word : (bytes : List ℕ) (first : Bool) (chunk : Chunk) →

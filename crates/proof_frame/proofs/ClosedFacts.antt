@@ -8,15 +8,15 @@ use Rattle.md_engine.specs.declared.event.Name.TheVariants as n
 use Rattle.md_engine.specs.declared.event.Point.{Point}
 use Rattle.md_events.specs.Events.Nested.{around, exit, is_enter, is_exit, pair}
 use Rattle.md_events.specs.Events.Prefix.{is_prefix}
-use Rattle.md_order.specs.Alone.{HoldNoBlock, InParagraph, MayStand, Nothing, Open}
-use Rattle.md_order.specs.Alone.{closed_by, is_set, open_behind, opened_by}
+use Rattle.md_order.specs.Alone.{HoldNoBlock, InParagraph, MayBeHere, Nothing, Open}
+use Rattle.md_order.specs.Alone.{closed_by, is_set, open_following, opened_by}
 use Rattle.proof_frame.proofs.EventNames.{front-opens}
 use Rattle.proof_frame.proofs.EachEvent.{Each, each-as}
 use Rattle.proof_frame.proofs.PrefixNames.{AreFront, ArePrefixes, IsFrontEvent, IsNamed}
 
 -- what follows them may be there
 abbrev pub IsClosed : List Event → Type 0
-IsClosed es = (behind : List Event) → HoldNoBlock Nothing behind → HoldNoBlock Nothing (es ++ behind)
+IsClosed es = (following : List Event) → HoldNoBlock Nothing following → HoldNoBlock Nothing (es ++ following)
 
 pub closed-append : (xs ys : List Event) → IsClosed xs → IsClosed ys → IsClosed (xs ++ ys)
 closed-append xs ys h k = λ zs l.
@@ -38,7 +38,7 @@ closed-each (e ∷ es) h = λ ys k. (
   subst (λ (x : Open). HoldNoBlock x (es ++ ys)) (sym (nothing e h.0)) (closed-each es h.1 ys k),
 )
   where
-    nothing : (e : Event) → OpensNothing e → open_behind Nothing e ≡ Nothing
+    nothing : (e : Event) → OpensNothing e → open_following Nothing e ≡ Nothing
     nothing e h = go (is_enter e.kind)
       where
         go : (x : Bool) → cond x (opened_by e.name) Nothing ≡ Nothing
@@ -52,7 +52,7 @@ closed-front es h =
 
 -- an ending
 pub closed-ending : (p q : Point) → IsClosed (pair n.LineEnding p q)
-closed-ending p q = λ ys k. (λ exits. cc, (λ goes. cc, k))
+closed-ending p q = λ ys k. (λ exits. cc, (λ proceeds. cc, k))
 
 -- Blocks.
 
@@ -71,16 +71,16 @@ prefixes-unset es h = each-as (IsNamed is_prefix) IsUnset (λ e is. prefix-unset
 pub record IsBlock (name : Name) : Type 0 where
   pub inside : Open
   pub opens : opened_by name ≡ inside
-  pub stands : (e : Event) → IsUnset e → MayStand inside e
-  pub stays : (e : Event) → IsUnset e → open_behind inside e ≡ inside
-  pub ends : (q : Point) → MayStand inside (exit name q)
-  pub shuts : (q : Point) → open_behind inside (exit name q) ≡ Nothing
+  pub valid : (e : Event) → IsUnset e → MayBeHere inside e
+  pub stays : (e : Event) → IsUnset e → open_following inside e ≡ inside
+  pub ends : (q : Point) → MayBeHere inside (exit name q)
+  pub shuts : (q : Point) → open_following inside (exit name q) ≡ Nothing
 
 inside-holds : (name : Name) (is : IsBlock name) (es rest : List Event) → Each IsUnset es →
     HoldNoBlock is.inside rest → HoldNoBlock is.inside (es ++ rest)
 inside-holds name is [] rest h k = k
 inside-holds name is (e ∷ es) rest h k = (
-  is.stands e h.0,
+  is.valid e h.0,
   subst (λ (x : Open). HoldNoBlock x (es ++ rest)) (sym (is.stays e h.0)) (inside-holds name is es rest h.1 k),
 )
 
@@ -109,8 +109,8 @@ pub paragraph-block : IsBlock n.Paragraph
 paragraph-block = record {
   inside = InParagraph;
   opens = refl;
-  stands = λ e h goes. h;
+  valid = λ e h proceeds. h;
   stays = λ e h. stays-open InParagraph e (unset-paragraph e.name h);
-  ends = λ q goes. cc;
+  ends = λ q proceeds. cc;
   shuts = λ q. refl;
 }

@@ -26,9 +26,9 @@ collects-inline bytes es from end inline le =
     ∙ ap (λ (l : List ℕ). t.front ++ l) (slice-split bytes t.from from end h le)
 
 -- and what comes after it
-pub collects-behind : (bytes : List ℕ) (xs ys : List Event) (from end : ℕ) (all : List ℕ) → Roles QuietOrEnding xs →
+pub collects-following : (bytes : List ℕ) (xs ys : List Event) (from end : ℕ) (all : List ℕ) → Roles QuietOrEnding xs →
     Collects bytes ys from end all → Collects bytes (xs ++ ys) from end all
-collects-behind bytes xs ys from end all inline c =
+collects-following bytes xs ys from end all inline c =
     λ t h. ap (text_to bytes end)
     (text_after-append bytes t xs ys ∙ ap (λ (x : Text). text_after bytes x ys) (text-inline bytes t xs inline))
     ∙ c t h
@@ -44,9 +44,9 @@ collects-back bytes es i from end all le c = λ t h.
 -- Whitespace.
 
 -- what is whitespace is so after some of it
-pub blank-behind : (xs ys : List ℕ) → is_blank (xs ++ ys) ≡ true → is_blank ys ≡ true
-blank-behind [] ys h = h
-blank-behind (b ∷ xs) ys h = blank-behind xs ys (and_parts (is_white b) (is_blank (xs ++ ys)) h).1
+pub blank-following : (xs ys : List ℕ) → is_blank (xs ++ ys) ≡ true → is_blank ys ≡ true
+blank-following [] ys h = h
+blank-following (b ∷ xs) ys h = blank-following xs ys (and_parts (is_white b) (is_blank (xs ++ ys)) h).1
 
 -- whitespace after whitespace is whitespace
 pub blank-append : (xs ys : List ℕ) → is_blank xs ≡ true → is_blank ys ≡ true → is_blank (xs ++ ys) ≡ true

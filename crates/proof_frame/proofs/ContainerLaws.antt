@@ -7,11 +7,11 @@ use Rattle.md_engine.specs.declared.tokenizer.container.Container.{Container as 
 use Rattle.md_engine.specs.declared.tokenizer.container.name.ContainerKind.{ContainerKind}
 use Rattle.md_engine.specs.declared.tokenizer.Line.{Line}
 use Rattle.md_engine.specs.Meaning.{Cell, Here, Refuses}
-use Rattle.md_engine.specs.ContainerName.{kind_goes_over}
+use Rattle.md_engine.specs.ContainerName.{kind_continues_over}
 use Rattle.md_engine.specs.World.{container_of}
 use Rattle.md_containers.specs.Interrupts.{interrupts}
 use Rattle.md_containers.proofs.Shorter.{Shortens}
-use Rattle.md_events.specs.Look.{first_seen, seen_behind}
+use Rattle.md_events.specs.Look.{first_seen, seen_after}
 use Rattle.md_events.specs.Spaces.{IsRest, ends_line}
 use Rattle.md_meaning.specs.Containers.{Taken, continues}
 use Rattle.md_meaning.specs.Preamble.{rest_at}
@@ -52,14 +52,14 @@ pub record ContainerLaws (k : ContainerKind) (rules : ContainerRules) : Type 1 w
   pub continues_is : (options : ParseOptions) (held : Held) (c : Container) (cells : List Cell) (h : Here) →
       IsRest h.scratch → h.flags.asked ≡ held → h.flags.asked_column ≡ h.point.column → IsOf k c →
       rules.holds held c →
-      rules.continues options cells h ≡ passed_by (rules.goes options c cells h.point) h
+      rules.continues options cells h ≡ passed_by (rules.proceeds options c cells h.point) h
   -- Where what is first after whitespace may not begin it, or not its prefix on a further line, it is refused, and all
   -- is left as it was.
   pub begins_looked : (options : ParseOptions) (cells : List Cell) (h : Here) (b : ℕ) → IsRest h.scratch →
-      seen_behind cells ≡ Some b → rules.may_open b ≡ false →
+      seen_after cells ≡ Some b → rules.may_open b ≡ false →
       rules.begins options cells h ≡ Refuses h.scratch h.flags
   pub continues_looked : (options : ParseOptions) (cells : List Cell) (h : Here) (b : ℕ) → IsRest h.scratch →
-      seen_behind cells ≡ Some b → rules.may_go_on b ≡ false →
+      seen_after cells ≡ Some b → rules.may_continue b ≡ false →
       rules.continues options cells h ≡ Refuses h.scratch h.flags
   pub begins_shorter : (options : ParseOptions) (cells : List Cell) (h : Here) →
       Shortens (length cells) (rules.begins options cells h)
@@ -67,35 +67,36 @@ pub record ContainerLaws (k : ContainerKind) (rules : ContainerRules) : Type 1 w
       ends_line (first_seen cells) ≡ false → Shortens (length cells) (rules.continues options cells h)
   pub opened : (options : ParseOptions) (interrupting : Bool) (cells : List Cell) (p : Point) (t : Passed) →
       rules.opens options interrupting cells p ≡ Some t → IsPassed k cells t
-  pub went : (options : ParseOptions) (c : Container) (cells : List Cell) (p : Point) (t : Passed) → IsOf k c →
-      rules.goes options c cells p ≡ Some t → IsPassed k cells t
+  pub proceeded : (options : ParseOptions) (c : Container) (cells : List Cell) (p : Point) (t : Passed) → IsOf k c →
+      rules.proceeds options c cells p ≡ Some t → IsPassed k cells t
   -- The tokenizer holds what it opens as, and continues to.
   pub held_new : (options : ParseOptions) (interrupting : Bool) (cells : List Cell) (p : Point) (t : Passed) →
       rules.opens options interrupting cells p ≡ Some t → rules.holds t.held t.container
   pub held_on : (options : ParseOptions) (held : Held) (c : Container) (cells : List Cell) (p : Point) (t : Passed) →
-      rules.holds held c → rules.goes options c cells p ≡ Some t → rules.holds t.held t.container
+      rules.holds held c → rules.proceeds options c cells p ≡ Some t → rules.holds t.held t.container
   -- It opens and continues where the line definition says, and leaves what it says.
   pub opens_agrees : (options : ParseOptions) (interrupting : Bool) → ByRest (λ line text past r stop p.
       let cells = rest_cells line r p ++ stop in
       Agree (HasOpening line text past p (past_rest r p) stop cells) (rules.opens options interrupting cells p)
       (rules.found options interrupting r))
-  pub goes_agrees : (options : ParseOptions) (c : Container) → IsOf k c → ByRest (λ line text past r stop p.
+  pub proceeds_agrees : (options : ParseOptions) (c : Container) → IsOf k c → ByRest (λ line text past r stop p.
       let cells = rest_cells line r p ++ stop in
-      Agree (HasFurther line text past p (past_rest r p) stop cells) (rules.goes options c cells p)
+      Agree (HasFurther line text past p (past_rest r p) stop cells) (rules.proceeds options c cells p)
       (continues options c r))
   -- Where the line ends none opens, and an open one continues by what is held of it, and takes nothing. So it does by
   -- the line definition, on an empty line; each of its kind may be held.
   pub opens_not : (options : ParseOptions) (interrupting : Bool) (cells : List Cell) (p : Point) →
       ends_line (first_seen cells) ≡ true → rules.opens options interrupting cells p ≡ None
-  pub goes_over : (options : ParseOptions) (held : Held) (c : Container) (cells : List Cell) (p : Point) → IsOf k c →
+  pub continues_over : (options : ParseOptions) (held : Held) (c : Container) (cells : List Cell)
+      (p : Point) → IsOf k c →
       rules.holds held c → ends_line (first_seen cells) ≡ true →
-      rules.goes options c cells p ≡ cond (rules.over_empty held) (Some (passed_over held c cells p)) None
+      rules.proceeds options c cells p ≡ cond (rules.over_empty held) (Some (passed_over held c cells p)) None
   pub over_empty : (options : ParseOptions) (held : Held) (c : Container) (column : ℕ) → IsOf k c →
       rules.holds held c →
       continues options c (rest_at column []) ≡
       cond (rules.over_empty held) (Some (record { container = c; rest = rest_at column [] })) None
   -- the kind of what is held shows that
-  pub over_kind : (held : Held) → kind_goes_over k held.starts_blank ≡ rules.over_empty held
+  pub over_kind : (held : Held) → kind_continues_over k held.starts_blank ≡ rules.over_empty held
   pub may_hold : (c : Container) → IsOf k c → (held : Held) × rules.holds held c
   -- By the line definition what opens is of its kind; and an outline can show its block, if it can those in it.
   pub found_one : (options : ParseOptions) (interrupting : Bool) (r : Rest) (t : Taken) →

@@ -12,11 +12,11 @@ use Rattle.md_engine.specs.declared.tokenizer.container.name.ContainerKind.TheVa
 use Rattle.md_engine.specs.ContainerName.{name_of}
 use Rattle.md_containers.specs.Listed.{is_item}
 use Rattle.md_containers.proofs.UnlistedLemmas.{among}
-use Rattle.md_content.specs.Joined.{content_behind}
+use Rattle.md_content.specs.Joined.{content_after}
 use Rattle.md_outline.specs.Roles.{is_plain}
 use Rattle.md_events.specs.Events.Blocks.{is_block}
 use Rattle.md_events.specs.Events.Endings.{on_line}
-use Rattle.md_events.specs.Events.Grammar.{Expression, behind, may_end}
+use Rattle.md_events.specs.Events.Grammar.{Expression, following, may_end}
 use Rattle.md_events.specs.Events.Inline.{is_line_ending}
 use Rattle.md_events.specs.Events.Nested.{enter, exit}
 use Rattle.md_events.specs.Events.Prefix.{is_prefix}
@@ -27,7 +27,7 @@ use Rattle.md_meaning.specs.Tree.{Blocks}
 use Rattle.md_events.proofs.EndingsLemmas.{is_other}
 use Rattle.proof_frame.specs.ContainerNames.{IsOf, container_name, is_listed, shape_name, shape_of}
 use Rattle.proof_frame.proofs.EventNames.{is_front}
-use Rattle.proof_frame.proofs.LeafStands.{Moves}
+use Rattle.proof_frame.proofs.LeafAllowed.{Moves}
 use Rattle.proof_frame.proofs.PartedFacts.{Still}
 use Rattle.proof_frame.proofs.PlainFacts.{Untold}
 
@@ -37,7 +37,7 @@ pub record ContainerFacts (c : Container) : Type 0 where
   -- its name is one of those that are before a line, and not that of a prefix
   pub front : is_front (container_name c) ≡ true
   pub no_prefix : is_prefix (container_name c) ≡ false
-  pub begin_stops : (p : Point) (ys : List Event) → content_behind (enter (container_name c) p ∷ ys) ≡ false
+  pub begin_stops : (p : Point) (ys : List Event) → content_after (enter (container_name c) p ∷ ys) ≡ false
   -- it is no leaf and no ending
   pub other : is_other (on_line (container_name c)) ≡ true
   pub no_part : part_kind (container_name c) ≡ None
@@ -67,7 +67,7 @@ container-facts (InQuote alert) = record {
   no_ending = refl;
   block_role = refl;
   item_role = refl;
-  ends = λ bytes items p. record { may = refl; behind = refl };
+  ends = λ bytes items p. record { may = refl; following = refl };
   still = tt;
   untold = λ h. (refl, refl);
   block = λ bs. refl;
@@ -88,7 +88,7 @@ container-facts (InItem digits marker width starts_blank) = record {
   no_ending = refl;
   block_role = refl;
   item_role = refl;
-  ends = λ bytes items p. record { may = refl; behind = refl };
+  ends = λ bytes items p. record { may = refl; following = refl };
   still = tt;
   untold = λ h. (h, refl);
   block = λ bs. refl;
@@ -110,7 +110,7 @@ container-facts (InFootnote label) = record {
   no_ending = refl;
   block_role = refl;
   item_role = refl;
-  ends = λ bytes items p. record { may = refl; behind = refl };
+  ends = λ bytes items p. record { may = refl; following = refl };
   still = tt;
   untold = λ h. (h, refl);
   block = λ bs. refl;
@@ -125,8 +125,8 @@ container-facts (InFootnote label) = record {
 
 -- lines of content do not continue over its end
 pub end-stops : (c : Container) (p : Point) (ys : List Event) →
-    content_behind (exit (container_name c) p ∷ ys) ≡ false
-end-stops c p ys = ap (λ (x : Bool). cond x (content_behind ys) false) (container-facts c).no_prefix
+    content_after (exit (container_name c) p ∷ ys) ≡ false
+end-stops c p ys = ap (λ (x : Bool). cond x (content_after ys) false) (container-facts c).no_prefix
 
 -- Names of open containers.
 
@@ -148,8 +148,8 @@ names-shapes (c ∷ cs) = ap (λ (l : List Name). l ++ container_name c ∷ []) 
 
 -- what may be here takes what containers add to a line, and is left as it is
 abbrev pub TakesPrefixes : Expression → Type 0
-TakesPrefixes x = (behind n.SpaceOrTab x ≡ x) × (behind n.BlockQuotePrefix x ≡ x)
+TakesPrefixes x = (following n.SpaceOrTab x ≡ x) × (following n.BlockQuotePrefix x ≡ x)
 
 -- a text part of one piece may be, where this is in text parts
 abbrev pub TakesData : Expression → Type 0
-TakesData text = may_end (behind n.Data text) ≡ true
+TakesData text = may_end (following n.Data text) ≡ true

@@ -8,7 +8,7 @@ use Rattle.md_content.specs.ContentReads.{wants_content}
 use Rattle.md_content.proofs.LabelsLemmas.{has_no_label}
 use Rattle.std.proofs.lemmas.Bool.{and_from}
 use Rattle.md_events.specs.Substituted.{wanted}
-use Rattle.proof_frame.proofs.EventNames.{is_told, told-label}
+use Rattle.proof_frame.proofs.EventNames.{is_recorded, recorded-label}
 use Rattle.proof_frame.proofs.SubstitutedLemmas.{Unwanted}
 
 -- no text, no string and no flow is wanted: content alone may be
@@ -23,7 +23,7 @@ content-alone = record { text = refl; string = refl; flow = refl }
 -- events none of which is content or a label, or begins a chunk that the reader wants
 abbrev pub NoContent : (Content → Bool) → List Event → Type 0
 NoContent wants [] = Unit {0}
-NoContent wants (e ∷ es) = (unwanted : wanted wants e ≡ None) × (name : is_told e.name ≡ false) × NoContent wants es
+NoContent wants (e ∷ es) = (unwanted : wanted wants e ≡ None) × (name : is_recorded e.name ≡ false) × NoContent wants es
 
 pub no_content-append : (wants : Content → Bool) (xs ys : List Event) → NoContent wants xs → NoContent wants ys →
     NoContent wants (xs ++ ys)
@@ -45,4 +45,4 @@ nothing-wanted = record { text = refl; string = refl; flow = refl }
 pub no_content-label : (wants : Content → Bool) (es : List Event) → NoContent wants es → has_no_label es ≡ true
 no_content-label wants [] h = refl
 no_content-label wants (e ∷ es) h =
-    and_from _ _ (ap not (told-label e.name h.1)) (no_content-label wants es h.2)
+    and_from _ _ (ap not (recorded-label e.name h.1)) (no_content-label wants es h.2)

@@ -6,7 +6,7 @@
 use Rattle.std.proofs.Common.{◌≡◌, Bool, true, false, cond, ◌&&◌, not, refl}
 use Rattle.md_engine.specs.declared.event.Name.{Name}
 use Rattle.md_engine.specs.declared.event.Name.TheVariants as n
-use Rattle.md_containers.specs.ItemsStand.{IsPart}
+use Rattle.md_containers.specs.ItemsAllowed.{IsPart}
 use Rattle.md_containers.specs.Unlisted.{in_place}
 use Rattle.md_content.specs.Joined.{is_content}
 use Rattle.md_content.specs.Labels.{is_label}
@@ -15,28 +15,28 @@ use Rattle.md_leaves.specs.declared.spans.Place.TheVariants.{Outside}
 use Rattle.md_leaves.specs.Spanned.{has_lines, is_renamed}
 use Rattle.md_leaves.specs.Turned.{is_paragraph, is_underline}
 use Rattle.md_order.specs.Alone.{Nothing, opened_by}
-use Rattle.md_outline.specs.LinesStand.{HasLines}
+use Rattle.md_outline.specs.LinesAllowed.{HasLines}
 use Rattle.md_outline.specs.Roles.{is_plain, is_unlisted}
 use Rattle.md_events.specs.Events.Prefix.{is_prefix}
-use Rattle.md_events.specs.Events.Spelled.{AsCell, AsDelimiter, AsDestination, AsHeading, AsInfo, AsLabel, AsLine, AsMeta}
-use Rattle.md_events.specs.Events.Spelled.{AsTitle, ContainerRole, IsCell, IsFence, IsRow, IsTitle, LeafKind, LeafRole}
-use Rattle.md_events.specs.Events.Spelled.{OfCode, OfDefinition, OfFence, OfFrontmatter, OfHeadingSetext, OfHtml, OfMath}
-use Rattle.md_events.specs.Events.Spelled.{OfTable, Role, TextRole, role}
+use Rattle.md_events.specs.Events.Spelled.{AsCell, AsDelimiter, AsDestination, AsHeading, AsInfo, AsLabel, AsLine}
+use Rattle.md_events.specs.Events.Spelled.{AsMeta, AsTitle, ContainerRole, IsCell, IsFence, IsRow, IsTitle, LeafKind}
+use Rattle.md_events.specs.Events.Spelled.{LeafRole, OfCode, OfDefinition, OfFence, OfFrontmatter, OfHeadingSetext}
+use Rattle.md_events.specs.Events.Spelled.{OfHtml, OfMath, OfTable, Role, TextRole, role}
 
 -- Content, and what is said of it.
 
-abbrev pub is_told : Name → Bool
-is_told n.Content = true
-is_told n.DefinitionLabelString = true
-is_told _ = false
+abbrev pub is_recorded : Name → Bool
+is_recorded n.Content = true
+is_recorded n.DefinitionLabelString = true
+is_recorded _ = false
 
-pub told-content : (name : Name) → is_told name ≡ false → is_content name ≡ false
-told-content n.Content h = cc
-told-content _ h = refl
+pub recorded-content : (name : Name) → is_recorded name ≡ false → is_content name ≡ false
+recorded-content n.Content h = cc
+recorded-content _ h = refl
 
-pub told-label : (name : Name) → is_told name ≡ false → is_label name ≡ false
-told-label n.DefinitionLabelString h = cc
-told-label _ h = refl
+pub recorded-label : (name : Name) → is_recorded name ≡ false → is_label name ≡ false
+recorded-label n.DefinitionLabelString h = cc
+recorded-label _ h = refl
 
 -- Parts that a resolver rewrites where they begin.
 
@@ -65,7 +65,7 @@ pub front-name : (name : Name) → is_prefix name ≡ true → is_front name ≡
 front-name n.Data h = cc
 front-name _ h = cc
 
-pub front-content : (name : Name) → is_front name ≡ true → is_told name ≡ false
+pub front-content : (name : Name) → is_front name ≡ true → is_recorded name ≡ false
 front-content n.Content h = cc
 front-content n.DefinitionLabelString h = cc
 front-content _ h = refl

@@ -17,7 +17,7 @@ use Rattle.md_events.proofs.NestsLemmas.{part-none, together-append}
 use Rattle.proof_frame.specs.ReadsPlain.{reads_plain}
 use Rattle.proof_frame.specs.Linked.{linked}
 use Rattle.proof_frame.proofs.PartFacts.{NoLinks, NoParts, kind-no_part, part-inside}
-use Rattle.proof_frame.proofs.PartsStand.{Inside}
+use Rattle.proof_frame.proofs.PartsValid.{Inside}
 
 -- The same, whatever is after them: the events have these parts, and each is read.
 pub record PartsRead (bytes : List ℕ) (blocks events : List Event) : Type 0 where

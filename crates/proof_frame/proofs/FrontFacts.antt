@@ -15,8 +15,8 @@ use Rattle.proof_frame.proofs.ReadAs.{Both, ReadAs, Same, read_as-fill}
 -- all of it, from a point to a point, with the begins of these containers, the outermost first, be its text parts read
 -- or not
 pub data LinePrefix (bytes : List ℕ) : List Container → Point → Point → List Event → Type 0 where
-  Behind : (p : Point) → LinePrefix bytes [] p p []
-  Goes : (opens : List Container) (p q r : Point) (es fs : List Event) → Continues bytes p q es →
+  Following : (p : Point) → LinePrefix bytes [] p p []
+  Proceeds : (opens : List Container) (p q r : Point) (es fs : List Event) → Continues bytes p q es →
       LinePrefix bytes opens q r fs → LinePrefix bytes opens p r (es ++ fs)
   Begins : (c : Container) (opens : List Container) (p q r : Point) (es fs : List Event) → Opens bytes c p q es →
       LinePrefix bytes opens q r fs →
@@ -36,13 +36,13 @@ front_read-is bytes opens p q front done is reads =
     record { is = subst (LinePrefix bytes opens p q) same is; reads = subst (ReadAs bytes front) same reads }
 
 pub front_read-none : (bytes : List ℕ) (p : Point) → ReadFront bytes [] p p []
-front_read-none bytes p = front_read-is bytes [] p p [] [] (Behind p) (Same [] tt tt)
+front_read-none bytes p = front_read-is bytes [] p p [] [] (Following p) (Same [] tt tt)
 
-pub front_read-goes : (bytes : List ℕ) (opens : List Container) (p q r : Point) (es fs : List Event) →
+pub front_read-proceeds : (bytes : List ℕ) (opens : List Container) (p q r : Point) (es fs : List Event) →
     Continues bytes p q es → ReadFront bytes opens q r fs → ReadFront bytes opens p r (es ++ fs)
-front_read-goes bytes opens p q r es fs is more =
+front_read-proceeds bytes opens p q r es fs is more =
     front_read-is bytes opens p r (es ++ fs) (es ++ plain_read bytes fs)
-    (Goes opens p q r es (plain_read bytes fs) is more.is)
+    (Proceeds opens p q r es (plain_read bytes fs) is more.is)
     (Both es es fs (plain_read bytes fs)
     (Same es (names-unlinked es is.names) (names-no_parts es is.names)) more.reads)
 

@@ -12,7 +12,7 @@ use Rattle.md_events.proofs.NestedLemmas.{at_or_before-refl, at_or_before-trans,
 use Rattle.md_events.proofs.NestedLemmas.{balanced-none, balanced-open, forward-last, matches-append, open_after-append}
 use Rattle.md_events.proofs.SpelledLemmas.{Roles, roles-append}
 use Rattle.proof_frame.specs.Change.{ends_of}
-use Rattle.proof_frame.proofs.FrontFacts.{Begins, Behind, LinePrefix, Goes}
+use Rattle.proof_frame.proofs.FrontFacts.{Begins, Following, LinePrefix, Proceeds}
 use Rattle.proof_frame.proofs.SpanLemmas.{Spans, spans-append}
 use Rattle.proof_frame.proofs.ContainerNames.{names-shapes, open_names, shape_names}
 use Rattle.proof_frame.specs.ContainerNames.{container_name, shape_of}
@@ -26,8 +26,8 @@ use Rattle.proof_frame.specs.ContainerNames.{container_name, shape_of}
 -- they go forward, from the begin of the line to its rest
 pub fronts-spans : (bytes : List ℕ) (opens : List Container) (p q : Point) (front : List Event) →
     LinePrefix bytes opens p q front → Spans p q front
-fronts-spans bytes _ p _ _ (Behind _) = (tt, at_or_before-refl p)
-fronts-spans bytes opens p r _ (Goes _ _ q _ es fs is more) =
+fronts-spans bytes _ p _ _ (Following _) = (tt, at_or_before-refl p)
+fronts-spans bytes opens p r _ (Proceeds _ _ q _ es fs is more) =
     spans-append p q r es fs is.common.nested.1 (fronts-spans bytes opens q r fs more)
 fronts-spans bytes _ p r _ (Begins c opens _ q _ es fs is more) =
     let spans : Spans p r (es ++ fs) = spans-append p q r es fs is.common.nested.1
@@ -43,8 +43,8 @@ fronts-order bytes opens p q front is =
 -- where no container begins, they nest
 pub fronts-balanced : (bytes : List ℕ) (opens : List Container) (p q : Point) (front : List Event) →
     LinePrefix bytes opens p q front → opens ≡ [] → Balanced front
-fronts-balanced bytes _ p _ _ (Behind _) e = balanced-none
-fronts-balanced bytes opens p r _ (Goes _ _ q _ es fs is more) e =
+fronts-balanced bytes _ p _ _ (Following _) e = balanced-none
+fronts-balanced bytes opens p r _ (Proceeds _ _ q _ es fs is more) e =
     balanced-append es fs is.common.nested.0 (fronts-balanced bytes opens q r fs more e)
 fronts-balanced bytes _ p r _ (Begins c opens _ q _ es fs is more) e = cc
 
@@ -84,8 +84,8 @@ turns-append a b c xs ys h k = record {
 -- what is before a line opens the containers that begin in it
 pub fronts-turn : (bytes : List ℕ) (opens : List Container) (names : List Name) (p q : Point) (front : List Event) →
     LinePrefix bytes opens p q front → Turns names (open_names opens ++ names) front
-fronts-turn bytes _ names p _ _ (Behind _) = turns-balanced names [] balanced-none
-fronts-turn bytes opens names p r _ (Goes _ _ q _ es fs is more) =
+fronts-turn bytes _ names p _ _ (Following _) = turns-balanced names [] balanced-none
+fronts-turn bytes opens names p r _ (Proceeds _ _ q _ es fs is more) =
     turns-append names names (open_names opens ++ names) es fs (turns-balanced names es is.common.nested.0)
     (fronts-turn bytes opens names q r fs more)
 fronts-turn bytes _ names p r _ (Begins c opens _ q _ es fs is more) =

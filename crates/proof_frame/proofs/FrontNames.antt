@@ -4,7 +4,7 @@ use Rattle.std.proofs.Common.{◌≡◌, ℕ, Bool, false, cond, ◌&&◌, List,
 use Rattle.std.proofs.Common.{append_assoc}
 use Rattle.md_engine.specs.declared.event.Event.{Event}
 use Rattle.md_engine.specs.declared.event.Point.{Point}
-use Rattle.md_content.specs.Joined.{content_behind, is_content}
+use Rattle.md_content.specs.Joined.{content_after, is_content}
 use Rattle.md_events.specs.Events.Nested.{exit, is_enter}
 use Rattle.md_meaning.specs.State.{Container}
 use Rattle.md_events.specs.Events.Prefix.{is_prefix}
@@ -15,7 +15,7 @@ use Rattle.proof_frame.proofs.FillFacts.{fill-same, filled-read}
 use Rattle.proof_frame.specs.Change.{ends_of, is_none}
 use Rattle.proof_frame.specs.Row.{Row}
 use Rattle.proof_frame.proofs.FrontFacts.{LinePrefix, ReadFront}
-use Rattle.proof_frame.proofs.FrontFacts.LinePrefix.{Begins, Behind, Goes}
+use Rattle.proof_frame.proofs.FrontFacts.LinePrefix.{Begins, Following, Proceeds}
 use Rattle.proof_frame.proofs.ContainerNames.{container-facts}
 use Rattle.proof_frame.proofs.PrefixNames.{names-no_parts, names-unlinked, AreFront, ArePrefixes, prefixes-front}
 use Rattle.proof_frame.proofs.PrefixNames.{IsFrontEvent, IsNamed}
@@ -33,16 +33,16 @@ HasFront bytes row =
 -- where no container begins there are prefixes alone
 pub fronts-prefixes : (bytes : List ℕ) (opens : List Container) (p q : Point) (es : List Event) → opens ≡ [] →
     LinePrefix bytes opens p q es → ArePrefixes es
-fronts-prefixes bytes opens p q es none (Behind r) = tt
-fronts-prefixes bytes opens p q es none (Goes same first mid last xs ys is more) =
+fronts-prefixes bytes opens p q es none (Following r) = tt
+fronts-prefixes bytes opens p q es none (Proceeds same first mid last xs ys is more) =
     each-append (IsNamed is_prefix) xs ys is.names (fronts-prefixes bytes same mid last ys none more)
 fronts-prefixes bytes opens p q es none (Begins c below first mid last xs ys is more) = cc
 
 -- and none of them gives a quote a kind
 fronts-unmarked_in : (bytes : List ℕ) (opens : List Container) (p q : Point) (es : List Event) → opens ≡ [] →
     LinePrefix bytes opens p q es → Unmarked bytes es
-fronts-unmarked_in bytes opens p q es none (Behind r) = tt
-fronts-unmarked_in bytes opens p q es none (Goes same first mid last xs ys is more) =
+fronts-unmarked_in bytes opens p q es none (Following r) = tt
+fronts-unmarked_in bytes opens p q es none (Proceeds same first mid last xs ys is more) =
     unmarked-append bytes xs ys is.unmarked (fronts-unmarked_in bytes same mid last ys none more)
 fronts-unmarked_in bytes opens p q es none (Begins c below first mid last xs ys is more) = cc
 
@@ -51,8 +51,8 @@ fronts-unmarked bytes p q es is = fronts-unmarked_in bytes [] p q es refl is
 
 pub fronts-are : (bytes : List ℕ) (opens : List Container) (p q : Point) (es : List Event) →
     LinePrefix bytes opens p q es → AreFront es
-fronts-are bytes opens p q es (Behind r) = tt
-fronts-are bytes opens p q es (Goes same first mid last xs ys is more) =
+fronts-are bytes opens p q es (Following r) = tt
+fronts-are bytes opens p q es (Proceeds same first mid last xs ys is more) =
     each-append IsFrontEvent xs ys (prefixes-front xs is.names) (fronts-are bytes same mid last ys more)
 fronts-are bytes opens p q es (Begins c below first mid last xs ys is more) = (
   ((container-facts c).front, refl),
@@ -77,17 +77,17 @@ ends-first P c (d ∷ cs) p es h =
 -- What continues after them.
 
 -- a line of content continues over prefixes
-pub prefixes-content : (xs ys : List Event) → ArePrefixes xs → content_behind (xs ++ ys) ≡ content_behind ys
+pub prefixes-content : (xs ys : List Event) → ArePrefixes xs → content_after (xs ++ ys) ≡ content_after ys
 prefixes-content [] ys h = refl
 prefixes-content (e ∷ xs) ys h =
-    ap (λ (x : Bool). cond x (content_behind (xs ++ ys)) (is_enter e.kind && is_content e.name)) h.0.0
+    ap (λ (x : Bool). cond x (content_after (xs ++ ys)) (is_enter e.kind && is_content e.name)) h.0.0
     ∙ prefixes-content xs ys h.1
 
 pub fronts-stop : (bytes : List ℕ) (opens : List Container) (p q : Point) (es : List Event) → (ys : List Event) →
-    is_none opens ≡ false → LinePrefix bytes opens p q es → content_behind (es ++ ys) ≡ false
-fronts-stop bytes opens p q es ys some (Behind r) = cc
-fronts-stop bytes opens p q es ys some (Goes same first mid last xs fs is more) =
-    ap content_behind (append_assoc xs fs ys) ∙ prefixes-content xs (fs ++ ys) is.names
+    is_none opens ≡ false → LinePrefix bytes opens p q es → content_after (es ++ ys) ≡ false
+fronts-stop bytes opens p q es ys some (Following r) = cc
+fronts-stop bytes opens p q es ys some (Proceeds same first mid last xs fs is more) =
+    ap content_after (append_assoc xs fs ys) ∙ prefixes-content xs (fs ++ ys) is.names
     ∙ fronts-stop bytes same mid last fs ys some more
 fronts-stop bytes opens p q es ys some (Begins c below first mid last xs fs is more) =
     (container-facts c).begin_stops first ((xs ++ fs) ++ ys)

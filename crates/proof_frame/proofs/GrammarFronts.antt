@@ -3,18 +3,18 @@ use Rattle.std.proofs.Common.{◌≡◌, Bool, true, false, cond, ℕ, List, [],
 use Rattle.md_engine.specs.declared.event.Event.{Event}
 use Rattle.md_engine.specs.declared.event.Name.{Name}
 use Rattle.md_engine.specs.declared.event.Point.{Point}
-use Rattle.md_events.specs.Events.Grammar.{Expression, behind_block, blocks, may_end}
+use Rattle.md_events.specs.Events.Grammar.{Expression, after_block, blocks, may_end}
 use Rattle.md_events.specs.Events.Nested.{enter, exit}
 use Rattle.md_meaning.specs.State.{Container}
-use Rattle.md_containers.specs.ItemsStand.{IsPart}
+use Rattle.md_containers.specs.ItemsAllowed.{IsPart}
 use Rattle.md_containers.specs.Unlisted.{unlisted_left}
 use Rattle.md_containers.proofs.UnlistedLemmas.{Unlists, unlists-append, unlists-rest, unlists-same}
 use Rattle.md_events.proofs.GrammarLemmas.{Leads, leads-append}
 use Rattle.proof_frame.specs.ContainerNames.{container_name}
 use Rattle.proof_frame.specs.Change.{ends_of}
-use Rattle.proof_frame.proofs.FrontFacts.{Begins, Behind, LinePrefix, Goes}
+use Rattle.proof_frame.proofs.FrontFacts.{Begins, Following, LinePrefix, Proceeds}
 use Rattle.proof_frame.proofs.ContainerNames.{open_names, TakesData, TakesPrefixes}
-use Rattle.proof_frame.proofs.LeafStands.{parts-unlisted}
+use Rattle.proof_frame.proofs.LeafAllowed.{parts-unlisted}
 use Rattle.proof_frame.proofs.PrefixNames.{prefixes-roles}
 
 -- Open containers.
@@ -22,19 +22,19 @@ use Rattle.proof_frame.proofs.PrefixNames.{prefixes-roles}
 -- what is left of the parts around blocks, where these names are open
 abbrev pub behinds : List Name → List Expression
 behinds [] = []
-behinds (name ∷ names) = behind_block ∷ behinds names
+behinds (name ∷ names) = after_block ∷ behinds names
 
 -- some names around others
 pub behinds-append : (xs ys : List Name) → behinds (xs ++ ys) ≡ behinds xs ++ behinds ys
 behinds-append [] ys = refl
-behinds-append (name ∷ xs) ys = ap (λ (l : List Expression). behind_block ∷ l) (behinds-append xs ys)
+behinds-append (name ∷ xs) ys = ap (λ (l : List Expression). after_block ∷ l) (behinds-append xs ys)
 
 -- with one around them
 behinds-around : (xs : List Name) (name : Name) (outer : List Expression) →
-    behinds (xs ++ name ∷ []) ++ outer ≡ behinds xs ++ (behind_block ∷ outer)
+    behinds (xs ++ name ∷ []) ++ outer ≡ behinds xs ++ (after_block ∷ outer)
 behinds-around xs name outer =
     ap (λ (l : List Expression). l ++ outer) (behinds-append xs (name ∷ []))
-    ∙ append_assoc (behinds xs) (behind_block ∷ []) outer
+    ∙ append_assoc (behinds xs) (after_block ∷ []) outer
 
 -- LinePrefix.
 
@@ -42,17 +42,17 @@ behinds-around xs name outer =
 pub front-leads : (text : Expression) (bytes : List ℕ) (opens : List Container) (p q : Point) (front : List Event) →
     TakesData text → LinePrefix bytes opens p q front →
     Unlists text (blocks ∷ []) (blocks ∷ behinds (open_names opens)) front
-front-leads text bytes _ p _ _ takes (Behind _) = λ outer. refl
-front-leads text bytes opens p r _ takes (Goes _ _ q _ es fs is more) =
+front-leads text bytes _ p _ _ takes (Following _) = λ outer. refl
+front-leads text bytes opens p r _ takes (Proceeds _ _ q _ es fs is more) =
     unlists-append text (blocks ∷ []) (blocks ∷ []) (blocks ∷ behinds (open_names opens)) es fs
     (unlists-same text (blocks ∷ []) (blocks ∷ []) es (parts-unlisted es (prefixes-roles IsPart es tt tt tt is.names))
     (is.stays text blocks (refl, refl))) (front-leads text bytes opens q r fs takes more)
 front-leads text bytes _ p r _ takes (Begins c opens _ q _ es fs is more) =
-    let further : Unlists text (blocks ∷ behind_block ∷ [])
+    let further : Unlists text (blocks ∷ after_block ∷ [])
     (blocks ∷ behinds (open_names opens ++ container_name c ∷ [])) fs =
-    λ outer. front-leads text bytes opens q r fs takes more (behind_block ∷ outer)
+    λ outer. front-leads text bytes opens q r fs takes more (after_block ∷ outer)
     ∙ ap (λ (l : List Expression). blocks ∷ l) (sym (behinds-around (open_names opens) (container_name c) outer)) in
-    unlists-append text (blocks ∷ []) (blocks ∷ behind_block ∷ [])
+    unlists-append text (blocks ∷ []) (blocks ∷ after_block ∷ [])
     (blocks ∷ behinds (open_names opens ++ container_name c ∷ [])) (enter (container_name c) p ∷ es) fs
     (is.leads text takes) further
 
@@ -60,8 +60,8 @@ front-leads text bytes _ p r _ takes (Begins c opens _ q _ es fs is more) =
 pub front-stays : (text x : Expression) (bytes : List ℕ) (opens : List Container) (p q : Point) (front : List Event) →
     TakesPrefixes x → LinePrefix bytes opens p q front → opens ≡ [] →
     Leads text (x ∷ []) (x ∷ []) front
-front-stays text x bytes _ p _ _ takes (Behind _) none = λ outer. refl
-front-stays text x bytes opens p r _ takes (Goes _ _ q _ es fs is more) none =
+front-stays text x bytes _ p _ _ takes (Following _) none = λ outer. refl
+front-stays text x bytes opens p r _ takes (Proceeds _ _ q _ es fs is more) none =
     leads-append text (x ∷ []) (x ∷ []) (x ∷ []) es fs (is.stays text x takes)
     (front-stays text x bytes opens q r fs takes more none)
 front-stays text x bytes _ p r _ takes (Begins c opens _ q _ es fs is more) none = cc
@@ -69,30 +69,30 @@ front-stays text x bytes _ p r _ takes (Begins c opens _ q _ es fs is more) none
 -- After a line.
 
 -- what is left of blocks after a block, and after a blank line
-abbrev pub blocks_behind : Bool → Expression
-blocks_behind true = behind_block
-blocks_behind false = blocks
+abbrev pub blocks_after : Bool → Expression
+blocks_after true = after_block
+blocks_after false = blocks
 
 -- a container may end there
-pub behind-ends : (block : Bool) → may_end (blocks_behind block) ≡ true
-behind-ends true = refl
-behind-ends false = refl
+pub following-ends : (block : Bool) → may_end (blocks_after block) ≡ true
+following-ends true = refl
+following-ends false = refl
 
 -- containers end
 pub ends-lead : (text : Expression) (cs : List Container) (p : Point) (block : Bool) →
     (after : Bool) ×
-    Unlists text (blocks_behind block ∷ behinds (open_names cs)) (blocks_behind after ∷ []) (ends_of cs p)
+    Unlists text (blocks_after block ∷ behinds (open_names cs)) (blocks_after after ∷ []) (ends_of cs p)
 ends-lead text [] p block = (block, λ outer. refl)
 ends-lead text (c ∷ cs) p block =
     let inner : (after : Bool) ×
-    Unlists text (blocks_behind block ∷ behinds (open_names cs)) (blocks_behind after ∷ [])
+    Unlists text (blocks_after block ∷ behinds (open_names cs)) (blocks_after after ∷ [])
     (ends_of cs p) = ends-lead text cs p block in
     let name : Name = container_name c in (
       true,
       λ outer.
-          ap (λ (l : List Expression). unlisted_left text (blocks_behind block ∷ l) (ends_of cs p ++ exit name p ∷ []))
+          ap (λ (l : List Expression). unlisted_left text (blocks_after block ∷ l) (ends_of cs p ++ exit name p ∷ []))
           (behinds-around (open_names cs) name outer)
-          ∙ unlists-rest text (blocks_behind block ∷ behinds (open_names cs)) (blocks_behind inner.0 ∷ [])
-          (behind_block ∷ outer) (ends_of cs p) (exit name p ∷ []) inner.1
-          ∙ ap (λ (b : Bool). cond b (behind_block ∷ outer) []) (behind-ends inner.0),
+          ∙ unlists-rest text (blocks_after block ∷ behinds (open_names cs)) (blocks_after inner.0 ∷ [])
+          (after_block ∷ outer) (ends_of cs p) (exit name p ∷ []) inner.1
+          ∙ ap (λ (b : Bool). cond b (after_block ∷ outer) []) (following-ends inner.0),
     )

@@ -6,7 +6,7 @@ use Rattle.std.proofs.Common.{◌≡◌, ℕ, Bool, true, false, List, [], ◌�
 use Rattle.std.specs.Prelude.{Option, Some, None, slice_range}
 use Rattle.md_engine.specs.declared.event.Event.{Event}
 use Rattle.md_engine.specs.declared.event.Point.{Point}
-use Rattle.md_containers.proofs.UnlistedLemmas.{StandsTo, among}
+use Rattle.md_containers.proofs.UnlistedLemmas.{ItemsLead, among}
 use Rattle.md_events.specs.Events.Endings.{EndingPlace, line_start}
 use Rattle.md_events.specs.Events.Grammar.{blocks, plain_text, unread_text}
 use Rattle.md_events.specs.Events.Places.{past_text}
@@ -18,7 +18,7 @@ use Rattle.md_events.proofs.GrammarLemmas as grammar
 use Rattle.md_events.proofs.RestCells.{Cut}
 use Rattle.md_meaning.proofs.TextsLemmas.{NoEnding}
 use Rattle.proof_frame.specs.RestLine.{rest_line}
-use Rattle.proof_frame.proofs.GrammarFronts.{blocks_behind}
+use Rattle.proof_frame.proofs.GrammarFronts.{blocks_after}
 use Rattle.proof_frame.proofs.PartedFacts.{clear}
 use Rattle.proof_frame.proofs.PieceFacts.{CutsFirst}
 use Rattle.proof_frame.proofs.EventNames.{NoContainer}
@@ -39,9 +39,9 @@ pub record LineAt (bytes : List ℕ) (r : Rest) (line : List ℕ) (p q : Point) 
   pub cut : Cut r.spaces p
 
 -- where the line is after a leaf, as its ending asks: after one that fills its last line, or where it began
-abbrev pub spot_behind : Bool → EndingPlace
-spot_behind true = ending.behind_leaf
-spot_behind false = line_start
+abbrev pub spot_after : Bool → EndingPlace
+spot_after true = ending.following_leaf
+spot_after false = line_start
 
 -- what is read with this block more, if there is one
 abbrev pub shown : Option Block → Reading → Reading
@@ -50,23 +50,23 @@ shown (Some block) r = add_block block r
 
 -- These events are from a point to a point before text parts are read, and those once they are, as a leaf does whatever
 -- it is read as; something is on their last line, or nothing does.
-pub record StandFacts (bytes : List ℕ) (full : Bool) (p q : Point) (unread done : List Event) : Type 0 where
+pub record EventFacts (bytes : List ℕ) (full : Bool) (p q : Point) (unread done : List Event) : Type 0 where
   pub stretch : Stretch NoContainer bytes p q unread done
   -- whether the grammar is after a block there, or where blocks may begin as at first
-  pub behind : Bool
+  pub following : Bool
   -- they keep the grammar
-  pub unread_word : grammar.Leads unread_text (blocks ∷ []) (blocks_behind behind ∷ []) unread
-  pub word : grammar.Leads plain_text (blocks ∷ []) (blocks_behind behind ∷ []) done
+  pub unread_word : grammar.Leads unread_text (blocks ∷ []) (blocks_after following ∷ []) unread
+  pub word : grammar.Leads plain_text (blocks ∷ []) (blocks_after following ∷ []) done
   -- and where their line ends
-  pub unread_ending : ending.Leads line_start (spot_behind full) unread
-  pub ending : ending.Leads line_start (spot_behind full) done
+  pub unread_ending : ending.Leads line_start (spot_after full) unread
+  pub ending : ending.Leads line_start (spot_after full) done
   -- they are where blocks may be, and may be outlined
-  pub stands : (held : List Bool) → StandsTo bytes (among held) (among held) done
+  pub valid : (held : List Bool) → ItemsLead bytes (among held) (among held) done
   pub plain : clear bytes p ≡ true → ArePlain bytes done
 
 -- They show this block, or none.
 pub record LeafFacts (bytes : List ℕ) (block : Option Block) (full : Bool) (p q : Point)
     (unread done : List Event) : Type 0 where
-  pub stand : StandFacts bytes full p q unread done
+  pub are_valid : EventFacts bytes full p q unread done
   -- they are read as their block
   pub reads : (r : Reading) → r.text ≡ None → r.leaf ≡ None → read bytes r done ≡ shown block r

@@ -1,6 +1,6 @@
 -- The laws of a leaf on one line: what the frame asks of each (`LineLeaf`), where this resolver sets such leaves.
 use Rattle.std.proofs.Common.{◌≡◌, ℕ, ◌^◌, ◌<◌, ◌≤◌, Bool, true, false, cond, List, ◌++◌, length}
-use Rattle.proof_frame.specs.HeldLeaf.{kind_of_leaf, left_by, may_go_on, takes_lazy, has_lines}
+use Rattle.proof_frame.specs.HeldLeaf.{kind_of_leaf, left_by, may_continue, takes_lazy, has_lines}
 use Rattle.std.specs.Prelude.{◌&&◌, ◌||◌, Some}
 use Rattle.md_engine.specs.declared.configuration.ParseOptions.{ParseOptions}
 use Rattle.md_engine.specs.declared.event.Content.{Content}
@@ -11,7 +11,7 @@ use Rattle.md_engine.specs.declared.tokenizer.held_leaf.HeldLeaf.{HeldLeaf}
 use Rattle.md_engine.specs.declared.tokenizer.held_leaf.HeldLeaf.TheVariants as held_leaf
 use Rattle.md_engine.specs.Meaning.{Accepts, Cell, Fails, Here, Outcome, Refuses}
 use Rattle.md_events.specs.Ahead.{begins_white, from_ending, line_bytes, line_end}
-use Rattle.md_events.specs.Look.{seen_behind}
+use Rattle.md_events.specs.Look.{seen_after}
 use Rattle.md_events.specs.Spaces.{IsRest, any_size}
 use Rattle.md_meaning.specs.Leaves.{Finished}
 use Rattle.md_meaning.specs.Rest.{Rest, is_blank}
@@ -59,11 +59,11 @@ cond-shrinks n false a b p q = q
 
 pub record LeafLaws (resolver : LineResolver) (l : LineLeaf) : Type 1 where
   -- It takes no line where it may not begin, by what is first after whitespace, and whether such is in front.
-  pub looked : (options : ParseOptions) (on : HeldLeaf) (cells : List Cell) (b : ℕ) → seen_behind cells ≡ Some b →
+  pub looked : (options : ParseOptions) (on : HeldLeaf) (cells : List Cell) (b : ℕ) → seen_after cells ≡ Some b →
       l.may_begin on (begins_white cells) b ≡ false → l.takes options on cells ≡ false
   -- A line of it that continues a leaf meets one on which a line may continue.
   pub meets : (options : ParseOptions) (on : HeldLeaf) (r : Rest) → l.starts options on r ≡ true →
-      l.further on ≡ true → may_go_on on ≡ true
+      l.further on ≡ true → may_continue on ≡ true
   -- Where it is tried, it takes a line to its end, or refuses it and leaves all as it was.
   pub took : (options : ParseOptions) (cells : List Cell) (h : Here) → IsRest h.scratch → length cells ≤ any_size →
       l.takes options h.flags.leaf cells ≡ true →
@@ -77,28 +77,28 @@ pub record LeafLaws (resolver : LineResolver) (l : LineLeaf) : Type 1 where
   pub shrinks : (options : ParseOptions) (cells : List Cell) (h : Here) →
       Shrinks (length cells) (l.trial options cells h)
   -- It takes the lines that the line definition says, and adds what it says of their bytes.
-  pub fits : (options : ParseOptions) (on : HeldLeaf) (said : Line) (text behind : List ℕ) (r : Rest) (p : Point)
+  pub fits : (options : ParseOptions) (on : HeldLeaf) (said : Line) (text following : List ℕ) (r : Rest) (p : Point)
       (stop : List Cell) →
-      RestAt text behind r p → NoEnding r.bytes → Stops stop → length (rest_cells said r p ++ stop) < 2 ^ 63 →
+      RestAt text following r p → NoEnding r.bytes → Stops stop → length (rest_cells said r p ++ stop) < 2 ^ 63 →
       l.takes options on (rest_cells said r p ++ stop) ≡ l.starts options on r
-  pub adds_is : (options : ParseOptions) (on : HeldLeaf) (said : Line) (text behind : List ℕ) (r : Rest) (p : Point)
+  pub adds_is : (options : ParseOptions) (on : HeldLeaf) (said : Line) (text following : List ℕ) (r : Rest) (p : Point)
       (stop : List Cell) →
-      RestAt text behind r p → NoEnding r.bytes → Stops stop → length (rest_cells said r p ++ stop) < 2 ^ 63 →
+      RestAt text following r p → NoEnding r.bytes → Stops stop → length (rest_cells said r p ++ stop) < 2 ^ 63 →
       l.starts options on r ≡ true →
       l.adds options on (rest_cells said r p ++ stop) p ≡ l.added options on (rest_line r) p
   -- What is held after it is what the line definition has there; nothing, where it always ends on its line.
-  pub keeps_is : (options : ParseOptions) (on : HeldLeaf) (said : Line) (text behind : List ℕ) (r : Rest) (p : Point)
+  pub keeps_is : (options : ParseOptions) (on : HeldLeaf) (said : Line) (text following : List ℕ) (r : Rest) (p : Point)
       (stop : List Cell) →
-      RestAt text behind r p → NoEnding r.bytes → Stops stop → length (rest_cells said r p ++ stop) < 2 ^ 63 →
+      RestAt text following r p → NoEnding r.bytes → Stops stop → length (rest_cells said r p ++ stop) < 2 ^ 63 →
       l.starts options on r ≡ true → l.keeps options on (rest_cells said r p ++ stop) p ≡ l.holds options on r
   pub shut : l.ends ≡ true → (options : ParseOptions) (on : HeldLeaf) →
       ((cells : List Cell) (p : Point) → l.keeps options on cells p ≡ held_leaf.None)
       × ((r : Rest) → l.holds options on r ≡ held_leaf.None)
   -- Where it always ends on its line it becomes its block; else what is held after it is the leaf that it becomes.
   pub finishes : l.ends ≡ true → (options : ParseOptions) (leaf : Leaf) (r : Rest) →
-      l.comes options leaf r ≡ Finished (l.block r)
+      l.becomes options leaf r ≡ Finished (l.block r)
   pub holds_is : (options : ParseOptions) (leaf : Leaf) (r : Rest) → l.starts options (kind_of_leaf leaf) r ≡ true →
-      kind_of_leaf (left_by (l.comes options leaf r)) ≡ l.holds options (kind_of_leaf leaf) r
+      kind_of_leaf (left_by (l.becomes options leaf r)) ≡ l.holds options (kind_of_leaf leaf) r
   -- No line continues it lazily.
   pub not_lazy : (options : ParseOptions) (on : HeldLeaf) →
       ((cells : List Cell) (p : Point) → takes_lazy (l.keeps options on cells p) ≡ false)

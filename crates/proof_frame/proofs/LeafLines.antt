@@ -1,6 +1,6 @@
 -- The lines of one leaf that are joined: what is known of their events.
 pub mod Bare
-pub mod Behind
+pub mod Following
 pub mod Cuts
 pub mod Each
 pub mod Framed

@@ -6,7 +6,7 @@ use Rattle.md_engine.specs.Meaning.{Accepts, Cell, Here, Refuses}
 use Rattle.md_content.specs.ChunkRule.{chunk_at, inside_chunk}
 use Rattle.md_content.specs.Chunks.{content_link}
 use Rattle.md_leaves.specs.BlankRule.{blank_at, blank_events}
-use Rattle.md_link_definitions.specs.OpenText.{text_behind}
+use Rattle.md_link_definitions.specs.OpenText.{text_following}
 use Rattle.md_link_definitions.specs.WholeCells.{whole_rest}
 use Rattle.md_events.specs.Ahead.{from_ending, line_bytes, line_end}
 use Rattle.md_events.specs.Events.Nested.{enter_link, exit}
@@ -45,7 +45,7 @@ pub chunk-took : (cells : List Cell) (h : Here) →
     (record h {
       events = h.events ++ (enter_link n.Content h.point content_link ∷ exit n.Content (line_end cells h.point) ∷ []);
       point = line_end cells h.point;
-      flags = record h.flags { leaf = text_behind h.flags.leaf (whole_rest h.point cells) };
+      flags = record h.flags { leaf = text_following h.flags.leaf (whole_rest h.point cells) };
     })
     (from_ending cells)
 unfolding chunk_at inside_chunk
@@ -56,7 +56,7 @@ chunk-took cells h =
     (record h {
       events = es;
       point = line_end cells h.point;
-      flags = record h.flags { leaf = text_behind h.flags.leaf (whole_rest h.point cells) };
+      flags = record h.flags { leaf = text_following h.flags.leaf (whole_rest h.point cells) };
     })
     (from_ending cells))
     (append_assoc h.events (enter_link n.Content h.point content_link ∷ [])

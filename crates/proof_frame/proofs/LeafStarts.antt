@@ -9,12 +9,12 @@ use Rattle.md_events.specs.Spaces.{small_indent}
 use Rattle.md_events.proofs.RestCells.{white-length}
 use Rattle.proof_frame.proofs.LeafLaws.{Shrinks, cond-shrinks}
 
-pub start-shrinks : (name : Name) (on : Bool) (behind : List Cell → Here → Outcome) (options : ParseOptions)
+pub start-shrinks : (name : Name) (on : Bool) (following : List Cell → Here → Outcome) (options : ParseOptions)
     (cells : List Cell) (h : Here) →
-    ((n : ℕ) (cells : List Cell) (h : Here) → length cells ≤ n → Shrinks n (behind cells h)) →
-    Shrinks (length cells) (start_at name on behind options cells h)
+    ((n : ℕ) (cells : List Cell) (h : Here) → length cells ≤ n → Shrinks n (following cells h)) →
+    Shrinks (length cells) (start_at name on following options cells h)
 unfolding start_at
-start-shrinks name on behind options cells h shrinks =
+start-shrinks name on following options cells h shrinks =
     cond-shrinks _ on _ _
     (cond-shrinks _ (begins_white cells) _ _ (shrinks _ _ _ (white-length (small_indent options) cells))
     (shrinks _ cells _ (omega arith)))

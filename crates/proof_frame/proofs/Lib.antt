@@ -18,13 +18,13 @@ pub mod FrontFacts
 pub mod FrontLemmas
 pub mod FrontNames
 pub mod FrontPlaces
-pub mod FrontStands
+pub mod FrontValid
 pub mod GrammarFronts
 pub mod LastKept
 pub mod LeafFacts
 pub mod LeafLaws
 pub mod LeafRows
-pub mod LeafStands
+pub mod LeafAllowed
 pub mod LeafStarts
 pub mod LineEnds
 pub mod LineTexts
@@ -42,7 +42,7 @@ pub mod ParagraphLines
 pub mod PartFacts
 pub mod PartedFacts
 pub mod PartsFacts
-pub mod PartsStand
+pub mod PartsValid
 pub mod PassedFacts
 pub mod PieceFacts
 pub mod PieceRuns
@@ -50,7 +50,7 @@ pub mod PiecesLemmas
 pub mod PlaceBetween
 pub mod PlainFacts
 pub mod PlainRoles
-pub mod PlainTells
+pub mod PlainRecords
 pub mod PrefixFacts
 pub mod PrefixNames
 pub mod Reached
@@ -65,7 +65,7 @@ pub mod SpanLemmas
 pub mod SpannedFacts
 pub mod Stretch
 pub mod SubstitutedLemmas
-pub mod TextBehind
+pub mod TextAfter
 pub mod TextInside
 pub mod TextLaws
 pub mod Unmarked

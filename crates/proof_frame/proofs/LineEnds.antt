@@ -14,8 +14,8 @@ use Rattle.proof_frame.specs.RestLine.{rest_line}
 use Rattle.proof_frame.proofs.IndentRemoved.Columns.{past-line}
 
 -- the line ends where its bytes do
-pub line-ends : (said : Line) (text behind : List ℕ) (r : Rest) (p : Point) (stop : List Cell) →
-    RestAt text behind r p → NoEnding r.bytes → Stops stop →
+pub line-ends : (said : Line) (text following : List ℕ) (r : Rest) (p : Point) (stop : List Cell) →
+    RestAt text following r p → NoEnding r.bytes → Stops stop →
     line_end (rest_cells said r p ++ stop) p ≡ past_text (rest_line r) p
-line-ends said text behind r p stop is h k =
-    rest-past said r p stop h k (let at = is.column in omega arith) ∙ past-line text behind r p is
+line-ends said text following r p stop is h k =
+    rest-past said r p stop h k (let at = is.column in omega arith) ∙ past-line text following r p is

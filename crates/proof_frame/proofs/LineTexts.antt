@@ -71,9 +71,9 @@ piece bytes i j le =
     (drop-drop (j - i) i bytes ∙ ap (λ (k : ℕ). drop k bytes) (omega arith))
 
 -- a line is there, and what follows after it
-pub line-stands : (bytes : List ℕ) (r : Rest) (line : List ℕ) (p q : Point) → LineAt bytes r line p q →
+pub line-valid : (bytes : List ℕ) (r : Rest) (line : List ℕ) (p q : Point) → LineAt bytes r line p q →
     drop p.index bytes ≡ line ++ drop q.index bytes
-line-stands bytes r line p q is =
+line-valid bytes r line p q is =
     piece bytes p.index q.index (omega (arith, is.size))
     ∙ ap (λ (l : List ℕ). l ++ drop q.index bytes) is.text
 
@@ -86,9 +86,9 @@ some-text r dark = go r.spaces r.bytes dark
     go zero (b ∷ bs) h = omega arith
     go (suc k) bytes h = omega arith
 
-pub text-behind : (bytes : List ℕ) (r : Rest) (p q : Point) → LineAt bytes r (rest_line r) p q →
+pub text-following : (bytes : List ℕ) (r : Rest) (p q : Point) → LineAt bytes r (rest_line r) p q →
     0 < length (rest_line r) → p.index < length bytes
-text-behind bytes r p q at some = go (nat_lt p.index (length bytes)) refl
+text-following bytes r p q at some = go (nat_lt p.index (length bytes)) refl
   where
     over : (line left : List ℕ) → 0 < length line → line ++ left ≡ [] → ⊥
     over [] left some e = absurd (omega (arith, some))
@@ -100,7 +100,7 @@ text-behind bytes r p q at some = go (nat_lt p.index (length bytes)) refl
         let le : length bytes ≤ p.index = grind (arith, nat_tests) in
         absurd
         (over (rest_line r) (drop q.index bytes) some
-        (sym (line-stands bytes r (rest_line r) p q at) ∙ drop_all p.index bytes le))
+        (sym (line-valid bytes r (rest_line r) p q at) ∙ drop_all p.index bytes le))
 
 -- after some bytes no tab is cut
 pub past-whole : (line : List ℕ) (p : Point) → 0 < length line → (past_text line p).vs ≡ 0

@@ -8,10 +8,10 @@ use Rattle.md_events.proofs.InlineLemmas.{past-index}
 
 -- Bytes of a line that are at a point of a text, which cuts no tab.
 pub record At (bytes xs : List ℕ) (p : Point) (rest : List ℕ) : Type 0 where
-  pub stands : drop p.index bytes ≡ xs ++ rest
+  pub valid : drop p.index bytes ≡ xs ++ rest
   pub none : NoEnding xs
   pub whole : p.vs ≡ 0
 
-pub past-stands : (bytes xs rest : List ℕ) (p : Point) → drop p.index bytes ≡ xs ++ rest →
+pub past-valid : (bytes xs rest : List ℕ) (p : Point) → drop p.index bytes ≡ xs ++ rest →
     drop (past_text xs p).index bytes ≡ rest
-past-stands bytes xs rest p is = ap (λ (i : ℕ). drop i bytes) (past-index xs p) ∙ drop-past bytes p.index xs rest is
+past-valid bytes xs rest p is = ap (λ (i : ℕ). drop i bytes) (past-index xs p) ∙ drop-past bytes p.index xs rest is

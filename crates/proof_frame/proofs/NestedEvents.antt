@@ -6,10 +6,10 @@ use Rattle.md_engine.specs.declared.event.Name.{Name}
 use Rattle.md_engine.specs.declared.event.Point.{Point}
 use Rattle.md_events.specs.Events.Nested.{Balanced, Forward, Matches, last_point, open_after}
 use Rattle.md_events.specs.Events.Places.{at_or_before}
-use Rattle.md_events.proofs.NestedLemmas.{at_or_before-refl, balanced-none, forward-append, forward-from, matches-append}
-use Rattle.md_events.proofs.NestedLemmas.{open_after-append}
+use Rattle.md_events.proofs.NestedLemmas.{at_or_before-refl, balanced-none, forward-append, forward-from}
+use Rattle.md_events.proofs.NestedLemmas.{matches-append, open_after-append}
 use Rattle.md_order.proofs.Nests.Leads.{Under}
-use Rattle.proof_frame.specs.Row.{Row, behind_row, ending_events}
+use Rattle.proof_frame.specs.Row.{Row, after_row, ending_events}
 use Rattle.proof_frame.proofs.FrontLemmas.{Turns, turns-balanced}
 use Rattle.proof_frame.proofs.SpanLemmas.{Nested_in, Spans}
 
@@ -37,12 +37,12 @@ pub under-before : (names : List Name) (p q : Point) (xs events : List Event) �
 under-before names p q xs events h on = under-turn names names p q xs events (turns-balanced names xs h.0) h.1 on
 
 -- the ending of a line nests
-pub ending-nested : (name : Name) (row : Row) → IsTrue (at_or_before row.end (behind_row row)) →
-    Nested_in row.end (behind_row row) (ending_events name row)
+pub ending-nested : (name : Name) (row : Row) → IsTrue (at_or_before row.end (after_row row)) →
+    Nested_in row.end (after_row row) (ending_events name row)
 ending-nested name row = go row.after
   where
-    go : (after : Option Point) → IsTrue (at_or_before row.end (behind_row (record row { after = after }))) →
-        Nested_in row.end (behind_row (record row { after = after }))
+    go : (after : Option Point) → IsTrue (at_or_before row.end (after_row (record row { after = after }))) →
+        Nested_in row.end (after_row (record row { after = after }))
         (ending_events name (record row { after = after }))
     go None h = (balanced-none, (tt, h))
     go (Some q) h = (

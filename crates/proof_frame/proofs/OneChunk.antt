@@ -11,5 +11,5 @@ pub text-chunked : (bytes : List ℕ) (b : ℕ) (bs rest : List ℕ) (p : Point)
     Chunked bytes p (past_text (b ∷ bs) p)
 text-chunked bytes b bs rest p at =
     let q = past_text (b ∷ bs) p in
-    let over = over-front bytes p q (b ∷ bs) rest at.stands (omega arith) refl in
+    let over = over-front bytes p q (b ∷ bs) rest at.valid (omega arith) refl in
     chunked-alone bytes (b ∷ bs) p q (omega arith) at.none over.whole (past-index (b ∷ bs) p) over.slice

@@ -15,7 +15,7 @@ pub one-line : (bytes : List ℕ) (b : ℕ) (bs rest : List ℕ) (p : Point) →
     are_lines bytes (past_text (b ∷ bs) p) (record { first = p; after = past_text (b ∷ bs) p } ∷ []) ≡ true
 one-line bytes b bs rest p at =
     let q = past_text (b ∷ bs) p in
-    let over = over-front bytes p q (b ∷ bs) rest at.stands (omega arith) refl in
+    let over = over-front bytes p q (b ∷ bs) rest at.valid (omega arith) refl in
     and_from _ _
     (ap (λ (l : List ℕ). is_one_line (split_lines l) (same_place q q)) over.slice
     ∙ one-last (b ∷ bs) (omega arith) at.none (same_place q q) (same-refl q))

@@ -13,7 +13,7 @@ use Rattle.md_events.specs.declared.inline.Chunk.{Chunk}
 use Rattle.md_events.specs.declared.inline.PartKind.{PartKind}
 use Rattle.md_events.specs.Events.Inline.{in_order, pair_unless_empty, plain_chunk, plain_chunks, together}
 use Rattle.md_events.specs.Events.Nested.{around, enter_link, exit, pair}
-use Rattle.md_events.specs.Events.Pieces.{piece_stands}
+use Rattle.md_events.specs.Events.Pieces.{is_valid_piece}
 use Rattle.md_events.specs.Events.Places.{at_or_before, past_text}
 use Rattle.md_events.specs.Events.Spelled.{IsQuiet, Role, role}
 use Rattle.md_events.specs.Events.Tiles.{of_kind, part_kind}
@@ -30,8 +30,8 @@ use Rattle.proof_frame.proofs.LineWalk.{At}
 use Rattle.proof_frame.proofs.OneChunk.{text-chunked}
 use Rattle.proof_frame.proofs.OneLine.{one-line}
 use Rattle.proof_frame.proofs.PartedFacts.{PrefixesAtLineStart}
-use Rattle.proof_frame.proofs.PartsStand.{inside-linked, stands-part}
-use Rattle.proof_frame.proofs.PieceFacts.{Over, PiecesValid, chunk_span, over-front, starts-append, stood-around}
+use Rattle.proof_frame.proofs.PartsValid.{inside-linked, valid-part}
+use Rattle.proof_frame.proofs.PieceFacts.{Over, PiecesValid, chunk_span, over-front, starts-append, is_valid-around}
 use Rattle.proof_frame.proofs.PiecesLemmas.{tiled-around, tiled-two}
 use Rattle.proof_frame.proofs.SpanLemmas.{Nested_in, around-nested, linked-nested}
 use Rattle.proof_frame.proofs.Stretch.{Stretch, pair-nested}
@@ -52,7 +52,7 @@ chunk-is bytes b bs rest p at =
     said end = pair_unless_empty n.Data p end ++ pair_unless_empty n.LineEnding end q
 
     over : Over bytes p (past_text (b ∷ bs) p) (b ∷ bs)
-    over = over-front bytes p (past_text (b ∷ bs) p) (b ∷ bs) rest at.stands (omega arith) refl
+    over = over-front bytes p (past_text (b ∷ bs) p) (b ∷ bs) rest at.valid (omega arith) refl
 
 -- What is asked of the name of such a part.
 pub record IsOneText (R : Role → Type 0) (bytes : List ℕ) (name : Name) (kind : PartKind) : Type 0 where
@@ -74,14 +74,18 @@ stretch-text R bytes name kind link b bs rest p is of at = record {
   unread_nested = around-nested name p q us (linked-nested link p q order);
   nested = by_piece (Nested_in p q) (around-nested name p q (pair n.Data p q) (pair-nested n.Data p q order));
   tiled = tiled-around name p q us (tiled-two (enter_link n.Data p link) (exit n.Data q) refl refl);
-  unread_stood =
-      stood-around bytes name p q us refl
-      (record { ends = refl; stand = and_from (piece_stands bytes (chunk_span n.Data p q)) true one.linked refl });
-  stood =
-      stood-around bytes name p q es (starts-append (plain_chunk bytes chunk) [] one.starts)
+  unread_valid =
+      is_valid-around bytes name p q us refl
+      (record {
+        ends = refl;
+        are_valid = and_from (is_valid_piece bytes (chunk_span n.Data p q)) true
+            one.linked refl;
+      });
+  is_valid =
+      is_valid-around bytes name p q es (starts-append (plain_chunk bytes chunk) [] one.starts)
       (subst (PiecesValid bytes) (sym (append-nil (plain_chunk bytes chunk))) one.read);
   parts =
-      stands-part bytes name kind p q (chunk ∷ []) us is.kind_is (inside-linked bytes kind link (chunk ∷ []) of)
+      valid-part bytes name kind p q (chunk ∷ []) us is.kind_is (inside-linked bytes kind link (chunk ∷ []) of)
       (same-refl p) (one-line bytes b bs rest p at);
   filled =
       fill-part bytes name kind p q (chunk ∷ []) us es is.kind_is (inside-linked bytes kind link (chunk ∷ []) of)

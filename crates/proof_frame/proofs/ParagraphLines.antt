@@ -14,15 +14,15 @@ use Rattle.md_events.proofs.SpelledLemmas.{Between, Roles, roles-append, text_af
 use Rattle.md_meaning.proofs.TextsLemmas.{Both, Ending, EndsBefore, IsOfLines, LineFeed, NoEnding, Return, ending_bytes}
 use Rattle.md_outline.proofs.TextCuts.{trim-blank}
 use Rattle.proof_frame.specs.Row.{Row, last_row, read_lines}
-use Rattle.proof_frame.proofs.FrontFacts.{Behind, Begins, LinePrefix, Goes}
+use Rattle.proof_frame.proofs.FrontFacts.{Following, Begins, LinePrefix, Proceeds}
 use Rattle.proof_frame.proofs.CollectFacts.{Collects, slice-none, blank-append}
 use Rattle.proof_frame.proofs.PrefixNames.{prefixes-roles}
 
 -- what is before a line that continues is quiet but for prefixes
 pub fronts-between : (bytes : List ℕ) (opens : List Container) (p q : Point) (es : List Event) →
     LinePrefix bytes opens p q es → opens ≡ [] → Roles Between es
-fronts-between bytes opens p q es (Behind r) none = tt
-fronts-between bytes opens p q es (Goes many a b d xs ys further more) none =
+fronts-between bytes opens p q es (Following r) none = tt
+fronts-between bytes opens p q es (Proceeds many a b d xs ys further more) none =
     roles-append Between xs ys (prefixes-roles Between xs tt tt tt further.names)
     (fronts-between bytes many b d ys more none)
 fronts-between bytes opens p q es (Begins c many a b d xs ys opening more) none = cc
@@ -32,8 +32,8 @@ pub collects-fronts : (bytes : List ℕ) (opens : List Container) (p q : Point) 
     (all : List ℕ) →
     LinePrefix bytes opens p q es → opens ≡ [] → Collects bytes ys (byte_at q) end all →
     (white : List ℕ) × (is_blank white ≡ true) × Collects bytes (es ++ ys) (byte_at p) end (white ++ all)
-collects-fronts bytes opens p q es ys end all (Behind r) none c = ([], refl, c)
-collects-fronts bytes opens p q es ys end all (Goes many a b d xs zs further more) none c =
+collects-fronts bytes opens p q es ys end all (Following r) none c = ([], refl, c)
+collects-fronts bytes opens p q es ys end all (Proceeds many a b d xs zs further more) none c =
     let next = collects-fronts bytes many b d zs ys end all more none c in
     let here = further.collects (zs ++ ys) end (next.0 ++ all) next.2 in (
       here.0 ++ next.0,
@@ -108,11 +108,11 @@ pub record IsRead (bytes : List ℕ) (row : Row) (rows : List Row) (lines : List
   pub between : Roles Between (read_lines bytes row rows)
 
 -- what is said of them is their lines
-pub lines-told : (bytes : List ℕ) (row : Row) (rows : List Row) (lines : List ParagraphLine) →
+pub lines-recorded : (bytes : List ℕ) (row : Row) (rows : List Row) (lines : List ParagraphLine) →
     (is : IsRead bytes row rows lines) →
     IsOfLines is.own
     (text_to bytes (last_row row rows).end.index (text_after bytes (begun row.first) (read_lines bytes row rows)))
-lines-told bytes row rows lines is =
+lines-recorded bytes row rows lines is =
     let text : text_to bytes (last_row row rows).end.index
     (text_after bytes (begun row.first) (read_lines bytes row rows)) ≡
     is.all =

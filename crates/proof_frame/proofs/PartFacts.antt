@@ -70,34 +70,34 @@ linked-no_parts link [] = tt
 linked-no_parts link (c ∷ cs) = (refl, (refl, linked-no_parts link cs))
 
 -- a part ends with its exit
-inside-goes : (es ys : List Event) → NoParts es → inside_part (es ++ ys) ≡ es ++ inside_part ys
-inside-goes [] ys h = refl
-inside-goes (e ∷ es) ys h =
+inside-proceeds : (es ys : List Event) → NoParts es → inside_part (es ++ ys) ≡ es ++ inside_part ys
+inside-proceeds [] ys h = refl
+inside-proceeds (e ∷ es) ys h =
     ap (λ (x : Bool). cond (x && is_exit e.kind) [] (e ∷ inside_part (es ++ ys))) (kind-no_part e.name h.0)
-    ∙ ap (λ (l : List Event). e ∷ l) (inside-goes es ys h.1)
+    ∙ ap (λ (l : List Event). e ∷ l) (inside-proceeds es ys h.1)
 
 pub part-inside : (name : Name) (kind : PartKind) (q : Point) (es ys : List Event) → part_kind name ≡ Some kind →
     NoParts es → inside_part (es ++ exit name q ∷ ys) ≡ es
 part-inside name kind q es ys named h =
-    inside-goes es (exit name q ∷ ys) h
+    inside-proceeds es (exit name q ∷ ys) h
     ∙ ap
     (λ (x : Option PartKind).
     es ++ cond ((elim x [ None ↦ false | Some kind ↦ true ]) && true) [] (exit name q ∷ inside_part ys)) named
     ∙ append-nil es
 
-pub end-goes : (es ys : List Event) → NoParts es → part_end (es ++ ys) ≡ part_end ys
-end-goes [] ys h = refl
-end-goes (e ∷ es) ys h =
+pub end-proceeds : (es ys : List Event) → NoParts es → part_end (es ++ ys) ≡ part_end ys
+end-proceeds [] ys h = refl
+end-proceeds (e ∷ es) ys h =
     ap (λ (x : Bool). cond (x && is_exit e.kind) e.point (part_end (es ++ ys))) (kind-no_part e.name h.0)
-    ∙ end-goes es ys h.1
+    ∙ end-proceeds es ys h.1
 
-pub pieces-behind : (p : Point) (link : Link) (cs : List Chunk) →
+pub pieces-following : (p : Point) (link : Link) (cs : List Chunk) →
     pieces_from (exit n.Data p) (linked n.Data link cs) ≡ pieces (linked n.Data link cs)
-pieces-behind p link [] = refl
-pieces-behind p link (c ∷ cs) = refl
+pieces-following p link [] = refl
+pieces-following p link (c ∷ cs) = refl
 
 pub linked-chunks : (link : Link) (cs : List Chunk) → chunks (pieces (linked n.Data link cs)) ≡ cs
 linked-chunks link [] = refl
 linked-chunks link (c ∷ cs) =
-    ap (λ (l : List Piece). c ∷ chunks l) (pieces-behind c.after link cs)
+    ap (λ (l : List Piece). c ∷ chunks l) (pieces-following c.after link cs)
     ∙ ap (λ (l : List Chunk). c ∷ l) (linked-chunks link cs)

@@ -16,7 +16,7 @@ use Rattle.md_events.proofs.SpelledLemmas.{Quiet, QuietOrEnding, Roles}
 use Rattle.md_outline.specs.Between.{is_between}
 use Rattle.md_outline.specs.Outlined.{OpenTextSpan, are_parted, parts_by, span_by}
 use Rattle.proof_frame.proofs.PlainRoles.{chunk-roles}
-use Rattle.proof_frame.proofs.BetweenFacts.{between-behind, is_low}
+use Rattle.proof_frame.proofs.BetweenFacts.{between-following, is_low}
 
 -- a point that cuts no tab, or one after whose tab is a place between characters
 abbrev pub clear : List ℕ → Point → Bool
@@ -42,7 +42,7 @@ low-clear bytes p h = go (p.vs == 0) refl
     go : (x : Bool) → (p.vs == 0) ≡ x → (x || is_between bytes (cond x p.index (p.index + 1))) ≡ true
     go true e = refl
     go false e =
-        between-behind bytes (p.index + 1) (subst (λ (i : ℕ). is_low (slice_index bytes i) ≡ true) (sym same) (h e))
+        between-following bytes (p.index + 1) (subst (λ (i : ℕ). is_low (slice_index bytes i) ≡ true) (sym same) (h e))
 
 pub byte-from : (p : Point) → p.index ≤ byte_at p
 byte-from p = go (p.vs == 0)

@@ -6,10 +6,10 @@ use Rattle.md_engine.specs.declared.event.Event.{Event}
 use Rattle.md_engine.specs.declared.event.Name.{Name}
 use Rattle.md_engine.specs.declared.event.Name.TheVariants as n
 use Rattle.md_engine.specs.declared.event.Point.{Point}
-use Rattle.md_containers.specs.ItemsStand.{IsPart}
-use Rattle.md_events.specs.Events.Grammar.{Expression, behind, inside, may_end, plain_text, unread_text}
+use Rattle.md_containers.specs.ItemsAllowed.{IsPart}
+use Rattle.md_events.specs.Events.Grammar.{Expression, following, inside, may_end, plain_text, unread_text}
 use Rattle.md_events.specs.Events.Nested.{around, enter, exit, pair}
-use Rattle.md_events.specs.Events.Pieces.{piece_stands}
+use Rattle.md_events.specs.Events.Pieces.{is_valid_piece}
 use Rattle.md_events.specs.Events.Places.{at_or_before}
 use Rattle.md_events.specs.Events.Spelled.{OpenLeaf, Reading, Text, at_ending, next_line, read, role}
 use Rattle.md_events.specs.Events.Tiles.{part_kind}
@@ -22,9 +22,9 @@ use Rattle.proof_frame.proofs.ContainerNames.{TakesPrefixes}
 use Rattle.proof_frame.proofs.EndingFacts.{stretch-ended}
 use Rattle.proof_frame.proofs.FrontFacts.{LinePrefix}
 use Rattle.proof_frame.proofs.FrontNames.{fronts-prefixes}
-use Rattle.proof_frame.proofs.FrontStands.{fronts-others, stretch-front}
+use Rattle.proof_frame.proofs.FrontValid.{fronts-others, stretch-front}
 use Rattle.proof_frame.proofs.GrammarFronts.{front-stays}
-use Rattle.proof_frame.proofs.LeafStands.{quiet-part}
+use Rattle.proof_frame.proofs.LeafAllowed.{quiet-part}
 use Rattle.proof_frame.proofs.PartFacts.{quiet-no_parts}
 use Rattle.proof_frame.proofs.PartedFacts.{Still, quiets-still, sits-still}
 use Rattle.proof_frame.proofs.PieceFacts.{Starts, span}
@@ -89,16 +89,16 @@ parts-none bytes p x leaf = record {
 -- a piece with such a name
 pub parts-pair : (bytes : List ℕ) (name : Name) (p q : Point) (x : Expression) (leaf : OpenLeaf) →
     Quiet (role name) → AreOthers (pair name p q) → ((text : Expression) → may_end (inside text name) ≡ true) →
-    IsTrue (at_or_before p q) → piece_stands bytes (span name p q) ≡ true →
-    PartsFacts bytes p q x (behind name x) leaf leaf (pair name p q) (pair name p q)
-parts-pair bytes name p q x leaf quiet others ends order stands = record {
+    IsTrue (at_or_before p q) → is_valid_piece bytes (span name p q) ≡ true →
+    PartsFacts bytes p q x (following name x) leaf leaf (pair name p q) (pair name p q)
+parts-pair bytes name p q x leaf quiet others ends order valid = record {
   stretch =
       stretch-pair IsPart bytes name p q
       (record {
         role_is = quiet-part (role name) quiet;
         no_part = (quiet-no_parts (pair name p q) (quiet, (quiet, tt))).0;
         parted = λ a b. sits-still bytes (pair name a b) (quiets-still (pair name a b) (quiet, (quiet, tt)));
-      }) order stands;
+      }) order valid;
   unread_word = grammar.leads-pair unread_text x name p q (ends unread_text);
   word = grammar.leads-pair plain_text x name p q (ends plain_text);
   unread_stays = stays-others (pair name p q) others;
@@ -109,11 +109,11 @@ parts-pair bytes name p q x leaf quiet others ends order stands = record {
 -- An ending between two lines.
 
 -- it opens a line of the leaf, if the text continues after it
-abbrev pub behind_ending : List ℕ → Point → OpenLeaf → OpenLeaf
-behind_ending bytes q leaf = cond (nat_lt q.index (length bytes)) (next_line leaf) leaf
+abbrev pub following_ending : List ℕ → Point → OpenLeaf → OpenLeaf
+following_ending bytes q leaf = cond (nat_lt q.index (length bytes)) (next_line leaf) leaf
 
 ending-reads : (bytes : List ℕ) (p q : Point) (leaf : OpenLeaf) →
-    ReadsLeaf bytes leaf (behind_ending bytes q leaf) (pair n.LineEnding p q)
+    ReadsLeaf bytes leaf (following_ending bytes q leaf) (pair n.LineEnding p q)
 ending-reads bytes p q leaf s text is_open =
     ap (λ (o : Option Text). at_ending bytes q o s) text ∙ go (nat_lt q.index (length bytes))
   where
@@ -124,7 +124,7 @@ ending-reads bytes p q leaf s text is_open =
     go false = ap (λ (o : Option OpenLeaf). record s { leaf = o }) is_open
 
 pub parts-ended : (bytes : List ℕ) (p q : Point) (x : Expression) (leaf : OpenLeaf) → p.vs ≡ 0 → IsEnding bytes p q →
-    PartsFacts bytes p q x (behind n.LineEnding x) leaf (behind_ending bytes q leaf) (pair n.LineEnding p q)
+    PartsFacts bytes p q x (following n.LineEnding x) leaf (following_ending bytes q leaf) (pair n.LineEnding p q)
     (pair n.LineEnding p q)
 parts-ended bytes p q x leaf whole is = record {
   stretch = stretch-ended IsPart bytes false p q tt tt whole is;
@@ -180,7 +180,7 @@ pub parts-around : (bytes : List ℕ) (name : Name) (p q : Point) (x begin left 
     (unread done : List Event) →
     IsPartName name begin → Starts unread → Starts done → may_end left ≡ true →
     PartsFacts bytes p q begin left a b unread done → ReadsLeaf bytes from to (around name p q done) →
-    PartsFacts bytes p q x (behind name x) from to (around name p q unread) (around name p q done)
+    PartsFacts bytes p q x (following name x) from to (around name p q unread) (around name p q done)
 parts-around bytes name p q x begin left a b from to unread done named us starts ends h reads = record {
   stretch =
       stretch-around name (record { role_is = named.part; no_part = named.no_part; still = named.still }) us starts

@@ -20,7 +20,7 @@ pub record HasPassed (line : Line) (text past : List ℕ) (end : Point) (stop ce
   pub container : passed.container ≡ taken.container
   pub read : IsRead passed.container
   pub fed : passed.cells ≡ rest_cells line taken.rest passed.point ++ stop
-  pub stands : RestAt text past taken.rest passed.point
+  pub valid : RestAt text past taken.rest passed.point
   pub ends : past_rest taken.rest passed.point ≡ end
   pub no_ending : NoEnding taken.rest.bytes
   pub shorter : length passed.cells ≤ length cells

@@ -10,7 +10,7 @@ use Rattle.md_engine.specs.declared.event.Name.{Name}
 use Rattle.md_engine.specs.declared.event.Point.{Point}
 use Rattle.md_events.specs.Events.Inline.{Piece, is_one_line, pair_unless_empty, pieces}
 use Rattle.md_events.specs.Events.Nested.{around, exit, pair}
-use Rattle.md_events.specs.Events.Pieces.{begins_in_tab, ends_in_tab, piece_stands, pieces_stand, stands_over}
+use Rattle.md_events.specs.Events.Pieces.{begins_in_tab, ends_in_tab, is_valid_piece, are_valid_pieces, may_cover}
 use Rattle.md_events.specs.Events.Places.{past_byte, past_text, same_place}
 use Rattle.md_meaning.specs.Texts.{split_lines}
 use Rattle.md_events.proofs.FeedLines.{past_text-whole, slice-front}
@@ -62,12 +62,12 @@ all-four : (a b c d : Bool) → a ≡ true → b ≡ true → c ≡ true → d �
 all-four a b c d h i j k = and_from (a && b && c) d (and_from (a && b) c (and_from a b h i) j) k
 
 -- a piece that is not empty, over what its name says
-pub piece-stands : (bytes : List ℕ) (name : Name) (p q : Point) → same_place p q ≡ false →
+pub piece-valid : (bytes : List ℕ) (name : Name) (p q : Point) → same_place p q ≡ false →
     ((p.vs == 0) || begins_in_tab name) ≡ true → ((q.vs == 0) || ends_in_tab name) ≡ true →
-    stands_over name (slice_range bytes p.index q.index) ≡ true → piece_stands bytes (span name p q) ≡ true
-piece-stands bytes name p q apart begins ends over =
+    may_cover name (slice_range bytes p.index q.index) ≡ true → is_valid_piece bytes (span name p q) ≡ true
+piece-valid bytes name p q apart begins ends over =
     all-four (not (same_place p q)) ((p.vs == 0) || begins_in_tab name) ((q.vs == 0) || ends_in_tab name)
-    (stands_over name (slice_range bytes p.index q.index)) (ap not apart) begins ends over
+    (may_cover name (slice_range bytes p.index q.index)) (ap not apart) begins ends over
 
 -- what ends between two bytes
 ends-whole : (name : Name) (q : Point) → q.vs ≡ 0 → ((q.vs == 0) || ends_in_tab name) ≡ true
@@ -82,18 +82,18 @@ pub begins-cut : (name : Name) (p : Point) → begins_in_tab name ≡ true → (
 begins-cut name p e = or_right (p.vs == 0) (begins_in_tab name) e
 
 -- one between two bytes, or from within a tab
-pub over-stands : (bytes : List ℕ) (name : Name) (p q : Point) (text : List ℕ) → Over bytes p q text →
-    ((p.vs == 0) || begins_in_tab name) ≡ true → stands_over name text ≡ true →
-    piece_stands bytes (span name p q) ≡ true
-over-stands bytes name p q text over begins is =
-    piece-stands bytes name p q (apart-later p q over.some) begins (ends-whole name q over.whole)
-    (ap (stands_over name) over.slice ∙ is)
+pub over-valid : (bytes : List ℕ) (name : Name) (p q : Point) (text : List ℕ) → Over bytes p q text →
+    ((p.vs == 0) || begins_in_tab name) ≡ true → may_cover name text ≡ true →
+    is_valid_piece bytes (span name p q) ≡ true
+over-valid bytes name p q text over begins is =
+    piece-valid bytes name p q (apart-later p q over.some) begins (ends-whole name q over.whole)
+    (ap (may_cover name) over.slice ∙ is)
 
 -- a chunk that is one line, with its ending or not
-pub chunk-stands : (bytes : List ℕ) (name : Name) (p q : Point) (text : List ℕ) → Over bytes p q text →
+pub chunk-valid : (bytes : List ℕ) (name : Name) (p q : Point) (text : List ℕ) → Over bytes p q text →
     begins_in_tab name ≡ true → is_one_line (split_lines text) true ≡ true →
-    piece_stands bytes (chunk_span name p q) ≡ true
-chunk-stands bytes name p q text over begins is =
+    is_valid_piece bytes (chunk_span name p q) ≡ true
+chunk-valid bytes name p q text over begins is =
     all-four (not (same_place p q)) ((p.vs == 0) || begins_in_tab name) ((q.vs == 0) || ends_in_tab name)
     (is_one_line (split_lines (slice_range bytes p.index q.index)) true)
     (ap not (apart-later p q over.some)) (begins-cut name p begins) (ends-whole name q over.whole)
@@ -112,53 +112,60 @@ starts-append [] ys h = absurd h
 starts-append (e ∷ xs) ys h = h
 
 -- pieces one after the other
-pub pieces-both : (bytes : List ℕ) (xs ys : List Piece) → pieces_stand bytes xs ≡ true → pieces_stand bytes ys ≡ true →
-    pieces_stand bytes (xs ++ ys) ≡ true
+pub pieces-both : (bytes : List ℕ) (xs ys : List Piece) → are_valid_pieces bytes xs ≡ true →
+    are_valid_pieces bytes ys ≡ true →
+    are_valid_pieces bytes (xs ++ ys) ≡ true
 pieces-both bytes xs ys h k =
-    list_all-append (piece_stands bytes) xs ys ∙ and_from (pieces_stand bytes xs) (pieces_stand bytes ys) h k
+    list_all-append (is_valid_piece bytes) xs ys ∙ and_from (are_valid_pieces bytes xs) (are_valid_pieces bytes ys) h k
 
 -- Events all of whose pieces are, and which make no pair with an event after them.
 pub record PiecesValid (bytes : List ℕ) (es : List Event) : Type 0 where
   pub ends : Ends Exit es
-  pub stand : pieces_stand bytes (pieces es) ≡ true
+  pub are_valid : are_valid_pieces bytes (pieces es) ≡ true
 
 -- none
-pub stood-none : (bytes : List ℕ) → PiecesValid bytes []
-stood-none bytes = record { ends = refl; stand = refl }
+pub is_valid-none : (bytes : List ℕ) → PiecesValid bytes []
+is_valid-none bytes = record { ends = refl; are_valid = refl }
 
 -- some, and others after them
-pub stood-append : (bytes : List ℕ) (xs ys : List Event) → PiecesValid bytes xs → PiecesValid bytes ys →
+pub is_valid-append : (bytes : List ℕ) (xs ys : List Event) → PiecesValid bytes xs → PiecesValid bytes ys →
     PiecesValid bytes (xs ++ ys)
-stood-append bytes xs ys h k = record {
+is_valid-append bytes xs ys h k = record {
   ends = ends-append Exit xs ys h.ends k.ends;
-  stand =
-      ap (pieces_stand bytes) (pieces-ended xs ys h.ends) ∙ pieces-both bytes (pieces xs) (pieces ys) h.stand k.stand;
+  are_valid =
+      ap (are_valid_pieces bytes) (pieces-ended xs ys h.ends) ∙ pieces-both bytes (pieces xs)
+      (pieces ys) h.are_valid k.are_valid;
 }
 
 -- a pair
-pub stood-pair : (bytes : List ℕ) (name : Name) (p q : Point) → piece_stands bytes (span name p q) ≡ true →
+pub is_valid-pair : (bytes : List ℕ) (name : Name) (p q : Point) → is_valid_piece bytes (span name p q) ≡ true →
     PiecesValid bytes (pair name p q)
-stood-pair bytes name p q h = record { ends = refl; stand = and_from (piece_stands bytes (span name p q)) true h refl }
+is_valid-pair bytes name p q h = record {
+  ends = refl;
+  are_valid =
+      and_from (is_valid_piece bytes (span name p q)) true h refl;
+}
 
 -- a pair that is left out if it is empty
-pub stood-unless_empty : (bytes : List ℕ) (name : Name) (p q : Point) →
-    (same_place p q ≡ false → piece_stands bytes (span name p q) ≡ true) →
+pub is_valid-unless_empty : (bytes : List ℕ) (name : Name) (p q : Point) →
+    (same_place p q ≡ false → is_valid_piece bytes (span name p q) ≡ true) →
     PiecesValid bytes (pair_unless_empty name p q)
-stood-unless_empty bytes name p q h = go (same_place p q) refl
+is_valid-unless_empty bytes name p q h = go (same_place p q) refl
   where
     go : (none : Bool) → same_place p q ≡ none → PiecesValid bytes (cond none [] (pair name p q))
-    go true e = stood-none bytes
-    go false e = stood-pair bytes name p q (h e)
+    go true e = is_valid-none bytes
+    go false e = is_valid-pair bytes name p q (h e)
 
 -- an exit alone
-pub stood-exit : (bytes : List ℕ) (name : Name) (p : Point) → PiecesValid bytes (exit name p ∷ [])
-stood-exit bytes name p = record { ends = refl; stand = refl }
+pub is_valid-exit : (bytes : List ℕ) (name : Name) (p : Point) → PiecesValid bytes (exit name p ∷ [])
+is_valid-exit bytes name p = record { ends = refl; are_valid = refl }
 
 -- a part around events that begin with an enter
-pub stood-around : (bytes : List ℕ) (name : Name) (p q : Point) (es : List Event) → Starts es → PiecesValid bytes es →
+pub is_valid-around : (bytes : List ℕ) (name : Name) (p q : Point) (es : List Event) → Starts es →
+    PiecesValid bytes es →
     PiecesValid bytes (around name p q es)
-stood-around bytes name p q [] starts h = absurd starts
-stood-around bytes name p q (e ∷ es) starts h = record {
+is_valid-around bytes name p q [] starts h = absurd starts
+is_valid-around bytes name p q (e ∷ es) starts h = record {
   ends = ends-exit Enter (e ∷ es) (exit name q) refl;
-  stand = ap (pieces_stand bytes) (pieces-around name p q e es starts h.ends) ∙ h.stand;
+  are_valid = ap (are_valid_pieces bytes) (pieces-around name p q e es starts h.ends) ∙ h.are_valid;
 }

@@ -12,7 +12,7 @@ use Rattle.md_engine.specs.declared.event.Name.TheVariants as n
 use Rattle.md_engine.specs.declared.event.Point.{Point}
 use Rattle.md_outline.specs.Between.{is_between}
 use Rattle.md_events.specs.Events.Nested.{enter, pair}
-use Rattle.md_events.specs.Events.Pieces.{is_run, piece_stands, stands_over}
+use Rattle.md_events.specs.Events.Pieces.{is_run, is_valid_piece, may_cover}
 use Rattle.md_events.specs.Events.Places.{at_or_before, past_byte, past_text}
 use Rattle.md_events.specs.Events.Spelled.{IsQuiet, Role}
 use Rattle.md_meaning.specs.Rest.{is_white}
@@ -22,7 +22,8 @@ use Rattle.md_events.proofs.PlacesLemmas.{at-next}
 use Rattle.proof_frame.specs.MarkRuns.{Apart, Marks, Run, White, mark_runs}
 use Rattle.proof_frame.proofs.BetweenFacts.{between-before, is_low, white-low}
 use Rattle.proof_frame.proofs.SpanLemmas.{either}
-use Rattle.proof_frame.proofs.PieceFacts.{CutsFirst, Over, Starts, begins-cut, begins-whole, over-front, over-stands, span}
+use Rattle.proof_frame.proofs.PieceFacts.{CutsFirst, Over, Starts, begins-cut, begins-whole, over-front, over-valid}
+use Rattle.proof_frame.proofs.PieceFacts.{span}
 use Rattle.proof_frame.proofs.Stretch.{IsPiece, Stretch, stretch-append, stretch-none, stretch-pair, white-piece}
 
 -- what a run is called
@@ -44,7 +45,7 @@ AreMarks m (b ∷ bs) = (((b == m) || is_white b) ≡ true) × AreMarks m bs
 
 -- what a run may be over
 abbrev pub IsMarker : Name → ℕ → Type 0
-IsMarker name m = (ys : List ℕ) → 0 < length ys → list_all (λ b. b == m) ys ≡ true → stands_over name ys ≡ true
+IsMarker name m = (ys : List ℕ) → 0 < length ys → list_all (λ b. b == m) ys ≡ true → may_cover name ys ≡ true
 
 -- such bytes are a run of it
 pub marker-run : (m c : ℕ) (ys : List ℕ) → 0 < length ys → list_all (λ b. b == m) ys ≡ true → (m == c) ≡ true →
@@ -54,10 +55,10 @@ marker-run m c ys some all e =
     (subst (λ (d : ℕ). list_all (λ b. b == d) ys ≡ true) (eqb-true m c e) all)
 
 -- a byte of a run
-abbrev goes_on : Run → ℕ → ℕ → Bool
-goes_on Apart m b = false
-goes_on Marks m b = b == m
-goes_on White m b = is_white b
+abbrev is_continued : Run → ℕ → ℕ → Bool
+is_continued Apart m b = false
+is_continued Marks m b = b == m
+is_continued White m b = is_white b
 
 -- whether a run may begin within a tab
 abbrev may_cut : Run → Bool
@@ -68,32 +69,33 @@ may_cut _ = false
 record Begun (bytes : List ℕ) (run : Run) (m : ℕ) (p q : Point) (ys rest : List ℕ) : Type 0 where
   text : drop p.index bytes ≡ ys ++ rest
   some : 0 < length ys
-  all : list_all (goes_on run m) ys ≡ true
+  all : list_all (is_continued run m) ys ≡ true
   end : q ≡ past_text ys p
   cut : ((p.vs == 0) || may_cut run) ≡ true
 
 -- it begins with a byte
 begun-first : (bytes : List ℕ) (run : Run) (m : ℕ) (p : Point) (b : ℕ) (rest : List ℕ) → drop p.index bytes ≡ b ∷ rest →
-    goes_on run m b ≡ true → ((p.vs == 0) || may_cut run) ≡ true → Begun bytes run m p (past_byte b p) (b ∷ []) rest
+    is_continued run m b ≡ true → ((p.vs == 0) || may_cut run) ≡ true →
+    Begun bytes run m p (past_byte b p) (b ∷ []) rest
 begun-first bytes run m p b rest e h cut = record {
   text = e;
   some = omega arith;
-  all = and_from (goes_on run m b) true h refl;
+  all = and_from (is_continued run m b) true h refl;
   end = refl;
   cut = cut;
 }
 
 -- and continues with another
 begun-next : (bytes : List ℕ) (run : Run) (m : ℕ) (p q : Point) (ys : List ℕ) (b : ℕ) (rest : List ℕ) →
-    Begun bytes run m p q ys (b ∷ rest) → goes_on run m b ≡ true →
+    Begun bytes run m p q ys (b ∷ rest) → is_continued run m b ≡ true →
     Begun bytes run m p (past_byte b q) (ys ++ b ∷ []) rest
 begun-next bytes run m p q ys b rest h on = record {
   text = h.text ∙ sym (append_assoc ys (b ∷ []) rest);
   some = let size = length-append ys (b ∷ []) in let some = h.some in omega arith;
   all =
-      list_all-append (goes_on run m) ys (b ∷ [])
-      ∙ and_from (list_all (goes_on run m) ys) (goes_on run m b && true) h.all
-      (and_from (goes_on run m b) true on refl);
+      list_all-append (is_continued run m) ys (b ∷ [])
+      ∙ and_from (list_all (is_continued run m) ys) (is_continued run m b && true) h.all
+      (and_from (is_continued run m b) true on refl);
   end = ap (past_byte b) h.end ∙ sym (past_text-append ys (b ∷ []) p);
   cut = h.cut;
 }
@@ -118,9 +120,9 @@ begun-order bytes run m p q ys rest h =
 
 -- its piece
 begun-marks : (bytes : List ℕ) (name : Name) (m : ℕ) (p q : Point) (ys rest : List ℕ) → IsMarker name m →
-    Begun bytes Marks m p q ys rest → piece_stands bytes (span name p q) ≡ true
+    Begun bytes Marks m p q ys rest → is_valid_piece bytes (span name p q) ≡ true
 begun-marks bytes name m p q ys rest is h =
-    over-stands bytes name p q ys (begun-over bytes Marks m p q ys rest h)
+    over-valid bytes name p q ys (begun-over bytes Marks m p q ys rest h)
     (begins-whole name p (whole (p.vs == 0) refl h.cut)) (is ys h.some h.all)
   where
     whole : (x : Bool) → (p.vs == 0) ≡ x → (x || false) ≡ true → p.vs ≡ 0
@@ -129,9 +131,9 @@ begun-marks bytes name m p q ys rest is h =
 
 -- the piece of whitespace
 begun-white : (bytes : List ℕ) (m : ℕ) (p q : Point) (ys rest : List ℕ) → Begun bytes White m p q ys rest →
-    piece_stands bytes (span n.SpaceOrTab p q) ≡ true
+    is_valid_piece bytes (span n.SpaceOrTab p q) ≡ true
 begun-white bytes m p q ys rest h =
-    over-stands bytes n.SpaceOrTab p q ys (begun-over bytes White m p q ys rest h) h.cut h.all
+    over-valid bytes n.SpaceOrTab p q ys (begun-over bytes White m p q ys rest h) h.cut h.all
 
 -- the other run
 pub other-run : (m b : ℕ) → ((b == m) || is_white b) ≡ true → (b == m) ≡ false → is_white b ≡ true

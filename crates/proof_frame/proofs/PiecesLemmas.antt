@@ -92,15 +92,15 @@ pieces-ended [] ys h = refl
 pieces-ended (e ∷ xs) ys h = pieces_from-ended e xs ys h
 
 -- an exit more after an exit
-pieces-behind : (e : Event) (xs : List Event) (f : Event) → Ends e.kind xs →
+pieces-following : (e : Event) (xs : List Event) (f : Event) → Ends e.kind xs →
     pieces_from e (xs ++ f ∷ []) ≡ pieces_from e xs
-pieces-behind e [] f h = go e.kind f.kind h
+pieces-following e [] f h = go e.kind f.kind h
   where
     go : (k l : Kind) → k ≡ Exit → piece_of e f k l ++ [] ≡ []
     go Enter l h = absurd (cc)
     go Exit Enter h = refl
     go Exit Exit h = refl
-pieces-behind e (g ∷ xs) f h = ap (λ (l : List Piece). piece_of e g e.kind g.kind ++ l) (pieces-behind g xs f h)
+pieces-following e (g ∷ xs) f h = ap (λ (l : List Piece). piece_of e g e.kind g.kind ++ l) (pieces-following g xs f h)
 
 begins-append : (xs ys : List Event) → Begins xs → Begins ys → Begins (xs ++ ys)
 begins-append [] ys h k = k
@@ -171,7 +171,7 @@ tiled-pair name p q = tiled-two (enter name p) (exit name q) refl refl
 pub pieces-around : (name : Name) (p q : Point) (e : Event) (es : List Event) → e.kind ≡ Enter → Ends e.kind es →
     pieces (around name p q (e ∷ es)) ≡ pieces (e ∷ es)
 pieces-around name p q e es h k =
-    pieces-before (enter name p) ((e ∷ es) ++ exit name q ∷ []) h ∙ pieces-behind e es (exit name q) k
+    pieces-before (enter name p) ((e ∷ es) ++ exit name q ∷ []) h ∙ pieces-following e es (exit name q) k
 
 -- a part covers what it is around, also if that is empty
 pub tiled-around : (name : Name) (p q : Point) (es : List Event) → Covered p q es → Covered p q (around name p q es)

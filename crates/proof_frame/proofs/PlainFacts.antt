@@ -13,16 +13,16 @@ use Rattle.md_events.specs.Events.Nested.{around, enter, exit, pair}
 use Rattle.md_events.specs.Events.Places.{past_byte, past_text, same_place}
 use Rattle.md_events.specs.Events.Spelled.{IsQuiet, Role, role}
 use Rattle.md_events.proofs.SpelledLemmas.{Quiet, Roles}
-use Rattle.md_outline.specs.LinesStand.{Outside, Site}
+use Rattle.md_outline.specs.LinesAllowed.{Outside, Site}
 use Rattle.md_outline.specs.Outlined.{has_unlisted_name}
-use Rattle.md_outline.specs.Roles.{is_plain, is_told, is_unlisted}
+use Rattle.md_outline.specs.Roles.{is_plain, is_recorded, is_unlisted}
 use Rattle.md_outline.proofs.LinesPass.{Passes, keeps-plain, passes-append, passes-kept, passes-none, passes-quiet}
 use Rattle.proof_frame.proofs.EventNames.{unlisted-plain}
 use Rattle.proof_frame.proofs.PartedFacts.{clear}
 
 -- whether a text begins or ends at such a point
 abbrev pub is_clear : List ℕ → Event → Bool
-is_clear bytes e = not (is_told (role e.name)) || clear bytes e.point
+is_clear bytes e = not (is_recorded (role e.name)) || clear bytes e.point
 
 -- What is known of the names and the points of events.
 pub record AreKnown (bytes : List ℕ) (events : List Event) : Type 0 where
@@ -52,8 +52,8 @@ known-cons bytes e es h w k = record {
 
 -- a part around them, which begins and ends clear if the tree shows its text
 pub known-around : (bytes : List ℕ) (name : Name) (p q : Point) (inside : List Event) →
-    is_unlisted (role name) ≡ true → (not (is_told (role name)) || clear bytes p) ≡ true →
-    (not (is_told (role name)) || clear bytes q) ≡ true → AreKnown bytes inside →
+    is_unlisted (role name) ≡ true → (not (is_recorded (role name)) || clear bytes p) ≡ true →
+    (not (is_recorded (role name)) || clear bytes q) ≡ true → AreKnown bytes inside →
     AreKnown bytes (around name p q inside)
 known-around bytes name p q inside known begin end h =
     known-cons bytes (enter name p) (inside ++ exit name q ∷ []) known begin
@@ -96,7 +96,7 @@ plain-cons bytes e es h w k = record {
 
 -- a role that is plain, and no text
 abbrev pub Untold : Role → Type 0
-Untold x = (is_plain x ≡ true) × (not (is_told x) ≡ true)
+Untold x = (is_plain x ≡ true) × (not (is_recorded x) ≡ true)
 
 pub plain-untold : (bytes : List ℕ) (es : List Event) → Roles Untold es → ArePlain bytes es
 plain-untold bytes [] h = plain-nil bytes
@@ -121,7 +121,7 @@ quiet-from bytes site es h = record { known = (plain-quiet bytes es h).known; li
 
 -- a part of such a name around such events, which begins and ends clear if the tree shows its text
 pub plain-around : (bytes : List ℕ) (name : Name) (p q : Point) (inside : List Event) → is_plain (role name) ≡ true →
-    (not (is_told (role name)) || clear bytes p) ≡ true → (not (is_told (role name)) || clear bytes q) ≡ true →
+    (not (is_recorded (role name)) || clear bytes p) ≡ true → (not (is_recorded (role name)) || clear bytes q) ≡ true →
     ArePlain bytes inside →
     ArePlain bytes (around name p q inside)
 plain-around bytes name p q inside plain begin end h =

@@ -4,9 +4,9 @@ use Rattle.std.proofs.Common.{◌≡◌, ◌≢◌, ℕ, ◌≤◌, Bool, true, 
 use Rattle.std.specs.Prelude.{◌==◌, None}
 use Rattle.md_engine.specs.declared.event.Event.{Event}
 use Rattle.md_engine.specs.declared.event.Point.{Point}
-use Rattle.md_containers.proofs.UnlistedLemmas.{NoListing, StandsTo, Unlists, among}
+use Rattle.md_containers.proofs.UnlistedLemmas.{NoListing, ItemsLead, Unlists, among}
 use Rattle.md_meaning.specs.State.{Container}
-use Rattle.md_events.specs.Events.Grammar.{Expression, behind_block, blocks}
+use Rattle.md_events.specs.Events.Grammar.{Expression, after_block, blocks}
 use Rattle.md_events.specs.Events.Nested.{enter}
 use Rattle.md_events.specs.Events.Spelled.{ContainerRole, Reading, byte_at, read}
 use Rattle.md_meaning.specs.Rest.{is_blank}
@@ -20,7 +20,7 @@ use Rattle.md_outline.specs.Between.{is_between}
 use Rattle.proof_frame.specs.ContainerNames.{container_name, is_listed, shape_of}
 use Rattle.proof_frame.proofs.BetweenFacts.{AreBetween}
 use Rattle.md_events.specs.declared.inline.PartKind.{PartKind}
-use Rattle.proof_frame.proofs.PartsStand.{Inside}
+use Rattle.proof_frame.proofs.PartsValid.{Inside}
 use Rattle.proof_frame.proofs.PiecesLemmas.{Covered}
 use Rattle.proof_frame.proofs.PrefixNames.{AreFront, ArePrefixes}
 use Rattle.proof_frame.proofs.SpanLemmas.{Nested_in}
@@ -45,7 +45,7 @@ pub record PrefixFacts (bytes : List ℕ) (p q : Point) (es : List Event) : Type
   -- they cover what is there
   pub tiled : Covered p q es
   -- their pieces are over what their names say
-  pub stood : PiecesValid bytes es
+  pub is_valid : PiecesValid bytes es
   -- no ending is in them, and no begin or end of a leaf
   pub others : AreOthers es
   -- they begin where no tab of a character is cut, if they end so
@@ -86,10 +86,10 @@ pub record Opens (bytes : List ℕ) (c : Container) (p q : Point) (es : List Eve
   pub sits : PrefixesAtLineStart bytes es
   -- with the begin of the container, they keep the grammar of events around which nothing is put yet
   pub leads : (text : Expression) → TakesData text →
-      Unlists text (blocks ∷ []) (blocks ∷ behind_block ∷ []) (enter (container_name c) p ∷ es)
+      Unlists text (blocks ∷ []) (blocks ∷ after_block ∷ []) (enter (container_name c) p ∷ es)
   -- blocks may follow in it, and they show what its events are to show
-  pub stands : (held : List Bool) →
-      StandsTo bytes (among held) (among (is_listed c ∷ held)) (enter (container_name c) p ∷ es)
+  pub valid : (held : List Bool) →
+      ItemsLead bytes (among held) (among (is_listed c ∷ held)) (enter (container_name c) p ∷ es)
   -- nothing is put around any of them
   pub unlisted : NoListing es
   -- before its blocks the container is read, and they show its kind alone

@@ -123,8 +123,8 @@ pub record Reaches (bytes : List ℕ) (p : Point) (span : OpenTextSpan) : Type 0
   pub from : span.from ≤ byte_at p
 
 -- the piece of a text after a prefix
-abbrev pub behind_prefix : Point → OpenTextSpan
-behind_prefix q = record { from = byte_at q; is_parted = true }
+abbrev pub following_prefix : Point → OpenTextSpan
+following_prefix q = record { from = byte_at q; is_parted = true }
 
 -- what may be in a text that reaches to it: the text, or its next piece, reaches to its end
 abbrev pub PartsText : List ℕ → Point → Point → List Event → Type 0
@@ -134,8 +134,8 @@ PartsText bytes p q es =
     are_parted bytes (Some span) (es ++ rest) ≡ true
 
 -- after a prefix a further one may be
-pub marks-behind : (bytes : List ℕ) (q : Point) → Marks bytes q (behind_prefix q)
-marks-behind bytes q j h blank =
+pub marks-following : (bytes : List ℕ) (q : Point) → Marks bytes q (following_prefix q)
+marks-following bytes q j h blank =
     let white : is_blank (slice_range bytes (byte_at q) j) ≡ true = rest (q.vs == 0) h in
     (ap not (blank-begins (slice_range bytes (byte_at q) j) white), blank-last (slice_range bytes (byte_at q) j) white)
   where
@@ -150,8 +150,8 @@ marks-behind bytes q j h blank =
         ∙ blank in
         (and_parts (is_blank one) (is_blank more) (sym (list_all-append is_white one more) ∙ both)).1
 
-pub reaches-behind : (bytes : List ℕ) (q : Point) → Reaches bytes q (behind_prefix q)
-reaches-behind bytes q = record { marks = marks-behind bytes q; from = omega arith }
+pub reaches-following : (bytes : List ℕ) (q : Point) → Reaches bytes q (following_prefix q)
+reaches-following bytes q = record { marks = marks-following bytes q; from = omega arith }
 
 -- a line of text ends before an ending, after which prefixes may be
 marks-ended : (bytes : List ℕ) (p q : Point) (span : OpenTextSpan) → IsEnding bytes p q → Fine bytes span →
@@ -179,7 +179,7 @@ pub reaches-ended : (bytes : List ℕ) (p q : Point) (span : OpenTextSpan) → I
     span.from ≤ p.index → Reaches bytes q span
 reaches-ended bytes p q span ending fine within = record {
   marks = marks-ended bytes p q span ending fine within;
-  from = let behind = byte-from q in omega (arith, within, behind, ending.size);
+  from = let following = byte-from q in omega (arith, within, following, ending.size);
 }
 
 -- Where the line continues with its text.

@@ -19,7 +19,7 @@ use Rattle.md_events.proofs.NestedLemmas.{at_or_before-refl}
 use Rattle.proof_frame.specs.Linked.{linked}
 use Rattle.proof_frame.proofs.FillFacts.{PartsRead, fill-append, fill-part, fill-same, linked-filled}
 use Rattle.proof_frame.proofs.PartFacts.{NoLinks, NoParts}
-use Rattle.proof_frame.proofs.PartsStand.{PartsWhole, inside-linked, stands-append, stands-outside, stands-part}
+use Rattle.proof_frame.proofs.PartsValid.{PartsWhole, inside-linked, valid-append, valid-outside, valid-part}
 
 -- A string of one line, as a part of this name.
 
@@ -51,13 +51,13 @@ pub data ReadAs (bytes : List ℕ) : List Event → List Event → Type 0 where
       ReadAs bytes (xs ++ more) (zs ++ done)
 
 -- their parts are as chunks,
-pub read_as-stands : (bytes : List ℕ) (es done : List Event) → ReadAs bytes es done → PartsWhole bytes es
-read_as-stands bytes _ _ (Same es unlinked no_parts) = stands-outside bytes es no_parts unlinked
-read_as-stands bytes _ _ (Part name p q is) =
-    stands-part bytes name String p q (one_chunk p q) (linked n.Data string_link (one_chunk p q)) is.kind
+pub read_as-valid : (bytes : List ℕ) (es done : List Event) → ReadAs bytes es done → PartsWhole bytes es
+read_as-valid bytes _ _ (Same es unlinked no_parts) = valid-outside bytes es no_parts unlinked
+read_as-valid bytes _ _ (Part name p q is) =
+    valid-part bytes name String p q (one_chunk p q) (linked n.Data string_link (one_chunk p q)) is.kind
     (inside-linked bytes String string_link (one_chunk p q) refl) (same-refl p) is.line
-read_as-stands bytes _ _ (Both xs zs more done h k) =
-    stands-append bytes xs more (read_as-stands bytes xs zs h) (read_as-stands bytes more done k)
+read_as-valid bytes _ _ (Both xs zs more done h k) =
+    valid-append bytes xs more (read_as-valid bytes xs zs h) (read_as-valid bytes more done k)
 
 -- and are read so by the plain layer
 pub read_as-fill : (bytes : List ℕ) (es done : List Event) → ReadAs bytes es done → PartsRead bytes es done

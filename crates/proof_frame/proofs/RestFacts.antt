@@ -10,8 +10,8 @@ use Rattle.md_engine.specs.Meaning.{Cell}
 use Rattle.md_events.specs.Ahead.{begins_white, line_bytes, line_end, point_after, white_end, white_rest}
 use Rattle.md_events.specs.Events.Places.{past_byte, past_text}
 use Rattle.md_events.specs.Spaces.{small_indent}
-use Rattle.md_meaning.specs.Rest.{Rest, behind_indent, cut_tab, has_small_indent, indent, is_white, trim_start}
-use Rattle.md_events.proofs.FeedLines.{Stops, behind_last, bytes_of, cell, columns_more, next_column}
+use Rattle.md_meaning.specs.Rest.{Rest, after_indent, cut_tab, has_small_indent, indent, is_white, trim_start}
+use Rattle.md_events.proofs.FeedLines.{Stops, after_last, bytes_of, cell, columns_more, next_column}
 use Rattle.md_events.proofs.FeedLines.{spread, spread-end, tab_cells, tab_end, tab_end-stop}
 use Rattle.md_events.proofs.RestCells.{Cut, HasIndent, RestAt, bare-cells, cells_by, indent-length}
 use Rattle.md_events.proofs.RestCells.{indent-over, indent-taken, rest_cells}
@@ -35,7 +35,7 @@ first-same : (X : Type 0) (F : List Cell → X) (said : Line) →
     ((at : Point) (cs : List Cell) → F (cell 32 at said ∷ cs) ≡ F (cell 9 at said ∷ cs)) →
     (n : ℕ) (p : Point) (xs ys : List Cell) →
     F (tab_cells said n 32 p ++ xs ++ ys) ≡ F (tab_cells said n 9 p ++ xs ++ ys)
-first-same X F said same zero p xs ys = same (behind_last p) (xs ++ ys)
+first-same X F said same zero p xs ys = same (after_last p) (xs ++ ys)
 first-same X F said same (suc n) p xs ys = same (next_column p) (tab_cells said n 32 (next_column p) ++ xs ++ ys)
 
 -- so it is for the whole rest
@@ -85,18 +85,18 @@ pub record Indented (options : ParseOptions) (said : Line) (r : Rest) (p : Point
   pub bytes : line_bytes (white_rest (small_indent options) (rest_cells said r p ++ stop)) ≡
       bytes_of (spread said (trim_start r.bytes) (white_end (small_indent options) (rest_cells said r p ++ stop) p))
 
-pub small-indented : (options : ParseOptions) (said : Line) (text behind : List ℕ) (r : Rest) (p : Point)
+pub small-indented : (options : ParseOptions) (said : Line) (text following : List ℕ) (r : Rest) (p : Point)
     (stop : List Cell) →
-    RestAt text behind r p → NoEnding r.bytes → Stops stop → length (rest_cells said r p ++ stop) < 2 ^ 63 →
+    RestAt text following r p → NoEnding r.bytes → Stops stop → length (rest_cells said r p ++ stop) < 2 ^ 63 →
     has_small_indent options r ≡ true → Indented options said r p stop
-small-indented options said text behind r p stop is h k short small =
+small-indented options said text following r p stop is h k short small =
     record {
-      none = ap begins_white taken.cells ∙ bare-cells said (behind_indent r) q stop taken.none k;
+      none = ap begins_white taken.cells ∙ bare-cells said (after_indent r) q stop taken.none k;
       bytes =
           ap line_bytes
           (taken.cells
           ∙ ap (λ (l : List Cell). l ++ stop)
-          (bare-spread said (behind_indent r) q taken.none
+          (bare-spread said (after_indent r) q taken.none
           ∙ ap (λ (bytes : List ℕ). spread said bytes q) (indent-trims r taken.none)))
           ∙ ap bytes_of
           (spread-line said (trim_start r.bytes) q stop (no_ending-drop (prefix_len is_white r.bytes) r.bytes h) k);
@@ -116,15 +116,15 @@ small-indented options said text behind r p stop is h k short small =
         let size : length cells ≡
         length (rest_cells said r p) + length stop = length-append (rest_cells said r p) stop in
         small-room options r (length cells) small
-        (let most = indent-length said text behind r p is in omega arith) short
+        (let most = indent-length said text following r p is in omega arith) short
 
-    taken : HasIndent said text behind room r p stop (behind_indent r)
-    taken = indent-taken said text behind room r p stop is k fits
+    taken : HasIndent said text following room r p stop (after_indent r)
+    taken = indent-taken said text following room r p stop is k fits
 
 -- After a larger one whitespace is left.
-pub large-white : (options : ParseOptions) (said : Line) (text behind : List ℕ) (r : Rest) (p : Point)
+pub large-white : (options : ParseOptions) (said : Line) (text following : List ℕ) (r : Rest) (p : Point)
     (stop : List Cell) →
-    RestAt text behind r p → has_small_indent options r ≡ false →
+    RestAt text following r p → has_small_indent options r ≡ false →
     begins_white (white_rest (small_indent options) (rest_cells said r p ++ stop)) ≡ true
-large-white options said text behind r p stop is large =
-    indent-over said text behind (small_indent options) r p stop is (large-room options r large)
+large-white options said text following r p stop is large =
+    indent-over said text following (small_indent options) r p stop is (large-room options r large)

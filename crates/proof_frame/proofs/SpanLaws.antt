@@ -9,7 +9,7 @@ use Rattle.md_engine.specs.declared.event.Point.{Point}
 use Rattle.md_meaning.specs.Leaves.{LeafResult}
 use Rattle.md_meaning.specs.Rest.{Rest, is_blank}
 use Rattle.md_meaning.specs.State.{NoLeaf, shut, then_block}
-use Rattle.md_meaning.specs.Step.{came}
+use Rattle.md_meaning.specs.Step.{became}
 use Rattle.md_meaning.specs.Tree.{Block, Blocks}
 use Rattle.md_leaves.specs.Spanned.{renamed}
 use Rattle.md_leaves.specs.declared.spans.Place.TheVariants.{Between}
@@ -32,29 +32,29 @@ pub record IsLineOf (options : ParseOptions) (bytes : List ℕ) (l : LineLeaf) (
   pub column : row.first.column ≡ rest.column + 1
   pub starts : l.starts options row.on rest ≡ true
   pub inside : row.inside ≡ l.added options row.on (rest_line rest) row.first
-  pub behind : row.behind ≡ l.holds options row.on rest
+  pub following : row.following ≡ l.holds options row.on rest
   -- whether its ending is that of a blank line
   pub empty : row.empty ≡
       ((l.stays_blank && is_blank rest.bytes) || (is_empty_row row && (row.first.column == 1)))
   pub ending : is_blank_row row ≡ row.empty
 
 -- further lines after one: each meets the leaf that the one before has left, after prefixes of the containers alone
-abbrev pub AreBehind : ParseOptions → List ℕ → LineLeaf → Row → List Row → Type 0
-AreBehind options bytes l row [] = Unit {0}
-AreBehind options bytes l row (next ∷ rows) =
+abbrev pub AreAfter : ParseOptions → List ℕ → LineLeaf → Row → List Row → Type 0
+AreAfter options bytes l row [] = Unit {0}
+AreAfter options bytes l row (next ∷ rows) =
     (q : Point) × (after : row.after ≡ Some q) × (ending : IsEnding bytes row.end q)
     × (front : LinePrefix bytes [] q next.first next.front)
-    × (on : next.on ≡ row.behind) × (further : l.further next.on ≡ true)
-    × (is : IsLineOf options bytes l next) × AreBehind options bytes l next rows
+    × (on : next.on ≡ row.following) × (further : l.further next.on ≡ true)
+    × (is : IsLineOf options bytes l next) × AreAfter options bytes l next rows
 
 -- What the line definition becomes with them, after what it became before. An empty line after the ending that the text
 -- ends with is none of its lines.
-abbrev pub come_behind : (options : ParseOptions) (bytes : List ℕ) (l : LineLeaf) (row : Row) (rows : List Row) →
-    AreBehind options bytes l row rows → LeafResult → LeafResult
-come_behind options bytes l row [] are c = c
-come_behind options bytes l row (next ∷ rows) are c =
-    come_behind options bytes l next rows are.7
-    (if nat_lt are.0.index (length bytes) then l.comes options (left_by c) are.6.rest else c)
+abbrev pub becomes_after : (options : ParseOptions) (bytes : List ℕ) (l : LineLeaf) (row : Row) (rows : List Row) →
+    AreAfter options bytes l row rows → LeafResult → LeafResult
+becomes_after options bytes l row [] are c = c
+becomes_after options bytes l row (next ∷ rows) are c =
+    becomes_after options bytes l next rows are.7
+    (if nat_lt are.0.index (length bytes) then l.becomes options (left_by c) are.6.rest else c)
 
 -- Events, as the resolver that joins them meets them: a line is a begin, what is inside, and an end, or it is bare.
 
@@ -90,14 +90,15 @@ pub record SpanLaws (first further : LineLeaf) : Type 1 where
       further.further row.on ≡ true → IsSpanned IsNone IsFurther row.inside ⊎ IsBare row.inside
   -- Joined, the lines are known, and show the block to which the line definition comes with them.
   pub block : (options : ParseOptions) (bytes : List ℕ) (row : Row) (rows : List Row) →
-      IsLineOf options bytes first row → AreBehind options bytes further row rows → Block
+      IsLineOf options bytes first row → AreAfter options bytes further row rows → Block
   pub facts : (options : ParseOptions) (bytes : List ℕ) (row : Row) (rows : List Row) →
       (is : IsLineOf options bytes first row) → first.further row.on ≡ false →
-      (are : AreBehind options bytes further row rows) →
+      (are : AreAfter options bytes further row rows) →
       LeafFacts bytes (Some (block options bytes row rows is are)) (not (last_row row rows).empty) row.first
       (last_row row rows).end (span_by (λ (r : Row). r.inside) row rows) (span_done bytes row rows)
   pub shuts : (options : ParseOptions) (bytes : List ℕ) (row : Row) (rows : List Row) →
       (is : IsLineOf options bytes first row) → first.further row.on ≡ false →
-      (are : AreBehind options bytes further row rows) → (bs : Blocks) →
-      shut options (came bs (come_behind options bytes further row rows are (first.comes options NoLeaf is.rest))) ≡
+      (are : AreAfter options bytes further row rows) → (bs : Blocks) →
+      shut options (became bs (becomes_after options bytes further row rows are (first.becomes options NoLeaf is.rest)))
+      ≡
       then_block bs (block options bytes row rows is are)

@@ -12,7 +12,7 @@ use Rattle.md_events.specs.Events.Inline.{line_end, pair_unless_empty, plain_chu
 use Rattle.md_events.specs.Events.Nested.{Balanced, Forward, around, enter, enter_link, exit, last_point, pair}
 use Rattle.md_events.specs.Events.Places.{at_or_before, same_place}
 use Rattle.md_events.specs.Events.Spelled.{byte_at}
-use Rattle.md_events.proofs.InlineLemmas.{balanced-pair, end-before, end-behind}
+use Rattle.md_events.proofs.InlineLemmas.{balanced-pair, end-before, end-following}
 use Rattle.md_events.proofs.NestedLemmas.{at_or_before-refl, at_or_before-trans, balanced-append, balanced-around}
 use Rattle.md_events.proofs.NestedLemmas.{forward-append, last_point-append}
 
@@ -47,7 +47,7 @@ pub chunk-forward : (bytes : List ℕ) (chunk : Chunk) → IsTrue (at_or_before 
     Forward chunk.first (plain_chunk bytes chunk) ×
     IsTrue (at_or_before (last_point chunk.first (plain_chunk bytes chunk)) chunk.after)
 chunk-forward bytes chunk h =
-    go chunk.first (line_end bytes chunk) chunk.after (end-behind bytes chunk) (end-before bytes chunk h)
+    go chunk.first (line_end bytes chunk) chunk.after (end-following bytes chunk) (end-before bytes chunk h)
     (same_place chunk.first (line_end bytes chunk)) (same_place (line_end bytes chunk) chunk.after)
   where
     go : (p q r : Point) → IsTrue (at_or_before p q) → IsTrue (at_or_before q r) → (x y : Bool) →

@@ -12,7 +12,7 @@ use Rattle.md_engine.specs.declared.event.Name.TheVariants as n
 use Rattle.md_engine.specs.declared.event.Point.{Point}
 use Rattle.md_outline.specs.Between.{is_between}
 use Rattle.md_events.specs.Events.Nested.{around, exit, pair}
-use Rattle.md_events.specs.Events.Pieces.{piece_stands}
+use Rattle.md_events.specs.Events.Pieces.{is_valid_piece}
 use Rattle.md_events.specs.Events.Places.{at_or_before}
 use Rattle.md_events.specs.Events.Spelled.{IsQuiet, Role, role}
 use Rattle.md_events.specs.Events.Tiles.{part_kind}
@@ -23,8 +23,9 @@ use Rattle.proof_frame.proofs.BetweenFacts.{AreBetween, around-between, between-
 use Rattle.proof_frame.proofs.FillFacts.{PartsRead, fill-append, fill-around, fill-same}
 use Rattle.proof_frame.proofs.PartFacts.{NoLinks, NoParts}
 use Rattle.proof_frame.proofs.PartedFacts.{PrefixesAtLineStart, Still, around-sits, sits-append}
-use Rattle.proof_frame.proofs.PartsStand.{PartsWhole, stands-append, stands-around, stands-outside}
-use Rattle.proof_frame.proofs.PieceFacts.{PiecesValid, Starts, span, stood-append, stood-around, stood-none, stood-pair}
+use Rattle.proof_frame.proofs.PartsValid.{PartsWhole, valid-append, valid-around, valid-outside}
+use Rattle.proof_frame.proofs.PieceFacts.{PiecesValid, Starts, span, is_valid-append, is_valid-around, is_valid-none}
+use Rattle.proof_frame.proofs.PieceFacts.{is_valid-pair}
 use Rattle.proof_frame.proofs.PiecesLemmas.{Covered, tiled-append, tiled-around, tiled-none, tiled-pair}
 use Rattle.proof_frame.proofs.SpanLemmas.{Nested_in, around-nested, nested_in-append}
 
@@ -39,8 +40,8 @@ pub record Stretch (R : Role → Type 0) (bytes : List ℕ) (p q : Point) (unrea
   -- they cover what is there
   pub tiled : Covered p q unread
   -- their pieces are over what their names say
-  pub unread_stood : PiecesValid bytes unread
-  pub stood : PiecesValid bytes done
+  pub unread_valid : PiecesValid bytes unread
+  pub is_valid : PiecesValid bytes done
   -- their text parts are whole, and are read in the places of their chunks
   pub parts : PartsWhole bytes unread
   pub filled : PartsRead bytes unread done
@@ -61,8 +62,8 @@ stretch-as {us = us} {es = es} so h = record {
   unread_nested = h.unread_nested;
   nested = h.nested;
   tiled = h.tiled;
-  unread_stood = h.unread_stood;
-  stood = h.stood;
+  unread_valid = h.unread_valid;
+  is_valid = h.is_valid;
   parts = h.parts;
   filled = h.filled;
   between = h.between;
@@ -74,15 +75,15 @@ pub stretch-same : (R : Role → Type 0) (bytes : List ℕ) (p q : Point) (es : 
     Nested_in p q es → Covered p q es → PiecesValid bytes es → NoParts es → NoLinks es →
     (is_between bytes p.index ≡ true → is_between bytes q.index ≡ true → AreBetween bytes es) →
     PrefixesAtLineStart bytes es → Stretch R bytes p q es es
-stretch-same R bytes p q es roles nested tiled stood outside unlinked between parted = record {
+stretch-same R bytes p q es roles nested tiled is_valid outside unlinked between parted = record {
   unread_roles = roles;
   roles = roles;
   unread_nested = nested;
   nested = nested;
   tiled = tiled;
-  unread_stood = stood;
-  stood = stood;
-  parts = stands-outside bytes es outside unlinked;
+  unread_valid = is_valid;
+  is_valid = is_valid;
+  parts = valid-outside bytes es outside unlinked;
   filled = fill-same bytes es unlinked outside;
   between = between;
   parted = parted;
@@ -92,7 +93,7 @@ stretch-same R bytes p q es roles nested tiled stood outside unlinked between pa
 pub stretch-none : (R : Role → Type 0) (bytes : List ℕ) (p : Point) → Stretch R bytes p p [] []
 stretch-none R bytes p =
     stretch-same R bytes p p [] tt (balanced-none, (tt, at_or_before-refl p)) (tiled-none p p (same-refl p))
-    (stood-none bytes) tt tt (λ first last. refl) (λ ys h. h)
+    (is_valid-none bytes) tt tt (λ first last. refl) (λ ys h. h)
 
 -- where some end and others begin is between characters, if so are the ends of both
 abbrev pub IsMiddle : List ℕ → Point → Point → Point → Type 0
@@ -110,9 +111,9 @@ stretch-append {R = R} {bytes = bytes} {p = p} {q = q} {r = r} {us = us} {es = e
       unread_nested = nested_in-append p q r us vs h.unread_nested k.unread_nested;
       nested = nested_in-append p q r es fs h.nested k.nested;
       tiled = tiled-append p q r us vs h.tiled k.tiled;
-      unread_stood = stood-append bytes us vs h.unread_stood k.unread_stood;
-      stood = stood-append bytes es fs h.stood k.stood;
-      parts = stands-append bytes us vs h.parts k.parts;
+      unread_valid = is_valid-append bytes us vs h.unread_valid k.unread_valid;
+      is_valid = is_valid-append bytes es fs h.is_valid k.is_valid;
+      parts = valid-append bytes us vs h.parts k.parts;
       filled = fill-append bytes us es vs fs h.filled k.filled;
       between =
           λ first last. between-append bytes es fs (h.between first (middle first last))
@@ -139,11 +140,11 @@ pair-nested name p q order = (
 )
 
 pub stretch-pair : (R : Role → Type 0) (bytes : List ℕ) (name : Name) (p q : Point) → IsPiece R bytes name →
-    IsTrue (at_or_before p q) → piece_stands bytes (span name p q) ≡ true →
+    IsTrue (at_or_before p q) → is_valid_piece bytes (span name p q) ≡ true →
     Stretch R bytes p q (pair name p q) (pair name p q)
-stretch-pair R bytes name p q is order stands =
+stretch-pair R bytes name p q is order valid =
     stretch-same R bytes p q (pair name p q) (is.role_is, (is.role_is, tt)) (pair-nested name p q order)
-    (tiled-pair name p q) (stood-pair bytes name p q stands) (is.no_part, (is.no_part, tt)) (refl, (refl, tt))
+    (tiled-pair name p q) (is_valid-pair bytes name p q valid) (is.no_part, (is.no_part, tt)) (refl, (refl, tt))
     (λ first last. between-pair bytes name p q first last) (is.parted p q)
 
 -- A pair around others.
@@ -158,9 +159,9 @@ stretch-by {R = R} {bytes = bytes} {p = p} {q = q} {us = us} {es = es} name name
       unread_nested = around-nested name p q us h.unread_nested;
       nested = around-nested name p q es h.nested;
       tiled = tiled-around name p q us h.tiled;
-      unread_stood = stood-around bytes name p q us us_start h.unread_stood;
-      stood = stood-around bytes name p q es start h.stood;
-      parts = stands-around bytes name p q us no_part h.parts;
+      unread_valid = is_valid-around bytes name p q us us_start h.unread_valid;
+      is_valid = is_valid-around bytes name p q es start h.is_valid;
+      parts = valid-around bytes name p q us no_part h.parts;
       filled = fill-around bytes name p q us es no_part h.filled;
       between = λ first last. around-between bytes name p q es first last (h.between first last);
       parted = parted;

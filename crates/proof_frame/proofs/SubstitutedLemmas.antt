@@ -15,10 +15,11 @@ use Rattle.md_engine.specs.declared.event.Name.{Name}
 use Rattle.md_engine.specs.declared.event.Point.{Point}
 use Rattle.md_events.specs.declared.inline.Chunk.{Chunk}
 use Rattle.md_events.specs.Events.Nested.{enter_link, exit}
-use Rattle.md_events.specs.Substituted.{Readings, belongs, Substituted, chunk_of, chunks_behind, share, wanted, wanted_at}
+use Rattle.md_events.specs.Substituted.{Readings, belongs, Substituted, chunk_of, chunks_after, share, wanted}
+use Rattle.md_events.specs.Substituted.{wanted_at}
 use Rattle.md_events.specs.Events.Prefix.{is_prefix}
 use Rattle.md_events.proofs.SubstitutedLemmas.{SubstitutedBy}
-use Rattle.proof_frame.specs.Row.{Row, behind_row, chunks_of}
+use Rattle.proof_frame.specs.Row.{Row, after_row, chunks_of}
 use Rattle.proof_frame.specs.UnreadText.{linked_lines}
 use Rattle.proof_frame.proofs.PartFacts.{NoLinks}
 use Rattle.proof_frame.proofs.PrefixNames.{ArePrefixes}
@@ -77,29 +78,29 @@ Rest wants reads left ys out =
 -- Parts of lines with prefixes between them.
 
 -- over prefixes a part continues
-pub prefixes-behind : (wants : Content → Bool) (xs ys : List Event) → ArePrefixes xs →
-    chunks_behind wants (xs ++ ys) ≡ chunks_behind wants ys
-prefixes-behind wants [] ys h = refl
-prefixes-behind wants (e ∷ []) [] h = refl
-prefixes-behind wants (e ∷ []) (f ∷ ys) h = behind-one wants e f ys h.0.0 h.0.1
+pub prefixes-following : (wants : Content → Bool) (xs ys : List Event) → ArePrefixes xs →
+    chunks_after wants (xs ++ ys) ≡ chunks_after wants ys
+prefixes-following wants [] ys h = refl
+prefixes-following wants (e ∷ []) [] h = refl
+prefixes-following wants (e ∷ []) (f ∷ ys) h = following-one wants e f ys h.0.0 h.0.1
   where
-    behind-one : (wants : Content → Bool) (e f : Event) (es : List Event) → is_prefix e.name ≡ true → e.link ≡ None →
-        chunks_behind wants (e ∷ f ∷ es) ≡ chunks_behind wants (f ∷ es)
-    behind-one wants e f es name link =
+    following-one : (wants : Content → Bool) (e f : Event) (es : List Event) → is_prefix e.name ≡ true → e.link ≡ None →
+        chunks_after wants (e ∷ f ∷ es) ≡ chunks_after wants (f ∷ es)
+    following-one wants e f es name link =
         ap
         (λ (x : Option Content).
-        cond (is_some x) (chunk_of e f ∷ chunks_behind wants es)
-        (cond (is_prefix e.name) (chunks_behind wants (f ∷ es)) []))
+        cond (is_some x) (chunk_of e f ∷ chunks_after wants es)
+        (cond (is_prefix e.name) (chunks_after wants (f ∷ es)) []))
         (no_link-unwanted wants e link)
-        ∙ ap (λ (x : Bool). cond x (chunks_behind wants (f ∷ es)) []) name
-prefixes-behind wants (e ∷ f ∷ xs) ys h =
+        ∙ ap (λ (x : Bool). cond x (chunks_after wants (f ∷ es)) []) name
+prefixes-following wants (e ∷ f ∷ xs) ys h =
     ap
     (λ (x : Option Content).
-    cond (is_some x) (chunk_of e f ∷ chunks_behind wants (xs ++ ys))
-    (cond (is_prefix e.name) (chunks_behind wants (f ∷ xs ++ ys)) []))
+    cond (is_some x) (chunk_of e f ∷ chunks_after wants (xs ++ ys))
+    (cond (is_prefix e.name) (chunks_after wants (f ∷ xs ++ ys)) []))
     (no_link-unwanted wants e h.0.1)
-    ∙ ap (λ (x : Bool). cond x (chunks_behind wants (f ∷ xs ++ ys)) []) h.0.0
-    ∙ prefixes-behind wants (f ∷ xs) ys h.1
+    ∙ ap (λ (x : Bool). cond x (chunks_after wants (f ∷ xs ++ ys)) []) h.0.0
+    ∙ prefixes-following wants (f ∷ xs) ys h.1
 
 pub prefixes-unwanted : (wants : Content → Bool) (es : List Event) → ArePrefixes es → Unwanted wants es
 prefixes-unwanted wants [] h = tt
@@ -113,7 +114,7 @@ EachPrefixed (row ∷ rows) = ArePrefixes row.front × EachPrefixed rows
 -- where the chunk of a line ends: after its ending if another line follows
 abbrev pub line_after : Row → List Row → Point
 line_after row [] = row.end
-line_after row (next ∷ rows) = behind_row row
+line_after row (next ∷ rows) = after_row row
 
 -- the chunks of further lines
 abbrev further_chunks : List Row → List Chunk
@@ -139,23 +140,23 @@ lines-are : (name : Name) (link : Link) (row : Row) (rows : List Row) (ys : List
     enter_link name row.first link ∷ exit name (line_after row rows) ∷ further_lines name link rows ys
 lines-are name link row [] ys = refl
 lines-are name link row (next ∷ rows) ys =
-    ap (λ (l : List Event). enter_link name row.first link ∷ exit name (behind_row row) ∷ l)
+    ap (λ (l : List Event). enter_link name row.first link ∷ exit name (after_row row) ∷ l)
     (append_assoc next.front (linked_lines name link next rows) ys)
 
 -- the chunks that continue a part are those of its further lines
 chunks-further : (wants : Content → Bool) (name : Name) (link : Link) (rows : List Row) (ys : List Event) →
-    wants link.content ≡ true → chunks_behind wants ys ≡ [] → EachPrefixed rows →
-    chunks_behind wants (further_lines name link rows ys) ≡ further_chunks rows
+    wants link.content ≡ true → chunks_after wants ys ≡ [] → EachPrefixed rows →
+    chunks_after wants (further_lines name link rows ys) ≡ further_chunks rows
 chunks-further wants name link [] ys w none fits = none
 chunks-further wants name link (next ∷ rows) ys w none fits =
     let rest : List Event = exit name (line_after next rows) ∷ further_lines name link rows ys in
     let chunk : Chunk = record { first = next.first; after = line_after next rows } in
-    prefixes-behind wants next.front (linked_lines name link next rows ++ ys) fits.0
-    ∙ ap (chunks_behind wants) (lines-are name link next rows ys)
+    prefixes-following wants next.front (linked_lines name link next rows ++ ys) fits.0
+    ∙ ap (chunks_after wants) (lines-are name link next rows ys)
     ∙ ap
     (λ (x : Bool).
-    cond (is_some (cond x (Some link.content) None)) (chunk ∷ chunks_behind wants (further_lines name link rows ys))
-    (cond (is_prefix name) (chunks_behind wants rest) [])) w
+    cond (is_some (cond x (Some link.content) None)) (chunk ∷ chunks_after wants (further_lines name link rows ys))
+    (cond (is_prefix name) (chunks_after wants rest) [])) w
     ∙ ap (λ (l : List Chunk). chunk ∷ l) (chunks-further wants name link rows ys w none fits.1)
     ∙ sym (chunks-are next rows)
 
@@ -173,8 +174,8 @@ NextBelongs end (e ∷ es) = belongs end e ≡ false
 abbrev pub CutAt : Row → List Row → List Event → List Event → Type 0
 CutAt row [] left done = done ≡ left
 CutAt row (next ∷ rows) left done =
-    (mine more rest : List Event) × (left_is : left ≡ mine ++ more) × (here : AllBelong (behind_row row).index mine) ×
-    (behind : NextBelongs (behind_row row).index more)
+    (mine more rest : List Event) × (left_is : left ≡ mine ++ more) × (here : AllBelong (after_row row).index mine) ×
+    (following : NextBelongs (after_row row).index more)
     × (done_is : done ≡ mine ++ (next.front ++ rest)) × CutAt next rows more rest
 
 -- where the events of a chunk end, its share ends
@@ -211,7 +212,7 @@ shares wants reads name link row [] ys left done out rest w fits cut is s = (
   s,
 )
 shares wants reads name link row (next ∷ rows) ys left done out rest w fits cut is s =
-    let end : ℕ = (behind_row row).index in
+    let end : ℕ = (after_row row).index in
     let mine : List Event = cut.0 in
     let more : List Event = cut.1 in
     let many : ℕ = suc (length rows) in
@@ -246,20 +247,20 @@ shares wants reads name link row (next ∷ rows) ys left done out rest w fits cu
 -- What is read of a part of lines is in their places.
 pub places : (wants : Content → Bool) (reads : Readings) (left : List Event) (name : Name) (link : Link) (row : Row)
     (rows : List Row) (ys done out : List Event) →
-    wants link.content ≡ true → chunks_behind wants ys ≡ [] → EachPrefixed rows →
+    wants link.content ≡ true → chunks_after wants ys ≡ [] → EachPrefixed rows →
     ((answer : List Event) → reads link.content (chunks_of row rows) answer → CutAt row rows answer done) →
     Substituted wants reads left 0 (linked_lines name link row rows ++ ys) out → Rest wants reads done ys out
 places wants reads left name link row rows ys done out w none fits cuts s =
     let chunk : Chunk = record { first = row.first; after = line_after row rows } in
     let rest : List Event = further_lines name link rows ys in
-    let behind : List Chunk = chunks_behind wants rest in
+    let following : List Chunk = chunks_after wants rest in
     let here : SubstitutedBy wants reads left 0 (enter_link name row.first link)
     (exit name (line_after row rows)) rest out (Some link.content) =
     subst (SubstitutedBy wants reads left 0 (enter_link name row.first link) (exit name (line_after row rows)) rest out)
     (ap (λ (x : Bool). cond x (Some link.content) None) w)
     (subst (λ (l : List Event). Substituted wants reads left 0 l out) (lines-are name link row rows ys) s) in
-    let chunks : behind ≡ further_chunks rows = chunks-further wants name link rows ys w none fits in
-    let size : length behind ≡ length rows = ap length chunks ∙ chunks-many rows in
+    let chunks : following ≡ further_chunks rows = chunks-further wants name link rows ys w none fits in
+    let size : length following ≡ length rows = ap length chunks ∙ chunks-many rows in
     let answer : List Event = here.0 in
     let read : reads link.content (chunks_of row rows) answer = subst (λ (l : List Chunk). reads link.content l answer)
     (ap (λ (l : List Chunk). chunk ∷ l) chunks ∙ sym (chunks-are row rows)) here.2 in
@@ -270,7 +271,7 @@ places wants reads left name link row rows ys done out w none fits cuts s =
     Substituted wants reads (drop (share k answer (line_after row rows).index) answer) k rest here.1) size here.4)
 
 -- after the end of a block no more of its part is
-pub behind-exit : (wants : Content → Bool) (name : Name) (p : Point) (es : List Event) → is_prefix name ≡ false →
-    chunks_behind wants (exit name p ∷ es) ≡ []
-behind-exit wants name p [] h = refl
-behind-exit wants name p (e ∷ es) h = ap (λ (x : Bool). cond x (chunks_behind wants (e ∷ es)) []) h
+pub following-exit : (wants : Content → Bool) (name : Name) (p : Point) (es : List Event) → is_prefix name ≡ false →
+    chunks_after wants (exit name p ∷ es) ≡ []
+following-exit wants name p [] h = refl
+following-exit wants name p (e ∷ es) h = ap (λ (x : Bool). cond x (chunks_after wants (e ∷ es)) []) h

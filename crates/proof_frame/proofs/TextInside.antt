@@ -13,7 +13,7 @@ use Rattle.md_events.specs.declared.inline.Chunk.{Chunk}
 use Rattle.md_events.specs.declared.inline.PartKind.{PartKind}
 use Rattle.md_events.specs.Events.Inline.{are_lines, in_order, line_end, plain_chunk, plain_chunks}
 use Rattle.md_events.specs.Events.Nested.{around, enter_link, exit}
-use Rattle.md_events.specs.Events.Pieces.{piece_stands}
+use Rattle.md_events.specs.Events.Pieces.{is_valid_piece}
 use Rattle.md_events.specs.Events.Places.{at_or_before}
 use Rattle.md_events.specs.Events.Spelled.{Role, role}
 use Rattle.md_events.specs.Events.Tiles.{begins_at, filled_from, of_kind, part_kind}
@@ -25,10 +25,11 @@ use Rattle.proof_frame.proofs.ChunkFacts.{Chunked}
 use Rattle.proof_frame.proofs.FillFacts.{Filled, fill-part, passes-filled}
 use Rattle.proof_frame.proofs.FrontFacts.{LinePrefix}
 use Rattle.proof_frame.proofs.FrontNames.{fronts-unlinked}
-use Rattle.proof_frame.proofs.FrontStands.{fronts-between, fronts-inside, plain-front, stretch-front}
+use Rattle.proof_frame.proofs.FrontValid.{fronts-between, fronts-inside, plain-front, stretch-front}
 use Rattle.proof_frame.proofs.PartedFacts.{PrefixesAtLineStart}
-use Rattle.proof_frame.proofs.PartsStand.{Inside, inside-append, inside-linked, stands-part}
-use Rattle.proof_frame.proofs.PieceFacts.{PiecesValid, Starts, chunk_span, stood-append, stood-around, stood-none}
+use Rattle.proof_frame.proofs.PartsValid.{Inside, inside-append, inside-linked, valid-part}
+use Rattle.proof_frame.proofs.PieceFacts.{PiecesValid, Starts, chunk_span, is_valid-append, is_valid-around}
+use Rattle.proof_frame.proofs.PieceFacts.{is_valid-none}
 use Rattle.proof_frame.proofs.PiecesLemmas.{Covered, tiled-append, tiled-around, tiled-none, tiled-two}
 use Rattle.proof_frame.proofs.PlainFacts.{ArePlain, chunk-plain, plain-append, plain-nil}
 use Rattle.proof_frame.proofs.PlainRoles.{chunk-roles}
@@ -45,8 +46,8 @@ pub record TextInside (bytes : List ℕ) (kind : PartKind) (p q : Point) (chunks
   pub unread_nested : Nested_in p q unread
   pub nested : Nested_in p q done
   pub tiled : Covered p q unread
-  pub unread_stood : PiecesValid bytes unread
-  pub stood : PiecesValid bytes done
+  pub unread_valid : PiecesValid bytes unread
+  pub is_valid : PiecesValid bytes done
   -- they may be in such a part, and are read in the places of the chunks
   pub inside : Inside bytes kind chunks unread
   pub filled : Filled bytes chunks unread done
@@ -63,8 +64,8 @@ text-none bytes kind link p of = record {
   unread_nested = (balanced-none, (tt, at_or_before-refl p));
   nested = (balanced-none, (tt, at_or_before-refl p));
   tiled = tiled-none p p (same-refl p);
-  unread_stood = stood-none bytes;
-  stood = stood-none bytes;
+  unread_valid = is_valid-none bytes;
+  is_valid = is_valid-none bytes;
   inside = inside-linked bytes kind link [] of;
   filled = λ ys more. refl;
   between = λ first last. refl;
@@ -83,11 +84,11 @@ text-line bytes kind link p e q of chunked order end middle = record {
   unread_nested = linked-nested link p q order;
   nested = chunk-nested bytes (record { first = p; after = q }) order;
   tiled = tiled-two (enter_link n.Data p link) (exit n.Data q) refl refl;
-  unread_stood = record {
+  unread_valid = record {
     ends = refl;
-    stand = and_from (piece_stands bytes (chunk_span n.Data p q)) true chunked.linked refl;
+    are_valid = and_from (is_valid_piece bytes (chunk_span n.Data p q)) true chunked.linked refl;
   };
-  stood = chunked.read;
+  is_valid = chunked.read;
   inside = inside-linked bytes kind link ((record { first = p; after = q }) ∷ []) of;
   filled = λ ys more. refl;
   between = λ first last. chunk-between bytes p e q end first (middle first last) last;
@@ -104,7 +105,7 @@ pub text-more : {bytes : List ℕ} {kind : PartKind} {link : Link} {p b r q : Po
     ((enter_link n.Data p link ∷ exit n.Data b ∷ []) ++ (front ++ us))
     ((plain_chunk bytes (record { first = p; after = b }) ++ front) ++ es)
 text-more {bytes = bytes} {kind = kind} {link = link} {p = p} {b = b} {r = r} {q = q} {front = front} {cs = cs}
-    {us = us} {es = es} h is behind k = record {
+    {us = us} {es = es} h is following k = record {
       unread_roles =
           roles-append Between linked (front ++ us) h.unread_roles
           (roles-append Between front us f.unread_roles k.unread_roles);
@@ -115,9 +116,11 @@ text-more {bytes = bytes} {kind = kind} {link = link} {p = p} {b = b} {r = r} {q
       nested =
           nested_in-append p r q (chunk ++ front) es (nested_in-append p b r chunk front h.nested f.nested) k.nested;
       tiled = tiled-append p b q linked (front ++ us) h.tiled (tiled-append b r q front us f.tiled k.tiled);
-      unread_stood =
-          stood-append bytes linked (front ++ us) h.unread_stood (stood-append bytes front us f.stood k.unread_stood);
-      stood = stood-append bytes (chunk ++ front) es (stood-append bytes chunk front h.stood f.stood) k.stood;
+      unread_valid =
+          is_valid-append bytes linked (front ++ us) h.unread_valid
+          (is_valid-append bytes front us f.is_valid k.unread_valid);
+      is_valid = is_valid-append bytes (chunk ++ front) es
+          (is_valid-append bytes chunk front h.is_valid f.is_valid) k.is_valid;
       inside =
           inside-append bytes kind ((record { first = p; after = b }) ∷ []) cs linked (front ++ us) h.inside
           (inside-append bytes kind [] cs front us (fronts-inside bytes kind [] b r front refl is) k.inside);
@@ -130,8 +133,9 @@ text-more {bytes = bytes} {kind = kind} {link = link} {p = p} {b = b} {r = r} {q
           ∙ sym (append_assoc chunk front (es ++ filled_from false ys more))
           ∙ sym (append_assoc (chunk ++ front) es (filled_from false ys more));
       between = λ first last.
-          let fronts = fronts-between bytes [] b r front behind is in
-          between-append bytes (chunk ++ front) es (between-append bytes chunk front (h.between first behind) fronts.0)
+          let fronts = fronts-between bytes [] b r front following is in
+          between-append bytes (chunk ++ front) es
+          (between-append bytes chunk front (h.between first following) fronts.0)
           (k.between fronts.1 last);
       plain =
           plain-append bytes (chunk ++ front) es
@@ -162,9 +166,9 @@ stretch-part {bytes = bytes} {kind = kind} {p = p} {q = q} {cs = cs} {us = us} {
       unread_nested = around-nested name p q us h.unread_nested;
       nested = around-nested name p q es h.nested;
       tiled = tiled-around name p q us h.tiled;
-      unread_stood = stood-around bytes name p q us us_start h.unread_stood;
-      stood = stood-around bytes name p q es start h.stood;
-      parts = stands-part bytes name kind p q cs us of h.inside begins lines;
+      unread_valid = is_valid-around bytes name p q us us_start h.unread_valid;
+      is_valid = is_valid-around bytes name p q es start h.is_valid;
+      parts = valid-part bytes name kind p q cs us of h.inside begins lines;
       filled = fill-part bytes name kind p q cs us es of h.inside (plain-fills bytes p cs order) h.filled;
       between = λ first last. around-between bytes name p q es first last (h.between first last);
       parted = parted;

@@ -4,7 +4,7 @@ use Rattle.std.proofs.Common.{◌≡◌, ℕ, Bool, true, List, ◌∷◌}
 use Rattle.md_engine.specs.declared.configuration.ParseOptions.{ParseOptions}
 use Rattle.md_engine.specs.declared.event.Event.{Event}
 use Rattle.md_engine.specs.declared.event.Point.{Point}
-use Rattle.md_containers.proofs.UnlistedLemmas.{StandsTo, among}
+use Rattle.md_containers.proofs.UnlistedLemmas.{ItemsLead, among}
 use Rattle.md_content.specs.ContentReads.{content_events}
 use Rattle.md_events.specs.declared.inline.Chunk.{Chunk}
 use Rattle.md_events.specs.Events.Nested.{around}
@@ -23,12 +23,12 @@ pub record TextLaws (t : TextLeaf) : Type 1 where
       (leaf : Leaf) → IsNoneTextOr IsSpan leaf → P leaf
   -- It is shut as what its lines become, which an outline can show.
   pub shut : (options : ParseOptions) (bs : Blocks) (ks : List ParagraphLine) →
-      then_leaf options bs (t.held ks) ≡ t.behind options bs (texts ks)
+      then_leaf options bs (t.held ks) ≡ t.following options bs (texts ks)
   pub shallow : (options : ParseOptions) (bs : Blocks) (lines : List (List ℕ)) → are_shallow bs ≡ true →
-      are_shallow (t.behind options bs lines) ≡ true
+      are_shallow (t.following options bs lines) ≡ true
   -- With what is between blocks in it, it leaves open what is open where it is.
-  pub stands : (bytes : List ℕ) (held : List Bool) (p q : Point) (inside : List Event) → Roles Between inside →
-      StandsTo bytes (among held) (among held) (around t.name p q inside)
+  pub valid : (bytes : List ℕ) (held : List Bool) (p q : Point) (inside : List Event) → Roles Between inside →
+      ItemsLead bytes (among held) (among held) (around t.name p q inside)
   -- No part begins in what is read of it that a resolver after that of content rewrites.
   pub outside : (bytes : List ℕ) (options : ParseOptions) (chunks : List Chunk) →
       AreOutside (content_events bytes options chunks)

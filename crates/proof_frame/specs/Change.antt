@@ -20,18 +20,18 @@ pub record Change : Type 0 where
   pub opens : List Container
 
 -- all that are open after the line
-abbrev pub open_behind : Change → List Container
-open_behind c = c.stays ++ c.opens
+abbrev pub open_following : Change → List Container
+open_following c = c.stays ++ c.opens
 
 -- some containers continued, and some open; the others stay too where the line continues the open text, and end where
 -- it does not
 abbrev pub change_by : Bool → List Container → List Container → List Container → Change
-change_by true went others opens = record { stays = went ++ others; closes = []; opens = opens }
-change_by false went others opens = record { stays = went; closes = others; opens = opens }
+change_by true proceeded others opens = record { stays = proceeded ++ others; closes = []; opens = opens }
+change_by false proceeded others opens = record { stays = proceeded; closes = others; opens = opens }
 
 -- those of the open containers that are not among the first, which continued
 abbrev pub others_of : List Container → List Container → List Container
-others_of open_before went = drop (length went) open_before
+others_of open_before proceeded = drop (length proceeded) open_before
 
 abbrev pub is_none : List Container → Bool
 is_none [] = true

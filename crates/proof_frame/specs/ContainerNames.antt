@@ -5,7 +5,7 @@ use Rattle.md_engine.specs.declared.event.Name.{Name}
 use Rattle.md_engine.specs.declared.event.Name.TheVariants as n
 use Rattle.md_engine.specs.declared.tokenizer.container.name.ContainerKind.{ContainerKind}
 use Rattle.md_engine.specs.declared.tokenizer.container.name.ContainerKind.TheVariants as kind
-use Rattle.md_containers.specs.ItemsStand.{is_item_shape}
+use Rattle.md_containers.specs.ItemsAllowed.{is_item_shape}
 use Rattle.md_events.specs.Events.Spelled.{FootnoteShape, ItemShape, OrderedShape, QuoteShape, Shape, UnorderedShape}
 use Rattle.md_meaning.specs.State.{Container, InFootnote, InItem, InQuote}
 

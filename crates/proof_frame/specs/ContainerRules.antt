@@ -26,7 +26,7 @@ pub record ContainerRules : Type 1 where
   -- What may be first after whitespace where it opens, and where its prefix on a further line begins: elsewhere it is
   -- refused at once.
   pub may_open : ℕ → Bool
-  pub may_go_on : ℕ → Bool
+  pub may_continue : ℕ → Bool
   -- Whether the prefix of one that is held so is here on a further line, where it can be taken at once; and what
   -- follows it.
   pub plain : Held → World → Type 0
@@ -34,7 +34,7 @@ pub record ContainerRules : Type 1 where
   -- By the cells of a line: the one that opens, if one does, where it would interrupt text or not; and an open one, if
   -- it continues.
   pub opens : ParseOptions → Bool → List Cell → Point → Option Passed
-  pub goes : ParseOptions → Container → List Cell → Point → Option Passed
+  pub proceeds : ParseOptions → Container → List Cell → Point → Option Passed
   -- By the rest of a line: the one that opens. Which open one continues, the line definition says of all containers at
   -- once.
   pub found : ParseOptions → Bool → Rest → Option Taken

@@ -27,10 +27,10 @@ has_lines leaf = true
 
 -- whether a line may continue it where all containers continued: a leaf of several lines, and text, which a line may
 -- turn
-abbrev pub may_go_on : HeldLeaf → Bool
-may_go_on held_leaf.None = false
-may_go_on (held_leaf.LazyText at) = false
-may_go_on leaf = true
+abbrev pub may_continue : HeldLeaf → Bool
+may_continue held_leaf.None = false
+may_continue (held_leaf.LazyText at) = false
+may_continue leaf = true
 
 -- a leaf as a lazy line meets it: text that the line is lazy for, if the leaf takes lazy lines, and none if not, since
 -- it has ended with its containers

@@ -32,6 +32,6 @@ number ThematicBreak = 8
 number GfmTable = 9
 
 -- the leaves that are tried after one, where it has not taken the line
-abbrev pub behind_in : ℕ → List LeafName → List LeafName
-behind_in k [] = []
-behind_in k (l ∷ ls) = if number l == k then ls else behind_in k ls
+abbrev pub after_in : ℕ → List LeafName → List LeafName
+after_in k [] = []
+after_in k (l ∷ ls) = if number l == k then ls else after_in k ls

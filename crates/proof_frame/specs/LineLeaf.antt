@@ -44,7 +44,7 @@ pub record LineLeaf : Type 0 where
   -- leaf is with it, and its block, if it always ends on its line.
   pub starts : ParseOptions → HeldLeaf → Rest → Bool
   pub holds : ParseOptions → HeldLeaf → Rest → HeldLeaf
-  pub comes : ParseOptions → Leaf → Rest → LeafResult
+  pub becomes : ParseOptions → Leaf → Rest → LeafResult
   pub block : Rest → Block
   -- Its events, by the bytes of the line and the point where it begins: as its states leave them, once its resolver has
   -- run, and once the plain layer has read its text parts in this text.

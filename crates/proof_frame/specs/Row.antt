@@ -32,7 +32,7 @@ pub record Row : Type 0 where
   pub kind : RowKind
   -- the leaf that it meets, and the one that is open after it
   pub on : HeldLeaf
-  pub behind : HeldLeaf
+  pub following : HeldLeaf
   -- what is before it: the prefixes of its containers, and the begins of those that open on it
   pub front : List Event
   -- what it does to the containers that were open before it
@@ -83,24 +83,24 @@ last_row row [] = row
 last_row row (next ∷ rows) = last_row next rows
 
 -- after the ending of a line
-abbrev pub behind_row : Row → Point
-behind_row row = elim row.after [ None ↦ row.end | Some q ↦ q ]
+abbrev pub after_row : Row → Point
+after_row row = elim row.after [ None ↦ row.end | Some q ↦ q ]
 
 -- the chunks of a text: each line with its ending but the last
 abbrev pub chunks_of : Row → List Row → List Chunk
 chunks_of row [] = (record { first = row.first; after = row.end }) ∷ []
-chunks_of row (next ∷ rows) = (record { first = row.first; after = behind_row row }) ∷ chunks_of next rows
+chunks_of row (next ∷ rows) = (record { first = row.first; after = after_row row }) ∷ chunks_of next rows
 
 -- the lines of a text, once they are read: before each further line are the prefixes of its containers
 abbrev pub read_lines : List ℕ → Row → List Row → List Event
 read_lines bytes row [] = plain_chunk bytes (record { first = row.first; after = row.end })
 read_lines bytes row (next ∷ rows) =
-    plain_chunk bytes (record { first = row.first; after = behind_row row }) ++ next.front ++ read_lines bytes next rows
+    plain_chunk bytes (record { first = row.first; after = after_row row }) ++ next.front ++ read_lines bytes next rows
 
 -- between lines: where each ends, and what is before the next
 abbrev pub breaks_of : Row → List Row → List LineBreak
 breaks_of row [] = []
-breaks_of row (next ∷ rows) = (record { after = behind_row row; front = next.front }) ∷ breaks_of next rows
+breaks_of row (next ∷ rows) = (record { after = after_row row; front = next.front }) ∷ breaks_of next rows
 
 -- What a line turns these lines into: their text, the ending of the last, and that line after the prefixes of its
 -- containers.
@@ -140,11 +140,11 @@ abbrev pub end_by : List Event → List Event → List Event
 end_by end es = if is_framed es then end_of es else end
 
 -- after the leaf: bare lines, as whitespace, each after the ending of the line in front
-abbrev pub span_behind : (Row → List Event) → Row → List Row → List Event
-span_behind f row [] = []
-span_behind f row (next ∷ rows) =
+abbrev pub span_after : (Row → List Event) → Row → List Row → List Event
+span_after f row [] = []
+span_after f row (next ∷ rows) =
     ending_events (ending_of row.kind row) row ++ next.front ++ map (renamed Outside) (f next)
-    ++ span_behind f next rows
+    ++ span_after f next rows
 
 -- after the first line, where this is the end of the leaf so far
 abbrev pub span_rest : (Row → List Event) → List Event → Row → List Row → List Event
@@ -154,7 +154,7 @@ span_rest f end row (next ∷ rows) =
     then
     ending_events n.LineEnding row ++ next.front ++ inside_leaf (f next)
     ++ span_rest f (end_by end (f next)) next rows
-    else end ++ span_behind f row (next ∷ rows)
+    else end ++ span_after f row (next ∷ rows)
 
 abbrev pub span_by : (Row → List Event) → Row → List Row → List Event
 span_by f row rows = but_end (f row) ++ span_rest f (end_of (f row)) row rows

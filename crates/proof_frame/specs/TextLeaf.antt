@@ -17,4 +17,4 @@ pub record TextLeaf : Type 0 where
   pub held : List ParagraphLine → Leaf
   -- blocks, with those of these lines after them where it is shut: what is cut from its front, and its block of the
   -- lines that remain, if any do
-  pub behind : ParseOptions → Blocks → List (List ℕ) → Blocks
+  pub following : ParseOptions → Blocks → List (List ℕ) → Blocks

@@ -16,8 +16,8 @@ use Rattle.md_engine.specs.TextFeed.{text_feed}
 use Rattle.md_engine.specs.World.{Flags, Setting}
 use Rattle.md_engine.proofs.TextFeed.{text-follows}
 use Rattle.md_containers.specs.Frontmatter.{cleared, is_marker}
-use Rattle.md_containers.specs.FrontmatterRule.{at_line, behind_ending, behind_line, front_at, front_begun, front_here}
-use Rattle.md_containers.specs.FrontmatterRule.{in_open, open_end, refuses, shuts}
+use Rattle.md_containers.specs.FrontmatterRule.{at_line, following_ending, following_line, front_at, front_begun}
+use Rattle.md_containers.specs.FrontmatterRule.{front_here, in_open, open_end, refuses, shuts}
 use Rattle.md_containers.proofs.FrontmatterMeaning.{front-begins, front-none, front-other, lines-end, open-ends}
 use Rattle.md_containers.proofs.FrontmatterMeaning.{open-none}
 use Rattle.md_meaning.specs.Lines.{full_lines_of, without_ending}
@@ -36,7 +36,7 @@ use Rattle.md_events.proofs.InlineLemmas.{past-index}
 use Rattle.md_events.proofs.SpacesTermination.{rest-calm}
 use Rattle.md_events.proofs.RestLines.{count-none}
 use Rattle.proof_leaf_laws.specs.Front as front
-use Rattle.proof_leaf_laws.specs.Front.{FrontRead, behind_these, ending_of, ending_part, fence_part, front_from}
+use Rattle.proof_leaf_laws.specs.Front.{FrontRead, after_these, ending_of, ending_part, fence_part, front_from}
 use Rattle.proof_leaf_laws.specs.Front.{front_read, line_part, lines_read}
 use Rattle.proof_leaf_laws.proofs.FullLines.{IsLines, LastLine, NextLine, NoLines, ending-is, full-lines, last-ending}
 use Rattle.proof_leaf_laws.proofs.Frontmatter.Taken.{around_fence, fence-is, fence_done, not-fence, one-line}
@@ -61,7 +61,7 @@ outcome x h (Some f) =
 
 -- where a line begins
 pub record Begins (x : Setting) (text : List ℕ) (p : Point) : Type 0 where
-  pub stands : drop p.index x.bytes ≡ text
+  pub valid : drop p.index x.bytes ≡ text
   pub index : p.index ≤ length x.bytes
   pub whole : p.vs ≡ 0
   pub column : 1 ≤ p.column
@@ -79,13 +79,13 @@ feed-short x is p = (text-follows x x.limit true is.small (omega arith) (λ e. r
 last-cells : (x : Setting) (line : List ℕ) (p : Point) → IsWhole x → Begins x line p → NoEnding line →
     text_feed x p ≡ spread x.line line p ++ []
 last-cells x line p is at bare =
-    let size = ap length at.stands in
+    let size = ap length at.valid in
     let left = length-drop p.index x.bytes in
     let end = past-index line p in
     line-feed x line [] p
     (record {
       small = is.small;
-      text = at.stands ∙ sym (append-nil line);
+      text = at.valid ∙ sym (append-nil line);
       no_ending = bare;
       within = let all = is.all in let low = at.index in omega (arith, size, left, all, low);
       whole = at.whole;
@@ -96,7 +96,7 @@ last-cells x line p is at bare =
     (let all = is.all in let low = at.index in omega (arith, size, left, all, low, end)))
 
 -- those of a line with its ending, and where the next one begins
-record Goes (x : Setting) (line : List ℕ) (ending : Ending) (rest : List ℕ) (p : Point) : Type 0 where
+record Proceeds (x : Setting) (line : List ℕ) (ending : Ending) (rest : List ℕ) (p : Point) : Type 0 where
   pub cells : text_feed x p ≡
       spread x.line line p
       ++ cell 10 (past_ending ending (past_text line p)) x.line
@@ -105,22 +105,22 @@ record Goes (x : Setting) (line : List ℕ) (ending : Ending) (rest : List ℕ) 
 
 next-cells : (x : Setting) (line : List ℕ) (ending : Ending) (rest : List ℕ) (p : Point) → IsWhole x →
     Begins x (line ++ (ending_bytes ending ++ rest)) p → NoEnding line → EndsBefore ending rest →
-    Goes x line ending rest p
+    Proceeds x line ending rest p
 next-cells x line ending rest p is at bare before =
     let q = past_text line p in
     let end = past-index line p in
     let all = is.all in
-    let within = front-within x.bytes p.index line (ending_bytes ending ++ rest) at.stands at.index in
+    let within = front-within x.bytes p.index line (ending_bytes ending ++ rest) at.valid at.index in
     let sizes = length-append (ending_bytes ending) rest in
     let some = ending-some ending in
-    let behind : drop q.index x.bytes ≡ ending_bytes ending ++ rest =
-    ap (λ (i : ℕ). drop i x.bytes) end ∙ drop-past x.bytes p.index line (ending_bytes ending ++ rest) at.stands in
+    let following : drop q.index x.bytes ≡ ending_bytes ending ++ rest =
+    ap (λ (i : ℕ). drop i x.bytes) end ∙ drop-past x.bytes p.index line (ending_bytes ending ++ rest) at.valid in
     record {
       cells =
           line-feed x line (ending_bytes ending ++ rest) p
           (record {
             small = is.small;
-            text = at.stands;
+            text = at.valid;
             no_ending = bare;
             within = omega (arith, within, all);
             whole = at.whole;
@@ -130,13 +130,13 @@ next-cells x line ending rest p is at bare before =
           (ending-feed x ending rest q
           (record {
             small = is.small;
-            text = behind;
+            text = following;
             before = before;
             within = omega (arith, within, all, end, sizes, some);
             begun = begun-none x (past_ending ending q) is.skips;
           }));
       next = record {
-        stands = drop-past x.bytes q.index (ending_bytes ending) rest behind;
+        valid = drop-past x.bytes q.index (ending_bytes ending) rest following;
         index = omega (arith, within, end, sizes);
         whole = refl;
         column = omega arith;
@@ -165,23 +165,23 @@ lines_from m line ending more p =
       events = fence_part line p ++ exit n.Frontmatter q ∷ ending_part ending q;
       point = front.past_ending ending q;
     }))
-    (option_map (behind_these (line_part line p ++ ending_part ending q))
+    (option_map (after_these (line_part line p ++ ending_part ending q))
     (lines_read m more (front.past_ending ending q)))
 
 -- what follows a line
-behind-outcome : (x : Setting) (h : Here) (front back : List Event) (p : Point) (o : Option FrontRead) →
+following-outcome : (x : Setting) (h : Here) (front back : List Event) (p : Point) (o : Option FrontRead) →
     outcome x (record h { events = (h.events ++ front) ++ back; point = p }) o ≡
-    outcome x h (option_map (behind_these (front ++ back)) o)
-behind-outcome x h front back p None = refl
-behind-outcome x h front back p (Some f) =
+    outcome x h (option_map (after_these (front ++ back)) o)
+following-outcome x h front back p None = refl
+following-outcome x h front back p (Some f) =
     ap
     (λ (es : List Event).
     Accepts (record h { events = es; point = f.point; scratch = cleared h.scratch }) (text_feed x f.point))
     (simp append_assoc)
 
 -- after a line that is no fence, and its ending
-abbrev behind_part : Setting → List ℕ → Ending → Here → Here
-behind_part x line ending h =
+abbrev after_part : Setting → List ℕ → Ending → Here → Here
+after_part x line ending h =
     let q = past_text line h.point in
     let r = past_ending ending q in
     record h { events = (h.events ++ line_part line h.point) ++ pair n.LineEnding q r; point = r }
@@ -190,7 +190,7 @@ lines-agree : (x : Setting) (text : List ℕ) (lines : List (List ℕ)) → IsLi
     Begins x text h.point → IsInside h →
     at_line (text_feed x h.point) h ≡ outcome x h (lines_read h.scratch.marker lines h.point)
 lines-agree x _ _ NoLines h is at inside =
-    let none : length (drop h.point.index x.bytes) ≡ 0 = ap length at.stands in
+    let none : length (drop h.point.index x.bytes) ≡ 0 = ap length at.valid in
     let left = length-drop h.point.index x.bytes in
     let all = is.all in
     ap (λ (l : List Cell). at_line l h) (feed-none x h.point is.small (omega (arith, none, left, all)))
@@ -219,7 +219,7 @@ lines-agree x _ _ (LastLine b rest bare) h is at inside =
 
     none : text_feed x q ≡ []
     none =
-        let size = ap length at.stands in
+        let size = ap length at.valid in
         let left = length-drop h.point.index x.bytes in
         let all = is.all in
         let low = at.index in
@@ -227,7 +227,7 @@ lines-agree x _ _ (LastLine b rest bare) h is at inside =
 
     go : (y : Bool) →
         cond y (shuts [] (around_fence line h))
-        (behind_line []
+        (following_line []
         (record h { events = h.events ++ line_part line h.point; point = q })) ≡
         outcome x h
         (cond y
@@ -239,10 +239,10 @@ lines-agree x _ _ (LastLine b rest bare) h is at inside =
         (append_assoc h.events (fence_part line h.point) (exit n.Frontmatter q ∷ [])) (sym none)
     go false = refl
 lines-agree x _ _ (NextLine line ending rest more bare before lines same') h is at inside =
-    ap (λ (l : List Cell). at_line l h) goes.cells
+    ap (λ (l : List Cell). at_line l h) proceeds.cells
     ∙ one-line x.line line stop h inside.marks inside.size inside.calm bare refl at.column short
     ∙ go (is_front_fence m line)
-    (lines-agree x rest more lines (behind_part x line ending h) is
+    (lines-agree x rest more lines (after_part x line ending h) is
     (next-cells x line ending rest h.point is at bare before).next
     (record { marks = inside.marks; size = inside.size; calm = inside.calm }))
     ∙ sym
@@ -251,7 +251,7 @@ lines-agree x _ _ (NextLine line ending rest more bare before lines same') h is 
     outcome x h
     (cond (is_front_fence m line)
     (Some (record { events = fence_part line h.point ++ exit n.Frontmatter q ∷ es; point = r }))
-    (option_map (behind_these (line_part line h.point ++ es)) (lines_read m more r))))
+    (option_map (after_these (line_part line h.point ++ es)) (lines_read m more r))))
     (past-same ending q) (part-same ending q))
     ∙ ap₂ (λ (l e : List ℕ). outcome x h (lines_from m l e more h.point)) (sym (without-one line ending bare))
     (sym (ending-is line ending bare))
@@ -265,29 +265,29 @@ lines-agree x _ _ (NextLine line ending rest more bare before lines same') h is 
     r : Point
     r = past_ending ending q
 
-    goes : Goes x line ending rest h.point
-    goes = next-cells x line ending rest h.point is at bare before
+    proceeds : Proceeds x line ending rest h.point
+    proceeds = next-cells x line ending rest h.point is at bare before
 
     stop : List Cell
     stop = cell 10 r x.line ∷ text_feed x r
 
     short : length (spread x.line line h.point ++ stop) < 2 ^ 63
-    short = let s = feed-short x is h.point in let e = ap length goes.cells in omega (arith, s, e)
+    short = let s = feed-short x is h.point in let e = ap length proceeds.cells in omega (arith, s, e)
 
     Same : Type 0
     Same =
-        at_line (text_feed x r) (behind_part x line ending h) ≡
-        outcome x (behind_part x line ending h) (lines_read m more r)
+        at_line (text_feed x r) (after_part x line ending h) ≡
+        outcome x (after_part x line ending h) (lines_read m more r)
 
     go : (y : Bool) → Same →
         cond y (shuts stop (around_fence line h))
-        (behind_line stop
+        (following_line stop
         (record h { events = h.events ++ line_part line h.point; point = q })) ≡
         outcome x h
         (cond y
         (Some
         (record { events = fence_part line h.point ++ exit n.Frontmatter q ∷ pair n.LineEnding q r; point = r }))
-        (option_map (behind_these (line_part line h.point ++ pair n.LineEnding q r)) (lines_read m more r)))
+        (option_map (after_these (line_part line h.point ++ pair n.LineEnding q r)) (lines_read m more r)))
     go true same =
         ap
         (λ (es : List Event).
@@ -295,7 +295,7 @@ lines-agree x _ _ (NextLine line ending rest more bare before lines same') h is 
         (simp append_assoc)
     go false same =
         same
-        ∙ behind-outcome x h (line_part line h.point) (pair n.LineEnding q r) r (lines_read m more r)
+        ∙ following-outcome x h (line_part line h.point) (pair n.LineEnding q r) r (lines_read m more r)
 
 -- The opening fence.
 
@@ -317,14 +317,14 @@ opened m line h = record h {
 }
 
 -- after the opening fence of this line
-abbrev behind_open : List Cell → Here → Outcome
-behind_open [] h = refuses h
-behind_open (c ∷ cs) h = at_line cs (behind_ending c h)
+abbrev after_open : List Cell → Here → Outcome
+after_open [] h = refuses h
+after_open (c ∷ cs) h = at_line cs (following_ending c h)
 
-opened-goes : (m : ℕ) (line : List ℕ) (stop : List Cell) (h : Here) → Stops stop →
-    open_end stop (fence_done line (front_begun m h)) ≡ behind_open stop (opened m line h)
-opened-goes m line [] h k = open-none [] (fence_done line (front_begun m h)) refl
-opened-goes m line (c ∷ cs) h k =
+opened-proceeds : (m : ℕ) (line : List ℕ) (stop : List Cell) (h : Here) → Stops stop →
+    open_end stop (fence_done line (front_begun m h)) ≡ after_open stop (opened m line h)
+opened-proceeds m line [] h k = open-none [] (fence_done line (front_begun m h)) refl
+opened-proceeds m line (c ∷ cs) h k =
     open-ends c cs (fence_done line (front_begun m h)) k
     ∙ ap
     (λ (es : List Event).
@@ -413,9 +413,9 @@ front-not (c ∷ cs) b h e marks = front-other c cs h (ap is_marker (some-same c
 -- What frontmatter reaches where it may begin, by the line that is there.
 
 -- where it is none
-abbrev pub comes : Setting → Here → Option FrontRead → Outcome
-comes x h None = Refuses h.scratch h.flags
-comes x h (Some f) =
+abbrev pub becomes : Setting → Here → Option FrontRead → Outcome
+becomes x h None = Refuses h.scratch h.flags
+becomes x h (Some f) =
     Accepts
     (record h { events = h.events ++ f.events; point = f.point; scratch = cleared h.scratch })
     (text_feed x f.point)
@@ -423,17 +423,17 @@ comes x h (Some f) =
 rest-cleared : (s : Scratch) → IsRest s → cleared s ≡ s
 rest-cleared s e = ap cleared e ∙ sym e
 
-comes-outcome : (x : Setting) (h : Here) (m : ℕ) (o : Option FrontRead) → IsRest h.scratch →
-    outcome x (record h { scratch = record h.scratch { marker = m; size = 0 } }) o ≡ comes x h o
-comes-outcome x h m None e = ap (λ (s : Scratch). Refuses s h.flags) (rest-cleared h.scratch e)
-comes-outcome x h m (Some f) e = refl
+becomes-outcome : (x : Setting) (h : Here) (m : ℕ) (o : Option FrontRead) → IsRest h.scratch →
+    outcome x (record h { scratch = record h.scratch { marker = m; size = 0 } }) o ≡ becomes x h o
+becomes-outcome x h m None e = ap (λ (s : Scratch). Refuses s h.flags) (rest-cleared h.scratch e)
+becomes-outcome x h m (Some f) e = refl
 
 -- the opening fence, by the cells of its line
 open-line : (said : Line) (b : ℕ) (line : List ℕ) (stop : List Cell) (h : Here) → IsRest h.scratch →
     is_marker b ≡ true → NoEnding (b ∷ line) → Stops stop → 1 ≤ h.point.column →
     length (spread said (b ∷ line) h.point ++ stop) < 2 ^ 63 →
     front_here (spread said (b ∷ line) h.point ++ stop) h ≡
-    cond (is_front_fence b (b ∷ line)) (behind_open stop (opened b (b ∷ line) h)) (Refuses h.scratch h.flags)
+    cond (is_front_fence b (b ∷ line)) (after_open stop (opened b (b ∷ line) h)) (Refuses h.scratch h.flags)
 open-line said b line stop h rest marks bare k one short =
     front-here (spread said (b ∷ line) h.point ++ stop) b h (first-spread said b line h.point stop) marks
     ∙ fence-is said open_end (cleared h.scratch) (b ∷ line) stop (front_begun b h) marks refl
@@ -443,8 +443,8 @@ open-line said b line stop h rest marks bare k one short =
   where
     go : (x : Bool) →
         cond x (open_end stop (fence_done (b ∷ line) (front_begun b h))) (Refuses (cleared h.scratch) h.flags) ≡
-        cond x (behind_open stop (opened b (b ∷ line) h)) (Refuses h.scratch h.flags)
-    go true = opened-goes b (b ∷ line) stop h k
+        cond x (after_open stop (opened b (b ∷ line) h)) (Refuses h.scratch h.flags)
+    go true = opened-proceeds b (b ∷ line) stop h k
     go false = ap (λ (s : Scratch). Refuses s h.flags) (rest-cleared h.scratch rest)
 
 -- All of it.
@@ -454,7 +454,7 @@ abbrev pub front_by : Option ℕ → List ℕ → List ℕ → List (List ℕ) �
 front_by None line ending more p = None
 front_by (Some m) line ending more p =
     let q = past_text line p in
-    option_map (behind_these (enter n.Frontmatter p ∷ fence_part line p ++ ending_part ending q))
+    option_map (after_these (enter n.Frontmatter p ∷ fence_part line p ++ ending_part ending q))
     (lines_read m more (front.past_ending ending q))
 
 pub from-by : (o : Option ℕ) (full : List ℕ) (more : List (List ℕ)) (p : Point) →
@@ -468,9 +468,9 @@ last-none None line ending p = refl
 last-none (Some m) line ending p = refl
 
 -- the last line
-last-comes : (x : Setting) (b : ℕ) (line : List ℕ) (h : Here) → IsWhole x → Begins x (b ∷ line) h.point →
+last-becomes : (x : Setting) (b : ℕ) (line : List ℕ) (h : Here) → IsWhole x → Begins x (b ∷ line) h.point →
     IsRest h.scratch → NoEnding (b ∷ line) → front_here (text_feed x h.point) h ≡ Refuses h.scratch h.flags
-last-comes x b line h is at rest bare =
+last-becomes x b line h is at rest bare =
     ap (λ (l : List Cell). front_here l h) cells ∙ go (is_marker b) refl
   where
     cells : text_feed x h.point ≡ spread x.line (b ∷ line) h.point ++ []
@@ -491,17 +491,17 @@ last-comes x b line h is at rest bare =
         front-not (spread x.line (b ∷ line) h.point ++ []) b h (first-spread x.line b line h.point []) e
 
 -- a line after which another one may follow
-next-comes : (x : Setting) (line : List ℕ) (ending : Ending) (text : List ℕ) (more : List (List ℕ)) (h : Here) →
+next-becomes : (x : Setting) (line : List ℕ) (ending : Ending) (text : List ℕ) (more : List (List ℕ)) (h : Here) →
     IsWhole x → Begins x (line ++ (ending_bytes ending ++ text)) h.point → IsRest h.scratch → NoEnding line →
     EndsBefore ending text → IsLines text more →
     front_here (text_feed x h.point) h ≡
-    comes x h (front_by (front_marker line) line (ending_bytes ending) more h.point)
-next-comes x [] ending text more h is at rest bare before lines =
-    let goes = next-cells x [] ending text h.point is at bare before in
-    ap (λ (l : List Cell). front_here l h) goes.cells
+    becomes x h (front_by (front_marker line) line (ending_bytes ending) more h.point)
+next-becomes x [] ending text more h is at rest bare before lines =
+    let proceeds = next-cells x [] ending text h.point is at bare before in
+    ap (λ (l : List Cell). front_here l h) proceeds.cells
     ∙ front-other (cell 10 (past_ending ending h.point) x.line) (text_feed x (past_ending ending h.point)) h refl
-next-comes x (b ∷ line) ending text more h is at rest bare before lines =
-    ap (λ (l : List Cell). front_here l h) goes.cells ∙ go (is_marker b) refl
+next-becomes x (b ∷ line) ending text more h is at rest bare before lines =
+    ap (λ (l : List Cell). front_here l h) proceeds.cells ∙ go (is_marker b) refl
   where
     q : Point
     q = past_text (b ∷ line) h.point
@@ -509,14 +509,14 @@ next-comes x (b ∷ line) ending text more h is at rest bare before lines =
     r : Point
     r = past_ending ending q
 
-    goes : Goes x (b ∷ line) ending text h.point
-    goes = next-cells x (b ∷ line) ending text h.point is at bare before
+    proceeds : Proceeds x (b ∷ line) ending text h.point
+    proceeds = next-cells x (b ∷ line) ending text h.point is at bare before
 
     stop : List Cell
     stop = cell 10 r x.line ∷ text_feed x r
 
     short : length (spread x.line (b ∷ line) h.point ++ stop) < 2 ^ 63
-    short = let s = feed-short x is h.point in let e = ap length goes.cells in omega (arith, s, e)
+    short = let s = feed-short x is h.point in let e = ap length proceeds.cells in omega (arith, s, e)
 
     begun : Here
     begun = record h { scratch = record h.scratch { marker = b; size = 0 } }
@@ -528,50 +528,50 @@ next-comes x (b ∷ line) ending text more h is at rest bare before lines =
     calm = ap (λ (s : Scratch). record s { marker = b; size = 0 }) (rest-calm h.scratch rest ∙ sym rest)
 
     opens : is_marker b ≡ true →
-        behind_open stop (opened b (b ∷ line) h) ≡
-        comes x h (front_by (Some b) (b ∷ line) (ending_bytes ending) more h.point)
+        after_open stop (opened b (b ∷ line) h) ≡
+        becomes x h (front_by (Some b) (b ∷ line) (ending_bytes ending) more h.point)
     opens marks =
-        lines-agree x text more lines (behind_ending (cell 10 r x.line) (opened b (b ∷ line) h)) is goes.next
+        lines-agree x text more lines (following_ending (cell 10 r x.line) (opened b (b ∷ line) h)) is proceeds.next
         (record { marks = marks; size = refl; calm = calm })
-        ∙ behind-outcome x begun parts (pair n.LineEnding q r) r (lines_read b more r)
-        ∙ comes-outcome x h b (option_map (behind_these (parts ++ pair n.LineEnding q r)) (lines_read b more r)) rest
+        ∙ following-outcome x begun parts (pair n.LineEnding q r) r (lines_read b more r)
+        ∙ becomes-outcome x h b (option_map (after_these (parts ++ pair n.LineEnding q r)) (lines_read b more r)) rest
         ∙ sym
         (ap₂
         (λ (s : Point) (es : List Event).
-        comes x h (option_map (behind_these (parts ++ es)) (lines_read b more s)))
+        becomes x h (option_map (after_these (parts ++ es)) (lines_read b more s)))
         (past-same ending q) (part-same ending q))
 
     by : (y : Bool) → is_marker b ≡ true →
-        cond y (behind_open stop (opened b (b ∷ line) h)) (Refuses h.scratch h.flags) ≡
-        comes x h (front_by (some_if b y) (b ∷ line) (ending_bytes ending) more h.point)
+        cond y (after_open stop (opened b (b ∷ line) h)) (Refuses h.scratch h.flags) ≡
+        becomes x h (front_by (some_if b y) (b ∷ line) (ending_bytes ending) more h.point)
     by true marks = opens marks
     by false marks = refl
 
     go : (y : Bool) → is_marker b ≡ y →
         front_here (spread x.line (b ∷ line) h.point ++ stop) h ≡
-        comes x h (front_by (front_marker (b ∷ line)) (b ∷ line) (ending_bytes ending) more h.point)
+        becomes x h (front_by (front_marker (b ∷ line)) (b ∷ line) (ending_bytes ending) more h.point)
     go true e =
         open-line x.line b line stop h rest e bare refl at.column short
         ∙ by (is_front_fence b (b ∷ line)) e
-        ∙ ap (λ (o : Option ℕ). comes x h (front_by o (b ∷ line) (ending_bytes ending) more h.point))
+        ∙ ap (λ (o : Option ℕ). becomes x h (front_by o (b ∷ line) (ending_bytes ending) more h.point))
         (sym (marker-fence b line e))
     go false e =
         front-not (spread x.line (b ∷ line) h.point ++ stop) b h (first-spread x.line b line h.point stop) e
-        ∙ ap (λ (o : Option ℕ). comes x h (front_by o (b ∷ line) (ending_bytes ending) more h.point))
+        ∙ ap (λ (o : Option ℕ). becomes x h (front_by o (b ∷ line) (ending_bytes ending) more h.point))
         (sym (other-marker b line e))
 
 on-agrees : (x : Setting) (text : List ℕ) (lines : List (List ℕ)) → IsLines text lines → (h : Here) → IsWhole x →
     Begins x text h.point → IsRest h.scratch → x.options.constructs.frontmatter ≡ true →
-    front_here (text_feed x h.point) h ≡ comes x h (front_read x.options lines h.point)
+    front_here (text_feed x h.point) h ≡ becomes x h (front_read x.options lines h.point)
 on-agrees x _ _ NoLines h is at rest on =
-    let none : length (drop h.point.index x.bytes) ≡ 0 = ap length at.stands in
+    let none : length (drop h.point.index x.bytes) ≡ 0 = ap length at.valid in
     let left = length-drop h.point.index x.bytes in
     let all = is.all in
     ap (λ (l : List Cell). front_here l h) (feed-none x h.point is.small (omega (arith, none, left, all)))
     ∙ front-none h
 on-agrees x _ _ (LastLine b line bare) h is at rest on =
-    last-comes x b line h is at rest bare
-    ∙ ap (comes x h)
+    last-becomes x b line h is at rest bare
+    ∙ ap (becomes x h)
     (sym
     (ap
     (λ (t : Bool). cond t (front_from (front_marker (without_ending (b ∷ line))) (b ∷ line) [] h.point) None) on
@@ -579,8 +579,8 @@ on-agrees x _ _ (LastLine b line bare) h is at rest on =
     ∙ last-none (front_marker (without_ending (b ∷ line))) (without_ending (b ∷ line)) (ending_of (b ∷ line)) h.point))
 on-agrees x _ _ (NextLine line ending text more bare before lines same') h is at rest on =
     let full = line ++ ending_bytes ending in
-    next-comes x line ending text more h is at rest bare before lines
-    ∙ ap (comes x h)
+    next-becomes x line ending text more h is at rest bare before lines
+    ∙ ap (becomes x h)
     (sym
     (ap (λ (t : Bool). cond t (front_from (front_marker (without_ending full)) full more h.point) None) on
     ∙ from-by (front_marker (without_ending full)) full more h.point
@@ -595,11 +595,11 @@ off-none options (full ∷ more) p off =
 
 -- what frontmatter takes of a text from a point on
 pub front-agrees : (x : Setting) (text : List ℕ) (h : Here) → IsWhole x → Begins x text h.point → IsRest h.scratch →
-    front_at x.options (text_feed x h.point) h ≡ comes x h (front_read x.options (full_lines_of text) h.point)
+    front_at x.options (text_feed x h.point) h ≡ becomes x h (front_read x.options (full_lines_of text) h.point)
 front-agrees x text h is at rest = go x.options.constructs.frontmatter refl
   where
     go : (t : Bool) → x.options.constructs.frontmatter ≡ t →
         cond t (front_here (text_feed x h.point) h) (Refuses h.scratch h.flags) ≡
-        comes x h (front_read x.options (full_lines_of text) h.point)
+        becomes x h (front_read x.options (full_lines_of text) h.point)
     go true e = on-agrees x text (full_lines_of text) (full-lines text) h is at rest e
-    go false e = ap (comes x h) (sym (off-none x.options (full_lines_of text) h.point e))
+    go false e = ap (becomes x h) (sym (off-none x.options (full_lines_of text) h.point e))

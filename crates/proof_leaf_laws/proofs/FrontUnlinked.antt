@@ -16,7 +16,7 @@ use Rattle.md_meaning.specs.Preamble.{front_marker, has_mark, is_front_fence, wi
 use Rattle.md_events.specs.Events.Nested.{enter, exit, pair}
 use Rattle.md_events.specs.Events.Places.{past_text}
 use Rattle.md_events.specs.Substituted.{stays}
-use Rattle.proof_leaf_laws.specs.Front.{FrontRead, behind_these, ending_of, ending_part, events_of, fence_part}
+use Rattle.proof_leaf_laws.specs.Front.{FrontRead, after_these, ending_of, ending_part, events_of, fence_part}
 use Rattle.proof_leaf_laws.specs.Front.{front_events, front_from, front_read, line_part, lines_read, mark_end}
 use Rattle.proof_leaf_laws.specs.Front.{mark_events, mark_point, past_ending, text_front}
 use Rattle.proof_frame.specs.LineColumns.{part_over}
@@ -49,7 +49,7 @@ ending-unlinked (b ∷ bs) p = (refl, (refl, tt))
 
 -- nor is one before others
 these-unlinked : (es : List Event) (read : Option FrontRead) → NoLinks es → NoLinks (events_of read) →
-    NoLinks (events_of (option_map (behind_these es) read))
+    NoLinks (events_of (option_map (after_these es) read))
 these-unlinked es None h k = tt
 these-unlinked es (Some f) h k = each-append IsUnlinked es f.events h k
 
@@ -77,7 +77,7 @@ lines-unlinked m (full ∷ more) p =
           events = fence_part line p ++ exit n.Frontmatter q ∷ ending_part ending q;
           point = past_ending ending q;
         }))
-        (option_map (behind_these (line_part line p ++ ending_part ending q)) read)))
+        (option_map (after_these (line_part line p ++ ending_part ending q)) read)))
     go true read h =
         each-append IsUnlinked (fence_part line p) (exit n.Frontmatter q ∷ ending_part ending q) (fence-unlinked line p)
         (refl, ending-unlinked ending q)

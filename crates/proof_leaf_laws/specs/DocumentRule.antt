@@ -11,21 +11,21 @@ use Rattle.md_events.specs.Ahead.{white_behaves}
 use Rattle.proof_frame.specs.Rule.{tried}
 
 -- after the frontmatter, or where it would begin if there is none
-abbrev pub behind_front : ParseOptions → List Cell → Here → Outcome
-behind_front options cells h =
+abbrev pub after_front : ParseOptions → List Cell → Here → Outcome
+after_front options cells h =
     tried (front_at options cells h) (λ rest k. Accepts k rest)
     (λ s g. Accepts (record h { scratch = s; flags = g }) cells)
 
 -- after the mark, or at the start if there is none
 abbrev pub document_at : ParseOptions → List Cell → Here → Outcome
 document_at options cells h =
-    tried (bom_at cells h) (λ rest k. behind_front options rest k)
-    (λ s g. behind_front options cells (record h { scratch = s; flags = g }))
+    tried (bom_at cells h) (λ rest k. after_front options rest k)
+    (λ s g. after_front options cells (record h { scratch = s; flags = g }))
 
 -- before the lines
 abbrev pub own_behaves : ParseOptions → DocumentState → List Cell → Here → Outcome
 own_behaves options document.Start cells h = document_at options cells h
-own_behaves options document.BeforeFrontmatter cells h = behind_front options cells h
+own_behaves options document.BeforeFrontmatter cells h = after_front options cells h
 own_behaves options _ cells h = Refuses h.scratch h.flags
 
 abbrev pub document_behaves : ParseOptions → Behaviour

@@ -59,8 +59,8 @@ pub record FrontRead : Type 0 where
   pub events : List Event
   pub point : Point
 
-abbrev pub behind_these : List Event → FrontRead → FrontRead
-behind_these events f = record f { events = events ++ f.events }
+abbrev pub after_these : List Event → FrontRead → FrontRead
+after_these events f = record f { events = events ++ f.events }
 
 -- what is left of frontmatter with this marker: lines up to the first that is such a fence, and the ending of that
 abbrev pub lines_read : ℕ → List (List ℕ) → Point → Option FrontRead
@@ -75,7 +75,7 @@ lines_read m (full ∷ more) p =
       events = fence_part line p ++ exit n.Frontmatter q ∷ ending_part ending q;
       point = past_ending ending q;
     })
-    else option_map (behind_these (line_part line p ++ ending_part ending q))
+    else option_map (after_these (line_part line p ++ ending_part ending q))
     (lines_read m more (past_ending ending q))
 
 -- frontmatter whose first line is this, if that is a fence of this marker
@@ -85,7 +85,7 @@ front_from (Some m) full more p =
     let line = without_ending full in
     let ending = ending_of full in
     let q = past_text line p in
-    option_map (behind_these (enter n.Frontmatter p ∷ fence_part line p ++ ending_part ending q))
+    option_map (after_these (enter n.Frontmatter p ∷ fence_part line p ++ ending_part ending q))
     (lines_read m more (past_ending ending q))
 
 -- that of these lines, if it is on

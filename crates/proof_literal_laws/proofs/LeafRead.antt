@@ -11,4 +11,4 @@ use Rattle.proof_frame.proofs.LeafFacts.{LeafFacts}
 pub facts-read : {bytes : List ℕ} {block : Option Block} {full : Bool} {p q : Point} {us es : List Event} →
     LeafFacts bytes block full p q us es → LeafFacts bytes block full p q us (plain_read bytes us)
 facts-read {bytes = bytes} {block = block} {full = full} {p = p} {q = q} {us = us} {es = es} h =
-    subst (LeafFacts bytes block full p q us) (sym (filled-read bytes us es h.stand.stretch.filled)) h
+    subst (LeafFacts bytes block full p q us) (sym (filled-read bytes us es h.are_valid.stretch.filled)) h

@@ -15,7 +15,7 @@ use Rattle.md_meaning.specs.Preamble.{rests_at, without_mark}
 use Rattle.md_meaning.specs.Tree.{Block, Blocks, Frontmatter}
 use Rattle.md_outline.specs.Between.{is_between}
 use Rattle.md_outline.specs.HeadingDepths.{are_shallow}
-use Rattle.md_outline.specs.Outlined.{IsUnlisted, has_unlisted_name, tells_between}
+use Rattle.md_outline.specs.Outlined.{IsUnlisted, has_unlisted_name, text_begins_between}
 use Rattle.md_events.specs.Events.Nested.{Balanced, Forward, Nested, around, last_point}
 use Rattle.md_events.specs.Events.Spelled.{Reading, read, spelled, unread}
 use Rattle.md_events.proofs.FeedLines.{past_text-column}
@@ -25,16 +25,16 @@ use Rattle.md_events.proofs.SpelledLemmas.{read-from}
 use Rattle.md_events.proofs.InlineLemmas.{past-index}
 use Rattle.proof_leaf_laws.specs.Front.{FrontRead, body_point, events_of, front_events, front_read, mark_end}
 use Rattle.proof_leaf_laws.specs.Front.{mark_events, mark_point, point_or, text_front}
-use Rattle.proof_frame.proofs.BetweenFacts.{between-end, ending-behind}
+use Rattle.proof_frame.proofs.BetweenFacts.{between-end, ending-following}
 use Rattle.proof_leaf_laws.proofs.Frontmatter.Found.{AtEnd, Ended, FrontMeans, Here, Tail, front-means}
 use Rattle.proof_leaf_laws.proofs.Frontmatter.Lines.{Closes, IsFront, IsRest, More}
 use Rattle.proof_leaf_laws.proofs.Frontmatter.Parts.{end-whole}
 use Rattle.proof_leaf_laws.proofs.Frontmatter.Whole.{FrontPart, IsFronted, block_first, front-fronted, mark-fronted}
 use Rattle.proof_leaf_laws.proofs.Frontmatter.Whole.{part-between}
-use Rattle.md_outline.proofs.Shifted.{read-behind}
+use Rattle.md_outline.proofs.Shifted.{read-following}
 use Rattle.proof_content_laws.proofs.Labels.Trees.{defined_in, noted_in}
 use Rattle.proof_leaf_laws.proofs.MarkLemmas.{body-between, body-column, body-index, body-vs, without-mark}
-use Rattle.proof_frame.proofs.PlainTells.{all-tell}
+use Rattle.proof_frame.proofs.PlainRecords.{all-write_message}
 use Rattle.proof_frame.proofs.SpanLemmas.{Nested_in}
 
 -- nothing, or frontmatter
@@ -63,16 +63,16 @@ record Ends (bytes : List ℕ) (z : Point) : Type 0 where
 rest-ends : (bytes : List ℕ) (m : ℕ) (p : Point) (texts : List (List ℕ)) (es : List Event) (z : Point) →
     IsRest bytes m p texts es z → Ends bytes z
 rest-ends bytes m p _ _ z (Closes line _ _ h) =
-    let size = ap length h.is.stands in
+    let size = ap length h.is.valid in
     let parts = length-append line (drop z.index bytes) in
     let before = length-drop p.index bytes in
-    let behind = length-drop z.index bytes in
+    let following = length-drop z.index bytes in
     let three = three-long line (ap length h.markers) in
     let at : z.index ≡ p.index + length line = ap (λ (x : Point). x.index) h.is.end ∙ past-index line p in
     record {
       whole = end-whole bytes line p z h.is;
       column = subst (λ (x : Point). 1 ≤ x.column) (sym h.is.end) (past_text-column line p h.is.column);
-      within = omega (arith, size, parts, before, behind, three, at);
+      within = omega (arith, size, parts, before, following, three, at);
     }
   where
     three-long : (line : List ℕ) → length (take 3 line) ≡ 3 → 0 < length line
@@ -121,13 +121,13 @@ no-lines : (b : Block) (k : ℕ) (l : List ℕ) → l ≡ [] →
 no-lines b k [] e = refl
 no-lines b k (c ∷ l) e = absurd (cc)
 
-behind-begun : (options : ParseOptions) (bytes : List ℕ) (texts : List (List ℕ)) (es : List Event) (z q : Point)
+following-begun : (options : ParseOptions) (bytes : List ℕ) (texts : List (List ℕ)) (es : List Event) (z q : Point)
     (tail : List Event) →
     (is : IsFront bytes (mark_point bytes) texts es z) → Tail bytes z q tail →
     front_of options (lines_of (without_mark bytes)) ≡
     Some (record { block = Frontmatter is.m texts; after = lines_of (drop q.index bytes) }) →
     IsBegun options bytes q (mark_events bytes ++ (around n.Frontmatter (mark_point bytes) z es ++ tail))
-behind-begun options bytes texts es z _ _ is (AtEnd left) meaning =
+following-begun options bytes texts es z _ _ is (AtEnd left) meaning =
     let ends = rest-ends bytes is.m is.r texts is.rest z is.lines in
     let size = ap length left in
     let rest = length-drop z.index bytes in
@@ -145,7 +145,7 @@ behind-begun options bytes texts es z _ _ is (AtEnd left) meaning =
           ap (preamble_by (first_column bytes) (lines_of (without_mark bytes))) meaning
           ∙ no-lines (Frontmatter is.m texts) (z.column - 1) (drop z.index bytes) left;
     }
-behind-begun options bytes texts es z _ _ is (Ended r ending) meaning =
+following-begun options bytes texts es z _ _ is (Ended r ending) meaning =
     let ends = rest-ends bytes is.m is.r texts is.rest z is.lines in
     let first = ending.column in
     let zero : 0 ≡ r.column - 1 = omega (arith, first) in
@@ -156,7 +156,7 @@ behind-begun options bytes texts es z _ _ is (Ended r ending) meaning =
       index = ending.in_text;
       vs = ending.whole;
       column = omega (arith, first);
-      between = ending-behind bytes z r ending;
+      between = ending-following bytes z r ending;
       preamble_is =
           ap (preamble_by (first_column bytes) (lines_of (without_mark bytes))) meaning
           ∙ ap
@@ -171,7 +171,7 @@ behind-begun options bytes texts es z _ _ is (Ended r ending) meaning =
 
 here-mark : (bytes : List ℕ) → Here bytes (without_mark bytes) (mark_point bytes)
 here-mark bytes = record {
-  stands = sym (without-mark bytes);
+  valid = sym (without-mark bytes);
   whole = body-vs bytes;
   column = body-column bytes;
 }
@@ -185,7 +185,8 @@ by-means options bytes None none =
     (mark-begun options bytes none)
 by-means options bytes (Some f) found =
     subst (λ (es : List Event). IsBegun options bytes f.point (mark_events bytes ++ es)) (sym found.events)
-    (behind-begun options bytes found.texts found.es found.z f.point found.tail found.is found.behind found.meaning)
+    (following-begun options bytes found.texts found.es found.z f.point found.tail found.is found.following
+    found.meaning)
 
 pub begun : (options : ParseOptions) (bytes : List ℕ) →
     IsBegun options bytes (body_point options bytes) (front_events options bytes)
@@ -213,7 +214,7 @@ front-unlisted bytes p front es part is = record {
       all-append (λ (e : Event). is_between bytes e.point.index) front es (part-between bytes first_point p front part)
       is.between;
   texts =
-      all-append (tells_between bytes) front es (all-tell bytes front part.plain.known.texts
+      all-append (text_begins_between bytes) front es (all-write_message bytes front part.plain.known.texts
       (part-between bytes first_point p front part)) is.texts;
   parted = part.stretch.parted es is.parted;
   lines = part.plain.lines es is.lines;
@@ -232,7 +233,7 @@ front-spelled bytes block p front es fronted shut =
     go : (b : Option Block) →
         (read bytes (record unread { here = block_first b }) es).here ≡ with_frontmatter b (read bytes unread es).here
     go None = refl
-    go (Some b) = read-behind b bytes es shut
+    go (Some b) = read-following b bytes es shut
 
 -- Frontmatter before other blocks: it is in no list, fits an outline, and defines nothing.
 pub fronts-grouped : (block : Option Block) (bs : Blocks) → Fronts block →

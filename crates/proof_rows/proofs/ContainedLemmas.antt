@@ -2,7 +2,7 @@
 use Rattle.md_engine.specs.declared.tokenizer.held_leaf.HeldLeaf.TheVariants as held_leaf
 use Rattle.md_engine.specs.declared.tokenizer.held_leaf.HeldLeaf.{HeldLeaf}
 use Rattle.std.proofs.Common.{◌≡◌, ◌+◌, Bool, true, false, ◌&&◌, List, [], ◌∷◌, ◌++◌, length, map, refl, ap, sym}
-use Rattle.proof_frame.specs.HeldLeaf.{has_lines, may_go_on, met_by, takes_lazy}
+use Rattle.proof_frame.specs.HeldLeaf.{has_lines, may_continue, met_by, takes_lazy}
 use Rattle.std.proofs.Common.{◌∙◌, append-nil}
 use Rattle.std.specs.Prelude.{Option, Some, None}
 use Rattle.std.proofs.lemmas.List.{length-append, length-map}
@@ -12,7 +12,7 @@ use Rattle.md_meaning.specs.Rest.{Rest}
 use Rattle.md_meaning.specs.State.{Container}
 use Rattle.proof_frame.specs.Change.{change_by, is_none, against, others_of}
 use Rattle.proof_frame.specs.ContainerNames.{container_kind, shape_of}
-use Rattle.proof_rows.specs.Fronted.{Prefixed, contained, no_prefix, one_more, prefixes_behind, prefixes_on}
+use Rattle.proof_rows.specs.Fronted.{Prefixed, contained, no_prefix, one_more, prefixes_after, prefixes_on}
 use Rattle.proof_frame.specs.Row.{RowKind}
 use Rattle.proof_rows.specs.Rows.{is_lazy, is_text, line_kind}
 use Rattle.proof_container_laws.proofs.Continued.{continues-kind, continues-shape}
@@ -59,7 +59,7 @@ contained-same f options keeps cs still r =
     on = prefixes_on options cs r
 
     new : Prefixed
-    new = prefixes_behind options still (others_of cs on.containers) on
+    new = prefixes_after options still (others_of cs on.containers) on
 
     go : (x : Bool) →
         map f
@@ -94,9 +94,10 @@ none-nil [] e = refl
 none-nil (c ∷ cs) e = cc
 
 -- what opens does not hang on what continued
-pub change-opens : (lazy : Bool) (went others opens : List Container) → (change_by lazy went others opens).opens ≡ opens
-change-opens true went others opens = refl
-change-opens false went others opens = refl
+pub change-opens : (lazy : Bool) (proceeded others opens : List Container) →
+    (change_by lazy proceeded others opens).opens ≡ opens
+change-opens true proceeded others opens = refl
+change-opens false proceeded others opens = refl
 
 -- a line on which a container opens continues no paragraph
 pub lazy-some : (still : HeldLeaf) (c : Container) (cs : List Container) (kind : RowKind) →
@@ -121,12 +122,12 @@ lines-unlazy held_leaf.Code lines = refl
 lines-unlazy _ lines = cc
 
 -- it may be continued
-pub lines-open : (still : HeldLeaf) → has_lines still ≡ true → may_go_on still ≡ true
+pub lines-open : (still : HeldLeaf) → has_lines still ≡ true → may_continue still ≡ true
 lines-open held_leaf.Code lines = refl
 lines-open _ lines = cc
 
 -- none such is against where its containers did not continue
-pub ended-open : (still : HeldLeaf) → may_go_on (met_by false still) ≡ false
+pub ended-open : (still : HeldLeaf) → may_continue (met_by false still) ≡ false
 ended-open held_leaf.None = refl
 ended-open _ = refl
 
@@ -136,20 +137,20 @@ record MeetsOpen (still : HeldLeaf) (others opens : List Container) : Type 0 whe
   ended : others ≡ []
   is : against still others opens ≡ still
 
-met-open : (still : HeldLeaf) (others opens : List Container) → may_go_on (against still others opens) ≡ true →
+met-open : (still : HeldLeaf) (others opens : List Container) → may_continue (against still others opens) ≡ true →
     MeetsOpen still others opens
 met-open still others (c ∷ opens) h = cc
 met-open still (c ∷ others) [] h = let none = ended-open still in cc
 met-open still [] [] h = record { opened = refl; ended = refl; is = refl }
 
 -- where all continued, none ends
-none-ends : (lazy : Bool) (went others opens : List Container) → others ≡ [] →
-    (change_by lazy went others opens).closes ≡ []
-none-ends true went others opens none = refl
-none-ends false went others opens none = none
+none-ends : (lazy : Bool) (proceeded others opens : List Container) → others ≡ [] →
+    (change_by lazy proceeded others opens).closes ≡ []
+none-ends true proceeded others opens none = refl
+none-ends false proceeded others opens none = none
 
 pub contained-met : (options : ParseOptions) (cs : List Container) (still : HeldLeaf) (r : Rest) →
-    may_go_on (contained options cs still r).on ≡ true →
+    may_continue (contained options cs still r).on ≡ true →
     ((contained options cs still r).change.opens ≡ []) × ((contained options cs still r).change.closes ≡ [])
 unfolding contained
 contained-met options cs still r h =
@@ -165,16 +166,16 @@ contained-met options cs still r h =
     others = others_of cs on.containers
 
     new : Prefixed
-    new = prefixes_behind options still others on
+    new = prefixes_after options still others on
 
     kind : RowKind
     kind = line_kind options (against still others new.containers) new.rest
 
 -- it is the leaf that was open
 pub contained-still : (options : ParseOptions) (cs : List Container) (still : HeldLeaf) (r : Rest) →
-    may_go_on (contained options cs still r).on ≡ true → (contained options cs still r).on ≡ still
+    may_continue (contained options cs still r).on ≡ true → (contained options cs still r).on ≡ still
 unfolding contained
 contained-still options cs still r h =
     let on : Prefixed = prefixes_on options cs r in
     let others : List Container = others_of cs on.containers in
-    let new : Prefixed = prefixes_behind options still others on in (met-open still others new.containers h).is
+    let new : Prefixed = prefixes_after options still others on in (met-open still others new.containers h).is

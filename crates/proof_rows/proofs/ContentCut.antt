@@ -12,7 +12,7 @@ use Rattle.md_engine.specs.declared.event.Name.TheVariants as n
 use Rattle.md_engine.specs.declared.event.Point.{Point}
 use Rattle.md_engine.specs.Meaning.{Cell}
 use Rattle.md_content.specs.ContentReads.{content_events, is_piece_end, settled}
-use Rattle.md_content.specs.ContentRule.{behind_definition, content_by, content_over, definition_in}
+use Rattle.md_content.specs.ContentRule.{following_definition, content_by, content_over, definition_in}
 use Rattle.md_content.specs.Paragraph.{text_link}
 use Rattle.md_content.specs.ParagraphRule.{paragraph_over}
 use Rattle.md_content.proofs.ContentRuleLemmas.{content-unfolds}
@@ -23,17 +23,17 @@ use Rattle.md_events.specs.Events.Nested.{around, enter, exit, pair}
 use Rattle.md_events.specs.Substituted.{belongs}
 use Rattle.proof_rows.specs.BlockList.{lines_unread, text_unread}
 use Rattle.proof_frame.specs.Laid.{LineBreak, laid}
-use Rattle.proof_frame.specs.Row.{Row, behind_row, breaks_of, chunks_of, ending_events, last_row}
-use Rattle.proof_rows.specs.Rows.{behind_cut, cut_at_most, cut_by, further_lines, lines_cells}
+use Rattle.proof_frame.specs.Row.{Row, after_row, breaks_of, chunks_of, ending_events, last_row}
+use Rattle.proof_rows.specs.Rows.{after_cut, cut_at_most, cut_by, further_lines, lines_cells}
 use Rattle.proof_content_laws.specs.Defined.{defined_unread}
 use Rattle.proof_frame.specs.Linked.{linked}
 use Rattle.proof_rows.proofs.Defined.Cells.{world-first}
-use Rattle.proof_rows.proofs.Defined.Cut.{IsBehind, IsSet, lines-cut}
+use Rattle.proof_rows.proofs.Defined.Cut.{IsAfter, IsSet, lines-cut}
 use Rattle.proof_content_laws.proofs.Defined.Placed.{Before, Fits, bare-front, bared, placed, placed-break, placed-here}
 use Rattle.proof_content_laws.proofs.Defined.Takes.{EndIn, end_in-append}
 use Rattle.proof_rows.proofs.GroupLines.{first-text, AreLines}
 use Rattle.proof_rows.proofs.GroupLemmas.{ReadsContent, are-apart, line-grows, unread-cut}
-use Rattle.proof_rows.proofs.JoinedLemmas.{behind-is}
+use Rattle.proof_rows.proofs.JoinedLemmas.{following-is}
 use Rattle.proof_frame.proofs.LeafLines.Cuts.{ending-is}
 use Rattle.proof_rows.proofs.ParagraphReads.{paragraph-reads}
 use Rattle.proof_frame.proofs.SubstitutedLemmas.{AllBelong, CutAt, NextBelongs}
@@ -58,7 +58,7 @@ cut-placed : (row : Row) (rows : List Row) (left done : List Event) → CutAt ro
     placed (breaks_of row rows) left ≡ done
 cut-placed row [] left done cut = sym cut
 cut-placed row (next ∷ rows) left done cut =
-    let b : LineBreak = record { after = behind_row row; front = next.front } in
+    let b : LineBreak = record { after = after_row row; front = next.front } in
     let bs = breaks_of next rows in
     ap (placed (b ∷ bs)) cut.3
     ∙ placed-all b bs cut.0 cut.1 cut.4
@@ -72,10 +72,10 @@ record Split (end : ℕ) (es : List Event) : Type 0 where
   more : List Event
   is : es ≡ mine ++ more
   here : AllBelong end mine
-  behind : NextBelongs end more
+  following : NextBelongs end more
 
 split : (end : ℕ) (es : List Event) → Split end es
-split end [] = record { mine = []; more = []; is = refl; here = tt; behind = tt }
+split end [] = record { mine = []; more = []; is = refl; here = tt; following = tt }
 split end (e ∷ es) = go (belongs end e) refl (split end es)
   where
     go : (x : Bool) → belongs end e ≡ x → Split end es → Split end (e ∷ es)
@@ -84,24 +84,24 @@ split end (e ∷ es) = go (belongs end e) refl (split end es)
       more = s.more;
       is = ap (λ (l : List Event). e ∷ l) s.is;
       here = (h, s.here);
-      behind = s.behind;
+      following = s.following;
     }
-    go false h s = record { mine = []; more = e ∷ es; is = refl; here = tt; behind = h }
+    go false h s = record { mine = []; more = e ∷ es; is = refl; here = tt; following = h }
 
 placed-cut : (row : Row) (rows : List Row) (left : List Event) → CutAt row rows left (placed (breaks_of row rows) left)
 placed-cut row [] left = refl
 placed-cut row (next ∷ rows) left =
-    let b : LineBreak = record { after = behind_row row; front = next.front } in
+    let b : LineBreak = record { after = after_row row; front = next.front } in
     let bs = breaks_of next rows in
-    let s = split (behind_row row).index left in (
+    let s = split (after_row row).index left in (
       s.mine,
       s.more,
       placed bs s.more,
       s.is,
       s.here,
-      s.behind,
+      s.following,
       ap (placed (b ∷ bs)) s.is ∙ placed-all b bs s.mine s.more s.here
-          ∙ ap (λ (l : List Event). s.mine ++ l) (placed-next b bs s.more s.behind),
+          ∙ ap (λ (l : List Event). s.mine ++ l) (placed-next b bs s.more s.following),
       placed-cut next rows s.more,
     )
 
@@ -144,11 +144,11 @@ settled-laid : (row : Row) (rows : List Row) (es : List Event) → EndIn (last_r
 settled-laid row [] es ends = settled-last row.end row.first es ends
 settled-laid row (next ∷ rows) [] ends = refl
 settled-laid row (next ∷ rows) (e ∷ es) ends =
-    go (is_piece_end e && nat_le (behind_row row).index e.point.index) (settled-laid row (next ∷ rows) es ends.1)
+    go (is_piece_end e && nat_le (after_row row).index e.point.index) (settled-laid row (next ∷ rows) es ends.1)
     (settled-laid next rows es ends.1)
   where
     f : Event
-    f = record e { point = behind_row row }
+    f = record e { point = after_row row }
 
     go : (x : Bool) →
         settled (chunks_of row (next ∷ rows)) es ≡ laid (bared (breaks_of row (next ∷ rows))) es →
@@ -162,10 +162,10 @@ settled-laid row (next ∷ rows) (e ∷ es) ends =
 
 pub breaks-split : (row : Row) (own : List Row) (next : Row) (more : List Row) →
     breaks_of row (own ++ next ∷ more) ≡
-    breaks_of row own ++ ((record { after = behind_row (last_row row own); front = next.front }) ∷ breaks_of next more)
+    breaks_of row own ++ ((record { after = after_row (last_row row own); front = next.front }) ∷ breaks_of next more)
 breaks-split row [] next more = refl
 breaks-split row (x ∷ own) next more =
-    ap (λ (l : List LineBreak). (record { after = behind_row row; front = x.front }) ∷ l) (breaks-split x own next more)
+    ap (λ (l : List LineBreak). (record { after = after_row row; front = x.front }) ∷ l) (breaks-split x own next more)
 
 pub last-split : (row : Row) (own : List Row) (next : Row) (more : List Row) →
     last_row row (own ++ next ∷ more) ≡ last_row next more
@@ -248,7 +248,7 @@ follows options bytes row own next more d es done h end set read =
     let last = last_row row own in
     let two = lines-split options bytes row own next more h in
     let apart = are-apart options bytes last next more two in
-    let b : LineBreak = record { after = behind_row last; front = next.front } in
+    let b : LineBreak = record { after = after_row last; front = next.front } in
     let bs = breaks_of next more in
     let e = definition_end d in
     let at = ap (λ (p : Point). p.index) end in
@@ -257,11 +257,11 @@ follows options bytes row own next more d es done h end set read =
     let before : e.index < b.after.index = omega (arith, ending, at) in
     let events = definition_events d row.first in
     let inside = laid (bared bs) es in
-    let behind : List Event = enter n.LineEnding e ∷ exit n.LineEnding b.after ∷ inside in
+    let following : List Event = enter n.LineEnding e ∷ exit n.LineEnding b.after ∷ inside in
     let all = breaks-split row own next more in
     let met : nat_le b.after.index next.first.index ≡ true = grind (arith, nat_tests) in
     let laid_are : laid (bared (breaks_of row (own ++ next ∷ more)))
-    (events ++ (pair n.LineEnding e next.first ++ es)) ≡ set.settled ++ behind =
+    (events ++ (pair n.LineEnding e next.first ++ es)) ≡ set.settled ++ following =
     ap (λ (l : List LineBreak). laid l (events ++ (pair n.LineEnding e next.first ++ es)))
     (ap bared all ∙ bared-split (breaks_of row own) (b ∷ bs))
     ∙ set.settles (bared (b ∷ bs)) before (pair n.LineEnding e next.first ++ es)
@@ -271,7 +271,7 @@ follows options bytes row own next more d es done h end set read =
     ∷ cond x (exit n.LineEnding b.after ∷ inside) (exit n.LineEnding next.first ∷ laid (bared (b ∷ bs)) es))) met in
     let opens : belongs b.after.index (enter n.LineEnding e) ≡ true = lt-test e.index b.after.index before in
     let shuts : belongs b.after.index (exit n.LineEnding b.after) ≡ true = le-test b.after.index in
-    let known = behind-is last two.3 two.4 in
+    let known = following-is last two.3 two.4 in
     let bare : next.first.index ≡ b.after.index → next.first.vs ≡ 0 → next.front ≡ [] = λ same whole.
     bare-front bytes [] two.3 next.first next.front two.6 refl two.5.whole whole
     (same ∙ ap (λ (p : Point). p.index) known) in
@@ -282,11 +282,11 @@ follows options bytes row own next more d es done h end set read =
           end_in-append (last_row row (own ++ next ∷ more)).end events (pair n.LineEnding e next.first ++ es) set.ends
           (subst (λ (p : Point). EndIn p (pair n.LineEnding e next.first ++ es)) (sym ends)
           (λ no. cc, (λ yes. inr begin.1, read.ends)));
-      fits = subst (Fits row.first) (sym laid_are) (set.begins behind (omega arith));
+      fits = subst (Fits row.first) (sym laid_are) (set.begins following (omega arith));
       cut =
           ap (placed (breaks_of row (own ++ next ∷ more))) laid_are
-          ∙ ap (λ (l : List LineBreak). placed l (set.settled ++ behind)) all
-          ∙ set.cuts (b ∷ bs) before behind (omega arith)
+          ∙ ap (λ (l : List LineBreak). placed l (set.settled ++ following)) all
+          ∙ set.cuts (b ∷ bs) before following (omega arith)
           ∙ ap (λ (l : List Event). defined_unread d row own ++ l)
           (placed-here b bs (enter n.LineEnding e) (exit n.LineEnding b.after ∷ inside) opens
           ∙ ap (λ (l : List Event). enter n.LineEnding e ∷ l)
@@ -306,31 +306,31 @@ follows options bytes row own next more d es done h end set read =
     le-test i = grind (arith, nat_tests)
 
 -- by what follows a definition
-behind : (options : ParseOptions) (bytes : List ℕ) (more : Row → List Row → List Event) (row : Row)
+following : (options : ParseOptions) (bytes : List ℕ) (more : Row → List Row → List Event) (row : Row)
     (own rest : List Row) (d : DefinitionParts) → AreLines options bytes row (own ++ rest) →
-    IsBehind options bytes d rest → definition_end d ≡ (last_row row own).end →
+    IsAfter options bytes d rest → definition_end d ≡ (last_row row own).end →
     IsSet (last_row row (own ++ rest)).end d row own →
     ((next : Row) (below : List Row) → length below < length rest → AreLines options bytes next below →
     Reads next below (content_over options (lines_cells options bytes next below) next.first) (more next below)) →
     Reads row (own ++ rest) (content_by (Some d) (content_over options)
     (lines_cells options bytes row (own ++ rest)) row.first)
-    (defined_unread d row own ++ behind_cut more (last_row row own) rest)
-behind options bytes more row own [] d h rest end set further =
+    (defined_unread d row own ++ after_cut more (last_row row own) rest)
+following options bytes more row own [] d h rest end set further =
     let all : own ++ [] ≡ own = append-nil own in
     subst (λ (l : List Row). Reads row l (content_by (Some d) (content_over options) [] row.first)
     (defined_unread d row own ++ [])) (sym all)
     (subst
     (λ (l : List Cell).
-    Reads row own (definition_events d row.first ++ behind_definition (content_over options) l (definition_end d))
+    Reads row own (definition_events d row.first ++ following_definition (content_over options) l (definition_end d))
     (defined_unread d row own ++ [])) (sym rest)
     (defines row own d (subst (λ (l : List Row). IsSet (last_row row l).end d row own) all set)))
-behind options bytes more row own (next ∷ below) d h rest end set further =
+following options bytes more row own (next ∷ below) d h rest end set further =
     let two = lines-split options bytes row own next below h in
     let es = content_over options (lines_cells options bytes next below) next.first in
     subst
     (λ (l : List Cell).
     Reads row (own ++ next ∷ below)
-    (definition_events d row.first ++ behind_definition (content_over options) l (definition_end d))
+    (definition_events d row.first ++ following_definition (content_over options) l (definition_end d))
     (defined_unread d row own ++ (ending_events n.LineEnding (last_row row own) ++ next.front ++ more next below)))
     (sym rest.1)
     (follows options bytes row own next below d es (more next below) h end set
@@ -379,9 +379,9 @@ content-is options bytes small (suc most) row rows h lt =
         subst
         (λ (l : List Row).
         Reads row l (content_by (Some d) (content_over options) (lines_cells options bytes row l) row.first)
-        (defined_unread d row (take k rows) ++ behind_cut more (last_row row (take k rows)) (drop k rows)))
+        (defined_unread d row (take k rows) ++ after_cut more (last_row row (take k rows)) (drop k rows)))
         all
-        (behind options bytes more row (take k rows) (drop k rows) d
+        (following options bytes more row (take k rows) (drop k rows) d
         (subst (AreLines options bytes row) (sym all) h) cut.rest cut.end
         (subst (λ (l : List Row). IsSet (last_row row l).end d row (take k rows)) (sym all) cut.set)
         (λ next below shorter lines.

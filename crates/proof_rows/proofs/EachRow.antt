@@ -1,8 +1,8 @@
 -- What holds of each line of a text holds of each line of its groups.
 use Rattle.std.proofs.Common.{Bool, true, false, cond, ◌&&◌, List, [], ◌∷◌}
 use Rattle.proof_frame.specs.Row.{BlankRow, LeafRow, Row, RowKind, TextRow, last_row}
-use Rattle.proof_rows.specs.Rows.{Group, Lines, Single, final_row, first_row, goes_on, groups, Headed, LeafLines, Turned}
-use Rattle.proof_rows.specs.Rows.{is_further, is_last, onto_groups, onto_leaf, takes_head}
+use Rattle.proof_rows.specs.Rows.{Group, Lines, Single, final_row, first_row, is_continued, groups, Headed, LeafLines}
+use Rattle.proof_rows.specs.Rows.{Turned, is_further, is_last, onto_groups, onto_leaf, takes_head}
 use Rattle.md_registry.specs.Registry.{leaf}
 
 abbrev pub EachRow : (Row → Type 0) → List Row → Type 0
@@ -49,7 +49,7 @@ leaf-onto row false gs = AsSpan gs
 pub onto : (row : Row) (kind : RowKind) (gs : List Group) → Onto row gs (onto_groups row kind gs)
 onto row BlankRow gs = AsSingle gs
 onto row (LeafRow l) gs = leaf-onto row (leaf l).ends gs
-onto row TextRow (Turned below rows under ∷ gs) = go (goes_on row below)
+onto row TextRow (Turned below rows under ∷ gs) = go (is_continued row below)
   where
     go : (x : Bool) →
         Onto row (Turned below rows under ∷ gs)
@@ -66,7 +66,7 @@ onto row TextRow (LeafLines below rows ∷ gs) = go (is_further below.kind below
     go true false [] = OverLine below gs
     go true false (next ∷ rows) = AsText (LeafLines below (next ∷ rows) ∷ gs)
     go false y rows = AsText (LeafLines below rows ∷ gs)
-onto row TextRow (Lines below rows ∷ gs) = go (goes_on row below)
+onto row TextRow (Lines below rows ∷ gs) = go (is_continued row below)
   where
     go : (x : Bool) →
         Onto row (Lines below rows ∷ gs)

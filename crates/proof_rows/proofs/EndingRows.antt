@@ -6,13 +6,15 @@ use Rattle.proof_rows.proofs.GroupLines.{AreSpan, AreGroups, EndsBeforeGroups, I
 use Rattle.md_registry.specs.Registry.{leaf}
 use Rattle.proof_frame.specs.Row.{is_blank_by, last_row, Row, RowKind, ending_events}
 use Rattle.proof_rows.specs.Rows.{Headed, LeafLines, Turned, final_row, first_row, front_done, group_done, Group, Lines}
-use Rattle.proof_rows.specs.Rows.{Single, group_events, groups, groups_events, tail_events, group_ending, is_blank_group}
+use Rattle.proof_rows.specs.Rows.{Single, group_events, groups, groups_events, tail_events, group_ending}
+use Rattle.proof_rows.specs.Rows.{is_blank_group}
 use Rattle.std.specs.Prelude.{Option, Some, None, not}
 use Rattle.md_engine.specs.declared.configuration.ParseOptions.{ParseOptions}
 use Rattle.md_engine.specs.declared.event.Event.{Event}
 use Rattle.md_engine.specs.declared.event.Name.{Name}
 use Rattle.md_engine.specs.declared.event.Point.{Point}
-use Rattle.md_events.specs.Events.Endings.{EndingPlace, endings_stand, endings_stand_from, is_filled, line_start}
+use Rattle.md_events.specs.Events.Endings.{EndingPlace, endings_are_right, endings_are_right_from, is_filled}
+use Rattle.md_events.specs.Events.Endings.{line_start}
 use Rattle.md_events.specs.Events.Nested.{exit, pair}
 use Rattle.md_meaning.specs.State.{Container}
 use Rattle.md_events.proofs.EndingsLemmas.{AreOthers, Leads, leads-append, others-append, others-lead}
@@ -28,12 +30,12 @@ use Rattle.proof_rows.proofs.JoinedLemmas.{EachEnds, EachNoContent}
 use Rattle.proof_frame.proofs.LeafLines.Cuts.{ending-is}
 use Rattle.proof_rows.proofs.RowFacts.{AreRows}
 use Rattle.proof_frame.proofs.FrontFacts.{LinePrefix}
-use Rattle.proof_frame.proofs.FrontStands.{container-others, fronts-others}
-use Rattle.proof_rows.proofs.GroupFacts.{group-front, headed-stands, more-groups, single-stands, span-stands}
-use Rattle.proof_rows.proofs.GroupFacts.{turned-stands}
+use Rattle.proof_frame.proofs.FrontValid.{container-others, fronts-others}
+use Rattle.proof_rows.proofs.GroupFacts.{group-front, headed-valid, more-groups, single-valid, span-valid}
+use Rattle.proof_rows.proofs.GroupFacts.{turned-valid}
 use Rattle.proof_rows.proofs.HeadedTable.{headed-is}
-use Rattle.proof_frame.proofs.LeafFacts.{StandFacts, spot_behind}
-use Rattle.proof_rows.proofs.Text.Stands.{text-stands}
+use Rattle.proof_frame.proofs.LeafFacts.{EventFacts, spot_after}
+use Rattle.proof_rows.proofs.Text.Valid.{text-valid}
 use Rattle.proof_rows.proofs.Underlines.{under-filled}
 use Rattle.proof_leaf_laws.proofs.Frontmatter.Whole.{Leaves, ToEnd, ToLine}
 
@@ -103,18 +105,18 @@ read-with options bytes (group ∷ gs) =
 -- What is known of the leaf of a group: where it is, and whether something is on its last line.
 abbrev LeafEnds : ParseOptions → List ℕ → Group → Type 0
 LeafEnds options bytes group =
-    StandFacts bytes (not (is_blank_group group)) (first_row group).first (final_row group).end
+    EventFacts bytes (not (is_blank_group group)) (first_row group).first (final_row group).end
     (group_unread options bytes group) (group_done options bytes group)
 
 -- where the line is after it
-abbrev behind_group : Group → EndingPlace
-behind_group group = spot_behind (not (is_blank_group group))
+abbrev after_group : Group → EndingPlace
+after_group group = spot_after (not (is_blank_group group))
 
 -- What is in the place of a group.
 abbrev Within : ParseOptions → List ℕ → (Group → List Event) → Type 0
 Within options bytes leaf =
     (group : Group) → HasFront bytes (first_row group) → LeafEnds options bytes group →
-    Leads line_start (behind_group group) (leaf group)
+    Leads line_start (after_group group) (leaf group)
 
 -- with what is before it
 front-leads : (bytes : List ℕ) (opens : List Container) (p q : Point) (front leaf : List Event) (s : EndingPlace) →
@@ -124,45 +126,46 @@ front-leads bytes opens p q front leaf s is h =
     (others-lead line_start front refl (fronts-others bytes opens p q front is)) h
 
 -- groups whose endings are
-abbrev Stand : (Group → List Event) → List Group → Type 0
-Stand leaf gs = endings_stand_from line_start (groups_with leaf gs) ≡ true
+abbrev AreValid : (Group → List Event) → List Group → Type 0
+AreValid leaf gs = endings_are_right_from line_start (groups_with leaf gs) ≡ true
 
 -- what follows a line: the ends of containers, its ending, and further groups
-tail-stands : (leaf : Group → List Event) (s : EndingPlace) (name : Name) (last : Row) (gs : List Group) →
+tail-valid : (leaf : Group → List Event) (s : EndingPlace) (name : Name) (last : Row) (gs : List Group) →
     is_filled s ≡ s.after_leaf → ((p q : Point) → Leads s line_start (pair name p q)) → EndsBeforeGroups last gs →
-    Stand leaf gs → endings_stand_from s (tail_events name last ++ groups_with leaf gs) ≡ true
-tail-stands leaf s name last gs same ends before on =
-    let behind : List Event = ending_events name last ++ groups_with leaf gs in
-    ap (endings_stand_from s)
+    AreValid leaf gs → endings_are_right_from s (tail_events name last ++ groups_with leaf gs) ≡ true
+tail-valid leaf s name last gs same ends before on =
+    let following : List Event = ending_events name last ++ groups_with leaf gs in
+    ap (endings_are_right_from s)
     (append_assoc (ends_of last.closed_after last.end) (ending_events name last) (groups_with leaf gs))
-    ∙ others-lead s (ends_of last.closed_after last.end) same (ends-others last.closed_after last.end) behind
+    ∙ others-lead s (ends_of last.closed_after last.end) same (ends-others last.closed_after last.end) following
     ∙ go gs before on
   where
     alone : (after : Option Point) →
-        endings_stand_from s (elim after [ None ↦ [] | Some q ↦ pair name last.end q ] ++ []) ≡ true
+        endings_are_right_from s (elim after [ None ↦ [] | Some q ↦ pair name last.end q ] ++ []) ≡ true
     alone None = refl
     alone (Some q) = ends last.end q []
 
-    go : (gs : List Group) → EndsBeforeGroups last gs → Stand leaf gs →
-        endings_stand_from s (ending_events name last ++ groups_with leaf gs) ≡ true
+    go : (gs : List Group) → EndsBeforeGroups last gs → AreValid leaf gs →
+        endings_are_right_from s (ending_events name last ++ groups_with leaf gs) ≡ true
     go [] h k = alone last.after
     go (group ∷ gs) h k =
-        ap (λ (l : List Event). endings_stand_from s (l ++ groups_with leaf (group ∷ gs))) (ending-is name last h.0 h.1)
+        ap (λ (l : List Event). endings_are_right_from s (l ++ groups_with leaf (group ∷ gs)))
+        (ending-is name last h.0 h.1)
         ∙ ends last.end h.0 (groups_with leaf (group ∷ gs)) ∙ k
 
 -- a group before further ones
-line-stands : (leaf : Group → List Event) (s : EndingPlace) (name : Name) (last : Row) (es : List Event)
+line-valid : (leaf : Group → List Event) (s : EndingPlace) (name : Name) (last : Row) (es : List Event)
     (gs : List Group) → Leads line_start s es → is_filled s ≡ s.after_leaf →
-    ((p q : Point) → Leads s line_start (pair name p q)) → EndsBeforeGroups last gs → Stand leaf gs →
-    endings_stand_from line_start ((es ++ tail_events name last) ++ groups_with leaf gs) ≡ true
-line-stands leaf s name last es gs h same ends before on =
-    let behind : List Event = tail_events name last ++ groups_with leaf gs in
-    ap (endings_stand_from line_start) (append_assoc es (tail_events name last) (groups_with leaf gs))
-    ∙ h behind
-    ∙ tail-stands leaf s name last gs same ends before on
+    ((p q : Point) → Leads s line_start (pair name p q)) → EndsBeforeGroups last gs → AreValid leaf gs →
+    endings_are_right_from line_start ((es ++ tail_events name last) ++ groups_with leaf gs) ≡ true
+line-valid leaf s name last es gs h same ends before on =
+    let following : List Event = tail_events name last ++ groups_with leaf gs in
+    ap (endings_are_right_from line_start) (append_assoc es (tail_events name last) (groups_with leaf gs))
+    ∙ h following
+    ∙ tail-valid leaf s name last gs same ends before on
 
 -- where a line is after its leaf, it is filled or not
-spot-filled : (filled : Bool) → is_filled (spot_behind filled) ≡ (spot_behind filled).after_leaf
+spot-filled : (filled : Bool) → is_filled (spot_after filled) ≡ (spot_after filled).after_leaf
 spot-filled true = refl
 spot-filled false = refl
 
@@ -177,38 +180,38 @@ group-ends : (options : ParseOptions) (bytes : List ℕ) (group : Group) (gs : L
     AreGroups options bytes (group ∷ gs) → LeafEnds options bytes group
 group-ends options bytes (Single row) gs are =
     let is : IsSingle options bytes row = are.0 in
-    single-stands options bytes is.line row is.is is.other is.ends
+    single-valid options bytes is.line row is.is is.other is.ends
 group-ends options bytes (Turned row rows under) gs are =
     subst
     (λ (blank : Bool).
-    StandFacts bytes (not blank) row.first under.end (group_unread options bytes (Turned row rows under))
+    EventFacts bytes (not blank) row.first under.end (group_unread options bytes (Turned row rows under))
     (group_done options bytes (Turned row rows under)))
     (sym (under-filled options bytes row rows under are.0 are.1))
-    (turned-stands options bytes row rows under are.0 are.1 are.5)
+    (turned-valid options bytes row rows under are.0 are.1 are.5)
 group-ends options bytes (Headed row next rows) gs are =
     subst
     (λ (blank : Bool).
-    StandFacts bytes (not blank) row.first (last_row next rows).end (group_unread options bytes (Headed row next rows))
+    EventFacts bytes (not blank) row.first (last_row next rows).end (group_unread options bytes (Headed row next rows))
     (group_done options bytes (Headed row next rows)))
     (sym (headed-is options bytes row next rows are.0 are.1).ends)
-    (headed-stands options bytes row next rows are.0 are.1)
+    (headed-valid options bytes row next rows are.0 are.1)
 group-ends options bytes (LeafLines row rows) gs are =
     subst
     (λ (blank : Bool).
-    StandFacts bytes (not blank) row.first (last_row row rows).end (group_unread options bytes (LeafLines row rows))
+    EventFacts bytes (not blank) row.first (last_row row rows).end (group_unread options bytes (LeafLines row rows))
     (group_done options bytes (LeafLines row rows)))
-    (sym (span-blank options bytes row rows are.0)) (span-stands options bytes row rows are.0 are.4)
-group-ends options bytes (Lines row rows) gs are = text-stands options bytes row rows are.0
+    (sym (span-blank options bytes row rows are.0)) (span-valid options bytes row rows are.0 are.4)
+group-ends options bytes (Lines row rows) gs are = text-valid options bytes row rows are.0
 
-groups-stand : (options : ParseOptions) (bytes : List ℕ) (leaf : Group → List Event) (gs : List Group) →
-    Within options bytes leaf → AreGroups options bytes gs → EachEnded gs → Stand leaf gs
-groups-stand options bytes leaf [] within are ended = refl
-groups-stand options bytes leaf (group ∷ gs) within are ended =
+groups-are_valid : (options : ParseOptions) (bytes : List ℕ) (leaf : Group → List Event) (gs : List Group) →
+    Within options bytes leaf → AreGroups options bytes gs → EachEnded gs → AreValid leaf gs
+groups-are_valid options bytes leaf [] within are ended = refl
+groups-are_valid options bytes leaf (group ∷ gs) within are ended =
     let is : LeafEnds options bytes group = group-ends options bytes group gs are in
-    line-stands leaf (behind_group group) (group_ending group) (final_row group) (leaf group) gs
+    line-valid leaf (after_group group) (group_ending group) (final_row group) (leaf group) gs
     (within group (group-front options bytes group gs are) is)
     (spot-filled (not (is_blank_group group))) (ending-leads (is_blank_group group)) ended.0
-    (groups-stand options bytes leaf gs within (more-groups options bytes group gs are) ended.1)
+    (groups-are_valid options bytes leaf gs within (more-groups options bytes group gs are) ended.1)
 
 -- The events of a text.
 
@@ -217,40 +220,41 @@ endings-with : (options : ParseOptions) (bytes : List ℕ) (p : Point) (front : 
     (rows : List Row) (leaf : Group → List Event) (events : List Event) →
     Within options bytes leaf →
     groups_with leaf (groups rows) ≡ events → Leaves bytes p front → (length bytes ≤ p.index → events ≡ []) →
-    AreRows options bytes [] held_leaf.None p lines rows → EachNoContent rows → endings_stand (front ++ events) ≡ true
+    AreRows options bytes [] held_leaf.None p lines rows → EachNoContent rows →
+    endings_are_right (front ++ events) ≡ true
 endings-with options bytes p front lines rows leaf events within same (ToLine leads whole) none are quiet =
     leads events
-    ∙ ap (endings_stand_from line_start) (sym same)
-    ∙ groups-stand options bytes leaf (groups rows) within
+    ∙ ap (endings_are_right_from line_start) (sym same)
+    ∙ groups-are_valid options bytes leaf (groups rows) within
     (groups-are options bytes [] held_leaf.None p lines rows (refl, refl) are quiet)
     (groups-ended rows (rows-end options bytes [] held_leaf.None p lines rows are))
-endings-with options bytes p front lines rows leaf events within same (ToEnd over stand whole) none are quiet =
-    ap (λ (es : List Event). endings_stand (front ++ es)) (none over)
-    ∙ ap endings_stand (append-nil front) ∙ stand
+endings-with options bytes p front lines rows leaf events within same (ToEnd over are_valid whole) none are quiet =
+    ap (λ (es : List Event). endings_are_right (front ++ es)) (none over)
+    ∙ ap endings_are_right (append-nil front) ∙ are_valid
 
 -- The endings of a text are before its text parts are read,
 pub blocks-endings : (options : ParseOptions) (bytes : List ℕ) (p : Point) (front : List Event)
     (lines : List (List ℕ)) (rows : List Row) →
     Leaves bytes p front → (length bytes ≤ p.index → tabled_groups options bytes (groups rows) ≡ []) →
     AreRows options bytes [] held_leaf.None p lines rows → EachNoContent rows →
-    endings_stand (front ++ tabled_groups options bytes (groups rows)) ≡ true
+    endings_are_right (front ++ tabled_groups options bytes (groups rows)) ≡ true
 blocks-endings options bytes p front lines rows leaves none are quiet =
     endings-with options bytes p front lines rows (unread_leaf options bytes)
     (tabled_groups options bytes (groups rows))
     (λ group before is.
     let row : Row = first_row group in
     front-leads bytes row.change.opens before.0 row.first row.front (group_unread options bytes group)
-    (behind_group group) before.1 is.unread_ending) (unread-with options bytes (groups rows)) leaves none are quiet
+    (after_group group) before.1 is.unread_ending) (unread-with options bytes (groups rows)) leaves none are quiet
 
 -- and once they are.
 pub events-endings : (options : ParseOptions) (bytes : List ℕ) (p : Point) (front : List Event)
     (lines : List (List ℕ)) (rows : List Row) →
     Leaves bytes p front → (length bytes ≤ p.index → groups_events options bytes (groups rows) ≡ []) →
     AreRows options bytes [] held_leaf.None p lines rows → EachNoContent rows →
-    endings_stand (front ++ groups_events options bytes (groups rows)) ≡ true
+    endings_are_right (front ++ groups_events options bytes (groups rows)) ≡ true
 events-endings options bytes p front lines rows leaves none are quiet =
     endings-with options bytes p front lines rows (read_leaf options bytes) (groups_events options bytes (groups rows))
     (λ group before is.
     let row : Row = first_row group in
     front-leads bytes row.change.opens before.0 row.first (front_done bytes row) (group_done options bytes group)
-    (behind_group group) before.2.is is.ending) (read-with options bytes (groups rows)) leaves none are quiet
+    (after_group group) before.2.is is.ending) (read-with options bytes (groups rows)) leaves none are quiet

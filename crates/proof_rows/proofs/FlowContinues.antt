@@ -4,8 +4,8 @@ use Rattle.std.proofs.Common.{◌≡◌, ℕ, zero, suc, ◌+◌, ◌<◌, ◌�
 use Rattle.std.proofs.Common.{length, take, drop, Option, Some, None, refl, sym, ◌∙◌, ap, ap₂, subst, arith}
 use Rattle.std.proofs.Common.{append_assoc, append-nil, length-append}
 use Rattle.proof_rows.specs.Rows.{is_inside, Front, in_front, no_front, continued_prefixes}
-use Rattle.md_registry.specs.Registry.{bars_containers, goes_at, goes_over}
-use Rattle.md_registry.specs.FlowRule.{all_on, asking_here, behind_containers, existing_by, existing_at, existing_from}
+use Rattle.md_registry.specs.Registry.{bars_containers, proceeds_at, continues_over}
+use Rattle.md_registry.specs.FlowRule.{all_on, asking_here, after_containers, existing_by, existing_at, existing_from}
 use Rattle.md_registry.specs.FlowRule.{new_of}
 use Rattle.std.specs.Prelude.{nat_lt, slice_get, slice_set}
 use Rattle.std.proofs.Math.ListN.{length-set}
@@ -22,27 +22,28 @@ use Rattle.md_events.specs.Spaces.{IsRest, ends_line}
 use Rattle.md_meaning.specs.State.{Container}
 use Rattle.proof_frame.specs.Change.{others_of}
 use Rattle.proof_frame.specs.Rule.{Rule, tried}
-use Rattle.md_registry.specs.LineFlags.{asks, ended_on, next_container, over_end, went_on}
+use Rattle.md_registry.specs.LineFlags.{asks, ended_on, next_container, over_end, was_continued}
 use Rattle.proof_frame.specs.Passed.{Passed, passed_by, passed_here, passed_over}
-use Rattle.proof_rows.specs.Stands.{AreOpen}
-use Rattle.md_registry.proofs.RegistryContainers.{further-is, goes-over, goes-same, goes-shorter, goes-within}
+use Rattle.proof_rows.specs.Valid.{AreOpen}
+use Rattle.md_registry.proofs.RegistryContainers.{further-is, proceeds-over, proceeds-same, proceeds-shorter}
+use Rattle.md_registry.proofs.RegistryContainers.{proceeds-within}
 use Rattle.proof_rows.proofs.FlowHeld.{IsNext, open-append, open-length, open-next, open-parts}
 
-pub went-shorter : (options : ParseOptions) (cs : List Container) (cells : List Cell) (p : Point) →
+pub proceeded-shorter : (options : ParseOptions) (cs : List Container) (cells : List Cell) (p : Point) →
     length (continued_prefixes options cs cells p).cells ≤ length cells
-went-shorter options [] cells p = omega arith
-went-shorter options (c ∷ cs) cells p =
-    go (goes_at options c cells p) refl (λ t. went-shorter options cs t.cells t.point)
+proceeded-shorter options [] cells p = omega arith
+proceeded-shorter options (c ∷ cs) cells p =
+    go (proceeds_at options c cells p) refl (λ t. proceeded-shorter options cs t.cells t.point)
   where
     Shorter : Front → Type 0
     Shorter f = length f.cells ≤ length cells
 
-    go : (x : Option Passed) → goes_at options c cells p ≡ x →
+    go : (x : Option Passed) → proceeds_at options c cells p ≡ x →
         ((t : Passed) → length (continued_prefixes options cs t.cells t.point).cells ≤ length t.cells) →
         Shorter
         (elim x [ None ↦ no_front cells p | Some t ↦ in_front t (continued_prefixes options cs t.cells t.point) ])
     go None e more = omega arith
-    go (Some t) e more = omega (arith, more t, goes-within options c cells p t e)
+    go (Some t) e more = omega (arith, more t, proceeds-within options c cells p t e)
 
 -- where this container is asked, or tried, at this column
 abbrev pub asked_at : Known → ℕ → Here → Here
@@ -51,7 +52,7 @@ asked_at c column h = record h { flags = asks c column h.flags }
 -- what is left after the containers: no container opens where the line ends here, nor where all have continued and a
 -- leaf is open that bars containers
 abbrev pub left_of : ParseOptions → Rule → Bool → Bool → Rule
-left_of options next true inside cells h = behind_containers options next cells h
+left_of options next true inside cells h = after_containers options next cells h
 left_of options next false inside cells h = all_on options next inside cells h
 
 -- whether such a leaf is open
@@ -127,8 +128,8 @@ over-end options [] [] cells p are ends =
 over-end options [] (c ∷ cs) cells p are ends = absurd are
 over-end options (k ∷ ks) [] cells p are ends = absurd are
 over-end options (k ∷ ks) (c ∷ cs) cells p are ends =
-    subst Result (sym (goes-over options k c cells p are.0 ends))
-    (go (goes_over k) refl (over-end options ks cs cells p are.1 ends))
+    subst Result (sym (proceeds-over options k c cells p are.0 ends))
+    (go (continues_over k) refl (over-end options ks cs cells p are.1 ends))
   where
     by : Option Passed → Front
     by o = elim o [ None ↦ no_front cells p | Some t ↦ in_front t (continued_prefixes options cs t.cells t.point) ]
@@ -138,7 +139,7 @@ over-end options (k ∷ ks) (c ∷ cs) cells p are ends =
         OverEnd (k ∷ ks) (c ∷ cs) cells p
         (elim o [ None ↦ no_front cells p | Some t ↦ in_front t (continued_prefixes options cs t.cells t.point) ])
 
-    go : (x : Bool) → goes_over k ≡ x → OverEnd ks cs cells p (continued_prefixes options cs cells p) →
+    go : (x : Bool) → continues_over k ≡ x → OverEnd ks cs cells p (continued_prefixes options cs cells p) →
         Result (cond x (Some (passed_over k c cells p)) None)
     go true e more = record {
       events = more.events;
@@ -158,7 +159,7 @@ over-end options (k ∷ ks) (c ∷ cs) cells p are ends =
 gone-ended : (options : ParseOptions) (next : Rule) (done cs : List Container) (cells : List Cell) (h : Here)
     (o : Outcome) →
     ends_line (first_seen cells) ≡ true →
-    o ≡ behind_containers options next cells (record h { flags = ended_on h.flags }) → IsRest h.scratch →
+    o ≡ after_containers options next cells (record h { flags = ended_on h.flags }) → IsRest h.scratch →
     h.flags.continued ≡ length done → AreOpen h.flags.containers (done ++ cs) →
     Gone options next done cs (continued_prefixes options cs cells h.point) h o
 gone-ended options next done cs cells h o ends is rest at are = record {
@@ -204,7 +205,7 @@ gone-ended options next done cs cells h o ends is rest at are = record {
 -- after the prefix of one that continues
 abbrev further_here : Passed → Known → Here → Here
 further_here t k h =
-    let x = passed_here t (asking_here k h) in record x { flags = went_on x.flags }
+    let x = passed_here t (asking_here k h) in record x { flags = was_continued x.flags }
 
 -- the same of the rule that reads the containers after the first
 abbrev Reads : ParseOptions → Rule → ℕ → Rule → Type 0
@@ -234,7 +235,7 @@ asked-is options next m further reads done (c ∷ cs) cells h going is some at a
     (λ t lt e.
     reads (done ++ t.container ∷ []) cs t.cells (further_here t first.held h) is lt (counted t)
     (again t e))
-    (goes_at options c cells h.point) refl
+    (proceeds_at options c cells h.point) refl
   where
     first : IsNext h.flags.containers done c cs
     first = open-next h.flags.containers done c cs are
@@ -244,14 +245,14 @@ asked-is options next m further reads done (c ∷ cs) cells h going is some at a
 
     onward : Outcome → Outcome
     onward o =
-        tried o (λ rest x. further rest (record x { flags = went_on x.flags }))
+        tried o (λ rest x. further rest (record x { flags = was_continued x.flags }))
         (λ s g. new_of options next cells (record h { scratch = s; flags = g }))
 
     found : slice_get h.flags.containers h.flags.continued ≡ Some first.held
     found = ap (λ (n : ℕ). slice_get h.flags.containers n) at ∙ first.found
 
     begins : existing_by options next further (next_container h.flags) cells h ≡
-        onward (passed_by (goes_at options c cells h.point) asked)
+        onward (passed_by (proceeds_at options c cells h.point) asked)
     begins =
         ap (λ (o : Option Known). existing_by options next further o cells h) found
         ∙ ap onward (further-is options first.held c cells asked is refl refl first.is)
@@ -266,7 +267,7 @@ asked-is options next m further reads done (c ∷ cs) cells h going is some at a
     counted t =
         ap (λ (x : Bool). cond x (suc h.flags.continued) h.flags.continued) fits ∙ ap suc at ∙ sym (one_more t)
 
-    again : (t : Passed) → goes_at options c cells h.point ≡ Some t →
+    again : (t : Passed) → proceeds_at options c cells h.point ≡ Some t →
         AreOpen (further_here t first.held h).flags.containers ((done ++ t.container ∷ []) ++ cs)
     again t e =
         let P : List Container → Type 0 = λ l. AreOpen (slice_set h.flags.containers h.flags.continued t.held) l in
@@ -274,17 +275,17 @@ asked-is options next m further reads done (c ∷ cs) cells h going is some at a
         subst P (sym (append_assoc done (t.container ∷ []) cs))
         (subst Q (sym at)
         (first.put_back t.held t.container
-        (goes-same options first.held c cells h.point t first.is e)))
+        (proceeds-same options first.held c cells h.point t first.is e)))
 
     Result : Front → Type 0
     Result x = Gone options next done (c ∷ cs) x h (existing_by options next further (next_container h.flags) cells h)
 
     Further : Type 0
-    Further = (t : Passed) → length t.cells < m → goes_at options c cells h.point ≡ Some t →
+    Further = (t : Passed) → length t.cells < m → proceeds_at options c cells h.point ≡ Some t →
         Gone options next (done ++ t.container ∷ []) cs (continued_prefixes options cs t.cells t.point)
         (further_here t first.held h) (further t.cells (further_here t first.held h))
 
-    go : Further → (x : Option Passed) → goes_at options c cells h.point ≡ x →
+    go : Further → (x : Option Passed) → proceeds_at options c cells h.point ≡ x →
         Result (elim x
         [ None ↦ no_front cells h.point | Some t ↦ in_front t (continued_prefixes options cs t.cells t.point) ])
     go more None e =
@@ -296,7 +297,7 @@ asked-is options next m further reads done (c ∷ cs) cells h going is some at a
         (sym (inside-some h.flags.leaf c cs))) is at are
     go more (Some t) e =
         let f : Front = continued_prefixes options cs t.cells t.point in
-        let g = more t (omega (arith, goes-shorter options c cells h.point t e going)) e in
+        let g = more t (omega (arith, proceeds-shorter options c cells h.point t e going)) e in
         let P : List Container → Type 0 = λ l. AreOpen g.new.flags.containers l in
         let longer = one_more t in
         record {

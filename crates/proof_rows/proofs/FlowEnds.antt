@@ -2,8 +2,8 @@
 use Rattle.std.proofs.Common.{◌≡◌, ℕ, zero, suc, ◌<◌, ◌≤◌, Bool, true, false, List, [], ◌∷◌}
 use Rattle.std.proofs.Common.{length, Option, Some, None, refl, arith}
 use Rattle.md_registry.specs.Registry.{asked_first, bars_containers, begins_at, continues_at, leaf, openers, trials}
-use Rattle.md_registry.specs.FlowRule.{all_on, blank_at_end, inside_by, inside_of, behind_leaf, asking_here}
-use Rattle.md_registry.specs.FlowRule.{behind_containers, blank_ended, content_of, ended, ended_to, existing_at}
+use Rattle.md_registry.specs.FlowRule.{all_on, blank_at_end, inside_by, inside_of, following_leaf, asking_here}
+use Rattle.md_registry.specs.FlowRule.{after_containers, blank_ended, content_of, ended, ended_to, existing_at}
 use Rattle.md_registry.specs.FlowRule.{existing_by, existing_from, opens_of, flow_at, flow_lines, leaf_of, leaves_of}
 use Rattle.md_registry.specs.FlowRule.{line_ended, line_then, new_from, new_of, opened}
 use Rattle.md_engine.specs.declared.configuration.ParseOptions.{ParseOptions}
@@ -19,7 +19,7 @@ use Rattle.md_events.specs.Spaces.{ends_line}
 use Rattle.md_events.proofs.FeedLines.{Stops}
 use Rattle.proof_frame.specs.Rule.{Rule, tried}
 use Rattle.md_registry.specs.LineFlags.{begun_line, blanked, ended_on, next_container, shut_leaf, kept_containers}
-use Rattle.md_registry.specs.LineFlags.{went_on}
+use Rattle.md_registry.specs.LineFlags.{was_continued}
 use Rattle.proof_frame.specs.LeafName.{LeafName}
 use Rattle.md_registry.proofs.FlowLemmas.{blank_at-shrinks, chunk_at-shrinks}
 use Rattle.proof_frame.proofs.FromEnding.{stops-same}
@@ -78,14 +78,14 @@ leaves-finish : (options : ParseOptions) (next : Rule) (ls : List LeafName) (cel
     Finishes (leaves_of options next ls cells h)
 leaves-finish options next [] cells h ends = content-finishes next cells h ends
 leaves-finish options next (l ∷ ls) cells h ends =
-    tried-finishes _ (behind_leaf (leaf l).ends next) _ ((leaf l).trial options cells h)
-    ((laws l).shrinks options cells h) (behind (leaf l).ends)
+    tried-finishes _ (following_leaf (leaf l).ends next) _ ((leaf l).trial options cells h)
+    ((laws l).shrinks options cells h) (following (leaf l).ends)
     (λ s g. leaves-finish options next ls cells (record h { scratch = s; flags = g }) ends)
   where
-    behind : (x : Bool) (rest : List Cell) (k : Here) → Stops rest → length rest ≤ length cells →
-        Finishes (behind_leaf x next rest k)
-    behind true rest k at le = line_ended-finishes _ next ends rest (record k { flags = shut_leaf k.flags }) at le
-    behind false rest k at le = line_ended-finishes _ next ends rest k at le
+    following : (x : Bool) (rest : List Cell) (k : Here) → Stops rest → length rest ≤ length cells →
+        Finishes (following_leaf x next rest k)
+    following true rest k at le = line_ended-finishes _ next ends rest (record k { flags = shut_leaf k.flags }) at le
+    following false rest k at le = line_ended-finishes _ next ends rest k at le
 
 leaf-finishes : (options : ParseOptions) (next : Rule) (cells : List Cell) (h : Here) → Ends (length cells) next →
     Finishes (leaf_of options next cells h)
@@ -107,9 +107,9 @@ inside-finishes options next cells h ends = go (asked_first h.flags.leaf)
         (λ rest k at le. line_ended-finishes _ next ends rest k at le)
         (λ s g. leaf-finishes options next cells (record h { scratch = s; flags = g }) ends)
 
-behind-finishes : (options : ParseOptions) (next : Rule) (cells : List Cell) (h : Here) → Ends (length cells) next →
-    Finishes (behind_containers options next cells h)
-behind-finishes options next cells h ends =
+following-finishes : (options : ParseOptions) (next : Rule) (cells : List Cell) (h : Here) → Ends (length cells) next →
+    Finishes (after_containers options next cells h)
+following-finishes options next cells h ends =
     inside-finishes options next cells (record h { flags = begun_line h.flags }) ends
 
 -- Containers.
@@ -139,13 +139,13 @@ new-finishes : (options : ParseOptions) (next : Rule) (n : ℕ) (cells : List Ce
     Ends (length cells) next → Finishes (new_from options next n cells h)
 unfolding new_from
 new-finishes options next zero cells h ends =
-    behind-finishes options next cells h ends
+    following-finishes options next cells h ends
 new-finishes options next (suc n) cells h ends =
-    opens-finish options (λ rest k. new_from options next n rest (opened k)) (behind_containers options next) openers
+    opens-finish options (λ rest k. new_from options next n rest (opened k)) (after_containers options next) openers
     cells h
     (λ rest k lt.
     new-finishes options next n rest (opened k) (shorter (length cells) (length rest) next (omega (arith, lt)) ends))
-    (λ k. behind-finishes options next cells k ends)
+    (λ k. following-finishes options next cells k ends)
 
 opened-finishes : (options : ParseOptions) (next : Rule) (cells : List Cell) (h : Here) → Ends (length cells) next →
     Finishes (new_of options next cells h)
@@ -158,19 +158,19 @@ asked-finishes : (options : ParseOptions) (next further : Rule) (o : Option Cont
 asked-finishes options next further None cells h e ends more = go (bars_containers h.flags.leaf)
   where
     go : (x : Bool) → Finishes (all_on options next x cells h)
-    go true = behind-finishes options next cells h ends
+    go true = following-finishes options next cells h ends
     go false = opened-finishes options next cells h ends
 asked-finishes options next further (Some c) cells h e ends more =
     tried-shorter (length cells) _ _ (continues_at options c.kind cells (asking_here c h))
     ((container-laws c.kind).continues_shorter options cells (asking_here c h) e)
-    (λ rest k lt. more rest (record k { flags = went_on k.flags }) lt)
+    (λ rest k lt. more rest (record k { flags = was_continued k.flags }) lt)
     (λ s g. opened-finishes options next cells (record h { scratch = s; flags = g }) ends)
 
 at-finishes : (options : ParseOptions) (next further : Rule) (x : Bool) (cells : List Cell) (h : Here) →
     ends_line (first_seen cells) ≡ x → Ends (length cells) next → Ends (length cells) further →
     Finishes (existing_at options next further x cells h)
 at-finishes options next further true cells h e ends more =
-    behind-finishes options next cells (record h { flags = ended_on h.flags }) ends
+    following-finishes options next cells (record h { flags = ended_on h.flags }) ends
 at-finishes options next further false cells h e ends more =
     asked-finishes options next further (next_container h.flags) cells h e ends more
 

@@ -15,7 +15,7 @@ use Rattle.md_events.specs.Events.Nested.{exit}
 use Rattle.md_meaning.specs.State.{Container}
 use Rattle.proof_frame.specs.Change.{ends_of}
 use Rattle.md_registry.specs.Registry.{MatchesContainer}
-use Rattle.proof_rows.specs.Stands.{AreOpen}
+use Rattle.proof_rows.specs.Valid.{AreOpen}
 use Rattle.md_registry.proofs.RegistryContainers.{known-name}
 
 pub open-length : (ks : List Known) (cs : List Container) → AreOpen ks cs → length ks ≡ length cs
@@ -86,8 +86,8 @@ Ends size tail p =
     (ks : List Known) (keep : ℕ) (more : List Event) (q : Point) → length ks ≡ size →
     ends_at (drop keep ks) (point_of (tail ++ more) q) ≡ ends_at (drop keep ks) p
 
-pub ends-behind : (size : ℕ) (e : Event) (tail : List Event) → Ends size (e ∷ tail) e.point
-ends-behind size e tail ks keep more q is = refl
+pub ends-following : (size : ℕ) (e : Event) (tail : List Event) → Ends size (e ∷ tail) e.point
+ends-following size e tail ks keep more q is = refl
 
 pub ends-none : (size : ℕ) (p : Point) → size ≡ 0 → Ends size [] p
 ends-none size p e ks keep more q is =

@@ -2,9 +2,9 @@
 use Rattle.md_engine.specs.declared.tokenizer.held_leaf.HeldLeaf.{HeldLeaf}
 use Rattle.std.proofs.Common.{◌≡◌, ◌≤◌, Bool, true, false, cond, ◌&&◌, ◌||◌, nat_eq, List, [], ◌∷◌, ◌++◌, length}
 use Rattle.std.proofs.Common.{Option, Some, None, refl, sym, ◌∙◌, ap, ap₂}
-use Rattle.proof_rows.specs.Rows.{inside_or, leaf_behind, ends_blank, kind_of, inside_of, row_kind}
+use Rattle.proof_rows.specs.Rows.{inside_or, leaf_following, ends_blank, kind_of, inside_of, row_kind}
 use Rattle.md_registry.specs.Registry.{asked_first, leaf, trials}
-use Rattle.md_registry.specs.FlowRule.{blank_at_end, inside_by, inside_of as asked_inside, behind_leaf, blank_ended}
+use Rattle.md_registry.specs.FlowRule.{blank_at_end, inside_by, inside_of as asked_inside, following_leaf, blank_ended}
 use Rattle.md_registry.specs.FlowRule.{leaf_of, leaves_of, line_ended, nonblank_of}
 use Rattle.proof_frame.proofs.LeafLaws.{left_open}
 use Rattle.std.specs.Prelude.{◌==◌}
@@ -14,7 +14,7 @@ use Rattle.md_engine.specs.declared.event.Name.TheVariants as n
 use Rattle.md_engine.specs.declared.event.Point.{Point}
 use Rattle.md_engine.specs.Meaning.{Cell, Here, Outcome, Refuses}
 use Rattle.md_content.specs.Chunks.{content_link}
-use Rattle.md_link_definitions.specs.OpenText.{text_behind}
+use Rattle.md_link_definitions.specs.OpenText.{text_following}
 use Rattle.md_link_definitions.specs.WholeCells.{whole_rest}
 use Rattle.md_events.specs.Ahead.{from_ending, line_bytes, line_end}
 use Rattle.md_events.specs.Events.Nested.{enter_link, exit}
@@ -22,7 +22,7 @@ use Rattle.md_meaning.specs.Rest.{is_blank}
 use Rattle.md_events.specs.Look.{first_seen}
 use Rattle.md_events.specs.Spaces.{IsRest, any_size, ends_line}
 use Rattle.proof_frame.specs.Rule.{Rule, tried}
-use Rattle.md_registry.specs.LineFlags.{nothing_stands}
+use Rattle.md_registry.specs.LineFlags.{nothing_is_here}
 use Rattle.proof_frame.specs.LeafName.{first_of, LeafName}
 use Rattle.proof_frame.specs.Row.{BlankRow, LeafRow, RowKind, TextRow}
 use Rattle.proof_frame.proofs.LeafRows.{blank-refused, blank-took, chunk-took}
@@ -46,7 +46,7 @@ leaf_here options cells h k = record h {
   point = line_end cells h.point;
   flags =
       record h.flags {
-        leaf = leaf_behind options h.flags.leaf cells h.point k;
+        leaf = leaf_following options h.flags.leaf cells h.point k;
         blank = blank_by k cells h.point;
       };
 }
@@ -65,8 +65,8 @@ kind-by options on cells x e = ap (λ (y : Bool). cond y BlankRow (kind_of (take
 
 -- after a leaf has taken a line, what is held is what it keeps: flow closes one that always ends there
 leaf-left : (options : ParseOptions) (next : Rule) (l : LeafName) (cells : List Cell) (h : Here) (ends : Bool) →
-    h.flags.blank ≡ nothing_stands (first_seen cells) h.point → (leaf l).ends ≡ ends →
-    behind_leaf ends next (from_ending cells)
+    h.flags.blank ≡ nothing_is_here (first_seen cells) h.point → (leaf l).ends ≡ ends →
+    following_leaf ends next (from_ending cells)
     (record h {
       events = h.events ++ (leaf l).adds options h.flags.leaf cells h.point;
       point = line_end cells h.point;
@@ -102,7 +102,7 @@ leaf-left options next l cells h false flag e =
 
 -- a line that has not ended here is not empty
 filled-here : (cells : List Cell) (p : Point) → ends_line (first_seen cells) ≡ false →
-    nothing_stands (first_seen cells) p ≡ false
+    nothing_is_here (first_seen cells) p ≡ false
 filled-here cells p going = ap (λ (x : Bool). x && (p.column == 1)) going
 
 -- of leaves that are tried one after another, the first that takes the line has it; if none does, the line is text
@@ -119,7 +119,7 @@ leaves-are options next [] cells h asked few is flag going =
     (record h {
       events = h.events ++ added_by options h.flags.leaf cells h.point TextRow;
       point = line_end cells h.point;
-      flags = record h.flags { leaf = text_behind h.flags.leaf (whole_rest h.point cells); blank = blank };
+      flags = record h.flags { leaf = text_following h.flags.leaf (whole_rest h.point cells); blank = blank };
     })) flag
 leaves-are options next (l ∷ ls) cells h asked few is flag going =
     go ((leaf l).takes options h.flags.leaf cells) refl
@@ -127,7 +127,7 @@ leaves-are options next (l ∷ ls) cells h asked few is flag going =
   where
     onward : Outcome → Outcome
     onward o =
-        tried o (behind_leaf (leaf l).ends next)
+        tried o (following_leaf (leaf l).ends next)
         (λ s g. leaves_of options next ls cells (record h { scratch = s; flags = g }))
 
     Done : Option LeafName → Type 0
@@ -166,16 +166,16 @@ leaf-is options next cells h few is flag = go (is_blank (line_bytes cells)) refl
     onward : Outcome → Outcome
     onward o = tried o (blank_ended next) (λ s g. nonblank_of options next cells (record h { scratch = s; flags = g }))
 
-    behind : RowKind → Outcome
-    behind k = line_ended next (from_ending cells) (leaf_here options cells h k)
+    following : RowKind → Outcome
+    following k = line_ended next (from_ending cells) (leaf_here options cells h k)
 
     go : (x : Bool) → is_blank (line_bytes cells) ≡ x →
-        leaf_of options next cells h ≡ behind (outer_kind options h.flags.leaf cells)
-    go true e = ap onward (blank-took cells h e) ∙ ap behind (sym (kind-by options h.flags.leaf cells true e))
+        leaf_of options next cells h ≡ following (outer_kind options h.flags.leaf cells)
+    go true e = ap onward (blank-took cells h e) ∙ ap following (sym (kind-by options h.flags.leaf cells true e))
     go false e =
         ap onward (blank-refused cells h e)
         ∙ leaves-are options next trials cells h trials-asked few is (flag e) (going-on cells e)
-        ∙ ap behind (sym (kind-by options h.flags.leaf cells false e))
+        ∙ ap following (sym (kind-by options h.flags.leaf cells false e))
 
 -- and so it is where one is
 pub inside-is : (options : ParseOptions) (next : Rule) (cells : List Cell) (h : Here) → length cells ≤ any_size →

@@ -5,12 +5,13 @@ use Rattle.md_engine.specs.declared.tokenizer.held_leaf.HeldLeaf.{HeldLeaf}
 use Rattle.std.proofs.Common.{◌≡◌, ℕ, zero, suc, ◌+◌, ◌≤◌, Bool, true, false, cond, ◌&&◌, nat_eq, List, [], ◌∷◌, ◌++◌}
 use Rattle.std.proofs.Common.{length, take, drop, Option, Some, None, refl, sym, ◌∙◌, ap, ap₂, subst, arith}
 use Rattle.std.proofs.Common.{append_assoc, append-nil, length-append}
-use Rattle.proof_rows.specs.Rows.{is_inside, behind_held, leaf_behind, Front, Held, held_at, held_by, held_of, in_front}
-use Rattle.proof_rows.specs.Rows.{is_lazy, is_text, opened_prefixes, no_front, row_kind, continued_prefixes}
-use Rattle.md_registry.specs.FlowRule.{inside_of as asked_inside, behind_containers, ended, ended_to, existing_from}
+use Rattle.proof_rows.specs.Rows.{is_inside, after_held, leaf_following, Front, Held, held_at, held_by, held_of}
+use Rattle.proof_rows.specs.Rows.{in_front, is_lazy, is_text, opened_prefixes, no_front, row_kind, continued_prefixes}
+use Rattle.md_registry.specs.FlowRule.{inside_of as asked_inside, after_containers, ended, ended_to, existing_from}
 use Rattle.md_registry.specs.FlowRule.{line_ended, line_then, new_from, new_of}
 use Rattle.std.specs.Prelude.{not, nat_lt}
-use Rattle.proof_frame.specs.Change.{against, Change, change_by, ends_of, interrupts, is_none, open_behind, others_of}
+use Rattle.proof_frame.specs.Change.{against, Change, change_by, ends_of, interrupts, is_none, open_following}
+use Rattle.proof_frame.specs.Change.{others_of}
 use Rattle.std.proofs.lemmas.Bool.Decides.{nat_tests}
 use Rattle.md_engine.specs.declared.configuration.ParseOptions.{ParseOptions}
 use Rattle.md_engine.specs.declared.event.Event.{Event}
@@ -28,13 +29,13 @@ use Rattle.md_registry.specs.LineFlags.{begun_line, kept_containers}
 use Rattle.proof_frame.specs.Passed.{Passed}
 use Rattle.md_registry.specs.Registry.{leaf, openers, opens_at}
 use Rattle.proof_frame.specs.Row.{BlankRow, LeafRow, RowKind, TextRow}
-use Rattle.proof_rows.specs.Stands.{AreOpen}
+use Rattle.proof_rows.specs.Valid.{AreOpen}
 use Rattle.proof_rows.proofs.ContainedLemmas.{lazy-some}
 use Rattle.md_registry.proofs.Registry.{laws}
 use Rattle.md_registry.proofs.RegistryContainers.{opens-ended, opens-same, opens-shorter}
 use Rattle.proof_rows.proofs.FlowLeaf.{added_by, blank_by, inside-is, leaf_here}
 use Rattle.proof_rows.proofs.FlowHeld.{Ends, closed-ends, closed-none, open-all, open-append, open-length, open-parts}
-use Rattle.proof_rows.proofs.FlowContinues.{Gone, asked_at, existing-is, left_of, went-shorter}
+use Rattle.proof_rows.proofs.FlowContinues.{Gone, asked_at, existing-is, left_of, proceeded-shorter}
 use Rattle.proof_rows.proofs.FlowOpens.{Opened, new-more, new-none, new-one, new-shorter, opened_by, opens-none}
 
 -- a line that was read up to its ending: what is after the line before, and what the line adds
@@ -48,8 +49,8 @@ pub record Done (next : Rule) (options : ParseOptions) (front tail : List Event)
       ++ (ends_of x.change.closes p
       ++ (tail ++ (x.front ++ added_by options x.on x.cells x.point (row_kind options x.on x.cells))))
   pub point : new.point ≡ line_end x.cells x.point
-  pub containers : AreOpen new.flags.containers (open_behind x.change)
-  pub leaf : new.flags.leaf ≡ behind_held options x
+  pub containers : AreOpen new.flags.containers (open_following x.change)
+  pub leaf : new.flags.leaf ≡ after_held options x
   pub blank : new.flags.blank ≡ blank_by (row_kind options x.on x.cells) x.cells x.point
 
 -- after the containers that continue
@@ -88,11 +89,11 @@ lazy-none still k = go (takes_lazy still)
     go false = refl
 
 -- and such a line leaves open a leaf that takes lazy lines
-lazy-behind : (options : ParseOptions) (on : HeldLeaf) (cells : List Cell) (p : Point) (k : RowKind) →
-    takes_lazy (leaf_behind options on cells p k) ≡ is_text k
-lazy-behind options on cells p BlankRow = refl
-lazy-behind options on cells p (LeafRow l) = ((laws l).not_lazy options on).0 cells p
-lazy-behind options on cells p TextRow = refl
+lazy-following : (options : ParseOptions) (on : HeldLeaf) (cells : List Cell) (p : Point) (k : RowKind) →
+    takes_lazy (leaf_following options on cells p k) ≡ is_text k
+lazy-following options on cells p BlankRow = refl
+lazy-following options on cells p (LeafRow l) = ((laws l).not_lazy options on).0 cells p
+lazy-following options on cells p TextRow = refl
 
 -- where no leaf is open, the line meets none
 met-none : (all : Bool) → met_by all held_leaf.None ≡ held_leaf.None
@@ -100,13 +101,13 @@ met-none true = refl
 met-none false = refl
 
 -- the leaf that a line meets after its containers by the flags, where none opens
-meets-is : (still : HeldLeaf) (went others : List Container) (g : Flags) → g.leaf ≡ still →
-    AreOpen g.containers (went ++ others) → g.continued ≡ length went →
+meets-is : (still : HeldLeaf) (proceeded others : List Container) (g : Flags) → g.leaf ≡ still →
+    AreOpen g.containers (proceeded ++ others) → g.continued ≡ length proceeded →
     (begun_line g).leaf ≡ against still others []
-meets-is still went others g leaf are continued =
-    ap₂ met_by (go others (open-length g.containers (went ++ others) are ∙ length-append went others)) leaf
+meets-is still proceeded others g leaf are continued =
+    ap₂ met_by (go others (open-length g.containers (proceeded ++ others) are ∙ length-append proceeded others)) leaf
   where
-    go : (others : List Container) → length g.containers ≡ length went + length others →
+    go : (others : List Container) → length g.containers ≡ length proceeded + length others →
         not (nat_lt g.continued (length g.containers)) ≡ is_none others
     go [] size =
         let low : nat_lt g.continued (length g.containers) ≡ false = grind (arith, nat_tests) in ap not low
@@ -119,26 +120,27 @@ met_here on h = record h { flags = record h.flags { leaf_before = h.flags.leaf; 
 
 begun-is : (options : ParseOptions) (next : Rule) (cells : List Cell) (h : Here) (on : HeldLeaf) →
     length cells ≤ any_size → IsRest h.scratch → h.flags.blank ≡ false → (begun_line h.flags).leaf ≡ on →
-    behind_containers options next cells h ≡
+    after_containers options next cells h ≡
     line_ended next (from_ending cells) (leaf_here options cells (met_here on h) (row_kind options on cells))
 begun-is options next cells h on few is flag meets =
     ap (λ (x : HeldLeaf). asked_inside options next cells (met_here x h)) meets
     ∙ inside-is options next cells (met_here on h) few is flag
 
 -- the containers that stay and those that end are all that were open
-change-parts : (x : Bool) (went others : List Container) → let c =
-    change_by x went others [] in c.stays ++ c.closes ≡ went ++ others
-change-parts true went others = append-nil (went ++ others)
-change-parts false went others = refl
+change-parts : (x : Bool) (proceeded others : List Container) → let c =
+    change_by x proceeded others [] in c.stays ++ c.closes ≡ proceeded ++ others
+change-parts true proceeded others = append-nil (proceeded ++ others)
+change-parts false proceeded others = refl
 
-change-stays : (x : Bool) (went others : List Container) →
-    length (change_by x went others []).stays ≡ cond x (length (went ++ others)) (length went)
-change-stays true went others = refl
-change-stays false went others = refl
+change-stays : (x : Bool) (proceeded others : List Container) →
+    length (change_by x proceeded others []).stays ≡ cond x (length (proceeded ++ others)) (length proceeded)
+change-stays true proceeded others = refl
+change-stays false proceeded others = refl
 
-change-none : (x : Bool) (went others : List Container) → let c = change_by x went others [] in open_behind c ≡ c.stays
-change-none true went others = append-nil (went ++ others)
-change-none false went others = append-nil went
+change-none : (x : Bool) (proceeded others : List Container) → let c = change_by x proceeded others [] in
+    open_following c ≡ c.stays
+change-none true proceeded others = append-nil (proceeded ++ others)
+change-none false proceeded others = append-nil proceeded
 
 regroup-ends : (front tail w added : List Event) → (front ++ (tail ++ w)) ++ added ≡ front ++ (tail ++ (w ++ added))
 regroup-ends front tail w added = simp append_assoc
@@ -153,7 +155,7 @@ done-none : (options : ParseOptions) (next : Rule) (front tail : List Event) (p 
     (still : HeldLeaf) (w : Front) (cells : List Cell) (h : Here) →
     length cells ≤ any_size → Between front tail p cs still w h →
     Done next options front tail p (held_of options cs still w (no_front cells h.point))
-    (behind_containers options next cells h)
+    (after_containers options next cells h)
 done-none options next front tail p cs still w cells h few b = record {
   new = ended_to keep leaf.flags.line_end leaf;
   is =
@@ -195,7 +197,7 @@ done-none options next front tail p cs still w cells h few b = record {
     kept : keep ≡ length c.stays
     kept =
         ap₂ (λ (x : HeldLeaf) (y : Bool). cond (takes_lazy x && y) (length h.flags.containers) h.flags.continued) b.leaf
-        (lazy-behind options on cells h.point k)
+        (lazy-following options on cells h.point k)
         ∙ ap₂ (λ (x y : ℕ). cond (takes_lazy still && is_text k) x y)
         (open-length h.flags.containers (w.containers ++ others_of cs w.containers) b.containers) b.continued
         ∙ ap (λ (x : Bool). cond x (length (w.containers ++ others_of cs w.containers)) (length w.containers))
@@ -235,7 +237,7 @@ done-some options next front tail p cs still w f t h out few b o =
       containers =
           open-all keep o.new.flags.containers (w.containers ++ t.container ∷ f.containers) kept
           (subst Q (append_assoc w.containers (t.container ∷ []) f.containers) o.containers);
-      leaf = ap (λ (q : Point). leaf_behind options held_leaf.None f.cells q k) o.point;
+      leaf = ap (λ (q : Point). leaf_following options held_leaf.None f.cells q k) o.point;
       blank = ap (λ (q : Point). blank_by k f.cells q) o.point;
     })
   where
@@ -258,7 +260,7 @@ done-some options next front tail p cs still w f t h out few b o =
     kept =
         ap
         (λ (x : HeldLeaf).
-        cond (takes_lazy x && takes_lazy (leaf_behind options held_leaf.None f.cells o.new.point k))
+        cond (takes_lazy x && takes_lazy (leaf_following options held_leaf.None f.cells o.new.point k))
         (length o.new.flags.containers) o.new.flags.continued) o.leaf
         ∙ o.all
 
@@ -283,13 +285,13 @@ done-same options next front tail p x a b e d =
     let P : Outcome → Type 0 = λ o. Done next options front tail p x o in subst P (sym e) d
 
 -- where no container has ended, what opens interrupts what the flags say
-interrupts-is : (still : HeldLeaf) (went others : List Container) (g : Flags) → g.leaf ≡ still →
-    AreOpen g.containers (went ++ others) → g.continued ≡ length went → interrupts still others ≡ by_flags g
-interrupts-is still went others g leaf are continued =
+interrupts-is : (still : HeldLeaf) (proceeded others : List Container) (g : Flags) → g.leaf ≡ still →
+    AreOpen g.containers (proceeded ++ others) → g.continued ≡ length proceeded → interrupts still others ≡ by_flags g
+interrupts-is still proceeded others g leaf are continued =
     ap₂ (λ (x : HeldLeaf) (y : Bool). is_interrupted x && y) (sym leaf)
-    (go others (open-length g.containers (went ++ others) are ∙ length-append went others))
+    (go others (open-length g.containers (proceeded ++ others) are ∙ length-append proceeded others))
   where
-    go : (others : List Container) → length g.containers ≡ length went + length others →
+    go : (others : List Container) → length g.containers ≡ length proceeded + length others →
         is_none others ≡ nat_eq g.continued (length g.containers)
     go [] size = let same : nat_eq g.continued (length g.containers) ≡ true = grind (arith, nat_tests) in sym same
     go (c ∷ cs) size =
@@ -397,7 +399,7 @@ line-done options next front tail p cs still cells h few b =
     }
 
     fewer : length w.cells ≤ any_size
-    fewer = let less = went-shorter options cs cells h.point in omega (arith, few, less)
+    fewer = let less = proceeded-shorter options cs cells h.point in omega (arith, few, less)
 
     interrupting : Bool
     interrupting = interrupts still (others_of cs w.containers)
@@ -414,7 +416,7 @@ line-done options next front tail p cs still cells h few b =
         w.cells g.new)
 
     none : Done next options front tail p (held_of options cs still w (no_front w.cells g.new.point))
-        (behind_containers options next w.cells g.new)
+        (after_containers options next w.cells g.new)
     none = done-none options next front tail p cs still w w.cells g.new fewer between
 
     by : (x : Bool) → ends_line (first_seen w.cells) ≡ x → (y : Bool) →
@@ -424,7 +426,7 @@ line-done options next front tail p cs still cells h few b =
     by true ends true = none
     by true ends false =
         let D : Front → Type 0 = λ f.
-        Done next options front tail p (held_of options cs still w f) (behind_containers options next w.cells g.new) in
+        Done next options front tail p (held_of options cs still w f) (after_containers options next w.cells g.new) in
         subst D (sym (front-ended options interrupting (length w.cells) w.cells g.new.point ends)) none
     by false going true = none
     by false going false =

@@ -16,11 +16,11 @@ use Rattle.md_containers.specs.Interrupts.{is_interrupted, interrupts as by_flag
 use Rattle.md_events.specs.Spaces.{IsRest}
 use Rattle.md_meaning.specs.State.{Container}
 use Rattle.proof_frame.specs.Rule.{Rule, tried}
-use Rattle.md_registry.specs.FlowRule.{asking_here, behind_containers, new_from, opened, opens_of}
+use Rattle.md_registry.specs.FlowRule.{asking_here, after_containers, new_from, opened, opens_of}
 use Rattle.proof_frame.specs.Passed.{Passed, passed_by, passed_here}
 use Rattle.md_registry.specs.Registry.{container_rules, openers, opens_at, opens_by}
 use Rattle.proof_rows.specs.Rows.{Front, in_front, opened_prefixes, no_front}
-use Rattle.proof_rows.specs.Stands.{AreOpen}
+use Rattle.proof_rows.specs.Valid.{AreOpen}
 use Rattle.md_registry.proofs.Registry.{container-laws}
 use Rattle.md_registry.proofs.RegistryContainers.{opens-same, opens-shorter}
 use Rattle.proof_rows.proofs.FlowHeld.{closed-none, open-all, open-append}
@@ -55,19 +55,19 @@ new-shorter options interrupting (suc size) cells p =
 pub record Refused (options : ParseOptions) (next : Rule) (cells : List Cell) (h : Here) (o : Outcome) : Type 0 where
   pub asked : Known
   pub column : ℕ
-  pub is : o ≡ behind_containers options next cells (asked_at asked column h)
+  pub is : o ≡ after_containers options next cells (asked_at asked column h)
 
 -- what is left at the trials of these kinds, by the outcome of the first
 abbrev tries_from : ParseOptions → Rule → Rule → List ContainerKind → List Cell → Here → Outcome → Outcome
 tries_from options next onward ks cells h o =
     tried o onward
-    (λ s g. opens_of options onward (behind_containers options next) ks cells (record h { scratch = s; flags = g }))
+    (λ s g. opens_of options onward (after_containers options next) ks cells (record h { scratch = s; flags = g }))
 
 first-tried : (options : ParseOptions) (next onward : Rule) (interrupting : Bool) (k : ContainerKind)
     (ks : List ContainerKind) (cells : List Cell) (h : Here) (o : Option Passed) →
     IsRest h.scratch → interrupting ≡ by_flags h.flags →
     (container_rules k).opens options interrupting cells h.point ≡ o →
-    opens_of options onward (behind_containers options next) (k ∷ ks) cells h ≡
+    opens_of options onward (after_containers options next) (k ∷ ks) cells h ≡
     tries_from options next onward ks cells h (passed_by o (asking_here (container_of k) h))
 first-tried options next onward interrupting k ks cells h o is by e =
     ap (tries_from options next onward ks cells h)
@@ -77,7 +77,7 @@ first-tried options next onward interrupting k ks cells h o is by e =
 none-tried : (options : ParseOptions) (next onward : Rule) (interrupting : Bool) (ks : List ContainerKind)
     (cells : List Cell) (h : Here) →
     IsRest h.scratch → interrupting ≡ by_flags h.flags → opens_by options interrupting cells h.point ks ≡ None →
-    Refused options next cells h (opens_of options onward (behind_containers options next) ks cells h)
+    Refused options next cells h (opens_of options onward (after_containers options next) ks cells h)
 none-tried options next onward interrupting [] cells h is by e =
     record { asked = h.flags.asked; column = h.flags.asked_column; is = refl }
 none-tried options next onward interrupting (k ∷ ks) cells h is by e =
@@ -88,8 +88,8 @@ none-tried options next onward interrupting (k ∷ ks) cells h is by e =
         option_or o (opens_by options interrupting cells h.point ks) ≡ None →
         (opens_by options interrupting cells h.point ks ≡ None →
         Refused options next cells (asking_here (container_of k) h)
-        (opens_of options onward (behind_containers options next) ks cells (asking_here (container_of k) h))) →
-        Refused options next cells h (opens_of options onward (behind_containers options next) (k ∷ ks) cells h)
+        (opens_of options onward (after_containers options next) ks cells (asking_here (container_of k) h))) →
+        Refused options next cells h (opens_of options onward (after_containers options next) (k ∷ ks) cells h)
     go (Some t) e none more = cc
     go None e none more =
         let r = more none in
@@ -102,7 +102,7 @@ none-tried options next onward interrupting (k ∷ ks) cells h is by e =
 one-tried : (options : ParseOptions) (next onward : Rule) (interrupting : Bool) (ks : List ContainerKind)
     (cells : List Cell) (h : Here) (t : Passed) →
     IsRest h.scratch → interrupting ≡ by_flags h.flags → opens_by options interrupting cells h.point ks ≡ Some t →
-    opens_of options onward (behind_containers options next) ks cells h ≡
+    opens_of options onward (after_containers options next) ks cells h ≡
     onward t.cells (passed_here t (asking_here t.held h))
 one-tried options next onward interrupting [] cells h t is by e = cc
 one-tried options next onward interrupting (k ∷ ks) cells h t is by e =
@@ -111,13 +111,13 @@ one-tried options next onward interrupting (k ∷ ks) cells h t is by e =
   where
     Opens : Type 0
     Opens =
-        opens_of options onward (behind_containers options next) (k ∷ ks) cells h ≡
+        opens_of options onward (after_containers options next) (k ∷ ks) cells h ≡
         onward t.cells (passed_here t (asking_here t.held h))
 
     go : (o : Option Passed) → (container_rules k).opens options interrupting cells h.point ≡ o →
         option_or o (opens_by options interrupting cells h.point ks) ≡ Some t →
         (opens_by options interrupting cells h.point ks ≡ Some t →
-        opens_of options onward (behind_containers options next) ks cells (asking_here (container_of k) h) ≡
+        opens_of options onward (after_containers options next) ks cells (asking_here (container_of k) h) ≡
         onward t.cells (passed_here t (asking_here t.held h))) →
         Opens
     go (Some u) e some more =
@@ -147,7 +147,7 @@ new-one options next interrupting m cells h t is by e =
 pub record Opened (options : ParseOptions) (next : Rule) (cs : List Container) (h : Here) (f : Front)
     (o : Outcome) : Type 0 where
   pub new : Here
-  pub is : o ≡ behind_containers options next f.cells new
+  pub is : o ≡ after_containers options next f.cells new
   pub rest : IsRest new.scratch
   pub events : new.events ≡ h.events ++ f.events
   pub point : new.point ≡ f.point

@@ -3,9 +3,9 @@ use Rattle.md_engine.specs.declared.tokenizer.held_leaf.HeldLeaf.TheVariants as 
 use Rattle.md_engine.specs.declared.tokenizer.held_leaf.HeldLeaf.{HeldLeaf}
 use Rattle.std.proofs.Common.{◌≡◌, ℕ, zero, suc, ◌<◌, ◌≤◌, Bool, true, false, cond, nat_eq, List, [], ◌∷◌, ◌++◌}
 use Rattle.std.proofs.Common.{length, Some, None, refl, sym, ◌∙◌, ap, ap₂, subst, arith, append_assoc}
-use Rattle.proof_rows.specs.Rows.{is_inside, behind_held, Held, after_ending, closes_before, ends_blank, held_at}
-use Rattle.proof_rows.specs.Rows.{leaf_events, opened_prefixes, no_front, row_events, inside_of, row_kind, row_of, rows_at}
-use Rattle.proof_rows.specs.Rows.{rows_events, continued_prefixes}
+use Rattle.proof_rows.specs.Rows.{is_inside, after_held, Held, after_ending, closes_before, ends_blank, held_at}
+use Rattle.proof_rows.specs.Rows.{leaf_events, opened_prefixes, no_front, row_events, inside_of, row_kind, row_of}
+use Rattle.proof_rows.specs.Rows.{rows_at, rows_events, continued_prefixes}
 use Rattle.std.proofs.Math.Seq.{drop-length, take-length}
 use Rattle.md_engine.specs.declared.configuration.ParseOptions.{ParseOptions}
 use Rattle.md_engine.specs.declared.event.Event.{Event}
@@ -18,17 +18,17 @@ use Rattle.md_events.specs.Ahead.{from_ending, line_end}
 use Rattle.md_events.specs.Events.Nested.{enter, exit, pair}
 use Rattle.md_events.specs.Spaces.{IsRest, any_size}
 use Rattle.md_meaning.specs.State.{Container}
-use Rattle.proof_frame.specs.Change.{ends_of, interrupts, open_behind, others_of}
+use Rattle.proof_frame.specs.Change.{ends_of, interrupts, open_following, others_of}
 use Rattle.proof_frame.specs.Rule.{Rule}
 use Rattle.md_registry.specs.FlowRule.{ended, ended_to, flow_at, flow_lines, line_then}
 use Rattle.proof_frame.specs.EndingName.{ending_name}
 use Rattle.md_registry.specs.LineFlags.{next_line}
 use Rattle.md_registry.specs.Registry.{leaf}
 use Rattle.proof_frame.specs.Row.{BlankRow, LeafRow, Row, RowKind, TextRow, ending_of, is_blank_by}
-use Rattle.proof_rows.specs.Stands.{AreOpen}
+use Rattle.proof_rows.specs.Valid.{AreOpen}
 use Rattle.proof_rows.proofs.FlowLeaf.{added_by, blank_by}
-use Rattle.proof_rows.proofs.FlowHeld.{ends-are, ends-behind, ends-none}
-use Rattle.proof_rows.proofs.FlowContinues.{went-shorter}
+use Rattle.proof_rows.proofs.FlowHeld.{ends-are, ends-following, ends-none}
+use Rattle.proof_rows.proofs.FlowContinues.{proceeded-shorter}
 use Rattle.proof_rows.proofs.FlowOpens.{new-shorter}
 use Rattle.proof_rows.proofs.FlowLine.{Begins, Done, line-done}
 use Rattle.md_containers.proofs.QuoteCells.{ending-shorter}
@@ -102,7 +102,7 @@ next-begins cs still c h is held are = record {
   blank = refl;
   line_end = refl;
   ends =
-      ends-behind (length h.flags.containers) (enter (ending_name h.flags.blank) h.point)
+      ends-following (length h.flags.containers) (enter (ending_name h.flags.blank) h.point)
       (exit (ending_name h.flags.blank) c.after ∷ []);
 }
 
@@ -142,7 +142,7 @@ pub held-shorter : (options : ParseOptions) (cs : List Container) (still : HeldL
 unfolding held_at
 held-shorter options cs still cells p =
     let w = continued_prefixes options cs cells p in
-    let most = went-shorter options cs cells p in
+    let most = proceeded-shorter options cs cells p in
     go (is_inside still (others_of cs w.containers)) most
     (new-shorter options (interrupts still (others_of cs w.containers)) (length w.cells) w.cells w.point)
   where
@@ -167,10 +167,10 @@ pub row-adds : (next : Rule) (options : ParseOptions) (front tail : List Event) 
     d.new.events ++ (ends_of ls d.new.point ++ (ending_here (ending_name d.new.flags.blank) d.new.point left ++ more)) ≡
     front ++ (ends_of x.change.closes p ++ (tail ++ (row_events (leaving ls (row_of options x below)) ++ more)))
 row-adds next options front tail p x o d ls left below more e =
-    ap (λ (cells : List Cell). d.new.events ++ behind cells d.new.point (ending_name d.new.flags.blank)) (sym e)
-    ∙ ap (λ (q : Point). d.new.events ++ behind (from_ending x.cells) q (ending_name d.new.flags.blank)) d.point
+    ap (λ (cells : List Cell). d.new.events ++ following cells d.new.point (ending_name d.new.flags.blank)) (sym e)
+    ∙ ap (λ (q : Point). d.new.events ++ following (from_ending x.cells) q (ending_name d.new.flags.blank)) d.point
     ∙ ap₂
-    (λ (es : List Event) (name : Name). es ++ behind (from_ending x.cells) (line_end x.cells x.point) name) d.events
+    (λ (es : List Event) (name : Name). es ++ following (from_ending x.cells) (line_end x.cells x.point) name) d.events
     (ap ending_name (d.blank ∙ ending-named options x ls below k))
     ∙ regroup-row front (ends_of x.change.closes p) tail x.front (added_by options x.on x.cells x.point k)
     (ends_of ls (line_end x.cells x.point))
@@ -189,8 +189,8 @@ row-adds next options front tail p x o d ls left below more e =
     row : Row
     row = leaving ls (row_of options x below)
 
-    behind : List Cell → Point → Name → List Event
-    behind cells q name = ends_of ls q ++ (ending_here name q cells ++ more)
+    following : List Cell → Point → Name → List Event
+    following cells q name = ends_of ls q ++ (ending_here name q cells ++ more)
 
 -- flow adds the events of the rows, and before the ending of the line before them the ends of the containers that the
 -- first row closes
@@ -198,12 +198,12 @@ flow-adds : (options : ParseOptions) (m : ℕ) → m ≤ suc any_size → Adds o
 unfolding flow_lines
 flow-adds options zero most front tail p cs still cells h new rest fits b e = absurd (omega arith)
 flow-adds options (suc m) most front tail p cs still cells h new rest fits b e =
-    ended-adds options m (flow_lines options m) (flow-adds options m (omega (arith, most))) (open_behind x.change)
-    (behind_held options x) left d.new new rest
+    ended-adds options m (flow_lines options m) (flow-adds options m (omega (arith, most))) (open_following x.change)
+    (after_held options x) left d.new new rest
     (omega (arith, ending-shorter x.cells, held-shorter options cs still cells h.point)) d.rest d.leaf d.containers
     (sym d.is ∙ e)
     ∙ row-adds (flow_lines options m) options front tail p x (line_then options (flow_lines options m) cells h) d
-    (closes_before (open_behind x.change) below) left below (rows_events below) refl
+    (closes_before (open_following x.change) below) left below (rows_events below) refl
   where
     d : Done (flow_lines options m) options front tail p (held_at options cs still cells h.point)
         (line_then options (flow_lines options m) cells h)
@@ -216,7 +216,7 @@ flow-adds options (suc m) most front tail p cs still cells h new rest fits b e =
     left = from_ending (held_at options cs still cells h.point).cells
 
     below : List Row
-    below = rows_below options m (open_behind x.change) (behind_held options x) left
+    below = rows_below options m (open_following x.change) (after_held options x) left
 
 -- before the first line no container ends
 pub no-closes : (options : ParseOptions) (cells : List Cell) (p : Point) →

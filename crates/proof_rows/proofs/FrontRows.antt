@@ -3,11 +3,11 @@
 use Rattle.md_engine.specs.declared.tokenizer.held_leaf.HeldLeaf.{HeldLeaf}
 use Rattle.std.proofs.Common.{◌≡◌, ℕ, zero, suc, ◌^◌, ◌<◌, ◌≤◌, Bool, true, false, List}
 use Rattle.std.proofs.Common.{[], ◌∷◌, ◌++◌, length, Option, cond}
-use Rattle.proof_rows.specs.Rows.{is_inside, new_behind, Front, Held, held_at, held_behind, held_by, in_front, is_lazy}
+use Rattle.proof_rows.specs.Rows.{is_inside, new_after, Front, Held, held_at, held_after, held_by, in_front, is_lazy}
 use Rattle.proof_rows.specs.Rows.{line_kind, opened_prefixes, no_front, row_kind, continued_prefixes}
-use Rattle.proof_rows.specs.Fronted.{prefixes_behind, Contained, Prefixed, contained, contained_behind, contained_by}
+use Rattle.proof_rows.specs.Fronted.{prefixes_after, Contained, Prefixed, contained, contained_after, contained_by}
 use Rattle.proof_rows.specs.Fronted.{contained_of, no_prefix, one_more, prefixes_new, prefixes_on}
-use Rattle.proof_frame.specs.Change.{against, change_by, interrupts, open_behind, others_of}
+use Rattle.proof_frame.specs.Change.{against, change_by, interrupts, open_following, others_of}
 use Rattle.std.proofs.Common.{Some, None, refl, sym, ap, ap₂, ◌∙◌, subst, arith, append_assoc}
 use Rattle.md_engine.specs.declared.configuration.ParseOptions.{ParseOptions}
 use Rattle.md_engine.specs.declared.event.Event.{Event}
@@ -23,14 +23,14 @@ use Rattle.md_events.proofs.RestCells.{RestAt, past_rest, rest_cells}
 use Rattle.md_meaning.proofs.TextsLemmas.{NoEnding}
 use Rattle.proof_rows.specs.WithoutMdx.{IsWithoutMdx}
 use Rattle.proof_frame.specs.Passed.{Passed}
-use Rattle.md_registry.specs.Registry.{goes_at, opens_at}
+use Rattle.md_registry.specs.Registry.{proceeds_at, opens_at}
 use Rattle.proof_rows.proofs.ContainedLemmas.{change-opens}
-use Rattle.proof_frame.proofs.FrontFacts.{Behind, Begins, Goes, LinePrefix, ReadFront, front_read-begins}
-use Rattle.proof_frame.proofs.FrontFacts.{front_read-goes, front_read-none}
+use Rattle.proof_frame.proofs.FrontFacts.{Following, Begins, Proceeds, LinePrefix, ReadFront, front_read-begins}
+use Rattle.proof_frame.proofs.FrontFacts.{front_read-proceeds, front_read-none}
 use Rattle.proof_rows.proofs.RowKinds.{kind-rest}
 use Rattle.proof_frame.proofs.RegistryRead.{AreRead, read-append, read-drop}
 use Rattle.proof_frame.proofs.PassedFacts.{Agree, HasFurther, HasOpening, HasPassed}
-use Rattle.md_registry.proofs.RegistryContainers.{goes-agrees, opens-agrees}
+use Rattle.md_registry.proofs.RegistryContainers.{proceeds-agrees, opens-agrees}
 
 -- What is before a line.
 
@@ -40,7 +40,7 @@ record HasFront (line : Line) (text past : List ℕ) (end : Point) (stop cells :
   containers : f.containers ≡ q.containers
   read : AreRead f.containers
   fed : f.cells ≡ rest_cells line q.rest f.point ++ stop
-  stands : RestAt text past q.rest f.point
+  valid : RestAt text past q.rest f.point
   ends : past_rest q.rest f.point ≡ end
   no_ending : NoEnding q.rest.bytes
   shorter : length f.cells ≤ length cells
@@ -53,7 +53,7 @@ front-none line text past r stop p is h = record {
   containers = refl;
   read = tt;
   fed = refl;
-  stands = is;
+  valid = is;
   ends = refl;
   no_ending = h;
   shorter = omega arith;
@@ -67,14 +67,14 @@ front-more line text past end stop cells a t f q one is = record {
   containers = ap₂ (λ (c : Container) (cs : List Container). c ∷ cs) one.container is.containers;
   read = (one.read, is.read);
   fed = is.fed;
-  stands = is.stands;
+  valid = is.valid;
   ends = is.ends ∙ one.ends;
   no_ending = is.no_ending;
   shorter = let le = is.shorter in let ge = one.shorter in omega arith;
 }
 
 -- those that continue: more may be after them
-record HasWent (line : Line) (text past : List ℕ) (p end : Point) (stop cells : List Cell) (f : Front)
+record HasProceeded (line : Line) (text past : List ℕ) (p end : Point) (stop cells : List Cell) (f : Front)
     (q : Prefixed) : Type 0 where
   front : HasFront line text past end stop cells f q
   fronts : (opens : List Container) (r : Point) (es : List Event) → LinePrefix text opens f.point r es →
@@ -82,42 +82,42 @@ record HasWent (line : Line) (text past : List ℕ) (p end : Point) (stop cells 
   fronts_read : (opens : List Container) (r : Point) (es : List Event) → ReadFront text opens f.point r es →
       ReadFront text opens p r (f.events ++ es)
 
-went-none : (line : Line) (text past : List ℕ) (r : Rest) (stop : List Cell) (p : Point) → RestAt text past r p →
+proceeded-none : (line : Line) (text past : List ℕ) (r : Rest) (stop : List Cell) (p : Point) → RestAt text past r p →
     NoEnding r.bytes →
-    HasWent line text past p (past_rest r p) stop (rest_cells line r p ++ stop)
+    HasProceeded line text past p (past_rest r p) stop (rest_cells line r p ++ stop)
     (no_front (rest_cells line r p ++ stop) p) (no_prefix r)
-went-none line text past r stop p is h = record {
+proceeded-none line text past r stop p is h = record {
   front = front-none line text past r stop p is h;
   fronts = λ opens q es fs. fs;
   fronts_read = λ opens q es fs. fs;
 }
 
-went-more : (line : Line) (text past : List ℕ) (p end : Point) (stop cells : List Cell) (a : Passed) (t : Taken)
+proceeded-more : (line : Line) (text past : List ℕ) (p end : Point) (stop cells : List Cell) (a : Passed) (t : Taken)
     (f : Front) (q : Prefixed) →
     HasFurther line text past p end stop cells a t →
-    HasWent line text past a.point (past_rest t.rest a.point) stop a.cells f q →
-    HasWent line text past p end stop cells (in_front a f) (one_more t.container q)
-went-more line text past p end stop cells a t f q one is = record {
+    HasProceeded line text past a.point (past_rest t.rest a.point) stop a.cells f q →
+    HasProceeded line text past p end stop cells (in_front a f) (one_more t.container q)
+proceeded-more line text past p end stop cells a t f q one is = record {
   front = front-more line text past end stop cells a t f q one.passes is.front;
   fronts =
       λ opens r es fs. subst (LinePrefix text opens p r) (sym (append_assoc a.events f.events es))
-      (Goes opens p a.point r a.events (f.events ++ es) one.further (is.fronts opens r es fs));
+      (Proceeds opens p a.point r a.events (f.events ++ es) one.further (is.fronts opens r es fs));
   fronts_read =
       λ opens r es fs. subst (ReadFront text opens p r) (sym (append_assoc a.events f.events es))
-      (front_read-goes text opens p a.point r a.events (f.events ++ es) one.further (is.fronts_read opens r es fs));
+      (front_read-proceeds text opens p a.point r a.events (f.events ++ es) one.further (is.fronts_read opens r es fs));
 }
 
-went-is : (options : ParseOptions) (line : Line) (text past : List ℕ) (cs : List Container) (r : Rest)
+proceeded-is : (options : ParseOptions) (line : Line) (text past : List ℕ) (cs : List Container) (r : Rest)
     (stop : List Cell) (p : Point) →
     AreRead cs → RestAt text past r p → NoEnding r.bytes → Stops stop → length (rest_cells line r p ++ stop) < 2 ^ 63 →
-    HasWent line text past p (past_rest r p) stop (rest_cells line r p ++ stop)
+    HasProceeded line text past p (past_rest r p) stop (rest_cells line r p ++ stop)
     (continued_prefixes options cs (rest_cells line r p ++ stop) p) (prefixes_on options cs r)
-went-is options line text past [] r stop p read is h k short = went-none line text past r stop p is h
-went-is options line text past (c ∷ cs) r stop p read is h k short =
-    go (goes_at options c cells p) (continues options c r)
-    (goes-agrees options c read.0 line text past r stop p is h k short)
+proceeded-is options line text past [] r stop p read is h k short = proceeded-none line text past r stop p is h
+proceeded-is options line text past (c ∷ cs) r stop p read is h k short =
+    go (proceeds_at options c cells p) (continues options c r)
+    (proceeds-agrees options c read.0 line text past r stop p is h k short)
     (λ (s : Rest) (u : Point) (at : RestAt text past s u) (none : NoEnding s.bytes)
-    (few : length (rest_cells line s u ++ stop) < 2 ^ 63). went-is options line text past cs s stop u read.1
+    (few : length (rest_cells line s u ++ stop) < 2 ^ 63). proceeded-is options line text past cs s stop u read.1
     at none k few)
   where
     cells : List Cell
@@ -128,28 +128,28 @@ went-is options line text past (c ∷ cs) r stop p read is h k short =
     Further =
         (s : Rest) (u : Point) → RestAt text past s u → NoEnding s.bytes →
         length (rest_cells line s u ++ stop) < 2 ^ 63 →
-        HasWent line text past u (past_rest s u) stop (rest_cells line s u ++ stop)
+        HasProceeded line text past u (past_rest s u) stop (rest_cells line s u ++ stop)
         (continued_prefixes options cs (rest_cells line s u ++ stop) u) (prefixes_on options cs s)
 
     go : (passed : Option Passed) (taken : Option Taken) →
         Agree (HasFurther line text past p (past_rest r p) stop cells) passed taken → Further →
-        HasWent line text past p (past_rest r p) stop cells
+        HasProceeded line text past p (past_rest r p) stop cells
         (elim passed [ None ↦ no_front cells p | Some a ↦ in_front a (continued_prefixes options cs a.cells a.point) ])
         (elim taken [ None ↦ no_prefix r | Some t ↦ one_more t.container (prefixes_on options cs t.rest) ])
-    go None None has more = went-none line text past r stop p is h
+    go None None has more = proceeded-none line text past r stop p is h
     go None (Some t) has more = absurd has
     go (Some a) None has more = absurd has
     go (Some a) (Some t) has more =
         let one = has.passes in
         let size = ap length one.fed in
         let le = one.shorter in
-        went-more line text past p (past_rest r p) stop cells a t (continued_prefixes options cs a.cells a.point)
+        proceeded-more line text past p (past_rest r p) stop cells a t (continued_prefixes options cs a.cells a.point)
         (prefixes_on options cs t.rest) has
         (subst
         (λ (l : List Cell).
-        HasWent line text past a.point (past_rest t.rest a.point) stop l (continued_prefixes options cs l a.point)
+        HasProceeded line text past a.point (past_rest t.rest a.point) stop l (continued_prefixes options cs l a.point)
         (prefixes_on options cs t.rest))
-        (sym one.fed) (more t.rest a.point one.stands one.no_ending (omega (arith, size, le, short))))
+        (sym one.fed) (more t.rest a.point one.valid one.no_ending (omega (arith, size, le, short))))
 
 -- those that open
 record HasNew (line : Line) (text past : List ℕ) (p end : Point) (stop cells : List Cell) (f : Front)
@@ -164,7 +164,7 @@ new-none : (line : Line) (text past : List ℕ) (r : Rest) (stop : List Cell) (p
     (no_front (rest_cells line r p ++ stop) p) (no_prefix r)
 new-none line text past r stop p is h = record {
   front = front-none line text past r stop p is h;
-  fronts = Behind p;
+  fronts = Following p;
   fronts_read = front_read-none text p;
 }
 
@@ -274,7 +274,7 @@ new-is options interrupting line text past (suc room) (suc size) r stop p built 
         (prefixes_new options false size t.rest) has
         (subst (λ (l : List Cell). HasNew line text past a.point (past_rest t.rest a.point) stop l
         (opened_prefixes options false room l a.point) (prefixes_new options false size t.rest)) (sym one.fed)
-        (more t.rest a.point one.stands one.no_ending (omega (arith, long, lt, short)) (omega (arith, long, lt, some))
+        (more t.rest a.point one.valid one.no_ending (omega (arith, long, lt, short)) (omega (arith, long, lt, some))
         (omega (arith, fewer, few))))
 
 -- The containers of a line.
@@ -284,111 +284,116 @@ pub record HasHeld (line : Line) (text past : List ℕ) (p end : Point) (stop ce
     (c : Contained) : Type 0 where
   pub change : h.change ≡ c.change
   pub on : h.on ≡ c.on
-  pub read : AreRead (open_behind h.change)
+  pub read : AreRead (open_following h.change)
   pub fed : h.cells ≡ rest_cells line c.rest h.point ++ stop
-  pub stands : RestAt text past c.rest h.point
+  pub valid : RestAt text past c.rest h.point
   pub ends : past_rest c.rest h.point ≡ end
   pub no_ending : NoEnding c.rest.bytes
   pub front : LinePrefix text h.change.opens p h.point h.front
   pub front_read : ReadFront text h.change.opens p h.point h.front
   pub shorter : length h.cells ≤ length cells
 
-read-behind : (lazy : Bool) (went others opens : List Container) → AreRead went → AreRead others → AreRead opens →
-    AreRead (open_behind (change_by lazy went others opens))
-read-behind true went others opens a b c = read-append (went ++ others) opens (read-append went others a b) c
-read-behind false went others opens a b c = read-append went opens a c
+read-following : (lazy : Bool) (proceeded others opens : List Container) → AreRead proceeded → AreRead others →
+    AreRead opens →
+    AreRead (open_following (change_by lazy proceeded others opens))
+read-following true proceeded others opens a b c = read-append (proceeded ++ others) opens
+    (read-append proceeded others a b) c
+read-following false proceeded others opens a b c = read-append proceeded opens a c
 
 held-by : (line : Line) (text past : List ℕ) (p end : Point) (stop cells : List Cell) (cs : List Container)
-    (lazy : Bool) (leaf kept : HeldLeaf) (went new : Front) (on more : Prefixed) →
-    AreRead cs → leaf ≡ kept → HasWent line text past p end stop cells went on →
-    HasNew line text past went.point (past_rest on.rest went.point) stop went.cells new more →
-    HasHeld line text past p end stop cells (held_by cs lazy leaf went new) (contained_by cs lazy kept on more)
-held-by line text past p end stop cells cs lazy leaf kept went new on more read same a b = record {
+    (lazy : Bool) (leaf kept : HeldLeaf) (proceeded new : Front) (on more : Prefixed) →
+    AreRead cs → leaf ≡ kept → HasProceeded line text past p end stop cells proceeded on →
+    HasNew line text past proceeded.point (past_rest on.rest proceeded.point) stop proceeded.cells new more →
+    HasHeld line text past p end stop cells (held_by cs lazy leaf proceeded new) (contained_by cs lazy kept on more)
+held-by line text past p end stop cells cs lazy leaf kept proceeded new on more read same a b = record {
   on = same;
   change = ap₂ (λ (w o : List Container). change_by lazy w (others_of cs w) o) a.front.containers b.front.containers;
   read =
-      read-behind lazy went.containers (others_of cs went.containers) new.containers a.front.read
-      (read-drop (length went.containers) cs read) b.front.read;
+      read-following lazy proceeded.containers (others_of cs proceeded.containers) new.containers a.front.read
+      (read-drop (length proceeded.containers) cs read) b.front.read;
   fed = b.front.fed;
-  stands = b.front.stands;
+  valid = b.front.valid;
   ends = b.front.ends ∙ a.front.ends;
   no_ending = b.front.no_ending;
   front =
-      subst (λ (opens : List Container). LinePrefix text opens p new.point (went.events ++ new.events))
-      (sym (change-opens lazy went.containers (others_of cs went.containers) new.containers))
+      subst (λ (opens : List Container). LinePrefix text opens p new.point (proceeded.events ++ new.events))
+      (sym (change-opens lazy proceeded.containers (others_of cs proceeded.containers) new.containers))
       (a.fronts new.containers new.point new.events b.fronts);
   front_read =
-      subst (λ (opens : List Container). ReadFront text opens p new.point (went.events ++ new.events))
-      (sym (change-opens lazy went.containers (others_of cs went.containers) new.containers))
+      subst (λ (opens : List Container). ReadFront text opens p new.point (proceeded.events ++ new.events))
+      (sym (change-opens lazy proceeded.containers (others_of cs proceeded.containers) new.containers))
       (a.fronts_read new.containers new.point new.events b.fronts_read);
   shorter = let le = a.front.shorter in let ge = b.front.shorter in omega arith;
 }
 
 -- where none may open
-new-inside : (line : Line) (text past : List ℕ) (went : Front) (on : Prefixed) (stop : List Cell) (new : Front)
+new-inside : (line : Line) (text past : List ℕ) (proceeded : Front) (on : Prefixed) (stop : List Cell) (new : Front)
     (more : Prefixed) →
-    went.cells ≡ rest_cells line on.rest went.point ++ stop → RestAt text past on.rest went.point →
+    proceeded.cells ≡ rest_cells line on.rest proceeded.point ++ stop → RestAt text past on.rest proceeded.point →
     NoEnding on.rest.bytes → (inside : Bool) →
-    HasNew line text past went.point (past_rest on.rest went.point) stop went.cells new more →
-    HasNew line text past went.point (past_rest on.rest went.point) stop went.cells
-    (cond inside (no_front went.cells went.point) new) (cond inside (no_prefix on.rest) more)
-new-inside line text past went on stop new more fed at none true has =
+    HasNew line text past proceeded.point (past_rest on.rest proceeded.point) stop proceeded.cells new more →
+    HasNew line text past proceeded.point (past_rest on.rest proceeded.point) stop proceeded.cells
+    (cond inside (no_front proceeded.cells proceeded.point) new) (cond inside (no_prefix on.rest) more)
+new-inside line text past proceeded on stop new more fed at none true has =
     subst
     (λ (l : List Cell).
-    HasNew line text past went.point (past_rest on.rest went.point) stop l (no_front l went.point) (no_prefix on.rest))
-    (sym fed) (new-none line text past on.rest stop went.point at none)
-new-inside line text past went on stop new more fed at none false has = has
+    HasNew line text past proceeded.point (past_rest on.rest proceeded.point) stop l (no_front l proceeded.point)
+    (no_prefix on.rest))
+    (sym fed) (new-none line text past on.rest stop proceeded.point at none)
+new-inside line text past proceeded on stop new more fed at none false has = has
 
-held-behind : (options : ParseOptions) (line : Line) (text past : List ℕ) (p end : Point) (stop cells : List Cell)
-    (cs : List Container) (still : HeldLeaf) (went : Front) (on : Prefixed) →
+held-following : (options : ParseOptions) (line : Line) (text past : List ℕ) (p end : Point) (stop cells : List Cell)
+    (cs : List Container) (still : HeldLeaf) (proceeded : Front) (on : Prefixed) →
     IsWithoutMdx options → AreRead cs → Stops stop → length cells < 2 ^ 63 →
-    HasWent line text past p end stop cells went on →
-    HasHeld line text past p end stop cells (held_behind options cs still went)
-    (contained_behind options cs still on)
-held-behind options line text past p end stop cells cs still went on built read k short is =
+    HasProceeded line text past p end stop cells proceeded on →
+    HasHeld line text past p end stop cells (held_after options cs still proceeded)
+    (contained_after options cs still on)
+held-following options line text past p end stop cells cs still proceeded on built read k short is =
     let le = is.front.shorter in
     let size = ap length is.front.fed in
-    let interrupting : Bool = interrupts still (others_of cs went.containers) in
-    let inside : Bool = is_inside still (others_of cs went.containers) in
-    let new : Front = new_behind options still (others_of cs went.containers) went in
+    let interrupting : Bool = interrupts still (others_of cs proceeded.containers) in
+    let inside : Bool = is_inside still (others_of cs proceeded.containers) in
+    let new : Front = new_after options still (others_of cs proceeded.containers) proceeded in
     let more : Prefixed =
     cond inside (no_prefix on.rest) (prefixes_new options interrupting (length on.rest.bytes) on.rest) in
-    let opened : HasNew line text past went.point (past_rest on.rest went.point) stop went.cells new more =
-    new-inside line text past went on stop
-    (opened_prefixes options interrupting (length went.cells) went.cells went.point)
-    (prefixes_new options interrupting (length on.rest.bytes) on.rest) is.front.fed is.front.stands is.front.no_ending
+    let opened : HasNew line text past proceeded.point (past_rest on.rest proceeded.point) stop
+    proceeded.cells new more =
+    new-inside line text past proceeded on stop
+    (opened_prefixes options interrupting (length proceeded.cells) proceeded.cells proceeded.point)
+    (prefixes_new options interrupting (length on.rest.bytes) on.rest) is.front.fed is.front.valid is.front.no_ending
     inside
     (subst
     (λ (l : List Cell).
-    HasNew line text past went.point (past_rest on.rest went.point) stop l
-    (opened_prefixes options interrupting (length l) l went.point)
+    HasNew line text past proceeded.point (past_rest on.rest proceeded.point) stop l
+    (opened_prefixes options interrupting (length l) l proceeded.point)
     (prefixes_new options interrupting (length on.rest.bytes) on.rest))
     (sym is.front.fed)
-    (new-is options interrupting line text past (length (rest_cells line on.rest went.point ++ stop))
-    (length on.rest.bytes) on.rest stop went.point built is.front.stands is.front.no_ending k
+    (new-is options interrupting line text past (length (rest_cells line on.rest proceeded.point ++ stop))
+    (length on.rest.bytes) on.rest stop proceeded.point built is.front.valid is.front.no_ending k
     (omega (arith, le, size, short)) (omega arith) (omega arith))) in
     let shorter = opened.front.shorter in
     let few = ap length opened.front.fed in
-    let leaf : HeldLeaf = against still (others_of cs went.containers) new.containers in
+    let leaf : HeldLeaf = against still (others_of cs proceeded.containers) new.containers in
     let kept : HeldLeaf = against still (others_of cs on.containers) more.containers in
     let meets : leaf ≡ kept =
     ap₂ (λ (w o : List Container). against still (others_of cs w) o) is.front.containers opened.front.containers in
     let kind : row_kind options leaf new.cells ≡ line_kind options kept more.rest =
     ap₂ (row_kind options) meets opened.front.fed
-    ∙ kind-rest options kept line text past more.rest new.point stop opened.front.stands opened.front.no_ending k
+    ∙ kind-rest options kept line text past more.rest new.point stop opened.front.valid opened.front.no_ending k
     (omega (arith, le, shorter, few, short)) in
     let lazy : is_lazy still new.containers (row_kind options leaf new.cells) ≡
     is_lazy still more.containers (line_kind options kept more.rest) = ap₂
     (is_lazy still) opened.front.containers kind in
-    let behind : contained_of options cs still on more ≡ contained_behind options cs still on =
+    let following : contained_of options cs still on more ≡ contained_after options cs still on =
     ap
     (λ (w : List Container).
-    contained_of options cs still on (prefixes_behind options still (others_of cs w) on)) is.front.containers in
-    subst (HasHeld line text past p end stop cells (held_behind options cs still went)) behind
-    (subst (λ (x : Bool). HasHeld line text past p end stop cells (held_behind options cs still went)
+    contained_of options cs still on (prefixes_after options still (others_of cs w) on)) is.front.containers in
+    subst (HasHeld line text past p end stop cells (held_after options cs still proceeded)) following
+    (subst (λ (x : Bool). HasHeld line text past p end stop cells (held_after options cs still proceeded)
     (contained_by cs x kept on more)) lazy
     (held-by line text past p end stop cells cs
-    (is_lazy still new.containers (row_kind options leaf new.cells)) leaf kept went new on more read meets is opened))
+    (is_lazy still new.containers (row_kind options leaf new.cells)) leaf kept proceeded new on more read
+    meets is opened))
 
 -- which containers continue and open on a line, what is before it, and what is left of it
 pub held-is : (options : ParseOptions) (line : Line) (text past : List ℕ) (cs : List Container) (still : HeldLeaf)
@@ -399,6 +404,6 @@ pub held-is : (options : ParseOptions) (line : Line) (text past : List ℕ) (cs 
     (held_at options cs still (rest_cells line r p ++ stop) p) (contained options cs still r)
 unfolding held_at contained
 held-is options line text past cs still r stop p built read is h k short =
-    held-behind options line text past p (past_rest r p) stop (rest_cells line r p ++ stop) cs still
+    held-following options line text past p (past_rest r p) stop (rest_cells line r p ++ stop) cs still
     (continued_prefixes options cs (rest_cells line r p ++ stop) p) (prefixes_on options cs r) built read k short
-    (went-is options line text past cs r stop p read is h k short)
+    (proceeded-is options line text past cs r stop p read is h k short)

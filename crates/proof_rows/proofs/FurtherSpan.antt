@@ -6,14 +6,14 @@ use Rattle.std.specs.Option.{is_some}
 use Rattle.md_engine.specs.declared.configuration.ParseOptions.{ParseOptions}
 use Rattle.md_engine.specs.declared.tokenizer.held_leaf.HeldLeaf.{HeldLeaf}
 use Rattle.md_engine.specs.declared.tokenizer.held_leaf.HeldLeaf.TheVariants as held_leaf
-use Rattle.md_meaning.specs.Leaves.{LeafResult, NoText, goes_on, starts}
+use Rattle.md_meaning.specs.Leaves.{LeafResult, NoText, is_continued, starts}
 use Rattle.md_meaning.specs.Rest.{Rest, is_blank}
 use Rattle.md_meaning.specs.State.{Leaf, NoLeaf, OpenCode, OpenFence, OpenHtml, OpenParagraph, OpenTable, then_leaf}
 use Rattle.md_meaning.specs.Step.{is_concrete, with_lazy}
 use Rattle.md_meaning.specs.Tree.{Blocks, Table}
 use Rattle.md_leaves.specs.HeadingSetext.{is_text}
 use Rattle.md_outline.specs.HeadingDepths.{are_shallow}
-use Rattle.proof_frame.specs.HeldLeaf.{has_lines, kind_of_leaf, left_by, may_go_on, met_by, takes_lazy}
+use Rattle.proof_frame.specs.HeldLeaf.{has_lines, kind_of_leaf, left_by, may_continue, met_by, takes_lazy}
 use Rattle.proof_table_laws.specs.Leaf.GfmTable.{table_leaf}
 use Rattle.proof_frame.specs.LeafName.{GfmTable, LeafName, first_of}
 use Rattle.proof_frame.specs.Leaf.Paragraph.{open_lines}
@@ -21,10 +21,10 @@ use Rattle.md_registry.specs.OpenSpan.{IsBuiltLeaf, IsOpenSpan}
 use Rattle.md_registry.specs.Registry.{further_of, asked_first, leaf, bars_containers}
 use Rattle.proof_frame.specs.Row.{BlankRow, LeafRow, RowKind, TextRow}
 use Rattle.proof_rows.specs.Rows.{inside_or, is_further, kind_of, line_kind}
-use Rattle.proof_table_laws.proofs.GfmTable.Found.{table-goes}
+use Rattle.proof_table_laws.proofs.GfmTable.Found.{table-proceeds}
 use Rattle.proof_rows.proofs.KindLemmas.{kind-plain, kind-starts}
-use Rattle.md_registry.proofs.OpenSpan.{ComesShallow, OpenSpan}
-use Rattle.md_registry.proofs.LeafStarts.{IsAgainst, came_of, leaf_at}
+use Rattle.md_registry.proofs.OpenSpan.{BecomesShallow, OpenSpan}
+use Rattle.md_registry.proofs.LeafStarts.{IsAgainst, result_of, leaf_at}
 use Rattle.md_registry.proofs.SpanLeaves.{code-open, fence-open, html-open}
 use Rattle.md_registry.proofs.Registry.{bars_containers-none, insider-open, laws, text-laws}
 use Rattle.proof_rows.proofs.RegistryFound.{or_table, other_at, other_trials, table-last, untabled-at, untext-found}
@@ -32,7 +32,7 @@ use Rattle.proof_frame.proofs.ShallowBlocks.{shallow-then}
 use Rattle.proof_rows.proofs.TableStarts.{asked-untabled}
 
 -- A line that meets no leaf on which it may go, and no text, continues none.
-pub none-further : (options : ParseOptions) (on : HeldLeaf) (r : Rest) → may_go_on on ≡ false →
+pub none-further : (options : ParseOptions) (on : HeldLeaf) (r : Rest) → may_continue on ≡ false →
     is_further (line_kind options on r) on ≡ false
 none-further options on r none = go (line_kind options on r) refl
   where
@@ -111,12 +111,12 @@ pub record FurtherSpan (open_leaf : Leaf) : Type 0 where
   pub kind : (options : ParseOptions) (r : Rest) →
       line_kind options (kind_of_leaf open_leaf) r ≡
       cond (takes options r) (LeafRow name) (other_kind options (kind_of_leaf open_leaf) r)
-  pub goes : (options : ParseOptions) (r : Rest) →
-      goes_on options open_leaf r ≡ cond (takes options r) (Some ((leaf name).comes options open_leaf r)) None
+  pub proceeds : (options : ParseOptions) (r : Rest) →
+      is_continued options open_leaf r ≡ cond (takes options r) (Some ((leaf name).becomes options open_leaf r)) None
   -- that may be open, and an outline can show it
   pub built : (options : ParseOptions) (r : Rest) → (leaf name).starts options (kind_of_leaf open_leaf) r ≡ true →
-      IsBuiltLeaf (left_by ((leaf name).comes options open_leaf r))
-  pub shallow : (options : ParseOptions) (r : Rest) → ComesShallow ((leaf name).comes options open_leaf r)
+      IsBuiltLeaf (left_by ((leaf name).becomes options open_leaf r))
+  pub shallow : (options : ParseOptions) (r : Rest) → BecomesShallow ((leaf name).becomes options open_leaf r)
   -- so can it where it is closed
   pub closed : (options : ParseOptions) (bs : Blocks) → are_shallow bs ≡ true →
       are_shallow (then_leaf options bs open_leaf) ≡ true
@@ -141,7 +141,7 @@ asked-further open_leaf is = record {
       (λ (o : Option LeafName).
       cond ((leaf is.name).starts options on r) (LeafRow is.name) (cond (is_blank r.bytes) BlankRow (kind_of o)))
       (untabled-at options on r (asked-untabled on is.name is.asked));
-  goes = is.goes;
+  proceeds = is.proceeds;
   built = is.built;
   shallow = is.shallow;
   closed = is.closed;
@@ -166,7 +166,7 @@ table-further delimiter rows = record {
       ∙ ap (λ (o : Option LeafName). cond (is_blank r.bytes) BlankRow (kind_of o))
       (table-last options held_leaf.Table r)
       ∙ kind (is_blank r.bytes) (other_at options held_leaf.Table r);
-  goes = λ options r. table-goes options delimiter rows r ∙ goes options r (is_blank r.bytes) refl;
+  proceeds = λ options r. table-proceeds options delimiter rows r ∙ proceeds options r (is_blank r.bytes) refl;
   built = λ options r starts. tt;
   shallow = λ options r bs h. h;
   closed = λ options bs h. shallow-then bs (Table delimiter rows) h refl;
@@ -182,21 +182,21 @@ table-further delimiter rows = record {
     kind false None = refl
     kind false (Some l) = refl
 
-    come : ParseOptions → Rest → LeafResult
-    come options r = table_leaf.comes options (OpenTable delimiter rows) r
+    become : ParseOptions → Rest → LeafResult
+    become options r = table_leaf.becomes options (OpenTable delimiter rows) r
 
     by : (options : ParseOptions) (r : Rest) (o : Option LeafName) →
-        cond (is_some (came_of options r o)) None (Some (come options r)) ≡
-        cond (not (is_some o)) (Some (come options r)) None
+        cond (is_some (result_of options r o)) None (Some (become options r)) ≡
+        cond (not (is_some o)) (Some (become options r)) None
     by options r None = refl
     by options r (Some l) = refl
 
-    goes : (options : ParseOptions) (r : Rest) (x : Bool) → is_blank r.bytes ≡ x →
-        cond (x || is_some (starts options NoText r)) None (Some (come options r)) ≡
-        cond (not x && not (is_some (other_at options held_leaf.Table r))) (Some (come options r)) None
-    goes options r true e = refl
-    goes options r false e =
-        ap (λ (o : Option LeafResult). cond (is_some o) None (Some (come options r)))
+    proceeds : (options : ParseOptions) (r : Rest) (x : Bool) → is_blank r.bytes ≡ x →
+        cond (x || is_some (starts options NoText r)) None (Some (become options r)) ≡
+        cond (not x && not (is_some (other_at options held_leaf.Table r))) (Some (become options r)) None
+    proceeds options r true e = refl
+    proceeds options r false e =
+        ap (λ (o : Option LeafResult). cond (is_some o) None (Some (become options r)))
         (untext-found options held_leaf.Table NoText r refl refl e)
         ∙ by options r (other_at options held_leaf.Table r)
 

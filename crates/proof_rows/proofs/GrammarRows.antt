@@ -15,11 +15,12 @@ use Rattle.md_containers.specs.Unlisted.{keeps_unlisted, unlisted_left}
 use Rattle.md_containers.proofs.UnlistedLemmas.{Unlists, unlists-rest, unlists-same}
 use Rattle.proof_frame.specs.Change.{ends_of}
 use Rattle.proof_frame.specs.Row.{Row, ending_events}
-use Rattle.proof_rows.specs.Rows.{final_row, first_row, front_done, group_done, Group, group_events, groups, groups_events}
-use Rattle.proof_rows.specs.Rows.{tail_events, group_ending, is_blank_group}
+use Rattle.proof_rows.specs.Rows.{final_row, first_row, front_done, group_done, Group, group_events, groups}
+use Rattle.proof_rows.specs.Rows.{groups_events, tail_events, group_ending, is_blank_group}
 use Rattle.proof_rows.specs.BlockList.{group_unread, tabled_group, tabled_groups}
 use Rattle.proof_frame.proofs.ContainerNames.{TakesData, open_names}
-use Rattle.proof_frame.proofs.GrammarFronts.{behind-ends, behinds, behinds-append, blocks_behind, ends-lead, front-leads}
+use Rattle.proof_frame.proofs.GrammarFronts.{following-ends, behinds, behinds-append, blocks_after, ends-lead}
+use Rattle.proof_frame.proofs.GrammarFronts.{front-leads}
 use Rattle.proof_rows.proofs.GroupLines.{EndsBeforeGroups}
 use Rattle.proof_rows.proofs.GroupLemmas.{rows-end}
 use Rattle.proof_rows.proofs.JoinedLemmas.{EachNoContent}
@@ -30,19 +31,19 @@ use Rattle.proof_rows.proofs.RowFacts.{AreRows}
 use Rattle.proof_rows.proofs.GroupFacts.{IsGroupLeaf}
 use Rattle.proof_leaf_laws.proofs.Frontmatter.Whole.{IsText, Leaves, Plain, ToEnd, ToLine, Unread}
 use Rattle.std.proofs.Common.{◌≤◌, length, append-nil}
-use Rattle.proof_frame.proofs.LeafStands.{roles-unlisted}
+use Rattle.proof_frame.proofs.LeafAllowed.{roles-unlisted}
 
 -- Groups, whatever is in text parts.
 
 -- what is in the place of a group, from the front of its first line to the ending of its last: after its leaf, blocks
 -- are left as they are after a block or not
-record Stands (options : ParseOptions) (bytes : List ℕ) (text : Expression) (block : Bool) (group : Group)
+record Valid (options : ParseOptions) (bytes : List ℕ) (text : Expression) (block : Bool) (group : Group)
     (events : List Event) : Type 0 where
   front : List Event
   fronts : (p : Point) → Ordered options bytes p group →
       LinePrefix bytes (first_row group).change.opens p (first_row group).first front
   leaf : List Event
-  leads : Unlists text (blocks ∷ []) (blocks_behind block ∷ []) leaf
+  leads : Unlists text (blocks ∷ []) (blocks_after block ∷ []) leaf
   is : events ≡ front ++ leaf ++ tail_events (group_ending group) (final_row group)
 
 -- the events of groups, by those of each
@@ -54,7 +55,7 @@ all_of each (group ∷ gs) = each group ++ all_of each gs
 abbrev Reads : ParseOptions → List ℕ → Expression → (Group → List Event) → Type 0
 Reads options bytes text each =
     (group : Group) → IsGroupLeaf options bytes group →
-    (block : Bool) × Stands options bytes text block group (each group)
+    (block : Bool) × Valid options bytes text block group (each group)
 
 -- the text is whole after events
 abbrev Whole : Expression → List Expression → List Event → Type 0
@@ -63,9 +64,9 @@ Whole text stack events = is_whole (unlisted_left text stack events) ≡ true
 -- what is left after the leaf of lines
 leaf-left : (options : ParseOptions) (text : Expression) (bytes : List ℕ) (block : Bool) (names : List Name)
     (p : Point) (group : Group) (events more : List Event) →
-    TakesData text → Ordered options bytes p group → Stands options bytes text block group events →
+    TakesData text → Ordered options bytes p group → Valid options bytes text block group events →
     unlisted_left text (blocks ∷ behinds names) (events ++ more) ≡
-    unlisted_left text (blocks_behind block ∷ behinds (open_names (first_row group).change.opens ++ names))
+    unlisted_left text (blocks_after block ∷ behinds (open_names (first_row group).change.opens ++ names))
     (tail_events (group_ending group) (final_row group) ++ more)
 leaf-left options text bytes block names p group events more takes o s =
     let row : Row = first_row group in
@@ -76,42 +77,42 @@ leaf-left options text bytes block names p group events more takes o s =
     ∙ ap (unlisted_left text (blocks ∷ behinds names)) apart
     ∙ unlists-rest text (blocks ∷ []) (blocks ∷ opens) (behinds names) s.front (s.leaf ++ (tail ++ more))
     (front-leads text bytes row.change.opens p row.first s.front takes (s.fronts p o))
-    ∙ unlists-rest text (blocks ∷ []) (blocks_behind block ∷ []) (opens ++ behinds names) s.leaf (tail ++ more) s.leads
-    ∙ ap (λ (l : List Expression). unlisted_left text (blocks_behind block ∷ l) (tail ++ more))
+    ∙ unlists-rest text (blocks ∷ []) (blocks_after block ∷ []) (opens ++ behinds names) s.leaf (tail ++ more) s.leads
+    ∙ ap (λ (l : List Expression). unlisted_left text (blocks_after block ∷ l) (tail ++ more))
     (sym (behinds-append (open_names row.change.opens) names))
 
 -- where nothing follows, nothing is open
 none-whole : (block : Bool) (names : List Name) → is_whole (blocks ∷ behinds names) ≡ true →
-    is_whole (blocks_behind block ∷ behinds names) ≡ true
-none-whole block [] h = behind-ends block
+    is_whole (blocks_after block ∷ behinds names) ≡ true
+none-whole block [] h = following-ends block
 none-whole block (name ∷ names) h = cc
 
 -- after the ends of containers the line ends, if more follows
 ending-whole : (text : Expression) (each : Group → List Event) (block : Bool) (kept : List Name) (row : Row)
     (blank : Bool) (gs : List Group) →
     EndsBeforeGroups row gs → Whole text (blocks ∷ behinds kept) (all_of each gs) →
-    Whole text (blocks_behind block ∷ behinds kept) (ending_events (ending_name blank) row ++ all_of each gs)
+    Whole text (blocks_after block ∷ behinds kept) (ending_events (ending_name blank) row ++ all_of each gs)
 ending-whole text each block kept row blank gs ends h = go row.after refl gs ends h
   where
     some : (q : Point) (more : List Event) → row.after ≡ Some q → Whole text (blocks ∷ behinds kept) more →
-        Whole text (blocks_behind block ∷ behinds kept) (ending_events (ending_name blank) row ++ more)
+        Whole text (blocks_after block ∷ behinds kept) (ending_events (ending_name blank) row ++ more)
     some q more after k =
-        ap (λ (es : List Event). is_whole (unlisted_left text (blocks_behind block ∷ behinds kept) (es ++ more)))
+        ap (λ (es : List Event). is_whole (unlisted_left text (blocks_after block ∷ behinds kept) (es ++ more)))
         (ending-is (ending_name blank) row q after)
         ∙ ap is_whole
-        (unlists-rest text (blocks_behind block ∷ []) (blocks ∷ []) (behinds kept)
+        (unlists-rest text (blocks_after block ∷ []) (blocks ∷ []) (behinds kept)
         (pair (ending_name blank) row.end q) more (ending-unlists text blank row.end q block))
         ∙ k
 
     go : (after : Option Point) → row.after ≡ after → (gs : List Group) → EndsBeforeGroups row gs →
         Whole text (blocks ∷ behinds kept) (all_of each gs) →
-        Whole text (blocks_behind block ∷ behinds kept) (ending_events (ending_name blank) row ++ all_of each gs)
+        Whole text (blocks_after block ∷ behinds kept) (ending_events (ending_name blank) row ++ all_of each gs)
     go (Some q) after gs ends h = some q (all_of each gs) after h
     go None after [] ends h =
         ap
         (λ (x : Option Point).
         is_whole
-        (unlisted_left text (blocks_behind block ∷ behinds kept)
+        (unlisted_left text (blocks_after block ∷ behinds kept)
         (elim x [ None ↦ [] | Some q ↦ pair (ending_name blank) row.end q ] ++ []))) after
         ∙ none-whole block kept h
     go None after (g ∷ gs) ends h = let bad : None ≡ Some ends.0 = sym after ∙ ends.1 in cc
@@ -121,22 +122,22 @@ tail-whole : (text : Expression) (each : Group → List Event) (block : Bool) (a
     (blank : Bool) (gs : List Group) →
     all ≡ open_names row.closed_after ++ kept → EndsBeforeGroups row gs →
     Whole text (blocks ∷ behinds kept) (all_of each gs) →
-    Whole text (blocks_behind block ∷ behinds all) (tail_events (ending_name blank) row ++ all_of each gs)
+    Whole text (blocks_after block ∷ behinds all) (tail_events (ending_name blank) row ++ all_of each gs)
 tail-whole text each block all kept row blank gs keeps ends h =
     let ended : (after : Bool) ×
-    Unlists text (blocks_behind block ∷ behinds (open_names row.closed_after)) (blocks_behind after ∷ [])
+    Unlists text (blocks_after block ∷ behinds (open_names row.closed_after)) (blocks_after after ∷ [])
     (ends_of row.closed_after row.end) = ends-lead text row.closed_after row.end block in
     let ending : List Event = ending_events (ending_name blank) row ++ all_of each gs in
     ap
     (λ (l : List Expression).
-    is_whole (unlisted_left text (blocks_behind block ∷ l) (tail_events (ending_name blank) row ++ all_of each gs)))
+    is_whole (unlisted_left text (blocks_after block ∷ l) (tail_events (ending_name blank) row ++ all_of each gs)))
     (ap behinds keeps ∙ behinds-append (open_names row.closed_after) kept)
     ∙ ap
     (λ (es : List Event).
-    is_whole (unlisted_left text (blocks_behind block ∷ behinds (open_names row.closed_after) ++ behinds kept) es))
+    is_whole (unlisted_left text (blocks_after block ∷ behinds (open_names row.closed_after) ++ behinds kept) es))
     (append_assoc (ends_of row.closed_after row.end) (ending_events (ending_name blank) row) (all_of each gs))
     ∙ ap is_whole
-    (unlists-rest text (blocks_behind block ∷ behinds (open_names row.closed_after)) (blocks_behind ended.0 ∷ [])
+    (unlists-rest text (blocks_after block ∷ behinds (open_names row.closed_after)) (blocks_after ended.0 ∷ [])
     (behinds kept) (ends_of row.closed_after row.end) ending ended.1)
     ∙ ending-whole text each ended.0 kept row blank gs ends h
 
@@ -150,7 +151,7 @@ whole-by_groups : (options : ParseOptions) (bytes : List ℕ) (text : Expression
 whole-by_groups options bytes text each takes reads = record {
   none = λ p ended. refl;
   group = λ names kept p group gs o keeps on ended.
-      let s : (block : Bool) × Stands options bytes text block group (each group) = reads group o.leaf in
+      let s : (block : Bool) × Valid options bytes text block group (each group) = reads group o.leaf in
       ap is_whole (leaf-left options text bytes s.0 names p group (each group) (all_of each gs) takes o s.1)
       ∙ tail-whole text each s.0 (open_names (first_row group).change.opens ++ names) kept (final_row group)
       (is_blank_group group) gs keeps ended.0 (on ended.1);
@@ -172,7 +173,7 @@ rows-keep options bytes p front text each lines rows kind (ToLine leads whole) n
     (rows-hold options bytes (WholeUnder text each)
     (whole-by_groups options bytes text each (text-takes text kind) reads) p lines rows are
     (groups-ended rows (rows-end options bytes [] held_leaf.None p lines rows are)))
-rows-keep options bytes p front text each lines rows kind (ToEnd over stand whole) none reads are quiet =
+rows-keep options bytes p front text each lines rows kind (ToEnd over are_valid whole) none reads are quiet =
     ap (λ (es : List Event). keeps_unlisted text (front ++ es)) (none over)
     ∙ ap (keeps_unlisted text) (append-nil front) ∙ whole text kind
 
@@ -182,13 +183,13 @@ rows-keep options bytes p front text each lines rows kind (ToEnd over stand whol
 unread-reads : (options : ParseOptions) (bytes : List ℕ) → Reads options bytes unread_text (tabled_group options bytes)
 unread-reads options bytes group is =
     let leaf : List Event = group_unread options bytes group in (
-      is.1.behind,
+      is.1.following,
       record {
         front = (first_row group).front;
         fronts = λ p o. o.front;
         leaf = leaf;
         leads =
-            unlists-same unread_text (blocks ∷ []) (blocks_behind is.1.behind ∷ []) leaf
+            unlists-same unread_text (blocks ∷ []) (blocks_after is.1.following ∷ []) leaf
             (roles-unlisted leaf is.1.stretch.unread_roles)
             is.1.unread_word;
         is = refl;
@@ -220,12 +221,12 @@ blocks-grammar options bytes p front lines rows leaves none are quiet =
 group-reads : (options : ParseOptions) (bytes : List ℕ) → Reads options bytes plain_text (group_events options bytes)
 group-reads options bytes group is =
     let leaf : List Event = group_done options bytes group in (
-      is.1.behind,
+      is.1.following,
       record {
         front = front_done bytes (first_row group);
         fronts = λ p o. o.front_read.is;
         leaf = leaf;
-        leads = unlists-same plain_text (blocks ∷ []) (blocks_behind is.1.behind ∷ []) leaf
+        leads = unlists-same plain_text (blocks ∷ []) (blocks_after is.1.following ∷ []) leaf
             (roles-unlisted leaf is.1.stretch.roles) is.1.word;
         is = refl;
       },

@@ -2,8 +2,8 @@
 use Rattle.md_engine.specs.declared.tokenizer.held_leaf.HeldLeaf.{HeldLeaf}
 use Rattle.std.proofs.Common.{◌≡◌, ◌≢◌, ℕ, ◌<◌, ◌≤◌, Bool, true, false, cond, ◌&&◌, List, [], ◌∷◌, ◌++◌, length, drop}
 use Rattle.proof_rows.specs.BlockList.{lines_unread, text_unread, unread_lines}
-use Rattle.proof_rows.specs.Rows.{Headed, LeafLines, Turned, Group, Lines, Single, groups, kind_of, line_kind, row_events}
-use Rattle.proof_rows.specs.Rows.{rows_events, tail_events}
+use Rattle.proof_rows.specs.Rows.{Headed, LeafLines, Turned, Group, Lines, Single, groups, kind_of, line_kind}
+use Rattle.proof_rows.specs.Rows.{row_events, rows_events, tail_events}
 use Rattle.std.proofs.Common.{slice_range, refl, ap, sym, ◌∙◌, subst, append_assoc, arith, length-append}
 use Rattle.std.specs.Prelude.{Option, Some, None}
 use Rattle.std.proofs.lemmas.Bool.{and_from, eq-eqb}
@@ -23,14 +23,14 @@ use Rattle.md_meaning.specs.Lines.{without_ending}
 use Rattle.md_events.specs.Events.Nested.{around, enter, enter_link, exit, pair}
 use Rattle.md_events.specs.Events.Places.{past_text, same_place}
 use Rattle.md_meaning.specs.State.{Container}
-use Rattle.md_events.specs.Substituted.{Readings, Substituted, belongs, chunks_behind}
+use Rattle.md_events.specs.Substituted.{Readings, Substituted, belongs, chunks_after}
 use Rattle.md_meaning.specs.Texts.{split_lines}
 use Rattle.proof_frame.specs.Change.{ends_of}
 use Rattle.proof_frame.specs.LeafName.{first_of, LeafName}
 use Rattle.proof_frame.specs.TextLines.{text_leaf}
 use Rattle.proof_frame.specs.ContainerNames.{container_name}
 use Rattle.md_registry.specs.Registry.{leaf as line_leaf, trials}
-use Rattle.proof_frame.specs.Row.{BlankRow, LeafRow, Row, RowKind, TextRow, behind_row, chunks_of, ending_events}
+use Rattle.proof_frame.specs.Row.{BlankRow, LeafRow, Row, RowKind, TextRow, after_row, chunks_of, ending_events}
 use Rattle.proof_frame.specs.Row.{ending_of, last_row, row_line, is_blank_by}
 use Rattle.proof_table_laws.specs.Headed.{headed_row}
 use Rattle.md_meaning.specs.Rest.{cut_tab, Rest as LineRest, is_blank}
@@ -43,12 +43,12 @@ use Rattle.proof_frame.proofs.FrontNames.{HasFront, ends-first, fronts-prefixes}
 use Rattle.proof_rows.proofs.GroupsAre.{groups-are}
 use Rattle.proof_frame.proofs.FrontPlaces.{fronts-grow}
 use Rattle.proof_table_laws.proofs.GfmTable.Head.{head-no_content}
-use Rattle.proof_rows.proofs.JoinedLemmas.{EachEnds, EachFront, EachNoContent, HasNoContent, behind-is, ending-other}
+use Rattle.proof_rows.proofs.JoinedLemmas.{EachEnds, EachFront, EachNoContent, HasNoContent, following-is, ending-other}
 use Rattle.proof_rows.proofs.JoinedLemmas.{events-no_content, has_front-no_content, front-no_content, tail-no_content}
 use Rattle.proof_frame.proofs.LeafLines.Cuts.{ending-is}
-use Rattle.proof_rows.proofs.RowFacts.{AreRows, IsRow, behind_line, line-text}
-use Rattle.proof_frame.proofs.SubstitutedLemmas.{AllBelong, CutAt, EachPrefixed, NextBelongs, Rest, Unwanted, behind-exit}
-use Rattle.proof_frame.proofs.SubstitutedLemmas.{line_after, passes, places}
+use Rattle.proof_rows.proofs.RowFacts.{AreRows, IsRow, following_line, line-text}
+use Rattle.proof_frame.proofs.SubstitutedLemmas.{AllBelong, CutAt, EachPrefixed, NextBelongs, Rest, Unwanted}
+use Rattle.proof_frame.proofs.SubstitutedLemmas.{following-exit, line_after, passes, places}
 use Rattle.proof_frame.proofs.ContentFacts.{NoContent, WantsContent, no_content-append, no_content-unwanted}
 use Rattle.proof_frame.proofs.ContainerNames.{container-facts}
 use Rattle.proof_frame.proofs.LineTexts.{one-last, one-next, piece, without-none, without-one}
@@ -64,7 +64,7 @@ rows-end options bytes open_before still p (line ∷ []) (row ∷ []) h = tt
 rows-end options bytes open_before still p (line ∷ next ∷ lines) (row ∷ below ∷ rows) h = (
   h.2,
   h.3,
-  rows-end options bytes (behind_line options open_before still p line) row.behind h.2 (next ∷ lines)
+  rows-end options bytes (following_line options open_before still p line) row.following h.2 (next ∷ lines)
       (below ∷ rows) h.5,
 )
 rows-end options bytes open_before still p lines rows h = absurd h
@@ -76,7 +76,7 @@ pub rows-front : (options : ParseOptions) (bytes : List ℕ) (open_before : List
 rows-front options bytes open_before still p (line ∷ []) (row ∷ []) h = ((p, h.0.front, h.0.front_read), tt)
 rows-front options bytes open_before still p (line ∷ next ∷ lines) (row ∷ below ∷ rows) h = (
   (p, h.0.front, h.0.front_read),
-  rows-front options bytes (behind_line options open_before still p line) row.behind h.2
+  rows-front options bytes (following_line options open_before still p line) row.following h.2
       (next ∷ lines) (below ∷ rows) h.5,
 )
 rows-front options bytes open_before still p lines rows h = absurd h
@@ -121,10 +121,10 @@ chunks-lines options bytes row [] h =
     (and_from _ _ (eq-eqb row.end.index row.end.index refl) (eq-eqb row.end.vs row.end.vs refl)))
     refl
 chunks-lines options bytes row (next ∷ rows) h =
-    let ends : Bool = is_none (chunks_of next rows) && same_place (behind_row row) (last_row next rows).end in
+    let ends : Bool = is_none (chunks_of next rows) && same_place (after_row row) (last_row next rows).end in
     and_from _ _
     (ap (λ (l : List ℕ). is_one_line (split_lines l) ends)
-    (ap (λ (p : Point). slice_range bytes row.first.index p.index) (behind-is row h.3 h.4) ∙ line-text options bytes
+    (ap (λ (p : Point). slice_range bytes row.first.index p.index) (following-is row h.3 h.4) ∙ line-text options bytes
     h.0 row h.3 h.1 h.5)
     ∙ one-next h.0 h.5.ending h.1.no_ending ends)
     (chunks-lines options bytes next rows h.7)
@@ -132,36 +132,36 @@ chunks-lines options bytes row (next ∷ rows) h =
 -- Reading.
 
 -- after the containers that end there, and an ending, no more of a text is
-behind-tail : (wants : Content → Bool) (row : Row) (es : List Event) →
-    chunks_behind wants (ending_events n.LineEnding row ++ es) ≡ [] →
-    chunks_behind wants (tail_events n.LineEnding row ++ es) ≡ []
-behind-tail wants row es h = go row.closed_after
+following-tail : (wants : Content → Bool) (row : Row) (es : List Event) →
+    chunks_after wants (ending_events n.LineEnding row ++ es) ≡ [] →
+    chunks_after wants (tail_events n.LineEnding row ++ es) ≡ []
+following-tail wants row es h = go row.closed_after
   where
     go : (leaves : List Container) →
-        chunks_behind wants ((ends_of leaves row.end ++ ending_events n.LineEnding row) ++ es) ≡ []
+        chunks_after wants ((ends_of leaves row.end ++ ending_events n.LineEnding row) ++ es) ≡ []
     go [] = h
     go (c ∷ leaves) =
-        ap (chunks_behind wants)
+        ap (chunks_after wants)
         (append_assoc (ends_of (c ∷ leaves) row.end) (ending_events n.LineEnding row) es)
-        ∙ ends-first (λ (l : List Event). chunks_behind wants l ≡ []) c leaves row.end
+        ∙ ends-first (λ (l : List Event). chunks_after wants l ≡ []) c leaves row.end
         (ending_events n.LineEnding row ++ es)
-        (λ d es. behind-exit wants (container_name d) row.end es (container-facts d).no_prefix)
+        (λ d es. following-exit wants (container_name d) row.end es (container-facts d).no_prefix)
 
-behind-ended : (wants : Content → Bool) (row : Row) (q : Point) (es : List Event) → row.after ≡ Some q →
-    chunks_behind wants (tail_events n.LineEnding row ++ es) ≡ []
-behind-ended wants row q es after =
-    behind-tail wants row es
-    (ap (λ (l : List Event). chunks_behind wants (l ++ es)) (ending-is n.LineEnding row q after))
+following-ended : (wants : Content → Bool) (row : Row) (q : Point) (es : List Event) → row.after ≡ Some q →
+    chunks_after wants (tail_events n.LineEnding row ++ es) ≡ []
+following-ended wants row q es after =
+    following-tail wants row es
+    (ap (λ (l : List Event). chunks_after wants (l ++ es)) (ending-is n.LineEnding row q after))
 
-behind-lines : (bytes : List ℕ) (wants : Content → Bool) (row : Row) (gs : List Group) → EndsBeforeGroups row gs →
-    chunks_behind wants (tail_events n.LineEnding row ++ joined_groups bytes gs) ≡ []
-behind-lines bytes wants row [] h = behind-tail wants row [] (go row.after)
+following-lines : (bytes : List ℕ) (wants : Content → Bool) (row : Row) (gs : List Group) → EndsBeforeGroups row gs →
+    chunks_after wants (tail_events n.LineEnding row ++ joined_groups bytes gs) ≡ []
+following-lines bytes wants row [] h = following-tail wants row [] (go row.after)
   where
     go : (after : Option Point) →
-        chunks_behind wants (elim after [ None ↦ [] | Some q ↦ pair n.LineEnding row.end q ] ++ []) ≡ []
+        chunks_after wants (elim after [ None ↦ [] | Some q ↦ pair n.LineEnding row.end q ] ++ []) ≡ []
     go None = refl
     go (Some q) = refl
-behind-lines bytes wants row (group ∷ gs) h = behind-ended wants row h.0 (joined_groups bytes (group ∷ gs)) h.1
+following-lines bytes wants row (group ∷ gs) h = following-ended wants row h.0 (joined_groups bytes (group ∷ gs)) h.1
 
 -- what is around the parts of a line is not read later
 pub tail-unwanted : (wants : Content → Bool) (kind : RowKind) (row : Row) →
@@ -243,13 +243,13 @@ line-grows options bytes line row is text =
 -- a line, its ending, and the next line
 pub record AreApart (row next : Row) : Type 0 where
   pub line : row.first.index < row.end.index
-  pub ending : row.end.index < (behind_row row).index
-  pub front : (behind_row row).index ≤ next.first.index
+  pub ending : row.end.index < (after_row row).index
+  pub front : (after_row row).index ≤ next.first.index
 
 pub are-apart : (options : ParseOptions) (bytes : List ℕ) (row next : Row) (rows : List Row) →
     AreLines options bytes row (next ∷ rows) → AreApart row next
 are-apart options bytes row next rows h =
-    let behind : (behind_row row).index ≡ h.3.index = ap (λ (p : Point). p.index) (behind-is row h.3 h.4) in
+    let following : (after_row row).index ≡ h.3.index = ap (λ (p : Point). p.index) (following-is row h.3 h.4) in
     let some = ending-some h.5.ending in
     let grows = fronts-grow bytes [] h.3 next.first next.front h.6 in
     record { line = line-grows options bytes h.0 row h.1 h.2; ending = omega (arith, h.5.size); front = omega arith }
@@ -267,8 +267,8 @@ begins-before name p end h = grind (arith, nat_tests)
 ends-before : (name : Name) (p : Point) (end : ℕ) → p.index ≤ end → belongs end (exit name p) ≡ true
 ends-before name p end h = grind (arith, nat_tests)
 
-begins-behind : (name : Name) (p : Point) (end : ℕ) → end ≤ p.index → belongs end (enter name p) ≡ false
-begins-behind name p end h = grind (arith, nat_tests)
+begins-following : (name : Name) (p : Point) (end : ℕ) → end ≤ p.index → belongs end (enter name p) ≡ false
+begins-following name p end h = grind (arith, nat_tests)
 
 all_belong-append : (end : ℕ) (xs ys : List Event) → AllBelong end xs → AllBelong end ys → AllBelong end (xs ++ ys)
 all_belong-append end [] ys h k = k
@@ -283,7 +283,7 @@ cut-front row (next ∷ rows) xs left done h cut = (
   cut.1,
   cut.2,
   ap (λ (l : List Event). xs ++ l) cut.3 ∙ sym (append_assoc xs cut.0 cut.1),
-  all_belong-append (behind_row row).index xs cut.0 h cut.4,
+  all_belong-append (after_row row).index xs cut.0 h cut.4,
   cut.5,
   ap (λ (l : List Event). xs ++ l) cut.6 ∙ sym (append_assoc xs cut.0 (next.front ++ cut.2)),
   cut.7,
@@ -294,8 +294,8 @@ cut-front row (next ∷ rows) xs left done h cut = (
 -- the next chunk begins where its line does
 linked-next : (name : Name) (link : Link) (row : Row) (rows : List Row) (zs : List Event) (end : ℕ) →
     end ≤ row.first.index → NextBelongs end (linked name link (chunks_of row rows) ++ zs)
-linked-next name link row [] zs end h = begins-behind name row.first end h
-linked-next name link row (next ∷ rows) zs end h = begins-behind name row.first end h
+linked-next name link row [] zs end h = begins-following name row.first end h
+linked-next name link row (next ∷ rows) zs end h = begins-following name row.first end h
 
 -- the chunks of a text, cut at the ends of its lines
 linked-cut : (options : ParseOptions) (bytes : List ℕ) (name : Name) (link : Link) (row : Row) (rows : List Row)
@@ -305,18 +305,18 @@ linked-cut : (options : ParseOptions) (bytes : List ℕ) (name : Name) (link : L
 linked-cut options bytes name link row [] zs h = refl
 linked-cut options bytes name link row (next ∷ rows) zs h =
     let apart = are-apart options bytes row next rows h in
-    let end : ℕ = (behind_row row).index in
+    let end : ℕ = (after_row row).index in
     let begin = enter_link name row.first link in (
-      begin ∷ exit name (behind_row row) ∷ [],
+      begin ∷ exit name (after_row row) ∷ [],
       linked name link (chunks_of next rows) ++ zs,
       linked_lines name link next rows ++ zs,
       refl,
       (
         begins-before name row.first end (omega (arith, apart.line, apart.ending)),
-        (ends-before name (behind_row row) end (omega arith), tt),
+        (ends-before name (after_row row) end (omega arith), tt),
       ),
       linked-next name link next rows zs end apart.front,
-      ap (λ (l : List Event). begin ∷ exit name (behind_row row) ∷ l)
+      ap (λ (l : List Event). begin ∷ exit name (after_row row) ∷ l)
           (append_assoc next.front (linked_lines name link next rows) zs),
       linked-cut options bytes name link next rows zs h.7,
     )
@@ -353,7 +353,7 @@ group-joins front given tail rest out one two three h i j k =
 text-content : (options : ParseOptions) (bytes : List ℕ) (wants : Content → Bool) (reads : Readings) →
     wants content.Content ≡ true → WantsContent wants → ReadsContent options bytes reads →
     (row : Row) (rows : List Row) → AreLines options bytes row rows → HasFront bytes row → (es left out : List Event) →
-    chunks_behind wants (tail_events n.LineEnding (last_row row rows) ++ es) ≡ [] →
+    chunks_after wants (tail_events n.LineEnding (last_row row rows) ++ es) ≡ [] →
     Substituted wants reads left 0
     (((row.front ++ linked_lines n.Content content_link row rows) ++ tail_events n.LineEnding (last_row row rows))
     ++ es) out →
@@ -388,10 +388,10 @@ then-content : (wants : Content → Bool) (reads : Readings) (xs ys rest : List 
     (left out : List Event) →
     NoContent wants xs → ((more : List Event) → Substituted wants reads left 0 ys more → more ≡ rest) →
     Substituted wants reads left 0 (xs ++ ys) out → out ≡ xs ++ rest
-then-content wants reads xs ys rest left out quiet behind s =
+then-content wants reads xs ys rest left out quiet following s =
     let one : (more : List Event) × (is : out ≡ xs ++ more) × Substituted wants reads left 0 ys more =
     passes wants reads left 0 xs ys out (no_content-unwanted wants xs quiet) s in
-    one.1 ∙ ap (λ (l : List Event). xs ++ l) (behind one.0 one.2)
+    one.1 ∙ ap (λ (l : List Event). xs ++ l) (following one.0 one.2)
 
 groups-content : (options : ParseOptions) (bytes : List ℕ) (wants : Content → Bool) (reads : Readings) →
     wants content.Content ≡ true → WantsContent wants → ReadsContent options bytes reads →
@@ -404,10 +404,10 @@ groups-content options bytes wants reads w other unique (Single row ∷ gs) are 
     (groups-content options bytes wants reads w other unique gs are.1 left) s
 groups-content options bytes wants reads w other unique (Turned row rows under ∷ gs) are left out s =
     let text : List Event = unread_group options bytes (Lines row rows) in
-    let behind : List Event = row_events under ++ joined_groups bytes gs in
-    let one : Rest wants reads text behind out =
-    text-content options bytes wants reads w other unique row rows are.0 are.3 behind left out
-    (behind-ended wants (last_row row rows) are.1.after behind are.1.after_is)
+    let following : List Event = row_events under ++ joined_groups bytes gs in
+    let one : Rest wants reads text following out =
+    text-content options bytes wants reads w other unique row rows are.0 are.3 following left out
+    (following-ended wants (last_row row rows) are.1.after following are.1.after_is)
     (subst (λ (l : List Event). Substituted wants reads left 0 l out)
     (append_assoc
     ((row.front ++ linked_lines n.Content content_link row rows) ++ tail_events n.LineEnding (last_row row rows))
@@ -430,7 +430,7 @@ groups-content options bytes wants reads w other unique (Lines row rows ∷ gs) 
     let text : List Event = unread_group options bytes (Lines row rows) in
     let one : Rest wants reads text (joined_groups bytes gs) out =
     text-content options bytes wants reads w other unique row rows are.0 are.2 (joined_groups bytes gs) left out
-    (behind-lines bytes wants (last_row row rows) gs are.1) s in
+    (following-lines bytes wants (last_row row rows) gs are.1) s in
     one.2
     ∙ ap (λ (l : List Event). text ++ l)
     (groups-content options bytes wants reads w other unique gs are.3 one.1 one.0 one.3)

@@ -20,7 +20,7 @@ use Rattle.md_registry.proofs.SpanLeaves.{further-further, further-is}
 use Rattle.proof_rows.proofs.RowFacts.{IsRow}
 use Rattle.md_events.proofs.FeedLines.{IsEnding}
 use Rattle.proof_rows.proofs.RowLeaf.{EndsOnLine, row-as}
-use Rattle.proof_frame.proofs.SpanLaws.{AreBehind, IsLineOf}
+use Rattle.proof_frame.proofs.SpanLaws.{AreAfter, IsLineOf}
 use Rattle.proof_rows.proofs.TextProgress.{IsFresh}
 
 -- lines of text that follow one another
@@ -86,7 +86,8 @@ AreSpan options bytes row [] = IsSpanLine options bytes row
 AreSpan options bytes row (next ∷ rows) =
     (is : IsSpanLine options bytes row) × (q : Point) × (after : row.after ≡ Some q)
     × (ending : IsEnding bytes row.end q) × (front : LinePrefix bytes [] q next.first next.front)
-    × (leaves : row.closed_after ≡ []) × (on : next.on ≡ row.behind) × (further : is_further next.kind next.on ≡ true)
+    × (leaves : row.closed_after ≡ []) × (on : next.on ≡ row.following)
+    × (further : is_further next.kind next.on ≡ true)
     × AreSpan options bytes next rows
 
 -- the line that turns a text, after the last line of that: between them no container ends or opens
@@ -101,7 +102,7 @@ pub record IsUnder (options : ParseOptions) (bytes : List ℕ) (last under : Row
   pub ending : IsEnding bytes last.end after
   pub front : LinePrefix bytes [] after under.first under.front
   pub closed_after : last.closed_after ≡ []
-  pub on : under.on ≡ last.behind
+  pub on : under.on ≡ last.following
   pub further : is_further under.kind under.on ≡ true
   pub heads : takes_head under.kind ≡ false
   pub quiet : HasNoContent under
@@ -116,7 +117,7 @@ pub record IsHead (options : ParseOptions) (bytes : List ℕ) (row next : Row) :
   pub ending : IsEnding bytes row.end after
   pub front : LinePrefix bytes [] after next.first next.front
   pub closed_after : row.closed_after ≡ []
-  pub on : next.on ≡ row.behind
+  pub on : next.on ≡ row.following
   pub further : is_further next.kind next.on ≡ true
   pub heads : takes_head next.kind ≡ true
 
@@ -180,15 +181,15 @@ pub line-further : (options : ParseOptions) (bytes : List ℕ) (row : Row) → (
 line-further options bytes row is x f = ap (λ (kind : RowKind). is_further kind row.on) (sym is.kind) ∙ f
 
 -- and the lines after it are lines of the leaf that takes its further ones
-abbrev pub span-behind : (options : ParseOptions) (bytes : List ℕ) (l : LeafName) (row : Row) (rows : List Row) →
+abbrev pub span-following : (options : ParseOptions) (bytes : List ℕ) (l : LeafName) (row : Row) (rows : List Row) →
     further_of l ≡ l → (are : AreSpan options bytes row rows) →
-    further_of (span-begins options bytes row rows are).name ≡ l → AreBehind options bytes (leaf l) row rows
-span-behind options bytes l row [] same are e = tt
-span-behind options bytes l row (next ∷ rows) same are e =
+    further_of (span-begins options bytes row rows are).name ≡ l → AreAfter options bytes (leaf l) row rows
+span-following options bytes l row [] same are e = tt
+span-following options bytes l row (next ∷ rows) same are e =
     let below : IsSpanLine options bytes next = span-begins options bytes next rows are.8 in
     let further : (leaf below.name).further next.on ≡ true = line-further options bytes next below true are.7 in
     let above : IsLineOf options bytes (leaf are.0.name) row = line-of options bytes row are.0 in
-    let left : next.on ≡ (leaf are.0.name).holds options row.on above.rest = are.6 ∙ above.behind in
+    let left : next.on ≡ (leaf are.0.name).holds options row.on above.rest = are.6 ∙ above.following in
     let name : below.name ≡ l =
     further-is are.0.name below.name options row.on above.rest
     (ap (leaf below.name).further (sym left) ∙ further)
@@ -200,12 +201,12 @@ span-behind options bytes l row (next ∷ rows) same are e =
       are.6,
       subst (λ (m : LeafName). (leaf m).further next.on ≡ true) name further,
       line-as options bytes next below l (below.kind ∙ ap LeafRow name),
-      span-behind options bytes l next rows same are.8 (ap further_of name ∙ same),
+      span-following options bytes l next rows same are.8 (ap further_of name ∙ same),
     )
 
-abbrev pub behind-first : (options : ParseOptions) (bytes : List ℕ) (row : Row) (rows : List Row) →
+abbrev pub following-first : (options : ParseOptions) (bytes : List ℕ) (row : Row) (rows : List Row) →
     (are : AreSpan options bytes row rows) →
-    AreBehind options bytes (leaf (further_of (span-begins options bytes row rows are).name)) row rows
-behind-first options bytes row rows are =
+    AreAfter options bytes (leaf (further_of (span-begins options bytes row rows are).name)) row rows
+following-first options bytes row rows are =
     let l : LeafName = (span-begins options bytes row rows are).name in
-    span-behind options bytes (further_of l) row rows (further-further l) are refl
+    span-following options bytes (further_of l) row rows (further-further l) are refl

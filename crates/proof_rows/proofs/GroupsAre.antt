@@ -21,12 +21,12 @@ use Rattle.proof_frame.specs.RestLine.{rest_line}
 use Rattle.proof_frame.specs.LeafName.{HeadingSetext, LeafName}
 use Rattle.md_registry.specs.Registry.{leaf}
 use Rattle.proof_frame.specs.Row.{BlankRow, LeafRow, Row, RowKind, TextRow, last_row}
-use Rattle.proof_rows.specs.Rows.{Group, Headed, Lines, LeafLines, Turned, takes_head, groups, is_further, line_behind}
-use Rattle.proof_rows.specs.Rows.{is_last, onto_groups, onto_leaf, onto_underline}
+use Rattle.proof_rows.specs.Rows.{Group, Headed, Lines, LeafLines, Turned, takes_head, groups, is_further}
+use Rattle.proof_rows.specs.Rows.{line_following, is_last, onto_groups, onto_leaf, onto_underline}
 use Rattle.proof_frame.proofs.FrontFacts.{LinePrefix, ReadFront}
 use Rattle.proof_frame.proofs.FrontNames.{HasFront}
 use Rattle.proof_rows.proofs.JoinedLemmas.{EachNoContent, HasNoContent}
-use Rattle.proof_rows.proofs.RowFacts.{AreRows, IsLine, IsRow, behind_line}
+use Rattle.proof_rows.proofs.RowFacts.{AreRows, IsLine, IsRow, following_line}
 use Rattle.md_events.proofs.FeedLines.{IsEnding}
 use Rattle.proof_rows.proofs.RowLeaf.{EndsOnLine}
 use Rattle.proof_frame.proofs.SpanLaws.{IsLineOf}
@@ -35,9 +35,10 @@ use Rattle.md_registry.proofs.UnderNames.{further-text}
 use Rattle.proof_rows.proofs.GroupLines.{first-text, AreGroups, AreLines, AreSpan, EndsBeforeGroups, FirstIs, IsHead}
 use Rattle.proof_rows.proofs.GroupLines.{IsSingle}
 use Rattle.proof_rows.proofs.GroupLines.{IsSpanLine, IsUnder, Leaves, line-as, line-further}
-use Rattle.proof_rows.proofs.LineBehind.{FirstBegins, IsBehind, begins-behind, behind-fresh, behind-on, blank-ends}
-use Rattle.proof_rows.proofs.LineBehind.{first-begins, first-behind, leaf-fresh, leaf-other, leaf-row-ends, leaves-left}
-use Rattle.proof_rows.proofs.LineBehind.{leaves-longer, line-heads, shut-behind, turned-alone}
+use Rattle.proof_rows.proofs.LineAfter.{FirstBegins, IsAfter, begins-following, following-fresh, following-on}
+use Rattle.proof_rows.proofs.LineAfter.{blank-ends, first-begins, first-following, leaf-fresh, leaf-other}
+use Rattle.proof_rows.proofs.LineAfter.{leaf-row-ends, leaves-left, leaves-longer, line-heads, shut-following}
+use Rattle.proof_rows.proofs.LineAfter.{turned-alone}
 
 -- Groups.
 
@@ -98,14 +99,14 @@ span-line options bytes line p row l is e ends = record {
 leaf-are : (options : ParseOptions) (bytes line : List ℕ) (p : Point) (row : Row) (l : LeafName) (q : Point)
     (gs : List Group) →
     IsBegun options bytes line p row → row.kind ≡ LeafRow l → row.after ≡ Some q → IsEnding bytes row.end q →
-    FirstIs (IsBehind bytes q row) gs → AreBelow options bytes gs → (ends : Bool) → (leaf l).ends ≡ ends →
+    FirstIs (IsAfter bytes q row) gs → AreBelow options bytes gs → (ends : Bool) → (leaf l).ends ≡ ends →
     AreBelow options bytes (onto_leaf ends row gs)
 leaf-are options bytes line p row l q gs is e after ending first are true k =
     let ends : EndsOnLine row.kind = leaf-row-ends row.kind l e k in
     let other : row.kind ≢ TextRow = leaf-other row.kind l e in (
       alone-is options bytes line p row is other ends,
       below-are options bytes gs
-          (begins-behind bytes q row gs first (shut-behind options bytes line row is.is ends other)) are,
+          (begins-following bytes q row gs first (shut-following options bytes line row is.is ends other)) are,
     )
 leaf-are options bytes line p row l q [] is e after ending first are false k =
     (span-line options bytes line p row l is e k, tt, tt, (is.quiet, tt))
@@ -113,7 +114,7 @@ leaf-are options bytes line p row l q (Turned below rows under ∷ gs) is e afte
   span-line options bytes line p row l is e k,
   (q, after),
   below-are options bytes (Turned below rows under ∷ gs)
-      (behind-fresh bytes q row below first (leaf-fresh options bytes line row l is.is e)) are,
+      (following-fresh bytes q row below first (leaf-fresh options bytes line row l is.is e)) are,
   (is.quiet, tt),
 )
 leaf-are options bytes line p row l q (LeafLines below rows ∷ gs) is e after ending first are false k =
@@ -156,7 +157,7 @@ text-begins options bytes line p row q gs is e ends are = ((line, is.is, e), end
 
 -- the line that turns a text
 pub text-under : (options : ParseOptions) (bytes line : List ℕ) (row : Row) (q : Point) (below : Row) →
-    row.after ≡ Some q → IsEnding bytes row.end q → IsBehind bytes q row below →
+    row.after ≡ Some q → IsEnding bytes row.end q → IsAfter bytes q row below →
     is_further below.kind below.on ≡ true → takes_head below.kind ≡ false → IsSpanLine options bytes below →
     HasNoContent below → IsUnder options bytes row below
 text-under options bytes line row q below after ending first f h is quiet =
@@ -181,7 +182,7 @@ text-under options bytes line row q below after ending first f h is quiet =
 -- or the one that takes a line of text as its head
 pub text-head : (options : ParseOptions) (bytes line : List ℕ) (row : Row) (q : Point) (below : Row) →
     IsRow options bytes line row → row.kind ≡ TextRow → row.after ≡ Some q → IsEnding bytes row.end q →
-    IsBehind bytes q row below → is_further below.kind below.on ≡ true → takes_head below.kind ≡ true →
+    IsAfter bytes q row below → is_further below.kind below.on ≡ true → takes_head below.kind ≡ true →
     IsHead options bytes row below
 text-head options bytes line row q below is e after ending first f h =
     let met = first.met f in
@@ -202,12 +203,12 @@ text-head options bytes line row q below is e after ending first f h =
 -- definitions leave something of the line that an underline turns
 pub under-leaves : (options : ParseOptions) (bytes line : List ℕ) (row under : Row) →
     (is : IsRow options bytes line row) → (e : row.kind ≡ TextRow) → IsSpanLine options bytes under →
-    under.on ≡ row.behind → is_further under.kind under.on ≡ true → takes_head under.kind ≡ false →
+    under.on ≡ row.following → is_further under.kind under.on ≡ true → takes_head under.kind ≡ false →
     Leaves options bytes row [] (line, is, e)
 unfolding steps
 under-leaves options bytes line row under is e below on f h =
     let at : OpenText = open_text (step (progress_of row.on) (trim_start is.rest.bytes)) (kept is.rest) in
-    let text : under.on ≡ held_leaf.Text at = on ∙ is.behind ∙ ap (line_behind options row.on is.rest) e in
+    let text : under.on ≡ held_leaf.Text at = on ∙ is.following ∙ ap (line_following options row.on is.rest) e in
     let further : (leaf below.name).further (held_leaf.Text at) ≡ true =
     ap (leaf below.name).further (sym text) ∙ line-further options bytes under below true f in
     let name : below.name ≡ HeadingSetext =
@@ -221,7 +222,7 @@ under-leaves options bytes line row under is e below on f h =
 text-span : (options : ParseOptions) (bytes line : List ℕ) (p : Point) (row : Row) (q : Point) (below : Row)
     (rows : List Row) (gs : List Group) →
     IsBegun options bytes line p row → row.kind ≡ TextRow → row.after ≡ Some q → IsEnding bytes row.end q →
-    IsBehind bytes q row below → AreBelow options bytes (LeafLines below rows ∷ gs) →
+    IsAfter bytes q row below → AreBelow options bytes (LeafLines below rows ∷ gs) →
     AreBelow options bytes (onto_underline row below rows gs)
 text-span options bytes line p row q below rows gs is e after ending first are =
     go (is_further below.kind below.on) refl (takes_head below.kind) refl rows are
@@ -229,8 +230,8 @@ text-span options bytes line p row q below rows gs is e after ending first are =
     at : OpenText
     at = open_text (step (progress_of row.on) (trim_start is.is.rest.bytes)) (kept is.is.rest)
 
-    text : row.behind ≡ held_leaf.Text at
-    text = is.is.behind ∙ ap (line_behind options row.on is.is.rest) e
+    text : row.following ≡ held_leaf.Text at
+    text = is.is.following ∙ ap (line_following options row.on is.is.rest) e
 
     go : (x : Bool) → is_further below.kind below.on ≡ x → (y : Bool) → takes_head below.kind ≡ y → (rows : List Row) →
         AreBelow options bytes (LeafLines below rows ∷ gs) →
@@ -262,7 +263,7 @@ text-span options bytes line p row q below rows gs is e after ending first are =
 -- text goes before groups
 text-are : (options : ParseOptions) (bytes line : List ℕ) (p : Point) (row : Row) (q : Point) (gs : List Group) →
     IsBegun options bytes line p row → row.kind ≡ TextRow → row.after ≡ Some q → IsEnding bytes row.end q →
-    FirstIs (IsBehind bytes q row) gs → AreBelow options bytes gs →
+    FirstIs (IsAfter bytes q row) gs → AreBelow options bytes gs →
     AreBelow options bytes (onto_groups row TextRow gs)
 text-are options bytes line p row q [] is e after ending first are =
     text-begins options bytes line p row q [] is e tt are
@@ -296,10 +297,10 @@ text-are options bytes line p row q (Turned below rows under ∷ gs) is e after 
       are.2,
       (p, is.front, is.front_read),
       are.4,
-      leaves-longer options bytes line row below rows are.0 is.is e (behind-on bytes q row below first none) are.5,
+      leaves-longer options bytes line row below rows are.0 is.is e (following-on bytes q row below first none) are.5,
     )
     go true ends (c ∷ opens) k =
-        apart (first.on ∙ ap (λ (l : List Container). cond (is_none l) (progress_of row.behind) Fresh) k)
+        apart (first.on ∙ ap (λ (l : List Container). cond (is_none l) (progress_of row.following) Fresh) k)
     go false ends opens k = apart (first.closed (first-text options bytes below rows are.0).2 ends)
 text-are options bytes line p row q (Lines below rows ∷ gs) is e after ending first are =
     go (change.is_none row.closed_after) below.change.opens refl
@@ -329,14 +330,14 @@ text-are options bytes line p row q gs is e after ending first are =
 -- a line goes before groups
 onto-are : (options : ParseOptions) (bytes line : List ℕ) (p : Point) (row : Row) (q : Point) (gs : List Group) →
     IsBegun options bytes line p row → row.after ≡ Some q → IsEnding bytes row.end q →
-    FirstIs (IsBehind bytes q row) gs → AreBelow options bytes gs → (kind : RowKind) → row.kind ≡ kind →
+    FirstIs (IsAfter bytes q row) gs → AreBelow options bytes gs → (kind : RowKind) → row.kind ≡ kind →
     AreBelow options bytes (onto_groups row kind gs)
 onto-are options bytes line p row q gs is after ending first are BlankRow e =
     let ends : EndsOnLine row.kind = blank-ends row.kind e in
     let other : row.kind ≢ TextRow = λ k. cc in (
       alone-is options bytes line p row is other ends,
       below-are options bytes gs
-          (begins-behind bytes q row gs first (shut-behind options bytes line row is.is ends other)) are,
+          (begins-following bytes q row gs first (shut-following options bytes line row is.is ends other)) are,
     )
 onto-are options bytes line p row q gs is after ending first are (LeafRow l) e =
     leaf-are options bytes line p row l q gs is e after ending first are (leaf l).ends refl
@@ -375,11 +376,11 @@ groups-below options bytes open_before still p (line ∷ []) (row ∷ []) h k =
     last-are options bytes (rest_line (contained options open_before still (rest_from p line)).rest) p row
     (line-begun options bytes open_before still p line row h.0 k.0) row.kind refl
 groups-below options bytes open_before still p (line ∷ next ∷ lines) (row ∷ below ∷ rows) h k =
-    let open_next = behind_line options open_before still p line in
+    let open_next = following_line options open_before still p line in
     onto-are options bytes (rest_line (contained options open_before still (rest_from p line)).rest) p row h.2
     (groups (below ∷ rows)) (line-begun options bytes open_before still p line row h.0 k.0) h.3 h.4
-    (first-behind options bytes open_next h.2 (next ∷ lines) row below rows h.5 h.1)
-    (groups-below options bytes open_next row.behind h.2 (next ∷ lines) (below ∷ rows) h.5 k.1) row.kind refl
+    (first-following options bytes open_next h.2 (next ∷ lines) row below rows h.5 h.1)
+    (groups-below options bytes open_next row.following h.2 (next ∷ lines) (below ∷ rows) h.5 k.1) row.kind refl
 groups-below options bytes open_before still p lines rows h k = absurd h
 
 -- The groups of the lines of a text are lines of text that belong together, with the line that turns them if one does,

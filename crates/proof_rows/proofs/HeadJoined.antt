@@ -13,7 +13,7 @@ use Rattle.md_content.specs.Joined.{joined}
 use Rattle.md_meaning.specs.State.{Container}
 use Rattle.md_events.specs.Events.Nested.{enter_link, exit}
 use Rattle.md_tables.specs.Heads.{headed, meets_table}
-use Rattle.md_tables.proofs.HeadsLemmas.{headed-behind, headed-head, headed-text}
+use Rattle.md_tables.proofs.HeadsLemmas.{headed-following, headed-head, headed-text}
 use Rattle.proof_table_laws.specs.Headed.{heads_read, headed_row}
 use Rattle.proof_frame.specs.Row.{BlankRow, LeafRow, Row, RowKind, TextRow}
 use Rattle.proof_rows.specs.Rows.{groups, is_further}
@@ -28,7 +28,7 @@ use Rattle.proof_rows.proofs.HeadRows.{again-joined, again-none, as_table, head_
 use Rattle.proof_table_laws.proofs.HeadsRead.{no-chunk}
 use Rattle.proof_rows.proofs.JoinedLemmas.{EachNoContent, HasNoContent, events-no_content, has_front-no_content}
 use Rattle.proof_rows.proofs.JoinedLemmas.{tail-no_content}
-use Rattle.proof_rows.proofs.RowFacts.{AreRows, IsRow, behind_line}
+use Rattle.proof_rows.proofs.RowFacts.{AreRows, IsRow, following_line}
 use Rattle.proof_rows.proofs.TablesOff.{rows-unheaded}
 
 -- One line, before others.
@@ -38,7 +38,7 @@ other-read : (options : ParseOptions) (bytes : List ℕ) (row : Row) (es : List 
     HasFront bytes row → HasNoContent row →
     headed bytes options (row_events row ++ es) ≡ row_events row ++ headed bytes options es
 other-read options bytes row es other front quiet =
-    headed-behind bytes options (row_events row) es
+    headed-following bytes options (row_events row) es
     (no-chunk (row_events row)
     (events-no_content nothing row row.kind refl other (has_front-no_content nothing nothing-wanted bytes row front)
     (quiet nothing nothing-wanted)))
@@ -54,13 +54,13 @@ text-read : (options : ParseOptions) (bytes : List ℕ) (row : Row) (es read : L
 text-read options bytes row es read text front line =
     let tail : List Event = tail_events n.LineEnding row in
     ap (headed bytes options) (row-parts row TextRow es text)
-    ∙ headed-behind bytes options row.front
+    ∙ headed-following bytes options row.front
     (enter_link n.Content row.first content_link ∷ exit n.Content row.end ∷ (tail ++ es))
     (no-chunk row.front (has_front-no_content nothing nothing-wanted bytes row front))
     ∙ ap (λ (l : List Event). row.front ++ l)
     (line
     ∙ ap (λ (l : List Event). read ++ l)
-    (headed-behind bytes options tail es (no-chunk tail (tail-no_content nothing n.LineEnding row refl))))
+    (headed-following bytes options tail es (no-chunk tail (tail-no_content nothing n.LineEnding row refl))))
     ∙ sym
     (append_assoc (row.front ++ read) tail (headed bytes options es)
     ∙ append_assoc row.front read (tail ++ headed bytes options es))
@@ -104,7 +104,7 @@ row-read options bytes open_before still p line next lines row below rows are qu
     front = (p, are.0.front, are.0.front_read)
 
     open_next : List Container
-    open_next = behind_line options open_before still p line
+    open_next = following_line options open_before still p line
 
     Read : Bool → Type 0
     Read x =
@@ -156,7 +156,7 @@ rows-read options bytes open_before still p (line ∷ next ∷ lines) (row ∷ [
 rows-read options bytes open_before still p (line ∷ next ∷ lines) (row ∷ below ∷ rows) are quiet =
     row-read options bytes open_before still p line next lines row below rows are quiet.0
     ∙ ap (λ (l : List Event). row_events (read_again bytes row (below ∷ rows)) ++ l)
-    (rows-read options bytes (behind_line options open_before still p line) row.behind are.2 (next ∷ lines)
+    (rows-read options bytes (following_line options open_before still p line) row.following are.2 (next ∷ lines)
     (below ∷ rows) are.5 quiet.1)
 
 -- Where tables are off there are none.

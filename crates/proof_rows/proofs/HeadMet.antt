@@ -28,11 +28,11 @@ use Rattle.md_tables.specs.GfmTableLine.{table_line}
 use Rattle.md_tables.specs.Heads.{begins_further_row, is_chunk, is_table, meets_table, stops_look}
 use Rattle.md_tables.proofs.HeadsLemmas.{meets-other, prefix-passed}
 use Rattle.proof_frame.specs.Change.{ends_of}
-use Rattle.proof_frame.specs.HeldLeaf.{may_go_on}
+use Rattle.proof_frame.specs.HeldLeaf.{may_continue}
 use Rattle.proof_frame.specs.LeafName.{GfmTable, HeadingAtx, HeadingSetext, LeafName, ThematicBreak}
 use Rattle.md_registry.specs.Registry.{leaf}
 use Rattle.proof_frame.specs.Row.{BlankRow, LeafRow, Row, RowKind, TextRow, ending_events, ending_of}
-use Rattle.proof_rows.specs.Rows.{is_further, leaf_events, line_behind, row_events, row_events_by, rows_events}
+use Rattle.proof_rows.specs.Rows.{is_further, leaf_events, line_following, row_events, row_events_by, rows_events}
 use Rattle.proof_rows.specs.Rows.{tail_events, takes_head}
 use Rattle.proof_frame.specs.MarkRuns.{Apart, mark_runs}
 use Rattle.proof_frame.proofs.BlankLine.{blank-unlinked}
@@ -40,14 +40,14 @@ use Rattle.proof_frame.proofs.EachEvent.{Each, each-append, each-as}
 use Rattle.proof_frame.proofs.FrontNames.{ends-are, fronts-are, fronts-prefixes, HasFront}
 use Rattle.proof_rows.proofs.GroupLemmas.{rows-end, rows-front}
 use Rattle.proof_rows.proofs.GroupLines.{Begins}
-use Rattle.proof_rows.proofs.LineBehind.{FirstLine, first-line, line-begins, line-met}
+use Rattle.proof_rows.proofs.LineAfter.{FirstLine, first-line, line-begins, line-met}
 use Rattle.proof_rows.proofs.JoinedLemmas.{EachEnds}
 use Rattle.proof_frame.proofs.LeafLines.Cuts.{ending-is}
 use Rattle.proof_frame.proofs.MarkRuns.Each.{runs-hold}
 use Rattle.proof_frame.proofs.PartFacts.{IsUnlinked, NoLinks}
 use Rattle.proof_frame.proofs.PrefixNames.{AreFront, ArePrefixes, IsFrontEvent, is_alone, is_string}
 use Rattle.md_registry.proofs.SpanLeaves.{span-laws}
-use Rattle.proof_rows.proofs.RowFacts.{AreRows, IsRow, behind_line}
+use Rattle.proof_rows.proofs.RowFacts.{AreRows, IsRow, following_line}
 use Rattle.proof_rows.proofs.RowLeaf.{row-as}
 use Rattle.proof_frame.proofs.SpanLaws.{IsLineOf, IsSpanned}
 use Rattle.proof_frame.proofs.SpannedFacts.{AreUnspanned, unspanned-lines}
@@ -136,10 +136,11 @@ row-parts row kind es e =
     ∙ append_assoc row.front (leaf_events kind row) (tail_events (ending_of kind row) row ++ es)
 
 -- no line of a table is met in what is before it
-behind-front : (bytes : List ℕ) (row : Row) (kind : RowKind) (es : List Event) → row.kind ≡ kind → HasFront bytes row →
+following-front : (bytes : List ℕ) (row : Row) (kind : RowKind) (es : List Event) → row.kind ≡ kind →
+    HasFront bytes row →
     meets_table (leaf_events kind row ++ (tail_events (ending_of kind row) row ++ es)) ≡ false →
     meets_table (row_events row ++ es) ≡ false
-behind-front bytes row kind es e front none =
+following-front bytes row kind es e front none =
     ap meets_table (row-parts row kind es e)
     ∙ meets-past row.front (leaf_events kind row ++ (tail_events (ending_of kind row) row ++ es))
     (has_front-rows bytes row front) none
@@ -186,33 +187,33 @@ begins-met options bytes line row rows is front ends begins = go row.kind refl
     leaf_line : (l : LeafName) → row.kind ≡ LeafRow l → (x : Bool) → (leaf l).ends ≡ x →
         meets_table (row.inside ++ (tail_events (ending_of (LeafRow l) row) row ++ es)) ≡ false
     leaf_line l e true k =
-        let behind : List Event = tail_events (ending_of (LeafRow l) row) row ++ es in
-        ap (λ (l : List Event). meets_table (l ++ behind)) (is.leaf_is l e)
-        ∙ single-met l k options row.on line row.first behind
+        let following : List Event = tail_events (ending_of (LeafRow l) row) row ++ es in
+        ap (λ (l : List Event). meets_table (l ++ following)) (is.leaf_is l e)
+        ∙ single-met l k options row.on line row.first following
     leaf_line l e false k =
         let of : IsLineOf options bytes (leaf l) row = row-as options bytes line row is l e in
         let s : IsSpanned AreUnspanned IsBegin row.inside =
         (span-laws l k).first_spanned options bytes row of
         (ap (λ (kind : RowKind). is_further kind row.on) (sym e) ∙ begins) in
-        let behind : List Event = tail_events (ending_of (LeafRow l) row) row ++ es in
-        ap meets_table (line-apart AreUnspanned IsBegin row.inside behind s)
-        ∙ meets-past s.lead (s.begin ∷ (s.inside ++ s.end ∷ behind))
+        let following : List Event = tail_events (ending_of (LeafRow l) row) row ++ es in
+        ap meets_table (line-apart AreUnspanned IsBegin row.inside following s)
+        ∙ meets-past s.lead (s.begin ∷ (s.inside ++ s.end ∷ following))
         (lined-rows s.lead (unspanned-lines s.lead s.lead_plain))
-        (begin-met s.begin (s.inside ++ s.end ∷ behind) s.begins)
+        (begin-met s.begin (s.inside ++ s.end ∷ following) s.begins)
 
     go : (kind : RowKind) → row.kind ≡ kind → meets_table (row_events row ++ es) ≡ false
-    go TextRow e = behind-front bytes row TextRow es e front refl
+    go TextRow e = following-front bytes row TextRow es e front refl
     go BlankRow e =
-        behind-front bytes row BlankRow es e front
+        following-front bytes row BlankRow es e front
         (meets-past row.inside (tail_events n.BlankLineEnding row ++ es)
         (unlinked-rows row.inside (subst NoLinks (sym (is.blank e)) (blank-unlinked line row.first)))
         (blank-met row rows ends))
-    go (LeafRow l) e = behind-front bytes row (LeafRow l) es e front (leaf_line l e (leaf l).ends refl)
+    go (LeafRow l) e = following-front bytes row (LeafRow l) es e front (leaf_line l e (leaf l).ends refl)
 
 -- The first line of some, where no leaf is open that a line may continue,
 shut-met : (options : ParseOptions) (bytes : List ℕ) (cs : List Container) (still : HeldLeaf) (p : Point)
     (lines : List (List ℕ)) (rows : List Row) →
-    may_go_on still ≡ false → AreRows options bytes cs still p lines rows → meets_table (rows_events rows) ≡ false
+    may_continue still ≡ false → AreRows options bytes cs still p lines rows → meets_table (rows_events rows) ≡ false
 shut-met options bytes cs still p lines [] shut are = refl
 shut-met options bytes cs still p lines (row ∷ rows) shut are =
     go lines (first-line options bytes cs still p lines row rows are)
@@ -227,11 +228,12 @@ shut-met options bytes cs still p lines (row ∷ rows) shut are =
 -- and those after one, where none is open after that.
 rest-met : (options : ParseOptions) (bytes : List ℕ) (cs : List Container) (still : HeldLeaf) (p : Point)
     (lines : List (List ℕ)) (row : Row) (rows : List Row) →
-    AreRows options bytes cs still p lines (row ∷ rows) → may_go_on row.behind ≡ false →
+    AreRows options bytes cs still p lines (row ∷ rows) → may_continue row.following ≡ false →
     meets_table (rows_events rows) ≡ false
 rest-met options bytes cs still p lines row [] are shut = refl
 rest-met options bytes cs still p (line ∷ next ∷ lines) row (below ∷ rows) are shut =
-    shut-met options bytes (behind_line options cs still p line) row.behind are.2 (next ∷ lines) (below ∷ rows) shut
+    shut-met options bytes (following_line options cs still p line) row.following are.2 (next ∷ lines)
+    (below ∷ rows) shut
     are.5
 rest-met options bytes cs still p lines row rows are shut = absurd are
 
@@ -248,16 +250,16 @@ record IsOn (options : ParseOptions) (bytes : List ℕ) (row below : Row) : Type
 
 is-on : (options : ParseOptions) (bytes line : List ℕ) (row : Row) (cs : List Container) (p : Point)
     (lines : List (List ℕ)) (below : Row) →
-    IsRow options bytes line row → row.kind ≡ TextRow → FirstLine options bytes cs row.behind p lines below →
+    IsRow options bytes line row → row.kind ≡ TextRow → FirstLine options bytes cs row.following p lines below →
     is_further below.kind below.on ≡ true → IsOn options bytes row below
 is-on options bytes line row cs p [] below is text first f = absurd first
 is-on options bytes line row cs p (next ∷ lines) below is text first f =
-    let met = line-met options bytes cs row.behind p next below first f in
+    let met = line-met options bytes cs row.following p next below first f in
     record {
       line = _;
       is = first.is;
       at = open_text (step (progress_of row.on) (trim_start is.rest.bytes)) (kept is.rest);
-      on = met.2 ∙ is.behind ∙ ap (line_behind options row.on is.rest) text;
+      on = met.2 ∙ is.following ∙ ap (line_following options row.on is.rest) text;
       opens = met.0;
       closes = met.1;
     }
@@ -278,24 +280,24 @@ underline-rows options on line p = (
 -- So no table is met that continues it, where the line after it does not take it as its head.
 pub text-met : (options : ParseOptions) (bytes line : List ℕ) (row : Row) (cs : List Container) (p : Point)
     (lines : List (List ℕ)) (below : Row) (rows : List Row) →
-    IsRow options bytes line row → row.kind ≡ TextRow → AreRows options bytes cs row.behind p lines (below ∷ rows) →
+    IsRow options bytes line row → row.kind ≡ TextRow → AreRows options bytes cs row.following p lines (below ∷ rows) →
     (is_further below.kind below.on && takes_head below.kind) ≡ false →
     meets_table (rows_events (below ∷ rows)) ≡ false
 text-met options bytes line row cs p lines below rows is text are none =
     go (is_further below.kind below.on) refl none
   where
-    first : FirstLine options bytes cs row.behind p lines below
-    first = first-line options bytes cs row.behind p lines below rows are
+    first : FirstLine options bytes cs row.following p lines below
+    first = first-line options bytes cs row.following p lines below rows are
 
     front : HasFront bytes below
-    front = (rows-front options bytes cs row.behind p lines (below ∷ rows) are).0
+    front = (rows-front options bytes cs row.following p lines (below ∷ rows) are).0
 
-    begun : (lines : List (List ℕ)) → FirstLine options bytes cs row.behind p lines below → Begins below →
+    begun : (lines : List (List ℕ)) → FirstLine options bytes cs row.following p lines below → Begins below →
         meets_table (rows_events (below ∷ rows)) ≡ false
     begun [] first begins = absurd first
     begun (next ∷ more) first begins =
         begins-met options bytes _ below rows first.is front
-        (rows-end options bytes cs row.behind p lines (below ∷ rows) are) begins
+        (rows-end options bytes cs row.following p lines (below ∷ rows) are) begins
 
     under : (kind : RowKind) → below.kind ≡ kind → is_further kind below.on ≡ true → takes_head kind ≡ false →
         IsOn options bytes row below → meets_table (rows_events (below ∷ rows)) ≡ false
@@ -307,15 +309,15 @@ text-met options bytes line row cs p lines below rows is text are none =
         let plain : NoRows below.inside =
         subst NoRows (sym (of.is.leaf_is HeadingSetext (k ∙ ap LeafRow name)))
         (underline-rows options below.on of.line below.first) in
-        let shut : may_go_on below.behind ≡ false =
-        ap may_go_on
-        (of.is.behind ∙ ap (line_behind options below.on of.is.rest) k
+        let shut : may_continue below.following ≡ false =
+        ap may_continue
+        (of.is.following ∙ ap (line_following options below.on of.is.rest) k
         ∙ under-shuts of.at l further h options below.on of.is.rest) in
         let tail : List Event = tail_events (ending_of (LeafRow l) below) below in
-        behind-front bytes below (LeafRow l) (rows_events rows) k front
+        following-front bytes below (LeafRow l) (rows_events rows) k front
         (meets-past below.inside (tail ++ rows_events rows) plain
         (tail-met (ending_of (LeafRow l) below) below (rows_events rows)
-        (rest-met options bytes cs row.behind p lines below rows are shut)))
+        (rest-met options bytes cs row.following p lines below rows are shut)))
 
     go : (x : Bool) → is_further below.kind below.on ≡ x → (x && takes_head below.kind) ≡ false →
         meets_table (rows_events (below ∷ rows)) ≡ false
@@ -332,7 +334,7 @@ prefixes-met (e ∷ xs) ys h =
 -- Where it does, one is met, after the ending of the line and the prefixes of containers.
 pub head-met : (options : ParseOptions) (bytes line : List ℕ) (row : Row) (cs : List Container) (p : Point)
     (lines : List (List ℕ)) (below : Row) (rows : List Row) →
-    IsRow options bytes line row → row.kind ≡ TextRow → AreRows options bytes cs row.behind p lines (below ∷ rows) →
+    IsRow options bytes line row → row.kind ≡ TextRow → AreRows options bytes cs row.following p lines (below ∷ rows) →
     row.closed_after ≡ below.change.closes → (q : Point) → row.after ≡ Some q →
     is_further below.kind below.on ≡ true → takes_head below.kind ≡ true →
     meets_table (tail_events n.LineEnding row ++ rows_events (below ∷ rows)) ≡ true
@@ -341,13 +343,13 @@ head-met options bytes line row cs p lines below rows is text are leaves q after
     of : IsOn options bytes row below
     of =
         is-on options bytes line row cs p lines below is text
-        (first-line options bytes cs row.behind p lines below rows are) f
+        (first-line options bytes cs row.following p lines below rows are) f
 
     es : List Event
     es = rows_events (below ∷ rows)
 
     front : HasFront bytes below
-    front = (rows-front options bytes cs row.behind p lines (below ∷ rows) are).0
+    front = (rows-front options bytes cs row.following p lines (below ∷ rows) are).0
 
     go : (kind : RowKind) → below.kind ≡ kind → takes_head kind ≡ true →
         meets_table (tail_events n.LineEnding row ++ es) ≡ true
@@ -357,11 +359,11 @@ head-met options bytes line row cs p lines below rows is text are leaves q after
         let kind : below.kind ≡ LeafRow GfmTable = k ∙ ap LeafRow (heads-table l h) in
         let inside : below.inside ≡ table_line (held_leaf.Text of.at) of.line below.first =
         of.is.leaf_is GfmTable kind ∙ ap (λ (on : HeldLeaf). table_line on of.line below.first) of.on in
-        let behind : List Event = tail_events (ending_of (LeafRow GfmTable) below) below ++ rows_events rows in
+        let following : List Event = tail_events (ending_of (LeafRow GfmTable) below) below ++ rows_events rows in
         ap (λ (cs : List Container). meets_table ((ends_of cs row.end ++ ending_events n.LineEnding row) ++ es))
         (leaves ∙ of.closes)
         ∙ ap (λ (l : List Event). meets_table (l ++ es)) (ending-is n.LineEnding row q after)
         ∙ ap meets_table (row-parts below (LeafRow GfmTable) (rows_events rows) kind)
-        ∙ prefixes-met below.front (below.inside ++ behind)
+        ∙ prefixes-met below.front (below.inside ++ following)
         (fronts-prefixes bytes below.change.opens front.0 below.first below.front of.opens front.1)
-        ∙ ap (λ (l : List Event). meets_table (l ++ behind)) inside
+        ∙ ap (λ (l : List Event). meets_table (l ++ following)) inside

@@ -10,8 +10,9 @@ use Rattle.md_content.specs.Joined.{joined}
 use Rattle.proof_frame.specs.LeafName.{GfmTable, LeafName}
 use Rattle.md_registry.specs.Registry.{leaf}
 use Rattle.proof_frame.specs.Row.{BlankRow, LeafRow, Row, RowKind, TextRow, row_line}
-use Rattle.proof_rows.specs.Rows.{Group, Headed, Lines, Single, LeafLines, Turned, goes_on, groups, is_further, is_last}
-use Rattle.proof_rows.specs.Rows.{is_text, onto_groups, onto_leaf, onto_span, onto_underline, takes_head, rows_events}
+use Rattle.proof_rows.specs.Rows.{Group, Headed, Lines, Single, LeafLines, Turned, is_continued, groups, is_further}
+use Rattle.proof_rows.specs.Rows.{is_last, is_text, onto_groups, onto_leaf, onto_span, onto_underline, takes_head}
+use Rattle.proof_rows.specs.Rows.{rows_events}
 use Rattle.proof_table_laws.specs.Headed.{headed_row}
 use Rattle.proof_rows.specs.Unread.{joined_group, joined_groups}
 use Rattle.proof_frame.proofs.FrontNames.{HasFront}
@@ -117,14 +118,14 @@ leaf-spans bytes false row _ = refl
 -- so does a line of text that is no head
 text-spans : (bytes : List ℕ) (row : Row) (gs : List Group) → HeadsNone gs →
     onto_groups row TextRow (as_spans bytes gs) ≡ as_spans bytes (onto_groups row TextRow gs)
-text-spans bytes row (Lines below rows ∷ gs) none = go (goes_on row below)
+text-spans bytes row (Lines below rows ∷ gs) none = go (is_continued row below)
   where
     go : (x : Bool) →
         cond x (Lines row (below ∷ rows) ∷ as_spans bytes gs) (Lines row [] ∷ Lines below rows ∷ as_spans bytes gs) ≡
         as_spans bytes (cond x (Lines row (below ∷ rows) ∷ gs) (Lines row [] ∷ Lines below rows ∷ gs))
     go true = refl
     go false = refl
-text-spans bytes row (Turned below rows under ∷ gs) none = go (goes_on row below)
+text-spans bytes row (Turned below rows under ∷ gs) none = go (is_continued row below)
   where
     go : (x : Bool) →
         cond x (Turned row (below ∷ rows) under ∷ as_spans bytes gs)

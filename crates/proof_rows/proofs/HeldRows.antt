@@ -16,20 +16,20 @@ use Rattle.md_containers.proofs.UnlistedLemmas.{NoListing, held-append}
 use Rattle.md_engine.specs.Place.{first_point}
 use Rattle.md_meaning.specs.State.{Container}
 use Rattle.md_events.specs.Events.Blocks.{is_block}
-use Rattle.md_events.specs.Events.Nested.{exit, open_after, open_behind}
+use Rattle.md_events.specs.Events.Nested.{exit, open_after, open_following}
 use Rattle.md_events.specs.Events.Spelled.{Role, role}
 use Rattle.md_events.proofs.NestedLemmas.{balanced-open}
 use Rattle.md_events.proofs.SpelledLemmas.{Between}
 use Rattle.proof_frame.specs.Change.{ends_of}
 use Rattle.proof_frame.specs.ContainerNames.{container_name}
 use Rattle.proof_frame.specs.Row.{Row, ending_events}
-use Rattle.proof_rows.specs.Rows.{Group, final_row, first_row, front_done, group_done, groups, groups_events, tail_events}
-use Rattle.proof_rows.specs.Rows.{group_ending, is_blank_group}
+use Rattle.proof_rows.specs.Rows.{Group, final_row, first_row, front_done, group_done, groups, groups_events}
+use Rattle.proof_rows.specs.Rows.{tail_events, group_ending, is_blank_group}
 use Rattle.proof_rows.specs.BlockList.{group_unread, tabled_groups}
 use Rattle.proof_frame.proofs.ContainerNames.{container-facts, open_names}
-use Rattle.proof_frame.proofs.FrontFacts.{Begins, Behind, Goes, LinePrefix}
+use Rattle.proof_frame.proofs.FrontFacts.{Begins, Following, Proceeds, LinePrefix}
 use Rattle.proof_frame.proofs.FrontLemmas.{Turns, ends-turn, fronts-turn, turns-balanced}
-use Rattle.proof_frame.proofs.LeafStands.{between-unlisted, ending-between, roles-unlisted}
+use Rattle.proof_frame.proofs.LeafAllowed.{between-unlisted, ending-between, roles-unlisted}
 use Rattle.proof_rows.proofs.NestedRows.{ByGroups, Keeps, rows-hold}
 use Rattle.proof_frame.proofs.PrefixNames.{prefixes-roles}
 use Rattle.proof_rows.proofs.RowFacts.{AreRows}
@@ -47,9 +47,9 @@ blocks-append : (xs ys : List Name) → AreBlocks xs → AreBlocks ys → AreBlo
 blocks-append [] ys h k = k
 blocks-append (name ∷ xs) ys h k = (h.0, blocks-append xs ys h.1 k)
 
-blocks-behind : (xs ys : List Name) → AreBlocks (xs ++ ys) → AreBlocks ys
-blocks-behind [] ys h = h
-blocks-behind (name ∷ xs) ys h = blocks-behind xs ys h.1
+blocks-following : (xs ys : List Name) → AreBlocks (xs ++ ys) → AreBlocks ys
+blocks-following [] ys h = h
+blocks-following (name ∷ xs) ys h = blocks-following xs ys h.1
 
 -- as those of containers are
 containers-blocks : (cs : List Container) → AreBlocks (open_names cs)
@@ -92,7 +92,7 @@ unlisted-held : (names : List Name) (es : List Event) → NoListing es → Items
 unlisted-held names [] h = tt
 unlisted-held names (e ∷ es) h = (
   stays-held e.kind (role e.name) names (no_item e.name h.0),
-  unlisted-held (open_behind names e.kind e.name) es h.1,
+  unlisted-held (open_following names e.kind e.name) es h.1,
 )
 
 -- events before others
@@ -106,8 +106,8 @@ held-through from to xs ys h opened k =
 -- what is before a line
 fronts-held : (bytes : List ℕ) (opens : List Container) (names : List Name) (p q : Point) (front : List Event) →
     AreBlocks names → LinePrefix bytes opens p q front → ItemsHeld names front
-fronts-held bytes _ names p _ _ blocks (Behind _) = tt
-fronts-held bytes opens names p r _ blocks (Goes _ _ q _ es fs is more) =
+fronts-held bytes _ names p _ _ blocks (Following _) = tt
+fronts-held bytes opens names p r _ blocks (Proceeds _ _ q _ es fs is more) =
     held-through names names es fs
     (unlisted-held names es (between-unlisted es (prefixes-roles Between es tt tt tt is.names)))
     (balanced-open names es is.common.nested.0) (fronts-held bytes opens names q r fs blocks more)
@@ -177,7 +177,7 @@ group-held options bytes names kept p group front inside events is keeps blocks 
 
     left : AreBlocks kept
     left =
-        blocks-behind (open_names last.closed_after) kept
+        blocks-following (open_names last.closed_after) kept
         (subst AreBlocks keeps (blocks-append (open_names row.change.opens) names
         (containers-blocks row.change.opens) blocks))
 

@@ -10,7 +10,7 @@ use Rattle.md_engine.specs.declared.tokenizer.held_leaf.HeldLeaf.TheVariants as 
 use Rattle.md_events.specs.Events.Nested.{enter}
 use Rattle.md_events.specs.Events.Prefix.{is_prefix}
 use Rattle.proof_frame.specs.RestLine.{rest_line}
-use Rattle.proof_frame.specs.HeldLeaf.{has_lines, may_go_on, takes_lazy}
+use Rattle.proof_frame.specs.HeldLeaf.{has_lines, may_continue, takes_lazy}
 use Rattle.proof_frame.specs.LeafName as registry
 use Rattle.proof_frame.specs.LeafName.{LeafName}
 use Rattle.proof_table_laws.specs.Leaf.GfmTable.{table_leaf}
@@ -22,13 +22,14 @@ use Rattle.proof_frame.proofs.FrontNames.{fronts-prefixes}
 use Rattle.proof_frame.proofs.LinedFacts.{AreLined, IsLined, prefixes-lined}
 use Rattle.proof_frame.proofs.PrefixNames.{IsNamed}
 use Rattle.proof_frame.proofs.LeafLines.Each.{AreEach, OfGaps, span-each}
-use Rattle.proof_frame.proofs.SpanLaws.{AreBehind, IsLineOf}
+use Rattle.proof_frame.proofs.SpanLaws.{AreAfter, IsLineOf}
 use Rattle.proof_table_laws.proofs.GfmTable.Each.{OfTable, table-added_each}
 use Rattle.proof_table_laws.proofs.GfmTable.Head.{head-each}
 use Rattle.proof_table_laws.proofs.GfmTable.Span.{table-begins}
 use Rattle.md_registry.proofs.Registry.{laws}
 use Rattle.md_registry.proofs.UnderNames.{heads-table}
-use Rattle.proof_rows.proofs.GroupLines.{AreSpan, Begins, IsSpanLine, behind-first, line-further, line-of, span-begins}
+use Rattle.proof_rows.proofs.GroupLines.{AreSpan, Begins, IsSpanLine, following-first, line-further, line-of}
+use Rattle.proof_rows.proofs.GroupLines.{span-begins}
 
 -- Which leaf these lines are of, as the laws of such a leaf ask for them.
 pub record AreOfLeaf (options : ParseOptions) (bytes : List ℕ) (row : Row) (rows : List Row) : Type 0 where
@@ -36,7 +37,7 @@ pub record AreOfLeaf (options : ParseOptions) (bytes : List ℕ) (row : Row) (ro
   pub open_leaf : (leaf name).ends ≡ false
   pub is : IsLineOf options bytes (leaf name) row
   pub first : (leaf name).further row.on ≡ false
-  pub behind : AreBehind options bytes (leaf (further_of name)) row rows
+  pub following : AreAfter options bytes (leaf (further_of name)) row rows
 
 pub span-leaf : (options : ParseOptions) (bytes : List ℕ) (row : Row) (rows : List Row) →
     AreSpan options bytes row rows →
@@ -48,7 +49,7 @@ span-leaf options bytes row rows are begins =
       open_leaf = is.open_leaf;
       is = line-of options bytes row is;
       first = line-further options bytes row is false begins;
-      behind = behind-first options bytes row rows are;
+      following = following-first options bytes row rows are;
     }
 
 -- It is no table: that begins with its head.
@@ -74,23 +75,23 @@ further-plain registry.HtmlFlow e h = (refl, refl)
 further-plain _ e h = (e, h)
 
 -- a leaf that a line may continue, and that takes no lazy lines, has several
-lines-of : (on : HeldLeaf) → may_go_on on ≡ true → takes_lazy on ≡ false → has_lines on ≡ true
+lines-of : (on : HeldLeaf) → may_continue on ≡ true → takes_lazy on ≡ false → has_lines on ≡ true
 lines-of held_leaf.Code may lazy = refl
 lines-of _ may lazy = cc
 
 -- its further lines continue no text
-behind-lined : (options : ParseOptions) (bytes : List ℕ) (l : LeafName) (row : Row) (rows : List Row) →
-    (leaf l).ends ≡ false → (leaf l).heads ≡ false → takes_lazy row.behind ≡ false →
-    AreBehind options bytes (leaf l) row rows → AreEach IsLined rows
-behind-lined options bytes l row [] e h unlazy are = tt
-behind-lined options bytes l row (next ∷ rows) e h unlazy are =
+following-lined : (options : ParseOptions) (bytes : List ℕ) (l : LeafName) (row : Row) (rows : List Row) →
+    (leaf l).ends ≡ false → (leaf l).heads ≡ false → takes_lazy row.following ≡ false →
+    AreAfter options bytes (leaf l) row rows → AreEach IsLined rows
+following-lined options bytes l row [] e h unlazy are = tt
+following-lined options bytes l row (next ∷ rows) e h unlazy are =
     let is : IsLineOf options bytes (leaf l) next = are.6 in (
       prefixes-lined next.front (fronts-prefixes bytes [] are.0 next.first next.front refl are.3),
       subst AreLined (sym is.inside)
           ((laws l).lined e h options next.on is.rest next.first is.starts
           (λ f. lines-of next.on ((laws l).meets options next.on is.rest is.starts f) (ap takes_lazy are.4 ∙ unlazy))),
-      behind-lined options bytes l next rows e h
-          (ap takes_lazy is.behind ∙ ((laws l).not_lazy options next.on).1 is.rest) are.7,
+      following-lined options bytes l next rows e h
+          (ap takes_lazy is.following ∙ ((laws l).not_lazy options next.on).1 is.rest) are.7,
     )
 
 pub lines-hold : (L : List Event → Type 0) → OfGaps IsLined L → (options : ParseOptions) (bytes : List ℕ) (row : Row)
@@ -105,13 +106,13 @@ lines-hold L of options bytes row rows are begins =
     (subst AreLined (sym is.inside)
     ((laws l).lined leaf_is.open_leaf plain options row.on is.rest row.first is.starts
     (λ f. let bad : true ≡ false = sym f ∙ leaf_is.first in cc)))
-    (behind-lined options bytes (further_of l) row rows more.0 more.1
-    (ap takes_lazy is.behind ∙ ((laws l).not_lazy options row.on).1 is.rest) leaf_is.behind)
+    (following-lined options bytes (further_of l) row rows more.0 more.1
+    (ap takes_lazy is.following ∙ ((laws l).not_lazy options row.on).1 is.rest) leaf_is.following)
 
 -- Of tables: what holds of each event of a line, and of each prefix.
 
 rows-each : (P : Event → Type 0) → OfTable P → ((e : Event) → IsNamed is_prefix e → P e) → (options : ParseOptions)
-    (bytes : List ℕ) (row : Row) (rows : List Row) → AreBehind options bytes table_leaf row rows → AreEach P rows
+    (bytes : List ℕ) (row : Row) (rows : List Row) → AreAfter options bytes table_leaf row rows → AreEach P rows
 rows-each P of prefix options bytes row [] are = tt
 rows-each P of prefix options bytes row (next ∷ rows) are = (
   each-as (IsNamed is_prefix) P prefix next.front
@@ -122,7 +123,7 @@ rows-each P of prefix options bytes row (next ∷ rows) are = (
 
 pub headed-each : (P : Event → Type 0) → OfTable P → ((p : Point) → P (enter n.GfmTable p)) →
     ((e : Event) → IsNamed is_prefix e → P e) → OfGaps P (Each P) → (options : ParseOptions) (bytes : List ℕ)
-    (row next : Row) (rows : List Row) → AreBehind options bytes table_leaf row (next ∷ rows) →
+    (row next : Row) (rows : List Row) → AreAfter options bytes table_leaf row (next ∷ rows) →
     Each P (span_by (λ (r : Row). r.inside) (headed_row bytes row) (next ∷ rows))
 headed-each P of begins prefix gaps options bytes row next rows are =
     span-each P (Each P) gaps (headed_row bytes row) (next ∷ rows)

@@ -5,7 +5,7 @@ use Rattle.std.proofs.Common.{append-nil, ◌∙◌, subst, append_assoc}
 use Rattle.proof_frame.specs.EndingName.{ending_name}
 use Rattle.md_registry.specs.Registry.{leaf}
 use Rattle.proof_rows.specs.Rows.{Headed, LeafLines, Turned, is_further, is_last, onto_leaf, onto_underline, takes_head}
-use Rattle.proof_rows.specs.Rows.{behind_held, Group, Held, Lines, Single, groups, held_at, inside_of, leaf_events}
+use Rattle.proof_rows.specs.Rows.{after_held, Group, Held, Lines, Single, groups, held_at, inside_of, leaf_events}
 use Rattle.proof_rows.specs.Rows.{onto_groups, row_events, row_events_by, row_kind, rows_at, rows_by, rows_events}
 use Rattle.proof_rows.specs.Rows.{tail_events}
 use Rattle.std.specs.Prelude.{Option, Some, None, not}
@@ -22,20 +22,21 @@ use Rattle.md_engine.specs.declared.event.Name.TheVariants as n
 use Rattle.md_engine.specs.declared.event.Point.{Point}
 use Rattle.md_engine.specs.Meaning.{Cell}
 use Rattle.md_content.specs.Chunks.{content_link}
-use Rattle.md_content.specs.Joined.{content_behind, goes_on, is_content, joined}
+use Rattle.md_content.specs.Joined.{content_after, is_continued, is_content, joined}
 use Rattle.md_events.specs.Ahead.{begins_white, from_ending, line_end}
 use Rattle.md_events.specs.Events.Inline.{is_line_ending}
 use Rattle.md_events.specs.Events.Nested.{enter_link, exit, pair, is_enter, is_exit}
 use Rattle.md_meaning.specs.State.{Container}
 use Rattle.md_events.specs.Events.Prefix.{is_prefix}
 use Rattle.md_events.specs.Substituted.{wanted, wanted_at}
-use Rattle.proof_frame.specs.Change.{ends_of, is_none, open_behind}
-use Rattle.proof_frame.specs.Row.{BlankRow, Row, RowKind, TextRow, behind_row, ending_events, ending_of, last_row, LeafRow}
-use Rattle.proof_frame.specs.Row.{is_blank_by}
+use Rattle.proof_frame.specs.Change.{ends_of, is_none, open_following}
+use Rattle.proof_frame.specs.Row.{BlankRow, Row, RowKind, TextRow, after_row, ending_events, ending_of, last_row}
+use Rattle.proof_frame.specs.Row.{LeafRow, is_blank_by}
 use Rattle.proof_rows.specs.Unread.{joined_groups}
 use Rattle.proof_frame.specs.UnreadText.{linked_lines}
-use Rattle.proof_frame.proofs.FrontNames.{HasFront, ends-first, fronts-are, fronts-prefixes, fronts-stop, prefixes-content}
-use Rattle.proof_frame.proofs.EventNames.{front-content, is_told, told-content}
+use Rattle.proof_frame.proofs.FrontNames.{HasFront, ends-first, fronts-are, fronts-prefixes, fronts-stop}
+use Rattle.proof_frame.proofs.FrontNames.{prefixes-content}
+use Rattle.proof_frame.proofs.EventNames.{front-content, is_recorded, recorded-content}
 use Rattle.proof_frame.proofs.LeafLines.Cuts.{ending-is}
 use Rattle.md_registry.proofs.Registry.{laws}
 use Rattle.proof_rows.proofs.TextGroups.{HeadsNone, NoHeads, groups-unheaded, onto_text}
@@ -88,14 +89,14 @@ rows_at-no_content options (suc size) open_before still cells p =
             EachNoContent
             (elim rest [
               | [] ↦ []
-              | c ∷ cs ↦ rows_at options size (open_behind h.change) (behind_held options h) cs c.after
+              | c ∷ cs ↦ rows_at options size (open_following h.change) (after_held options h) cs c.after
             ])
         go [] = tt
-        go (c ∷ cs) = further (open_behind h.change) (behind_held options h) cs c.after
+        go (c ∷ cs) = further (open_following h.change) (after_held options h) cs c.after
 
 -- Their events.
 
-pub ending-no_content : (wants : Content → Bool) (name : Name) (row : Row) → is_told name ≡ false →
+pub ending-no_content : (wants : Content → Bool) (name : Name) (row : Row) → is_recorded name ≡ false →
     NoContent wants (ending_events name row)
 ending-no_content wants name row h = go row.after
   where
@@ -138,14 +139,14 @@ ends-no_content wants (c ∷ cs) p =
     (refl, front-content (container_name c) (container-facts c).front, tt)
 
 -- and after it
-pub tail-no_content : (wants : Content → Bool) (name : Name) (row : Row) → is_told name ≡ false →
+pub tail-no_content : (wants : Content → Bool) (name : Name) (row : Row) → is_recorded name ≡ false →
     NoContent wants (tail_events name row)
 tail-no_content wants name row h =
     no_content-append wants (ends_of row.closed_after row.end) (ending_events name row)
     (ends-no_content wants row.closed_after row.end) (ending-no_content wants name row h)
 
 -- the name of an ending is not that of content
-pub ending-other : (blank : Bool) → is_told (ending_name blank) ≡ false
+pub ending-other : (blank : Bool) → is_recorded (ending_name blank) ≡ false
 ending-other true = refl
 ending-other false = refl
 
@@ -172,25 +173,25 @@ joined-one e (f ∷ []) h = refl
 joined-one e (f ∷ g ∷ es) h =
     ap
     (λ (x : Bool).
-    cond (x && goes_on (f ∷ g ∷ es)) (record e { point = g.point } ∷ joined es) (e ∷ joined (f ∷ g ∷ es))) h
+    cond (x && is_continued (f ∷ g ∷ es)) (record e { point = g.point } ∷ joined es) (e ∷ joined (f ∷ g ∷ es))) h
 
 -- what is not content stays as it is
 pub joined-passes : (xs ys : List Event) → NoContent nothing xs → joined (xs ++ ys) ≡ xs ++ joined ys
 joined-passes [] ys h = refl
 joined-passes (e ∷ xs) ys h =
-    joined-one e (xs ++ ys) (and_right (is_exit e.kind) (is_content e.name) (told-content e.name h.1))
+    joined-one e (xs ++ ys) (and_right (is_exit e.kind) (is_content e.name) (recorded-content e.name h.1))
     ∙ ap (λ (l : List Event). e ∷ l) (joined-passes xs ys h.2)
 
 -- and no line of content continues over it
-behind-passes : (xs ys : List Event) → NoContent nothing xs → content_behind ys ≡ false →
-    content_behind (xs ++ ys) ≡ false
-behind-passes [] ys h k = k
-behind-passes (e ∷ xs) ys h k = go (is_prefix e.name) (behind-passes xs ys h.2 k)
+following-passes : (xs ys : List Event) → NoContent nothing xs → content_after ys ≡ false →
+    content_after (xs ++ ys) ≡ false
+following-passes [] ys h k = k
+following-passes (e ∷ xs) ys h k = go (is_prefix e.name) (following-passes xs ys h.2 k)
   where
-    go : (x : Bool) → content_behind (xs ++ ys) ≡ false →
-        cond x (content_behind (xs ++ ys)) (is_enter e.kind && is_content e.name) ≡ false
+    go : (x : Bool) → content_after (xs ++ ys) ≡ false →
+        cond x (content_after (xs ++ ys)) (is_enter e.kind && is_content e.name) ≡ false
     go true k = k
-    go false k = and_right (is_enter e.kind) (is_content e.name) (told-content e.name h.1)
+    go false k = and_right (is_enter e.kind) (is_content e.name) (recorded-content e.name h.1)
 
 -- each line but the last has an ending
 abbrev pub EachEnds : List Row → Type 0
@@ -199,11 +200,11 @@ EachEnds (row ∷ []) = Unit {0}
 EachEnds (row ∷ below ∷ rows) = (q : Point) × (after : row.after ≡ Some q) × EachEnds (below ∷ rows)
 
 -- after a line is the end of its ending
-pub behind-is : (row : Row) (q : Point) → row.after ≡ Some q → behind_row row ≡ q
-behind-is row q after = ap (λ (x : Option Point). elim x [ None ↦ row.end | Some q ↦ q ]) after
+pub following-is : (row : Row) (q : Point) → row.after ≡ Some q → after_row row ≡ q
+following-is row q after = ap (λ (x : Option Point). elim x [ None ↦ row.end | Some q ↦ q ]) after
 
-pub behind-none : (row : Row) → row.after ≡ None → behind_row row ≡ row.end
-behind-none row after = ap (λ (x : Option Point). elim x [ None ↦ row.end | Some q ↦ q ]) after
+pub following-none : (row : Row) → row.after ≡ None → after_row row ≡ row.end
+following-none row after = ap (λ (x : Option Point). elim x [ None ↦ row.end | Some q ↦ q ]) after
 
 -- before each line are prefixes and begins of containers
 abbrev pub EachFront : List ℕ → List Row → Type 0
@@ -215,36 +216,36 @@ abbrev text_events : Row → List Event
 text_events row = enter_link n.Content row.first content_link ∷ exit n.Content row.end ∷ []
 
 -- a line of content that continues takes its ending
-text-goes_on : (first end q : Point) (es : List Event) → content_behind es ≡ true →
+text-is_continued : (first end q : Point) (es : List Event) → content_after es ≡ true →
     joined (enter_link n.Content first content_link ∷ exit n.Content end ∷ pair n.LineEnding end q ++ es) ≡
     enter_link n.Content first content_link ∷ exit n.Content q ∷ joined es
-text-goes_on first end q es h =
+text-is_continued first end q es h =
     ap
     (λ (x : Bool).
     enter_link n.Content first content_link
     ∷ cond x (exit n.Content q ∷ joined es) (exit n.Content end ∷ joined (pair n.LineEnding end q ++ es))) h
 
 -- an event that is not joined with what follows
-joined-keeps : (e : Event) (es : List Event) → goes_on es ≡ false → joined (e ∷ es) ≡ e ∷ joined es
+joined-keeps : (e : Event) (es : List Event) → is_continued es ≡ false → joined (e ∷ es) ≡ e ∷ joined es
 joined-keeps e [] h = refl
 joined-keeps e (f ∷ []) h = refl
 joined-keeps e (f ∷ g ∷ es) h =
     ap (λ (x : Bool). cond x (record e { point = g.point } ∷ joined es) (e ∷ joined (f ∷ g ∷ es)))
-    (and_right (is_exit e.kind && is_content e.name) (goes_on (f ∷ g ∷ es)) h)
+    (and_right (is_exit e.kind && is_content e.name) (is_continued (f ∷ g ∷ es)) h)
 
 -- nothing continues over what is no line ending
-no_ending-stops : (e : Event) (es : List Event) → is_line_ending e.name ≡ false → goes_on (e ∷ es) ≡ false
+no_ending-stops : (e : Event) (es : List Event) → is_line_ending e.name ≡ false → is_continued (e ∷ es) ≡ false
 no_ending-stops e [] h = refl
-no_ending-stops e (f ∷ es) h = ap (λ (x : Bool). x && content_behind es) h
+no_ending-stops e (f ∷ es) h = ap (λ (x : Bool). x && content_after es) h
 
 ends-stop : (c : Container) (cs : List Container) (p : Point) (es : List Event) →
-    goes_on (ends_of (c ∷ cs) p ++ es) ≡ false
+    is_continued (ends_of (c ∷ cs) p ++ es) ≡ false
 ends-stop c cs p es =
-    ends-first (λ (l : List Event). goes_on l ≡ false) c cs p es
+    ends-first (λ (l : List Event). is_continued l ≡ false) c cs p es
     (λ d fs. no_ending-stops (exit (container_name d) p) fs (container-facts d).no_ending)
 
 -- a line of text that does not continue
-text-ends : (row : Row) (es : List Event) → goes_on (tail_events n.LineEnding row ++ es) ≡ false →
+text-ends : (row : Row) (es : List Event) → is_continued (tail_events n.LineEnding row ++ es) ≡ false →
     joined ((text_events row ++ tail_events n.LineEnding row) ++ es) ≡
     (text_events row ++ tail_events n.LineEnding row) ++ joined es
 text-ends row es h =
@@ -257,26 +258,27 @@ text-ends row es h =
 
 -- where a container ends after a line, or no line of content follows, it does not continue
 tail-stops : (row : Row) (es : List Event) (q : Point) → row.after ≡ Some q →
-    (is_none row.closed_after && content_behind es) ≡ false → goes_on (tail_events n.LineEnding row ++ es) ≡ false
+    (is_none row.closed_after && content_after es) ≡ false → is_continued (tail_events n.LineEnding row ++ es) ≡ false
 tail-stops row es q after h =
-    ap (λ (l : List Event). goes_on ((ends_of row.closed_after row.end ++ l) ++ es))
+    ap (λ (l : List Event). is_continued ((ends_of row.closed_after row.end ++ l) ++ es))
     (ending-is n.LineEnding row q after)
     ∙ go row.closed_after h
   where
     ending : List Event
     ending = pair n.LineEnding row.end q
 
-    go : (leaves : List Container) → (is_none leaves && content_behind es) ≡ false →
-        goes_on ((ends_of leaves row.end ++ ending) ++ es) ≡ false
+    go : (leaves : List Container) → (is_none leaves && content_after es) ≡ false →
+        is_continued ((ends_of leaves row.end ++ ending) ++ es) ≡ false
     go [] h = h
     go (c ∷ leaves) h =
-        ap goes_on (append_assoc (ends_of (c ∷ leaves) row.end) ending es) ∙ ends-stop c leaves row.end (ending ++ es)
+        ap is_continued (append_assoc (ends_of (c ∷ leaves) row.end) ending es)
+        ∙ ends-stop c leaves row.end (ending ++ es)
 
 -- what follows the front of a line
-abbrev behind_front : Row → List Event → List Event
-behind_front row es = (leaf_events row.kind row ++ tail_events (ending_of row.kind row) row) ++ es
+abbrev after_front : Row → List Event → List Event
+after_front row es = (leaf_events row.kind row ++ tail_events (ending_of row.kind row) row) ++ es
 
-events-front : (row : Row) (es : List Event) → row_events row ++ es ≡ row.front ++ behind_front row es
+events-front : (row : Row) (es : List Event) → row_events row ++ es ≡ row.front ++ after_front row es
 events-front row es =
     ap (λ (l : List Event). l ++ es)
     (append_assoc row.front (leaf_events row.kind row) (tail_events (ending_of row.kind row) row))
@@ -284,7 +286,7 @@ events-front row es =
 
 -- and what is before it
 text-apart : (bytes : List ℕ) (row : Row) (es : List Event) → HasFront bytes row →
-    goes_on (tail_events n.LineEnding row ++ es) ≡ false →
+    is_continued (tail_events n.LineEnding row ++ es) ≡ false →
     joined (row_events_by TextRow row ++ es) ≡ row_events_by TextRow row ++ joined es
 text-apart bytes row es front h =
     let tail = tail_events n.LineEnding row in
@@ -299,53 +301,53 @@ text-apart bytes row es front h =
 
 -- no line of content continues after the ending of a line that is no text
 ending-stops : (blank : Bool) (p q : Point) (es : List Event) →
-    content_behind (pair (ending_name blank) p q ++ es) ≡ false
+    content_after (pair (ending_name blank) p q ++ es) ≡ false
 ending-stops true p q es = refl
 ending-stops false p q es = refl
 
 -- after a line that is no text the one before does not continue
-other-behind : (bytes : List ℕ) (row : Row) (rows : List Row) → EachEnds (row ∷ rows) → HasFront bytes row →
+other-following : (bytes : List ℕ) (row : Row) (rows : List Row) → EachEnds (row ∷ rows) → HasFront bytes row →
     NoContent nothing row.inside → (kind : RowKind) → row.kind ≡ kind → kind ≢ TextRow →
-    content_behind (rows_events (row ∷ rows)) ≡ false
-other-behind bytes row rows ends front h kind e other =
-    ap content_behind (events-front row (rows_events rows))
+    content_after (rows_events (row ∷ rows)) ≡ false
+other-following bytes row rows ends front h kind e other =
+    ap content_after (events-front row (rows_events rows))
     ∙ ap
     (λ (k : RowKind).
-    content_behind (row.front ++ ((leaf_events k row ++ tail_events (ending_of k row) row) ++ rows_events rows))) e
-    ∙ behind-passes row.front ((leaf_events kind row ++ tail_events (ending_of kind row) row) ++ rows_events rows)
+    content_after (row.front ++ ((leaf_events k row ++ tail_events (ending_of k row) row) ++ rows_events rows))) e
+    ∙ following-passes row.front ((leaf_events kind row ++ tail_events (ending_of kind row) row) ++ rows_events rows)
     (has_front-no_content nothing nothing-wanted bytes row front) (go kind other)
   where
     ending : (kind : RowKind) (rows : List Row) → EachEnds (row ∷ rows) →
-        content_behind (ending_events (ending_of kind row) row ++ rows_events rows) ≡ false
+        content_after (ending_events (ending_of kind row) row ++ rows_events rows) ≡ false
     ending kind [] ends = last row.after
       where
         last : (after : Option Point) →
-            content_behind (elim after [ None ↦ [] | Some q ↦ pair (ending_of kind row) row.end q ] ++ []) ≡ false
+            content_after (elim after [ None ↦ [] | Some q ↦ pair (ending_of kind row) row.end q ] ++ []) ≡ false
         last None = refl
         last (Some q) = ending-stops (is_blank_by kind row) row.end q []
     ending kind (below ∷ rows) ends =
-        ap (λ (l : List Event). content_behind (l ++ rows_events (below ∷ rows)))
+        ap (λ (l : List Event). content_after (l ++ rows_events (below ∷ rows)))
         (ending-is (ending_of kind row) row ends.0 ends.1)
         ∙ ending-stops (is_blank_by kind row) row.end ends.0 (rows_events (below ∷ rows))
 
     tail : (kind : RowKind) (leaves : List Container) →
-        content_behind ((ends_of leaves row.end ++ ending_events (ending_of kind row) row) ++ rows_events rows) ≡ false
+        content_after ((ends_of leaves row.end ++ ending_events (ending_of kind row) row) ++ rows_events rows) ≡ false
     tail kind [] = ending kind rows ends
     tail kind (c ∷ leaves) =
-        ap content_behind
+        ap content_after
         (append_assoc (ends_of (c ∷ leaves) row.end) (ending_events (ending_of kind row) row) (rows_events rows))
-        ∙ ends-first (λ (l : List Event). content_behind l ≡ false) c leaves row.end
+        ∙ ends-first (λ (l : List Event). content_after l ≡ false) c leaves row.end
         (ending_events (ending_of kind row) row ++ rows_events rows) (λ d fs. end-stops d row.end fs)
 
     inside : (kind : RowKind) →
-        content_behind ((row.inside ++ tail_events (ending_of kind row) row) ++ rows_events rows) ≡ false
+        content_after ((row.inside ++ tail_events (ending_of kind row) row) ++ rows_events rows) ≡ false
     inside kind =
-        ap content_behind (append_assoc row.inside (tail_events (ending_of kind row) row) (rows_events rows))
-        ∙ behind-passes row.inside (tail_events (ending_of kind row) row ++ rows_events rows) h
+        ap content_after (append_assoc row.inside (tail_events (ending_of kind row) row) (rows_events rows))
+        ∙ following-passes row.inside (tail_events (ending_of kind row) row ++ rows_events rows) h
         (tail kind row.closed_after)
 
     go : (kind : RowKind) → kind ≢ TextRow →
-        content_behind ((leaf_events kind row ++ tail_events (ending_of kind row) row) ++ rows_events rows) ≡ false
+        content_after ((leaf_events kind row ++ tail_events (ending_of kind row) row) ++ rows_events rows) ≡ false
     go BlankRow other = inside BlankRow
     go (LeafRow l) other = inside (LeafRow l)
     go TextRow other = absurd (other refl)
@@ -389,34 +391,34 @@ text-lines bytes o row below more rows gs q after front under text same =
     es : List Event
     es = rows_events (below ∷ rows)
 
-    goes : Bool → List Group
-    goes x = cond x (text_group o row (below ∷ more) ∷ gs) (Lines row [] ∷ text_group o below more ∷ gs)
+    proceeds : Bool → List Group
+    proceeds x = cond x (text_group o row (below ∷ more) ∷ gs) (Lines row [] ∷ text_group o below more ∷ gs)
 
-    apart : (is_none row.closed_after && content_behind es) ≡ false →
+    apart : (is_none row.closed_after && content_after es) ≡ false →
         joined (row_events_by TextRow row ++ es) ≡ joined_groups bytes (Lines row [] ∷ text_group o below more ∷ gs)
     apart h =
         text-apart bytes row es front (tail-stops row es q after h)
         ∙ ap (λ (l : List Event). row_events_by TextRow row ++ l) same
 
-    behind : is_none below.change.opens ≡ false → content_behind es ≡ false
-    behind k =
-        ap content_behind (events-front below (rows_events rows))
+    following : is_none below.change.opens ≡ false → content_after es ≡ false
+    following k =
+        ap content_after (events-front below (rows_events rows))
         ∙ fronts-stop bytes below.change.opens under.0 below.first below.front
-        (behind_front below (rows_events rows)) k under.1
+        (after_front below (rows_events rows)) k under.1
 
     joins : row.closed_after ≡ [] → below.change.opens ≡ [] →
         joined (row_events_by TextRow row ++ es) ≡ joined_groups bytes (text_group o row (below ∷ more) ∷ gs)
     joins none opens_none =
-        let behind : List Event = under_events o ++ joined_groups bytes gs in
+        let following : List Event = under_events o ++ joined_groups bytes gs in
         let begin = enter_link n.Content row.first content_link in
         let tail = tail_events n.LineEnding row in
-        let goes_behind : content_behind es ≡ true =
-        ap content_behind (events-front below (rows_events rows))
-        ∙ prefixes-content below.front (behind_front below (rows_events rows))
+        let continues_after : content_after es ≡ true =
+        ap content_after (events-front below (rows_events rows))
+        ∙ prefixes-content below.front (after_front below (rows_events rows))
         (fronts-prefixes bytes below.change.opens under.0 below.first below.front opens_none under.1)
         ∙ ap
         (λ (kind : RowKind).
-        content_behind ((leaf_events kind below ++ tail_events (ending_of kind below) below) ++ rows_events rows)) text
+        content_after ((leaf_events kind below ++ tail_events (ending_of kind below) below) ++ rows_events rows)) text
         in
         ap joined
         (ap (λ (l : List Event). l ++ es) (append_assoc row.front (text_events row) tail)
@@ -426,30 +428,30 @@ text-lines bytes o row below more rows gs q after front under text same =
         ∙ ap (λ (l : List Event). row.front ++ joined ((text_events row ++ l) ++ es))
         (ap (λ (leaves : List Container). ends_of leaves row.end ++ ending_events n.LineEnding row) none
         ∙ ending-is n.LineEnding row q after)
-        ∙ ap (λ (l : List Event). row.front ++ l) (text-goes_on row.first row.end q es goes_behind)
+        ∙ ap (λ (l : List Event). row.front ++ l) (text-is_continued row.first row.end q es continues_after)
         ∙ ap (λ (l : List Event). row.front ++ (begin ∷ exit n.Content q ∷ l)) (same ∙ group-text bytes o below more gs)
-        ∙ ap (λ (p : Point). row.front ++ (begin ∷ exit n.Content p ∷ before_lines below more behind))
-        (sym (behind-is row q after))
+        ∙ ap (λ (p : Point). row.front ++ (begin ∷ exit n.Content p ∷ before_lines below more following))
+        (sym (following-is row q after))
         ∙ line-joins row.front below.front (linked_lines n.Content content_link below more)
-        (tail_events n.LineEnding (last_row below more)) behind begin (exit n.Content (behind_row row))
+        (tail_events n.LineEnding (last_row below more)) following begin (exit n.Content (after_row row))
         ∙ sym (group-text bytes o row (below ∷ more) gs)
 
     chosen : (leaves : List Container) → row.closed_after ≡ leaves → (opens : List Container) →
         below.change.opens ≡ opens →
         joined_groups bytes (onto_text o row below more gs) ≡
-        joined_groups bytes (goes (is_none leaves && is_none opens))
+        joined_groups bytes (proceeds (is_none leaves && is_none opens))
     chosen leaves e opens k =
-        ap (λ (l : List Container). joined_groups bytes (goes (is_none l && is_none below.change.opens))) e
-        ∙ ap (λ (l : List Container). joined_groups bytes (goes (is_none leaves && is_none l))) k
+        ap (λ (l : List Container). joined_groups bytes (proceeds (is_none l && is_none below.change.opens))) e
+        ∙ ap (λ (l : List Container). joined_groups bytes (proceeds (is_none leaves && is_none l))) k
 
     go : (leaves : List Container) → row.closed_after ≡ leaves → (opens : List Container) → below.change.opens ≡ opens →
         joined (row_events_by TextRow row ++ es) ≡ joined_groups bytes (onto_text o row below more gs)
     go [] e [] k = joins e k ∙ sym (chosen [] e [] k)
     go [] e (c ∷ opens) k =
-        apart (ap (λ (l : List Container). is_none l && content_behind es) e ∙ behind (ap is_none k))
+        apart (ap (λ (l : List Container). is_none l && content_after es) e ∙ following (ap is_none k))
         ∙ sym (chosen [] e (c ∷ opens) k)
     go (c ∷ leaves) e opens k =
-        apart (ap (λ (l : List Container). is_none l && content_behind es) e) ∙ sym (chosen (c ∷ leaves) e opens k)
+        apart (ap (λ (l : List Container). is_none l && content_after es) e) ∙ sym (chosen (c ∷ leaves) e opens k)
 
 -- A line of a leaf.
 
@@ -527,8 +529,8 @@ text-rows bytes row below rows q after fronts ends h none heads kind e same = go
     other kind e apart gs same =
         text-apart bytes row es fronts.0
         (tail-stops row es q after
-        (and_right (is_none row.closed_after) (content_behind es)
-        (other-behind bytes below rows ends fronts.1.0 h kind e apart)))
+        (and_right (is_none row.closed_after) (content_after es)
+        (other-following bytes below rows ends fronts.1.0 h kind e apart)))
         ∙ ap (λ (l : List Event). row_events_by TextRow row ++ l) same
 
     go : (kind : RowKind) → below.kind ≡ kind →
@@ -580,13 +582,15 @@ text-last : (bytes : List ℕ) (row : Row) → HasFront bytes row →
 text-last bytes row front = text-apart bytes row [] front (go row.closed_after row.after)
   where
     go : (leaves : List Container) (after : Option Point) →
-        goes_on ((ends_of leaves row.end ++ elim after [ None ↦ [] | Some q ↦ pair n.LineEnding row.end q ]) ++ []) ≡
+        is_continued ((ends_of leaves row.end ++ elim after [ None ↦ [] | Some q ↦ pair n.LineEnding row.end q ]) ++ [])
+        ≡
         false
     go [] None = refl
     go [] (Some q) = refl
     go (c ∷ leaves) after =
         let ending : List Event = elim after [ None ↦ [] | Some q ↦ pair n.LineEnding row.end q ] in
-        ap goes_on (append_assoc (ends_of (c ∷ leaves) row.end) ending []) ∙ ends-stop c leaves row.end (ending ++ [])
+        ap is_continued (append_assoc (ends_of (c ∷ leaves) row.end) ending [])
+        ∙ ends-stop c leaves row.end (ending ++ [])
 
 -- a line before others
 joined-row : (bytes : List ℕ) (row : Row) (rows : List Row) → EachFront bytes (row ∷ rows) → EachEnds (row ∷ rows) →

@@ -2,7 +2,7 @@ pub mod FrontRows
 pub mod RowLemmas
 pub mod TextAre
 pub mod LineSteps
-pub mod StepBehind
+pub mod StepAfter
 pub mod AloneGroups
 pub mod Begun
 pub mod BetweenRows
@@ -23,7 +23,7 @@ pub mod GrammarRows
 pub mod GroupFacts
 pub mod GroupLemmas
 pub mod GroupLines
-pub mod LineBehind
+pub mod LineAfter
 pub mod GroupsAre
 pub mod GroupsSet
 pub mod HeadJoined
@@ -50,7 +50,7 @@ pub mod RowLeaf
 pub mod SpanJoined
 pub mod SpannedGroups
 pub mod SpelledParagraphs
-pub mod StandRows
+pub mod ValidRows
 pub mod TableStarts
 pub mod TabledGroups
 pub mod TablesOff

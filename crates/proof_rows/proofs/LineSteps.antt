@@ -9,11 +9,12 @@ use Rattle.std.specs.Option.{is_some}
 use Rattle.md_engine.specs.declared.configuration.ParseOptions.{ParseOptions}
 use Rattle.md_containers.specs.Interrupts.{is_interrupted}
 use Rattle.md_meaning.specs.Containers.{Taken, continues, opens}
-use Rattle.md_meaning.specs.Leaves.{LeafResult, LazyText, NoText, Opened, goes_on, starts, underline_depth, with_line}
+use Rattle.md_meaning.specs.Leaves.{LeafResult, LazyText, NoText, Opened, is_continued, starts, underline_depth}
+use Rattle.md_meaning.specs.Leaves.{with_line}
 use Rattle.md_meaning.specs.Rest.{Rest, is_blank}
 use Rattle.md_meaning.specs.State.{At, Container, ParagraphLine, Leaf, NoLeaf, OpenParagraph, Path, Innermost, Within}
 use Rattle.md_meaning.specs.State.{at_spot, closed, container_block, kept, shut, spot, texts, then_block, then_leaf}
-use Rattle.md_meaning.specs.Step.{all_continued, all_continued_by, came, entered, fresh_by, fresh_line}
+use Rattle.md_meaning.specs.Step.{all_continued, all_continued_by, became, entered, fresh_by, fresh_line}
 use Rattle.md_meaning.specs.Step.{is_open_text, lazy_by, leaf_line, leaf_line_by, on_or_fresh, opened, spot_of, step}
 use Rattle.md_meaning.specs.Step.{stopped, stopped_by, text_line, underline_or_text, with_lazy}
 use Rattle.md_meaning.specs.Tree.{Blocks, End}
@@ -22,7 +23,7 @@ use Rattle.md_meaning.proofs.ContainerLemmas.{opens-leaves}
 use Rattle.md_meaning.proofs.TakenLemmas.{LeavesFewer}
 use Rattle.proof_frame.specs.Change.{Change, change_by, interrupts, is_none, against, others_of}
 use Rattle.proof_rows.specs.Fronted.{Contained, Prefixed, contained, no_prefix, one_more, prefixes_new}
-use Rattle.proof_rows.specs.Fronted.{prefixes_behind, prefixes_on}
+use Rattle.proof_rows.specs.Fronted.{prefixes_after, prefixes_on}
 use Rattle.proof_rows.specs.WithoutMdx.{IsWithoutMdx}
 use Rattle.proof_frame.specs.LeafName.{LeafName}
 use Rattle.proof_frame.specs.TextLines.{text_leaf}
@@ -30,16 +31,16 @@ use Rattle.md_registry.specs.Registry.{leaf, bars_containers}
 use Rattle.proof_frame.specs.Row.{BlankRow, LeafRow, RowKind, TextRow}
 use Rattle.proof_rows.specs.Rows.{is_further, is_lazy, is_text, takes_head, kind_of, line_kind}
 use Rattle.md_registry.specs.OpenSpan.{IsBuiltLeaf, IsOpenSpan}
-use Rattle.proof_rows.specs.Stands.{IsPlain, containers_of, still_of}
+use Rattle.proof_rows.specs.Valid.{IsPlain, containers_of, still_of}
 use Rattle.proof_frame.specs.Leaf.Paragraph.{held_of, open_lines}
 use Rattle.proof_rows.proofs.ContainedLemmas.{change-opens, ended-open, lazy-some, lines-unlazy}
 use Rattle.proof_rows.proofs.KindLemmas.{kind-plain}
-use Rattle.proof_rows.proofs.FurtherSpan.{FurtherSpan, built-concrete, context-none, further-span, met-none, none-further}
-use Rattle.proof_rows.proofs.FurtherSpan.{other-begins, other_kind, span-lazy}
-use Rattle.md_registry.proofs.LeafStarts.{came_of, leaf_at, text-starts}
+use Rattle.proof_rows.proofs.FurtherSpan.{FurtherSpan, built-concrete, context-none, further-span, met-none}
+use Rattle.proof_rows.proofs.FurtherSpan.{none-further, other-begins, other_kind, span-lazy}
+use Rattle.md_registry.proofs.LeafStarts.{result_of, leaf_at, text-starts}
 use Rattle.md_registry.proofs.Registry.{insider-none, text-laws}
 use Rattle.proof_rows.proofs.RegistryFound.{other_at, untabled-at, untext-found}
-use Rattle.proof_rows.proofs.TextFound.{front_before, lazy_on, text-comes, text_came, text_on}
+use Rattle.proof_rows.proofs.TextFound.{front_before, lazy_on, text-becomes, text_result, text_on}
 
 -- Leaves of several lines.
 
@@ -59,7 +60,7 @@ front-unlazy false options bs _ unlazy = refl
 -- by the line definition one continues or ends
 span-line : (options : ParseOptions) (s : Innermost) (r : Rest) (open_leaf : Leaf) →
     has_lines (kind_of_leaf open_leaf) ≡ true →
-    leaf_line_by options s r open_leaf ≡ on_or_fresh options s r (goes_on options open_leaf r)
+    leaf_line_by options s r open_leaf ≡ on_or_fresh options s r (is_continued options open_leaf r)
 span-line options s r NoLeaf e = cc
 span-line options s r (OpenParagraph lines) e = cc
 span-line options s r _ e = refl
@@ -72,14 +73,14 @@ text-interrupted _ = refl
 -- Lines, one after another.
 
 -- blocks, with what an open text becomes after them, if one is open
-abbrev behind_text : ParseOptions → Blocks → List ParagraphLine → Blocks
-behind_text options bs [] = bs
-behind_text options bs (k ∷ ks) = text_leaf.behind options bs (texts (k ∷ ks))
+abbrev after_text : ParseOptions → Blocks → List ParagraphLine → Blocks
+after_text options bs [] = bs
+after_text options bs (k ∷ ks) = text_leaf.following options bs (texts (k ∷ ks))
 
 -- what is open after a line of this kind, where nothing was but this text
 abbrev pub spot_by : ParseOptions → Blocks → List ParagraphLine → Rest → RowKind → Innermost
-spot_by options bs held r BlankRow = spot_of (behind_text options bs held)
-spot_by options bs held r (LeafRow l) = came (behind_text options bs held) ((leaf l).comes options NoLeaf r)
+spot_by options bs held r BlankRow = spot_of (after_text options bs held)
+spot_by options bs held r (LeafRow l) = became (after_text options bs held) ((leaf l).becomes options NoLeaf r)
 spot_by options bs held r TextRow = with_line bs held r
 
 -- a line where nothing is open, or what was open has ended and is no text
@@ -89,7 +90,7 @@ unfolding fresh_line
 fresh-plain options on bs r unlazy =
     go (is_blank r.bytes) refl
   where
-    by : (o : Option LeafName) → fresh_by bs r (came_of options r o) ≡ spot_by options bs [] r (kind_of o)
+    by : (o : Option LeafName) → fresh_by bs r (result_of options r o) ≡ spot_by options bs [] r (kind_of o)
     by (Some l) = refl
     by None = refl
 
@@ -112,16 +113,16 @@ fresh-found options bs r built =
     (untabled-at options held_leaf.None r refl)))
 
 -- what an open leaf becomes with a line of this kind
-abbrev pub come_by : ParseOptions → Leaf → Rest → RowKind → LeafResult
-come_by options open_leaf r (LeafRow l) = (leaf l).comes options open_leaf r
-come_by options open_leaf r kind = Opened open_leaf
+abbrev pub becomes_by : ParseOptions → Leaf → Rest → RowKind → LeafResult
+becomes_by options open_leaf r (LeafRow l) = (leaf l).becomes options open_leaf r
+becomes_by options open_leaf r kind = Opened open_leaf
 
 -- a line where text is open: it turns the text, or is after it, or is one more line of it
 abbrev text_spot : ParseOptions → Blocks → List ParagraphLine → Rest → RowKind → Innermost
 text_spot options bs lines r kind =
     cond (is_further kind (text_on lines))
-    (came (front_before (takes_head kind) options bs (text_leaf.held lines))
-    (come_by options (text_leaf.held lines) r kind))
+    (became (front_before (takes_head kind) options bs (text_leaf.held lines))
+    (becomes_by options (text_leaf.held lines) r kind))
     (spot_by options bs lines r kind)
 
 text-found : (options : ParseOptions) (bs : Blocks) (k : ParagraphLine) (ks : List ParagraphLine) (r : Rest) →
@@ -134,7 +135,7 @@ text-found options bs k ks r built =
     (sym (kind-plain options (text_on (k ∷ ks)) r (insider-none (text_on (k ∷ ks)) refl)))
   where
     by : (o : Option LeafName) →
-        text_came options bs (k ∷ ks) r o ≡ text_spot options bs (k ∷ ks) r (kind_of o)
+        text_result options bs (k ∷ ks) r o ≡ text_spot options bs (k ∷ ks) r (kind_of o)
     by (Some l) = refl
     by None = refl
 
@@ -143,7 +144,7 @@ text-found options bs k ks r built =
         (underline_or_text options bs (k ∷ ks) r (underline_depth options r)) ≡
         text_spot options bs (k ∷ ks) r (cond x BlankRow (kind_of (leaf_at options (text_on (k ∷ ks)) r)))
     go true e = ap spot_of (text-laws.shut options bs (k ∷ ks))
-    go false e = text-comes options bs k ks r e ∙ by (leaf_at options (text_on (k ∷ ks)) r)
+    go false e = text-becomes options bs k ks r e ∙ by (leaf_at options (text_on (k ∷ ks)) r)
 
 -- The containers that open.
 
@@ -224,9 +225,9 @@ kept_to options (c ∷ cs) (At s) = At (spot_of (shut options s))
 kept_to options (c ∷ cs) (Within before container p) = Within before c (kept_to options cs p)
 
 -- what follows the blocks of the innermost container
-abbrev pub behind_path : Path → (Blocks → Path) → Path
-behind_path (At s) f = f s.here
-behind_path (Within before container p) f = Within before container (behind_path p f)
+abbrev pub after_path : Path → (Blocks → Path) → Path
+after_path (At s) f = f s.here
+after_path (Within before container p) f = Within before container (after_path p f)
 
 -- these new containers, and in the innermost a line of its kind, where it meets this leaf
 abbrev pub new_line : ParseOptions → HeldLeaf → List Container → Rest → Blocks → Path
@@ -235,22 +236,22 @@ new_line options on (c ∷ cs) r bs = Within bs c (new_line options on cs r End)
 
 -- with the innermost leaf as it is then; of a text, after the definitions at its front, or, where a line takes the last
 -- line of it as its head, after what is read of the others
-abbrev pub with_came : ParseOptions → Bool → Path → LeafResult → Path
-with_came options heads (At s) c = At (came (front_before heads options s.here s.leaf) c)
-with_came options heads (Within before container p) c = Within before container (with_came options heads p c)
+abbrev pub with_result : ParseOptions → Bool → Path → LeafResult → Path
+with_result options heads (At s) c = At (became (front_before heads options s.here s.leaf) c)
+with_result options heads (Within before container p) c = Within before container (with_result options heads p c)
 
 -- What a line does where these containers continued, and these open on it: it continues the open text, and all
 -- containers stay; or it continues the open leaf of several lines, or turns the open text; or all else is closed, and
 -- it begins in the new containers.
 abbrev pub stepped : ParseOptions → Path → List Container → Prefixed → Path
-stepped options p went new =
-    let on = against (still_of p) (others_of (containers_of p) went) new.containers in
+stepped options p proceeded new =
+    let on = against (still_of p) (others_of (containers_of p) proceeded) new.containers in
     let kind = line_kind options on new.rest in
     cond (is_lazy (still_of p) new.containers kind)
-    (longer (renewed (went ++ others_of (containers_of p) went) p) (kept new.rest ∷ []))
+    (longer (renewed (proceeded ++ others_of (containers_of p) proceeded) p) (kept new.rest ∷ []))
     (cond (is_further kind on)
-    (with_came options (takes_head kind) (renewed went p) (come_by options (spot p).leaf new.rest kind))
-    (behind_path (kept_to options went p) (new_line options on new.containers new.rest)))
+    (with_result options (takes_head kind) (renewed proceeded p) (becomes_by options (spot p).leaf new.rest kind))
+    (after_path (kept_to options proceeded p) (new_line options on new.containers new.rest)))
 
 renewed-same : (p : Path) → renewed (containers_of p) p ≡ p
 renewed-same (At s) = refl
@@ -261,10 +262,10 @@ renewed-spot [] p = refl
 renewed-spot (c ∷ cs) (At s) = refl
 renewed-spot (c ∷ cs) (Within before container p) = renewed-spot cs p
 
-stepped-more : (options : ParseOptions) (p : Path) (went : List Container) (c : Container) (new : Prefixed) →
-    stepped options p went (one_more c new) ≡
-    behind_path (kept_to options went p) (new_line options held_leaf.None (c ∷ new.containers) new.rest)
-stepped-more options p went c new =
+stepped-more : (options : ParseOptions) (p : Path) (proceeded : List Container) (c : Container) (new : Prefixed) →
+    stepped options p proceeded (one_more c new) ≡
+    after_path (kept_to options proceeded p) (new_line options held_leaf.None (c ∷ new.containers) new.rest)
+stepped-more options p proceeded c new =
     ap (λ (x : Bool). cond x lazy (cond (is_further kind held_leaf.None) further other))
     (lazy-some (still_of p) c new.containers kind)
     ∙ ap (λ (x : Bool). cond x further other) (none-further options held_leaf.None new.rest refl)
@@ -273,13 +274,14 @@ stepped-more options p went c new =
     kind = line_kind options held_leaf.None new.rest
 
     lazy : Path
-    lazy = longer (renewed (went ++ others_of (containers_of p) went) p) (kept new.rest ∷ [])
+    lazy = longer (renewed (proceeded ++ others_of (containers_of p) proceeded) p) (kept new.rest ∷ [])
 
     further : Path
-    further = with_came options (takes_head kind) (renewed went p) (come_by options (spot p).leaf new.rest kind)
+    further = with_result options (takes_head kind) (renewed proceeded p)
+        (becomes_by options (spot p).leaf new.rest kind)
 
     other : Path
-    other = behind_path (kept_to options went p) (new_line options held_leaf.None (c ∷ new.containers) new.rest)
+    other = after_path (kept_to options proceeded p) (new_line options held_leaf.None (c ∷ new.containers) new.rest)
 
 -- the containers that open in a new one
 opened-new : (options : ParseOptions) (n : ℕ) (r : Rest) → IsWithoutMdx options →
@@ -327,25 +329,25 @@ text-stepped options bs r built k ks =
         cond (is_lazy (text_on (k ∷ ks)) [] kind) (At (with_line bs (k ∷ ks) r))
         (cond (is_further kind (text_on (k ∷ ks)))
         (At
-        (came (front_before (takes_head kind) options bs (text_leaf.held (k ∷ ks)))
-        (come_by options (text_leaf.held (k ∷ ks)) r kind)))
+        (became (front_before (takes_head kind) options bs (text_leaf.held (k ∷ ks)))
+        (becomes_by options (text_leaf.held (k ∷ ks)) r kind)))
         (At (spot_by options shut_to [] r kind)))
 
     go : (kind : RowKind) →
-        At (text_spot options bs (k ∷ ks) r kind) ≡ by kind (text_leaf.behind options bs (texts (k ∷ ks)))
+        At (text_spot options bs (k ∷ ks) r kind) ≡ by kind (text_leaf.following options bs (texts (k ∷ ks)))
     go BlankRow = refl
     go TextRow = refl
     go (LeafRow l) = to ((leaf l).further (text_on (k ∷ ks)))
       where
         turned : Innermost
         turned =
-            came (front_before (leaf l).heads options bs (text_leaf.held (k ∷ ks)))
-            ((leaf l).comes options (text_leaf.held (k ∷ ks)) r)
+            became (front_before (leaf l).heads options bs (text_leaf.held (k ∷ ks)))
+            ((leaf l).becomes options (text_leaf.held (k ∷ ks)) r)
 
-        behind : Innermost
-        behind = came (text_leaf.behind options bs (texts (k ∷ ks))) ((leaf l).comes options NoLeaf r)
+        following : Innermost
+        following = became (text_leaf.following options bs (texts (k ∷ ks))) ((leaf l).becomes options NoLeaf r)
 
-        to : (x : Bool) → At (cond x turned behind) ≡ cond x (At turned) (At behind)
+        to : (x : Bool) → At (cond x turned following) ≡ cond x (At turned) (At following)
         to true = refl
         to false = refl
 
@@ -353,7 +355,7 @@ span-stepped : (options : ParseOptions) (bs : Blocks) (r : Rest) → IsWithoutMd
     FurtherSpan open_leaf → IsStepped options bs r open_leaf
 span-stepped options bs r built open_leaf is =
     ap At (span-line options s r open_leaf is.lines)
-    ∙ ap (λ (o : Option LeafResult). At (on_or_fresh options s r o)) (is.goes options r)
+    ∙ ap (λ (o : Option LeafResult). At (on_or_fresh options s r o)) (is.proceeds options r)
     ∙ go (is.takes options r)
     ∙ ap (by bs) (sym (is.kind options r))
     ∙ ap (λ (x : Blocks). by x (line_kind options still r))
@@ -369,7 +371,7 @@ span-stepped options bs r built open_leaf is =
     unlazy_leaf = lines-unlazy still is.lines
 
     further : Blocks → RowKind → Path
-    further x kind = At (came x (come_by options open_leaf r kind))
+    further x kind = At (became x (becomes_by options open_leaf r kind))
 
     other : RowKind → Path
     other kind = At (spot_by options (shut options s) [] r kind)
@@ -391,7 +393,7 @@ span-stepped options bs r built open_leaf is =
         (lazy-none still [] kind unlazy_leaf))
 
     go : (x : Bool) →
-        At (on_or_fresh options s r (cond x (Some ((leaf is.name).comes options open_leaf r)) None)) ≡
+        At (on_or_fresh options s r (cond x (Some ((leaf is.name).becomes options open_leaf r)) None)) ≡
         by bs (cond x (LeafRow is.name) (other_kind options still r))
     go true = unlazy (LeafRow is.name) true is.further
     go false =
@@ -412,26 +414,26 @@ leaf-stepped options bs open_leaf r built plain =
         (λ (x : Bool).
         cond x
         (At
-        (came (front_before (takes_head (line_kind options held_leaf.None r)) options bs NoLeaf)
-        (come_by options NoLeaf r (line_kind options held_leaf.None r))))
+        (became (front_before (takes_head (line_kind options held_leaf.None r)) options bs NoLeaf)
+        (becomes_by options NoLeaf r (line_kind options held_leaf.None r))))
         (At (spot_by options bs [] r (line_kind options held_leaf.None r))))
         (none-further options held_leaf.None r refl))
 
 -- where one did not continue, none is shut out
-new-others : (options : ParseOptions) (still : HeldLeaf) (c : Container) (cs : List Container) (went : Prefixed) →
-    prefixes_behind options still (c ∷ cs) went ≡ all_new options (interrupts still (c ∷ cs)) went.rest
-new-others options still c cs went = go (bars_containers still)
+new-others : (options : ParseOptions) (still : HeldLeaf) (c : Container) (cs : List Container) (proceeded : Prefixed) →
+    prefixes_after options still (c ∷ cs) proceeded ≡ all_new options (interrupts still (c ∷ cs)) proceeded.rest
+new-others options still c cs proceeded = go (bars_containers still)
   where
     go : (x : Bool) →
-        cond (x && false) (no_prefix went.rest) (all_new options (interrupts still (c ∷ cs)) went.rest) ≡
-        all_new options (interrupts still (c ∷ cs)) went.rest
+        cond (x && false) (no_prefix proceeded.rest) (all_new options (interrupts still (c ∷ cs)) proceeded.rest) ≡
+        all_new options (interrupts still (c ∷ cs)) proceeded.rest
     go true = refl
     go false = refl
 
 -- where all containers continue
 step-at : (options : ParseOptions) (s : Innermost) (r : Rest) → IsWithoutMdx options → IsBuiltLeaf s.leaf →
     all_continued options s r ≡
-    stepped options (At s) [] (prefixes_behind options (kind_of_leaf s.leaf) [] (no_prefix r))
+    stepped options (At s) [] (prefixes_after options (kind_of_leaf s.leaf) [] (no_prefix r))
 unfolding all_continued
 step-at options s r built plain =
     ap₂ (λ (x y : Bool). all_continued_by options s r (cond x None (opens options y r))) (built-concrete s.leaf plain)
@@ -520,7 +522,7 @@ lazy-stepped options before c p r built leaf e plain =
             (cond (x || is_some o) None (Some (text_leaf.held (k ∷ ks ++ kept r ∷ []))))
 
         by : is_blank r.bytes ≡ false → (o : Option LeafName) → leaf_at options (lazy_on (k ∷ ks)) r ≡ o →
-            to false (came_of options r o) ≡ longer_by (text_on (k ∷ ks)) (kind_of o)
+            to false (result_of options r o) ≡ longer_by (text_on (k ∷ ks)) (kind_of o)
         by dark (Some l) found =
             plain_line ∙ ap (λ (x : Bool). other (kind_by held_leaf.None x)) dark
             ∙ ap (λ (o : Option LeafName). other (kind_of o)) (text-starts options (open_lines (k ∷ ks)) r l found)
@@ -541,7 +543,7 @@ lazy-stepped options before c p r built leaf e plain =
             ap (λ (x : Bool). to x (starts options LazyText r)) b
             ∙ ap (to false)
             (untext-found options (lazy_on (k ∷ ks)) LazyText r refl refl b
-            ∙ ap (came_of options r) (sym (untabled-at options (lazy_on (k ∷ ks)) r refl)))
+            ∙ ap (result_of options r) (sym (untabled-at options (lazy_on (k ∷ ks)) r refl)))
             ∙ by b (leaf_at options (lazy_on (k ∷ ks)) r) refl
             ∙ sym (ap (λ (x : Bool). longer_by (text_on (k ∷ ks)) (kind_by (lazy_on (k ∷ ks)) x)) b)
 
@@ -562,7 +564,7 @@ step-stopped : (options : ParseOptions) (before : Blocks) (c : Container) (p : P
     IsPlain p →
     stopped options before c p r ≡
     stepped options (Within before c p) []
-    (prefixes_behind options (still_of p) (c ∷ containers_of p) (no_prefix r))
+    (prefixes_after options (still_of p) (c ∷ containers_of p) (no_prefix r))
 unfolding stopped
 step-stopped options before c p r built plain =
     go (opens options false r)
@@ -591,32 +593,33 @@ step-stopped options before c p r built plain =
         (sym
         (ap
         (λ (x : Bool).
-        cond x (with_came options (takes_head kind) (Within before c p) (come_by options (spot p).leaf r kind))
+        cond x (with_result options (takes_head kind) (Within before c p) (becomes_by options (spot p).leaf r kind))
         (At (spot_by options (then_block before (container_block c (closed options p))) [] r kind)))
         (none-further options on r (ended-open (still_of p)))))
     go (Some t) =
         entered-new options (then_block before (container_block c (closed options p))) t built
         ∙ sym (stepped-more options (Within before c p) [] t.container (all_new options false t.rest))
 
-stepped-within : (options : ParseOptions) (before : Blocks) (c d : Container) (p : Path) (went : List Container)
+stepped-within : (options : ParseOptions) (before : Blocks) (c d : Container) (p : Path) (proceeded : List Container)
     (new : Prefixed) →
-    Within before d (stepped options p went new) ≡ stepped options (Within before c p) (d ∷ went) new
-stepped-within options before c d p went new = go (is_lazy (still_of p) new.containers kind) (is_further kind on)
+    Within before d (stepped options p proceeded new) ≡ stepped options (Within before c p) (d ∷ proceeded) new
+stepped-within options before c d p proceeded new = go (is_lazy (still_of p) new.containers kind) (is_further kind on)
   where
     on : HeldLeaf
-    on = against (still_of p) (others_of (containers_of p) went) new.containers
+    on = against (still_of p) (others_of (containers_of p) proceeded) new.containers
 
     kind : RowKind
     kind = line_kind options on new.rest
 
     lazy : Path
-    lazy = longer (renewed (went ++ others_of (containers_of p) went) p) (kept new.rest ∷ [])
+    lazy = longer (renewed (proceeded ++ others_of (containers_of p) proceeded) p) (kept new.rest ∷ [])
 
     further : Path
-    further = with_came options (takes_head kind) (renewed went p) (come_by options (spot p).leaf new.rest kind)
+    further = with_result options (takes_head kind) (renewed proceeded p)
+        (becomes_by options (spot p).leaf new.rest kind)
 
     other : Path
-    other = behind_path (kept_to options went p) (new_line options on new.containers new.rest)
+    other = after_path (kept_to options proceeded p) (new_line options on new.containers new.rest)
 
     go : (x y : Bool) →
         Within before d (cond x lazy (cond y further other)) ≡
@@ -632,7 +635,7 @@ on_by options cs r o = elim o [ None ↦ no_prefix r | Some t ↦ one_more t.con
 abbrev pub stepped_on : ParseOptions → Path → Prefixed → Path
 stepped_on options p on =
     stepped options p on.containers
-    (prefixes_behind options (still_of p) (others_of (containers_of p) on.containers) on)
+    (prefixes_after options (still_of p) (others_of (containers_of p) on.containers) on)
 
 pub step-new : (options : ParseOptions) (p : Path) (r : Rest) → IsWithoutMdx options → IsPlain p →
     step options p r ≡ stepped_on options p (prefixes_on options (containers_of p) r)
@@ -647,28 +650,28 @@ step-new options (Within before c p) r built plain = go (λ s. step-new options 
         let on = prefixes_on options (containers_of p) t.rest in
         ap (Within before t.container) (below t.rest)
         ∙ stepped-within options before c t.container p on.containers
-        (prefixes_behind options (still_of p) (others_of (containers_of p) on.containers) on)
+        (prefixes_after options (still_of p) (others_of (containers_of p) on.containers) on)
 
 -- what a line does to the containers, where a path is open
 abbrev pub contained_at : ParseOptions → Path → Rest → Contained
 contained_at options p r = contained options (containers_of p) (still_of p) r
 
 -- whether a line continues the open text
-abbrev pub goes_lazy : ParseOptions → Path → Contained → Bool
-goes_lazy options p c = is_lazy (still_of p) c.change.opens (line_kind options c.on c.rest)
+abbrev pub continues_lazy : ParseOptions → Path → Contained → Bool
+continues_lazy options p c = is_lazy (still_of p) c.change.opens (line_kind options c.on c.rest)
 
 -- whether it continues the leaf that it meets, one of several lines or text, and what is open after it then
-abbrev pub goes_further : ParseOptions → Contained → Bool
-goes_further options c = is_further (line_kind options c.on c.rest) c.on
+abbrev pub continues_further : ParseOptions → Contained → Bool
+continues_further options c = is_further (line_kind options c.on c.rest) c.on
 
 abbrev pub further_path : ParseOptions → Path → Contained → Path
 further_path options p c =
-    with_came options (takes_head (line_kind options c.on c.rest)) (renewed c.change.stays p)
-    (come_by options (spot p).leaf c.rest (line_kind options c.on c.rest))
+    with_result options (takes_head (line_kind options c.on c.rest)) (renewed c.change.stays p)
+    (becomes_by options (spot p).leaf c.rest (line_kind options c.on c.rest))
 
 -- where it does neither: some containers stay, and after them it opens others, and begins in the innermost
 abbrev pub new_path : ParseOptions → Path → Contained → Path
-new_path options p c = behind_path (kept_to options c.change.stays p) (new_line options c.on c.change.opens c.rest)
+new_path options p c = after_path (kept_to options c.change.stays p) (new_line options c.on c.change.opens c.rest)
 
 -- by which of these it does
 abbrev pub path_by : ParseOptions → Path → Contained → Bool → Bool → Path
@@ -679,7 +682,7 @@ path_by options p c lazy further =
 -- What a line does to the containers and the leaf that are open, by its containers.
 pub step-contained : (options : ParseOptions) (p : Path) (r : Rest) → IsWithoutMdx options → IsPlain p →
     let c = contained_at options p r in
-    step options p r ≡ path_by options p c (goes_lazy options p c) (goes_further options c)
+    step options p r ≡ path_by options p c (continues_lazy options p c) (continues_further options c)
 unfolding contained
 step-contained options p r built plain =
     step-new options p r built plain ∙ go lazy
@@ -694,7 +697,7 @@ step-contained options p r built plain =
     others = others_of (containers_of p) on.containers
 
     new : Prefixed
-    new = prefixes_behind options (still_of p) others on
+    new = prefixes_after options (still_of p) others on
 
     leaf : HeldLeaf
     leaf = against (still_of p) others new.containers
@@ -705,27 +708,27 @@ step-contained options p r built plain =
     lazy : Bool
     lazy = is_lazy (still_of p) new.containers kind
 
-    come : LeafResult
-    come = come_by options (spot p).leaf new.rest kind
+    become : LeafResult
+    become = becomes_by options (spot p).leaf new.rest kind
 
     by : Bool → Bool → Path
     by x y =
         let change : Change = change_by y on.containers others new.containers in
         cond x (longer (renewed change.stays p) (kept new.rest ∷ []))
-        (cond (is_further kind leaf) (with_came options (takes_head kind) (renewed change.stays p) come)
-        (behind_path (kept_to options change.stays p) (new_line options leaf change.opens new.rest)))
+        (cond (is_further kind leaf) (with_result options (takes_head kind) (renewed change.stays p) become)
+        (after_path (kept_to options change.stays p) (new_line options leaf change.opens new.rest)))
 
     go : (x : Bool) →
         cond x (longer (renewed (on.containers ++ others) p) (kept new.rest ∷ []))
-        (cond (is_further kind leaf) (with_came options (takes_head kind) (renewed on.containers p) come)
-        (behind_path (kept_to options on.containers p) (new_line options leaf new.containers new.rest))) ≡
+        (cond (is_further kind leaf) (with_result options (takes_head kind) (renewed on.containers p) become)
+        (after_path (kept_to options on.containers p) (new_line options leaf new.containers new.rest))) ≡
         by x x
     go true = refl
     go false = refl
 
 -- a line that continues the open text closes nothing
 pub contained-lazy : (options : ParseOptions) (p : Path) (r : Rest) →
-    goes_lazy options p (contained_at options p r) ≡ true → (contained_at options p r).change.closes ≡ []
+    continues_lazy options p (contained_at options p r) ≡ true → (contained_at options p r).change.closes ≡ []
 unfolding contained
 contained-lazy options p r h =
     go lazy
@@ -741,7 +744,7 @@ contained-lazy options p r h =
     others = others_of (containers_of p) on.containers
 
     new : Prefixed
-    new = prefixes_behind options (still_of p) others on
+    new = prefixes_after options (still_of p) others on
 
     leaf : HeldLeaf
     leaf = against (still_of p) others new.containers

@@ -5,9 +5,9 @@ use Rattle.proof_frame.specs.LeafName.{LeafName}
 use Rattle.md_registry.specs.Registry.{leaf}
 use Rattle.proof_rows.proofs.GroupLines.{first-text, AreSpan, Begins, FirstIs, IsHead, IsSpanLine, IsUnder, Leaves}
 use Rattle.proof_rows.proofs.GroupLines.{AreLines}
-use Rattle.proof_rows.proofs.LineBehind.{FirstBegins, IsBehind, behind-fresh, behind-on, leaf-fresh, leaves-left}
-use Rattle.proof_rows.proofs.LineBehind.{leaves-longer, unjoined-fresh, begins-behind, blank-ends, first-begins}
-use Rattle.proof_rows.proofs.LineBehind.{first-behind, leaf-other, leaf-row-ends, shut-behind, turned-alone}
+use Rattle.proof_rows.proofs.LineAfter.{FirstBegins, IsAfter, following-fresh, following-on, leaf-fresh, leaves-left}
+use Rattle.proof_rows.proofs.LineAfter.{leaves-longer, unjoined-fresh, begins-following, blank-ends, first-begins}
+use Rattle.proof_rows.proofs.LineAfter.{first-following, leaf-other, leaf-row-ends, shut-following, turned-alone}
 use Rattle.proof_rows.proofs.GroupsAre.{under-leaves, text-head, text-under}
 use Rattle.std.proofs.Common.{◌≡◌, ◌≢◌, ℕ, Bool, true, false, cond, ◌&&◌, List, [], ◌∷◌, ◌++◌, refl, ap, sym, ◌∙◌}
 use Rattle.std.proofs.Common.{append_assoc, append-nil, subst}
@@ -20,22 +20,22 @@ use Rattle.md_engine.specs.declared.event.Point.{Point}
 use Rattle.md_events.specs.Events.Places.{at_or_before}
 use Rattle.md_meaning.specs.State.{Container}
 use Rattle.md_events.proofs.NestedLemmas.{at_or_before-refl}
-use Rattle.proof_frame.specs.Change.{Change, ends_of, is_none, open_behind}
+use Rattle.proof_frame.specs.Change.{Change, ends_of, is_none, open_following}
 use Rattle.proof_rows.specs.Fronted.{contained, rest_from}
 use Rattle.proof_frame.specs.RestLine.{rest_line}
-use Rattle.proof_rows.specs.Rows.{Headed, LeafLines, Turned, is_further, is_last, onto_leaf, final_row, first_row, Group}
-use Rattle.proof_rows.specs.Rows.{Lines, Single, closes_before, front_done, goes_on, groups, groups_events, group_done}
-use Rattle.proof_rows.specs.Rows.{onto_groups, tail_events, takes_head, group_ending}
-use Rattle.proof_frame.specs.Row.{LeafRow, BlankRow, Row, RowKind, TextRow, behind_row, ending_events, last_row}
+use Rattle.proof_rows.specs.Rows.{Headed, LeafLines, Turned, is_further, is_last, onto_leaf, final_row, first_row}
+use Rattle.proof_rows.specs.Rows.{Group, Lines, Single, closes_before, front_done, is_continued, groups, groups_events}
+use Rattle.proof_rows.specs.Rows.{group_done, onto_groups, tail_events, takes_head, group_ending}
+use Rattle.proof_frame.specs.Row.{LeafRow, BlankRow, Row, RowKind, TextRow, after_row, ending_events, last_row}
 use Rattle.proof_rows.proofs.ContainedLemmas.{contained-shapes, none-nil}
 use Rattle.proof_frame.proofs.FrontFacts.{LinePrefix, ReadFront}
 use Rattle.proof_frame.proofs.FrontLemmas.{Turns, ends-spans, ends-turn, fronts-spans, fronts-turn, names-append}
 use Rattle.proof_frame.proofs.FrontLemmas.{shapes-names}
-use Rattle.proof_rows.proofs.JoinedLemmas.{behind-is, behind-none}
+use Rattle.proof_rows.proofs.JoinedLemmas.{following-is, following-none}
 use Rattle.proof_rows.proofs.GroupFacts.{IsGroupLeaf, headed-leaf, single-leaf, span-group, text-leaf, turned-leaf}
 use Rattle.proof_rows.proofs.RowLeaf.{EndsOnLine}
 use Rattle.proof_frame.proofs.ChunkFacts.{ending-order}
-use Rattle.proof_rows.proofs.RowFacts.{AreRows, IsLine, IsRow, behind_line}
+use Rattle.proof_rows.proofs.RowFacts.{AreRows, IsLine, IsRow, following_line}
 use Rattle.md_events.proofs.FeedLines.{IsEnding}
 use Rattle.proof_frame.proofs.NestedEvents.{Onward, ending-nested, under-before, under-none, under-turn}
 use Rattle.md_order.proofs.Nests.Leads.{Under}
@@ -51,7 +51,7 @@ pub record Ordered (options : ParseOptions) (bytes : List ℕ) (p : Point) (grou
   pub front : LinePrefix bytes (first_row group).change.opens p (first_row group).first (first_row group).front
   pub front_read : ReadFront bytes (first_row group).change.opens p (first_row group).first (first_row group).front
   pub leaf : IsGroupLeaf options bytes group
-  pub ends : IsTrue (at_or_before (final_row group).end (behind_row (final_row group)))
+  pub ends : IsTrue (at_or_before (final_row group).end (after_row (final_row group)))
 
 -- what is open in a group, if these are open before it, is what ends after it and what is kept
 abbrev pub Keeps : List Name → Group → List Name → Type 0
@@ -62,9 +62,9 @@ Keeps names group kept =
 pub under-group : (options : ParseOptions) (bytes : List ℕ) (names kept : List Name) (p : Point) (group : Group)
     (front inside events : List Event) →
     LinePrefix bytes (first_row group).change.opens p (first_row group).first front →
-    IsTrue (at_or_before (final_row group).end (behind_row (final_row group))) →
+    IsTrue (at_or_before (final_row group).end (after_row (final_row group))) →
     Keeps names group kept → Nested_in (first_row group).first (final_row group).end inside →
-    Under kept (behind_row (final_row group)) events →
+    Under kept (after_row (final_row group)) events →
     Under names p
     ((front ++ inside ++ tail_events (group_ending group) (final_row group)) ++ events)
 under-group options bytes names kept p group front inside events is order keeps h on =
@@ -83,7 +83,7 @@ under-group options bytes names kept p group front inside events is order keeps 
     (under-turn all kept last.end last.end ends (ending ++ events)
     (subst (λ (l : List Name). Turns l kept ends) (sym keeps) (ends-turn last.closed_after kept last.end))
     (ends-spans last.closed_after last.end)
-    (under-before kept last.end (behind_row last) ending events
+    (under-before kept last.end (after_row last) ending events
     (ending-nested (group_ending group) last order) on))))
 
 -- What holds of no groups where nothing is open, and group by group, of the names that are open where they begin (after
@@ -93,7 +93,7 @@ pub record ByGroups (options : ParseOptions) (bytes : List ℕ) (P : List Name �
     pub none : (p : Point) → P [] p []
     pub group : (names kept : List Name) (p : Point) (group : Group) (gs : List Group) → Ordered options bytes p group →
         Keeps names group kept →
-        P kept (behind_row (final_row group)) gs → P names p (group ∷ gs)
+        P kept (after_row (final_row group)) gs → P names p (group ∷ gs)
 
 -- A group before others, as far as it is known: what its lines are, by the first and the last.
 record Known (bytes : List ℕ) (P : List Name → Point → List Group → Type 0) (names : List Name) (p : Point)
@@ -101,10 +101,10 @@ record Known (bytes : List ℕ) (P : List Name → Point → List Group → Type
   front : LinePrefix bytes first.change.opens p first.first first.front
   front_read : ReadFront bytes first.change.opens p first.first first.front
   are : Lines_are
-  ends : IsTrue (at_or_before last.end (behind_row last))
+  ends : IsTrue (at_or_before last.end (after_row last))
   kept : List Name
   keeps : open_names first.change.opens ++ names ≡ open_names last.closed_after ++ kept
-  more : P kept (behind_row last) gs
+  more : P kept (after_row last) gs
 
 -- lines of text and the one that turns them
 record AreTurned (options : ParseOptions) (bytes : List ℕ) (row : Row) (rows : List Row) (under : Row) : Type 0 where
@@ -134,7 +134,7 @@ record IsBegun (options : ParseOptions) (bytes line : List ℕ) (names kept : Li
   is : IsRow options bytes line row
   front : LinePrefix bytes row.change.opens p row.first row.front
   front_read : ReadFront bytes row.change.opens p row.first row.front
-  ends : IsTrue (at_or_before row.end (behind_row row))
+  ends : IsTrue (at_or_before row.end (after_row row))
   keeps : Keeps names (Single row) kept
 
 -- A line before others: what holds of the groups that begin with it, by what holds of those after it.
@@ -155,7 +155,7 @@ module _ (options : ParseOptions) (bytes line : List ℕ) (P : List Name → Poi
       known.more
 
   -- a line that no line continues
-  alone : (A : Type 0) → A → (gs : List Group) → P kept (behind_row row) gs → Known bytes P names p row row A gs
+  alone : (A : Type 0) → A → (gs : List Group) → P kept (after_row row) gs → Known bytes P names p row row A gs
   alone A are gs h = record {
     front = begun.front;
     front_read = begun.front_read;
@@ -167,7 +167,7 @@ module _ (options : ParseOptions) (bytes line : List ℕ) (P : List Name → Poi
   }
 
   -- a line that is a group of its own
-  single-holds : row.kind ≢ TextRow → EndsOnLine row.kind → (gs : List Group) → P kept (behind_row row) gs →
+  single-holds : row.kind ≢ TextRow → EndsOnLine row.kind → (gs : List Group) → P kept (after_row row) gs →
       Both_of (Single row ∷ gs)
   single-holds other ends gs h = (
     λ begins. known-holds (Single row) gs (Unit {0}) (alone (Unit {0}) tt gs h)
@@ -200,23 +200,23 @@ module _ (options : ParseOptions) (bytes line : List ℕ) (P : List Name → Poi
   )
 
   -- where no leaf is open after the line, the next line begins one, so it holds of the groups below
-  fresh-holds : (gs : List Group) → EndsOnLine row.kind → row.kind ≢ TextRow → FirstIs (IsBehind bytes q row) gs →
-      (FirstBegins gs → P kept (behind_row row) gs) → P kept (behind_row row) gs
+  fresh-holds : (gs : List Group) → EndsOnLine row.kind → row.kind ≢ TextRow → FirstIs (IsAfter bytes q row) gs →
+      (FirstBegins gs → P kept (after_row row) gs) → P kept (after_row row) gs
   fresh-holds gs ends other first h =
-      h (begins-behind bytes q row gs first (shut-behind options bytes line row begun.is ends other))
+      h (begins-following bytes q row gs first (shut-following options bytes line row begun.is ends other))
 
   -- a line of text that no line continues
-  alone-holds : row.kind ≡ TextRow → (gs : List Group) → P kept (behind_row row) gs → Both_of (Lines row [] ∷ gs)
+  alone-holds : row.kind ≡ TextRow → (gs : List Group) → P kept (after_row row) gs → Both_of (Lines row [] ∷ gs)
   alone-holds e gs h =
       text-holds [] gs (alone (AreLines options bytes row []) (line, begun.is, e) gs h)
 
   -- the prefixes of a line that continues this one, from the point after the ending of this one
   further-prefixes : (next : Row) (to : Point) → row.after ≡ Some to → next.change.opens ≡ [] →
-      LinePrefix bytes next.change.opens (behind_row row) next.first next.front →
+      LinePrefix bytes next.change.opens (after_row row) next.first next.front →
       LinePrefix bytes [] to next.first next.front
   further-prefixes next to after opens front =
-      subst (λ (r : Point). LinePrefix bytes [] r next.first next.front) (behind-is row to after)
-      (subst (λ (cs : List Container). LinePrefix bytes cs (behind_row row) next.first next.front) opens front)
+      subst (λ (r : Point). LinePrefix bytes [] r next.first next.front) (following-is row to after)
+      (subst (λ (cs : List Container). LinePrefix bytes cs (after_row row) next.first next.front) opens front)
 
   -- what ends after the two, and what is kept, is what was open before this one
   keeps-both : (next last : Row) (more : List Name) → row.closed_after ≡ [] → next.change.opens ≡ [] →
@@ -230,7 +230,7 @@ module _ (options : ParseOptions) (bytes line : List ℕ) (P : List Name → Poi
 
   -- a group that begins with the line after this one begins with this one
   longer : (A B : Type 0) → A → (next last : Row) (gs : List Group) → row.closed_after ≡ [] → next.change.opens ≡ [] →
-      Known bytes P kept (behind_row row) next last B gs → Known bytes P names p row last A gs
+      Known bytes P kept (after_row row) next last B gs → Known bytes P names p row last A gs
   longer A B are next last gs leaves opens below = record {
     front = begun.front;
     front_read = begun.front_read;
@@ -243,8 +243,8 @@ module _ (options : ParseOptions) (bytes line : List ℕ) (P : List Name → Poi
 
   -- a line of a leaf of several
   span_row-holds : (l : LeafName) → row.kind ≡ LeafRow l → (leaf l).ends ≡ false → (gs : List Group) →
-      Ended bytes row gs → FirstIs (IsBehind bytes q row) gs → Begun options bytes P kept (behind_row row) gs →
-      (FirstBegins gs → P kept (behind_row row) gs) → Both_of (onto_leaf false row gs)
+      Ended bytes row gs → FirstIs (IsAfter bytes q row) gs → Begun options bytes P kept (after_row row) gs →
+      (FirstBegins gs → P kept (after_row row) gs) → Both_of (onto_leaf false row gs)
   span_row-holds l e k gs ended first below h = go gs ended first below h
     where
       is : IsSpanLine options bytes row
@@ -257,15 +257,15 @@ module _ (options : ParseOptions) (bytes line : List ℕ) (P : List Name → Poi
         front = (p, begun.front, begun.front_read);
       }
 
-      one : (gs : List Group) → P kept (behind_row row) gs → Both_of (LeafLines row [] ∷ gs)
+      one : (gs : List Group) → P kept (after_row row) gs → Both_of (LeafLines row [] ∷ gs)
       one gs h = span-holds [] gs (alone (AreSpan options bytes row []) is gs h)
 
-      go : (gs : List Group) → Ended bytes row gs → FirstIs (IsBehind bytes q row) gs →
-          Begun options bytes P kept (behind_row row) gs → (FirstBegins gs → P kept (behind_row row) gs) →
+      go : (gs : List Group) → Ended bytes row gs → FirstIs (IsAfter bytes q row) gs →
+          Begun options bytes P kept (after_row row) gs → (FirstBegins gs → P kept (after_row row) gs) →
           Both_of (onto_leaf false row gs)
       go (Turned next rows under ∷ gs) ended first below h =
           one (Turned next rows under ∷ gs)
-          (h (behind-fresh bytes q row next first (leaf-fresh options bytes line row l begun.is e)))
+          (h (following-fresh bytes q row next first (leaf-fresh options bytes line row l begun.is e)))
       go (LeafLines next rows ∷ gs) ended first below h = joins (is_further next.kind next.on) refl
         where
           joins : (x : Bool) → is_further next.kind next.on ≡ x →
@@ -290,18 +290,18 @@ module _ (options : ParseOptions) (bytes line : List ℕ) (P : List Name → Poi
   -- lines of text that continue this one are lines of text with it
   abbrev text-longer : row.kind ≡ TextRow → (next : Row) (rows : List Row) (gs : List Group) →
       Ended bytes row (Lines next rows ∷ gs) → next.change.opens ≡ [] →
-      LinePrefix bytes next.change.opens (behind_row row) next.first next.front →
+      LinePrefix bytes next.change.opens (after_row row) next.first next.front →
       AreLines options bytes next rows → AreLines options bytes row (next ∷ rows)
   text-longer e next rows gs ended opens front are =
       (line, begun.is, e, ended.0, ended.1, ended.2, further-prefixes next ended.0 ended.1 opens front, are)
 
   -- what is known of a line that continues this one, from the point after the ending of this one
-  behind-ending : (next : Row) (to : Point) → row.after ≡ Some to →
-      LinePrefix bytes next.change.opens (behind_row row) next.first next.front → IsBehind bytes q row next →
-      IsBehind bytes to row next
-  behind-ending next to after front first = record {
+  following-ending : (next : Row) (to : Point) → row.after ≡ Some to →
+      LinePrefix bytes next.change.opens (after_row row) next.first next.front → IsAfter bytes q row next →
+      IsAfter bytes to row next
+  following-ending next to after front first = record {
     front =
-        subst (λ (r : Point). LinePrefix bytes next.change.opens r next.first next.front) (behind-is row to after)
+        subst (λ (r : Point). LinePrefix bytes next.change.opens r next.first next.front) (following-is row to after)
         front;
     met = first.met;
     begins = first.begins;
@@ -311,33 +311,33 @@ module _ (options : ParseOptions) (bytes line : List ℕ) (P : List Name → Poi
 
   -- a line of text before the line that turns it
   underline-holds : row.kind ≡ TextRow → (next : Row) (gs : List Group) → Ended bytes row (LeafLines next [] ∷ gs) →
-      IsBehind bytes q row next → Begun options bytes P kept (behind_row row) (LeafLines next [] ∷ gs) →
+      IsAfter bytes q row next → Begun options bytes P kept (after_row row) (LeafLines next [] ∷ gs) →
       is_further next.kind next.on ≡ true → takes_head next.kind ≡ false → Both_of (Turned row [] next ∷ gs)
   underline-holds e next gs ended first below f headless =
       let met = first.met f in
       let is : IsSpanLine options bytes next = below.are in
       let text = text-open options bytes row [] (line, begun.is, e) in
-      let behind : IsBehind bytes ended.0 row next = behind-ending next ended.0 ended.1 below.front first in
+      let following : IsAfter bytes ended.0 row next = following-ending next ended.0 ended.1 below.front first in
       turned-holds [] next gs
       (longer (AreTurned options bytes row [] next) _
       (record {
         are = (line, begun.is, e);
         is =
-            text-under options bytes line row ended.0 next ended.1 ended.2 behind f headless is
+            text-under options bytes line row ended.0 next ended.1 ended.2 following f headless is
             (further-quiet options bytes is.line next is.name text.0 is.is is.kind (met.2 ∙ text.1) f headless);
         closed_after = under-leaves options bytes line row next begun.is e is met.2 f headless;
       }) next next gs met.0 met.1 below)
 
   -- a line of text before the lines of a table that take it as their head
   headed-holds : row.kind ≡ TextRow → (next : Row) (rows : List Row) (gs : List Group) →
-      Ended bytes row (LeafLines next rows ∷ gs) → IsBehind bytes q row next →
-      Begun options bytes P kept (behind_row row) (LeafLines next rows ∷ gs) → is_further next.kind next.on ≡ true →
+      Ended bytes row (LeafLines next rows ∷ gs) → IsAfter bytes q row next →
+      Begun options bytes P kept (after_row row) (LeafLines next rows ∷ gs) → is_further next.kind next.on ≡ true →
       takes_head next.kind ≡ true → Both_of (Headed row next rows ∷ gs)
   headed-holds e next rows gs ended first below f heads =
       let met = first.met f in
-      let behind : IsBehind bytes ended.0 row next = behind-ending next ended.0 ended.1 below.front first in
+      let following : IsAfter bytes ended.0 row next = following-ending next ended.0 ended.1 below.front first in
       let head : IsHead options bytes row next =
-      text-head options bytes line row ended.0 next begun.is e ended.1 ended.2 behind f heads in (
+      text-head options bytes line row ended.0 next begun.is e ended.1 ended.2 following f heads in (
         λ begins. known-holds (Headed row next rows) gs (Unit {0})
             (longer (Unit {0}) _ tt next (last_row next rows) gs met.0 met.1 below)
             (headed-leaf options bytes row next rows head below.are),
@@ -345,12 +345,12 @@ module _ (options : ParseOptions) (bytes line : List ℕ) (P : List Name → Poi
       )
 
   -- a line of text
-  text_row-holds : row.kind ≡ TextRow → (gs : List Group) → Ended bytes row gs → FirstIs (IsBehind bytes q row) gs →
-      Begun options bytes P kept (behind_row row) gs → (FirstBegins gs → P kept (behind_row row) gs) →
+  text_row-holds : row.kind ≡ TextRow → (gs : List Group) → Ended bytes row gs → FirstIs (IsAfter bytes q row) gs →
+      Begun options bytes P kept (after_row row) gs → (FirstBegins gs → P kept (after_row row) gs) →
       Both_of (onto_groups row TextRow gs)
-  text_row-holds e (Turned next rows under ∷ gs) ended first below h = joins (goes_on row next) refl
+  text_row-holds e (Turned next rows under ∷ gs) ended first below h = joins (is_continued row next) refl
     where
-      joins : (x : Bool) → goes_on row next ≡ x →
+      joins : (x : Bool) → is_continued row next ≡ x →
           Both_of (cond x (Turned row (next ∷ rows) under ∷ gs) (Lines row [] ∷ Turned next rows under ∷ gs))
       joins false k =
           alone-holds e (Turned next rows under ∷ gs)
@@ -366,14 +366,14 @@ module _ (options : ParseOptions) (bytes line : List ℕ) (P : List Name → Poi
             is = below.are.is;
             closed_after =
                 leaves-longer options bytes line row next rows below.are.are begun.is e
-                (behind-on bytes q row next first opens) below.are.closed_after;
+                (following-on bytes q row next first opens) below.are.closed_after;
           }) next under gs leaves opens below)
   text_row-holds e (LeafLines next rows ∷ gs) ended first below h =
       joins rows (is_further next.kind next.on) refl (takes_head next.kind) refl below h
     where
       joins : (rows : List Row) (x : Bool) → is_further next.kind next.on ≡ x → (y : Bool) →
-          takes_head next.kind ≡ y → Begun options bytes P kept (behind_row row) (LeafLines next rows ∷ gs) →
-          (Begins next → P kept (behind_row row) (LeafLines next rows ∷ gs)) →
+          takes_head next.kind ≡ y → Begun options bytes P kept (after_row row) (LeafLines next rows ∷ gs) →
+          (Begins next → P kept (after_row row) (LeafLines next rows ∷ gs)) →
           Both_of
           (cond (x && y) (Headed row next rows ∷ gs)
           (cond (x && is_last rows) (Turned row [] next ∷ gs) (Lines row [] ∷ LeafLines next rows ∷ gs)))
@@ -384,9 +384,9 @@ module _ (options : ParseOptions) (bytes line : List ℕ) (P : List Name → Poi
           absurd
           (let text = text-open options bytes row [] (line, begun.is, e) in
           turned-alone options bytes text.0 next more rows ((first.met f).2 ∙ text.1) f head below.are)
-  text_row-holds e (Lines next rows ∷ gs) ended first below h = joins (goes_on row next) refl
+  text_row-holds e (Lines next rows ∷ gs) ended first below h = joins (is_continued row next) refl
     where
-      joins : (x : Bool) → goes_on row next ≡ x →
+      joins : (x : Bool) → is_continued row next ≡ x →
           Both_of (cond x (Lines row (next ∷ rows) ∷ gs) (Lines row [] ∷ Lines next rows ∷ gs))
       joins false k = alone-holds e (Lines next rows ∷ gs) (h tt)
       joins true k =
@@ -401,8 +401,8 @@ module _ (options : ParseOptions) (bytes line : List ℕ) (P : List Name → Poi
 
   -- a line of a leaf, by whether the leaf always ends on it
   leaf_row-holds : (l : LeafName) → row.kind ≡ LeafRow l → (ends : Bool) → (leaf l).ends ≡ ends → (gs : List Group) →
-      Ended bytes row gs → FirstIs (IsBehind bytes q row) gs → Begun options bytes P kept (behind_row row) gs →
-      (FirstBegins gs → P kept (behind_row row) gs) → Both_of (onto_leaf ends row gs)
+      Ended bytes row gs → FirstIs (IsAfter bytes q row) gs → Begun options bytes P kept (after_row row) gs →
+      (FirstBegins gs → P kept (after_row row) gs) → Both_of (onto_leaf ends row gs)
   leaf_row-holds l e false k gs ended first below h = span_row-holds l e k gs ended first below h
   leaf_row-holds l e true k gs ended first below h =
       let ends : EndsOnLine row.kind = leaf-row-ends row.kind l e k in
@@ -410,8 +410,8 @@ module _ (options : ParseOptions) (bytes line : List ℕ) (P : List Name → Poi
       single-holds other ends gs (fresh-holds gs ends other first h)
 
   -- any line
-  onto-holds : (gs : List Group) → Ended bytes row gs → FirstIs (IsBehind bytes q row) gs →
-      Begun options bytes P kept (behind_row row) gs → (FirstBegins gs → P kept (behind_row row) gs) →
+  onto-holds : (gs : List Group) → Ended bytes row gs → FirstIs (IsAfter bytes q row) gs →
+      Begun options bytes P kept (after_row row) gs → (FirstBegins gs → P kept (after_row row) gs) →
       (kind : RowKind) → row.kind ≡ kind → Both_of (onto_groups row kind gs)
   onto-holds gs ended first below h BlankRow e =
       let ends : EndsOnLine row.kind = blank-ends row.kind e in
@@ -445,22 +445,22 @@ change-names options bytes line cs still p row is =
 change-keeps : (options : ParseOptions) (bytes line : List ℕ) (cs : List Container) (still : HeldLeaf) (p : Point)
     (row : Row) (kept : List Name) →
     IsLine options bytes cs still p line row →
-    open_names (behind_line options cs still p line) ≡ open_names row.closed_after ++ kept →
+    open_names (following_line options cs still p line) ≡ open_names row.closed_after ++ kept →
     Keeps (open_names row.change.stays) (Single row) kept
 change-keeps options bytes line cs still p row kept is h =
     sym (names-append row.change.stays row.change.opens)
-    ∙ ap (λ (change : Change). open_names (open_behind change)) is.change ∙ h
+    ∙ ap (λ (change : Change). open_names (open_following change)) is.change ∙ h
 
 line-holds : (options : ParseOptions) (bytes : List ℕ) (P : List Name → Point → List Group → Type 0) →
     ByGroups options bytes P →
     (cs : List Container) (still : HeldLeaf) (p q : Point) (line : List ℕ) (row : Row) (rows : List Row)
     (kept : List Name) →
     IsLine options bytes cs still p line row →
-    IsTrue (at_or_before row.end (behind_row row)) →
-    open_names (behind_line options cs still p line) ≡ open_names row.closed_after ++ kept →
-    Ended bytes row (groups rows) → FirstIs (IsBehind bytes q row) (groups rows) →
-    Begun options bytes P kept (behind_row row) (groups rows) →
-    (FirstBegins (groups rows) → P kept (behind_row row) (groups rows)) → Hold options bytes P cs p (row ∷ rows)
+    IsTrue (at_or_before row.end (after_row row)) →
+    open_names (following_line options cs still p line) ≡ open_names row.closed_after ++ kept →
+    Ended bytes row (groups rows) → FirstIs (IsAfter bytes q row) (groups rows) →
+    Begun options bytes P kept (after_row row) (groups rows) →
+    (FirstBegins (groups rows) → P kept (after_row row) (groups rows)) → Hold options bytes P cs p (row ∷ rows)
 line-holds options bytes P by cs still p q line row rows kept is ends left ended first begun h =
     let rest : List ℕ = rest_line (contained options cs still (rest_from p line)).rest in
     let here : IsBegun options bytes rest
@@ -486,26 +486,26 @@ lines-hold : (options : ParseOptions) (bytes : List ℕ) (P : List Name → Poin
     (rows : List Row) →
     AreRows options bytes cs still p lines rows → Hold options bytes P cs p rows
 lines-hold options bytes P by cs still p (line ∷ []) (row ∷ []) are =
-    let behind : List Container = behind_line options cs still p line in
-    let ends : IsTrue (at_or_before row.end (behind_row row)) = subst (λ (q : Point). IsTrue (at_or_before row.end q))
-    (sym (behind-none row are.2)) (at_or_before-refl row.end) in
-    let left : open_names behind ≡
+    let following : List Container = following_line options cs still p line in
+    let ends : IsTrue (at_or_before row.end (after_row row)) = subst (λ (q : Point). IsTrue (at_or_before row.end q))
+    (sym (following-none row are.2)) (at_or_before-refl row.end) in
+    let left : open_names following ≡
     open_names row.closed_after ++ [] = sym (append-nil (open_names row.closed_after) ∙ ap open_names are.1) in
     line-holds options bytes P by cs still p p line row [] [] are.0 ends left tt tt tt
-    (λ begins. by.none (behind_row row))
+    (λ begins. by.none (after_row row))
 lines-hold options bytes P by cs still p (line ∷ next ∷ lines) (row ∷ below ∷ rows) are =
-    let many : List Container = behind_line options cs still p line in
-    let behind : behind_row row ≡ are.2 = behind-is row are.2 are.3 in
-    let ends : IsTrue (at_or_before row.end (behind_row row)) = subst (λ (q : Point). IsTrue (at_or_before row.end q))
-    (sym behind) (ending-order bytes row.end are.2 are.4) in
+    let many : List Container = following_line options cs still p line in
+    let following : after_row row ≡ are.2 = following-is row are.2 are.3 in
+    let ends : IsTrue (at_or_before row.end (after_row row)) = subst (λ (q : Point). IsTrue (at_or_before row.end q))
+    (sym following) (ending-order bytes row.end are.2 are.4) in
     let more : Hold options bytes P many are.2 (below ∷ rows) = lines-hold options bytes P by many
-    row.behind are.2 (next ∷ lines) (below ∷ rows) are.5 in
+    row.following are.2 (next ∷ lines) (below ∷ rows) are.5 in
     line-holds options bytes P by cs still p are.2 line row (below ∷ rows) more.names are.0 ends
     (more.left ∙ ap (λ (l : List Container). open_names l ++ more.names) (sym are.1))
     (ended (groups (below ∷ rows)))
-    (first-behind options bytes many are.2 (next ∷ lines) row below rows are.5 are.1)
-    (subst (λ (q : Point). Begun options bytes P more.names q (groups (below ∷ rows))) (sym behind) more.begun)
-    (λ begins. subst (λ (q : Point). P more.names q (groups (below ∷ rows))) (sym behind) (more.holds begins))
+    (first-following options bytes many are.2 (next ∷ lines) row below rows are.5 are.1)
+    (subst (λ (q : Point). Begun options bytes P more.names q (groups (below ∷ rows))) (sym following) more.begun)
+    (λ begins. subst (λ (q : Point). P more.names q (groups (below ∷ rows))) (sym following) (more.holds begins))
   where
     ended : (gs : List Group) → Ended bytes row gs
     ended [] = tt

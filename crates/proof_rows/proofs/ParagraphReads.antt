@@ -29,7 +29,7 @@ use Rattle.md_events.proofs.FeedLines.{tab-feed, tab_cells, tab_end, tab_end-las
 use Rattle.md_events.proofs.PlacesLemmas.{at-next}
 use Rattle.md_meaning.proofs.TextsLemmas.{Ending, EndsBefore, NoEnding, ending_bytes}
 use Rattle.proof_frame.specs.Laid.{LineBreak, laid}
-use Rattle.proof_frame.specs.Row.{Row, TextRow, behind_row, breaks_of, chunks_of, last_row}
+use Rattle.proof_frame.specs.Row.{Row, TextRow, after_row, breaks_of, chunks_of, last_row}
 use Rattle.proof_rows.specs.Rows.{lines_cells}
 use Rattle.proof_frame.specs.Linked.{linked}
 use Rattle.proof_content_laws.proofs.Defined.Placed.{bared}
@@ -171,16 +171,16 @@ ending-leads x ending rest p q small text before lt begun =
     (cell 10 (past_ending ending p) x.line) = cc in
     let seen : seen_at x.bytes p ≡ 10 = ap (λ (c : Cell). c.byte) first in
     let step : after y p ≡ past_ending ending p = ap (λ (c : Cell). c.after) first in
-    let stands : is_ending (slice_index x.bytes p.index) ≡
+    let valid : is_ending (slice_index x.bytes p.index) ≡
     true = seen-ends (slice_index x.bytes p.index) (nat_lt 0 p.vs) seen in
     let next : next_point x.bytes p ≡ past_ending ending p =
     sym (begun-none y (next_point x.bytes p) refl)
-    ∙ sym (ap (λ (t : Bool). cond t (line_begun y (next_point x.bytes p)) (next_point x.bytes p)) stands)
+    ∙ sym (ap (λ (t : Bool). cond t (line_begun y (next_point x.bytes p)) (next_point x.bytes p)) valid)
     ∙ step in
     feed-next x p small lt
     ∙ ap (λ (b : ℕ). cell b (after x p) x.line ∷ text_feed x (after x p)) seen
     ∙ ap (λ (r : Point). cell 10 r x.line ∷ text_feed x r)
-    (ap (λ (t : Bool). cond t (line_begun x (next_point x.bytes p)) (next_point x.bytes p)) stands
+    (ap (λ (t : Bool). cond t (line_begun x (next_point x.bytes p)) (next_point x.bytes p)) valid
     ∙ ap (line_begun x) next ∙ begun)
   where
     seen-ends : (b : ℕ) (cut : Bool) → cond (is_ending b) 10 (cond ((b == 9) && cut) 32 b) ≡ 10 → is_ending b ≡ true
@@ -232,15 +232,15 @@ begun-next x p s at line le =
     ap (λ (o : Option Point). begun_at o p) some ∙ ap (λ (t : Bool). cond t s p) further
 
 -- what is read of lines, and of more after them
-pub record LinesRead (x : Setting) (row : Row) (rows : List Row) (es behind : List Event) : Type 0 where
+pub record LinesRead (x : Setting) (row : Row) (rows : List Row) (es following : List Event) : Type 0 where
   -- each line is one part, which ends where its chunk does
-  pub laid_are : laid (bared (breaks_of row rows)) es ≡ linked n.Data text_link (chunks_of row rows) ++ behind
+  pub laid_are : laid (bared (breaks_of row rows)) es ≡ linked n.Data text_link (chunks_of row rows) ++ following
   pub end : point_after (text_feed x row.first) row.first ≡ (last_row row rows).end
   pub ends : EndIn (last_row row rows).end es
 
 -- the events of the text of lines
 abbrev text_events : Setting → Point → List Event → List Event
-text_events x p behind = enter_link n.Data p text_link ∷ line_events (text_feed x p) p ++ behind
+text_events x p following = enter_link n.Data p text_link ∷ line_events (text_feed x p) p ++ following
 
 -- an ending leads to the next line
 pub record Leads (x : Setting) (bytes : List ℕ) (k : ℕ) (row next : Row) (rows : List Row) : Type 0 where
@@ -282,54 +282,54 @@ leads options bytes x k row next rows h r =
     }
 
 lines-read : (options : ParseOptions) (bytes : List ℕ) (x : Setting) (k : ℕ) (row : Row) (rows : List Row)
-    (behind : List Event) →
-    AreLines options bytes row rows → AreRead x bytes k row rows → EndIn (last_row row rows).end behind →
-    LinesRead x row rows (text_events x row.first behind) behind
-lines-read options bytes x k row [] behind h r ends =
+    (following : List Event) →
+    AreLines options bytes row rows → AreRead x bytes k row rows → EndIn (last_row row rows).end following →
+    LinesRead x row rows (text_events x row.first following) following
+lines-read options bytes x k row [] following h r ends =
     let read = line-read options bytes h.0 x row h.1 r.small r.bytes_are (omega (arith, r.limit)) in
     let none : text_feed x row.end ≡ [] = feed-none x row.end r.small (omega (arith, r.limit)) in
     let are : line_events (text_feed x row.first) row.first ≡ exit n.Data row.end ∷ [] =
     read.lines ∙ ap (λ (l : List Cell). line_events l row.end) none in
     record {
-      laid_are = ap (λ (l : List Event). enter_link n.Data row.first text_link ∷ l ++ behind) are;
+      laid_are = ap (λ (l : List Event). enter_link n.Data row.first text_link ∷ l ++ following) are;
       end = read.end ∙ ap (λ (l : List Cell). point_after l row.end) none;
       ends =
-          subst (λ (l : List Event). EndIn row.end (enter_link n.Data row.first text_link ∷ l ++ behind)) (sym are)
+          subst (λ (l : List Event). EndIn row.end (enter_link n.Data row.first text_link ∷ l ++ following)) (sym are)
           (λ no. cc, (λ yes. inl refl, ends));
     }
-lines-read options bytes x k row (next ∷ rows) behind h r ends =
+lines-read options bytes x k row (next ∷ rows) following h r ends =
     let grow = ends-grow options bytes next rows h.7 in
     let line = (first-text options bytes next rows h.7).1 in
     let on : Leads x bytes k row next rows = leads options bytes x k row next rows h r in
     let feed = on.feed in
     let read = line-read options bytes h.0 x row h.1 r.small r.bytes_are
     (let within = on.within in omega (arith, within)) in
-    let more = lines-read options bytes x (k + 1) next rows behind h.7 on.below ends in
+    let more = lines-read options bytes x (k + 1) next rows following h.7 on.below ends in
     let apart = are-apart options bytes row next rows h in
     let last = (last_row next rows).end in
     let before : next.first.index < last.index = next-before next rows h.7 in
     let le = apart.front in
-    let met : nat_le (behind_row row).index next.first.index ≡ true = grind (arith, nat_tests) in
+    let met : nat_le (after_row row).index next.first.index ≡ true = grind (arith, nat_tests) in
     let are : line_events (text_feed x row.first) row.first ≡
     exit n.Data next.first ∷ enter_link n.Data next.first text_link ∷ line_events (text_feed x next.first) next.first =
     read.lines ∙ ap (λ (l : List Cell). line_events l row.end) feed in
-    let all : List Event = text_events x next.first behind in
+    let all : List Event = text_events x next.first following in
     let bs : List LineBreak = bared (breaks_of next rows) in
-    let b : LineBreak = record { after = behind_row row; front = [] } in
+    let b : LineBreak = record { after = after_row row; front = [] } in
     record {
       laid_are =
           ap
           (λ (l : List Event).
-          laid (bared (breaks_of row (next ∷ rows))) (enter_link n.Data row.first text_link ∷ l ++ behind)) are
+          laid (bared (breaks_of row (next ∷ rows))) (enter_link n.Data row.first text_link ∷ l ++ following)) are
           ∙ ap
           (λ (t : Bool).
           enter_link n.Data row.first text_link
-          ∷ cond t (exit n.Data (behind_row row) ∷ laid bs all) (exit n.Data next.first ∷ laid (b ∷ bs) all)) met
-          ∙ ap (λ (l : List Event). enter_link n.Data row.first text_link ∷ exit n.Data (behind_row row) ∷ l)
+          ∷ cond t (exit n.Data (after_row row) ∷ laid bs all) (exit n.Data next.first ∷ laid (b ∷ bs) all)) met
+          ∙ ap (λ (l : List Event). enter_link n.Data row.first text_link ∷ exit n.Data (after_row row) ∷ l)
           more.laid_are;
       end = read.end ∙ ap (λ (l : List Cell). point_after l row.end) feed ∙ more.end;
       ends =
-          subst (λ (l : List Event). EndIn last (enter_link n.Data row.first text_link ∷ l ++ behind)) (sym are)
+          subst (λ (l : List Event). EndIn last (enter_link n.Data row.first text_link ∷ l ++ following)) (sym are)
           (λ no. cc, (λ yes. inr before, more.ends));
     }
   where

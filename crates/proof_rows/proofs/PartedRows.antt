@@ -13,10 +13,10 @@ use Rattle.md_outline.specs.Outlined.{are_parted}
 use Rattle.proof_frame.specs.EndingName.{ending_name}
 use Rattle.proof_frame.specs.Change.{ends_of}
 use Rattle.proof_frame.specs.Row.{Row, ending_events}
-use Rattle.proof_rows.specs.Rows.{final_row, first_row, front_done, group_done, Group, groups, groups_events, tail_events}
-use Rattle.proof_rows.specs.Rows.{group_ending, is_blank_group}
+use Rattle.proof_rows.specs.Rows.{final_row, first_row, front_done, group_done, Group, groups, groups_events}
+use Rattle.proof_rows.specs.Rows.{tail_events, group_ending, is_blank_group}
 use Rattle.proof_frame.proofs.FrontLemmas.{ends-roles}
-use Rattle.proof_frame.proofs.FrontStands.{fronts-sit}
+use Rattle.proof_frame.proofs.FrontValid.{fronts-sit}
 use Rattle.proof_rows.proofs.RowFacts.{AreRows}
 use Rattle.proof_frame.proofs.PartedFacts.{PrefixesAtLineStart, Still, sits-append, sits-still}
 use Rattle.proof_rows.proofs.NestedRows.{ByGroups, rows-hold}

@@ -4,8 +4,8 @@ use Rattle.md_engine.specs.declared.tokenizer.held_leaf.HeldLeaf.{HeldLeaf}
 use Rattle.md_outline.specs.Roles.{is_plain}
 use Rattle.std.proofs.Common.{◌≡◌, ℕ, Bool, true, false, List, [], ◌∷◌, ◌++◌, map, refl, sym, subst}
 use Rattle.proof_frame.specs.EndingName.{ending_name}
-use Rattle.proof_rows.specs.Rows.{final_row, first_row, front_done, group_done, Group, group_events, groups, groups_events}
-use Rattle.proof_rows.specs.Rows.{tail_events, group_ending, is_blank_group}
+use Rattle.proof_rows.specs.Rows.{final_row, first_row, front_done, group_done, Group, group_events, groups}
+use Rattle.proof_rows.specs.Rows.{groups_events, tail_events, group_ending, is_blank_group}
 use Rattle.std.specs.Prelude.{Option, Some, None}
 use Rattle.std.specs.List.{list_all}
 use Rattle.std.specs.Str.{IsUtf8}
@@ -27,17 +27,17 @@ use Rattle.proof_frame.specs.Row.{Row, ending_events}
 use Rattle.proof_frame.specs.ContainerNames.{container_name, shape_of}
 use Rattle.proof_rows.proofs.ContainedLemmas.{contained-shapes}
 use Rattle.proof_rows.proofs.EachRow.{EachGroup, EachRow, final-each, first-each, groups-each}
-use Rattle.proof_frame.proofs.FrontFacts.{Begins, Behind, LinePrefix, Goes}
+use Rattle.proof_frame.proofs.FrontFacts.{Begins, Following, LinePrefix, Proceeds}
 use Rattle.proof_rows.proofs.PartedRows.{rows-parted}
 use Rattle.proof_rows.proofs.Text.Parted.{rest-clear}
-use Rattle.proof_frame.proofs.FrontStands.{plain-front}
-use Rattle.proof_rows.proofs.LineBehind.{first-line}
-use Rattle.proof_rows.proofs.RowFacts.{AreRows, IsLine, behind_line}
+use Rattle.proof_frame.proofs.FrontValid.{plain-front}
+use Rattle.proof_rows.proofs.LineAfter.{first-line}
+use Rattle.proof_rows.proofs.RowFacts.{AreRows, IsLine, following_line}
 use Rattle.proof_frame.proofs.PlainFacts.{ArePlain, Untold, plain-append, plain-nil, plain-untold}
 use Rattle.proof_frame.proofs.PartedFacts.{clear}
 use Rattle.proof_rows.proofs.NestedRows.{ByGroups, rows-hold}
 use Rattle.proof_frame.proofs.ContainerNames.{container-facts}
-use Rattle.proof_frame.proofs.PlainTells.{all-tell}
+use Rattle.proof_frame.proofs.PlainRecords.{all-write_message}
 
 -- Containers.
 
@@ -79,8 +79,8 @@ plain-tail bytes name row h shown =
 -- where a container opens, an outline shows it
 fronts-shown : (bytes : List ℕ) (opens : List Container) (p q : Point) (front : List Event) →
     LinePrefix bytes opens p q front → AreShown opens
-fronts-shown bytes _ p _ _ (Behind _) = tt
-fronts-shown bytes opens p r _ (Goes _ _ q _ es fs is more) = fronts-shown bytes opens q r fs more
+fronts-shown bytes _ p _ _ (Following _) = tt
+fronts-shown bytes opens p r _ (Proceeds _ _ q _ es fs is more) = fronts-shown bytes opens q r fs more
 fronts-shown bytes _ p r _ (Begins c opens _ q _ es fs is more) = (is.shown, fronts-shown bytes opens q r fs more)
 
 -- Rows.
@@ -127,7 +127,7 @@ plain-by_groups options bytes = record {
 line-shown : (options : ParseOptions) (bytes : List ℕ) (open_before : List Container) (still : HeldLeaf) (p : Point)
     (line : List ℕ) (row : Row) →
     IsLine options bytes open_before still p line row → AreShown open_before →
-    AreShown row.change.closes × AreShown (behind_line options open_before still p line)
+    AreShown row.change.closes × AreShown (following_line options open_before still p line)
 line-shown options bytes open_before still p line row at h =
     let c : Change = (contained options open_before still (rest_from p line)).change in
     let parts : AreShown c.stays ×
@@ -151,12 +151,12 @@ plain-rows options bytes open_before still p (line ∷ []) (row ∷ []) h shown 
     let here = line-shown options bytes open_before still p line row h.0 shown in
     (line-plain options bytes open_before still p line row h.0 (subst AreShown (sym h.1) here.1), tt)
 plain-rows options bytes open_before still p (line ∷ next ∷ lines) (row ∷ below ∷ rows) h shown =
-    let behind : List Container = behind_line options open_before still p line in
+    let following : List Container = following_line options open_before still p line in
     let here = line-shown options bytes open_before still p line row h.0 shown in
-    let there = line-shown options bytes behind row.behind h.2 next below
-    (first-line options bytes behind row.behind h.2 (next ∷ lines) below rows h.5) here.1 in (
+    let there = line-shown options bytes following row.following h.2 next below
+    (first-line options bytes following row.following h.2 (next ∷ lines) below rows h.5) here.1 in (
       line-plain options bytes open_before still p line row h.0 (subst AreShown (sym h.1) there.0),
-      plain-rows options bytes behind row.behind h.2 (next ∷ lines) (below ∷ rows) h.5 here.1,
+      plain-rows options bytes following row.following h.2 (next ∷ lines) (below ∷ rows) h.5 here.1,
     )
 plain-rows options bytes open_before still p lines rows h shown = absurd h
 
@@ -173,7 +173,7 @@ groups-unlisted options bytes p lines rows are utf8 between =
       names = plain.known.names;
       text = utf8;
       between = between;
-      texts = all-tell bytes (groups_events options bytes (groups rows)) plain.known.texts between;
+      texts = all-write_message bytes (groups_events options bytes (groups rows)) plain.known.texts between;
       parted = rows-parted options bytes p lines rows are;
       lines = passes-all bytes (groups_events options bytes (groups rows)) plain.lines;
     }

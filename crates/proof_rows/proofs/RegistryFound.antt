@@ -26,7 +26,7 @@ use Rattle.proof_literal_laws.proofs.CodeIndented.Found.{code-found}
 use Rattle.proof_literal_laws.proofs.Fence.Found.{fence-found}
 use Rattle.proof_leaf_laws.proofs.HeadingAtx.Found.{heading-found}
 use Rattle.proof_literal_laws.proofs.HtmlFlow.Found.{html-found}
-use Rattle.md_registry.proofs.LeafStarts.{IsAgainst, came_of, leaf_at}
+use Rattle.md_registry.proofs.LeafStarts.{IsAgainst, result_of, leaf_at}
 use Rattle.proof_rows.proofs.TableStarts.{untabled}
 use Rattle.proof_leaf_laws.proofs.ThematicBreak.Found.{break-found}
 
@@ -106,7 +106,7 @@ free-open _ = refl
 pub others-found : (options : ParseOptions) (on : HeldLeaf) (against : ParagraphContext) (r : Rest) →
     IsAgainst against on → setext_leaf.starts options on r ≡ false →
     (has_small_indent options r && turns_nothing options on && is_underline (trim_start r.bytes)) ≡ false →
-    is_blank r.bytes ≡ false → starts options against r ≡ came_of options r (other_at options on r)
+    is_blank r.bytes ≡ false → starts options against r ≡ result_of options r (other_at options on r)
 unfolding starts
 others-found options on against r same unturned no_underline dark =
     ap₂ (λ (x y : Option LeafResult). option_or x y)
@@ -119,13 +119,13 @@ others-found options on against r same unturned no_underline dark =
     (heading_leaf.starts options on r) (break_leaf.starts options on r)
     ∙ ap
     (λ (s : Bool).
-    came_of options r
+    result_of options r
     (to (code_leaf.starts options on r) (fence_leaf.starts options on r) (html_leaf.starts options on r)
     (heading_leaf.starts options on r) s (break_leaf.starts options on r))) (sym unturned)
   where
     -- a leaf, if it starts
     one : Bool → LeafName → Option LeafResult
-    one x l = cond x (Some ((leaf l).comes options NoLeaf r)) None
+    one x l = cond x (Some ((leaf l).becomes options NoLeaf r)) None
 
     to : Bool → Bool → Bool → Bool → Bool → Bool → Option LeafName
     to c x h y s z =
@@ -137,7 +137,7 @@ others-found options on against r same unturned no_underline dark =
     go : (c x h y z : Bool) →
         option_or (one c CodeIndented)
         (option_or (one x Fence) (option_or (one h HtmlFlow) (option_or (one y HeadingAtx) (one z ThematicBreak)))) ≡
-        came_of options r (to c x h y false z)
+        result_of options r (to c x h y false z)
     go false false false false false = refl
     go _ _ _ _ _ = refl
 
@@ -164,7 +164,7 @@ not-lost options on against r same free = go (has_small_indent options r) (turns
 -- The first leaf that starts where the line meets no text is the first of them that does.
 pub untext-found : (options : ParseOptions) (on : HeldLeaf) (against : ParagraphContext) (r : Rest) →
     IsAgainst against on → is_text against ≡ false → is_blank r.bytes ≡ false →
-    starts options against r ≡ came_of options r (other_at options on r)
+    starts options against r ≡ result_of options r (other_at options on r)
 untext-found options on against r same free dark =
     others-found options on against r same (not-text options on against r same free)
     (not-lost options on against r same free) dark

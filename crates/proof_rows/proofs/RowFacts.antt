@@ -11,13 +11,13 @@ use Rattle.md_meaning.proofs.TextsLemmas.{NoEnding, ending_bytes}
 use Rattle.md_meaning.specs.State.{Container}
 use Rattle.proof_frame.specs.LeafName.{LeafName}
 use Rattle.md_registry.specs.Registry.{leaf}
-use Rattle.proof_frame.specs.Change.{open_behind}
+use Rattle.proof_frame.specs.Change.{open_following}
 use Rattle.proof_frame.proofs.LeafFacts.{LineAt}
 use Rattle.md_meaning.specs.Rest.{Rest, is_blank}
 use Rattle.proof_rows.specs.Fronted.{contained, rest_from}
 use Rattle.proof_frame.specs.RestLine.{rest_line}
 use Rattle.proof_frame.specs.Row.{BlankRow, LeafRow, Row, blank_line, is_empty_row}
-use Rattle.proof_rows.specs.Rows.{line_behind, line_kind, stays_blank}
+use Rattle.proof_rows.specs.Rows.{line_following, line_kind, stays_blank}
 use Rattle.proof_frame.proofs.FrontFacts.{LinePrefix, ReadFront}
 use Rattle.proof_frame.proofs.PieceFacts.{CutsFirst}
 
@@ -28,7 +28,7 @@ pub record IsRow (options : ParseOptions) (bytes line : List ℕ) (row : Row) : 
   pub small : length bytes < 2 ^ 61
   pub line_is : line ≡ rest_line rest
   pub kind : row.kind ≡ line_kind options row.on rest
-  pub behind : row.behind ≡ line_behind options row.on rest row.kind
+  pub following : row.following ≡ line_following options row.on rest row.kind
   pub no_ending : NoEnding line
   -- it is between the first point and the end; a tab that a prefix has cut is its first byte
   pub text : slice_range bytes row.first.index row.end.index ≡ line
@@ -79,20 +79,20 @@ pub record IsLine (options : ParseOptions) (bytes : List ℕ) (open_before : Lis
   pub extent : row.end.index ≡ p.index + length line
 
 -- which containers are open after a line
-abbrev pub behind_line : ParseOptions → List Container → HeldLeaf → Point → List ℕ → List Container
-behind_line options open_before still p line =
-    open_behind (contained options open_before still (rest_from p line)).change
+abbrev pub following_line : ParseOptions → List Container → HeldLeaf → Point → List ℕ → List Container
+following_line options open_before still p line =
+    open_following (contained options open_before still (rest_from p line)).change
 
 -- These lines, from this point to the end of the text, where these containers and this leaf are open.
 abbrev pub AreRows : ParseOptions → List ℕ → List Container → HeldLeaf → Point → List (List ℕ) → List Row → Type 0
 AreRows options bytes open_before still p (line ∷ []) (row ∷ []) =
     (is : IsLine options bytes open_before still p line row) ×
-    (leaves : row.closed_after ≡ behind_line options open_before still p line) × (last : row.after ≡ None) ×
+    (leaves : row.closed_after ≡ following_line options open_before still p line) × (last : row.after ≡ None) ×
     (row.end.index ≡ length bytes)
 AreRows options bytes open_before still p (line ∷ next ∷ lines) (row ∷ below ∷ rows) =
     (is : IsLine options bytes open_before still p line row) × (leaves : row.closed_after ≡ below.change.closes) ×
     (q : Point) × (after : row.after ≡ Some q) × (ending : IsEnding bytes row.end q)
-    × AreRows options bytes (behind_line options open_before still p line) row.behind q (next ∷ lines)
+    × AreRows options bytes (following_line options open_before still p line) row.following q (next ∷ lines)
     (below ∷ rows)
 AreRows options bytes open_before still p _ _ = ⊥
 

@@ -11,7 +11,7 @@ use Rattle.proof_frame.specs.RestLine.{rest_line}
 use Rattle.proof_frame.specs.LeafName.{LeafName}
 use Rattle.md_registry.specs.Registry.{asked_first, leaf}
 use Rattle.proof_frame.specs.Row.{BlankRow, LeafRow, Row, RowKind, TextRow}
-use Rattle.proof_rows.specs.Rows.{leaf_done, leaf_unread, line_behind, stays_blank}
+use Rattle.proof_rows.specs.Rows.{leaf_done, leaf_unread, line_following, stays_blank}
 use Rattle.proof_frame.specs.Row.{is_blank_by, is_blank_row, is_empty_row, row_line}
 use Rattle.proof_frame.proofs.BlankLine.{blank-facts}
 use Rattle.proof_rows.proofs.KindLemmas.{kind-blank, kind-filled, kind-starts}
@@ -47,17 +47,17 @@ pub leaf-filled : (options : ParseOptions) (bytes line : List ℕ) (row : Row) (
 leaf-filled options bytes line row l is e other =
     is.empty
     ∙ ap₂ (λ (blank ended : Bool). (stays_blank row.kind && blank) || (ended && (row.first.column == 1))) some
-    (stands line (ap is_blank is.line_is ∙ line-blank is.rest ∙ some) is.size)
+    (valid line (ap is_blank is.line_is ∙ line-blank is.rest ∙ some) is.size)
     ∙ none (stays_blank row.kind)
   where
     some : is_blank is.rest.bytes ≡ false
     some =
         kind-filled options row.on is.rest l (sym is.kind ∙ e) other
 
-    stands : (line : List ℕ) → is_blank line ≡ false → row.end.index ≡ row.first.index + length line →
+    valid : (line : List ℕ) → is_blank line ≡ false → row.end.index ≡ row.first.index + length line →
         is_empty_row row ≡ false
-    stands [] some size = cc
-    stands (b ∷ bs) some size = grind (arith, nat_tests)
+    valid [] some size = cc
+    valid (b ∷ bs) some size = grind (arith, nat_tests)
 
     none : (x : Bool) → ((x && false) || false) ≡ false
     none true = refl
@@ -106,7 +106,7 @@ row-as options bytes line row is l kind = record {
   column = is.column;
   starts = kind-starts options row.on is.rest l (sym is.kind ∙ kind);
   inside = is.leaf_is l kind ∙ ap (λ (own : List ℕ). (leaf l).added options row.on own row.first) is.line_is;
-  behind = is.behind ∙ ap (line_behind options row.on is.rest) kind;
+  following = is.following ∙ ap (line_following options row.on is.rest) kind;
   empty =
       is.empty
       ∙ ap

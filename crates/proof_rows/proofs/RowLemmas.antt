@@ -24,20 +24,20 @@ use Rattle.md_events.proofs.InlineLemmas.{past-index}
 use Rattle.md_events.proofs.RestCells.{RestAt, rest_cells}
 use Rattle.md_meaning.proofs.TextsLemmas.{Both, Ending, EndsBefore, LineFeed, NoEnding, Return, ending_bytes}
 use Rattle.md_meaning.proofs.TextsLemmas.{split-line, split-next}
-use Rattle.proof_frame.specs.Change.{open_behind}
+use Rattle.proof_frame.specs.Change.{open_following}
 use Rattle.proof_rows.specs.TextRows.{text_cells, text_rows, text_setting}
 use Rattle.proof_rows.specs.Fronted.{Contained, contained, rest_from}
 use Rattle.proof_frame.specs.RestLine.{rest_line}
 use Rattle.proof_rows.specs.WithoutMdx.{IsWithoutMdx}
 use Rattle.proof_frame.specs.Row.{Row, RowKind}
-use Rattle.proof_rows.specs.Rows.{behind_held, leaf_behind, Held, after_ending, closes_before, ends_blank, held_at}
+use Rattle.proof_rows.specs.Rows.{after_held, leaf_following, Held, after_ending, closes_before, ends_blank, held_at}
 use Rattle.proof_rows.specs.Rows.{inside_of, line_kind, onto_rows, row_kind, row_of, rows_at, rows_by, stays_blank}
 use Rattle.proof_rows.proofs.FrontRows.{HasHeld, held-is}
 use Rattle.proof_frame.proofs.RestFacts.{rest-line_end, rest-no_ending}
 use Rattle.proof_frame.proofs.RestRows.{rest-blank, rest-cut, rest-empty, rest-ending, rest-past, rest-whole}
-use Rattle.proof_rows.proofs.RowFacts.{AreRows, IsLine, IsRow, behind_line}
+use Rattle.proof_rows.proofs.RowFacts.{AreRows, IsLine, IsRow, following_line}
 use Rattle.md_events.proofs.FeedLines.{IsEnding}
-use Rattle.proof_rows.proofs.RowKinds.{behind-rest, blank-inside, kind-rest, leaf-inside}
+use Rattle.proof_rows.proofs.RowKinds.{following-rest, blank-inside, kind-rest, leaf-inside}
 use Rattle.proof_frame.proofs.RegistryRead.{AreRead}
 
 -- A row.
@@ -47,18 +47,18 @@ abbrev IsRowOf : ParseOptions → List ℕ → Rest → Row → Type 0
 IsRowOf options bytes r row = (is : IsRow options bytes (rest_line r) row) × (is.rest ≡ r)
 
 -- The row of what is left of a line after its prefixes, also where it begins within a tab.
-held-row : (options : ParseOptions) (bytes behind : List ℕ) (said : Line) (r : Rest) (stop : List Cell) (h : Held)
+held-row : (options : ParseOptions) (bytes following : List ℕ) (said : Line) (r : Rest) (stop : List Cell) (h : Held)
     (below : List Row) → length bytes < 2 ^ 61 →
-    h.cells ≡ rest_cells said r h.point ++ stop → length h.cells < 2 ^ 63 → RestAt bytes behind r h.point →
+    h.cells ≡ rest_cells said r h.point ++ stop → length h.cells < 2 ^ 63 → RestAt bytes following r h.point →
     NoEnding r.bytes → Stops stop →
     IsRowOf options bytes r (row_of options h below)
-held-row options bytes behind said r stop h below small fed short is none k =
+held-row options bytes following said r stop h below small fed short is none k =
     let p = h.point in
     let one : 1 ≤ p.column = let column = is.column in omega (arith, column) in
     let size = ap length fed in
     let few : length (rest_cells said r p ++ stop) < 2 ^ 63 = omega (arith, short, size) in
     let kind : row_kind options h.on h.cells ≡ line_kind options h.on r = ap (row_kind options h.on) fed
-    ∙ kind-rest options h.on said bytes behind r p stop is none k few in
+    ∙ kind-rest options h.on said bytes following r p stop is none k few in
     let inside : (kind : RowKind) →
     inside_of options h.on h.cells p kind ≡ inside_of options h.on (rest_cells said r p ++ stop) p kind =
     λ kind. ap (λ (l : List Cell). inside_of options h.on l p kind) fed in
@@ -71,11 +71,12 @@ held-row options bytes behind said r stop h below small fed short is none k =
       small = small;
       line_is = refl;
       kind = kind;
-      behind =
-          ap (λ (l : List Cell). leaf_behind options h.on l p (row_kind options h.on h.cells)) fed
-          ∙ behind-rest options h.on said bytes behind r p stop (row_kind options h.on h.cells) is none k few kind;
+      following =
+          ap (λ (l : List Cell). leaf_following options h.on l p (row_kind options h.on h.cells)) fed
+          ∙ following-rest options h.on said bytes following r p stop (row_kind options h.on h.cells) is
+          none k few kind;
       no_ending = rest-no_ending r none;
-      text = slice-front bytes p.index (line_end h.cells p).index (rest_line r) behind is.text_is index;
+      text = slice-front bytes p.index (line_end h.cells p).index (rest_line r) following is.text_is index;
       size = index;
       end = end;
       first_column = one;
@@ -92,10 +93,11 @@ held-row options bytes behind said r stop h below small fed short is none k =
           (rest-empty said r p stop (line_end h.cells p).index none k index);
       blank =
           λ e. inside (row_kind options h.on h.cells)
-          ∙ blank-inside options h.on said bytes behind r p stop (row_kind options h.on h.cells) is none k kind e;
+          ∙ blank-inside options h.on said bytes following r p stop (row_kind options h.on h.cells) is none k kind e;
       leaf_is =
           λ l e. inside (row_kind options h.on h.cells)
-          ∙ leaf-inside options h.on said bytes behind r p stop (row_kind options h.on h.cells) is none k few kind l e;
+          ∙ leaf-inside options h.on said bytes following r p stop (row_kind options h.on h.cells) is none
+          k few kind l e;
     } in
     (row, refl)
 
@@ -184,51 +186,51 @@ rows-last options h further e =
     ap
     (λ (l : List Cell).
     onto_rows options h
-    (elim l [ [] ↦ [] | c ∷ cs ↦ further (open_behind h.change) (behind_held options h) cs c.after ]))
+    (elim l [ [] ↦ [] | c ∷ cs ↦ further (open_following h.change) (after_held options h) cs c.after ]))
     e
 
 rows-next : (options : ParseOptions) (h : Held) (further : List Container → HeldLeaf → List Cell → Point → List Row)
     (c : Cell) (cs : List Cell) →
     from_ending h.cells ≡ c ∷ cs →
     rows_by options h further ≡
-    onto_rows options h (further (open_behind h.change) (behind_held options h) cs c.after)
+    onto_rows options h (further (open_following h.change) (after_held options h) cs c.after)
 rows-next options h further c cs e =
     ap
     (λ (l : List Cell).
     onto_rows options h
-    (elim l [ [] ↦ [] | c ∷ cs ↦ further (open_behind h.change) (behind_held options h) cs c.after ]))
+    (elim l [ [] ↦ [] | c ∷ cs ↦ further (open_following h.change) (after_held options h) cs c.after ]))
     e
 
 -- a line with its containers
 record HasRow (options : ParseOptions) (bytes : List ℕ) (open_before : List Container) (still : HeldLeaf) (p : Point)
     (line : List ℕ) (stop : List Cell) (h : Held) : Type 0 where
   is : (below : List Row) → IsLine options bytes open_before still p line (row_of options h below)
-  open_is : open_behind h.change ≡ behind_line options open_before still p line
-  read : AreRead (open_behind h.change)
+  open_is : open_following h.change ≡ following_line options open_before still p line
+  read : AreRead (open_following h.change)
   end : line_end h.cells h.point ≡ past_text line p
   stops : from_ending h.cells ≡ stop
 
-has-row : (options : ParseOptions) (bytes behind : List ℕ) (said : Line) (open_before : List Container)
+has-row : (options : ParseOptions) (bytes following : List ℕ) (said : Line) (open_before : List Container)
     (still : HeldLeaf) (line : List ℕ) (p : Point) (stop : List Cell) →
     IsWithoutMdx options → length bytes < 2 ^ 61 → AreRead open_before → length (spread said line p ++ stop) < 2 ^ 63 →
-    NoEnding line → Stops stop → p.vs ≡ 0 → 1 ≤ p.column → drop p.index bytes ≡ line ++ behind →
+    NoEnding line → Stops stop → p.vs ≡ 0 → 1 ≤ p.column → drop p.index bytes ≡ line ++ following →
     HasRow options bytes open_before still p line stop
     (held_at options open_before still (spread said line p ++ stop) p)
-has-row options bytes behind said open_before still line p stop built room read short none k whole one text =
+has-row options bytes following said open_before still line p stop built room read short none k whole one text =
     let r : Rest = rest_from p line in
     let h : Held = held_at options open_before still (spread said line p ++ stop) p in
     let c : Contained = contained options open_before still r in
-    let at : RestAt bytes behind r p = record { column = omega arith; cut = whole; text_is = text } in
-    let held : HasHeld said bytes behind p (past_text line p) stop
+    let at : RestAt bytes following r p = record { column = omega arith; cut = whole; text_is = text } in
+    let held : HasHeld said bytes following p (past_text line p) stop
     (spread said line p ++ stop) h c =
-    held-is options said bytes behind open_before still r stop p built read at none k short in
+    held-is options said bytes following open_before still r stop p built read at none k short in
     let le = held.shorter in
     let few : length h.cells < 2 ^ 63 = omega (arith, le, short) in
     let row : (below : List Row) →
     IsRowOf options bytes c.rest
     (row_of options h below) =
-    λ below. held-row options bytes behind said c.rest stop h below room held.fed few held.stands held.no_ending k in
-    let first : 1 ≤ h.point.column = let column = held.stands.column in omega (arith, column) in
+    λ below. held-row options bytes following said c.rest stop h below room held.fed few held.valid held.no_ending k in
+    let first : 1 ≤ h.point.column = let column = held.valid.column in omega (arith, column) in
     record {
       is =
           λ below. record {
@@ -242,22 +244,22 @@ has-row options bytes behind said open_before still line p stop built room read 
             column = one;
             extent =
                 ap (λ (q : Point). q.index)
-                ((row below).0.end ∙ rest-past c.rest h.point first held.stands.cut ∙ held.ends)
+                ((row below).0.end ∙ rest-past c.rest h.point first held.valid.cut ∙ held.ends)
                 ∙ past-index line p;
           };
-      open_is = ap open_behind held.change;
+      open_is = ap open_following held.change;
       read = held.read;
-      end = (row []).0.end ∙ rest-past c.rest h.point first held.stands.cut ∙ held.ends;
-      stops = ap from_ending held.fed ∙ rest-ending said c.rest h.point stop held.no_ending k first held.stands.cut;
+      end = (row []).0.end ∙ rest-past c.rest h.point first held.valid.cut ∙ held.ends;
+      stops = ap from_ending held.fed ∙ rest-ending said c.rest h.point stop held.no_ending k first held.valid.cut;
     }
 
 -- one line more
 rows-onto : (options : ParseOptions) (bytes line : List ℕ) (open_before : List Container) (still : HeldLeaf) (row : Row)
     (p q : Point) (lines : List (List ℕ)) (rows : List Row) →
     IsLine options bytes open_before still p line row →
-    row.closed_after ≡ closes_before (behind_line options open_before still p line) rows →
+    row.closed_after ≡ closes_before (following_line options open_before still p line) rows →
     row.after ≡ Some q → IsEnding bytes row.end q →
-    AreRows options bytes (behind_line options open_before still p line) row.behind q lines rows →
+    AreRows options bytes (following_line options open_before still p line) row.following q lines rows →
     AreRows options bytes open_before still p (line ∷ lines) (row ∷ rows)
 rows-onto options bytes line open_before still row p q [] [] is leaves after ending h = absurd h
 rows-onto options bytes line open_before still row p q [] (below ∷ rows) is leaves after ending h = absurd h
@@ -320,15 +322,15 @@ next-rows options n bytes said open_before still line ending rest p q cells more
     let has : HasRow options bytes open_before still p line stop h = has-row options bytes
     (ending_bytes ending ++ rest) said open_before still line p stop built room read small none refl vs one
     (text ∙ append_assoc line (ending_bytes ending) rest) in
-    let below : List Row = rows_at options n (open_behind h.change) (behind_held options h) more q in
+    let below : List Row = rows_at options n (open_following h.change) (after_held options h) more q in
     let row : Row = row_of options h below in
     let lines : List (List ℕ) = split_lines (drop q.index bytes) in
     let ends : IsEnding bytes (line_end h.cells h.point) q = subst (λ (r : Point). IsEnding bytes r q)
     (sym has.end) is_ending in
-    let those : AreRows options bytes (behind_line options open_before still p line)
-    row.behind q lines below =
-    subst (λ (cs : List Container). AreRows options bytes cs row.behind q lines below) has.open_is
-    (further (open_behind h.change) row.behind has.read) in
+    let those : AreRows options bytes (following_line options open_before still p line)
+    row.following q lines below =
+    subst (λ (cs : List Container). AreRows options bytes cs row.following q lines below) has.open_is
+    (further (open_following h.change) row.following has.read) in
     let rows : AreRows options bytes open_before still p (line ∷ lines) (row ∷ below) =
     rows-onto options bytes line open_before still row p q lines below (has.is below)
     (ap (λ (cs : List Container). closes_before cs below) has.open_is) (ap after_ending has.stops) ends those in
@@ -406,13 +408,14 @@ rows-are options (suc n) x open_before still p built read h short =
           whole = h.whole;
           column = h.column;
         } in
-        let behind : drop end.index x.bytes ≡ ending_bytes h'.ending ++ h'.rest = ap (λ (i : ℕ). drop i x.bytes) index
+        let following : drop end.index x.bytes ≡ ending_bytes h'.ending ++ h'.rest =
+        ap (λ (i : ℕ). drop i x.bytes) index
         ∙ drop-past x.bytes p.index line (ending_bytes h'.ending ++ h'.rest) joined in
         let left : drop q.index x.bytes ≡
-        h'.rest = drop-past x.bytes end.index (ending_bytes h'.ending) h'.rest behind in
+        h'.rest = drop-past x.bytes end.index (ending_bytes h'.ending) h'.rest following in
         let stop : HasEnding x h'.ending h'.rest end = record {
           small = small;
-          text = behind;
+          text = following;
           before = h'.before;
           within = omega arith;
           begun = begun-none x q h.skips;
@@ -432,7 +435,7 @@ rows-are options (suc n) x open_before still p built read h short =
         } in
         next-rows options n x.bytes x.line open_before still line h'.ending h'.rest p q (text_feed x p)
         (text_feed x q) built h.small read few h'.no_ending h'.before h.whole h.column h'.joined left
-        (is-ending x.bytes h'.ending h'.rest end behind h'.before) fed (more q lines (omega arith))
+        (is-ending x.bytes h'.ending h'.rest end following h'.before) fed (more q lines (omega arith))
 
 -- So are those that a new tokenizer reads to the end of a text.
 pub fresh-rows : (options : ParseOptions) (bytes : List ℕ) (p : Point) → IsWithoutMdx options → length bytes < 2 ^ 61 →

@@ -10,11 +10,11 @@ use Rattle.md_engine.specs.declared.event.Name.{Name}
 use Rattle.md_engine.specs.declared.event.Name.TheVariants as n
 use Rattle.md_engine.specs.declared.event.Point.{Point}
 use Rattle.md_meaning.specs.State.{Container}
-use Rattle.md_leaves.specs.Spanned.{begins_further, goes_on, has_lines, links_back, name_at, renamed, spanned}
+use Rattle.md_leaves.specs.Spanned.{begins_further, is_continued, has_lines, links_back, name_at, renamed, spanned}
 use Rattle.md_leaves.specs.Spanned.{spanned_from}
 use Rattle.md_leaves.specs.declared.spans.Place.TheVariants.{Between, Inside, Outside}
-use Rattle.md_leaves.proofs.SpannedLines.{IsBegin, IsEnd, NoBlocks, NoLines, goes_on-other, line-begins, line-joined}
-use Rattle.md_leaves.proofs.SpannedLines.{IsFurther, blocks-lines, line-last, lines-block, spanned-passes}
+use Rattle.md_leaves.proofs.SpannedLines.{IsBegin, IsEnd, NoBlocks, NoLines, is_continued-other, line-begins}
+use Rattle.md_leaves.proofs.SpannedLines.{line-joined, IsFurther, blocks-lines, line-last, lines-block, spanned-passes}
 use Rattle.md_leaves.proofs.SpannedLines.{spanned-stays}
 use Rattle.md_events.specs.Events.Blocks.{is_block}
 use Rattle.md_events.specs.Events.Nested.{exit, is_enter, pair}
@@ -24,8 +24,8 @@ use Rattle.proof_frame.specs.Change.{ends_of}
 use Rattle.proof_frame.specs.EndingName.{ending_name}
 use Rattle.proof_frame.specs.LeafName.{LeafName}
 use Rattle.md_registry.specs.Registry.{further_of, leaf}
-use Rattle.proof_frame.specs.Row.{LeafRow, Row, RowKind, any_framed, but_end, but_ends, end_of, ending_events, ending_of}
-use Rattle.proof_frame.specs.Row.{is_blank_by, is_framed, last_row, span_behind, span_by, span_rest}
+use Rattle.proof_frame.specs.Row.{LeafRow, Row, RowKind, any_framed, but_end, but_ends, end_of, ending_events}
+use Rattle.proof_frame.specs.Row.{ending_of, is_blank_by, is_framed, last_row, span_after, span_by, span_rest}
 use Rattle.proof_rows.specs.Rows.{leaf_events, row_events, rows_events, tail_events}
 use Rattle.proof_frame.proofs.EachEvent.{each-append}
 use Rattle.proof_frame.proofs.FrontNames.{HasFront, ends-are, fronts-are, fronts-prefixes}
@@ -33,9 +33,10 @@ use Rattle.proof_rows.proofs.GroupLines.{AreSpan, IsSpanLine, span-begins}
 use Rattle.proof_frame.proofs.PrefixNames.{ArePrefixes, prefixes-front}
 use Rattle.md_registry.proofs.SpanLeaves.{span-laws}
 use Rattle.proof_frame.proofs.LeafLines.Cuts.{but_end-is, but_ends-is, end-is}
-use Rattle.proof_frame.proofs.LeafLines.Framed.{plain-unframed, rest-bare, rest-behind, rest-framed, spanned-framed}
-use Rattle.proof_frame.proofs.SpanLaws.{AreBehind, IsBare, IsNone, IsSpanned}
-use Rattle.proof_frame.proofs.SpannedFacts.{AreUnspanned, IsUnspanned, fronts-unspanned, unspanned-lines, unspanned-pass}
+use Rattle.proof_frame.proofs.LeafLines.Framed.{plain-unframed, rest-bare, rest-following, rest-framed, spanned-framed}
+use Rattle.proof_frame.proofs.SpanLaws.{AreAfter, IsBare, IsNone, IsSpanned}
+use Rattle.proof_frame.proofs.SpannedFacts.{AreUnspanned, IsUnspanned, fronts-unspanned, unspanned-lines}
+use Rattle.proof_frame.proofs.SpannedFacts.{unspanned-pass}
 
 -- Endings.
 
@@ -162,21 +163,22 @@ front-gap gap given row next is prefixes =
 -- What is ahead.
 
 -- events of no such leaf are no further line
-pub plain-ahead : (es rest : List Event) → NoLines es → goes_on rest ≡ false → goes_on (es ++ rest) ≡ false
+pub plain-ahead : (es rest : List Event) → NoLines es → is_continued rest ≡ false → is_continued (es ++ rest) ≡ false
 plain-ahead [] rest h k = k
 plain-ahead (e ∷ es) rest h k = go (is_block (role e.name)) refl (plain-ahead es rest h.1 k)
   where
-    go : (x : Bool) → is_block (role e.name) ≡ x → goes_on (es ++ rest) ≡ false → goes_on (e ∷ (es ++ rest)) ≡ false
+    go : (x : Bool) → is_block (role e.name) ≡ x → is_continued (es ++ rest) ≡ false →
+        is_continued (e ∷ (es ++ rest)) ≡ false
     go true block none =
-        goes_on-other e (es ++ rest) block
+        is_continued-other e (es ++ rest) block
         (and_right (is_enter e.kind) (has_lines (role e.name) && links_back e.link)
         (ap (λ (x : Bool). x && links_back e.link) h.0))
-    go false block none = ap (λ (x : Bool). cond x (begins_further e) (goes_on (es ++ rest))) block ∙ none
+    go false block none = ap (λ (x : Bool). cond x (begins_further e) (is_continued (es ++ rest))) block ∙ none
 
 -- nor is the begin of a first line
-begin-ahead : (e : Event) (es : List Event) → IsBegin e → goes_on (e ∷ es) ≡ false
+begin-ahead : (e : Event) (es : List Event) → IsBegin e → is_continued (e ∷ es) ≡ false
 begin-ahead e es is =
-    goes_on-other e es (lines-block (role e.name) is.lines)
+    is_continued-other e es (lines-block (role e.name) is.lines)
     (ap (λ (x : Bool). is_enter e.kind && (has_lines (role e.name) && x)) is.link
     ∙ and_right (is_enter e.kind) (has_lines (role e.name) && false)
     (and_right (has_lines (role e.name)) false refl))
@@ -216,12 +218,12 @@ row-apart row l more rest kind =
     ∙ apart row.front row.inside tail more rest
 
 -- what it adds, if it is as a block by itself: its begin, what is inside, and its end
-pub line-apart : (Lead : List Event → Type 0) (Begins : Event → Type 0) (es behind : List Event) →
-    (s : IsSpanned Lead Begins es) → es ++ behind ≡ s.lead ++ s.begin ∷ (s.inside ++ s.end ∷ behind)
-line-apart Lead Begins es behind s =
-    ap (λ (l : List Event). l ++ behind) s.is
-    ∙ append_assoc (s.lead ++ s.begin ∷ s.inside) (s.end ∷ []) behind
-    ∙ append_assoc s.lead (s.begin ∷ s.inside) (s.end ∷ behind)
+pub line-apart : (Lead : List Event → Type 0) (Begins : Event → Type 0) (es following : List Event) →
+    (s : IsSpanned Lead Begins es) → es ++ following ≡ s.lead ++ s.begin ∷ (s.inside ++ s.end ∷ following)
+line-apart Lead Begins es following s =
+    ap (λ (l : List Event). l ++ following) s.is
+    ∙ append_assoc (s.lead ++ s.begin ∷ s.inside) (s.end ∷ []) following
+    ∙ append_assoc s.lead (s.begin ∷ s.inside) (s.end ∷ following)
 
 -- after the last line
 abbrev pub last_tail : Row → List Row → List Event
@@ -254,45 +256,46 @@ AreBare row (next ∷ rows) = Follows row next × NoBlocks next.inside × AreBar
 pub passed : (es rest : List Event) → AreUnspanned es → spanned (es ++ rest) ≡ es ++ spanned rest
 passed es rest h = spanned-passes Outside es rest (unspanned-pass es h)
 
-unspanned-ahead : (es rest : List Event) → AreUnspanned es → goes_on rest ≡ false → goes_on (es ++ rest) ≡ false
+unspanned-ahead : (es rest : List Event) → AreUnspanned es → is_continued rest ≡ false →
+    is_continued (es ++ rest) ≡ false
 unspanned-ahead es rest h ahead = plain-ahead es rest (unspanned-lines es h) ahead
 
 pub prefixes-unspanned : (es : List Event) → ArePrefixes es → AreUnspanned es
 prefixes-unspanned es h = fronts-unspanned es (prefixes-front es h)
 
 -- none of them begins a further line,
-bare-ahead : (row : Row) (rows : List Row) (rest : List Event) → AreBare row rows → goes_on rest ≡ false →
-    goes_on (tail_events (ending_at row) row ++ (rows_events rows ++ rest)) ≡ false
+bare-ahead : (row : Row) (rows : List Row) (rest : List Event) → AreBare row rows → is_continued rest ≡ false →
+    is_continued (tail_events (ending_at row) row ++ (rows_events rows ++ rest)) ≡ false
 bare-ahead row [] rest are ahead =
     unspanned-ahead (tail_events (ending_at row) row) rest (tail-unspanned row.kind row) ahead
 bare-ahead row (next ∷ rows) rest are ahead =
     let ending : List Event = ending_events (ending_at row) row in
-    let behind : List Event = tail_events (ending_at next) next ++ (rows_events rows ++ rest) in
-    ap goes_on (next-apart row next (rows_events rows) rest are.0)
-    ∙ unspanned-ahead ending (next.front ++ (next.inside ++ behind))
+    let following : List Event = tail_events (ending_at next) next ++ (rows_events rows ++ rest) in
+    ap is_continued (next-apart row next (rows_events rows) rest are.0)
+    ∙ unspanned-ahead ending (next.front ++ (next.inside ++ following))
     (ending-unspanned (ending_at row) row (ending-name row.kind row))
-    (unspanned-ahead next.front (next.inside ++ behind) (prefixes-unspanned next.front are.0.prefixes)
-    (plain-ahead next.inside behind (blocks-lines next.inside are.1) (bare-ahead next rows rest are.2 ahead)))
+    (unspanned-ahead next.front (next.inside ++ following) (prefixes-unspanned next.front are.0.prefixes)
+    (plain-ahead next.inside following (blocks-lines next.inside are.1) (bare-ahead next rows rest are.2 ahead)))
 
 -- and what is left of each is whitespace
-bare-behind : (row : Row) (rows : List Row) (rest : List Event) → AreBare row rows →
+bare-following : (row : Row) (rows : List Row) (rest : List Event) → AreBare row rows →
     spanned (tail_events (ending_at row) row ++ (rows_events rows ++ rest))
-    ≡ span_behind its_events row rows ++ (last_tail row rows ++ spanned rest)
-bare-behind row [] rest are = passed (tail_events (ending_at row) row) rest (tail-unspanned row.kind row)
-bare-behind row (next ∷ rows) rest are =
+    ≡ span_after its_events row rows ++ (last_tail row rows ++ spanned rest)
+bare-following row [] rest are = passed (tail_events (ending_at row) row) rest (tail-unspanned row.kind row)
+bare-following row (next ∷ rows) rest are =
     let ending : List Event = ending_events (ending_at row) row in
-    let behind : List Event = tail_events (ending_at next) next ++ (rows_events rows ++ rest) in
+    let following : List Event = tail_events (ending_at next) next ++ (rows_events rows ++ rest) in
     let white : List Event = map (renamed Outside) next.inside in
-    let S : List Event = span_behind its_events next rows in
+    let S : List Event = span_after its_events next rows in
     let Z : List Event = last_tail next rows ++ spanned rest in
     ap spanned (next-apart row next (rows_events rows) rest are.0)
-    ∙ passed ending (next.front ++ (next.inside ++ behind))
+    ∙ passed ending (next.front ++ (next.inside ++ following))
     (ending-unspanned (ending_at row) row (ending-name row.kind row))
     ∙ ap (λ (l : List Event). ending ++ l)
-    (passed next.front (next.inside ++ behind) (prefixes-unspanned next.front are.0.prefixes)
+    (passed next.front (next.inside ++ following) (prefixes-unspanned next.front are.0.prefixes)
     ∙ ap (λ (l : List Event). next.front ++ l)
-    (spanned-stays Outside next.inside behind (blocks-lines next.inside are.1)
-    ∙ ap (λ (l : List Event). white ++ l) (bare-behind next rows rest are.2)))
+    (spanned-stays Outside next.inside following (blocks-lines next.inside are.1)
+    ∙ ap (λ (l : List Event). white ++ l) (bare-following next rows rest are.2)))
     ∙ sym (apart ending next.front white S Z)
 
 -- Lines after the begin of one: what is left of them, after what is inside of that line, and what is left of a gap
@@ -304,14 +307,14 @@ Joins row rows inside e gap given rest =
 
 -- bare lines alone: the leaf ends as that line does
 bare-joined : (row : Row) (rows : List Row) (inside : List Event) (e : Event) (rest : List Event) →
-    AreBare row rows → any_framed its_events rows ≡ false → NoLines inside → IsEnd e → goes_on rest ≡ false →
+    AreBare row rows → any_framed its_events rows ≡ false → NoLines inside → IsEnd e → is_continued rest ≡ false →
     Joins row rows inside e [] [] rest
 bare-joined row rows inside e rest are none plain end ahead =
     let Z : List Event = last_tail row rows ++ spanned rest in
     line-last inside e (tail_events (ending_at row) row ++ (rows_events rows ++ rest)) plain end
     (bare-ahead row rows rest are ahead)
-    ∙ ap (λ (l : List Event). inside ++ e ∷ l) (bare-behind row rows rest are)
-    ∙ ap (λ (l : List Event). inside ++ (l ++ Z)) (sym (rest-behind its_events (e ∷ []) row rows none))
+    ∙ ap (λ (l : List Event). inside ++ e ∷ l) (bare-following row rows rest are)
+    ∙ ap (λ (l : List Event). inside ++ (l ++ Z)) (sym (rest-following its_events (e ∷ []) row rows none))
 
 -- one that has a begin and an end: the leaf continues
 framed-joined : (row next : Row) (rows : List Row) (inside : List Event) (e : Event) (gap given rest : List Event) →
@@ -320,8 +323,8 @@ framed-joined : (row next : Row) (rows : List Row) (inside : List Event) (e : Ev
 framed-joined row next rows inside e gap given rest is plain end free s on =
     let ending : List Event = ending_events (ending_at row) row in
     let as_line : List Event = ending_events n.LineEnding row in
-    let behind : List Event = tail_events (ending_at next) next ++ (rows_events rows ++ rest) in
-    let further : List Event = s.begin ∷ (s.inside ++ s.end ∷ behind) in
+    let following : List Event = tail_events (ending_at next) next ++ (rows_events rows ++ rest) in
+    let further : List Event = s.begin ∷ (s.inside ++ s.end ∷ following) in
     let between : IsGap (gap ++ ending ++ next.front) (given ++ as_line ++ next.front) =
     front-gap gap given row next free is.prefixes in
     let next_is : next.inside ≡ s.begin ∷ s.inside ++ s.end ∷ [] = s.is
@@ -336,11 +339,11 @@ framed-joined row next rows inside e gap given rest is plain end free s on =
     ap (λ (l : List Event). spanned_from Inside (inside ++ e ∷ (gap ++ l)))
     (next-apart row next (rows_events rows) rest is
     ∙ ap (λ (l : List Event). ending ++ (next.front ++ l))
-    (line-apart IsNone IsFurther next.inside behind s
+    (line-apart IsNone IsFurther next.inside following s
     ∙ ap (λ (lead : List Event). lead ++ further) s.lead_plain))
     ∙ ap (λ (l : List Event). spanned_from Inside (inside ++ e ∷ l))
     (sym (append_assoc gap ending (next.front ++ further)) ∙ sym (append_assoc (gap ++ ending) next.front further))
-    ∙ line-joined inside e (gap ++ ending ++ next.front) s.begin (s.inside ++ s.end ∷ behind) plain end
+    ∙ line-joined inside e (gap ++ ending ++ next.front) s.begin (s.inside ++ s.end ∷ following) plain end
     between.no_blocks s.begins
     ∙ ap₂ (λ (x y : List Event). inside ++ (x ++ y)) between.between on
     ∙ ap (λ (l : List Event). inside ++ l)
@@ -355,12 +358,12 @@ bare-passed : (row next : Row) (rows : List Row) (inside : List Event) (e : Even
 bare-passed row next rows inside e gap given rest is bare more on =
     let ending : List Event = ending_events (ending_at row) row in
     let as_line : List Event = ending_events n.LineEnding row in
-    let behind : List Event = tail_events (ending_at next) next ++ (rows_events rows ++ rest) in
+    let following : List Event = tail_events (ending_at next) next ++ (rows_events rows ++ rest) in
     let S : List Event = span_rest its_events (e ∷ []) next rows in
     let Z : List Event = last_tail next rows ++ spanned rest in
     ap (λ (l : List Event). spanned_from Inside (inside ++ e ∷ l))
     (ap (λ (l : List Event). gap ++ l) (next-apart row next (rows_events rows) rest is)
-    ∙ sym (apart gap ending next.front next.inside behind))
+    ∙ sym (apart gap ending next.front next.inside following))
     ∙ on
     ∙ ap (λ (l : List Event). inside ++ l)
     (append_assoc (given ++ as_line ++ next.front) next.inside (S ++ Z)
@@ -371,7 +374,7 @@ bare-passed row next rows inside e gap given rest is bare more on =
 -- The lines of a leaf, after the begin of one of them.
 
 follows-from : (options : ParseOptions) (bytes : List ℕ) (name : LeafName) (row next : Row) (rows : List Row) →
-    AreTogether row (next ∷ rows) → AreBehind options bytes (leaf (further_of name)) row (next ∷ rows) →
+    AreTogether row (next ∷ rows) → AreAfter options bytes (leaf (further_of name)) row (next ∷ rows) →
     Follows row next
 follows-from options bytes name row next rows together are =
     record {
@@ -383,7 +386,7 @@ follows-from options bytes name row next rows together are =
 
 -- those that have no begin and no end are bare
 are-bare : (options : ParseOptions) (bytes : List ℕ) (name : LeafName) (row : Row) (rows : List Row) →
-    (leaf name).ends ≡ false → AreTogether row rows → AreBehind options bytes (leaf (further_of name)) row rows →
+    (leaf name).ends ≡ false → AreTogether row rows → AreAfter options bytes (leaf (further_of name)) row rows →
     any_framed its_events rows ≡ false → AreBare row rows
 are-bare options bytes name row [] open_leaf together are none = tt
 are-bare options bytes name row (next ∷ rows) open_leaf together are none =
@@ -402,7 +405,7 @@ are-bare options bytes name row (next ∷ rows) open_leaf together are none =
 joined-by : (row : Row) (rows : List Row) (inside : List Event) (e : Event) (rest : List Event) →
     (any_framed its_events rows ≡ false → AreBare row rows) →
     (any_framed its_events rows ≡ true → Joins row rows inside e [] [] rest) →
-    NoLines inside → IsEnd e → goes_on rest ≡ false → Joins row rows inside e [] [] rest
+    NoLines inside → IsEnd e → is_continued rest ≡ false → Joins row rows inside e [] [] rest
 joined-by row rows inside e rest bare more plain end ahead = go (any_framed its_events rows) refl
   where
     go : (x : Bool) → any_framed its_events rows ≡ x → Joins row rows inside e [] [] rest
@@ -412,8 +415,8 @@ joined-by row rows inside e rest bare more plain end ahead = go (any_framed its_
 -- it continues over what is between two lines that have a begin and an end
 gaps-joined : (options : ParseOptions) (bytes : List ℕ) (name : LeafName) (row : Row) (rows : List Row)
     (inside : List Event) (e : Event) (gap given rest : List Event) →
-    (leaf name).ends ≡ false → AreTogether row rows → AreBehind options bytes (leaf (further_of name)) row rows →
-    any_framed its_events rows ≡ true → NoLines inside → IsEnd e → IsGap gap given → goes_on rest ≡ false →
+    (leaf name).ends ≡ false → AreTogether row rows → AreAfter options bytes (leaf (further_of name)) row rows →
+    any_framed its_events rows ≡ true → NoLines inside → IsEnd e → IsGap gap given → is_continued rest ≡ false →
     Joins row rows inside e gap given rest
 gaps-joined options bytes name row [] inside e gap given rest open_leaf together are more plain end free ahead =
     absurd (let bad : false ≡ true = more in cc)
@@ -424,26 +427,26 @@ gaps-joined options bytes name row (next ∷ rows) inside e gap given rest open_
     gaps-joined options bytes name next rows inside e gap given rest open_leaf together.3 are.7 more plain end free
     ahead)
   where
-    Behind : Type 0
-    Behind =
+    Following : Type 0
+    Following =
         (inside : List Event) (e : Event) (gap given : List Event) → any_framed its_events rows ≡ true →
         NoLines inside → IsEnd e → IsGap gap given → Joins next rows inside e gap given rest
 
     follows : Follows row next
     follows = follows-from options bytes name row next rows together are
 
-    go : IsSpanned IsNone IsFurther next.inside ⊎ IsBare next.inside → Behind →
+    go : IsSpanned IsNone IsFurther next.inside ⊎ IsBare next.inside → Following →
         Joins row (next ∷ rows) inside e gap given rest
-    go (inl s) behind =
+    go (inl s) following =
         framed-joined row next rows inside e gap given rest follows plain end free s
         (joined-by next rows s.inside s.end rest
         (are-bare options bytes name next rows open_leaf together.3 are.7)
-        (λ more. behind s.inside s.end [] [] more s.inside_plain s.ends no-gap) s.inside_plain s.ends ahead)
-    go (inr b) behind =
+        (λ more. following s.inside s.end [] [] more s.inside_plain s.ends no-gap) s.inside_plain s.ends ahead)
+    go (inr b) following =
         let further : any_framed its_events rows ≡ true =
         ap (λ (x : Bool). x || any_framed its_events rows) (sym (bare-unframed next.inside b)) ∙ more in
         bare-passed row next rows inside e gap given rest follows b further
-        (behind inside e (gap ++ ending_events (ending_at row) row ++ next.front ++ next.inside)
+        (following inside e (gap ++ ending_events (ending_at row) row ++ next.front ++ next.inside)
         (given ++ ending_events n.LineEnding row ++ next.front ++ next.inside) further plain end
         (gap-append (gap ++ ending_events (ending_at row) row ++ next.front)
         (given ++ ending_events n.LineEnding row ++ next.front) next.inside next.inside
@@ -451,8 +454,8 @@ gaps-joined options bytes name row (next ∷ rows) inside e gap given rest open_
 
 lines-from : (options : ParseOptions) (bytes : List ℕ) (name : LeafName) (row : Row) (rows : List Row)
     (inside : List Event) (e : Event) (rest : List Event) →
-    (leaf name).ends ≡ false → AreTogether row rows → AreBehind options bytes (leaf (further_of name)) row rows →
-    NoLines inside → IsEnd e → goes_on rest ≡ false → Joins row rows inside e [] [] rest
+    (leaf name).ends ≡ false → AreTogether row rows → AreAfter options bytes (leaf (further_of name)) row rows →
+    NoLines inside → IsEnd e → is_continued rest ≡ false → Joins row rows inside e [] [] rest
 lines-from options bytes name row rows inside e rest open_leaf together are plain end ahead =
     joined-by row rows inside e rest (are-bare options bytes name row rows open_leaf together are)
     (λ more.
@@ -460,23 +463,23 @@ lines-from options bytes name row rows inside e rest open_leaf together are plai
     plain end ahead
 
 -- A line that begins a leaf by itself, with what is before it: no line in front continues,
-pub begun-ahead : (front inside behind : List Event) → AreUnspanned front → IsSpanned AreUnspanned IsBegin inside →
-    goes_on (front ++ (inside ++ behind)) ≡ false
-begun-ahead front inside behind passes s =
-    let more : List Event = s.begin ∷ (s.inside ++ s.end ∷ behind) in
-    ap (λ (l : List Event). goes_on (front ++ l)) (line-apart AreUnspanned IsBegin inside behind s)
+pub begun-ahead : (front inside following : List Event) → AreUnspanned front → IsSpanned AreUnspanned IsBegin inside →
+    is_continued (front ++ (inside ++ following)) ≡ false
+begun-ahead front inside following passes s =
+    let more : List Event = s.begin ∷ (s.inside ++ s.end ∷ following) in
+    ap (λ (l : List Event). is_continued (front ++ l)) (line-apart AreUnspanned IsBegin inside following s)
     ∙ plain-ahead front (s.lead ++ more) (unspanned-lines front passes)
     (plain-ahead s.lead more (unspanned-lines s.lead s.lead_plain)
-    (begin-ahead s.begin (s.inside ++ s.end ∷ behind) s.begins))
+    (begin-ahead s.begin (s.inside ++ s.end ∷ following) s.begins))
 
 -- and it is joined with those after it, up to the last.
 pub begun-joined : (options : ParseOptions) (bytes : List ℕ) (name : LeafName) (row : Row) (rows : List Row)
     (rest : List Event) →
-    (leaf name).ends ≡ false → AreTogether row rows → AreBehind options bytes (leaf (further_of name)) row rows →
-    AreUnspanned row.front → IsSpanned AreUnspanned IsBegin row.inside → goes_on rest ≡ false →
+    (leaf name).ends ≡ false → AreTogether row rows → AreAfter options bytes (leaf (further_of name)) row rows →
+    AreUnspanned row.front → IsSpanned AreUnspanned IsBegin row.inside → is_continued rest ≡ false →
     spanned (row.front ++ (row.inside ++ (tail_events (ending_at row) row ++ (rows_events rows ++ rest)))) ≡
     (row.front ++ span_by its_events row rows ++ last_tail row rows) ++ spanned rest
-begun-joined options bytes name row rows rest open_leaf together behind passes s ahead =
+begun-joined options bytes name row rows rest open_leaf together following passes s ahead =
     let front : List Event = row.front in
     let begun : List Event = s.lead ++ s.begin ∷ s.inside in
     let tail : List Event = tail_events (ending_at row) row ++ (rows_events rows ++ rest) in
@@ -493,7 +496,8 @@ begun-joined options bytes name row rows rest open_leaf together behind passes s
     ∙ ap (λ (l : List Event). s.lead ++ l)
     (line-begins Outside s.begin more s.begins
     ∙ ap (λ (l : List Event). s.begin ∷ l)
-    (lines-from options bytes name row rows s.inside s.end rest open_leaf together behind s.inside_plain s.ends ahead))
+    (lines-from options bytes name row rows s.inside s.end rest open_leaf together following s.inside_plain
+    s.ends ahead))
     ∙ sym (append_assoc s.lead (s.begin ∷ s.inside) (R ++ Z)) ∙ sym (append_assoc begun R Z)
     ∙ ap (λ (l : List Event). l ++ Z) (sym whole))
     ∙ sym (append_assoc front (span_by its_events row rows) Z)

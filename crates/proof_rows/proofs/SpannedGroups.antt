@@ -6,7 +6,7 @@ use Rattle.md_engine.specs.declared.event.Name.TheVariants as n
 use Rattle.md_engine.specs.declared.event.Point.{Point}
 use Rattle.md_engine.specs.declared.tokenizer.held_leaf.HeldLeaf.{HeldLeaf}
 use Rattle.md_meaning.specs.State.{Container}
-use Rattle.md_leaves.specs.Spanned.{goes_on, spanned}
+use Rattle.md_leaves.specs.Spanned.{is_continued, spanned}
 use Rattle.md_leaves.proofs.SpannedLines.{IsBegin}
 use Rattle.md_registry.specs.Resolving.{lines_joined, joins_lines}
 use Rattle.proof_frame.specs.EndingName.{ending_name}
@@ -27,8 +27,8 @@ use Rattle.proof_rows.proofs.HeadedTable.{IsHeaded, headed-is, headed-joins}
 use Rattle.proof_rows.proofs.JoinedLeaves.{AreOfLeaf, span-leaf}
 use Rattle.proof_rows.proofs.JoinedLemmas.{EachNoContent}
 use Rattle.proof_rows.proofs.RowFacts.{AreRows}
-use Rattle.proof_rows.proofs.SpanJoined.{apart, begun-ahead, begun-joined, ending_at, front-unspanned, its_events, passed}
-use Rattle.proof_rows.proofs.SpanJoined.{plain-ahead, row-apart, span-together}
+use Rattle.proof_rows.proofs.SpanJoined.{apart, begun-ahead, begun-joined, ending_at, front-unspanned, its_events}
+use Rattle.proof_rows.proofs.SpanJoined.{passed, plain-ahead, row-apart, span-together}
 use Rattle.proof_rows.proofs.TextProgress.{IsShut}
 use Rattle.proof_rows.proofs.UnspannedGroups.{row-unspanned, text-unspanned, underlined-unspanned}
 
@@ -55,13 +55,13 @@ span-first options bytes row rows are begins =
     (span-laws of_leaf.name of_leaf.open_leaf).first_spanned options bytes row of_leaf.is of_leaf.first
 
 span-joined : (options : ParseOptions) (bytes : List ℕ) (row : Row) (rows : List Row) (rest : List Event) →
-    AreSpan options bytes row rows → Begins row → goes_on rest ≡ false →
+    AreSpan options bytes row rows → Begins row → is_continued rest ≡ false →
     spanned (rows_events (row ∷ rows) ++ rest) ≡ tabled_group options bytes (LeafLines row rows) ++ spanned rest
 span-joined options bytes row rows rest are begins ahead =
     let of_leaf : AreOfLeaf options bytes row rows = span-leaf options bytes row rows are begins in
     ap spanned (span-apart options bytes row rows rest are)
     ∙ begun-joined options bytes of_leaf.name row rows rest of_leaf.open_leaf (span-together options bytes row rows are)
-    of_leaf.behind (span-front options bytes row rows are) (span-first options bytes row rows are begins) ahead
+    of_leaf.following (span-front options bytes row rows are) (span-first options bytes row rows are begins) ahead
 
 -- A line of text that is a head, and the lines of its table.
 
@@ -81,7 +81,7 @@ headed-apart options bytes row next rows rest text =
     (sym text)
 
 headed-joined : (options : ParseOptions) (bytes : List ℕ) (row next : Row) (rows : List Row) (rest : List Event) →
-    IsHead options bytes row next → AreSpan options bytes next rows → HasFront bytes row → goes_on rest ≡ false →
+    IsHead options bytes row next → AreSpan options bytes next rows → HasFront bytes row → is_continued rest ≡ false →
     spanned (headed_lines bytes row next rows ++ rest) ≡
     spanned_group options bytes (Headed row next rows) ++ spanned rest
 headed-joined options bytes row next rows rest head are front ahead =
@@ -99,7 +99,7 @@ headed-joined options bytes row next rows rest head are front ahead =
 
 -- no group begins with a further line
 groups-ahead : (options : ParseOptions) (bytes : List ℕ) (gs : List Group) → AreGroups options bytes gs →
-    goes_on (unread_groups options bytes gs) ≡ false
+    is_continued (unread_groups options bytes gs) ≡ false
 groups-ahead options bytes [] are = refl
 groups-ahead options bytes (Single row ∷ gs) are =
     plain-ahead (unread_group options bytes (Single row)) (unread_groups options bytes gs)
@@ -117,12 +117,12 @@ groups-ahead options bytes (Turned row rows under ∷ gs) are =
     (groups-ahead options bytes gs are.4)
 groups-ahead options bytes (Headed row next rows ∷ gs) are =
     let head : Row = headed_row bytes row in
-    ap goes_on (headed-apart options bytes row next rows (unread_groups options bytes gs) are.0.text)
+    ap is_continued (headed-apart options bytes row next rows (unread_groups options bytes gs) are.0.text)
     ∙ begun-ahead row.front head.inside
     (tail_events (ending_at head) head ++ (rows_events (next ∷ rows) ++ unread_groups options bytes gs))
     (front-unspanned bytes row are.3) (head-spanned (row_line bytes row) row.first)
 groups-ahead options bytes (LeafLines row rows ∷ gs) are =
-    ap goes_on (span-apart options bytes row rows (unread_groups options bytes gs) are.0)
+    ap is_continued (span-apart options bytes row rows (unread_groups options bytes gs) are.0)
     ∙ begun-ahead row.front row.inside
     (tail_events (ending_at row) row ++ (rows_events rows ++ unread_groups options bytes gs))
     (span-front options bytes row rows are.0) (span-first options bytes row rows are.0 are.4)

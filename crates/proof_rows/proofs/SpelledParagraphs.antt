@@ -24,15 +24,15 @@ use Rattle.md_events.proofs.RestCells.{Cut}
 use Rattle.md_events.proofs.SpelledLemmas.{Between, QuietOrEnding, roles-append}
 use Rattle.md_meaning.proofs.TextsLemmas.{NoEnding, ending_bytes}
 use Rattle.proof_frame.specs.LeafName.{LeafName}
-use Rattle.proof_frame.specs.Row.{BlankRow, Row, TextRow, behind_row, last_row, read_lines}
+use Rattle.proof_frame.specs.Row.{BlankRow, Row, TextRow, after_row, last_row, read_lines}
 use Rattle.proof_rows.specs.Rows.{kind_of}
 use Rattle.proof_frame.proofs.FrontFacts.{LinePrefix}
 use Rattle.proof_frame.proofs.PlainRoles.{chunk-roles}
 use Rattle.md_registry.proofs.LeafStarts.{leaf_at}
 use Rattle.proof_rows.proofs.RowFacts as f
-use Rattle.proof_frame.proofs.CollectFacts.{Collects, collects-inline, collects-behind, collects-back}
+use Rattle.proof_frame.proofs.CollectFacts.{Collects, collects-inline, collects-following, collects-back}
 use Rattle.proof_frame.proofs.ParagraphLines.{IsRead, begins-white, collects-fronts, ends-before, fronts-between}
-use Rattle.proof_frame.proofs.ParagraphLines.{lines-more, lines-told, of-white, onto_line, trim-onto}
+use Rattle.proof_frame.proofs.ParagraphLines.{lines-more, lines-recorded, of-white, onto_line, trim-onto}
 
 -- Roles.
 
@@ -126,7 +126,7 @@ read-more options bytes line row next rows q lines is text ending fronts below =
     let here : List ℕ = is.rest.bytes in
     let own = line-bytes options bytes line row is in
     let filled = text-filled options bytes line row is text in
-    let chunk : Chunk = record { first = row.first; after = behind_row row } in
+    let chunk : Chunk = record { first = row.first; after = after_row row } in
     let end : ℕ = (last_row next rows).end.index in
     let further : List Event = read_lines bytes next rows in
     let fronted = collects-fronts bytes [] q next.first next.front further end below.all fronts refl below.collects in
@@ -148,7 +148,7 @@ read-more options bytes line row next rows q lines is text ending fronts below =
     (l ++ (white ++ below.all))) with_ending
     (collects-back bytes (plain_chunk bytes chunk ++ (next.front ++ further)) (byte_at row.first) q.index end
     (white ++ below.all) le
-    (collects-behind bytes (plain_chunk bytes chunk) (next.front ++ further) q.index end (white ++ below.all)
+    (collects-following bytes (plain_chunk bytes chunk) (next.front ++ further) q.index end (white ++ below.all)
     (chunk-roles QuietOrEnding bytes chunk tt tt) from)) in
     record {
       own = here ∷ onto_line white below.own;
@@ -178,5 +178,5 @@ pub read-lines : (bytes : List ℕ) (row : Row) (rows : List Row) (lines : List 
     add_block (Paragraph (texts lines)) r
 read-lines bytes row rows lines r is none =
     read-paragraph bytes r row.first (last_row row rows).end (read_lines bytes row rows) is.own none is.between
-    (lines-told bytes row rows lines is)
+    (lines-recorded bytes row rows lines is)
     ∙ ap (λ (l : List (List ℕ)). add_block (Paragraph l) r) (sym is.texts_are)

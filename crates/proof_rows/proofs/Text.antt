@@ -9,5 +9,5 @@ pub mod Parted
 pub mod Parts
 pub mod Pieces
 pub mod Reads
-pub mod Stands
+pub mod Valid
 pub mod Words

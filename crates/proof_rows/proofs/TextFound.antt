@@ -18,7 +18,7 @@ use Rattle.md_meaning.specs.Leaves.{with_line}
 use Rattle.md_meaning.specs.Rest.{Rest, has_small_indent, is_blank, trim, trim_start}
 use Rattle.md_meaning.specs.State.{ParagraphLine, Leaf, NoLeaf, OpenParagraph, Innermost, cut, shut_paragraph, texts}
 use Rattle.md_meaning.specs.State.{then_block}
-use Rattle.md_meaning.specs.Step.{came, row_or_text, spot_of, text_by, underline_or_text}
+use Rattle.md_meaning.specs.Step.{became, row_or_text, spot_of, text_by, underline_or_text}
 use Rattle.md_meaning.specs.Table.{delimiter_columns, is_delimiter, row_cells}
 use Rattle.md_meaning.specs.Tree.{Blocks, Heading}
 use Rattle.md_leaves.specs.HeadingSetext.{may_turn}
@@ -40,7 +40,7 @@ use Rattle.proof_table_laws.proofs.GfmTable.Found.{KnowsHead, table-found}
 use Rattle.md_registry.proofs.HeadingSetext.Found.{none-underlined, setext-found}
 use Rattle.proof_rows.proofs.KindLemmas.{first-passes}
 use Rattle.proof_frame.proofs.LastKept.{last-is}
-use Rattle.md_registry.proofs.LeafStarts.{came_of, leaf_at, lost-none, setext-taken}
+use Rattle.md_registry.proofs.LeafStarts.{result_of, leaf_at, lost-none, setext-taken}
 use Rattle.md_registry.proofs.Registry.{text-laws}
 use Rattle.proof_rows.proofs.RegistryFound.{or_table, other-headless, other_at, other_trials, others-found, table-last}
 use Rattle.md_registry.proofs.UnderNames.{further-text}
@@ -55,7 +55,7 @@ lazy_on lines = held_leaf.LazyText (open_lines lines)
 -- The first leaf that starts where a line meets text and is no underline.
 pub text-others : (options : ParseOptions) (at : OpenText) (r : Rest) → underline_depth options r ≡ None →
     setext_leaf.starts options (held_leaf.Text at) r ≡ false → is_blank r.bytes ≡ false →
-    starts options Text r ≡ came_of options r (other_at options (held_leaf.Text at) r)
+    starts options Text r ≡ result_of options r (other_at options (held_leaf.Text at) r)
 text-others options at r none unturned dark =
     others-found options (held_leaf.Text at) Text r refl unturned
     (go options.constructs.heading_setext (has_small_indent options r) (is_underline (trim_start r.bytes))
@@ -171,19 +171,19 @@ underlined-untabled options at r depth e =
     none _ _ = refl
 
 -- Where no underline starts, a leaf that starts and takes no head begins after the text.
-pub behind-text : (options : ParseOptions) (at : OpenText) (r : Rest) (l : LeafName) →
+pub following-text : (options : ParseOptions) (at : OpenText) (r : Rest) (l : LeafName) →
     setext_leaf.starts options (held_leaf.Text at) r ≡ false → other_at options (held_leaf.Text at) r ≡ Some l →
     (leaf l).further (held_leaf.Text at) ≡ false
-behind-text options at r l e found = go ((leaf l).further on) refl
+following-text options at r l e found = go ((leaf l).further on) refl
   where
     on : HeldLeaf
     on = held_leaf.Text at
 
     go : (x : Bool) → (leaf l).further on ≡ x → x ≡ false
-    go false goes = refl
-    go true goes =
+    go false proceeds = refl
+    go true proceeds =
         let starts = first-passes (λ m. (leaf m).starts options on r) other_trials l found in
-        let name : l ≡ HeadingSetext = further-text at l goes (other-headless options on r l found) in
+        let name : l ≡ HeadingSetext = further-text at l proceeds (other-headless options on r l found) in
         let bad : true ≡ false = sym starts ∙ ap (λ (m : LeafName). (leaf m).starts options on r) name ∙ e in
         cc
 
@@ -217,23 +217,23 @@ knows-head lines k = record {
 -- leaf after the text.
 
 abbrev pub front_before : Bool → ParseOptions → Blocks → Leaf → Blocks
-front_before true options bs (OpenParagraph lines) = text_leaf.behind options bs (texts (without_last lines))
+front_before true options bs (OpenParagraph lines) = text_leaf.following options bs (texts (without_last lines))
 front_before true options bs open_leaf = bs
 front_before false options bs open_leaf = then_front options bs open_leaf
 
-abbrev pub text_came : ParseOptions → Blocks → List ParagraphLine → Rest → Option LeafName → Innermost
-text_came options bs lines r None = with_line bs lines r
-text_came options bs lines r (Some l) =
-    if (leaf l).further (text_on lines) then came (front_before (leaf l).heads options bs (text_leaf.held lines))
-    ((leaf l).comes options (text_leaf.held lines) r)
-    else came (text_leaf.behind options bs (texts lines)) ((leaf l).comes options NoLeaf r)
+abbrev pub text_result : ParseOptions → Blocks → List ParagraphLine → Rest → Option LeafName → Innermost
+text_result options bs lines r None = with_line bs lines r
+text_result options bs lines r (Some l) =
+    if (leaf l).further (text_on lines) then became (front_before (leaf l).heads options bs (text_leaf.held lines))
+    ((leaf l).becomes options (text_leaf.held lines) r)
+    else became (text_leaf.following options bs (texts lines)) ((leaf l).becomes options NoLeaf r)
 
 -- where no other leaf starts, it is a delimiter row, or one more line of the text
-table-came : (options : ParseOptions) (bs : Blocks) (k : ParagraphLine) (ks : List ParagraphLine) (r : Rest) →
+table-became : (options : ParseOptions) (bs : Blocks) (k : ParagraphLine) (ks : List ParagraphLine) (r : Rest) →
     row_or_text bs (k ∷ ks) r (table_at options bs (k ∷ ks) r) ≡
-    text_came options bs (k ∷ ks) r
+    text_result options bs (k ∷ ks) r
     (cond (table_leaf.starts options (text_on (k ∷ ks)) r) (Some GfmTable) None)
-table-came options bs k ks r = subst Done (sym is.is) (at_end is.front is.last)
+table-became options bs k ks r = subst Done (sym is.is) (at_end is.front is.last)
   where
     is : Ended (k ∷ ks)
     is = ended k ks
@@ -241,7 +241,7 @@ table-came options bs k ks r = subst Done (sym is.is) (at_end is.front is.last)
     Done : List ParagraphLine → Type 0
     Done lines =
         row_or_text bs lines r (table_at options bs lines r) ≡
-        text_came options bs lines r (cond (table_leaf.starts options (text_on lines) r) (Some GfmTable) None)
+        text_result options bs lines r (cond (table_leaf.starts options (text_on lines) r) (Some GfmTable) None)
 
     at_end : (front : List ParagraphLine) (last : ParagraphLine) → Done (front ++ last ∷ [])
     at_end front last =
@@ -252,21 +252,22 @@ table-came options bs k ks r = subst Done (sym is.is) (at_end is.front is.last)
         lines : List ParagraphLine
         lines = front ++ last ∷ []
 
-        come : LeafResult
-        come = table_leaf.comes options (OpenParagraph lines) r
+        become : LeafResult
+        become = table_leaf.becomes options (OpenParagraph lines) r
 
         go : (x : Bool) →
-            row_or_text bs lines r (cond x (Some (came (shut_paragraph options bs (texts front)) come)) None) ≡
-            text_came options bs lines r (cond x (Some GfmTable) None)
+            row_or_text bs lines r (cond x (Some (became (shut_paragraph options bs (texts front)) become)) None) ≡
+            text_result options bs lines r (cond x (Some GfmTable) None)
         go true =
-            ap (λ (l : List ParagraphLine). came (shut_paragraph options bs (texts l)) come) (sym (front-is front last))
+            ap (λ (l : List ParagraphLine). became (shut_paragraph options bs (texts l)) become)
+            (sym (front-is front last))
         go false = refl
 
-pub text-comes : (options : ParseOptions) (bs : Blocks) (k : ParagraphLine) (ks : List ParagraphLine) (r : Rest) →
+pub text-becomes : (options : ParseOptions) (bs : Blocks) (k : ParagraphLine) (ks : List ParagraphLine) (r : Rest) →
     is_blank r.bytes ≡ false →
     underline_or_text options bs (k ∷ ks) r (underline_depth options r) ≡
-    text_came options bs (k ∷ ks) r (leaf_at options (text_on (k ∷ ks)) r)
-text-comes options bs k ks r dark = go (may_turn options on) refl
+    text_result options bs (k ∷ ks) r (leaf_at options (text_on (k ∷ ks)) r)
+text-becomes options bs k ks r dark = go (may_turn options on) refl
   where
     lines : List ParagraphLine
     lines = k ∷ ks
@@ -275,33 +276,33 @@ text-comes options bs k ks r dark = go (may_turn options on) refl
     on = text_on lines
 
     Done : Option ℕ → Type 0
-    Done o = underline_or_text options bs lines r o ≡ text_came options bs lines r (leaf_at options on r)
+    Done o = underline_or_text options bs lines r o ≡ text_result options bs lines r (leaf_at options on r)
 
     -- whether something is left
     left : (x : Bool) → may_turn options on ≡ x → is_none_left (cut options (texts lines)).1 ≡ not x
     left x e = not-not (may_turn options on) (is_none_left (cut options (texts lines)).1) (may-left options k ks) x e
 
     by : setext_leaf.starts options on r ≡ false → (o : Option LeafName) → other_at options on r ≡ o →
-        text_by options bs lines r (came_of options r o) ≡
-        text_came options bs lines r (or_table (table_leaf.starts options on r) o)
-    by e None found = table-came options bs k ks r
+        text_by options bs lines r (result_of options r o) ≡
+        text_result options bs lines r (or_table (table_leaf.starts options on r) o)
+    by e None found = table-became options bs k ks r
     by e (Some l) found =
-        ap (λ (x : Blocks). came x ((leaf l).comes options NoLeaf r)) (text-laws.shut options bs lines)
+        ap (λ (x : Blocks). became x ((leaf l).becomes options NoLeaf r)) (text-laws.shut options bs lines)
         ∙ sym
         (ap
         (λ (x : Bool).
         cond x
-        (came (front_before (leaf l).heads options bs (text_leaf.held lines))
-        ((leaf l).comes options (text_leaf.held lines) r))
-        (came (text_leaf.behind options bs (texts lines)) ((leaf l).comes options NoLeaf r)))
-        (behind-text options (open_lines lines) r l e found))
+        (became (front_before (leaf l).heads options bs (text_leaf.held lines))
+        ((leaf l).becomes options (text_leaf.held lines) r))
+        (became (text_leaf.following options bs (texts lines)) ((leaf l).becomes options NoLeaf r)))
+        (following-text options (open_lines lines) r l e found))
 
     -- no underline is here
     other : underline_depth options r ≡ None → setext_leaf.starts options on r ≡ false → Done None
     other none e =
         ap (text_by options bs lines r) (text-others options (open_lines lines) r none e dark)
         ∙ by e (other_at options on r) refl
-        ∙ ap (text_came options bs lines r) (sym (table-last options on r))
+        ∙ ap (text_result options bs lines r) (sym (table-last options on r))
 
     -- one may turn the text
     turns : may_turn options on ≡ true → (x : Bool) → setext_leaf.starts options on r ≡ x →
@@ -310,7 +311,7 @@ text-comes options bs k ks r dark = go (may_turn options on) refl
         ap (underline_or_text options bs lines r)
         (setext-found options on r may ∙ ap (λ (t : Bool). cond t (Some (depth_of r)) None) e)
         ∙ turned-all options bs lines r (depth_of r) (left true may)
-        ∙ ap (text_came options bs lines r) (sym (setext-taken options on r e))
+        ∙ ap (text_result options bs lines r) (sym (setext-taken options on r e))
     turns may false e =
         let none : underline_depth options r ≡ None =
         setext-found options on r may ∙ ap (λ (t : Bool). cond t (Some (depth_of r)) None) e in
@@ -323,7 +324,7 @@ text-comes options bs k ks r dark = go (may_turn options on) refl
         ap (underline_or_text options bs lines r) none ∙ other none (unturned-setext options on r may)
     turns_none may (Some depth) found =
         ap (underline_or_text options bs lines r) found ∙ turned-none options bs lines r depth (left false may)
-        ∙ ap (text_came options bs lines r)
+        ∙ ap (text_result options bs lines r)
         (sym
         (lost-none options (open_lines lines) r depth may found
         (underlined-untabled options (open_lines lines) r depth found)))

@@ -3,8 +3,8 @@ use Rattle.std.proofs.Common.{◌≡◌, Bool, true, false, cond, ◌&&◌, List
 use Rattle.std.specs.Prelude.{Option, Some, None}
 use Rattle.proof_frame.specs.Row.{Row, RowKind, TextRow}
 use Rattle.proof_rows.proofs.EachRow.{AsSpan, OfSpan, Onto, onto}
-use Rattle.proof_rows.specs.Rows.{Group, Headed, Lines, Single, LeafLines, Turned, goes_on, groups, is_further, is_last}
-use Rattle.proof_rows.specs.Rows.{onto_groups, takes_head}
+use Rattle.proof_rows.specs.Rows.{Group, Headed, Lines, Single, LeafLines, Turned, is_continued, groups, is_further}
+use Rattle.proof_rows.specs.Rows.{is_last, onto_groups, takes_head}
 
 -- lines of text, and the line that turns them if one does
 abbrev pub text_group : Option Row → Row → List Row → Group
@@ -14,7 +14,7 @@ text_group (Some under) row rows = Turned row rows under
 -- a line of text before such
 abbrev pub onto_text : Option Row → Row → Row → List Row → List Group → List Group
 onto_text o row next rows gs =
-    cond (goes_on row next) (text_group o row (next ∷ rows) ∷ gs) (Lines row [] ∷ text_group o next rows ∷ gs)
+    cond (is_continued row next) (text_group o row (next ∷ rows) ∷ gs) (Lines row [] ∷ text_group o next rows ∷ gs)
 
 pub text-onto : (o : Option Row) (row next : Row) (rows : List Row) (gs : List Group) →
     onto_groups row TextRow (text_group o next rows ∷ gs) ≡ onto_text o row next rows gs
@@ -30,7 +30,7 @@ pub lines-first : (Q : List Group → Type 0) (row : Row) (gs : List Group) →
 lines-first Q row [] h k = h None [] []
 lines-first Q row (Single first ∷ gs) h k = h None [] (Single first ∷ gs)
 lines-first Q row (Headed first next rows ∷ gs) h k = h None [] (Headed first next rows ∷ gs)
-lines-first Q row (Turned first rows under ∷ gs) h k = go (goes_on row first)
+lines-first Q row (Turned first rows under ∷ gs) h k = go (is_continued row first)
   where
     go : (x : Bool) →
         Q (cond x (Turned row (first ∷ rows) under ∷ gs) (Lines row [] ∷ Turned first rows under ∷ gs))
@@ -46,7 +46,7 @@ lines-first Q row (LeafLines first rows ∷ gs) h k =
     go true heads y = k first rows gs refl heads
     go false heads true = h (Some first) [] gs
     go false heads false = h None [] (LeafLines first rows ∷ gs)
-lines-first Q row (Lines first rows ∷ gs) h k = go (goes_on row first)
+lines-first Q row (Lines first rows ∷ gs) h k = go (is_continued row first)
   where
     go : (x : Bool) → Q (cond x (Lines row (first ∷ rows) ∷ gs) (Lines row [] ∷ Lines first rows ∷ gs))
     go true = h None (first ∷ rows) gs

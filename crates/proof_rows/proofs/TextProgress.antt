@@ -15,8 +15,8 @@ use Rattle.md_leaves.specs.HeadingSetext.{may_turn}
 use Rattle.md_leaves.specs.HeadingSetextRule.{is_underline}
 use Rattle.md_link_definitions.specs.Progress.{progress_of}
 use Rattle.proof_frame.specs.Change.{change_by, is_none, against, others_of}
-use Rattle.proof_rows.specs.Fronted.{Prefixed, contained, prefixes_behind, prefixes_on}
-use Rattle.proof_frame.specs.HeldLeaf.{lazy_of, may_go_on, met_by, takes_lazy}
+use Rattle.proof_rows.specs.Fronted.{Prefixed, contained, prefixes_after, prefixes_on}
+use Rattle.proof_frame.specs.HeldLeaf.{lazy_of, may_continue, met_by, takes_lazy}
 use Rattle.proof_leaf_laws.specs.Leaf.HeadingSetext.{setext_leaf}
 use Rattle.proof_frame.specs.Row.{RowKind, TextRow}
 use Rattle.proof_rows.specs.Rows.{is_lazy, line_kind}
@@ -28,7 +28,7 @@ IsFresh on = progress_of on ≡ Fresh
 
 -- and no line may continue what is open
 abbrev pub IsShut : HeldLeaf → Type 0
-IsShut still = (may_go_on still ≡ false) × IsFresh still
+IsShut still = (may_continue still ≡ false) × IsFresh still
 
 -- As a lazy line meets it, it has come as far.
 lazy-progress : (still : HeldLeaf) → progress_of (lazy_of still) ≡ progress_of still
@@ -67,20 +67,20 @@ contained-progress options cs still r =
     others = others_of cs on.containers
 
     new : Prefixed
-    new = prefixes_behind options still others on
+    new = prefixes_after options still others on
 
     kind : RowKind
     kind = line_kind options (against still others new.containers) new.rest
 
 -- Where containers end before a line of text, no text is open before it that it continues.
-lazy-closes : (still : HeldLeaf) (went others opens : List Container) (kind : RowKind) → kind ≡ TextRow →
-    is_none (change_by (is_lazy still opens kind) went others opens).closes ≡ false →
+lazy-closes : (still : HeldLeaf) (proceeded others opens : List Container) (kind : RowKind) → kind ≡ TextRow →
+    is_none (change_by (is_lazy still opens kind) proceeded others opens).closes ≡ false →
     takes_lazy still && is_none opens ≡ false
-lazy-closes still went others opens kind text some =
+lazy-closes still proceeded others opens kind text some =
     go (takes_lazy still && is_none opens)
-    (ap (λ (k : RowKind). is_none (change_by (is_lazy still opens k) went others opens).closes) (sym text) ∙ some)
+    (ap (λ (k : RowKind). is_none (change_by (is_lazy still opens k) proceeded others opens).closes) (sym text) ∙ some)
   where
-    go : (x : Bool) → is_none (change_by (x && true) went others opens).closes ≡ false → x ≡ false
+    go : (x : Bool) → is_none (change_by (x && true) proceeded others opens).closes ≡ false → x ≡ false
     go false e = refl
     go true e = cc
 
@@ -99,7 +99,7 @@ contained-closed options cs still r text some =
     others = others_of cs on.containers
 
     new : Prefixed
-    new = prefixes_behind options still others on
+    new = prefixes_after options still others on
 
     kind : RowKind
     kind = line_kind options (against still others new.containers) new.rest

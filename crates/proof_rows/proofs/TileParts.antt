@@ -10,7 +10,7 @@ use Rattle.md_engine.specs.declared.event.Point.{Point}
 use Rattle.md_events.specs.Events.Nested.{Nested, pair}
 use Rattle.md_events.specs.Events.Places.{first_point}
 use Rattle.md_meaning.specs.State.{Container}
-use Rattle.md_events.specs.Events.Tiles.{chunks_stand, part_kind, parts_stand}
+use Rattle.md_events.specs.Events.Tiles.{chunks_in_parts, part_kind, are_whole_parts}
 use Rattle.proof_frame.specs.EndingName.{ending_name}
 use Rattle.proof_frame.specs.Change.{ends_of}
 use Rattle.proof_frame.specs.Row.{Row, ending_events}
@@ -25,34 +25,34 @@ use Rattle.proof_frame.proofs.NestedEvents.{Onward, under-none}
 use Rattle.md_order.proofs.Nests.Leads.{Under}
 use Rattle.proof_rows.proofs.NestedRows.{ByGroups, rows-hold, under-group}
 use Rattle.proof_rows.proofs.GroupFacts.{group-front, group-leaf, more-groups}
-use Rattle.proof_frame.proofs.ReadAs.{read_as-stands}
+use Rattle.proof_frame.proofs.ReadAs.{read_as-valid}
 use Rattle.proof_rows.proofs.RowFacts.{AreRows}
-use Rattle.proof_frame.proofs.PartsStand.{PartsWhole, stands-append, stands-outside}
+use Rattle.proof_frame.proofs.PartsValid.{PartsWhole, valid-append, valid-outside}
 use Rattle.proof_rows.proofs.TextProgress.{IsShut}
 use Rattle.proof_rows.proofs.Begun.{front-nested}
 use Rattle.proof_frame.proofs.SpanLemmas.{Nested_in}
 
 -- Events before others.
 
-stands-ending : (bytes : List ℕ) (name : Name) (row : Row) → part_kind name ≡ None →
+valid-ending : (bytes : List ℕ) (name : Name) (row : Row) → part_kind name ≡ None →
     PartsWhole bytes (ending_events name row)
-stands-ending bytes name row other = go row.after
+valid-ending bytes name row other = go row.after
   where
     go : (after : Option Point) → PartsWhole bytes (elim after [ None ↦ [] | Some q ↦ pair name row.end q ])
-    go None = stands-outside bytes [] tt tt
-    go (Some q) = stands-outside bytes (pair name row.end q) (other, (other, tt)) (refl, (refl, tt))
+    go None = valid-outside bytes [] tt tt
+    go (Some q) = valid-outside bytes (pair name row.end q) (other, (other, tt)) (refl, (refl, tt))
 
 -- what is in a line, with what is before it, and after it or a further line
-stands-line : (bytes : List ℕ) (name : Name) (row last : Row) (es : List Event) → part_kind name ≡ None →
+valid-line : (bytes : List ℕ) (name : Name) (row last : Row) (es : List Event) → part_kind name ≡ None →
     HasFront bytes row → PartsWhole bytes es → PartsWhole bytes (row.front ++ es ++ tail_events name last)
-stands-line bytes name row last es other front h =
-    stands-append bytes (row.front ++ es) (tail_events name last)
-    (stands-append bytes row.front es
-    (read_as-stands bytes row.front (front_done bytes row) front.2.reads) h)
-    (stands-append bytes (ends_of last.closed_after last.end) (ending_events name last)
-    (stands-outside bytes (ends_of last.closed_after last.end) (ends-no_parts last.closed_after last.end)
+valid-line bytes name row last es other front h =
+    valid-append bytes (row.front ++ es) (tail_events name last)
+    (valid-append bytes row.front es
+    (read_as-valid bytes row.front (front_done bytes row) front.2.reads) h)
+    (valid-append bytes (ends_of last.closed_after last.end) (ending_events name last)
+    (valid-outside bytes (ends_of last.closed_after last.end) (ends-no_parts last.closed_after last.end)
     (ends-unlinked last.closed_after last.end))
-    (stands-ending bytes name last other))
+    (valid-ending bytes name last other))
 
 -- Groups.
 
@@ -61,54 +61,54 @@ pub ending-no_part : (blank : Bool) → part_kind (ending_name blank) ≡ None
 ending-no_part true = refl
 ending-no_part false = refl
 
-stands-groups : (options : ParseOptions) (bytes : List ℕ) (gs : List Group) → AreGroups options bytes gs →
+valid-groups : (options : ParseOptions) (bytes : List ℕ) (gs : List Group) → AreGroups options bytes gs →
     PartsWhole bytes (tabled_groups options bytes gs)
-stands-groups options bytes [] are = stands-outside bytes [] tt tt
-stands-groups options bytes (group ∷ gs) are =
-    stands-append bytes (tabled_group options bytes group) (tabled_groups options bytes gs)
-    (stands-line bytes (group_ending group) (first_row group) (final_row group) (group_unread options bytes group)
+valid-groups options bytes [] are = valid-outside bytes [] tt tt
+valid-groups options bytes (group ∷ gs) are =
+    valid-append bytes (tabled_group options bytes group) (tabled_groups options bytes gs)
+    (valid-line bytes (group_ending group) (first_row group) (final_row group) (group_unread options bytes group)
     (ending-no_part (is_blank_group group)) (group-front options bytes group gs are)
     (group-leaf options bytes group gs are).1.stretch.parts)
-    (stands-groups options bytes gs (more-groups options bytes group gs are))
+    (valid-groups options bytes gs (more-groups options bytes group gs are))
 
-rows-stand : (options : ParseOptions) (bytes : List ℕ) (cs : List Container) (still : HeldLeaf) (p : Point)
+rows-are_valid : (options : ParseOptions) (bytes : List ℕ) (cs : List Container) (still : HeldLeaf) (p : Point)
     (lines : List (List ℕ)) (rows : List Row) →
     IsShut still → AreRows options bytes cs still p lines rows → EachNoContent rows →
     PartsWhole bytes (tabled_groups options bytes (groups rows))
-rows-stand options bytes cs still p lines rows shut are quiet =
-    stands-groups options bytes (groups rows) (groups-are options bytes cs still p lines rows shut are quiet)
+rows-are_valid options bytes cs still p lines rows shut are quiet =
+    valid-groups options bytes (groups rows) (groups-are options bytes cs still p lines rows shut are quiet)
 
 -- The text parts of a text.
-all-stand : (bytes : List ℕ) (xs : List Event) → PartsWhole bytes xs → parts_stand bytes xs ≡ true
-all-stand bytes xs h = ap (parts_stand bytes) (sym (append-nil xs)) ∙ h.parts []
+all-are_valid : (bytes : List ℕ) (xs : List Event) → PartsWhole bytes xs → are_whole_parts bytes xs ≡ true
+all-are_valid bytes xs h = ap (are_whole_parts bytes) (sym (append-nil xs)) ∙ h.parts []
 
-all-chunks : (bytes : List ℕ) (xs : List Event) → PartsWhole bytes xs → chunks_stand 0 xs ≡ true
-all-chunks bytes xs h = ap (chunks_stand 0) (sym (append-nil xs)) ∙ h.chunks []
+all-chunks : (bytes : List ℕ) (xs : List Event) → PartsWhole bytes xs → chunks_in_parts 0 xs ≡ true
+all-chunks bytes xs h = ap (chunks_in_parts 0) (sym (append-nil xs)) ∙ h.chunks []
 
 -- With the front of a text before them.
 blocks-both : (options : ParseOptions) (bytes : List ℕ) (cs : List Container) (still : HeldLeaf) (p : Point)
     (front : List Event) (lines : List (List ℕ)) (rows : List Row) →
     PartsWhole bytes front → IsShut still → AreRows options bytes cs still p lines rows → EachNoContent rows →
     PartsWhole bytes (front ++ tabled_groups options bytes (groups rows))
-blocks-both options bytes cs still p front lines rows stands shut are quiet =
-    stands-append bytes front (tabled_groups options bytes (groups rows)) stands
-    (rows-stand options bytes cs still p lines rows shut are quiet)
+blocks-both options bytes cs still p front lines rows valid shut are quiet =
+    valid-append bytes front (tabled_groups options bytes (groups rows)) valid
+    (rows-are_valid options bytes cs still p lines rows shut are quiet)
 
-pub blocks-stand : (options : ParseOptions) (bytes : List ℕ) (cs : List Container) (still : HeldLeaf) (p : Point)
+pub blocks-are_valid : (options : ParseOptions) (bytes : List ℕ) (cs : List Container) (still : HeldLeaf) (p : Point)
     (front : List Event) (lines : List (List ℕ)) (rows : List Row) →
     PartsWhole bytes front → IsShut still → AreRows options bytes cs still p lines rows → EachNoContent rows →
-    parts_stand bytes (front ++ tabled_groups options bytes (groups rows)) ≡ true
-blocks-stand options bytes cs still p front lines rows stands shut are quiet =
-    all-stand bytes (front ++ tabled_groups options bytes (groups rows))
-    (blocks-both options bytes cs still p front lines rows stands shut are quiet)
+    are_whole_parts bytes (front ++ tabled_groups options bytes (groups rows)) ≡ true
+blocks-are_valid options bytes cs still p front lines rows valid shut are quiet =
+    all-are_valid bytes (front ++ tabled_groups options bytes (groups rows))
+    (blocks-both options bytes cs still p front lines rows valid shut are quiet)
 
 pub blocks-chunks : (options : ParseOptions) (bytes : List ℕ) (cs : List Container) (still : HeldLeaf) (p : Point)
     (front : List Event) (lines : List (List ℕ)) (rows : List Row) →
     PartsWhole bytes front → IsShut still → AreRows options bytes cs still p lines rows → EachNoContent rows →
-    chunks_stand 0 (front ++ tabled_groups options bytes (groups rows)) ≡ true
-blocks-chunks options bytes cs still p front lines rows stands shut are quiet =
+    chunks_in_parts 0 (front ++ tabled_groups options bytes (groups rows)) ≡ true
+blocks-chunks options bytes cs still p front lines rows valid shut are quiet =
     all-chunks bytes (front ++ tabled_groups options bytes (groups rows))
-    (blocks-both options bytes cs still p front lines rows stands shut are quiet)
+    (blocks-both options bytes cs still p front lines rows valid shut are quiet)
 
 -- Their events nest.
 

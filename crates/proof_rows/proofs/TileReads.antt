@@ -18,8 +18,8 @@ use Rattle.proof_frame.specs.Change.{ends_of}
 use Rattle.proof_rows.specs.TextRows.{text_cells, text_rows, text_setting}
 use Rattle.proof_frame.specs.ReadsPlain.{reads_plain}
 use Rattle.proof_frame.specs.Row.{Row, ending_events}
-use Rattle.proof_rows.specs.Rows.{final_row, first_row, front_done, group_done, Group, group_events, groups, groups_events}
-use Rattle.proof_rows.specs.Rows.{held_at, tail_events, group_ending, is_blank_group, rows_at}
+use Rattle.proof_rows.specs.Rows.{final_row, first_row, front_done, group_done, Group, group_events, groups}
+use Rattle.proof_rows.specs.Rows.{groups_events, held_at, tail_events, group_ending, is_blank_group, rows_at}
 use Rattle.proof_rows.specs.BlockList.{group_unread, tabled_group, tabled_groups}
 use Rattle.proof_rows.proofs.GroupLines.{AreGroups}
 use Rattle.proof_rows.proofs.GroupsAre.{groups-are}

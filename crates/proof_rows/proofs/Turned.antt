@@ -6,7 +6,7 @@ pub mod Facts
 pub mod Gap
 pub mod Line
 pub mod Reads
-pub mod Stands
+pub mod Valid
 pub mod Text
 pub mod TextReads
 pub mod Turns

@@ -9,7 +9,7 @@ use Rattle.md_engine.specs.declared.event.Name.TheVariants as n
 use Rattle.md_engine.specs.declared.event.Point.{Point}
 use Rattle.md_engine.specs.declared.tokenizer.held_leaf.HeldLeaf.{HeldLeaf}
 use Rattle.md_meaning.specs.State.{Container}
-use Rattle.md_leaves.specs.Turned.{has_underline, is_underline, turned, underline_behind}
+use Rattle.md_leaves.specs.Turned.{has_underline, is_underline, turned, underline_after}
 use Rattle.md_leaves.proofs.TurnedLemmas.{Unlined, no-ending, passes-parts, turned-passes, turned-text}
 use Rattle.md_leaves.proofs.TurnedLemmas.{turned-underlined}
 use Rattle.md_leaves.proofs.TurnedLemmas as turns
@@ -45,12 +45,13 @@ use Rattle.proof_content_laws.proofs.Defined.Is.{IsDefined}
 use Rattle.proof_table_laws.proofs.GfmTable.Each.{of-unturned}
 use Rattle.md_registry.proofs.Registry.{laws}
 use Rattle.proof_rows.proofs.GroupLemmas.{lines-prefixed, under-prefixed}
-use Rattle.proof_rows.proofs.GroupLines.{AreGroups, AreLines, AreSpan, Begins, EndsBeforeGroups, IsHead, IsLeft, IsSingle}
-use Rattle.proof_rows.proofs.GroupLines.{IsUnder}
+use Rattle.proof_rows.proofs.GroupLines.{AreGroups, AreLines, AreSpan, Begins, EndsBeforeGroups, IsHead, IsLeft}
+use Rattle.proof_rows.proofs.GroupLines.{IsSingle, IsUnder}
 use Rattle.proof_rows.proofs.GroupsAre.{groups-are}
 use Rattle.proof_rows.proofs.JoinedLemmas.{EachNoContent}
 use Rattle.proof_rows.proofs.RowFacts.{AreRows}
-use Rattle.proof_rows.proofs.RowHolds.{OfRows, each-linked, front-holds, headed-holds, set-holds, span-holds, tail-holds}
+use Rattle.proof_rows.proofs.RowHolds.{OfRows, each-linked, front-holds, headed-holds, set-holds, span-holds}
+use Rattle.proof_rows.proofs.RowHolds.{tail-holds}
 use Rattle.proof_rows.proofs.Text.Cut.{IsCutText, between}
 use Rattle.proof_rows.proofs.Text.Cut.IsCutText.{Defines, Follows, Remains}
 use Rattle.proof_rows.proofs.Text.Cuts.{cut-is}
@@ -76,8 +77,8 @@ unlined-passed : (xs ys : List Event) → AreUnturned xs → Unlined ys → Unli
 unlined-passed [] ys h k = k
 unlined-passed (e ∷ xs) ys h k = go (is_prefix e.name) (is_enter e.kind) (unlined-passed xs ys h.1 k)
   where
-    go : (x y : Bool) → underline_behind (xs ++ ys) ≡ false →
-        cond x (underline_behind (xs ++ ys)) (y && is_underline e.name) ≡ false
+    go : (x y : Bool) → underline_after (xs ++ ys) ≡ false →
+        cond x (underline_after (xs ++ ys)) (y && is_underline e.name) ≡ false
     go true y more = more
     go false true more = (passes-parts e h.0).1
     go false false more = refl
@@ -318,7 +319,7 @@ lines-headed options bytes row rows under es are is =
     (prefixes-are under.front (under-prefixed options bytes last under is))
     (each-unturned u.marks u.marks_unturned)
     ∙ ap₂
-    (λ (inside behind : List Event). around turn_leaf.name row.first u.end inside ++ behind)
+    (λ (inside following : List Event). around turn_leaf.name row.first u.end inside ++ following)
     (laid-turned text E under.front U) (passed tail es (tail-unturned (is_blank_by under.kind under) under))
     ∙ ap (λ (q : Point). heading E U q ++ (tail ++ turned es)) u.end_is
     ∙ ap₂ (λ (e line : List Event). heading e line under.end ++ (tail ++ turned es)) (sym ending-last) (sym u.is)
@@ -342,12 +343,12 @@ lines-headed options bytes row rows under es are is =
 
 -- a text that an underline turns: its definitions pass, and what remains of it is a heading with its underline
 cut-headed : (options : ParseOptions) (bytes : List ℕ) (under row : Row) (rows : List Row)
-    (before behind done more : List Event) → IsCutHeading options bytes under row rows before behind done →
+    (before following done more : List Event) → IsCutHeading options bytes under row rows before following done →
     turned (before ++ (tail_events n.LineEnding (last_row row rows) ++ (row_events under ++ more))) ≡
-    behind ++ (tail_events (ending_of under.kind under) under ++ turned more)
-cut-headed options bytes under row rows before behind done more (cut_heading.Turned first below are is) =
+    following ++ (tail_events (ending_of under.kind under) under ++ turned more)
+cut-headed options bytes under row rows before following done more (cut_heading.Turned first below are is) =
     lines-headed options bytes first below under more are is
-cut-headed options bytes under row rows before behind done more
+cut-headed options bytes under row rows before following done more
     (cut_heading.Follows d first own next below q left turns read are is after ending front rest) =
     let own_events : List Event = defined_unread d first own in
     let gap : List Event = between (last_row first own).end q next.front in

@@ -109,11 +109,11 @@ heading-unspanned options bytes row rows under are is = (
 
 -- and the text with them, definitions and all
 headed-unspanned : (options : ParseOptions) (bytes : List ℕ) (under row : Row) (rows : List Row)
-    (before behind done : List Event) → IsCutHeading options bytes under row rows before behind done →
-    AreUnspanned behind
-headed-unspanned options bytes under row rows before behind done (cut_heading.Turned first below are is) =
+    (before following done : List Event) → IsCutHeading options bytes under row rows before following done →
+    AreUnspanned following
+headed-unspanned options bytes under row rows before following done (cut_heading.Turned first below are is) =
     heading-unspanned options bytes first below under are is
-headed-unspanned options bytes under row rows before behind done
+headed-unspanned options bytes under row rows before following done
     (cut_heading.Follows d first own next below q left turns read are is after ending front rest) =
     let own_events : List Event = defined_unread d first own in
     let gap : List Event = between (last_row first own).end q next.front in

@@ -47,26 +47,26 @@ pub record Contained : Type 0 where
   pub rest : Rest
 
 abbrev pub contained_by : List Container → Bool → HeldLeaf → Prefixed → Prefixed → Contained
-contained_by cs lazy on went new = record {
-  change = change_by lazy went.containers (others_of cs went.containers) new.containers;
+contained_by cs lazy on proceeded new = record {
+  change = change_by lazy proceeded.containers (others_of cs proceeded.containers) new.containers;
   on = on;
   rest = new.rest;
 }
 
 abbrev pub contained_of : ParseOptions → List Container → HeldLeaf → Prefixed → Prefixed → Contained
-contained_of options cs still went new =
-    let on = against still (others_of cs went.containers) new.containers in
-    contained_by cs (is_lazy still new.containers (line_kind options on new.rest)) on went new
+contained_of options cs still proceeded new =
+    let on = against still (others_of cs proceeded.containers) new.containers in
+    contained_by cs (is_lazy still new.containers (line_kind options on new.rest)) on proceeded new
 
-abbrev pub prefixes_behind : ParseOptions → HeldLeaf → List Container → Prefixed → Prefixed
-prefixes_behind options still others went =
-    if is_inside still others then no_prefix went.rest
-    else prefixes_new options (interrupts still others) (length went.rest.bytes) went.rest
+abbrev pub prefixes_after : ParseOptions → HeldLeaf → List Container → Prefixed → Prefixed
+prefixes_after options still others proceeded =
+    if is_inside still others then no_prefix proceeded.rest
+    else prefixes_new options (interrupts still others) (length proceeded.rest.bytes) proceeded.rest
 
-abbrev pub contained_behind : ParseOptions → List Container → HeldLeaf → Prefixed → Contained
-contained_behind options cs still went =
-    contained_of options cs still went (prefixes_behind options still (others_of cs went.containers) went)
+abbrev pub contained_after : ParseOptions → List Container → HeldLeaf → Prefixed → Contained
+contained_after options cs still proceeded =
+    contained_of options cs still proceeded (prefixes_after options still (others_of cs proceeded.containers) proceeded)
 
 -- where these containers and this leaf are open before it
 unfoldable pub contained : ParseOptions → List Container → HeldLeaf → Rest → Contained
-contained options cs still r = contained_behind options cs still (prefixes_on options cs r)
+contained options cs still r = contained_after options cs still (prefixes_on options cs r)

@@ -2,6 +2,6 @@ pub mod WithoutMdx
 pub mod BlockList
 pub mod Fronted
 pub mod Rows
-pub mod Stands
+pub mod Valid
 pub mod TextRows
 pub mod Unread

@@ -22,15 +22,16 @@ use Rattle.md_events.specs.Events.Nested.{around, enter_link, exit}
 use Rattle.md_meaning.specs.Rest.{Rest, is_blank}
 use Rattle.md_meaning.specs.State.{Container}
 use Rattle.proof_frame.specs.EndingName.{ending_name}
-use Rattle.md_registry.specs.LineFlags.{nothing_stands}
-use Rattle.md_link_definitions.specs.OpenText.{text_behind}
+use Rattle.md_registry.specs.LineFlags.{nothing_is_here}
+use Rattle.md_link_definitions.specs.OpenText.{text_following}
 use Rattle.md_link_definitions.specs.WholeCells.{whole_rest}
 use Rattle.md_link_definitions.specs.DefinitionRule.{DefinitionParts, definition_end}
 use Rattle.proof_frame.specs.Passed.{Passed}
 use Rattle.proof_frame.specs.LeafName.{LeafName, first_of}
 use Rattle.proof_frame.specs.TextLines.{text_leaf}
-use Rattle.md_registry.specs.Registry.{goes_at, asked_first, leaf, opens_at, bars_containers, trials, turn_leaf}
-use Rattle.proof_frame.specs.Change.{Change, change_by, ends_of, interrupts, is_none, against, open_behind, others_of}
+use Rattle.md_registry.specs.Registry.{proceeds_at, asked_first, leaf, opens_at, bars_containers, trials, turn_leaf}
+use Rattle.proof_frame.specs.Change.{Change, change_by, ends_of, interrupts, is_none, against, open_following}
+use Rattle.proof_frame.specs.Change.{others_of}
 use Rattle.proof_frame.specs.Row.{BlankRow, LeafRow, Row, RowKind, TextRow, chunks_of, ending_events, ending_of}
 use Rattle.proof_frame.specs.Row.{is_blank_by, last_row, read_lines, row_line, span_done, turned_by}
 use Rattle.proof_content_laws.specs.Defined.{defined_unread}
@@ -53,10 +54,10 @@ line_kind options on r =
     inside_or (λ l. (leaf l).starts options on r) (asked_first on)
     (if is_blank r.bytes then BlankRow else kind_of (first_of (λ l. (leaf l).starts options on r) trials))
 
-abbrev pub line_behind : ParseOptions → HeldLeaf → Rest → RowKind → HeldLeaf
-line_behind options on r BlankRow = held_leaf.None
-line_behind options on r (LeafRow l) = (leaf l).holds options on r
-line_behind options on r TextRow = text_behind on r
+abbrev pub line_following : ParseOptions → HeldLeaf → Rest → RowKind → HeldLeaf
+line_following options on r BlankRow = held_leaf.None
+line_following options on r (LeafRow l) = (leaf l).holds options on r
+line_following options on r TextRow = text_following on r
 
 -- By its cells.
 abbrev pub row_kind : ParseOptions → HeldLeaf → List Cell → RowKind
@@ -64,10 +65,10 @@ row_kind options on cells =
     inside_or (λ l. (leaf l).takes options on cells) (asked_first on)
     (if is_blank (line_bytes cells) then BlankRow else kind_of (first_of (λ l. (leaf l).takes options on cells) trials))
 
-abbrev pub leaf_behind : ParseOptions → HeldLeaf → List Cell → Point → RowKind → HeldLeaf
-leaf_behind options on cells p BlankRow = held_leaf.None
-leaf_behind options on cells p (LeafRow l) = (leaf l).keeps options on cells p
-leaf_behind options on cells p TextRow = text_behind on (whole_rest p cells)
+abbrev pub leaf_following : ParseOptions → HeldLeaf → List Cell → Point → RowKind → HeldLeaf
+leaf_following options on cells p BlankRow = held_leaf.None
+leaf_following options on cells p (LeafRow l) = (leaf l).keeps options on cells p
+leaf_following options on cells p TextRow = text_following on (whole_rest p cells)
 
 -- what flow adds for a line that is no text
 abbrev pub inside_of : ParseOptions → HeldLeaf → List Cell → Point → RowKind → List Event
@@ -99,7 +100,7 @@ in_front t f = record f { containers = t.container ∷ f.containers; events = t.
 -- each open container is asked whether it continues, from the outermost in, until one does not
 abbrev pub continued_prefixes : ParseOptions → List Container → List Cell → Point → Front
 continued_prefixes options [] cells p = no_front cells p
-continued_prefixes options (c ∷ cs) cells p = elim (goes_at options c cells p) [
+continued_prefixes options (c ∷ cs) cells p = elim (proceeds_at options c cells p) [
   | None ↦ no_front cells p
   | Some t ↦ in_front t (continued_prefixes options cs t.cells t.point)
 ]
@@ -130,35 +131,35 @@ abbrev pub is_lazy : HeldLeaf → List Container → RowKind → Bool
 is_lazy still opens kind = takes_lazy still && is_none opens && is_text kind
 
 abbrev pub held_by : List Container → Bool → HeldLeaf → Front → Front → Held
-held_by cs lazy on went new = record {
-  change = change_by lazy went.containers (others_of cs went.containers) new.containers;
+held_by cs lazy on proceeded new = record {
+  change = change_by lazy proceeded.containers (others_of cs proceeded.containers) new.containers;
   on = on;
-  front = went.events ++ new.events;
+  front = proceeded.events ++ new.events;
   cells = new.cells;
   point = new.point;
 }
 
 abbrev pub held_of : ParseOptions → List Container → HeldLeaf → Front → Front → Held
-held_of options cs still went new =
-    let on = against still (others_of cs went.containers) new.containers in
-    held_by cs (is_lazy still new.containers (row_kind options on new.cells)) on went new
+held_of options cs still proceeded new =
+    let on = against still (others_of cs proceeded.containers) new.containers in
+    held_by cs (is_lazy still new.containers (row_kind options on new.cells)) on proceeded new
 
 -- where a leaf is open in which no container opens, none does unless one did not continue
 abbrev pub is_inside : HeldLeaf → List Container → Bool
 is_inside still others = bars_containers still && is_none others
 
-abbrev pub new_behind : ParseOptions → HeldLeaf → List Container → Front → Front
-new_behind options still others went =
-    if is_inside still others then no_front went.cells went.point
-    else opened_prefixes options (interrupts still others) (length went.cells) went.cells went.point
+abbrev pub new_after : ParseOptions → HeldLeaf → List Container → Front → Front
+new_after options still others proceeded =
+    if is_inside still others then no_front proceeded.cells proceeded.point
+    else opened_prefixes options (interrupts still others) (length proceeded.cells) proceeded.cells proceeded.point
 
-abbrev pub held_behind : ParseOptions → List Container → HeldLeaf → Front → Held
-held_behind options cs still went =
-    held_of options cs still went (new_behind options still (others_of cs went.containers) went)
+abbrev pub held_after : ParseOptions → List Container → HeldLeaf → Front → Held
+held_after options cs still proceeded =
+    held_of options cs still proceeded (new_after options still (others_of cs proceeded.containers) proceeded)
 
 -- where these containers and this leaf are open before it
 unfoldable pub held_at : ParseOptions → List Container → HeldLeaf → List Cell → Point → Held
-held_at options cs still cells p = held_behind options cs still (continued_prefixes options cs cells p)
+held_at options cs still cells p = held_after options cs still (continued_prefixes options cs cells p)
 
 -- The lines.
 
@@ -175,20 +176,20 @@ stays_blank kind = false
 -- whether the ending of a line is that of a blank line, where a leaf takes it: it is blank and stays so, or nothing at
 -- all is on it
 abbrev pub ends_blank : RowKind → List Cell → Point → Bool
-ends_blank kind cells p = (stays_blank kind && is_blank (line_bytes cells)) || nothing_stands (first_seen cells) p
+ends_blank kind cells p = (stays_blank kind && is_blank (line_bytes cells)) || nothing_is_here (first_seen cells) p
 
 -- the leaf that is open after it
-abbrev pub behind_held : ParseOptions → Held → HeldLeaf
-behind_held options h = leaf_behind options h.on h.cells h.point (row_kind options h.on h.cells)
+abbrev pub after_held : ParseOptions → Held → HeldLeaf
+after_held options h = leaf_following options h.on h.cells h.point (row_kind options h.on h.cells)
 
 abbrev pub row_of : ParseOptions → Held → List Row → Row
 row_of options h below = record {
   kind = row_kind options h.on h.cells;
   on = h.on;
-  behind = behind_held options h;
+  following = after_held options h;
   front = h.front;
   change = h.change;
-  closed_after = closes_before (open_behind h.change) below;
+  closed_after = closes_before (open_following h.change) below;
   first = h.point;
   empty = ends_blank (row_kind options h.on h.cells) h.cells h.point;
   inside = inside_of options h.on h.cells h.point (row_kind options h.on h.cells);
@@ -205,7 +206,7 @@ rows_by options h further =
     onto_rows options h
     (elim (from_ending h.cells) [
       | [] ↦ []
-      | c ∷ cs ↦ further (open_behind h.change) (behind_held options h) cs c.after
+      | c ∷ cs ↦ further (open_following h.change) (after_held options h) cs c.after
     ])
 
 -- At most so many lines, where these containers and this leaf are open; after the last ending is an empty line.
@@ -267,16 +268,16 @@ pub data Group : Type 0 where
   LeafLines : Row → List Row → Group
 
 -- whether a line of text continues the text of the one before: no container ends or opens between them
-abbrev pub goes_on : Row → Row → Bool
-goes_on row next = is_none row.closed_after && is_none next.change.opens
+abbrev pub is_continued : Row → Row → Bool
+is_continued row next = is_none row.closed_after && is_none next.change.opens
 
 abbrev pub onto_lines : Row → Row → List Row → List Group → List Group
 onto_lines row next rows groups =
-    if goes_on row next then Lines row (next ∷ rows) ∷ groups else Lines row [] ∷ Lines next rows ∷ groups
+    if is_continued row next then Lines row (next ∷ rows) ∷ groups else Lines row [] ∷ Lines next rows ∷ groups
 
 abbrev pub onto_turned : Row → Row → List Row → Row → List Group → List Group
 onto_turned row next rows under groups =
-    if goes_on row next then Turned row (next ∷ rows) under ∷ groups
+    if is_continued row next then Turned row (next ∷ rows) under ∷ groups
     else Lines row [] ∷ Turned next rows under ∷ groups
 
 -- whether a line of this kind continues the leaf that it meets
@@ -345,9 +346,9 @@ abbrev pub further_lines : DefinitionParts → Row → ℕ
 further_lines d row = (definition_end d).line - row.first.line
 
 -- after a definition: the ending of its last line, what is before the next line, and what that begins
-abbrev pub behind_cut : (Row → List Row → List Event) → Row → List Row → List Event
-behind_cut more last [] = []
-behind_cut more last (next ∷ rows) = ending_events n.LineEnding last ++ next.front ++ more next rows
+abbrev pub after_cut : (Row → List Row → List Event) → Row → List Row → List Event
+after_cut more last [] = []
+after_cut more last (next ∷ rows) = ending_events n.LineEnding last ++ next.front ++ more next rows
 
 -- by the definition at the front, if there is one
 abbrev pub cut_by : (DefinitionParts → Row → List Row → List Event) → (Row → List Row → List Event) →
@@ -355,7 +356,7 @@ abbrev pub cut_by : (DefinitionParts → Row → List Row → List Event) → (R
 cut_by defined text more None row rows = text row rows
 cut_by defined text more (Some d) row rows =
     let own = take (further_lines d row) rows in
-    defined d row own ++ behind_cut more (last_row row own) (drop (further_lines d row) rows)
+    defined d row own ++ after_cut more (last_row row own) (drop (further_lines d row) rows)
 
 -- at most so many definitions, and the leaf of the lines that remain
 abbrev pub cut_at_most : (DefinitionParts → Row → List Row → List Event) → (Row → List Row → List Event) →

@@ -8,22 +8,22 @@ use Rattle.md_engine.specs.declared.event.Name.{Name}
 use Rattle.md_engine.specs.declared.event.Name.TheVariants as n
 use Rattle.md_events.specs.Events.Nested.{is_enter}
 use Rattle.md_tables.specs.Heads.{begins_chunk, headed, is_chunk}
-use Rattle.md_tables.proofs.HeadsLemmas.{headed-behind}
+use Rattle.md_tables.proofs.HeadsLemmas.{headed-following}
 use Rattle.proof_table_laws.specs.Headed.{heads_read}
 use Rattle.proof_frame.proofs.ContentFacts.{NoContent, nothing}
-use Rattle.proof_frame.proofs.EventNames.{is_told}
+use Rattle.proof_frame.proofs.EventNames.{is_recorded}
 
 -- Where no content is, no line is one.
 
-told-chunk : (name : Name) → is_told name ≡ false → is_chunk name ≡ false
-told-chunk n.Content h = cc
-told-chunk _ h = refl
+recorded-chunk : (name : Name) → is_recorded name ≡ false → is_chunk name ≡ false
+recorded-chunk n.Content h = cc
+recorded-chunk _ h = refl
 
 pub no-chunk : (es : List Event) → NoContent nothing es → list_any begins_chunk es ≡ false
 no-chunk [] h = refl
 no-chunk (e ∷ es) h =
     or_from (begins_chunk e) (list_any begins_chunk es)
-    (and_right (is_enter e.kind) (is_chunk e.name) (told-chunk e.name h.1)) (no-chunk es h.2)
+    (and_right (is_enter e.kind) (is_chunk e.name) (recorded-chunk e.name h.1)) (no-chunk es h.2)
 
 pub heads-none : (options : ParseOptions) (bytes : List ℕ) (es : List Event) → NoContent nothing es →
     heads_read options bytes es ≡ es
@@ -31,6 +31,6 @@ heads-none options bytes es h = go options.constructs.gfm_table
   where
     go : (x : Bool) → cond x (headed bytes options es) es ≡ es
     go true =
-        ap (headed bytes options) (sym (append-nil es)) ∙ headed-behind bytes options es [] (no-chunk es h)
+        ap (headed bytes options) (sym (append-nil es)) ∙ headed-following bytes options es [] (no-chunk es h)
         ∙ append-nil es
     go false = refl

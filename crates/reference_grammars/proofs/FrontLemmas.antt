@@ -41,10 +41,10 @@ fence_at-lines m [] = refl
 fence_at-lines m (x ∷ rests) = ap (λ n. cond (not (p.is_front_fence m x.bytes.now)) (1 + n) 0) (fence_at-lines m rests)
 
 -- there is no frontmatter without a closing fence
-pub front_by-none : (m n : ℕ) (rests behind : List Rest) →
+pub front_by-none : (m n : ℕ) (rests following : List Rest) →
     n ≡ prefix_len (λ (x : Rest). not (p.is_front_fence m x.bytes.now)) rests → length rests ≤ n →
     None ≡ p.front_by (Some m) (lines_in rests)
-front_by-none m n rests behind count all =
+front_by-none m n rests following count all =
     let lines : length (lines_in rests) ≡ length rests = length-map rests (λ x. x.bytes.now) in
     let at : n ≡ fence_at m (lines_in rests) = count ∙ fence_at-lines m rests in
     sym
@@ -134,13 +134,13 @@ tail-of : (x y : r.Rest) (xs ys : List r.Rest) → x ∷ xs ≡ y ∷ ys → xs 
 tail-of x y xs ys e = ap (drop 1) e
 
 -- and so those after frontmatter
-pub rests_behind : (column : ℕ) (ls : List (List ℕ)) (rests after : List Rest) →
+pub rests_after : (column : ℕ) (ls : List (List ℕ)) (rests after : List Rest) →
     rest_meanings rests ≡ p.rests_at column ls → IsEnd (drop 1 rests) after →
     rest_meanings after ≡ p.rests_at 0 (lines_in after)
-rests_behind column ls [] after e behind = fresh-end behind.before [] after refl behind.is
-rests_behind column [] (x ∷ rests) after e behind = absurd (cc)
-rests_behind column (l ∷ ls) (x ∷ rests) after e behind =
-    fresh-end behind.before rests after (fresh rests ls (tail-of _ _ _ _ e)) behind.is
+rests_after column ls [] after e following = fresh-end following.before [] after refl following.is
+rests_after column [] (x ∷ rests) after e following = absurd (cc)
+rests_after column (l ∷ ls) (x ∷ rests) after e following =
+    fresh-end following.before rests after (fresh rests ls (tail-of _ _ _ _ e)) following.is
 
 -- the lines of rests that begin at this column
 pub lines_in-rests : (column : ℕ) (ls : List (List ℕ)) (rests : List Rest) →

@@ -104,7 +104,7 @@ pub rests_of-next : (items items' : List Rest) (x : Rest) (begins n : ℕ) (left
 rests_of-next items items' x begins n left line ending left' some en eline eending eleft ex eitems =
     let front : rest_meaning x ≡ rest_at begins (take (line_len left) left) = ex
     ∙ ap (rest_at begins) (eline ∙ ap (λ k. take k left) en) in
-    let behind : left' ≡ after_ending (drop (line_len left) left) = eleft
+    let following : left' ≡ after_ending (drop (line_len left) left) = eleft
     ∙ ap after_ending (eending ∙ ap (λ k. drop k left) en) in
     let read : rest_meanings items' ≡ rest_meanings items ++ rest_at begins (take (line_len left) left) ∷ [] =
     ap rest_meanings eitems ∙ map-append rest_meaning items (x ∷ []) ∙ ap (λ y. rest_meanings items ++ y ∷ []) front in
@@ -113,4 +113,4 @@ rests_of-next items items' x begins n left line ending left' some en eline eendi
     (ap (λ xs. xs ++ rests_at 0 (lines_of left')) read
     ∙ ap
     (λ t.
-    (rest_meanings items ++ rest_at begins (take (line_len left) left) ∷ []) ++ rests_at 0 (lines_of t)) behind)
+    (rest_meanings items ++ rest_at begins (take (line_len left) left) ∷ []) ++ rests_at 0 (lines_of t)) following)

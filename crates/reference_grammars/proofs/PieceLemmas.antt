@@ -8,17 +8,17 @@ use Rattle.md_meaning.specs.Table.{pieces}
 use Rattle.reference_grammars.specs.Pieces.{piece_len}
 
 -- the pieces from a pipe on
-abbrev pub pieces_behind : List ℕ → List (List ℕ)
-pieces_behind [] = []
-pieces_behind (pipe ∷ []) = []
-pieces_behind (pipe ∷ b ∷ bs) = pieces false (b ∷ bs)
+abbrev pub pieces_after : List ℕ → List (List ℕ)
+pieces_after [] = []
+pieces_after (pipe ∷ []) = []
+pieces_after (pipe ∷ b ∷ bs) = pieces false (b ∷ bs)
 
 -- a piece of this length, and the others
 abbrev pub pieces_at : ℕ → List ℕ → List (List ℕ)
-pieces_at n row = take n row ∷ pieces_behind (drop n row)
+pieces_at n row = take n row ∷ pieces_after (drop n row)
 
 pieces-pipe : (pipe : ℕ) (bs : List ℕ) →
-    (if is_end bs then pieces false bs else [] ∷ pieces false bs) ≡ [] ∷ pieces_behind (pipe ∷ bs)
+    (if is_end bs then pieces false bs else [] ∷ pieces false bs) ≡ [] ∷ pieces_after (pipe ∷ bs)
 unfolding pieces
 pieces-pipe pipe [] = refl
 pieces-pipe pipe (b ∷ bs) = refl
@@ -38,39 +38,40 @@ pieces_at_first false [] = refl
 pieces_at_first true (b ∷ bs) = rw (pieces_at_first false bs) refl
 pieces_at_first false (b ∷ bs) = pieces-byte b bs (b == 124) refl (pieces_at_first (b == 92) bs)
 
-pieces_behind-short : (bs : List ℕ) → length bs ≤ 1 → pieces_behind bs ≡ []
-pieces_behind-short [] h = refl
-pieces_behind-short (pipe ∷ []) h = refl
-pieces_behind-short (pipe ∷ b ∷ bs) h = absurd (omega arith)
+pieces_after-short : (bs : List ℕ) → length bs ≤ 1 → pieces_after bs ≡ []
+pieces_after-short [] h = refl
+pieces_after-short (pipe ∷ []) h = refl
+pieces_after-short (pipe ∷ b ∷ bs) h = absurd (omega arith)
 
-pieces_behind-long : (bs : List ℕ) → 1 < length bs → pieces_behind bs ≡ pieces false (drop 1 bs)
-pieces_behind-long [] h = absurd (omega arith)
-pieces_behind-long (pipe ∷ []) h = absurd (omega arith)
-pieces_behind-long (pipe ∷ b ∷ bs) h = refl
+pieces_after-long : (bs : List ℕ) → 1 < length bs → pieces_after bs ≡ pieces false (drop 1 bs)
+pieces_after-long [] h = absurd (omega arith)
+pieces_after-long (pipe ∷ []) h = absurd (omega arith)
+pieces_after-long (pipe ∷ b ∷ bs) h = refl
 
 -- One piece of what is left of a row was pushed as a cell.
-pub record PushesCell (cells more : List (Bor (List ℕ))) (rest behind : List ℕ) : Type 0 where
+pub record PushesCell (cells more : List (Bor (List ℕ))) (rest following : List ℕ) : Type 0 where
   pub cell : Bor (List ℕ)
   pub pushed : more ≡ cells ++ cell ∷ []
   pub text : cell.now ≡ trim (take (piece_len false rest) rest)
-  pub behind_is : behind ≡ drop (piece_len false rest) rest
+  pub following_is : following ≡ drop (piece_len false rest) rest
 
 abbrev pub cells_of : List (Bor (List ℕ)) → List (List ℕ)
 cells_of cells = map (λ cell. cell.now) cells
 
-cells_of-pushed : {cells more : List (Bor (List ℕ))} {rest behind : List ℕ} → PushesCell cells more rest behind →
+cells_of-pushed : {cells more : List (Bor (List ℕ))} {rest following : List ℕ} → PushesCell cells more rest following →
     (all : List (List ℕ)) → cells_of cells ++ map trim (pieces false rest) ≡ all →
-    cells_of more ++ map trim (pieces_behind behind) ≡ all
-cells_of-pushed {cells} {more} {rest} {behind} p all h =
-    rw (p.pushed, p.behind_is, map-append, append_assoc, p.text) (rw pieces_at_first at h)
+    cells_of more ++ map trim (pieces_after following) ≡ all
+cells_of-pushed {cells} {more} {rest} {following} p all h =
+    rw (p.pushed, p.following_is, map-append, append_assoc, p.text) (rw pieces_at_first at h)
 
-pub last_cell : {cells more : List (Bor (List ℕ))} {rest behind : List ℕ} → PushesCell cells more rest behind →
-    length behind ≤ 1 → (all : List (List ℕ)) → cells_of cells ++ map trim (pieces false rest) ≡ all →
+pub last_cell : {cells more : List (Bor (List ℕ))} {rest following : List ℕ} → PushesCell cells more rest following →
+    length following ≤ 1 → (all : List (List ℕ)) → cells_of cells ++ map trim (pieces false rest) ≡ all →
     cells_of more ≡ all
-last_cell {cells} {more} {rest} {behind} p short all h =
-    sym (append-nil _) ∙ (rw (pieces_behind-short behind short) at (cells_of-pushed p all h))
+last_cell {cells} {more} {rest} {following} p short all h =
+    sym (append-nil _) ∙ (rw (pieces_after-short following short) at (cells_of-pushed p all h))
 
-pub next_cell : {cells more : List (Bor (List ℕ))} {rest behind : List ℕ} → PushesCell cells more rest behind →
-    1 < length behind → (all : List (List ℕ)) → cells_of cells ++ map trim (pieces false rest) ≡ all →
-    cells_of more ++ map trim (pieces false (drop 1 behind)) ≡ all
-next_cell {cells} {more} {rest} {behind} p long all h = rw (pieces_behind-long behind long) at (cells_of-pushed p all h)
+pub next_cell : {cells more : List (Bor (List ℕ))} {rest following : List ℕ} → PushesCell cells more rest following →
+    1 < length following → (all : List (List ℕ)) → cells_of cells ++ map trim (pieces false rest) ≡ all →
+    cells_of more ++ map trim (pieces false (drop 1 following)) ≡ all
+next_cell {cells} {more} {rest} {following} p long all h =
+    rw (pieces_after-long following long) at (cells_of-pushed p all h)

@@ -35,7 +35,7 @@ fn has_marker(kind: AlertKind, bytes: &[u8]) -> bool
 
 /// Whether spaces and tabs alone are after so many bytes as the marker of a kind has.
 #[tactic(auto, using(std::proofs::lemmas::List::drop_min))]
-fn ends_behind(kind: AlertKind, bytes: &[u8]) -> bool
+fn ends_after(kind: AlertKind, bytes: &[u8]) -> bool
     ensures { result ≡ r.is_blank (drop (length (alert.marker_of kind)) bytes.now) }
 {
     is_blank(&bytes[marker_of(kind).len().min(bytes.len())..])
@@ -47,7 +47,7 @@ fn is_marked(kind: AlertKind, bytes: &[u8]) -> bool
     ensures value { result ≡ alert.is_marked kind bytes.now }
     ensures bound { result ≡ true → length (alert.marker_of kind) ≤ length bytes.now }
 {
-    has_marker(kind, bytes) && ends_behind(kind, bytes)
+    has_marker(kind, bytes) && ends_after(kind, bytes)
 }
 
 /// The kind whose marker bytes are.
@@ -78,19 +78,19 @@ pub fn alert_at(options: &ParseOptions, rest: &Rest) -> Option<AlertKind>
     ensures bound { IfSome result (λ kind. HasRoom kind (rest_meaning rest.now)) }
 {
     if options.constructs.alerts && rest.has_small_indent(options) {
-        kind_of(rest.behind_indent().bytes)
+        kind_of(rest.after_indent().bytes)
     } else {
         None
     }
 }
 
 /// What is left of a line after the marker of a kind, and after the whitespace there.
-pub fn behind_marker<'a>(kind: AlertKind, rest: &Rest<'a>) -> Rest<'a>
+pub fn after_marker<'a>(kind: AlertKind, rest: &Rest<'a>) -> Rest<'a>
     requires { HasRoom kind (rest_meaning rest.now) }
     ensures { rest_meaning result ≡
-        r.behind_indent (r.behind (length (alert.marker_of kind)) (r.behind_indent (rest_meaning rest.now))) }
+        r.after_indent (r.following (length (alert.marker_of kind)) (r.after_indent (rest_meaning rest.now))) }
 {
-    rest.behind_indent()
-        .behind(marker_of(kind).len())
-        .behind_indent()
+    rest.after_indent()
+        .following(marker_of(kind).len())
+        .after_indent()
 }

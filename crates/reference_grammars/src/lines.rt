@@ -11,7 +11,7 @@ use md_scan::memory;
 use std::alloc::Global;
 
 /// What follows the line ending that comes first: LF, CR or CRLF.
-fn behind_ending(bytes: &[u8]) -> &[u8]
+fn following_ending(bytes: &[u8]) -> &[u8]
     ensures value { result.now ≡ after_ending bytes.now }
     ensures bound { length result.now ≤ length bytes.now - 1 }
 {
@@ -40,7 +40,7 @@ pub fn rests_of<'a>(alloc: Global, column: usize, text: &'a [u8]) -> Result<Vec<
                 bytes,
             },
         )?;
-        left = behind_ending(ending);
+        left = following_ending(ending);
         begins = 0;
     }
     Ok(rests)

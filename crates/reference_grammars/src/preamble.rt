@@ -82,8 +82,8 @@ fn front_by<'a, 'b>(
         (λ o. option_map fronts.front_meaning o ≡ preamble.front_by (Some marker) (fronts.lines_in rests.now)) }
     ensures after { IfOk result (λ o. IfSome o (λ f. fronts.IsEnd rests.now f.after.now)) }
 {
-    let (inside, behind) = rests.split_at(lines_before_fence(marker, rests));
-    match behind.split_first() {
+    let (inside, following) = rests.split_at(lines_before_fence(marker, rests));
+    match following.split_first() {
         None => Ok(None),
         Some((_, after)) => {
             let lines = lines_in(alloc, inside)?;

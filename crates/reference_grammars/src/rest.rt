@@ -82,16 +82,16 @@ impl<'a> Rest<'a> {
     }
 
     /// Without all of its indent.
-    pub fn behind_indent(&self) -> Rest<'a>
-        ensures { rest_meaning result ≡ rest.behind_indent (rest_meaning self.now) }
+    pub fn after_indent(&self) -> Rest<'a>
+        ensures { rest_meaning result ≡ rest.after_indent (rest_meaning self.now) }
     {
         self.lose(self.indent())
     }
 
     /// After so many bytes that are neither spaces nor tabs.
-    pub fn behind(&self, count: usize) -> Rest<'a>
+    pub fn following(&self, count: usize) -> Rest<'a>
         requires { count ≤ length self.now.bytes.now }
-        ensures { rest_meaning result ≡ rest.behind count (rest_meaning self.now) }
+        ensures { rest_meaning result ≡ rest.following count (rest_meaning self.now) }
     {
         Rest {
             column: self.column + count,

@@ -41,12 +41,12 @@ pub fn row_cells<'a>(alloc: Global, row: &'a [u8]) -> Result<Vec<&'a [u8]>, Mess
     let mut cells = Vec::new(alloc);
     let mut rest = after_optional(b'|', trim(row));
     'pieces: loop {
-        let (piece, behind) = rest.split_at(piece_len(rest));
+        let (piece, following) = rest.split_at(piece_len(rest));
         memory::push(&mut cells, trim(piece))?;
-        if behind.len() <= 1 {
+        if following.len() <= 1 {
             return Ok(cells);
         }
-        rest = behind.split_at(1).1;
+        rest = following.split_at(1).1;
     }
 }
 

@@ -15,7 +15,7 @@ use Rattle.reference_grammars.specs.declared.rest.Rest.{Rest}
 use Rattle.reference_grammars.specs.Fronts.{lines_in, front_meaning, IsEnd}
 use Rattle.reference_grammars.specs.Rests.{rest_meanings}
 use Rattle.reference_grammars.specs.Trees.{meaning}
-use Rattle.reference_grammars.proofs.FrontLemmas.{rests_behind, lines_in-rests}
+use Rattle.reference_grammars.proofs.FrontLemmas.{rests_after, lines_in-rests}
 
 -- the lines of a body, read and closed
 abbrev pub body : ParseOptions → List r.Rest → t.Blocks
@@ -46,7 +46,7 @@ pub tree-some : (options : ParseOptions) (text : List ℕ) (rests : List Rest) (
     t.More (meaning f.block) (grouped (body options (rest_meanings f.after.now))) ≡ tree options text
 tree-some options text rests found f h is end =
     ap (λ xs. t.More (meaning f.block) (grouped (body options xs)))
-    (rests_behind (p.first_column text) (lines_of (p.without_mark text)) rests f.after.now h.lines end)
+    (rests_after (p.first_column text) (lines_of (p.without_mark text)) rests f.after.now h.lines end)
     ∙ sym
     (tree-found options text rests found h
     ∙ ap

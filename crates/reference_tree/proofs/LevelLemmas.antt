@@ -1,5 +1,6 @@
 -- Containers that are open while blocks are grouped.
-use Rattle.std.proofs.Common.{◌≡◌, List, [], ◌∷◌, ◌++◌, reverse, Option, Some, option_to_list, length, refl, sym, ◌∙◌, ap}
+use Rattle.std.proofs.Common.{◌≡◌, List, [], ◌∷◌, ◌++◌, reverse, Option, Some, option_to_list, length, refl, sym, ◌∙◌}
+use Rattle.std.proofs.Common.{ap}
 use Rattle.std.proofs.lemmas.List.{reverse-append}
 use Rattle.md_meaning.specs.Tree as t
 use Rattle.md_meaning.specs.State.{Container, InQuote, InItem, InFootnote, container_block}
@@ -33,7 +34,8 @@ grouped-container (InFootnote label) bs = refl
 
 -- a container opens: what is in it is grouped apart
 pub opened-level : (levels more : List Level) (l : Level) (bs : t.Blocks) (b : t.Block) (inner : t.Blocks) →
-    more ≡ levels ++ l ∷ [] → bs ≡ t.More b (forward l.after) → b ≡ container_block (container_meaning l.container) inner →
+    more ≡ levels ++ l ∷ [] → bs ≡ t.More b (forward l.after) → b ≡
+    container_block (container_meaning l.container) inner →
     around_all more (grouped inner) ≡ around_all levels (then_groups l.groups (grouped bs))
 opened-level levels more l bs b inner added first is =
     ap (λ ls. around_all ls (grouped inner)) added ∙ around_push levels l (grouped inner)

@@ -148,7 +148,8 @@ pub visited-none : (found : List program.Place) (levels : List Level) (level : L
     places found ++ left levels ≡ places found ++ left (levels ++ level ∷ [])
 visited-none found levels level none =
     ap (λ xs. places found ++ xs)
-    (sym (left_push levels level ∙ ap (λ bs. placed level.depth (meanings bs) ++ left levels) (empty level.blocks.now none)))
+    (sym (left_push levels level ∙ ap (λ bs. placed level.depth (meanings bs) ++ left levels)
+    (empty level.blocks.now none)))
   where
     empty : (xs : List Block) → 0 ≡ length xs → xs ≡ []
     empty [] e = refl

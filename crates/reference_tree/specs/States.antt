@@ -14,9 +14,9 @@ use Rattle.reference_tree.specs.declared.state.Innermost.{Innermost}
 use Rattle.reference_tree.specs.declared.state.Frame.{Frame}
 use Rattle.reference_tree.specs.declared.state.Path.{Path}
 use Rattle.reference_tree.specs.declared.state.LeafResult.{LeafResult}
-use Rattle.reference_tree.specs.declared.state.LeafResult.TheVariants as came
+use Rattle.reference_tree.specs.declared.state.LeafResult.TheVariants as became
 use Rattle.reference_tree.specs.declared.leaves.Transition.{Transition}
-use Rattle.reference_tree.specs.declared.leaves.Transition.TheVariants as went
+use Rattle.reference_tree.specs.declared.leaves.Transition.TheVariants as proceeded
 use Rattle.reference_tree.specs.declared.state.ParagraphContext.{ParagraphContext}
 use Rattle.reference_tree.specs.declared.state.ParagraphContext.TheVariants as against
 use Rattle.reference_tree.specs.declared.state.Taken.{Taken}
@@ -64,12 +64,12 @@ within (f ∷ fs) p = s.Within (blocks_meaning f.before) (container_meaning f.co
 abbrev pub path_meaning : Path → s.Path
 path_meaning p = within p.frames.items (s.At (spot_meaning p.spot))
 
-abbrev pub came_meaning : LeafResult → l.LeafResult
-came_meaning (came.Opened x) = l.Opened (leaf_meaning x)
-came_meaning (came.Finished b) = l.Finished (meaning b)
+abbrev pub result_meaning : LeafResult → l.LeafResult
+result_meaning (became.Opened x) = l.Opened (leaf_meaning x)
+result_meaning (became.Finished b) = l.Finished (meaning b)
 
-abbrev pub came_option : Option LeafResult → Option l.LeafResult
-came_option o = option_map came_meaning o
+abbrev pub result_option : Option LeafResult → Option l.LeafResult
+result_option o = option_map result_meaning o
 
 abbrev pub against_meaning : ParagraphContext → l.ParagraphContext
 against_meaning against.NoText = l.NoText
@@ -83,11 +83,11 @@ abbrev pub taken_option : Option Taken → Option c.Taken
 taken_option o = option_map taken_meaning o
 
 -- what a leaf that continues has become
-abbrev pub went_option : Transition → Option l.LeafResult
-went_option (went.On c) = Some (came_meaning c)
-went_option (went.Ends x) = None
+abbrev pub proceeded_option : Transition → Option l.LeafResult
+proceeded_option (proceeded.On c) = Some (result_meaning c)
+proceeded_option (proceeded.Ends x) = None
 
 -- a leaf that ends is handed back
 abbrev pub HandsBack : Transition → s.Leaf → Type 0
-HandsBack (went.On c) x = Unit {0}
-HandsBack (went.Ends y) x = leaf_meaning y ≡ x
+HandsBack (proceeded.On c) x = Unit {0}
+HandsBack (proceeded.Ends y) x = leaf_meaning y ≡ x

@@ -15,7 +15,7 @@ use md_engine::configuration::ParseOptions;
 use md_meaning::alert::AlertKind;
 use md_scan::ahead::begins_with;
 use md_scan::bytes::{is_blank, is_parted, is_white};
-use reference_grammars::alert::{alert_at, behind_marker};
+use reference_grammars::alert::{after_marker, alert_at};
 use reference_grammars::rest::Rest;
 
 /// A quote's prefix: a small indent, `>`, and one column of whitespace if there is one (CommonMark 5.1).
@@ -27,13 +27,13 @@ fn quote_taken<'a>(
 ) -> Option<Taken<'a>>
     ensures { taken_option result ≡ containers.quote_taken options.now kind (rest_meaning rest.now) }
 {
-    let marker = rest.behind_indent();
+    let marker = rest.after_indent();
     if !rest.has_small_indent(options) || !begins_with(b'>', marker.bytes) {
         return None;
     }
     Some(Taken {
         container: Container::Quote(kind),
-        rest: marker.behind(1).lose(1),
+        rest: marker.following(1).lose(1),
     })
 }
 
@@ -50,12 +50,12 @@ fn item_continues<'a>(
     ensures { taken_option result ≡
         containers.item_continues digits.now marker width starts_blank (rest_meaning rest.now) }
 {
-    let goes_on = if is_blank(rest.bytes) {
+    let is_continued = if is_blank(rest.bytes) {
         !starts_blank
     } else {
         width <= rest.indent()
     };
-    if !goes_on {
+    if !is_continued {
         return None;
     }
     Some(Taken {
@@ -113,7 +113,7 @@ fn with_kind<'a>(options: &ParseOptions, taken: Taken<'a>) -> Taken<'a>
         None => taken,
         Some(kind) => Taken {
             container: Container::Quote(Some(kind)),
-            rest: behind_marker(kind, &taken.rest),
+            rest: after_marker(kind, &taken.rest),
         },
     }
 }
@@ -153,8 +153,8 @@ fn digits_len(bytes: &[u8]) -> usize
 }
 
 /// The `.` or `)` after digits.
-fn marker_behind<'a>(digits: &'a [u8], bytes: &[u8]) -> Option<Marker<'a>>
-    ensures value { marker_option result ≡ containers.marker_behind digits.now bytes.now }
+fn marker_following<'a>(digits: &'a [u8], bytes: &[u8]) -> Option<Marker<'a>>
+    ensures value { marker_option result ≡ containers.marker_following digits.now bytes.now }
     ensures same { IfSome result (λ m. m.digits.now ≡ digits.now) }
     ensures bound { IfSome result (λ _. 1 ≤ length bytes.now) }
 {
@@ -182,11 +182,11 @@ fn list_marker(bytes: &[u8]) -> Option<Marker<'_>>
             byte: *first,
         });
     }
-    let (digits, behind) = bytes.split_at(digits_len(bytes));
+    let (digits, following) = bytes.split_at(digits_len(bytes));
     if digits.len() < 1 || digits.len() > 9 {
         return None;
     }
-    marker_behind(digits, behind)
+    marker_following(digits, following)
 }
 
 /// The columns after the marker that belong to the item: none before a blank rest, 1 of 5 or more.
@@ -216,12 +216,12 @@ fn may_interrupt(marker: &Marker, rest: &Rest) -> bool
 fn opens_item<'a>(options: &ParseOptions, interrupting: bool, rest: &Rest<'a>) -> Option<Taken<'a>>
     ensures { taken_option result ≡ containers.opens_item options.now interrupting (rest_meaning rest.now) }
 {
-    let from = rest.behind_indent();
+    let from = rest.after_indent();
     if !options.constructs.list_item || !rest.has_small_indent(options) {
         return None;
     }
     let marker = list_marker(from.bytes)?;
-    let after = from.behind(marker.digits.len() + 1);
+    let after = from.following(marker.digits.len() + 1);
     let is_break = options.constructs.thematic_break && is_rule(from.bytes);
     if !is_parted(after.bytes) || is_break || (interrupting && !may_interrupt(&marker, &after)) {
         return None;
@@ -283,7 +283,7 @@ fn is_label(label: &[u8], after: &[u8]) -> bool
 fn opens_footnote<'a>(options: &ParseOptions, rest: &Rest<'a>) -> Option<Taken<'a>>
     ensures { taken_option result ≡ containers.opens_footnote options.now (rest_meaning rest.now) }
 {
-    let from = rest.behind_indent();
+    let from = rest.after_indent();
     if !options.constructs.gfm_footnote_definition
         || !rest.has_small_indent(options)
         || !from.bytes.starts_with(b"[^")
@@ -299,7 +299,7 @@ fn opens_footnote<'a>(options: &ParseOptions, rest: &Rest<'a>) -> Option<Taken<'
     }
     Some(Taken {
         container: Container::Footnote(label),
-        rest: from.behind(len + 4).behind_indent(),
+        rest: from.following(len + 4).after_indent(),
     })
 }
 

@@ -9,8 +9,8 @@ ghost use Rattle.md_meaning.specs.Rest.{is_blank, is_white, is_parted};
 ghost use Rattle.md_meaning.specs.State.{fence_block, OpenCode, OpenHtml, OpenTable};
 ghost use Rattle.reference_grammars.specs.Rests.{rest_meaning};
 ghost use Rattle.reference_grammars.specs.Trees.{meaning, line_meanings, slices};
-ghost use Rattle.reference_tree.specs.States.{opening_meaning, came_meaning, came_option, against_meaning};
-ghost use Rattle.reference_tree.specs.States.{leaf_meaning, went_option, HandsBack};
+ghost use Rattle.reference_tree.specs.States.{opening_meaning, result_meaning, result_option, against_meaning};
+ghost use Rattle.reference_tree.specs.States.{leaf_meaning, proceeded_option, HandsBack};
 
 use crate::state::{Leaf, LeafResult, Opening, ParagraphContext};
 use md_engine::configuration::ParseOptions;
@@ -55,7 +55,7 @@ pub fn is_rule(bytes: &[u8]) -> bool
 /// A thematic break (CommonMark 4.1).
 #[tactic(auto, unfolding(md_meaning::specs::Leaves::break_at))]
 fn break_at<'a>(options: &ParseOptions, rest: &Rest<'a>) -> Option<LeafResult<'a>>
-    ensures { came_option result ≡ leaves.break_at options.now (rest_meaning rest.now) }
+    ensures { result_option result ≡ leaves.break_at options.now (rest_meaning rest.now) }
 {
     if options.constructs.thematic_break && rest.has_small_indent(options) && is_rule(rest.text()) {
         Some(LeafResult::Finished(Block::Break))
@@ -89,7 +89,7 @@ fn heading_at<'a>(
     options: &ParseOptions,
     rest: &Rest<'a>,
 ) -> Result<Option<LeafResult<'a>>, Message>
-    ensures { IfOk result (λ o. came_option o ≡ leaves.heading_at options.now (rest_meaning rest.now)) }
+    ensures { IfOk result (λ o. result_option o ≡ leaves.heading_at options.now (rest_meaning rest.now)) }
 {
     let text = rest.text();
     let depth = run_len(b'#', text);
@@ -114,7 +114,7 @@ fn code_at<'a>(
     rest: &Rest<'a>,
 ) -> Result<Option<LeafResult<'a>>, Message>
     ensures { IfOk result
-        (λ o. came_option o ≡ leaves.code_at options.now (against_meaning against) (rest_meaning rest.now)) }
+        (λ o. result_option o ≡ leaves.code_at options.now (against_meaning against) (rest_meaning rest.now)) }
 {
     if !options.constructs.code_indented
         || against != ParagraphContext::NoText
@@ -128,12 +128,12 @@ fn code_at<'a>(
 }
 
 /// A line of indented code; a line that is neither blank nor indented by 4 columns ends it.
-#[tactic(auto, unfolding(md_meaning::specs::Leaves::code_goes_on))]
-fn code_goes_on<'a>(lines: &mut Vec<Line<'a>>, rest: &Rest<'a>) -> Result<bool, Message>
+#[tactic(auto, unfolding(md_meaning::specs::Leaves::code_continued))]
+fn code_continued<'a>(lines: &mut Vec<Line<'a>>, rest: &Rest<'a>) -> Result<bool, Message>
     ensures on { IfOk result
         (λ b.
         (if b then Some (leaves.Opened (OpenCode (line_meanings lines.new.items))) else None) ≡
-        leaves.code_goes_on (line_meanings lines.old.items) (rest_meaning rest.now)) }
+        leaves.code_continued (line_meanings lines.old.items) (rest_meaning rest.now)) }
     ensures off { IfOk result (λ b. IsFalse b → lines.new.items ≡ lines.old.items) }
 {
     if !is_blank(rest.bytes) && rest.indent() < 4 {
@@ -194,7 +194,7 @@ fn opening<'a>(marker: u8, size: usize, indent: usize, text: &'a [u8]) -> Openin
 /// An opening fence: a small indent, a run of markers, and what may follow it (CommonMark 4.5; math is an own choice).
 #[tactic(auto, unfolding(md_meaning::specs::Leaves::fence_at))]
 fn fence_at<'a>(alloc: Global, options: &ParseOptions, rest: &Rest<'a>) -> Option<LeafResult<'a>>
-    ensures { came_option result ≡ leaves.fence_at options.now (rest_meaning rest.now) }
+    ensures { result_option result ≡ leaves.fence_at options.now (rest_meaning rest.now) }
 {
     let text = rest.text();
     let marker = *text.first()?;
@@ -235,8 +235,8 @@ pub fn fence_block<'a>(opening: &Opening<'a>, lines: Vec<Line<'a>>, closed: bool
 }
 
 /// A line of fenced code or math: the closing fence, or a line that loses at most the indent of the opening one.
-#[tactic(auto, unfolding(md_meaning::specs::Leaves::fence_goes_on))]
-pub fn fence_goes_on<'a>(
+#[tactic(auto, unfolding(md_meaning::specs::Leaves::fence_continued))]
+pub fn fence_continued<'a>(
     options: &ParseOptions,
     opening: &Opening<'a>,
     lines: Vec<Line<'a>>,
@@ -244,8 +244,8 @@ pub fn fence_goes_on<'a>(
 ) -> Result<LeafResult<'a>, Message>
     ensures { IfOk result
         (λ x.
-        came_meaning x ≡
-        leaves.fence_goes_on options.now (opening_meaning opening.now) (line_meanings lines.entry.items)
+        result_meaning x ≡
+        leaves.fence_continued options.now (opening_meaning opening.now) (line_meanings lines.entry.items)
         (rest_meaning rest.now)) }
 {
     if closes(options, opening, rest) {
@@ -264,7 +264,7 @@ fn html_line<'a>(
 ) -> Result<LeafResult<'a>, Message>
     ensures { IfOk result
         (λ x.
-        came_meaning x ≡ leaves.html_line kind (line_meanings lines.entry.items)
+        result_meaning x ≡ leaves.html_line kind (line_meanings lines.entry.items)
         (rest_meaning rest.now)) }
 {
     let mut lines = lines;
@@ -285,7 +285,7 @@ fn html_at<'a>(
     rest: &Rest<'a>,
 ) -> Result<Option<LeafResult<'a>>, Message>
     ensures { IfOk result
-        (λ o. came_option o ≡ leaves.html_at options.now (against_meaning against) (rest_meaning rest.now)) }
+        (λ o. result_option o ≡ leaves.html_at options.now (against_meaning against) (rest_meaning rest.now)) }
 {
     if !options.constructs.html_flow || !rest.has_small_indent(options) {
         return Ok(None);
@@ -308,16 +308,16 @@ fn marked_starts<'a>(
 ) -> Result<Option<LeafResult<'a>>, Message>
     ensures { IfOk result
         (λ o.
-        came_option o ≡
+        result_option o ≡
         option_or (leaves.html_at options.now (against_meaning against) (rest_meaning rest.now))
         (option_or (leaves.heading_at options.now (rest_meaning rest.now))
         (leaves.break_at options.now (rest_meaning rest.now)))) }
 {
-    if let Some(came) = html_at(alloc, options, against, rest)? {
-        return Ok(Some(came));
+    if let Some(became) = html_at(alloc, options, against, rest)? {
+        return Ok(Some(became));
     }
-    if let Some(came) = heading_at(alloc, options, rest)? {
-        return Ok(Some(came));
+    if let Some(became) = heading_at(alloc, options, rest)? {
+        return Ok(Some(became));
     }
     Ok(break_at(options, rest))
 }
@@ -331,13 +331,13 @@ pub fn starts<'a>(
     rest: &Rest<'a>,
 ) -> Result<Option<LeafResult<'a>>, Message>
     ensures { IfOk result
-        (λ o. came_option o ≡ leaves.starts options.now (against_meaning against) (rest_meaning rest.now)) }
+        (λ o. result_option o ≡ leaves.starts options.now (against_meaning against) (rest_meaning rest.now)) }
 {
-    if let Some(came) = code_at(alloc, options, against, rest)? {
-        return Ok(Some(came));
+    if let Some(became) = code_at(alloc, options, against, rest)? {
+        return Ok(Some(became));
     }
-    if let Some(came) = fence_at(alloc, options, rest) {
-        return Ok(Some(came));
+    if let Some(became) = fence_at(alloc, options, rest) {
+        return Ok(Some(became));
     }
     marked_starts(alloc, options, against, rest)
 }
@@ -357,16 +357,16 @@ pub fn is_found<T: Drop>(found: Option<T>) -> bool
 }
 
 /// A line of HTML, which ends before a blank one if it is of one of the last two kinds.
-#[tactic(auto, unfolding(md_meaning::specs::Leaves::html_goes_on))]
-fn html_goes_on<'a>(
+#[tactic(auto, unfolding(md_meaning::specs::Leaves::html_continued))]
+fn html_continued<'a>(
     kind: HtmlKind,
     lines: Vec<Line<'a>>,
     rest: &Rest<'a>,
 ) -> Result<Transition<'a>, Message>
     ensures value { IfOk result
         (λ w.
-        went_option w ≡
-        leaves.html_goes_on kind (line_meanings lines.entry.items) (rest_meaning rest.now)) }
+        proceeded_option w ≡
+        leaves.html_continued kind (line_meanings lines.entry.items) (rest_meaning rest.now)) }
     ensures ends { IfOk result (λ w. HandsBack w (OpenHtml kind (line_meanings lines.entry.items))) }
 {
     if matches!(kind, HtmlKind::Basic | HtmlKind::Complete) && is_blank(rest.bytes) {
@@ -387,8 +387,8 @@ fn ends_table(alloc: Global, options: &ParseOptions, rest: &Rest) -> Result<bool
 }
 
 /// A row of a table, or the line before which it ends.
-#[tactic(auto, unfolding(md_meaning::specs::Leaves::table_goes_on))]
-fn table_goes_on<'a>(
+#[tactic(auto, unfolding(md_meaning::specs::Leaves::table_continued))]
+fn table_continued<'a>(
     alloc: Global,
     options: &ParseOptions,
     delimiter: &'a [u8],
@@ -397,8 +397,8 @@ fn table_goes_on<'a>(
 ) -> Result<Transition<'a>, Message>
     ensures value { IfOk result
         (λ w.
-        went_option w ≡
-        leaves.table_goes_on options.now delimiter.now (map (λ row. slices row.items) rows.entry.items)
+        proceeded_option w ≡
+        leaves.table_continued options.now delimiter.now (map (λ row. slices row.items) rows.entry.items)
         (rest_meaning rest.now)) }
     ensures ends { IfOk result
         (λ w. HandsBack w (OpenTable delimiter.now (map (λ row. slices row.items) rows.entry.items))) }
@@ -412,29 +412,29 @@ fn table_goes_on<'a>(
 }
 
 /// How an open leaf continues.
-pub fn goes_on<'a>(
+pub fn is_continued<'a>(
     alloc: Global,
     options: &ParseOptions,
     leaf: Leaf<'a>,
     rest: &Rest<'a>,
 ) -> Result<Transition<'a>, Message>
     ensures value { IfOk result
-        (λ w. went_option w ≡ leaves.goes_on options.now (leaf_meaning leaf.entry) (rest_meaning rest.now)) }
+        (λ w. proceeded_option w ≡ leaves.is_continued options.now (leaf_meaning leaf.entry) (rest_meaning rest.now)) }
     ensures ends { IfOk result (λ w. HandsBack w (leaf_meaning leaf.entry)) }
 {
     match leaf {
         Leaf::Code(mut lines) => {
-            if code_goes_on(&mut lines, rest)? {
+            if code_continued(&mut lines, rest)? {
                 Ok(Transition::On(LeafResult::Opened(Leaf::Code(lines))))
             } else {
                 Ok(Transition::Ends(Leaf::Code(lines)))
             }
         }
-        Leaf::Fence(opening, lines) => Ok(Transition::On(fence_goes_on(
+        Leaf::Fence(opening, lines) => Ok(Transition::On(fence_continued(
             options, &opening, lines, rest,
         )?)),
-        Leaf::Html(kind, lines) => html_goes_on(kind, lines, rest),
-        Leaf::Table(delimiter, rows) => table_goes_on(alloc, options, delimiter, rows, rest),
+        Leaf::Html(kind, lines) => html_continued(kind, lines, rest),
+        Leaf::Table(delimiter, rows) => table_continued(alloc, options, delimiter, rows, rest),
         other => Ok(Transition::Ends(other)),
     }
 }

@@ -25,7 +25,7 @@ use reference_grammars::rest::Rest;
 use std::alloc::Global;
 
 /// The lines after a byte order mark, whose bytes are columns of the first.
-fn rests_behind_mark<'a>(alloc: Global, text: &'a [u8]) -> Result<Vec<Rest<'a>>, Message>
+fn rests_after_mark<'a>(alloc: Global, text: &'a [u8]) -> Result<Vec<Rest<'a>>, Message>
     requires { length text.now < 2 ^ 61 }
     ensures { IfOk result
         (λ v. rest_meanings v.items ≡ rests_at (first_column text.now) (lines_of (without_mark text.now))) }
@@ -79,7 +79,7 @@ fn body<'a>(
 }
 
 /// A tree with frontmatter, and the lines after it.
-fn tree_behind<'a>(
+fn tree_after<'a>(
     alloc: Global,
     options: &ParseOptions,
     front: Front<'a, '_>,
@@ -105,9 +105,9 @@ pub fn tree<'a>(alloc: Global, text: &'a str, options: &ParseOptions) -> Result<
     requires { length text.now < 2 ^ 61 }
     ensures { IfOk result (λ t. blocks_meaning t ≡ spec.tree options.now text.now) }
 {
-    let rests = rests_behind_mark(alloc, text.as_bytes())?;
+    let rests = rests_after_mark(alloc, text.as_bytes())?;
     match front_of(alloc, options, &rests)? {
-        Some(front) => tree_behind(alloc, options, front),
+        Some(front) => tree_after(alloc, options, front),
         None => body(alloc, options, &rests),
     }
 }

@@ -3,18 +3,18 @@
 ghost use Rattle.std.specs.Prelude.{◌≡◌, ◌<◌, length, take, drop, is_some, IfOk};
 ghost use Rattle.md_meaning.specs.Tree.{End};
 ghost use Rattle.md_meaning.specs.State as state;
-ghost use Rattle.md_meaning.specs.Leaves.{Text, goes_on, starts, table_at};
+ghost use Rattle.md_meaning.specs.Leaves.{Text, is_continued, starts, table_at};
 ghost use Rattle.md_meaning.specs.Step as definition;
 ghost use Rattle.reference_grammars.specs.Rests.{rest_meaning};
 ghost use Rattle.reference_tree.specs.Held.{blocks_meaning};
-ghost use Rattle.reference_tree.specs.States.{kept_meanings, leaf_meaning, spot_meaning, came_meaning, taken_meaning};
+ghost use Rattle.reference_tree.specs.States.{kept_meanings, leaf_meaning, spot_meaning, result_meaning, taken_meaning};
 ghost use Rattle.reference_tree.specs.States.{path_meaning, within};
 ghost use Rattle.reference_tree.specs.Stops.{more_text, spot_at, stopped_in};
 
 use crate::blocks::{Blocks, push_block};
 use crate::close::{close_to, shut};
 use crate::containers::{continues, opens};
-use crate::leaves::{Transition, goes_on, is_found, starts};
+use crate::leaves::{Transition, is_continued, is_found, starts};
 use crate::paragraph::{
     head_cells, underline_depth, underlined, with_line, with_paragraph, with_table,
 };
@@ -29,11 +29,11 @@ use reference_grammars::rest::Rest;
 use std::alloc::Global;
 
 /// What a leaf became, after these blocks.
-fn came<'a>(here: Blocks<'a>, came: LeafResult<'a>) -> Result<Innermost<'a>, Message>
+fn became<'a>(here: Blocks<'a>, became: LeafResult<'a>) -> Result<Innermost<'a>, Message>
     ensures { IfOk result (λ s. spot_meaning s ≡
-        definition.came (blocks_meaning here.entry) (came_meaning came.entry)) }
+        definition.became (blocks_meaning here.entry) (result_meaning became.entry)) }
 {
-    match came {
+    match became {
         LeafResult::Opened(leaf) => Ok(Innermost { here, leaf }),
         LeafResult::Finished(block) => {
             let mut here = here;
@@ -64,7 +64,7 @@ fn fresh_line<'a>(
         });
     }
     match starts(alloc, options, ParagraphContext::NoText, rest)? {
-        Some(started) => came(here, started),
+        Some(started) => became(here, started),
         None => with_line(here, Vec::new(alloc), rest),
     }
 }
@@ -109,7 +109,7 @@ fn text_or_leaf<'a>(
     match starts(alloc, options, ParagraphContext::Text, rest)? {
         Some(started) => {
             let here = with_paragraph(alloc, options, here, lines)?;
-            came(here, started)
+            became(here, started)
         }
         None => table_or_text(alloc, options, here, lines, rest),
     }
@@ -157,10 +157,10 @@ fn held_line<'a>(
         spot_meaning s ≡
         definition.on_or_fresh options.now
         (spot_at (blocks_meaning here.entry) (leaf_meaning leaf.entry))
-        (rest_meaning rest.now) (goes_on options.now (leaf_meaning leaf.entry) (rest_meaning rest.now))) }
+        (rest_meaning rest.now) (is_continued options.now (leaf_meaning leaf.entry) (rest_meaning rest.now))) }
 {
-    match goes_on(alloc, options, leaf, rest)? {
-        Transition::On(went) => came(here, went),
+    match is_continued(alloc, options, leaf, rest)? {
+        Transition::On(proceeded) => became(here, proceeded),
         Transition::Ends(leaf) => {
             let here = shut(alloc, options, Innermost { here, leaf })?;
             fresh_line(alloc, options, here, rest)
@@ -298,7 +298,7 @@ fn takes_lazy<'a>(
 }
 
 /// Closes all containers but so many of the outermost, and opens one after them.
-fn enter_behind<'a>(
+fn enter_after<'a>(
     alloc: Global,
     options: &ParseOptions,
     path: Path<'a>,
@@ -319,7 +319,7 @@ fn enter_behind<'a>(
 }
 
 /// Closes all containers but so many of the outermost, and reads the line after them.
-fn fresh_behind<'a>(
+fn fresh_after<'a>(
     alloc: Global,
     options: &ParseOptions,
     path: Path<'a>,
@@ -381,12 +381,12 @@ fn stopped<'a>(
         (rest_meaning rest.now))) }
 {
     if let Some(taken) = opens(options, false, rest) {
-        return enter_behind(alloc, options, path, count, taken);
+        return enter_after(alloc, options, path, count, taken);
     }
     if takes_lazy(alloc, options, &path.spot.leaf, rest)? {
         stay_open(path, rest)
     } else {
-        fresh_behind(alloc, options, path, count, rest)
+        fresh_after(alloc, options, path, count, rest)
     }
 }
 

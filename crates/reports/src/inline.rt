@@ -7,8 +7,8 @@
 // a tag or an autolink is no reference, and neither is the text of an inline link, as `[a](/b)`. At the start of an
 // item `[ ]` and `[x]` are the box of a task, and at the start of a quote `[!NOTE]` is an alert.
 //
-// A walk over the bytes, each once: `behind` is the byte from which on they are looked at. Brackets that are open are
-// on a stack. A label is read again when it is looked up, and has at most 999 bytes.
+// A walk over the bytes, each once: `following` is the byte from which on they are looked at. Brackets that are open
+// are on a stack. A label is read again when it is looked up, and has at most 999 bytes.
 
 use crate::position::{Place, Position};
 use crate::references::{Bracket, Part, Reference};
@@ -36,7 +36,7 @@ struct Opener {
 struct Scan<'a> {
     text: &'a [u8],
     /// The first byte that is looked at.
-    behind: usize,
+    following: usize,
     open: Vec<Opener>,
     /// For each length of runs of backticks, where the last run of it is.
     last_runs: BTreeMap<usize, usize>,
@@ -53,7 +53,7 @@ pub(crate) fn push_references(
     }
     let mut scan = Scan {
         text: part.text.as_slice(),
-        behind: if part.may_mark {
+        following: if part.may_mark {
             mark_len(&part.text)
         } else {
             0
@@ -62,13 +62,13 @@ pub(crate) fn push_references(
         last_runs: last_runs(alloc, &part.text)?,
     };
     for (at, byte) in part.text.iter().enumerate() {
-        if at < scan.behind {
+        if at < scan.following {
             continue;
         }
         match *byte {
-            b'\\' => scan.behind = at.saturating_add(2),
-            b'`' => scan.behind = scan.code_end(at),
-            b'<' => scan.behind = tag_end(part.text.as_slice(), at),
+            b'\\' => scan.following = at.saturating_add(2),
+            b'`' => scan.following = scan.code_end(at),
+            b'<' => scan.following = tag_end(part.text.as_slice(), at),
             b'[' => scan.open_at(at)?,
             b']' => {
                 if let Some((from, to)) = scan.close(part.has_footnotes, at) {
@@ -132,12 +132,12 @@ impl<'a> Scan<'a> {
             .iter()
             .take_while(|byte| **byte == b'`')
             .count();
-        let behind = at.saturating_add(len);
+        let following = at.saturating_add(len);
         match self.last_runs.get(&len) {
-            Some(last) if *last >= behind => {
-                behind.saturating_add(run_end(rest(self.text, behind), len))
+            Some(last) if *last >= following => {
+                following.saturating_add(run_end(rest(self.text, following), len))
             }
-            _ => behind,
+            _ => following,
         }
     }
 
@@ -159,19 +159,19 @@ impl<'a> Scan<'a> {
         match self.text.get(next) {
             Some(b'(') => {
                 if let Some(len) = link_len(rest(self.text, next)) {
-                    self.behind = next.saturating_add(len);
+                    self.following = next.saturating_add(len);
                     return None;
                 }
                 own
             }
             Some(b'[') => match label_len(rest(self.text, next)) {
                 Some(2) => {
-                    self.behind = next.saturating_add(2);
+                    self.following = next.saturating_add(2);
                     own
                 }
                 Some(len) => {
-                    self.behind = next.saturating_add(len);
-                    Some((next, self.behind.saturating_sub(1)))
+                    self.following = next.saturating_add(len);
+                    Some((next, self.following.saturating_sub(1)))
                 }
                 None => own,
             },
@@ -197,8 +197,8 @@ fn run_end(text: &[u8], len: usize) -> usize {
 
 /// The byte after the tag or autolink that begins here, or after its `<` where none does (CommonMark 6.5, 6.6).
 fn tag_end(text: &[u8], at: usize) -> usize {
-    let behind = at.saturating_add(1);
-    let inside = rest(text, behind);
+    let following = at.saturating_add(1);
+    let inside = rest(text, following);
     let begins = match inside.first() {
         Some(byte) => byte.is_ascii_alphabetic() || matches!(*byte, b'/' | b'!' | b'?'),
         None => false,
@@ -208,9 +208,9 @@ fn tag_end(text: &[u8], at: usize) -> usize {
         .position(|byte| *byte == b'<' || *byte == b'>');
     match end {
         Some(len) if begins && inside.get(len) == Some(&b'>') => {
-            behind.saturating_add(len).saturating_add(1)
+            following.saturating_add(len).saturating_add(1)
         }
-        _ => behind,
+        _ => following,
     }
 }
 
@@ -239,14 +239,14 @@ fn link_len(text: &[u8]) -> Option<usize> {
     let indent = white_len(inside);
     let destination = rest(inside, indent);
     let len = destination_len(destination)?;
-    let behind = rest(destination, len);
-    let white = white_len(behind);
+    let following = rest(destination, len);
+    let white = white_len(following);
     let title = if white > 0 {
-        title_len(rest(behind, white)).unwrap_or(0)
+        title_len(rest(following, white)).unwrap_or(0)
     } else {
         0
     };
-    let tail = rest(behind, white.saturating_add(title));
+    let tail = rest(following, white.saturating_add(title));
     let last = white_len(tail);
     if tail.get(last) != Some(&b')') {
         return None;

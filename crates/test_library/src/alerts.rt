@@ -85,9 +85,9 @@ fn gives(
     };
     let (events, state) = parse(alloc, text, &options)?;
     let lines = outline(alloc, &events, &state)?;
-    let mut told = String::new(alloc);
+    let mut recorded = String::new(alloc);
     for event in events.iter() {
-        if add_event(&mut told, event).is_err() {
+        if add_event(&mut recorded, event).is_err() {
             return Err(Message);
         }
     }
@@ -97,7 +97,7 @@ fn gives(
             return Err(Message);
         }
     }
-    Ok(told.trim_end() == events_want && shown.as_str() == lines_want)
+    Ok(recorded.trim_end() == events_want && shown.as_str() == lines_want)
 }
 
 // A run that is refused memory answers so, and the next run is given it.

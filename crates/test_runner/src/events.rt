@@ -44,7 +44,7 @@ pub(crate) struct Place {
     pub(crate) column: usize,
     pub(crate) index: usize,
     /// Whether the byte before it is a CR.
-    behind_cr: bool,
+    after_cr: bool,
 }
 
 impl Place {
@@ -53,7 +53,7 @@ impl Place {
         line: 1,
         column: 1,
         index: 0,
-        behind_cr: false,
+        after_cr: false,
     };
 
     /// The columns of a tab that begins here: up to the next multiple of 4.
@@ -63,7 +63,7 @@ impl Place {
 
     /// The place after this byte.
     pub(crate) fn past(self, byte: u8) -> Place {
-        let is_second = byte == b'\n' && self.behind_cr;
+        let is_second = byte == b'\n' && self.after_cr;
         let is_ending = byte == b'\n' || byte == b'\r';
         let columns = if byte == b'\t' { self.tab_columns() } else { 1 };
         Place {
@@ -74,7 +74,7 @@ impl Place {
                 self.column.wrapping_add(columns)
             },
             index: self.index.wrapping_add(1),
-            behind_cr: byte == b'\r',
+            after_cr: byte == b'\r',
         }
     }
 
@@ -90,7 +90,7 @@ impl Place {
     /// Whether a point at this byte is a point of the text with the right line and column.
     fn has(self, bytes: &[u8], point: Point) -> bool {
         let byte = bytes.get(point.index).copied();
-        let splits_pair = self.behind_cr && byte == Some(b'\n');
+        let splits_pair = self.after_cr && byte == Some(b'\n');
         let cuts_tab = byte == Some(b'\t') && point.vs < self.tab_columns();
         !splits_pair
             && (point.vs == 0 || cuts_tab)

@@ -41,7 +41,7 @@ fn first_line(text: &str) -> &str {
 }
 
 /// The lines of a text after the first one.
-fn behind_first_line(text: &str) -> &str {
+fn after_first_line(text: &str) -> &str {
     let rest = text.get(first_line(text).len()..).unwrap_or("");
     match rest.strip_prefix("\r\n") {
         Some(lines) => lines,
@@ -59,8 +59,8 @@ fn alert_of(text: &str, constructs: &Constructs) -> Option<&'static str> {
     let rest = line.get(indent..).unwrap_or("");
     for (marker, head) in ALERTS {
         let front = rest.get(..marker.len()).unwrap_or("");
-        let behind = rest.get(marker.len()..).unwrap_or("");
-        if front.eq_ignore_ascii_case(marker) && behind.bytes().all(|byte| byte == b' ') {
+        let following = rest.get(marker.len()..).unwrap_or("");
+        if front.eq_ignore_ascii_case(marker) && following.bytes().all(|byte| byte == b' ') {
             return Some(head);
         }
     }
@@ -140,7 +140,7 @@ pub fn try_laws<B: Body>(
         match alert_of(text, constructs) {
             None => try_quote::<B>(alloc, text, "quote\n", output.as_str(), constructs, report)?,
             Some(head) => {
-                let rest = behind_first_line(text);
+                let rest = after_first_line(text);
                 let output = printed::<B>(alloc, rest, constructs)?;
                 if !rest.starts_with('\u{feff}') && !output.as_str().starts_with("frontmatter ") {
                     try_quote::<B>(alloc, text, head, output.as_str(), constructs, report)?;

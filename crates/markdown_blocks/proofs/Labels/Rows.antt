@@ -16,15 +16,16 @@ use Rattle.md_link_definitions.specs.DefinitionRule.{DefinitionParts}
 use Rattle.md_events.specs.Events.Nested.{exit, pair}
 use Rattle.md_events.specs.Events.Spelled.{OpenContainer, Reading, add_block, read, role, spelled, unread}
 use Rattle.md_events.proofs.PlacesLemmas.{all-append}
-use Rattle.md_events.proofs.SpelledLemmas.{Between, QuietOrEnding, read-between, read-from, roles-append, unmarked-append}
+use Rattle.md_events.proofs.SpelledLemmas.{Between, QuietOrEnding, read-between, read-from, roles-append}
+use Rattle.md_events.proofs.SpelledLemmas.{unmarked-append}
 use Rattle.proof_rows.specs.BlockList.{lines_unread, text_unread, turned_unread, unread_lines}
 use Rattle.proof_frame.specs.Closed.{close_containers}
 use Rattle.proof_frame.specs.EndingName.{ending_name}
 use Rattle.proof_frame.specs.TextLines.{text_leaf}
 use Rattle.md_registry.specs.Registry.{further_of, leaf}
-use Rattle.proof_rows.specs.Rows.{front_done, Group, Headed, Lines, Single, LeafLines, Turned, defined_done, group_events}
-use Rattle.proof_rows.specs.Rows.{leaf_done, leaf_events, groups_events, lines_done, heading_done, row_events, rows_events}
-use Rattle.proof_rows.specs.Rows.{tail_events, text_done, turned_done}
+use Rattle.proof_rows.specs.Rows.{front_done, Group, Headed, Lines, Single, LeafLines, Turned, defined_done}
+use Rattle.proof_rows.specs.Rows.{group_events, leaf_done, leaf_events, groups_events, lines_done, heading_done}
+use Rattle.proof_rows.specs.Rows.{row_events, rows_events, tail_events, text_done, turned_done}
 use Rattle.proof_frame.specs.Row.{BlankRow, LeafRow, Row, RowKind, TextRow, is_blank_by, span_done, ending_of, last_row}
 use Rattle.proof_content_laws.specs.Defined.{defined_unread}
 use Rattle.proof_table_laws.specs.Headed.{headed_done}
@@ -37,7 +38,7 @@ use Rattle.proof_frame.proofs.FrontFacts.{LinePrefix}
 use Rattle.proof_frame.proofs.FrontNames.{HasFront, fronts-unmarked}
 use Rattle.proof_rows.proofs.GroupFacts.{span-block}
 use Rattle.proof_rows.proofs.GroupLines.{AreGroups, AreLines, AreSpan, Begins, IsHead, IsLeft, IsSingle, IsUnder}
-use Rattle.proof_rows.proofs.GroupLines.{behind-first, line-further, line-of, span-begins, kept-of}
+use Rattle.proof_rows.proofs.GroupLines.{following-first, line-further, line-of, span-begins, kept-of}
 use Rattle.proof_rows.proofs.GroupLemmas.{headed-quiet, spans-quiet, under-quiet}
 use Rattle.proof_rows.proofs.HeadedTable.{IsHeaded, headed-facts, headed-is, headed_block}
 use Rattle.proof_rows.proofs.JoinedLemmas.{EachNoContent, HasNoContent, ending-other, has_front-no_content}
@@ -50,7 +51,7 @@ use Rattle.proof_content_laws.proofs.Labels.Trees.{defined_by, defined_in}
 use Rattle.proof_frame.proofs.LeafFacts.{shown}
 use Rattle.md_registry.proofs.SpanLeaves.{span-laws}
 use Rattle.proof_rows.proofs.RowLeaf.{block_of, row-facts}
-use Rattle.proof_frame.proofs.SpanLaws.{come_behind}
+use Rattle.proof_frame.proofs.SpanLaws.{becomes_after}
 use Rattle.markdown_blocks.proofs.SpelledLines.{read-fronts, read-tail}
 use Rattle.proof_frame.proofs.ParagraphLines.{fronts-between}
 use Rattle.proof_frame.proofs.Enters.{enters}
@@ -59,7 +60,7 @@ use Rattle.proof_rows.proofs.Text.Cut.{IsCutText, between}
 use Rattle.proof_rows.proofs.Text.Cut.IsCutText.{Defines, Follows, Remains}
 use Rattle.proof_rows.proofs.Text.Cuts.{cut-is}
 use Rattle.proof_rows.proofs.Text.Facts.{text-facts}
-use Rattle.proof_rows.proofs.Text.Stands.{done-is}
+use Rattle.proof_rows.proofs.Text.Valid.{done-is}
 use Rattle.proof_rows.proofs.Turned.Cut as headings
 use Rattle.proof_rows.proofs.Turned.Cut.{IsCutHeading, heading-cut, left-remains}
 use Rattle.proof_rows.proofs.Turned.Facts.{turned-block, turned-facts}
@@ -68,7 +69,7 @@ use Rattle.proof_rows.proofs.Turned.Facts.{turned-block, turned-facts}
 -- these labels.
 record Labelled (bytes : List ℕ) (unread done : List Event) : Type 0 where
   own : List (List ℕ)
-  told : (more : List Event) → labels_in bytes (unread ++ more) ≡ own ++ labels_in bytes more
+  recorded : (more : List Event) → labels_in bytes (unread ++ more) ≡ own ++ labels_in bytes more
   reads : (r : Reading) → r.text ≡ None → r.leaf ≡ None →
       (labels : read_labels (read bytes r done) ≡ read_labels r ++ own) × (text : (read bytes r done).text ≡ None)
       × ((read bytes r done).leaf ≡ None)
@@ -77,9 +78,9 @@ labelled-append : (bytes : List ℕ) (us ds vs es : List Event) → Labelled byt
     Labelled bytes (us ++ vs) (ds ++ es)
 labelled-append bytes us ds vs es h k = record {
   own = h.own ++ k.own;
-  told = λ more.
-      ap (labels_in bytes) (append_assoc us vs more) ∙ h.told (vs ++ more)
-      ∙ ap (λ (l : List (List ℕ)). h.own ++ l) (k.told more)
+  recorded = λ more.
+      ap (labels_in bytes) (append_assoc us vs more) ∙ h.recorded (vs ++ more)
+      ∙ ap (λ (l : List (List ℕ)). h.own ++ l) (k.recorded more)
       ∙ sym (append_assoc h.own k.own (labels_in bytes more));
   reads = λ r text shut.
       let first = h.reads r text shut in
@@ -115,7 +116,7 @@ quiet-append bytes ds es h k = λ r text shut.
 none-labelled : (bytes : List ℕ) (us ds : List Event) → has_no_label us ≡ true → Quiet bytes ds → Labelled bytes us ds
 none-labelled bytes us ds none reads = record {
   own = [];
-  told = λ more. labels-skip bytes us more none;
+  recorded = λ more. labels-skip bytes us more none;
   reads = λ r text shut.
       let is = reads r text shut in (is.0 ∙ sym (append-nil (read_labels r)), is.1, is.2);
 }
@@ -234,10 +235,10 @@ defined-labelled bytes d row rows is =
     subst₂ (Labelled bytes) (sym is.unread) (sym (done-is bytes d row rows is))
     (record {
       own = defined_by (form_block is.form);
-      told = λ more. form-label bytes is.form is.behind_gap is.behind_target is.is more;
+      recorded = λ more. form-label bytes is.form is.following_gap is.after_target is.is more;
       reads = λ r text shut.
           let reads : read bytes r (form_done bytes is.form) ≡ add_block (form_block is.form) r =
-          (defined-facts bytes is.form is.behind_gap is.behind_target is.is).reads r text shut in (
+          (defined-facts bytes is.form is.following_gap is.after_target is.is).reads r text shut in (
             ap read_labels reads ∙ labels-added (form_block is.form) r,
             ap (λ (x : Reading). x.text) reads ∙ text,
             ap (λ (x : Reading). x.leaf) reads ∙ shut,
@@ -291,16 +292,16 @@ span-quiet : (options : ParseOptions) (bytes : List ℕ) (row : Row) (rows : Lis
 span-quiet options bytes row rows are begins =
     let is = span-begins options bytes row rows are in
     let line = line-of options bytes row is in
-    let behind = behind-first options bytes row rows are in
+    let following = following-first options bytes row rows are in
     let block : Block = span-block options bytes row rows are in
-    let c : LeafResult = come_behind options bytes (leaf (further_of is.name)) row rows behind
-    ((leaf is.name).comes options NoLeaf line.rest) in
+    let c : LeafResult = becomes_after options bytes (leaf (further_of is.name)) row rows following
+    ((leaf is.name).becomes options NoLeaf line.rest) in
     sym (append-nil (defined_by block))
     ∙ ap defined_in
     (sym ((span-laws is.name is.open_leaf).shuts options bytes row rows line
-    (line-further options bytes row is false begins) behind End))
+    (line-further options bytes row is false begins) following End))
     ∙ shut-unlabelled options End c (lines-unlabelled options bytes is.name (further_of is.name) row
-    rows behind line.rest)
+    rows following line.rest)
 
 span-labelled : (options : ParseOptions) (bytes : List ℕ) (row : Row) (rows : List Row) →
     AreSpan options bytes row rows → EachNoContent (row ∷ rows) → Begins row →
@@ -311,7 +312,7 @@ span-labelled options bytes row rows are quiet begins =
     let ds : List Event = span_done bytes row rows in
     let tail : List Event = tail_events (ending_of last.kind last) last in
     let facts = (span-laws is.name is.open_leaf).facts options bytes row rows (line-of options bytes row is)
-    (line-further options bytes row is false begins) (behind-first options bytes row rows are) in
+    (line-further options bytes row is false begins) (following-first options bytes row rows are) in
     none-labelled bytes (rows_events (row ∷ rows)) ((front_done bytes row ++ ds) ++ tail)
     (no_content-label wants_content (rows_events (row ∷ rows))
     (spans-quiet options bytes wants_content row rows are quiet content-alone))
@@ -427,6 +428,6 @@ rows-labels options bytes gs are none =
     let h = groups-labelled options bytes gs are in
     let us : List Event = unread_groups options bytes gs in
     let r : Reading = read bytes unread (groups_events options bytes gs) in
-    ap (labels_in bytes) (sym (append-nil us)) ∙ h.told [] ∙ append-nil h.own
+    ap (labels_in bytes) (sym (append-nil us)) ∙ h.recorded [] ∙ append-nil h.own
     ∙ sym (h.reads unread refl refl).0
     ∙ ap (λ (outer : List OpenContainer). outer_labels outer ++ defined_in r.here) none

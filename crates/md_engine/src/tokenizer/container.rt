@@ -1,7 +1,7 @@
 // What is kept of a container that is open.
 
 ghost use Rattle.std.specs.Prelude.{◌≡◌};
-ghost use Rattle.md_engine.specs.KnownContinuing.{goes_over_empty};
+ghost use Rattle.md_engine.specs.KnownContinuing.{continues_over_empty};
 ghost use Rattle.md_engine.specs.World.{container_of};
 
 pub mod name;
@@ -31,9 +31,9 @@ impl Container {
     }
 
     /// Whether it continues over an empty line, of which it takes nothing.
-    pub fn goes_over_empty(self) -> bool
-        ensures { result ≡ goes_over_empty self }
+    pub fn continues_over_empty(self) -> bool
+        ensures { result ≡ continues_over_empty self }
     {
-        name::kind_goes_over(self.kind, self.starts_blank)
+        name::kind_continues_over(self.kind, self.starts_blank)
     }
 }

@@ -38,7 +38,7 @@ impl<'a> Tokenizer<'a> {
         ensures waits { result ≡ true →
             (is_end ≡ false) × ((world self.old).setting.limit ≤ (world self.old).point.index) }
         ensures same { result ≡ true → world self.new ≡ world self.old }
-        ensures goes_on { result ≡ false →
+        ensures is_continued { result ≡ false →
             (is_end ≡ true) ⊎ ((world self.old).point.index < (world self.old).setting.limit) }
         ensures sees { result ≡ false →
             world self.new ≡ record (world self.old) { current = looks (world self.old) } }

@@ -23,28 +23,28 @@ pub record EndingPlace : Type 0 where
 abbrev pub is_filled : EndingPlace → Bool
 is_filled s = s.in_leaf || s.after_leaf
 
-abbrev pub spot_behind : Kind → OnLine → EndingPlace → EndingPlace
-spot_behind Enter IsLeaf s = record { in_leaf = true; after_leaf = true }
-spot_behind Exit IsLeaf s = record s { in_leaf = false }
-spot_behind Enter (Ends blank) s = s
-spot_behind Exit (Ends blank) s = record s { after_leaf = false }
-spot_behind Enter IsOther s = record s { after_leaf = is_filled s }
-spot_behind Exit IsOther s = s
+abbrev pub spot_after : Kind → OnLine → EndingPlace → EndingPlace
+spot_after Enter IsLeaf s = record { in_leaf = true; after_leaf = true }
+spot_after Exit IsLeaf s = record s { in_leaf = false }
+spot_after Enter (Ends blank) s = s
+spot_after Exit (Ends blank) s = record s { after_leaf = false }
+spot_after Enter IsOther s = record s { after_leaf = is_filled s }
+spot_after Exit IsOther s = s
 
 -- whether an ending has the right name
-abbrev pub ends_rightly : Kind → OnLine → EndingPlace → Bool
-ends_rightly Enter (Ends true) s = not (is_filled s)
-ends_rightly Enter (Ends false) s = is_filled s
-ends_rightly kind x s = true
+abbrev pub ends_as_begun : Kind → OnLine → EndingPlace → Bool
+ends_as_begun Enter (Ends true) s = not (is_filled s)
+ends_as_begun Enter (Ends false) s = is_filled s
+ends_as_begun kind x s = true
 
-abbrev pub endings_stand_from : EndingPlace → List Event → Bool
-endings_stand_from s [] = true
-endings_stand_from s (e ∷ es) =
-    ends_rightly e.kind (on_line e.name) s && endings_stand_from (spot_behind e.kind (on_line e.name) s) es
+abbrev pub endings_are_right_from : EndingPlace → List Event → Bool
+endings_are_right_from s [] = true
+endings_are_right_from s (e ∷ es) =
+    ends_as_begun e.kind (on_line e.name) s && endings_are_right_from (spot_after e.kind (on_line e.name) s) es
 
 -- at the begin of a line, outside of leaves
 abbrev pub line_start : EndingPlace
 line_start = record { in_leaf = false; after_leaf = false }
 
-abbrev pub endings_stand : List Event → Bool
-endings_stand events = endings_stand_from line_start events
+abbrev pub endings_are_right : List Event → Bool
+endings_are_right events = endings_are_right_from line_start events

@@ -3,7 +3,7 @@ use Rattle.std.specs.Prelude.{ℕ, not, IsTrue, List}
 use Rattle.std.specs.List.{Contains}
 use Rattle.md_engine.specs.declared.event.Point.{Point}
 use Rattle.md_events.specs.Events.Inline.{Piece}
-use Rattle.md_events.specs.Events.Pieces.{is_piece_name, piece_stands}
+use Rattle.md_events.specs.Events.Pieces.{is_piece_name, is_valid_piece}
 use Rattle.md_events.specs.Events.Places.{at_or_before, first_point}
 
 -- where a byte begins; a tab has further columns after it
@@ -17,5 +17,5 @@ pub record Holds (bytes : List ℕ) (pieces : List Piece) (index : ℕ) : Type 0
   pub among : Contains pieces piece
   pub begins : IsTrue (at_or_before piece.first (byte_point index))
   pub ends : IsTrue (not (at_or_before piece.after (byte_point index)))
-  pub stands : IsTrue (piece_stands bytes piece)
+  pub valid : IsTrue (is_valid_piece bytes piece)
   pub name : IsTrue (is_piece_name piece.name)

@@ -9,8 +9,8 @@ use Rattle.md_events.specs.declared.inline.PartKind.{PartKind}
 use Rattle.md_events.specs.declared.inline.PartKind.TheVariants as k
 use Rattle.md_meaning.specs.Ascii.{backtick, dollar, hash, hyphen, space, tab}
 use Rattle.md_meaning.specs.Rest.{is_blank}
-use Rattle.md_events.specs.Events.Roles.{AsCell, AsDelimiter, AsDestination, AsDigits, AsFootnoteLabel, AsHeading, AsInfo}
-use Rattle.md_events.specs.Events.Roles.{AsItemMarker, AsLabel, AsLine, AsMarkers, AsMeta, AsParagraph, AsTitle}
+use Rattle.md_events.specs.Events.Roles.{AsCell, AsDelimiter, AsDestination, AsDigits, AsFootnoteLabel, AsHeading}
+use Rattle.md_events.specs.Events.Roles.{AsInfo, AsItemMarker, AsLabel, AsLine, AsMarkers, AsMeta, AsParagraph, AsTitle}
 use Rattle.md_events.specs.Events.Roles.{ContainerRole, FootnoteShape, IsCell, IsEnding, IsFence, IsPrefix, IsQuiet}
 use Rattle.md_events.specs.Events.Roles.{IsQuoteMarker, IsRow, IsTitle, ItemShape, LeafKind, LeafRole, OfBreak, OfCode}
 use Rattle.md_events.specs.Events.Roles.{OfDefinition, OfFence, OfFrontmatter, OfHeadingAtx, OfHeadingSetext, OfHtml}
@@ -18,8 +18,8 @@ use Rattle.md_events.specs.Events.Roles.{OfMath, OfTable, OrderedShape, Purpose,
 use Rattle.md_events.specs.Events.Roles.{UnorderedShape}
 use Rattle.md_events.specs.Events.PieceRules.{is_address, is_break_run, is_byte_order_mark, is_character, is_code_fence}
 use Rattle.md_events.specs.Events.PieceRules.{is_escaped, is_frontmatter_sequence, is_in_line, is_item_value}
-use Rattle.md_events.specs.Events.PieceRules.{is_line_ending, is_one_of, is_quote_marker, is_run, is_strikethrough_sequence}
-use Rattle.md_events.specs.Events.PieceRules.{is_strong_sequence, is_underline}
+use Rattle.md_events.specs.Events.PieceRules.{is_line_ending, is_one_of, is_quote_marker, is_run}
+use Rattle.md_events.specs.Events.PieceRules.{is_strikethrough_sequence, is_strong_sequence, is_underline}
 use Rattle.md_events.specs.Events.Words.{Expression, Many, Nothing, One, Then, blocks, line_break, next_line, one}
 use Rattle.md_events.specs.Events.Words.{optional, some, white}
 

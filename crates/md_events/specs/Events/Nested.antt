@@ -36,14 +36,14 @@ is_exit Exit = true
 is_exit Enter = false
 
 -- the names that are open after an event, the innermost first
-abbrev pub open_behind : List Name → Kind → Name → List Name
-open_behind names Enter name = name ∷ names
-open_behind [] Exit name = []
-open_behind (innermost ∷ names) Exit name = names
+abbrev pub open_following : List Name → Kind → Name → List Name
+open_following names Enter name = name ∷ names
+open_following [] Exit name = []
+open_following (innermost ∷ names) Exit name = names
 
 abbrev pub open_after : List Name → List Event → List Name
 open_after names [] = names
-open_after names (e ∷ es) = open_after (open_behind names e.kind e.name) es
+open_after names (e ∷ es) = open_after (open_following names e.kind e.name) es
 
 -- an exit has the name of what is open
 abbrev pub Fits : List Name → Kind → Name → Type 0
@@ -54,7 +54,7 @@ Fits (innermost ∷ names) Exit name = innermost ≡ name
 -- each exit closes the innermost part that is open
 abbrev pub Matches : List Name → List Event → Type 0
 Matches names [] = Unit {0}
-Matches names (e ∷ es) = Fits names e.kind e.name × Matches (open_behind names e.kind e.name) es
+Matches names (e ∷ es) = Fits names e.kind e.name × Matches (open_following names e.kind e.name) es
 
 -- from a point on, the points never go back
 abbrev pub Forward : Point → List Event → Type 0

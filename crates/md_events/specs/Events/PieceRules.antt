@@ -4,8 +4,8 @@ use Rattle.std.specs.List.{list_all}
 use Rattle.std.specs.Str.{bytes_eq}
 use Rattle.md_meaning.specs.Alert.{is_marker}
 use Rattle.md_meaning.specs.Lines.{is_ending}
-use Rattle.md_meaning.specs.Ascii.{asterisk, backtick, carriage_return, equals_sign, hyphen, less_than, line_feed, space}
-use Rattle.md_meaning.specs.Ascii.{tab, tilde, underscore}
+use Rattle.md_meaning.specs.Ascii.{asterisk, backtick, carriage_return, equals_sign, hyphen, less_than, line_feed}
+use Rattle.md_meaning.specs.Ascii.{space, tab, tilde, underscore}
 
 -- so many of this byte at least, and nothing else
 abbrev pub is_run : ℕ → ℕ → List ℕ → Bool

@@ -16,8 +16,8 @@ abbrev pub piece_rule : Name → Option (List ℕ → Bool)
 piece_rule name = (facts name).piece
 
 -- whether a piece of this name may be over a text
-abbrev pub stands_over : Name → List ℕ → Bool
-stands_over name text = elim (piece_rule name) [ None ↦ false | Some rule ↦ rule text ]
+abbrev pub may_cover : Name → List ℕ → Bool
+may_cover name text = elim (piece_rule name) [ None ↦ false | Some rule ↦ rule text ]
 
 -- whether a name is that of a piece, and of no block, group or part
 abbrev pub is_piece_name : Name → Bool
@@ -36,13 +36,13 @@ piece_text bytes piece = slice_range bytes piece.first.index piece.after.index
 
 -- Whether a piece may be where it does: it is not empty, it is over what its name says, and a chunk that is not read
 -- yet is a line, with its ending or not.
-abbrev pub piece_stands : List ℕ → Piece → Bool
-piece_stands bytes piece =
+abbrev pub is_valid_piece : List ℕ → Piece → Bool
+is_valid_piece bytes piece =
     not (same_place piece.first piece.after)
     && ((piece.first.vs == 0) || begins_in_tab piece.name)
     && ((piece.after.vs == 0) || ends_in_tab piece.name)
     && (if piece.linked then is_one_line (split_lines (piece_text bytes piece)) true
-    else stands_over piece.name (piece_text bytes piece))
+    else may_cover piece.name (piece_text bytes piece))
 
-abbrev pub pieces_stand : List ℕ → List Piece → Bool
-pieces_stand bytes pieces = list_all (piece_stands bytes) pieces
+abbrev pub are_valid_pieces : List ℕ → List Piece → Bool
+are_valid_pieces bytes pieces = list_all (is_valid_piece bytes) pieces

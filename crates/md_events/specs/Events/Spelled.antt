@@ -21,10 +21,9 @@ use Rattle.md_meaning.specs.Texts.{split_lines, trim_each, trim_further, first_b
 use Rattle.md_events.specs.Events.Names.{facts}
 pub use Rattle.md_events.specs.Events.Roles.{Shape, QuoteShape, OrderedShape, UnorderedShape, ItemShape, FootnoteShape}
 pub use Rattle.md_events.specs.Events.Roles.{LeafKind, OfFrontmatter, OfHeadingAtx, OfHeadingSetext, OfBreak, OfCode}
-pub use Rattle.md_events.specs.Events.Roles.{OfFence, OfMath, OfHtml, OfDefinition, OfTable}
-pub use Rattle.md_events.specs.Events.Roles.{Purpose, AsParagraph, AsHeading, AsMarkers, AsLine, AsInfo, AsMeta, AsLabel}
-pub use Rattle.md_events.specs.Events.Roles.{AsDestination, AsTitle, AsCell, AsDelimiter, AsFootnoteLabel, AsDigits}
-pub use Rattle.md_events.specs.Events.Roles.{AsItemMarker}
+pub use Rattle.md_events.specs.Events.Roles.{OfFence, OfMath, OfHtml, OfDefinition, OfTable, Purpose, AsParagraph}
+pub use Rattle.md_events.specs.Events.Roles.{AsHeading, AsMarkers, AsLine, AsInfo, AsMeta, AsLabel, AsDestination}
+pub use Rattle.md_events.specs.Events.Roles.{AsTitle, AsCell, AsDelimiter, AsFootnoteLabel, AsDigits, AsItemMarker}
 pub use Rattle.md_events.specs.Events.Roles.{Role, ContainerRole, LeafRole, TextRole, IsFence, IsTitle, IsRow, IsCell}
 pub use Rattle.md_events.specs.Events.Roles.{IsPrefix, IsEnding, IsQuoteMarker, IsQuiet}
 
@@ -41,9 +40,9 @@ without_last (x ∷ []) = []
 without_last (x ∷ y ∷ ys) = x ∷ without_last (y ∷ ys)
 
 -- What was said first is: some items, or what is said now if there are none yet.
-abbrev pub first_told : {A : Type 0} → List A → List A → List A
-first_told [] now = now
-first_told (x ∷ xs) now = x ∷ xs
+abbrev pub first_recorded : {A : Type 0} → List A → List A → List A
+first_recorded [] now = now
+first_recorded (x ∷ xs) now = x ∷ xs
 
 -- the same of what may be there or not
 abbrev pub first_some : {A : Type 0} → Option A → A → Option A
@@ -210,12 +209,12 @@ at_title leaf = leaf
 -- a title with these lines, if it has none yet
 abbrev pub with_title : List (List ℕ) → DefinitionSoFar → DefinitionSoFar
 with_title now definition =
-    record definition { title = option_map (λ (lines : List (List ℕ)). first_told lines now) definition.title }
+    record definition { title = option_map (λ (lines : List (List ℕ)). first_recorded lines now) definition.title }
 
 -- a title that ends without a text is an empty line
-abbrev pub behind_title : OpenLeaf → OpenLeaf
-behind_title (DefinitionLeaf definition) = DefinitionLeaf (with_title ([] ∷ []) definition)
-behind_title leaf = leaf
+abbrev pub after_title : OpenLeaf → OpenLeaf
+after_title (DefinitionLeaf definition) = DefinitionLeaf (with_title ([] ∷ []) definition)
+after_title leaf = leaf
 
 -- a row of a table
 abbrev pub at_row : OpenLeaf → OpenLeaf
@@ -252,27 +251,28 @@ block_of (TableLeaf table) = Table table.delimiter table.rows
 
 -- a heading with this text, if it has none yet
 abbrev pub with_text : List ℕ → HeadingSoFar → HeadingSoFar
-with_text now heading = record heading { text = first_told heading.text (trim_each (split_lines now)) }
+with_text now heading = record heading { text = first_recorded heading.text (trim_each (split_lines now)) }
 
 -- What a text of a leaf block says of it. Pieces of a line are joined; of any other purpose the first text is.
 abbrev pub noted : Purpose → Line → OpenLeaf → OpenLeaf
 noted AsHeading line (HeadingAtxLeaf heading) = HeadingAtxLeaf (with_text line.text heading)
 noted AsHeading line (HeadingSetextLeaf heading) = HeadingSetextLeaf (with_text line.text heading)
-noted AsMarkers line leaf = on_markers (λ (markers : List ℕ). first_told markers line.text) leaf
+noted AsMarkers line leaf = on_markers (λ (markers : List ℕ). first_recorded markers line.text) leaf
 noted AsLine line leaf = on_lines (on_last (λ (l : Line). joined l line)) leaf
 noted AsInfo line (FenceLeaf fences info meta) = FenceLeaf fences (first_some info line.text) meta
 noted AsMeta line (FenceLeaf fences info meta) = FenceLeaf fences info (first_some meta line.text)
 noted AsMeta line (MathLeaf fences meta) = MathLeaf fences (first_some meta line.text)
 noted AsLabel line (DefinitionLeaf definition) =
-    DefinitionLeaf (record definition { label = first_told definition.label (trim_further (split_lines line.text)) })
+    DefinitionLeaf
+    (record definition { label = first_recorded definition.label (trim_further (split_lines line.text)) })
 noted AsDestination line (DefinitionLeaf definition) =
-    DefinitionLeaf (record definition { destination = first_told definition.destination line.text })
+    DefinitionLeaf (record definition { destination = first_recorded definition.destination line.text })
 noted AsTitle line (DefinitionLeaf definition) =
     DefinitionLeaf (with_title (trim_further (split_lines line.text)) definition)
 noted AsCell line (TableLeaf table) =
-    TableLeaf (record table { rows = on_last (on_last (λ (cell : List ℕ). first_told cell line.text)) table.rows })
+    TableLeaf (record table { rows = on_last (on_last (λ (cell : List ℕ). first_recorded cell line.text)) table.rows })
 noted AsDelimiter line (TableLeaf table) =
-    TableLeaf (record table { delimiter = first_told table.delimiter (trim line.text) })
+    TableLeaf (record table { delimiter = first_recorded table.delimiter (trim line.text) })
 noted _ line leaf = leaf
 
 -- Shapes.
@@ -295,9 +295,9 @@ block_around (FootnoteShape label) blocks = Footnote label blocks
 
 -- What a text of an opening prefix says of its container. The first of each purpose is.
 abbrev pub named : Purpose → List ℕ → Shape → Shape
-named AsDigits text (ItemShape marker digits) = ItemShape marker (first_told digits text)
+named AsDigits text (ItemShape marker digits) = ItemShape marker (first_recorded digits text)
 named AsItemMarker text (ItemShape marker digits) = ItemShape (if marker == 0 then first_byte text else marker) digits
-named AsFootnoteLabel text (FootnoteShape label) = FootnoteShape (first_told label text)
+named AsFootnoteLabel text (FootnoteShape label) = FootnoteShape (first_recorded label text)
 named _ text shape = shape
 
 -- the kind whose marker begins at an index of a text, if one does
@@ -330,17 +330,17 @@ abbrev pub add_block : Block → Reading → Reading
 add_block block r = record r { here = then_block r.here block }
 
 -- a text ends
-abbrev pub told : Purpose → Line → Reading → Reading
-told AsParagraph line r = add_block (Paragraph (trim_each (split_lines line.text))) r
-told AsDigits line r = record r { outer = on_shape (named AsDigits line.text) r.outer }
-told AsItemMarker line r = record r { outer = on_shape (named AsItemMarker line.text) r.outer }
-told AsFootnoteLabel line r = record r { outer = on_shape (named AsFootnoteLabel line.text) r.outer }
-told purpose line r = on_leaf (noted purpose line) r
+abbrev pub recorded : Purpose → Line → Reading → Reading
+recorded AsParagraph line r = add_block (Paragraph (trim_each (split_lines line.text))) r
+recorded AsDigits line r = record r { outer = on_shape (named AsDigits line.text) r.outer }
+recorded AsItemMarker line r = record r { outer = on_shape (named AsItemMarker line.text) r.outer }
+recorded AsFootnoteLabel line r = record r { outer = on_shape (named AsFootnoteLabel line.text) r.outer }
+recorded purpose line r = on_leaf (noted purpose line) r
 
-abbrev pub told_at : List ℕ → Purpose → Point → Option Text → Reading → Reading
-told_at bytes purpose p None r = r
-told_at bytes purpose p (Some text) r =
-    told purpose (record { spaces = text.spaces; text = text_to bytes p.index text }) (record r { text = None })
+abbrev pub recorded_at : List ℕ → Purpose → Point → Option Text → Reading → Reading
+recorded_at bytes purpose p None r = r
+recorded_at bytes purpose p (Some text) r =
+    recorded purpose (record { spaces = text.spaces; text = text_to bytes p.index text }) (record r { text = None })
 
 abbrev pub finished : Option OpenLeaf → Reading → Reading
 finished None r = r
@@ -378,8 +378,8 @@ read_enter bytes IsQuiet p r = r
 abbrev pub read_exit : List ℕ → Role → Point → Reading → Reading
 read_exit bytes (ContainerRole shape) p r = left r.outer r
 read_exit bytes (LeafRole kind) p r = finished r.leaf r
-read_exit bytes (TextRole purpose) p r = told_at bytes purpose p r.text r
-read_exit bytes IsTitle p r = on_leaf behind_title r
+read_exit bytes (TextRole purpose) p r = recorded_at bytes purpose p r.text r
+read_exit bytes IsTitle p r = on_leaf after_title r
 read_exit bytes IsPrefix p r = on_text (after_prefix p) r
 read_exit bytes IsEnding p r = at_ending bytes p r.text r
 read_exit bytes _ p r = r

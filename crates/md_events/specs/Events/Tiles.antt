@@ -18,8 +18,8 @@ use Rattle.md_events.specs.Events.Names.{facts}
 use Rattle.md_events.specs.Events.Prefix.{is_prefix}
 use Rattle.md_events.specs.Events.Places.{first_point, are_placed, same_place}
 use Rattle.md_events.specs.Events.Nested.{Nested, is_exit}
-use Rattle.md_events.specs.Events.Pieces.{pieces_stand}
-use Rattle.md_events.specs.Events.Endings.{endings_stand}
+use Rattle.md_events.specs.Events.Pieces.{are_valid_pieces}
+use Rattle.md_events.specs.Events.Endings.{endings_are_right}
 use Rattle.md_events.specs.Events.Grammar.{keeps_grammar, unread_text}
 use Rattle.md_events.specs.Events.Inline.{Part, Piece, pieces, Covers, Fills, are_lines, is_linked, plain_chunks}
 use Rattle.md_events.specs.Events.Inline.{together}
@@ -35,9 +35,9 @@ abbrev pub part_kind : Name → Option PartKind
 part_kind name = (facts name).part
 
 -- What may be inside a text part beside the enters of its chunks: their exits, container prefixes, and spaces and tabs.
-abbrev pub stands_in_part : Kind → Name → Bool
-stands_in_part Exit n.Data = true
-stands_in_part kind name = is_prefix name
+abbrev pub may_be_in_part : Kind → Name → Bool
+may_be_in_part Exit n.Data = true
+may_be_in_part kind name = is_prefix name
 
 abbrev pub is_data : Name → Bool
 is_data n.Data = true
@@ -101,25 +101,25 @@ of_kind _ _ = false
 abbrev pub links_kind : PartKind → Event → Bool
 links_kind kind e = elim e.link [ None ↦ true | Some link ↦ of_kind kind link.content ]
 
-abbrev pub part_stands : List ℕ → Kind → Option PartKind → Point → List Event → Bool
-part_stands bytes Enter (Some kind) p es =
+abbrev pub is_whole_part : List ℕ → Kind → Option PartKind → Point → List Event → Bool
+is_whole_part bytes Enter (Some kind) p es =
     begins_at p (chunks (pieces (inside_part es))) && list_all (is_white_piece bytes) (pieces (inside_part es))
     && are_lines bytes (part_end es) (chunks (pieces (inside_part es))) && list_all (links_kind kind) (inside_part es)
-part_stands bytes Enter None p es = true
-part_stands bytes Exit kind p es = true
+is_whole_part bytes Enter None p es = true
+is_whole_part bytes Exit kind p es = true
 
 -- Whether each text part is as one chunk a line, from where it begins, and each reaches over the line's ending where
 -- the part continues after it; nothing else is left out of the chunks but spaces, tabs and container prefixes. The
 -- chunks are linked as what the part may hold.
-abbrev pub parts_stand : List ℕ → List Event → Bool
-parts_stand bytes [] = true
-parts_stand bytes (e ∷ es) = part_stands bytes e.kind (part_kind e.name) e.point es && parts_stand bytes es
+abbrev pub are_whole_parts : List ℕ → List Event → Bool
+are_whole_parts bytes [] = true
+are_whole_parts bytes (e ∷ es) = is_whole_part bytes e.kind (part_kind e.name) e.point es && are_whole_parts bytes es
 
 -- how many parts are open after an event
-abbrev pub depth_behind : Kind → ℕ → ℕ
-depth_behind Enter depth = suc depth
-depth_behind Exit zero = zero
-depth_behind Exit (suc depth) = depth
+abbrev pub depth_following : Kind → ℕ → ℕ
+depth_following Enter depth = suc depth
+depth_following Exit zero = zero
+depth_following Exit (suc depth) = depth
 
 -- whether an event begins a chunk, which ends with the next
 abbrev pub is_chunk : Event → List Event → Bool
@@ -128,27 +128,27 @@ is_chunk e (f ∷ es) = not (is_exit e.kind) && is_data e.name && is_exit f.kind
 
 -- Whether chunks are only in text parts, directly inside of them, and nothing else but container prefixes does. The
 -- depth is 0 outside of text parts, and 1 directly inside of one.
-abbrev pub chunks_stand : ℕ → List Event → Bool
-chunks_stand depth [] = true
-chunks_stand zero (e ∷ es) =
-    not (is_linked e) && chunks_stand (if is_part e.name && not (is_exit e.kind) then 1 else 0) es
-chunks_stand (suc depth) (e ∷ es) =
-    if is_part e.name then is_exit e.kind && (depth == 0) && not (is_linked e) && chunks_stand 0 es
-    else (if is_linked e then (depth == 0) && is_chunk e es else stands_in_part e.kind e.name)
-    && chunks_stand (depth_behind e.kind (suc depth)) es
+abbrev pub chunks_in_parts : ℕ → List Event → Bool
+chunks_in_parts depth [] = true
+chunks_in_parts zero (e ∷ es) =
+    not (is_linked e) && chunks_in_parts (if is_part e.name && not (is_exit e.kind) then 1 else 0) es
+chunks_in_parts (suc depth) (e ∷ es) =
+    if is_part e.name then is_exit e.kind && (depth == 0) && not (is_linked e) && chunks_in_parts 0 es
+    else (if is_linked e then (depth == 0) && is_chunk e es else may_be_in_part e.kind e.name)
+    && chunks_in_parts (depth_following e.kind (suc depth)) es
 
 -- A list of events, at points of the text, whose text parts are not read yet.
 pub record IsBlockList (bytes : List ℕ) (events : List Event) : Type 0 where
   pub nested : Nested events
   pub placed : IsTrue (are_placed bytes events)
-  pub lines : IsTrue (parts_stand bytes events)
-  pub chunks : IsTrue (chunks_stand 0 events)
+  pub lines : IsTrue (are_whole_parts bytes events)
+  pub chunks : IsTrue (chunks_in_parts 0 events)
   -- each part is where the grammar has it, with what it must hold
   pub grammar : IsTrue (keeps_grammar unread_text events)
   -- each piece is over what its name says, and no block is a piece
-  pub pieces_are : IsTrue (pieces_stand bytes (pieces events))
+  pub pieces_are : IsTrue (are_valid_pieces bytes (pieces events))
   -- endings of blank lines are distinguished from others
-  pub endings : IsTrue (endings_stand events)
+  pub endings : IsTrue (endings_are_right events)
 
 -- The chunks are read.
 

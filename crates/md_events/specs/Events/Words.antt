@@ -45,13 +45,13 @@ or_else x Never = x
 or_else x y = Or x y
 
 -- what may come after this name
-abbrev pub behind : Name → Expression → Expression
-behind name Never = Never
-behind name Nothing = Never
-behind name (One names) = if list_any (same_name name) names then Nothing else Never
-behind name (Then x y) = or_else (and_then (behind name x) y) (if may_end x then behind name y else Never)
-behind name (Or x y) = or_else (behind name x) (behind name y)
-behind name (Many x) = and_then (behind name x) (Many x)
+abbrev pub following : Name → Expression → Expression
+following name Never = Never
+following name Nothing = Never
+following name (One names) = if list_any (same_name name) names then Nothing else Never
+following name (Then x y) = or_else (and_then (following name x) y) (if may_end x then following name y else Never)
+following name (Or x y) = or_else (following name x) (following name y)
+following name (Many x) = and_then (following name x) (Many x)
 
 -- Words of the grammar.
 
@@ -88,12 +88,12 @@ block =
     ∷ n.GfmTable ∷ [])
 
 -- after a block: two blocks never are on one line
-abbrev pub behind_block : Expression
-behind_block = Many (Then line_break (optional block))
+abbrev pub after_block : Expression
+after_block = Many (Then line_break (optional block))
 
 -- the blocks of a container, with the line endings between them
 abbrev pub blocks : Expression
-blocks = Then (Then prefixes (optional block)) behind_block
+blocks = Then (Then prefixes (optional block)) after_block
 
 -- a text part that is not read yet: its chunks, one a line
 abbrev pub unread_text : Expression

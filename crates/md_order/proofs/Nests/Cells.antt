@@ -8,18 +8,18 @@ use Rattle.md_engine.specs.declared.event.Kind.TheVariants.{Enter, Exit}
 use Rattle.md_engine.specs.declared.event.Name.{Name}
 use Rattle.md_engine.specs.declared.event.Name.TheVariants as n
 use Rattle.md_engine.specs.declared.event.Point.{Point}
-use Rattle.md_events.specs.Events.Nested.{Fits, enter, exit, is_enter, is_exit, open_behind}
+use Rattle.md_events.specs.Events.Nested.{Fits, enter, exit, is_enter, is_exit, open_following}
 use Rattle.md_events.proofs.NestedLemmas.{at_or_before-refl}
 use Rattle.md_tables.specs.Cells.{Step, begins_divider, begins_inner, cell_name, divider_step, ends_divider, ends_inner}
-use Rattle.md_tables.specs.Cells.{ends_with, first_is, front_step, gap_step, goes_on, inner_name, inner_step}
+use Rattle.md_tables.specs.Cells.{ends_with, first_is, front_step, gap_step, is_continued, inner_name, inner_step}
 use Rattle.md_tables.specs.Cells.{inside_step, is_divider, is_inner, is_last, is_white, last_step, passed, piece_step}
 use Rattle.md_tables.specs.Cells.{row_ends, within_step}
 use Rattle.md_tables.specs.TableLines.{row_name}
 use Rattle.md_tables.specs.declared.cells.RowKind.{RowKind}
 use Rattle.md_tables.specs.declared.cells.RowKind.TheVariants.{Delimiter, Text}
 use Rattle.md_tables.specs.declared.cells.Stage.{Stage}
-use Rattle.md_tables.specs.declared.cells.Stage.TheVariants.{Behind, Front, Gap, Inner, Last, Outside, Within}
-use Rattle.md_order.specs.HeadingsNest.{StandsAlone}
+use Rattle.md_tables.specs.declared.cells.Stage.TheVariants.{Following, Front, Gap, Inner, Last, Outside, Within}
+use Rattle.md_order.specs.HeadingsNest.{IsByItself}
 use Rattle.md_order.specs.TablesNest.{is_cell_part}
 use Rattle.md_order.proofs.Nests.Leads.{Before, Leads, alone-begun, alone-ended, leads-append, leads-event, leads-none}
 use Rattle.md_order.proofs.Nests.Leads.{leads-under}
@@ -34,7 +34,7 @@ added (Within k) = cell_name k ∷ []
 added (Inner k) = inner_name k ∷ cell_name k ∷ []
 added Gap = inner_name Text ∷ cell_name Text ∷ []
 added (Last k) = cell_name k ∷ []
-added Behind = []
+added Following = []
 
 -- with what is open of the row itself: in a gap that is a word
 abbrev pub opened : Stage → List Name → List Name
@@ -65,19 +65,19 @@ IsIn k (Within j) names es = j ≡ k
 IsIn k (Inner j) names es = (j ≡ k) × InPart k names es
 IsIn k Gap names es = (k ≡ Text) × ((m : ℕ) × WhiteAhead m es)
 IsIn k (Last j) names es = (j ≡ k) × (first_is ends_divider es ≡ true)
-IsIn k Behind names es = Unit {0}
+IsIn k Following names es = Unit {0}
 
 -- what is known of an event
-pub record Comes (k : RowKind) (names : List Name) (p : Point) (e : Event) : Type 0 where
+pub record Becomes (k : RowKind) (names : List Name) (p : Point) (e : Event) : Type 0 where
   pub fits : Fits names e.kind e.name
   pub on : Before p e.point
-  pub alone : is_cell_part k e.name ≡ true → StandsAlone names e.kind e.name
+  pub alone : is_cell_part k e.name ≡ true → IsByItself names e.kind e.name
 
 -- and is shown of what is given for it
-pub record Goes (k : RowKind) (stage : Stage) (names : List Name) (p : Point) (e : Event) (es : List Event)
+pub record Proceeds (k : RowKind) (stage : Stage) (names : List Name) (p : Point) (e : Event) (es : List Event)
     (s : Step) : Type 0 where
-  pub leads : Leads (opened stage names) (opened s.stage (open_behind names e.kind e.name)) p e.point s.given
-  pub is_in : IsIn k s.stage (open_behind names e.kind e.name) es
+  pub leads : Leads (opened stage names) (opened s.stage (open_following names e.kind e.name)) p e.point s.given
+  pub is_in : IsIn k s.stage (open_following names e.kind e.name) es
 
 -- Which event it is.
 
@@ -137,9 +137,9 @@ exits : (names : List Name) (name : Name) {p : Point} (q : Point) → Before p q
 exits names name {p = p} q on = leads-event (name ∷ names) p (exit name q) refl on
 
 -- the event itself, from a point on, among names that are open around it
-itself : {k : RowKind} {names : List Name} {p : Point} {e : Event} → Comes k names p e → (outer : List Name)
+itself : {k : RowKind} {names : List Name} {p : Point} {e : Event} → Becomes k names p e → (outer : List Name)
     (q : Point) → Before q e.point →
-    Leads (names ++ outer) (open_behind names e.kind e.name ++ outer) q e.point (e ∷ [])
+    Leads (names ++ outer) (open_following names e.kind e.name ++ outer) q e.point (e ∷ [])
 itself {names = names} {e = e} c outer q on = leads-under outer (e ∷ []) (leads-event names q e c.fits on)
 
 -- names of which none is
@@ -154,37 +154,37 @@ stops {outer = outer} {start = start} {p = p} {q = q} xs none h =
     subst (λ (l : List Name). Leads start (l ++ outer) p q xs) (sym none) h
 
 -- the begin of a part that is by itself
-begins-part : {k : RowKind} {names : List Name} {p : Point} {e : Event} → Comes k names p e → Begun k e →
-    (outer : List Name) → Leads outer (open_behind names e.kind e.name ++ outer) e.point e.point (e ∷ [])
+begins-part : {k : RowKind} {names : List Name} {p : Point} {e : Event} → Becomes k names p e → Begun k e →
+    (outer : List Name) → Leads outer (open_following names e.kind e.name ++ outer) e.point e.point (e ∷ [])
 begins-part {names = names} {e = e} c begun outer =
-    subst (λ (l : List Name). Leads (l ++ outer) (open_behind names e.kind e.name ++ outer) e.point e.point (e ∷ []))
+    subst (λ (l : List Name). Leads (l ++ outer) (open_following names e.kind e.name ++ outer) e.point e.point (e ∷ []))
     (alone-begun names e begun.enters (c.alone begun.part)) (itself c outer e.point (at_or_before-refl e.point))
 
 -- and its end
-ends-part : {k : RowKind} {names : List Name} {p : Point} {e : Event} → Comes k names p e → Ended k e →
+ends-part : {k : RowKind} {names : List Name} {p : Point} {e : Event} → Becomes k names p e → Ended k e →
     (outer : List Name) → Leads (names ++ outer) outer p e.point (e ∷ [])
 ends-part {names = names} {p = p} {e = e} c ended outer =
     subst (λ (l : List Name). Leads (names ++ outer) (l ++ outer) p e.point (e ∷ []))
     (alone-ended names e ended.exits (c.alone ended.part)) (itself c outer p c.on)
 
-none-behind : {k : RowKind} {names : List Name} {p : Point} {e : Event} → Comes k names p e → Ended k e →
-    open_behind names e.kind e.name ≡ []
-none-behind {names = names} {e = e} c ended = alone-ended names e ended.exits (c.alone ended.part)
+none-following : {k : RowKind} {names : List Name} {p : Point} {e : Event} → Becomes k names p e → Ended k e →
+    open_following names e.kind e.name ≡ []
+none-following {names = names} {e = e} c ended = alone-ended names e ended.exits (c.alone ended.part)
 
 -- A part begins in what a cell holds.
-holds-begun : {k : RowKind} {names : List Name} {p : Point} {e : Event} → Comes k names p e → Begun k e →
-    is_inner k e.name ≡ true → HoldsPart k (open_behind names e.kind e.name)
+holds-begun : {k : RowKind} {names : List Name} {p : Point} {e : Event} → Becomes k names p e → Begun k e →
+    is_inner k e.name ≡ true → HoldsPart k (open_following names e.kind e.name)
 holds-begun {k = k} {names = names} {e = e} c begun part =
     subst (HoldsPart k)
     (sym
-    (ap (λ (kind : Kind). open_behind names kind e.name) begun.enters
+    (ap (λ (kind : Kind). open_following names kind e.name) begun.enters
     ∙ ap (λ (l : List Name). e.name ∷ l) (alone-begun names e begun.enters (c.alone begun.part)))) part
 
 -- One event, stage by stage.
 
-front-goes : (k : RowKind) (names : List Name) (p : Point) (e : Event) (es : List Event) → Comes k names p e →
-    Goes k (Front k) names p e es (front_step k e)
-front-goes k names p e es c = go (begins_divider e) (begins_inner k e) refl refl
+front-proceeds : (k : RowKind) (names : List Name) (p : Point) (e : Event) (es : List Event) → Becomes k names p e →
+    Proceeds k (Front k) names p e es (front_step k e)
+front-proceeds k names p e es c = go (begins_divider e) (begins_inner k e) refl refl
   where
     cell : Event
     cell = enter (cell_name k) e.point
@@ -196,7 +196,7 @@ front-goes k names p e es c = go (begins_divider e) (begins_inner k e) refl refl
     here = at_or_before-refl e.point
 
     go : (x y : Bool) → begins_divider e ≡ x → begins_inner k e ≡ y →
-        Goes k (Front k) names p e es
+        Proceeds k (Front k) names p e es
         (cond x (record { given = cell ∷ e ∷ []; stage = Within k })
         (cond y (record { given = cell ∷ inner ∷ e ∷ []; stage = Inner k }) (passed e (Front k))))
     go true y is part =
@@ -224,9 +224,9 @@ last-ends : (es : List Event) → is_last es ≡ true → first_is ends_divider 
 last-ends [] h = absurd (let no : false ≡ true = h in cc)
 last-ends (e ∷ es) h = (and_parts (ends_divider e) (row_ends es) h).0
 
-within-goes : (k : RowKind) (names : List Name) (p : Point) (e : Event) (es : List Event) → Comes k names p e →
-    Goes k (Within k) names p e es (within_step k e es)
-within-goes k names p e es c = go (begins_divider e) (begins_inner k e) (is_last es) refl refl refl
+within-proceeds : (k : RowKind) (names : List Name) (p : Point) (e : Event) (es : List Event) → Becomes k names p e →
+    Proceeds k (Within k) names p e es (within_step k e es)
+within-proceeds k names p e es c = go (begins_divider e) (begins_inner k e) (is_last es) refl refl refl
   where
     cell : List Name
     cell = cell_name k ∷ []
@@ -238,7 +238,7 @@ within-goes k names p e es c = go (begins_divider e) (begins_inner k e) (is_last
     inner = enter (inner_name k) e.point
 
     go : (x y z : Bool) → begins_divider e ≡ x → begins_inner k e ≡ y → is_last es ≡ z →
-        Goes k (Within k) names p e es
+        Proceeds k (Within k) names p e es
         (cond x (divider_step k e z)
         (cond y (record { given = inner ∷ e ∷ []; stage = Inner k }) (passed e (Within k))))
     go true y true is part last = record { leads = itself c cell p c.on; is_in = (refl, last-ends es last) }
@@ -266,15 +266,15 @@ within-goes k names p e es c = go (begins_divider e) (begins_inner k e) (is_last
 
 -- At the end of a part of what a cell holds.
 
-piece-ends : (k : RowKind) (names : List Name) (p : Point) (e : Event) (es : List Event) → Comes k names p e →
+piece-ends : (k : RowKind) (names : List Name) (p : Point) (e : Event) (es : List Event) → Becomes k names p e →
     Ended k e →
-    Goes k (Inner k) names p e es (record { given = e ∷ exit (inner_name k) e.point ∷ []; stage = Within k })
+    Proceeds k (Inner k) names p e es (record { given = e ∷ exit (inner_name k) e.point ∷ []; stage = Within k })
 piece-ends k names p e es c ended =
     let cell : List Name = cell_name k ∷ [] in
     let end : Event = exit (inner_name k) e.point in
     record {
       leads =
-          stops (e ∷ end ∷ []) (none-behind c ended)
+          stops (e ∷ end ∷ []) (none-following c ended)
           (leads-append (e ∷ []) (end ∷ []) (ends-part c ended (inner_name k ∷ cell))
           (exits cell (inner_name k) e.point (at_or_before-refl e.point)));
       is_in = refl;
@@ -282,17 +282,17 @@ piece-ends k names p e es c ended =
 
 -- what ends was open alone
 one-open : (names : List Name) (e : Event) → e.kind ≡ Exit → Fits names e.kind e.name →
-    open_behind names e.kind e.name ≡ [] → names ≡ e.name ∷ []
+    open_following names e.kind e.name ≡ [] → names ≡ e.name ∷ []
 one-open names e exited fits none = go names e.kind exited fits none
   where
     go : (names : List Name) (kind : Kind) → kind ≡ Exit → Fits names kind e.name →
-        open_behind names kind e.name ≡ [] → names ≡ e.name ∷ []
+        open_following names kind e.name ≡ [] → names ≡ e.name ∷ []
     go names Enter h fits none = absurd (let no : Enter ≡ Exit = h in cc)
     go [] Exit h fits none = absurd fits
     go (name ∷ names) Exit h fits none =
         ap (λ (m : Name). m ∷ names) fits ∙ ap (λ (l : List Name). e.name ∷ l) none
 
-white-ahead : (es : List Event) → goes_on Text es ≡ true → WhiteAhead (suc (suc zero)) es
+white-ahead : (es : List Event) → is_continued Text es ≡ true → WhiteAhead (suc (suc zero)) es
 white-ahead [] h = absurd (let no : false ≡ true = h in cc)
 white-ahead (a ∷ []) h = absurd (let no : false ≡ true = h in cc)
 white-ahead (a ∷ b ∷ es) h =
@@ -300,12 +300,12 @@ white-ahead (a ∷ b ∷ es) h =
     let whites = and_parts (is_white a.name) (is_white b.name) parts.0 in
     (whites.0, (whites.1, parts.1))
 
-piece-goes : (k : RowKind) (names : List Name) (p : Point) (e : Event) (es : List Event) → Comes k names p e →
-    ends_inner k e ≡ true → (x : Bool) → goes_on k es ≡ x → Goes k (Inner k) names p e es (piece_step k e x)
-piece-goes Text names p e es c ends true on =
+piece-proceeds : (k : RowKind) (names : List Name) (p : Point) (e : Event) (es : List Event) → Becomes k names p e →
+    ends_inner k e ≡ true → (x : Bool) → is_continued k es ≡ x → Proceeds k (Inner k) names p e es (piece_step k e x)
+piece-proceeds Text names p e es c ends true on =
     let ended = inner-ended Text e ends in
     let word : names ≡ n.Data ∷ [] =
-    one-open names e ended.exits c.fits (none-behind c ended)
+    one-open names e ended.exits c.fits (none-following c ended)
     ∙ ap (λ (m : Name). m ∷ []) (word-name e.name (and_parts (is_exit e.kind) (is_inner Text e.name) ends).1) in
     record {
       leads =
@@ -313,45 +313,46 @@ piece-goes Text names p e es c ends true on =
           (leads-none (opened Gap []) p e.point c.on);
       is_in = (refl, (suc (suc zero), white-ahead es on));
     }
-piece-goes Delimiter names p e es c ends true on =
+piece-proceeds Delimiter names p e es c ends true on =
     record {
       leads = itself c (added (Inner Delimiter)) p c.on;
-      is_in = (refl, inr (none-behind c (inner-ended Delimiter e ends), on));
+      is_in = (refl, inr (none-following c (inner-ended Delimiter e ends), on));
     }
-piece-goes Text names p e es c ends false on = piece-ends Text names p e es c (inner-ended Text e ends)
-piece-goes Delimiter names p e es c ends false on = piece-ends Delimiter names p e es c (inner-ended Delimiter e ends)
+piece-proceeds Text names p e es c ends false on = piece-ends Text names p e es c (inner-ended Text e ends)
+piece-proceeds Delimiter names p e es c ends false on = piece-ends Delimiter names p e es c
+    (inner-ended Delimiter e ends)
 
 -- in it the part that is open stays so
 holds-on : (k : RowKind) (names : List Name) (e : Event) → Fits names e.kind e.name → ends_inner k e ≡ false →
-    HoldsPart k names → HoldsPart k (open_behind names e.kind e.name)
+    HoldsPart k names → HoldsPart k (open_following names e.kind e.name)
 holds-on k names e fits inside holds = go names e.kind fits inside holds
   where
     go : (names : List Name) (kind : Kind) → Fits names kind e.name → (is_exit kind && is_inner k e.name) ≡ false →
-        HoldsPart k names → HoldsPart k (open_behind names kind e.name)
+        HoldsPart k names → HoldsPart k (open_following names kind e.name)
     go [] kind fits inside holds = absurd holds
     go (name ∷ names) Enter fits inside holds = holds
     go (name ∷ []) Exit fits inside holds =
         absurd (let no : true ≡ false = sym holds ∙ ap (is_inner k) fits ∙ inside in cc)
     go (name ∷ outer ∷ names) Exit fits inside holds = holds
 
-inner-goes : (k : RowKind) (names : List Name) (p : Point) (e : Event) (es : List Event) → Comes k names p e →
-    InPart k names (e ∷ es) → Goes k (Inner k) names p e es (inner_step k e es)
-inner-goes k names p e es c part = go (ends_inner k e) refl
+inner-proceeds : (k : RowKind) (names : List Name) (p : Point) (e : Event) (es : List Event) → Becomes k names p e →
+    InPart k names (e ∷ es) → Proceeds k (Inner k) names p e es (inner_step k e es)
+inner-proceeds k names p e es c part = go (ends_inner k e) refl
   where
-    on : ends_inner k e ≡ false → InPart k names (e ∷ es) → HoldsPart k (open_behind names e.kind e.name)
+    on : ends_inner k e ≡ false → InPart k names (e ∷ es) → HoldsPart k (open_following names e.kind e.name)
     on inside (inl holds) = holds-on k names e c.fits inside holds
     on inside (inr begins) =
         holds-begun c (inner-begun k e begins.1) (and_parts (is_enter e.kind) (is_inner k e.name) begins.1).1
 
     go : (x : Bool) → ends_inner k e ≡ x →
-        Goes k (Inner k) names p e es (cond x (piece_step k e (goes_on k es)) (passed e (Inner k)))
-    go true is = piece-goes k names p e es c is (goes_on k es) refl
+        Proceeds k (Inner k) names p e es (cond x (piece_step k e (is_continued k es)) (passed e (Inner k)))
+    go true is = piece-proceeds k names p e es c is (is_continued k es) refl
     go false is = record { leads = itself c (added (Inner k)) p c.on; is_in = (refl, inl (on is part)) }
 
 -- Between two words.
-gap-goes : (names : List Name) (p : Point) (e : Event) (es : List Event) → Comes Text names p e → (m : ℕ) →
-    WhiteAhead m (e ∷ es) → Goes Text Gap names p e es (gap_step e)
-gap-goes names p e es c zero begins = go (begins_inner Text e) begins
+gap-proceeds : (names : List Name) (p : Point) (e : Event) (es : List Event) → Becomes Text names p e → (m : ℕ) →
+    WhiteAhead m (e ∷ es) → Proceeds Text Gap names p e es (gap_step e)
+gap-proceeds names p e es c zero begins = go (begins_inner Text e) begins
   where
     begun : Begun Text e
     begun = inner-begun Text e begins
@@ -359,13 +360,13 @@ gap-goes names p e es c zero begins = go (begins_inner Text e) begins
     part : is_inner Text e.name ≡ true
     part = (and_parts (is_enter e.kind) (is_inner Text e.name) begins).1
 
-    word : open_behind names e.kind e.name ≡ n.Data ∷ []
+    word : open_following names e.kind e.name ≡ n.Data ∷ []
     word =
-        ap (λ (kind : Kind). open_behind names kind e.name) begun.enters
+        ap (λ (kind : Kind). open_following names kind e.name) begun.enters
         ∙ ap (λ (l : List Name). e.name ∷ l) (alone-begun names e begun.enters (c.alone begun.part))
         ∙ ap (λ (m : Name). m ∷ []) (word-name e.name part)
 
-    go : (x : Bool) → x ≡ true → Goes Text Gap names p e es (record { given = []; stage = cond x (Inner Text) Gap })
+    go : (x : Bool) → x ≡ true → Proceeds Text Gap names p e es (record { given = []; stage = cond x (Inner Text) Gap })
     go true is = record {
       leads =
           subst (λ (l : List Name). Leads (opened Gap []) (l ++ added (Inner Text)) p e.point []) (sym word)
@@ -373,29 +374,30 @@ gap-goes names p e es c zero begins = go (begins_inner Text e) begins
       is_in = (refl, inl (holds-begun c begun part));
     }
     go false is = absurd (let no : false ≡ true = is in cc)
-gap-goes names p e es c (suc m) white =
+gap-proceeds names p e es c (suc m) white =
     go (begins_inner Text e) (and_right (is_enter e.kind) (is_inner Text e.name) (white-word e.name white.0))
   where
-    go : (x : Bool) → x ≡ false → Goes Text Gap names p e es (record { given = []; stage = cond x (Inner Text) Gap })
+    go : (x : Bool) → x ≡ false → Proceeds Text Gap names p e es
+        (record { given = []; stage = cond x (Inner Text) Gap })
     go true is = absurd (let no : true ≡ false = is in cc)
     go false is = record { leads = leads-none (opened Gap []) p e.point c.on; is_in = (refl, (m, white.1)) }
 
 -- In the last pipe.
-last-goes : (k : RowKind) (names : List Name) (p : Point) (e : Event) (es : List Event) → Comes k names p e →
-    ends_divider e ≡ true → Goes k (Last k) names p e es (last_step k e)
-last-goes k names p e es c ends = go (ends_divider e) ends
+last-proceeds : (k : RowKind) (names : List Name) (p : Point) (e : Event) (es : List Event) → Becomes k names p e →
+    ends_divider e ≡ true → Proceeds k (Last k) names p e es (last_step k e)
+last-proceeds k names p e es c ends = go (ends_divider e) ends
   where
     end : Event
     end = exit (cell_name k) e.point
 
     go : (x : Bool) → x ≡ true →
-        Goes k (Last k) names p e es
-        (cond x (record { given = e ∷ end ∷ []; stage = Behind }) (passed e (Last k)))
+        Proceeds k (Last k) names p e es
+        (cond x (record { given = e ∷ end ∷ []; stage = Following }) (passed e (Last k)))
     go true is =
         let ended = divider-ended k e ends in
         record {
           leads =
-              stops (e ∷ end ∷ []) (none-behind c ended)
+              stops (e ∷ end ∷ []) (none-following c ended)
               (leads-append (e ∷ []) (end ∷ []) (ends-part c ended (cell_name k ∷ []))
               (exits [] (cell_name k) e.point (at_or_before-refl e.point)));
           is_in = tt;
@@ -403,22 +405,25 @@ last-goes k names p e es c ends = go (ends_divider e) ends
     go false is = absurd (let no : false ≡ true = is in cc)
 
 -- Any stage.
-pub cell-goes : (k : RowKind) (stage : Stage) (names : List Name) (p : Point) (e : Event) (es : List Event) →
-    Comes k names p e → IsIn k stage names (e ∷ es) → Goes k stage names p e es (inside_step stage e es)
-cell-goes k Outside names p e es c h = absurd h
-cell-goes k (Front j) names p e es c h =
-    subst (λ (i : RowKind). Goes k (Front i) names p e es (front_step i e)) (sym h) (front-goes k names p e es c)
-cell-goes k (Within j) names p e es c h =
-    subst (λ (i : RowKind). Goes k (Within i) names p e es (within_step i e es)) (sym h) (within-goes k names p e es c)
-cell-goes k (Inner j) names p e es c h =
-    subst (λ (i : RowKind). Goes k (Inner i) names p e es (inner_step i e es)) (sym h.0)
-    (inner-goes k names p e es c h.1)
-cell-goes k Gap names p e es c h =
-    subst (λ (i : RowKind). Comes i names p e → Goes i Gap names p e es (gap_step e)) (sym h.0)
-    (λ d. gap-goes names p e es d h.1.0 h.1.1) c
-cell-goes k (Last j) names p e es c h =
-    subst (λ (i : RowKind). Goes k (Last i) names p e es (last_step i e)) (sym h.0) (last-goes k names p e es c h.1)
-cell-goes k Behind names p e es c h = record { leads = itself c [] p c.on; is_in = tt }
+pub cell-proceeds : (k : RowKind) (stage : Stage) (names : List Name) (p : Point) (e : Event) (es : List Event) →
+    Becomes k names p e → IsIn k stage names (e ∷ es) → Proceeds k stage names p e es (inside_step stage e es)
+cell-proceeds k Outside names p e es c h = absurd h
+cell-proceeds k (Front j) names p e es c h =
+    subst (λ (i : RowKind). Proceeds k (Front i) names p e es (front_step i e)) (sym h)
+    (front-proceeds k names p e es c)
+cell-proceeds k (Within j) names p e es c h =
+    subst (λ (i : RowKind). Proceeds k (Within i) names p e es (within_step i e es)) (sym h)
+    (within-proceeds k names p e es c)
+cell-proceeds k (Inner j) names p e es c h =
+    subst (λ (i : RowKind). Proceeds k (Inner i) names p e es (inner_step i e es)) (sym h.0)
+    (inner-proceeds k names p e es c h.1)
+cell-proceeds k Gap names p e es c h =
+    subst (λ (i : RowKind). Becomes i names p e → Proceeds i Gap names p e es (gap_step e)) (sym h.0)
+    (λ d. gap-proceeds names p e es d h.1.0 h.1.1) c
+cell-proceeds k (Last j) names p e es c h =
+    subst (λ (i : RowKind). Proceeds k (Last i) names p e es (last_step i e)) (sym h.0)
+    (last-proceeds k names p e es c h.1)
+cell-proceeds k Following names p e es c h = record { leads = itself c [] p c.on; is_in = tt }
 
 -- At the end of a row nothing is open in it.
 
@@ -465,4 +470,4 @@ row-ends k Gap outer p e es ends named h on = go h.1.0 h.1.1
 row-ends k (Last j) outer p e es ends named h on =
     let ended : is_divider e.name ≡ true = (and_parts (is_exit e.kind) (is_divider e.name) h.1).1 in
     absurd (let no : false ≡ true = sym (row-divider k) ∙ ap is_divider named ∙ ended in cc)
-row-ends k Behind outer p e es ends named h on = row-itself k outer p e ends named on
+row-ends k Following outer p e es ends named h on = row-itself k outer p e ends named on

@@ -10,12 +10,12 @@ use Rattle.md_engine.specs.declared.event.Point.{Point}
 use Rattle.md_leaves.specs.HeadingText.{Opened, Outside, Place, Within, begins, ends, headings_resolved, is_heading}
 use Rattle.md_leaves.specs.HeadingText.{is_run, is_sequence, resolved, text_between}
 use Rattle.md_leaves.specs.HeadingText as text
-use Rattle.md_events.specs.Events.Nested.{Fits, Nested, around, is_enter, is_exit, open_behind, pair}
+use Rattle.md_events.specs.Events.Nested.{Fits, Nested, around, is_enter, is_exit, open_following, pair}
 use Rattle.md_events.specs.Events.Places.{first_point}
 use Rattle.md_events.specs.Events.Tiles.{is_data}
 use Rattle.md_events.proofs.NestedLemmas.{at_or_before-refl, at_or_before-trans}
-use Rattle.md_order.specs.HeadingsNest.{HeadingsNest, RunsStand}
-use Rattle.md_order.proofs.Nests.Leads.{Before, Leads, Under, alone-begun, alone-ended, behind-under, fits-inside}
+use Rattle.md_order.specs.HeadingsNest.{HeadingsNest, RunsAllowed}
+use Rattle.md_order.proofs.Nests.Leads.{Before, Leads, Under, alone-begun, alone-ended, following-under, fits-inside}
 use Rattle.md_order.proofs.Nests.Leads.{leads-append, leads-event, leads-from, leads-none, leads-order, leads-under}
 use Rattle.md_order.proofs.Nests.Leads.{nested-under, under-event, under-from, under-leads, under-nested, under-rest}
 
@@ -111,7 +111,7 @@ held-leads {first = first} {after = after} {closing = closing} {since = since} h
 -- What is held with one event more.
 held-more : {first : Point} {after last : Option Point} {closing since : List Event} {names : List Name}
     {p : Point} (e : Event) → Held first after last closing since names p → Fits names e.kind e.name →
-    Before p e.point → Held first after last closing (since ++ e ∷ []) (open_behind names e.kind e.name) e.point
+    Before p e.point → Held first after last closing (since ++ e ∷ []) (open_following names e.kind e.name) e.point
 held-more {since = since} {names = names} {p = p} e h fits on = record {
   text = h.text;
   runs = h.runs;
@@ -136,7 +136,7 @@ held-text {first = first} {last = last} {since = since} {p = p} q h on =
 -- at the end of a run of `#`
 held-sequence : {first : Point} {after last : Option Point} {closing since : List Event} {names : List Name}
     {p : Point} (e : Event) → Held first after last closing since names p → Fits names e.kind e.name →
-    Before p e.point → open_behind names e.kind e.name ≡ [] →
+    Before p e.point → open_following names e.kind e.name ≡ [] →
     Held first last (Some e.point) (since ++ e ∷ []) [] [] e.point
 held-sequence {first = first} {last = last} {since = since} {names = names} {p = p} e h fits on none =
     let closing : Leads [] [] (or_at first last) e.point (since ++ e ∷ []) =
@@ -152,9 +152,9 @@ held-sequence {first = first} {last = last} {since = since} {names = names} {p =
 -- Where the walk is: what was given ends at a point `q`, and what it has read at a point `p`, where these names are
 -- open in the heading.
 
-abbrev Stands : Place → Point → List Name → Point → Type 0
-Stands (Within first after last closing since) q names p = Before q first × Held first after last closing since names p
-Stands _ q names p = Before q p
+abbrev Valid : Place → Point → List Name → Point → Type 0
+Valid (Within first after last closing since) q names p = Before q first × Held first after last closing since names p
+Valid _ q names p = Before q p
 
 -- what is asked of the rest
 abbrev asked : Place → List Name → Option (List Name)
@@ -181,26 +181,26 @@ held-under {first = first} {after = after} {closing = closing} {since = since} o
     under-leads xs es (leads-under (n.HeadingAtx ∷ outer) xs (leads-from q xs on (held-leads h))) rest
 
 -- The names that are open after an event, and those that are in the heading.
-behind-inside : (names outer : List Name) (p : Point) (e : Event) (es : List Event) → ends is_heading e ≡ false →
+following-inside : (names outer : List Name) (p : Point) (e : Event) (es : List Event) → ends is_heading e ≡ false →
     Under (names ++ n.HeadingAtx ∷ outer) p (e ∷ es) →
-    Under (open_behind names e.kind e.name ++ n.HeadingAtx ∷ outer) e.point es
-behind-inside names outer p e es inside h =
+    Under (open_following names e.kind e.name ++ n.HeadingAtx ∷ outer) e.point es
+following-inside names outer p e es inside h =
     subst (λ (l : List Name). Under l e.point es)
-    (behind-under names (n.HeadingAtx ∷ outer) e (inside-fits names outer e inside h.matches.0)) (under-rest e es h)
+    (following-under names (n.HeadingAtx ∷ outer) e (inside-fits names outer e inside h.matches.0)) (under-rest e es h)
 
 -- What is shown of a walk over some events, wherever it is.
-abbrev Goes : List Event → List Name → Point → Place → List Name → Point → Type 0
-Goes es outer q place names p =
-    Stands place q names p → RunsStand (asked place names) es → Under (open_read place names outer) p es →
+abbrev Proceeds : List Event → List Name → Point → Place → List Name → Point → Type 0
+Proceeds es outer q place names p =
+    Valid place q names p → RunsAllowed (asked place names) es → Under (open_read place names outer) p es →
     Under (open_given place names outer) q (resolved place es)
 
-abbrev GoesOn : List Event → Type 0
-GoesOn es = (outer : List Name) (q : Point) (place : Place) (names : List Name) (p : Point) →
-    Goes es outer q place names p
+abbrev IsContinued : List Event → Type 0
+IsContinued es = (outer : List Name) (q : Point) (place : Place) (names : List Name) (p : Point) →
+    Proceeds es outer q place names p
 
 -- One event, outside of headings.
-outside-step : (e : Event) (es : List Event) → GoesOn es → (outer : List Name) (q : Point) (names : List Name)
-    (p : Point) → Goes (e ∷ es) outer q Outside names p
+outside-step : (e : Event) (es : List Event) → IsContinued es → (outer : List Name) (q : Point) (names : List Name)
+    (p : Point) → Proceeds (e ∷ es) outer q Outside names p
 outside-step e es more outer q names p at runs h =
     under-event e (resolved (cond (begins is_heading e) text.Before Outside) es) h.matches.0
     (at_or_before-trans q p e.point at h.forward.0) (go (begins is_heading e) refl runs)
@@ -208,31 +208,32 @@ outside-step e es more outer q names p at runs h =
     here : Before e.point e.point
     here = at_or_before-refl e.point
 
-    behind : List Name
-    behind = open_behind outer e.kind e.name
+    following : List Name
+    following = open_following outer e.kind e.name
 
-    heading : begins is_heading e ≡ true → behind ≡ n.HeadingAtx ∷ outer
+    heading : begins is_heading e ≡ true → following ≡ n.HeadingAtx ∷ outer
     heading is =
         let begun = heading-begun e is in
-        ap (λ (k : Kind). open_behind outer k e.name) begun.enters ∙ ap (λ (m : Name). m ∷ outer) begun.named
+        ap (λ (k : Kind). open_following outer k e.name) begun.enters ∙ ap (λ (m : Name). m ∷ outer) begun.named
 
-    go : (x : Bool) → begins is_heading e ≡ x → RunsStand (cond x (Some []) None) es →
-        Under behind e.point (resolved (cond x text.Before Outside) es)
+    go : (x : Bool) → begins is_heading e ≡ x → RunsAllowed (cond x (Some []) None) es →
+        Under following e.point (resolved (cond x text.Before Outside) es)
     go true is asks =
         subst (λ (l : List Name). Under l e.point (resolved text.Before es)) (sym (heading is))
         (more outer e.point text.Before [] e.point here asks
         (subst (λ (l : List Name). Under l e.point es) (heading is) (under-rest e es h)))
-    go false is asks = more behind e.point Outside [] e.point here asks (under-rest e es h)
+    go false is asks = more following e.point Outside [] e.point here asks (under-rest e es h)
 
 -- In a heading: what is open after an event that does not end it.
 inside-open : (names outer : List Name) (e : Event) → ends is_heading e ≡ false →
     Fits (names ++ n.HeadingAtx ∷ outer) e.kind e.name →
-    open_behind names e.kind e.name ++ n.HeadingAtx ∷ outer ≡ open_behind (names ++ n.HeadingAtx ∷ outer) e.kind e.name
+    open_following names e.kind e.name ++ n.HeadingAtx ∷ outer ≡
+    open_following (names ++ n.HeadingAtx ∷ outer) e.kind e.name
 inside-open names outer e inside fits =
-    sym (behind-under names (n.HeadingAtx ∷ outer) e (inside-fits names outer e inside fits))
+    sym (following-under names (n.HeadingAtx ∷ outer) e (inside-fits names outer e inside fits))
 
-before-step : (e : Event) (es : List Event) → GoesOn es → (outer : List Name) (q : Point) (names : List Name)
-    (p : Point) → Goes (e ∷ es) outer q text.Before names p
+before-step : (e : Event) (es : List Event) → IsContinued es → (outer : List Name) (q : Point) (names : List Name)
+    (p : Point) → Proceeds (e ∷ es) outer q text.Before names p
 before-step e es more outer q names p at runs h =
     under-event e (resolved (cond (ends is_sequence e) Opened (cond (ends is_heading e) Outside text.Before)) es)
     h.matches.0 (at_or_before-trans q p e.point at h.forward.0)
@@ -241,25 +242,25 @@ before-step e es more outer q names p at runs h =
     here : Before e.point e.point
     here = at_or_before-refl e.point
 
-    behind : List Name
-    behind = open_behind names e.kind e.name
+    following : List Name
+    following = open_following names e.kind e.name
 
     full : List Name
-    full = open_behind (names ++ n.HeadingAtx ∷ outer) e.kind e.name
+    full = open_following (names ++ n.HeadingAtx ∷ outer) e.kind e.name
 
-    same : ends is_heading e ≡ false → behind ++ n.HeadingAtx ∷ outer ≡ full
+    same : ends is_heading e ≡ false → following ++ n.HeadingAtx ∷ outer ≡ full
     same is = inside-open names outer e is h.matches.0
 
-    go : (x y : Bool) → ends is_sequence e ≡ x → ends is_heading e ≡ y → RunsStand (cond y None (Some behind)) es →
+    go : (x y : Bool) → ends is_sequence e ≡ x → ends is_heading e ≡ y → RunsAllowed (cond y None (Some following)) es →
         Under full e.point (resolved (cond x Opened (cond y Outside text.Before)) es)
     go true true run is asks = absurd (let no : true ≡ false = sym is ∙ (sequence-ended e run).inside in cc)
     go true false run is asks =
         subst (λ (l : List Name). Under l e.point (resolved Opened es)) (same is)
-        (more outer e.point Opened behind e.point here asks (behind-inside names outer p e es is h))
+        (more outer e.point Opened following e.point here asks (following-inside names outer p e es is h))
     go false true run is asks = more full e.point Outside [] e.point here asks (under-rest e es h)
     go false false run is asks =
         subst (λ (l : List Name). Under l e.point (resolved text.Before es)) (same is)
-        (more outer e.point text.Before behind e.point here asks (behind-inside names outer p e es is h))
+        (more outer e.point text.Before following e.point here asks (following-inside names outer p e es is h))
 
 -- what is held from the begin of a run on
 begun-held : (e : Event) → e.kind ≡ Enter → Held e.point None None [] (e ∷ []) (e.name ∷ []) e.point
@@ -271,12 +272,12 @@ begun-held e enters =
       closing_leads = leads-none [] e.point e.point here;
       since_leads =
           subst (λ (l : List Name). Leads [] l e.point e.point (e ∷ []))
-          (ap (λ (k : Kind). open_behind [] k e.name) enters)
+          (ap (λ (k : Kind). open_following [] k e.name) enters)
           (leads-event [] e.point e (subst (λ (k : Kind). Fits [] k e.name) (sym enters) tt) here);
     }
 
-opened-step : (e : Event) (es : List Event) → GoesOn es → (outer : List Name) (q : Point) (names : List Name)
-    (p : Point) → Goes (e ∷ es) outer q Opened names p
+opened-step : (e : Event) (es : List Event) → IsContinued es → (outer : List Name) (q : Point) (names : List Name)
+    (p : Point) → Proceeds (e ∷ es) outer q Opened names p
 opened-step e es more outer q names p at runs h =
     go (begins is_run e) (ends is_heading e) refl refl runs.1
   where
@@ -289,41 +290,41 @@ opened-step e es more outer q names p at runs h =
     inner : Place
     inner = Within e.point None None [] (e ∷ [])
 
-    behind : List Name
-    behind = open_behind names e.kind e.name
+    following : List Name
+    following = open_following names e.kind e.name
 
     alone : e.kind ≡ Enter → is_run e.name ≡ true → names ≡ []
     alone enters run = alone-begun names e enters (runs.0 run)
 
-    opened : e.kind ≡ Enter → is_run e.name ≡ true → behind ≡ e.name ∷ []
+    opened : e.kind ≡ Enter → is_run e.name ≡ true → following ≡ e.name ∷ []
     opened enters run =
-        ap (λ (k : Kind). open_behind names k e.name) enters ∙ ap (λ (l : List Name). e.name ∷ l) (alone enters run)
+        ap (λ (k : Kind). open_following names k e.name) enters ∙ ap (λ (l : List Name). e.name ∷ l) (alone enters run)
 
-    go : (x y : Bool) → begins is_run e ≡ x → ends is_heading e ≡ y → RunsStand (cond y None (Some behind)) es →
+    go : (x y : Bool) → begins is_run e ≡ x → ends is_heading e ≡ y → RunsAllowed (cond y None (Some following)) es →
         Under (names ++ n.HeadingAtx ∷ outer) q
         (cond x (resolved inner es) (e ∷ resolved (cond y Outside Opened) es))
     go true true is end asks = absurd (let no : true ≡ false = sym end ∙ (run-begun e is).2 in cc)
     go true false is end asks =
         let begun = run-begun e is in
-        let whole : behind ≡ e.name ∷ [] = opened begun.0 begun.1 in
+        let whole : following ≡ e.name ∷ [] = opened begun.0 begun.1 in
         subst (λ (l : List Name). Under (l ++ n.HeadingAtx ∷ outer) q (resolved inner es))
         (sym (alone begun.0 begun.1))
         (more outer q inner (e.name ∷ []) e.point (on, begun-held e begun.0)
-        (subst (λ (l : List Name). RunsStand (Some l) es) whole asks)
+        (subst (λ (l : List Name). RunsAllowed (Some l) es) whole asks)
         (subst (λ (l : List Name). Under (l ++ n.HeadingAtx ∷ outer) e.point es) whole
-        (behind-inside names outer p e es end h)))
+        (following-inside names outer p e es end h)))
     go false true is end asks =
-        let full = open_behind (names ++ n.HeadingAtx ∷ outer) e.kind e.name in
+        let full = open_following (names ++ n.HeadingAtx ∷ outer) e.kind e.name in
         under-event e (resolved Outside es) h.matches.0 on
         (more full e.point Outside [] e.point here asks (under-rest e es h))
     go false false is end asks =
         under-event e (resolved Opened es) h.matches.0 on
         (subst (λ (l : List Name). Under l e.point (resolved Opened es)) (inside-open names outer e end h.matches.0)
-        (more outer e.point Opened behind e.point here asks (behind-inside names outer p e es end h)))
+        (more outer e.point Opened following e.point here asks (following-inside names outer p e es end h)))
 
-within-step : (e : Event) (es : List Event) → GoesOn es → (outer : List Name) (q : Point) (first : Point)
+within-step : (e : Event) (es : List Event) → IsContinued es → (outer : List Name) (q : Point) (first : Point)
     (after last : Option Point) (closing since : List Event) (names : List Name) (p : Point) →
-    Goes (e ∷ es) outer q (Within first after last closing since) names p
+    Proceeds (e ∷ es) outer q (Within first after last closing since) names p
 within-step e es more outer q first after last closing since names p at runs h =
     go (ends is_data e) (ends is_sequence e) (ends is_heading e) refl refl refl runs.1
   where
@@ -342,29 +343,29 @@ within-step e es more outer q first after last closing since names p at runs h =
     held : List Event
     held = text_between first after ++ closing ++ since
 
-    behind : List Name
-    behind = open_behind names e.kind e.name
+    following : List Name
+    following = open_following names e.kind e.name
 
     fits : ends is_heading e ≡ false → Fits names e.kind e.name
     fits inside = inside-fits names outer e inside h.matches.0
 
-    alone : Ended e → behind ≡ []
+    alone : Ended e → following ≡ []
     alone ended = alone-ended names e ended.exits (runs.0 ended.run)
 
-    rest : ends is_heading e ≡ false → Under (behind ++ n.HeadingAtx ∷ outer) e.point es
-    rest inside = behind-inside names outer p e es inside h
+    rest : ends is_heading e ≡ false → Under (following ++ n.HeadingAtx ∷ outer) e.point es
+    rest inside = following-inside names outer p e es inside h
 
     cleared : Ended e → Under (n.HeadingAtx ∷ outer) e.point es
     cleared ended =
         subst (λ (l : List Name). Under (l ++ n.HeadingAtx ∷ outer) e.point es) (alone ended) (rest ended.inside)
 
-    asks_none : (z : Bool) → ends is_heading e ≡ z → Ended e → RunsStand (cond z None (Some behind)) es →
-        RunsStand (Some []) es
+    asks_none : (z : Bool) → ends is_heading e ≡ z → Ended e → RunsAllowed (cond z None (Some following)) es →
+        RunsAllowed (Some []) es
     asks_none true is ended k = absurd (let no : true ≡ false = sym is ∙ ended.inside in cc)
-    asks_none false is ended k = subst (λ (l : List Name). RunsStand (Some l) es) (alone ended) k
+    asks_none false is ended k = subst (λ (l : List Name). RunsAllowed (Some l) es) (alone ended) k
 
     go : (x y z : Bool) → ends is_data e ≡ x → ends is_sequence e ≡ y → ends is_heading e ≡ z →
-        RunsStand (cond z None (Some behind)) es →
+        RunsAllowed (cond z None (Some following)) es →
         Under (n.HeadingAtx ∷ outer) q
         (cond x (resolved text_place es)
         (cond y (resolved run_place es) (cond z (held ++ e ∷ resolved Outside es) (resolved other_place es))))
@@ -377,14 +378,14 @@ within-step e es more outer q first after last closing since names p at runs h =
         more outer q run_place [] e.point (at.0, held-sequence e at.1 (fits ended.inside) on (alone ended))
         (asks_none z end ended asks) (cleared ended)
     go false false true is run end asks =
-        let full = open_behind (names ++ n.HeadingAtx ∷ outer) e.kind e.name in
+        let full = open_following (names ++ n.HeadingAtx ∷ outer) e.kind e.name in
         held-under outer q (e ∷ resolved Outside es) at.0 at.1
         (under-event e (resolved Outside es) h.matches.0 on
         (more full e.point Outside [] e.point (at_or_before-refl e.point) asks (under-rest e es h)))
     go false false false is run end asks =
-        more outer q other_place behind e.point (at.0, held-more e at.1 (fits end) on) asks (rest end)
+        more outer q other_place following e.point (at.0, held-more e at.1 (fits end) on) asks (rest end)
 
-resolved-under : (es : List Event) → GoesOn es
+resolved-under : (es : List Event) → IsContinued es
 resolved-under [] outer q Outside names p at runs h = under-from q [] at h
 resolved-under [] outer q text.Before names p at runs h = under-from q [] at h
 resolved-under [] outer q Opened names p at runs h = under-from q [] at h

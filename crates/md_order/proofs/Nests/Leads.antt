@@ -6,12 +6,12 @@ use Rattle.md_engine.specs.declared.event.Kind.{Kind}
 use Rattle.md_engine.specs.declared.event.Kind.TheVariants.{Enter, Exit}
 use Rattle.md_engine.specs.declared.event.Name.{Name}
 use Rattle.md_engine.specs.declared.event.Point.{Point}
-use Rattle.md_events.specs.Events.Nested.{Fits, Forward, Matches, Nested, last_point, open_after, open_behind}
+use Rattle.md_events.specs.Events.Nested.{Fits, Forward, Matches, Nested, last_point, open_after, open_following}
 use Rattle.md_events.specs.Events.Places.{at_or_before, first_point}
 use Rattle.md_events.proofs.NestedLemmas.{at_or_before-refl, at_or_before-trans, forward-append, forward-from}
 use Rattle.md_events.proofs.NestedLemmas.{forward-last, last_point-append, matches-append, matches-under}
 use Rattle.md_events.proofs.NestedLemmas.{open_after-append, open_after-under}
-use Rattle.md_order.specs.HeadingsNest.{StandsAlone}
+use Rattle.md_order.specs.HeadingsNest.{IsByItself}
 
 -- one point is not after another
 abbrev pub Before : Point → Point → Type 0
@@ -35,7 +35,7 @@ pub leads-none : (names : List Name) (p q : Point) → Before p q → Leads name
 leads-none names p q h = record { matches = tt; opened = refl; forward = tt; ends = h }
 
 pub leads-event : (names : List Name) (p : Point) (e : Event) → Fits names e.kind e.name → Before p e.point →
-    Leads names (open_behind names e.kind e.name) p e.point (e ∷ [])
+    Leads names (open_following names e.kind e.name) p e.point (e ∷ [])
 leads-event names p e fits h = record {
   matches = (fits, tt);
   opened = refl;
@@ -106,7 +106,7 @@ under-from {q = q} p xs h k = record {
 
 -- one event, and what follows it
 pub under-event : {names : List Name} {p : Point} (e : Event) (es : List Event) → Fits names e.kind e.name →
-    Before p e.point → Under (open_behind names e.kind e.name) e.point es → Under names p (e ∷ es)
+    Before p e.point → Under (open_following names e.kind e.name) e.point es → Under names p (e ∷ es)
 under-event e es fits h k = record {
   matches = (fits, k.matches);
   closed = k.closed;
@@ -114,7 +114,7 @@ under-event e es fits h k = record {
 }
 
 pub under-rest : {names : List Name} {p : Point} (e : Event) (es : List Event) → Under names p (e ∷ es) →
-    Under (open_behind names e.kind e.name) e.point es
+    Under (open_following names e.kind e.name) e.point es
 under-rest e es h = record { matches = h.matches.1; closed = h.closed; forward = h.forward.1 }
 
 -- Nested lists are those that end nothing.
@@ -129,9 +129,9 @@ under-nested es h = record {
 }
 
 -- One event, among what is open inside of others.
-pub behind-under : (names outer : List Name) (e : Event) → Fits names e.kind e.name →
-    open_behind (names ++ outer) e.kind e.name ≡ open_behind names e.kind e.name ++ outer
-behind-under names outer e fits = open_after-under names outer (e ∷ []) (fits, tt)
+pub following-under : (names outer : List Name) (e : Event) → Fits names e.kind e.name →
+    open_following (names ++ outer) e.kind e.name ≡ open_following names e.kind e.name ++ outer
+following-under names outer e fits = open_after-under names outer (e ∷ []) (fits, tt)
 
 -- In a part, an event that does not end it fits what is open there.
 pub fits-inside : (names : List Name) (name : Name) (outer : List Name) (e : Event) →
@@ -146,13 +146,13 @@ fits-inside names name outer e inside fits = go names e.kind inside fits
 
 -- A part that is by itself: nothing is open where it begins, nor after its end.
 
-pub alone-begun : (names : List Name) (e : Event) → e.kind ≡ Enter → StandsAlone names e.kind e.name → names ≡ []
-alone-begun names e enters h = subst (λ (k : Kind). StandsAlone names k e.name) enters h
+pub alone-begun : (names : List Name) (e : Event) → e.kind ≡ Enter → IsByItself names e.kind e.name → names ≡ []
+alone-begun names e enters h = subst (λ (k : Kind). IsByItself names k e.name) enters h
 
-pub alone-ended : (names : List Name) (e : Event) → e.kind ≡ Exit → StandsAlone names e.kind e.name →
-    open_behind names e.kind e.name ≡ []
+pub alone-ended : (names : List Name) (e : Event) → e.kind ≡ Exit → IsByItself names e.kind e.name →
+    open_following names e.kind e.name ≡ []
 alone-ended names e exits h = go e.kind exits h
   where
-    go : (kind : Kind) → kind ≡ Exit → StandsAlone names kind e.name → open_behind names kind e.name ≡ []
+    go : (kind : Kind) → kind ≡ Exit → IsByItself names kind e.name → open_following names kind e.name ≡ []
     go Exit k h = h
     go Enter k h = absurd (let no : Enter ≡ Exit = k in cc)

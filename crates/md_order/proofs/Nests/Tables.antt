@@ -8,13 +8,13 @@ use Rattle.md_engine.specs.declared.event.Kind.TheVariants.{Enter, Exit}
 use Rattle.md_engine.specs.declared.event.Name.{Name}
 use Rattle.md_engine.specs.declared.event.Name.TheVariants as n
 use Rattle.md_engine.specs.declared.event.Point.{Point}
-use Rattle.md_events.specs.Events.Nested.{Fits, Nested, around, enter, exit, is_enter, is_exit, open_behind, pair}
+use Rattle.md_events.specs.Events.Nested.{Fits, Nested, around, enter, exit, is_enter, is_exit, open_following, pair}
 use Rattle.md_events.specs.Events.Places.{first_point}
 use Rattle.md_events.proofs.NestedLemmas.{at_or_before-refl}
 use Rattle.md_tables.specs.Cells.{Step, begins_row, ends_row, ends_with, inside_step, is_row, row_kind, step}
 use Rattle.md_tables.specs.Heads.{is_table}
 use Rattle.md_tables.specs.TableLines.{row_name}
-use Rattle.md_tables.specs.Tabled.{begins_table, behind, bound_by, bound_of, in_front, next, tabled, tabled_from}
+use Rattle.md_tables.specs.Tabled.{begins_table, following, bound_by, bound_of, in_front, next, tabled, tabled_from}
 use Rattle.md_tables.specs.Tabled.{with_cells}
 use Rattle.md_tables.specs.declared.cells.RowKind.{RowKind}
 use Rattle.md_tables.specs.declared.cells.RowKind.TheVariants.{Delimiter, Text}
@@ -26,11 +26,11 @@ use Rattle.md_tables.specs.declared.tables.Section.{Section}
 use Rattle.md_tables.specs.declared.tables.Section.TheVariants as part
 use Rattle.md_tables.proofs.CellsLemmas.{outside-step}
 use Rattle.md_order.specs.Left.{ends_table}
-use Rattle.md_order.specs.TablesNest.{InRow, InTable, MayCome, Outside, Place, RowsStand, TablesNest, is_delimiter}
-use Rattle.md_order.specs.TablesNest.{place_behind, within}
+use Rattle.md_order.specs.TablesNest.{InRow, InTable, MayOccur, Outside, Place, RowsAllowed, TablesNest, is_delimiter}
+use Rattle.md_order.specs.TablesNest.{place_following, within}
 use Rattle.md_order.proofs.Names.{table-begin}
-use Rattle.md_order.proofs.Nests.Cells.{Goes as CellGoes, IsIn, cell-goes, opened, row-ends}
-use Rattle.md_order.proofs.Nests.Leads.{Before, Under, behind-under, fits-inside, leads-append, leads-event}
+use Rattle.md_order.proofs.Nests.Cells.{Proceeds as CellContinues, IsIn, cell-proceeds, opened, row-ends}
+use Rattle.md_order.proofs.Nests.Leads.{Before, Under, following-under, fits-inside, leads-append, leads-event}
 use Rattle.md_order.proofs.Nests.Leads.{leads-under, nested-under, under-event, under-leads, under-nested, under-rest}
 
 -- Where the walk is.
@@ -49,11 +49,11 @@ IsSection true part.Between = Unit {0}
 IsSection true part.Body = Unit {0}
 IsSection _ _ = ⊥
 
-abbrev Stands : Place → Section → Stage → List Event → Type 0
-Stands Outside part.Outside stage es = Unit {0}
-Stands (InTable headed names) s row.Outside es = IsSection headed s
-Stands (InRow headed k names) s stage es = IsSection headed s × IsIn k stage names es
-Stands _ _ _ _ = ⊥
+abbrev Valid : Place → Section → Stage → List Event → Type 0
+Valid Outside part.Outside stage es = Unit {0}
+Valid (InTable headed names) s row.Outside es = IsSection headed s
+Valid (InRow headed k names) s stage es = IsSection headed s × IsIn k stage names es
+Valid _ _ _ _ = ⊥
 
 -- what is open where the rest begins, and after what was given
 abbrev open_read : Place → List Name → List Name
@@ -68,14 +68,14 @@ open_given (InRow headed k names) s stage outer =
     opened stage names ++ row_name k ∷ (has_open s ++ n.GfmTable ∷ outer)
 
 -- What is shown of a walk over some events, wherever it is.
-abbrev Goes : List Event → List Name → Place → Section → Stage → Point → Type 0
-Goes es outer place s stage p =
-    Stands place s stage es → RowsStand place es → Under (open_read place outer) p es →
+abbrev Proceeds : List Event → List Name → Place → Section → Stage → Point → Type 0
+Proceeds es outer place s stage p =
+    Valid place s stage es → RowsAllowed place es → Under (open_read place outer) p es →
     Under (open_given place s stage outer) p (tabled_from s stage es)
 
-abbrev GoesOn : List Event → Type 0
-GoesOn es =
-    (outer : List Name) (place : Place) (s : Section) (stage : Stage) (p : Point) → Goes es outer place s stage p
+abbrev IsContinued : List Event → Type 0
+IsContinued es =
+    (outer : List Name) (place : Place) (s : Section) (stage : Stage) (p : Point) → Proceeds es outer place s stage p
 
 -- Events that bound no part of a table.
 
@@ -114,7 +114,7 @@ quiet-given headed s stage e es is quiet = go s (bound_of e) is quiet
     given s = ap (λ (l : List Event). l ++ tabled_from s itself.stage es) (append-nil itself.given)
 
     go : (s : Section) (b : Bound) → IsSection headed s → is_quiet b ≡ true →
-        (in_front s b e.point ++ (with_cells s stage e es).given ++ behind s b e.point)
+        (in_front s b e.point ++ (with_cells s stage e es).given ++ following s b e.point)
         ++ tabled_from (next s b) (with_cells s stage e es).stage es
         ≡ itself.given ++ tabled_from s itself.stage es
     go part.Outside b h k = absurd (no-section headed h)
@@ -129,15 +129,15 @@ quiet-given headed s stage e es is quiet = go s (bound_of e) is quiet
     go part.Body _ h k = absurd (let no : false ≡ true = k in cc)
 
 -- Outside of tables.
-outer-step : (e : Event) (es : List Event) → GoesOn es → (outer : List Name) (stage : Stage) (p : Point) →
-    Goes (e ∷ es) outer Outside part.Outside stage p
-outer-step e es more outer stage p stands asks h = go (bound_of e) refl asks.1
+outer-step : (e : Event) (es : List Event) → IsContinued es → (outer : List Name) (stage : Stage) (p : Point) →
+    Proceeds (e ∷ es) outer Outside part.Outside stage p
+outer-step e es more outer stage p valid asks h = go (bound_of e) refl asks.1
   where
     here : Before e.point e.point
     here = at_or_before-refl e.point
 
     names : List Name
-    names = open_behind outer e.kind e.name
+    names = open_following outer e.kind e.name
 
     rest : Under names e.point es
     rest = under-rest e es h
@@ -148,16 +148,16 @@ outer-step e es more outer stage p stands asks h = go (bound_of e) refl asks.1
     begun : begins_table (bound_of e) ≡ true → names ≡ n.GfmTable ∷ outer
     begun is =
         let begins = table-begin e is in
-        ap (λ (k : Kind). open_behind outer k e.name) begins.0 ∙ ap (λ (m : Name). m ∷ outer) begins.1
+        ap (λ (k : Kind). open_following outer k e.name) begins.0 ∙ ap (λ (m : Name). m ∷ outer) begins.1
 
-    passes : RowsStand Outside es → Under outer p (e ∷ tabled_from part.Outside row.Outside es)
+    passes : RowsAllowed Outside es → Under outer p (e ∷ tabled_from part.Outside row.Outside es)
     passes k =
         under-event e (tabled_from part.Outside row.Outside es) h.matches.0 h.forward.0
         (more names Outside part.Outside row.Outside e.point tt k rest)
 
-    go : (b : Bound) → bound_of e ≡ b → RowsStand (cond (begins_table b) (InTable false []) Outside) es →
+    go : (b : Bound) → bound_of e ≡ b → RowsAllowed (cond (begins_table b) (InTable false []) Outside) es →
         Under outer p
-        ((in_front part.Outside b e.point ++ (e ∷ []) ++ behind part.Outside b e.point)
+        ((in_front part.Outside b e.point ++ (e ∷ []) ++ following part.Outside b e.point)
         ++ tabled_from (next part.Outside b) row.Outside es)
     go BeginsTable is k =
         let same : names ≡ n.GfmTable ∷ outer = begun (ap begins_table is) in
@@ -173,10 +173,11 @@ outer-step e es more outer stage p stands asks h = go (bound_of e) refl asks.1
 
 abbrev Begins : List Event → List Name → Bool → Section → Point → List Name → Event → Type 0
 Begins es outer headed s p names e =
-    RowsStand (place_behind (InTable headed names) e) es → Under (names ++ n.GfmTable ∷ outer) p (e ∷ es) →
+    RowsAllowed (place_following (InTable headed names) e) es → Under (names ++ n.GfmTable ∷ outer) p (e ∷ es) →
     Under (names ++ (has_open s ++ n.GfmTable ∷ outer)) p (tabled_from s row.Outside (e ∷ es))
 
-begins-at : (k : RowKind) (e : Event) (es : List Event) → GoesOn es → (outer : List Name) (headed : Bool) (s : Section)
+begins-at : (k : RowKind) (e : Event) (es : List Event) → IsContinued es →
+    (outer : List Name) (headed : Bool) (s : Section)
     (p : Point) → IsSection headed s → Begins es outer headed s p [] (record e { kind = Enter; name = row_name k })
 begins-at Text e es more outer false part.Head p is asks h =
     let f : Event = record e { kind = Enter; name = n.GfmTableRow } in
@@ -212,10 +213,10 @@ row-of n.GfmTableRow h = (Text, refl)
 row-of n.GfmTableDelimiterRow h = (Delimiter, refl)
 row-of _ h = absurd (let no : false ≡ true = h in cc)
 
-begins-goes : (e : Event) (es : List Event) → GoesOn es → (outer : List Name) (headed : Bool) (s : Section)
+begins-proceeds : (e : Event) (es : List Event) → IsContinued es → (outer : List Name) (headed : Bool) (s : Section)
     (p : Point) → IsSection headed s → (names : List Name) → is_row e.name ≡ true → e.kind ≡ Enter → names ≡ [] →
     Begins es outer headed s p names e
-begins-goes e es more outer headed s p is names row_is enters none =
+begins-proceeds e es more outer headed s p is names row_is enters none =
     let k = row-of e.name row_is in
     subst (λ (l : List Name). Begins es outer headed s p l e) (sym none)
     (subst (λ (kind : Kind). Begins es outer headed s p [] (record e { kind = kind })) (sym enters)
@@ -224,7 +225,7 @@ begins-goes e es more outer headed s p is names row_is enters none =
 
 -- The table ends.
 
-ends-at : (e : Event) (es : List Event) → GoesOn es → (outer : List Name) (s : Section) (p : Point) →
+ends-at : (e : Event) (es : List Event) → IsContinued es → (outer : List Name) (s : Section) (p : Point) →
     IsSection true s → Begins es outer true s p [] (record e { kind = Exit; name = n.GfmTable })
 ends-at e es more outer part.Between p is asks h =
     let f : Event = record e { kind = Exit; name = n.GfmTable } in
@@ -245,17 +246,18 @@ table-ended e h = go e.kind e.name h
     go Exit _ h = absurd (let no : false ≡ true = h in cc)
     go Enter _ h = absurd (let no : false ≡ true = h in cc)
 
-ends-goes : (e : Event) (es : List Event) → GoesOn es → (outer : List Name) (headed : Bool) (s : Section) (p : Point) →
+ends-proceeds : (e : Event) (es : List Event) → IsContinued es →
+    (outer : List Name) (headed : Bool) (s : Section) (p : Point) →
     IsSection headed s → (names : List Name) → ends_table e ≡ true → headed ≡ true → names ≡ [] →
     Begins es outer headed s p names e
-ends-goes e es more outer headed s p is names ends behind_head none =
+ends-proceeds e es more outer headed s p is names ends after_head none =
     let ended = table-ended e ends in
     subst (λ (l : List Name). Begins es outer headed s p l e) (sym none)
     (subst (λ (kind : Kind). Begins es outer headed s p [] (record e { kind = kind })) (sym ended.0)
     (subst (λ (name : Name). Begins es outer headed s p [] (record e { kind = Exit; name = name })) (sym ended.1)
     (subst
     (λ (x : Bool). IsSection x s → Begins es outer x s p [] (record e { kind = Exit; name = n.GfmTable }))
-    (sym behind_head) (ends-at e es more outer s p) is)))
+    (sym after_head) (ends-at e es more outer s p) is)))
 
 -- Any other event of a table stays as it is.
 
@@ -283,34 +285,34 @@ no-end e on exits named =
     whole : is_exit e.kind ≡ ends_table e
     whole = and-one (is_exit e.kind) ∙ ap (λ (m : Name). is_exit e.kind && is_table m) named
 
-other-goes : (e : Event) (es : List Event) → GoesOn es → (outer : List Name) (headed : Bool) (s : Section)
+other-proceeds : (e : Event) (es : List Event) → IsContinued es → (outer : List Name) (headed : Bool) (s : Section)
     (p : Point) → IsSection headed s → (names : List Name) → is_row e.name ≡ false → ends_table e ≡ false →
     Begins es outer headed s p names e
-other-goes e es more outer headed s p is names no_row on asks h =
+other-proceeds e es more outer headed s p is names no_row on asks h =
     subst (Under (names ++ given) p)
     (sym
     (quiet-given headed s row.Outside e es is (quiet-bound e no_row on)
     ∙ ap (λ (t : Step). t.given ++ tabled_from s t.stage es) (outside-step e es no_row)))
     (under-leads (e ∷ []) (tabled_from s row.Outside es)
     (leads-under given (e ∷ []) (leads-event names p e fits h.forward.0))
-    (more outer (InTable headed behind_names) s row.Outside e.point is
-    (subst (λ (x : Bool). RowsStand (cond x Outside (InTable headed behind_names)) es) on
-    (subst (λ (o : Option RowKind). RowsStand (cond (ends_table e) Outside (within headed behind_names o)) es)
+    (more outer (InTable headed following_names) s row.Outside e.point is
+    (subst (λ (x : Bool). RowsAllowed (cond x Outside (InTable headed following_names)) es) on
+    (subst (λ (o : Option RowKind). RowsAllowed (cond (ends_table e) Outside (within headed following_names o)) es)
     (no-row e no_row) asks))
-    (subst (λ (l : List Name). Under l e.point es) (behind-under names (n.GfmTable ∷ outer) e fits)
+    (subst (λ (l : List Name). Under l e.point es) (following-under names (n.GfmTable ∷ outer) e fits)
     (under-rest e es h))))
   where
     given : List Name
     given = has_open s ++ n.GfmTable ∷ outer
 
-    behind_names : List Name
-    behind_names = open_behind names e.kind e.name
+    following_names : List Name
+    following_names = open_following names e.kind e.name
 
     fits : Fits names e.kind e.name
     fits = fits-inside names n.GfmTable outer e (no-end e on) h.matches.0
 
-table-step : (e : Event) (es : List Event) → GoesOn es → (outer : List Name) (headed : Bool) (names : List Name)
-    (s : Section) (p : Point) → Goes (e ∷ es) outer (InTable headed names) s row.Outside p
+table-step : (e : Event) (es : List Event) → IsContinued es → (outer : List Name) (headed : Bool) (names : List Name)
+    (s : Section) (p : Point) → Proceeds (e ∷ es) outer (InTable headed names) s row.Outside p
 table-step e es more outer headed names s p is asks h =
     go (is_row e.name) (ends_table e) refl refl
   where
@@ -318,25 +320,26 @@ table-step e es more outer headed names s p is asks h =
         Under (names ++ (has_open s ++ n.GfmTable ∷ outer)) p (tabled_from s row.Outside (e ∷ es))
     go true y row_is ends =
         let at = asks.0.0 row_is in
-        begins-goes e es more outer headed s p is names row_is at.0 at.1 asks.1 h
+        begins-proceeds e es more outer headed s p is names row_is at.0 at.1 asks.1 h
     go false true row_is ends =
         let at = asks.0.1 ends in
-        ends-goes e es more outer headed s p is names ends at.0 at.1 asks.1 h
-    go false false row_is ends = other-goes e es more outer headed s p is names row_is ends asks.1 h
+        ends-proceeds e es more outer headed s p is names ends at.0 at.1 asks.1 h
+    go false false row_is ends = other-proceeds e es more outer headed s p is names row_is ends asks.1 h
 
 -- In a row: its end.
 
 abbrev Ends : List Event → List Name → Bool → RowKind → Section → Stage → Point → List Name → Event → Type 0
 Ends es outer headed k s stage p names e =
-    IsIn k stage names (e ∷ es) → RowsStand (place_behind (InRow headed k names) e) es →
+    IsIn k stage names (e ∷ es) → RowsAllowed (place_following (InRow headed k names) e) es →
     Under (names ++ row_name k ∷ n.GfmTable ∷ outer) p (e ∷ es) →
     Under (opened stage names ++ row_name k ∷ (has_open s ++ n.GfmTable ∷ outer)) p (tabled_from s stage (e ∷ es))
 
 -- the events of the row end there
-row-under : (k : RowKind) (e : Event) (es : List Event) → GoesOn es → (outer : List Name) (headed : Bool) (s : Section)
+row-under : (k : RowKind) (e : Event) (es : List Event) → IsContinued es →
+    (outer : List Name) (headed : Bool) (s : Section)
     (stage : Stage) (p : Point) → IsSection headed s →
     let f : Event = record e { kind = Exit; name = row_name k } in
-    IsIn k stage [] (f ∷ es) → RowsStand (InTable headed []) es →
+    IsIn k stage [] (f ∷ es) → RowsAllowed (InTable headed []) es →
     Under (row_name k ∷ n.GfmTable ∷ outer) p (f ∷ es) →
     Under (opened stage [] ++ row_name k ∷ (has_open s ++ n.GfmTable ∷ outer)) p
     (ends_with stage f ++ tabled_from s row.Outside es)
@@ -346,7 +349,7 @@ row-under k e es more outer headed s stage p is at asks h =
     (row-ends k stage (has_open s ++ n.GfmTable ∷ outer) p f es refl refl at h.forward.0)
     (more outer (InTable headed []) s row.Outside e.point is asks (under-rest f es h))
 
-text-ends : (e : Event) (es : List Event) → GoesOn es → (outer : List Name) (headed : Bool) (s : Section)
+text-ends : (e : Event) (es : List Event) → IsContinued es → (outer : List Name) (headed : Bool) (s : Section)
     (stage : Stage) (p : Point) → IsSection headed s →
     Ends es outer headed Text s stage p [] (record e { kind = Exit; name = n.GfmTableRow })
 text-ends e es more outer headed s stage p is at asks h =
@@ -355,11 +358,11 @@ text-ends e es more outer headed s stage p is at asks h =
     (sym (quiet-given headed s stage f es is refl))
     (row-under Text e es more outer headed s stage p is at (same headed asks) h)
   where
-    same : (x : Bool) → RowsStand (InTable (x || false) []) es → RowsStand (InTable x []) es
+    same : (x : Bool) → RowsAllowed (InTable (x || false) []) es → RowsAllowed (InTable x []) es
     same true k = k
     same false k = k
 
-delimiter-ends : (e : Event) (es : List Event) → GoesOn es → (outer : List Name) (headed : Bool) (s : Section)
+delimiter-ends : (e : Event) (es : List Event) → IsContinued es → (outer : List Name) (headed : Bool) (s : Section)
     (stage : Stage) (p : Point) → IsSection headed s →
     Ends es outer headed Delimiter s stage p [] (record e { kind = Exit; name = n.GfmTableDelimiterRow })
 delimiter-ends e es more outer false part.Head stage p is at asks h =
@@ -385,7 +388,8 @@ delimiter-ends e es more outer true part.Body stage p is at asks h =
     (row-under Delimiter e es more outer true part.Body stage p tt at asks h)
 delimiter-ends e es more outer headed s stage p is at asks h = absurd is
 
-ends-row : (k : RowKind) (e : Event) (es : List Event) → GoesOn es → (outer : List Name) (headed : Bool) (s : Section)
+ends-row : (k : RowKind) (e : Event) (es : List Event) → IsContinued es →
+    (outer : List Name) (headed : Bool) (s : Section)
     (stage : Stage) (p : Point) → IsSection headed s →
     Ends es outer headed k s stage p [] (record e { kind = Exit; name = row_name k })
 ends-row Text e es more outer headed s stage p is = text-ends e es more outer headed s stage p is
@@ -398,7 +402,8 @@ row-is k outer e names exits none fits =
     subst (λ (kind : Kind). Fits (row_name k ∷ outer) kind e.name) exits
     (subst (λ (l : List Name). Fits (l ++ row_name k ∷ outer) e.kind e.name) none fits)
 
-row-ended : (k : RowKind) (e : Event) (es : List Event) → GoesOn es → (outer : List Name) (headed : Bool) (s : Section)
+row-ended : (k : RowKind) (e : Event) (es : List Event) → IsContinued es →
+    (outer : List Name) (headed : Bool) (s : Section)
     (stage : Stage) (p : Point) → IsSection headed s → (names : List Name) → e.kind ≡ Exit → names ≡ [] →
     row_name k ≡ e.name → Ends es outer headed k s stage p names e
 row-ended k e es more outer headed s stage p is names exits none named =
@@ -417,27 +422,27 @@ no-row-end k e no_row exits named =
     rows Text = refl
     rows Delimiter = refl
 
-inside-goes : (k : RowKind) (e : Event) (es : List Event) → GoesOn es → (outer : List Name) (headed : Bool)
+inside-proceeds : (k : RowKind) (e : Event) (es : List Event) → IsContinued es → (outer : List Name) (headed : Bool)
     (s : Section) (stage : Stage) (p : Point) → IsSection headed s → (names : List Name) →
-    MayCome (InRow headed k names) e → is_row e.name ≡ false → Ends es outer headed k s stage p names e
-inside-goes k e es more outer headed s stage p is names may no_row at asks h =
+    MayOccur (InRow headed k names) e → is_row e.name ≡ false → Ends es outer headed k s stage p names e
+inside-proceeds k e es more outer headed s stage p is names may no_row at asks h =
     subst (Under (opened stage names ++ given) p)
     (sym
     (quiet-given headed s stage e es is (quiet-bound e no_row may.1)
     ∙ ap (λ (t : Step). t.given ++ tabled_from s t.stage es) no_end_step))
-    (under-leads t.given (tabled_from s t.stage es) (leads-under given t.given goes.leads)
-    (more outer (InRow headed k behind_names) s t.stage e.point (is, goes.is_in)
+    (under-leads t.given (tabled_from s t.stage es) (leads-under given t.given proceeds.leads)
+    (more outer (InRow headed k following_names) s t.stage e.point (is, proceeds.is_in)
     (subst
-    (λ (x : Bool). RowsStand (cond x (InTable (headed || is_delimiter k) []) (InRow headed k behind_names)) es)
+    (λ (x : Bool). RowsAllowed (cond x (InTable (headed || is_delimiter k) []) (InRow headed k following_names)) es)
     no_end asks)
     (subst (λ (l : List Name). Under l e.point es)
-    (behind-under names (row_name k ∷ n.GfmTable ∷ outer) e fits) (under-rest e es h))))
+    (following-under names (row_name k ∷ n.GfmTable ∷ outer) e fits) (under-rest e es h))))
   where
     given : List Name
     given = row_name k ∷ (has_open s ++ n.GfmTable ∷ outer)
 
-    behind_names : List Name
-    behind_names = open_behind names e.kind e.name
+    following_names : List Name
+    following_names = open_following names e.kind e.name
 
     t : Step
     t = inside_step stage e es
@@ -452,12 +457,12 @@ inside-goes k e es more outer headed s stage p is names may no_row at asks h =
     no_end_step =
         ap (λ (x : Bool). cond x (record { given = ends_with stage e; stage = row.Outside }) t) no_end
 
-    goes : CellGoes k stage names p e es t
-    goes = cell-goes k stage names p e es (record { fits = fits; on = h.forward.0; alone = may.2 }) at
+    proceeds : CellContinues k stage names p e es t
+    proceeds = cell-proceeds k stage names p e es (record { fits = fits; on = h.forward.0; alone = may.2 }) at
 
-row-step : (e : Event) (es : List Event) → GoesOn es → (outer : List Name) (headed : Bool) (k : RowKind)
+row-step : (e : Event) (es : List Event) → IsContinued es → (outer : List Name) (headed : Bool) (k : RowKind)
     (names : List Name) (s : Section) (stage : Stage) (p : Point) →
-    Goes (e ∷ es) outer (InRow headed k names) s stage p
+    Proceeds (e ∷ es) outer (InRow headed k names) s stage p
 row-step e es more outer headed k names s stage p at asks h = go (is_row e.name) refl
   where
     go : (x : Bool) → is_row e.name ≡ x →
@@ -467,7 +472,7 @@ row-step e es more outer headed k names s stage p at asks h = go (is_row e.name)
         let ends = asks.0.0 row_is in
         row-ended k e es more outer headed s stage p at.0 names ends.0 ends.1
         (row-is k (n.GfmTable ∷ outer) e names ends.0 ends.1 h.matches.0) at.1 asks.1 h
-    go false row_is = inside-goes k e es more outer headed s stage p at.0 names asks.0 row_is at.1 asks.1 h
+    go false row_is = inside-proceeds k e es more outer headed s stage p at.0 names asks.0 row_is at.1 asks.1 h
 
 -- All events.
 
@@ -475,7 +480,7 @@ not-none : (names : List Name) (name : Name) (outer : List Name) → names ++ na
 not-none [] name outer h = absurd (let no : name ∷ outer ≡ [] = h in cc)
 not-none (m ∷ names) name outer h = absurd (let no : m ∷ (names ++ name ∷ outer) ≡ [] = h in cc)
 
-tabled-under : (es : List Event) → GoesOn es
+tabled-under : (es : List Event) → IsContinued es
 tabled-under [] outer Outside s stage p at asks h = h
 tabled-under [] outer (InTable headed names) s stage p at asks h = absurd (not-none names n.GfmTable outer h.closed)
 tabled-under [] outer (InRow headed k names) s stage p at asks h =

@@ -17,7 +17,7 @@ use Rattle.md_leaves.proofs.TurnedLemmas.{passes-given}
 use Rattle.md_events.specs.Events.Nested.{Forward, Matches, Nested, around, open_after, pair}
 use Rattle.md_events.specs.Events.Places.{at_or_before, first_point}
 use Rattle.md_events.proofs.NestedLemmas.{at_or_before-refl}
-use Rattle.md_order.specs.TurnsNest.{Apart, Between, InText, InUnderline, IsOther, MayStandAt, Spot, TurnsNest}
+use Rattle.md_order.specs.TurnsNest.{Apart, Between, InText, InUnderline, IsOther, MayBeAt, Spot, TurnsNest}
 use Rattle.md_order.specs.TurnsNest.{TurnsNestFrom, spot_by}
 
 -- What is open: no heading; or one around these names, with those open in it, the innermost first, since its text, the
@@ -198,7 +198,7 @@ pass-under Exit name p link es (same ∷ inside) outer keeps other good matches 
 pass-gap : (kind : Kind) (name : Name) (p : Point) (link : Option Link) (es : List Event)
     (inside outer : List Name) → Keeps es → IsOther (is_paragraph name) (is_underline name) → AreOthers inside →
     Matches (names_at (Gap inside outer)) (event kind name p link ∷ es) →
-    MayStandAt (Between (length inside)) kind false false →
+    MayBeAt (Between (length inside)) kind false false →
     TurnsNestFrom (spot_by (Between (length inside)) kind false false (is_turned es)) es →
     KeptTo (Gap inside outer) (event kind name p link ∷ es) (event kind name p link ∷ turned_from true es)
 pass-gap Enter name p link es [] outer keeps other good matches may more =
@@ -214,12 +214,12 @@ pass-gap Exit name p link es (same ∷ inside) outer keeps other good matches ma
 
 -- what is asked of such an event, and where one is after it
 same-spot : (spot : Spot) (kind : Kind) (x y turned : Bool) (es : List Event) → IsOther x y →
-    MayStandAt spot kind x y × TurnsNestFrom (spot_by spot kind x y turned) es →
-    MayStandAt spot kind false false × TurnsNestFrom (spot_by spot kind false false turned) es
+    MayBeAt spot kind x y × TurnsNestFrom (spot_by spot kind x y turned) es →
+    MayBeAt spot kind false false × TurnsNestFrom (spot_by spot kind false false turned) es
 same-spot spot kind x y turned es other h =
     subst
-    (λ (b : Bool). MayStandAt spot kind false b × TurnsNestFrom (spot_by spot kind false b turned) es) other.1
-    (subst (λ (b : Bool). MayStandAt spot kind b y × TurnsNestFrom (spot_by spot kind b y turned) es) other.0 h)
+    (λ (b : Bool). MayBeAt spot kind false b × TurnsNestFrom (spot_by spot kind false b turned) es) other.1
+    (subst (λ (b : Bool). MayBeAt spot kind b y × TurnsNestFrom (spot_by spot kind b y turned) es) other.0 h)
 
 apart-spot : (kind : Kind) (turned : Bool) (es : List Event) →
     TurnsNestFrom (spot_by Apart kind false false turned) es → TurnsNestFrom Apart es
@@ -245,7 +245,7 @@ passes es p link keeps kind name other now good matches nests =
     (same-spot (spot_at now) kind (is_paragraph name) (is_underline name) (is_turned es) es other nests))
   where
     go : (now : Now) → Good now → Matches (names_at now) (event kind name p link ∷ es) →
-        MayStandAt (spot_at now) kind false false
+        MayBeAt (spot_at now) kind false false
         × TurnsNestFrom (spot_by (spot_at now) kind false false (is_turned es)) es →
         KeptTo now (event kind name p link ∷ es) (event kind name p link ∷ turned_from (on_at now) es)
     go (Free names) good matches nests =

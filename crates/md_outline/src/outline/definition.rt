@@ -3,7 +3,7 @@
 ghost use Rattle.std.specs.Prelude.{◌≡◌, ◌+◌, OnOk};
 ghost use Rattle.std.specs.Str.{IsUtf8};
 ghost use Rattle.md_meaning.specs.Outline.{entries_of};
-ghost use Rattle.md_outline.specs.DefinitionState.{destination_told, part_ended, part_of, part_parted};
+ghost use Rattle.md_outline.specs.DefinitionState.{destination_recorded, part_ended, part_of, part_parted};
 
 use crate::outline::lined::{Form, drop_end};
 use crate::outline::lines::{
@@ -14,11 +14,15 @@ use md_meaning::outline::{OutlineLine, Word};
 
 /// The word that shows the lines of the part that is read, if a definition is open: its label, and after that its
 /// title.
-pub fn part_of(form: Form, is_told: bool) -> Option<Word>
-    ensures { result ≡ part_of form is_told }
+pub fn part_of(form: Form, is_recorded: bool) -> Option<Word>
+    ensures { result ≡ part_of form is_recorded }
 {
     match form {
-        Form::Definition => Some(if is_told { Word::Title } else { Word::Label }),
+        Form::Definition => Some(if is_recorded {
+            Word::Title
+        } else {
+            Word::Label
+        }),
         _ => None,
     }
 }
@@ -69,7 +73,7 @@ pub fn fill_destination<'a>(
     text: &'a [u8],
 ) -> Result<(), Message>
     ensures { OnOk result (IsUtf8 text.now →
-        entries_of lines.new.items ≡ destination_told (depth + 1) text.now (entries_of lines.old.items)) }
+        entries_of lines.new.items ≡ destination_recorded (depth + 1) text.now (entries_of lines.old.items)) }
 {
     drop_end(lines);
     push(lines, next(depth)?, Word::Destination, text_of(text))

@@ -4,7 +4,7 @@
 ghost use Rattle.std.specs.Prelude.{◌≡◌, ◌++◌, OnOk};
 ghost use Rattle.std.specs.Str.{IsUtf8};
 ghost use Rattle.md_meaning.specs.Outline.{entries_of};
-ghost use Rattle.md_outline.specs.FootnoteState.{container_lines, label_told};
+ghost use Rattle.md_outline.specs.FootnoteState.{container_lines, label_recorded};
 
 use crate::outline::lined::drop_end;
 use crate::outline::lines::{next, push, text_of};
@@ -30,7 +30,7 @@ pub fn fill_label<'a>(
     text: &'a [u8],
 ) -> Result<(), Message>
     ensures { OnOk result (IsUtf8 text.now →
-        entries_of lines.new.items ≡ label_told depth text.now (entries_of lines.old.items)) }
+        entries_of lines.new.items ≡ label_recorded depth text.now (entries_of lines.old.items)) }
 {
     drop_end(lines);
     push(lines, depth, Word::Label, text_of(text))

@@ -67,7 +67,7 @@ pub fn first_line_len(text: &[u8]) -> usize
 }
 
 /// What follows the line ending that comes first: LF, CR or CR LF.
-pub fn behind_ending(bytes: &[u8]) -> &[u8]
+pub fn following_ending(bytes: &[u8]) -> &[u8]
     ensures value { result.now ≡ after_ending bytes.now }
     ensures bound { length result.now ≤ length bytes.now - 1 }
 {
@@ -161,7 +161,7 @@ pub fn push_full_lines<'a>(
             return Ok(left);
         }
         push(lines, depth, word, line_text(line))?;
-        left = behind_ending(ending);
+        left = following_ending(ending);
     }
 }
 
@@ -194,7 +194,7 @@ pub fn push_first_lines<'a>(
     if ending.is_empty() {
         return Ok(());
     }
-    push_lines(lines, depth, word, behind_ending(ending))
+    push_lines(lines, depth, word, following_ending(ending))
 }
 
 /// Adds the first line of a text, as it is, and those after it that have an ending.
@@ -209,7 +209,7 @@ pub fn push_first_full<'a>(
 {
     let (line, ending) = text.split_at(first_line_len(text));
     push(lines, depth, word, text_of(line))?;
-    push_full_lines(lines, depth, word, behind_ending(ending))?;
+    push_full_lines(lines, depth, word, following_ending(ending))?;
     Ok(())
 }
 

@@ -33,9 +33,9 @@ pub fn part_end(events: &[Event]) -> usize
     let most = events.len().min(LEAST_EVENTS);
     let mut enters = 0;
     let mut rest = &events[..most];
-    while let [first, second, third, fourth, behind @ ..] = rest {
+    while let [first, second, third, fourth, following @ ..] = rest {
         enters += entered(*first) + entered(*second) + entered(*third) + entered(*fourth);
-        rest = behind;
+        rest = following;
     }
     let mut end = most - rest.len();
     while end < events.len() && (end < most || end - enters != enters) {

@@ -5,7 +5,7 @@ ghost use Rattle.std.specs.Prelude.{◌≡◌, IfOk, OnOk};
 ghost use Rattle.std.specs.Str.{IsUtf8};
 ghost use Rattle.md_meaning.specs.Outline.{entries_of};
 ghost use Rattle.md_outline.specs.LinedState.{with_head};
-ghost use Rattle.md_outline.specs.TableState.{cell_told, counted_word, with_cell, with_delimiter, with_row};
+ghost use Rattle.md_outline.specs.TableState.{cell_recorded, counted_word, with_cell, with_delimiter, with_row};
 
 use crate::outline::lined::drop_end;
 use crate::outline::lines::{next, push, text_of, trimmed_text};
@@ -54,7 +54,7 @@ pub fn fill_cell<'a>(
     text: &'a [u8],
 ) -> Result<(), Message>
     ensures { OnOk result (IsUtf8 text.now →
-        entries_of lines.new.items ≡ cell_told depth text.now (entries_of lines.old.items)) }
+        entries_of lines.new.items ≡ cell_recorded depth text.now (entries_of lines.old.items)) }
 {
     drop_end(lines);
     push(lines, next(next(depth)?)?, Word::Cell, text_of(text))

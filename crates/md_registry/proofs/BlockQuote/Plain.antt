@@ -8,7 +8,7 @@ use Rattle.md_engine.proofs.Points.{cells-fall}
 use Rattle.md_engine.proofs.StayLemmas.{seen-inside}
 use Rattle.md_containers.specs.Quote.{may_begin}
 use Rattle.md_containers.proofs.QuotePrefix.{HasQuote, prefix-run}
-use Rattle.md_events.specs.Look.{behind_code, first_behind, looks_behind, may_with}
+use Rattle.md_events.specs.Look.{following_code, first_following, looks_after, may_with}
 use Rattle.md_events.specs.Spaces.{ends_line}
 use Rattle.md_events.specs.Transition.{Transition}
 use Rattle.proof_container_laws.specs.Containers.BlockQuote.{quote_rules}
@@ -16,10 +16,11 @@ use Rattle.md_registry.specs.States.{FlowStep}
 use Rattle.md_registry.proofs.PlainLaws.{PlainLaws, others}
 
 -- what is seen here is first after whitespace, unless it is whitespace
-sees-quote : (w : World) → w.current ≡ Some 62 → looks_behind w ≡ Some 62
-unfolding looks_behind
+sees-quote : (w : World) → w.current ≡ Some 62 → looks_after w ≡ Some 62
+unfolding looks_after
 sees-quote w e =
-    ap (λ (o : Option ℕ). behind_code o (first_behind (slice_range w.setting.bytes w.point.index w.setting.limit))) e
+    ap (λ (o : Option ℕ). following_code o
+    (first_following (slice_range w.setting.bytes w.point.index w.setting.limit))) e
 
 has-quote : HasQuote FlowStep
 has-quote state w to new e = record {
@@ -28,7 +29,7 @@ has-quote state w to new e = record {
 }
 
 pub quote-plain : PlainLaws quote_rules
-unfolding looks_behind
+unfolding looks_after
 quote-plain = record {
   asked = λ w c d is. record { here = is.here; inside = is.inside; space = is.space; next = is.next };
   may = λ w c is seen. ap (may_with may_begin) (sees-quote w (seen ∙ is.here));
@@ -37,7 +38,7 @@ quote-plain = record {
       let one = cells-fall w.setting w.point (seen-inside w.setting w.point 62 is.here) in
       let two = cells-fall w.setting (after w.setting w.point) is.inside in
       record { seen = refl; inside = is.next; less = omega (arith, one, two) };
-  runs = λ is_end s v a c came seen within is asks.
+  runs = λ is_end s v a c arrived seen within is asks.
       prefix-run FlowStep is_end s v (n.Document document.ContainerExistingAfter) others a
-      has-quote came seen within is;
+      has-quote arrived seen within is;
 }

@@ -3,8 +3,8 @@ use Rattle.std.proofs.Common.{ℕ, List, [], ◌∷◌, ap}
 use Rattle.md_engine.specs.declared.configuration.ParseOptions.{ParseOptions}
 use Rattle.md_engine.specs.Meaning.{Cell, Here, Outcome}
 use Rattle.md_code.specs.Fence.{cleared, is_on, is_refused}
-use Rattle.md_code.specs.FenceRule.{before_info, before_meta, before_sequence, behind_columns, behind_sequence}
-use Rattle.md_code.specs.FenceRule.{behind_white_of, fence_at, in_info, in_meta, in_sequence, is_end, is_line, is_word}
+use Rattle.md_code.specs.FenceRule.{before_info, before_meta, before_sequence, after_columns, after_sequence}
+use Rattle.md_code.specs.FenceRule.{after_white_of, fence_at, in_info, in_meta, in_sequence, is_end, is_line, is_word}
 use Rattle.md_code.specs.FenceRule.{run_has, run_rest, run_size}
 use Rattle.md_meaning.specs.Leaves.{is_fence_marker, least_size}
 use Rattle.md_events.specs.Ahead.{begins_white, white_rest}
@@ -17,11 +17,11 @@ use Rattle.std.specs.Prelude.{nat_lt, ◌+◌, ◌==◌}
 abbrev Clears : Here → Type 0
 Clears h = IsRest (cleared h.scratch)
 
-behind-white : (room : ℕ) (behind : List Cell → Here → Outcome) (cells : List Cell) (h : Here) →
-    ((cs : List Cell) (k : Here) → Clears k → RestsAfter (behind cs k)) → Clears h →
-    RestsAfter (behind_white_of room behind cells h)
-behind-white room behind cells h each c =
-    cond-rests (begins_white cells) _ _ (each (white_rest room cells) (behind_columns room cells h) (ap calmed c))
+following-white : (room : ℕ) (following : List Cell → Here → Outcome) (cells : List Cell) (h : Here) →
+    ((cs : List Cell) (k : Here) → Clears k → RestsAfter (following cs k)) → Clears h →
+    RestsAfter (after_white_of room following cells h)
+following-white room following cells h each c =
+    cond-rests (begins_white cells) _ _ (each (white_rest room cells) (after_columns room cells h) (ap calmed c))
     (each cells h c)
 
 meta : (cells : List Cell) (h : Here) → Clears h → RestsAfter (in_meta cells h)
@@ -37,7 +37,7 @@ info : (cells : List Cell) (h : Here) → Clears h → RestsAfter (in_info cells
 unfolding in_info
 info cells h c =
     cond-rests (run_has (is_refused h.scratch.marker) is_word cells) _ _ c
-    (behind-white any_size before_meta (run_rest is_word cells) _ front-meta c)
+    (following-white any_size before_meta (run_rest is_word cells) _ front-meta c)
 
 front-info : (cells : List Cell) (h : Here) → Clears h → RestsAfter (before_info cells h)
 unfolding before_info
@@ -45,15 +45,15 @@ front-info cells h c =
     cond-rests (is_end cells) _ _ tt (cond-rests (begins_white cells) _ _ c (info cells _ c))
 
 -- math has no info
-behind-run : (m : ℕ) (cells : List Cell) (h : Here) → Clears h → RestsAfter (behind_sequence m cells h)
-behind-run m cells h c = cond-rests (m == 36) _ _ (front-meta cells h c) (front-info cells h c)
+following-run : (m : ℕ) (cells : List Cell) (h : Here) → Clears h → RestsAfter (after_sequence m cells h)
+following-run m cells h c = cond-rests (m == 36) _ _ (front-meta cells h c) (front-info cells h c)
 
 run : (cells : List Cell) (h : Here) → Clears h → RestsAfter (in_sequence cells h)
 unfolding in_sequence
 run cells h c =
     let m = h.scratch.marker in
     cond-rests (nat_lt (h.scratch.size + run_size (λ b. b == m) cells) (least_size m)) _ _ c
-    (behind-white any_size (behind_sequence m) (run_rest (λ b. b == m) cells) _ (behind-run m) c)
+    (following-white any_size (after_sequence m) (run_rest (λ b. b == m) cells) _ (following-run m) c)
 
 front-run : (options : ParseOptions) (cells : List Cell) (h : Here) → Clears h →
     RestsAfter (before_sequence options cells h)
@@ -65,4 +65,4 @@ pub fence-rests : Rests Fence
 unfolding fence_at
 fence-rests options cells h is =
     cond-rests (is_on options) _ _
-    (behind-white (small_indent options) (before_sequence options) cells _ (front-run options) (ap cleared is)) is
+    (following-white (small_indent options) (before_sequence options) cells _ (front-run options) (ap cleared is)) is

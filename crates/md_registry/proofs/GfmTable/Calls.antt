@@ -5,9 +5,9 @@ use Rattle.md_engine.specs.declared.state.State.{State}
 use Rattle.md_engine.specs.declared.state.State.TheVariants.{Error, Next, Retry}
 use Rattle.md_engine.specs.Going.{SeesOn}
 use Rattle.md_engine.specs.Run.{RunsHere, plain, reading}
-use Rattle.md_engine.specs.Scheme.{stands, work}
+use Rattle.md_engine.specs.Scheme.{valid, work}
 use Rattle.md_engine.specs.World.{World, looks}
-use Rattle.md_engine.proofs.Loops.{CameHere, came-first, came-on, came-runs, came-stays, not_error}
+use Rattle.md_engine.proofs.Loops.{ArrivedHere, arrived-first, arrived-on, arrived-runs, arrived-stays, not_error}
 use Rattle.md_engine.proofs.Walks.{here-keeps}
 use Rattle.md_leaves.proofs.HeadingCalls.{sees-from}
 use Rattle.md_tables.specs.GfmTable.{AnswersWith}
@@ -34,68 +34,68 @@ row-flows name w to new (OfWhite state named to_is new_is) =
     subst (λ (x : StateName). FlowStep x w to new) (sym named) (record { to_is = to_is; new_is = new_is })
 
 -- From a state of flow one has reached another, where its table is and sees what is here.
-pub record Stood (first : StateName) (old : World) (name : StateName)
+pub record IsValid (first : StateName) (old : World) (name : StateName)
     (w : World) : Type 0 where
-  pub came : CameHere FlowStep first old name w
+  pub arrived : ArrivedHere FlowStep first old name w
   pub current : w.current ≡ looks w
-  pub stands : stands flow_table_scheme w (Next name)
+  pub valid : valid flow_table_scheme w (Next name)
   pub may : (w.point ≡ old.point) ⊎ (w.point.index < w.setting.limit)
 
-pub stood-first : (first : StateName) (w : World) →
-    w.current ≡ looks w → stands flow_table_scheme w (Next first) → Stood first w first w
-stood-first first w seen at = record {
-  came = came-first FlowStep first w;
+pub is_valid-first : (first : StateName) (w : World) →
+    w.current ≡ looks w → valid flow_table_scheme w (Next first) → IsValid first w first w
+is_valid-first first w seen at = record {
+  arrived = arrived-first FlowStep first w;
   current = seen;
-  stands = at;
+  valid = at;
   may = inl refl;
 }
 
 -- it is called, and left with what it answers,
-pub stood-leaves : (first : StateName) (old : World) (name : StateName)
+pub is_valid-leaves : (first : StateName) (old : World) (name : StateName)
     (w : World) (to : State) (new : World) →
-    Stood first old name w → RunsHere FlowStep name w to new → SeesOn to w new →
+    IsValid first old name w → RunsHere FlowStep name w to new → SeesOn to w new →
     RunsHere FlowStep first old to new × SeesOn to old new
-stood-leaves first old name w to new h runs sees =
-    let kept = here-keeps FlowStep flow_table_scheme name w to new flow-keeps h.current h.stands
+is_valid-leaves first old name w to new h runs sees =
+    let kept = here-keeps FlowStep flow_table_scheme name w to new flow-keeps h.current h.valid
     runs in (
-      λ is_end. came-runs FlowStep is_end first name old w to new (h.came is_end) (runs is_end),
+      λ is_end. arrived-runs FlowStep is_end first name old w to new (h.arrived is_end) (runs is_end),
       sees-from to old w new sees kept.2 h.may,
     )
 
 -- or continues with the state that it answers
-pub stood-goes : (first : StateName) (old : World) (name : StateName)
+pub is_valid-proceeds : (first : StateName) (old : World) (name : StateName)
     (w : World) (to : State) (u : World) (next : StateName) (new : World) →
-    Stood first old name w → RunsHere FlowStep name w to u → SeesOn to w u →
+    IsValid first old name w → RunsHere FlowStep name w to u → SeesOn to w u →
     AnswersWith to next u new →
-    Stood first old next new ×
+    IsValid first old next new ×
     (work flow_table_scheme new (Next next) < work flow_table_scheme w (Next name))
-stood-goes first old name w to u next _ h runs sees (ThatStays e) =
+is_valid-proceeds first old name w to u next _ h runs sees (ThatStays e) =
     let there : RunsHere FlowStep name w (Retry next) u =
     subst (λ (x : State). RunsHere FlowStep name w x u) e runs in
     let here : SeesOn (Retry next) w u = subst (λ (x : State). SeesOn x w u) e sees in
     let kept = here-keeps FlowStep flow_table_scheme name w (Retry next) u flow-keeps h.current
-    h.stands there in
+    h.valid there in
     let on = sees-from (Retry next) old w u here kept.2 h.may in (
       record {
-        came = came-stays FlowStep first name next old w u h.came there here kept.2;
+        arrived = arrived-stays FlowStep first name next old w u h.arrived there here kept.2;
         current = here.0;
-        stands = kept.0;
+        valid = kept.0;
         may = on.1;
       },
       kept.1,
     )
-stood-goes first old name w to u next _ h runs sees (ThatTook e lt) =
+is_valid-proceeds first old name w to u next _ h runs sees (ThatTook e lt) =
     let there : RunsHere FlowStep name w (Next next) u =
     subst (λ (x : State). RunsHere FlowStep name w x u) e runs in
     let kept = here-keeps FlowStep flow_table_scheme name w (Next next) u flow-keeps h.current
-    h.stands there in (
+    h.valid there in (
       record {
-        came =
-            λ is_end. came-on FlowStep is_end first next old u (reading u)
-            (came-runs FlowStep is_end first name old w (Next next) u (h.came is_end) (there is_end))
+        arrived =
+            λ is_end. arrived-on FlowStep is_end first next old u (reading u)
+            (arrived-runs FlowStep is_end first name old w (Next next) u (h.arrived is_end) (there is_end))
             (inr lt) refl;
         current = refl;
-        stands = kept.0;
+        valid = kept.0;
         may = inr lt;
       },
       kept.1,

@@ -2,7 +2,7 @@
 use Rattle.std.proofs.Common.{List, [], ◌∷◌, ap}
 use Rattle.std.specs.Prelude.{◌==◌}
 use Rattle.md_engine.specs.Meaning.{Cell, Here}
-use Rattle.md_leaves.specs.HeadingRule.{at_break, before_opening, behind_opening, in_hashes, in_text, is_heading}
+use Rattle.md_leaves.specs.HeadingRule.{at_break, before_opening, after_opening, in_hashes, in_text, is_heading}
 use Rattle.md_leaves.specs.LeafStart.{start_at}
 use Rattle.md_events.specs.Ahead.{begins_white, line_bytes, white_rest}
 use Rattle.md_events.specs.Spaces.{IsRest, any_size, calmed, small_indent}
@@ -13,14 +13,14 @@ break : (cells : List Cell) (h : Here) → IsRest h.scratch → RestsAfter (at_b
 unfolding at_break in_text
 break cells h is = cond-rests (begins_white cells) _ _ is tt
 
-behind-run : (cells : List Cell) (h : Here) → IsRest h.scratch → RestsAfter (behind_opening cells h)
-unfolding behind_opening
-behind-run cells h is =
+following-run : (cells : List Cell) (h : Here) → IsRest h.scratch → RestsAfter (after_opening cells h)
+unfolding after_opening
+following-run cells h is =
     cond-rests (begins_white cells) _ _ (break (white_rest any_size cells) _ (ap calmed is)) (break cells h is)
 
 run : (cells : List Cell) (h : Here) → IsRest h.scratch → RestsAfter (in_hashes cells h)
-run [] h is = behind-run [] _ is
-run (c ∷ cs) h is = cond-rests (c.byte == 35) _ _ (run cs _ is) (behind-run (c ∷ cs) _ is)
+run [] h is = following-run [] _ is
+run (c ∷ cs) h is = cond-rests (c.byte == 35) _ _ (run cs _ is) (following-run (c ∷ cs) _ is)
 
 front-run : (cells : List Cell) (h : Here) → IsRest h.scratch → RestsAfter (before_opening cells h)
 unfolding before_opening

@@ -4,7 +4,7 @@ use Rattle.md_engine.specs.declared.configuration.ParseOptions.{ParseOptions}
 use Rattle.md_engine.specs.declared.event.Event.{Event}
 use Rattle.md_engine.specs.declared.event.Point.{Point}
 use Rattle.md_engine.specs.Meaning.{Cell}
-use Rattle.md_containers.specs.QuoteRule.{alert_close, alert_events, behind_alert, behind_events, front_events}
+use Rattle.md_containers.specs.QuoteRule.{alert_close, alert_events, after_alert, after_events, front_events}
 use Rattle.md_containers.specs.QuoteRule.{indent_events, marked_events, marker_events, opening_end, opening_events}
 use Rattle.md_containers.specs.QuoteRule.{opening_kind, prefix_end, prefix_events, prefix_rest}
 use Rattle.md_leaves.specs.BlankRule.{blank_events}
@@ -23,14 +23,14 @@ white-front true p q = ((refl, refl), ((refl, refl), tt))
 white-front false p q = tt
 
 -- after the marker of a quote
-behind-front : (cells : List Cell) (p : Point) → AreFront (behind_events cells p)
-behind-front [] p = tt
-behind-front (c ∷ cs) p = white-front (is_white c.byte) p c.after
+following-front : (cells : List Cell) (p : Point) → AreFront (after_events cells p)
+following-front [] p = tt
+following-front (c ∷ cs) p = white-front (is_white c.byte) p c.after
 
 -- from the marker on
 marker-front : (cells : List Cell) (p : Point) → AreFront (marker_events cells p)
 marker-front [] p = tt
-marker-front (c ∷ cs) p = ((refl, refl), ((refl, refl), ((refl, refl), behind-front cs c.after)))
+marker-front (c ∷ cs) p = ((refl, refl), ((refl, refl), ((refl, refl), following-front cs c.after)))
 
 -- all of a prefix but its end
 front-front : (options : ParseOptions) (cells : List Cell) (p : Point) → AreFront (front_events options cells p)
@@ -50,7 +50,7 @@ prefix-front options cells p =
 marked-front : (kind : AlertKind) (cells : List Cell) (p : Point) → AreFront (marked_events kind cells p)
 marked-front kind cells p =
     let q : Point = alert_close kind cells p in
-    let rest : List Cell = behind_alert kind cells in
+    let rest : List Cell = after_alert kind cells in
     each-append IsFrontEvent (pair n.BlockQuoteMarker p q) (blank_events rest q)
     ((refl, refl), ((refl, refl), tt)) (white-front (begins_white rest) q (line_end rest q))
 

@@ -12,7 +12,7 @@ use Rattle.md_events.proofs.FeedLines.{slice-split}
 use Rattle.md_events.proofs.SpelledLemmas.{QuietOrEnding, text-inline, text_after, text_after-append}
 use Rattle.proof_frame.proofs.PlainRoles.{pair-roles}
 use Rattle.proof_frame.proofs.SpanLemmas.{byte-order}
-use Rattle.proof_frame.proofs.CollectFacts.{Collects, slice-none, blank-behind}
+use Rattle.proof_frame.proofs.CollectFacts.{Collects, slice-none, blank-following}
 use Rattle.md_engine.specs.declared.event.Name.TheVariants as n
 use Rattle.md_containers.proofs.QuoteLines.{IsPrefix}
 
@@ -21,16 +21,17 @@ prefix-text : (bytes : List ℕ) (p q : Point) (es : List Event) (t : Text) → 
     text_after bytes t es ≡ after_prefix q (before_prefix bytes is.marker t)
 prefix-text bytes p q es t is =
     let white : List Event = pair_unless_empty n.SpaceOrTab p is.marker in
-    let more : List Event = pair_unless_empty n.SpaceOrTab is.behind q in
+    let more : List Event = pair_unless_empty n.SpaceOrTab is.following q in
     let inside : List Event = enter n.BlockQuotePrefix is.marker ∷ enter n.BlockQuoteMarker is.marker
-    ∷ exit n.BlockQuoteMarker is.behind ∷ more in
+    ∷ exit n.BlockQuoteMarker is.following ∷ more in
     ap (text_after bytes t) is.events
     ∙ text_after-append bytes t (white ++ inside) (exit n.BlockQuotePrefix q ∷ [])
     ∙ ap (λ (x : Text). text_after bytes x (exit n.BlockQuotePrefix q ∷ []))
     (text_after-append bytes t white inside
     ∙ ap (λ (x : Text). text_after bytes x inside)
     (text-inline bytes t white (pair-roles QuietOrEnding n.SpaceOrTab p is.marker tt))
-    ∙ text-inline bytes (before_prefix bytes is.marker t) more (pair-roles QuietOrEnding n.SpaceOrTab is.behind q tt))
+    ∙ text-inline bytes (before_prefix bytes is.marker t) more
+    (pair-roles QuietOrEnding n.SpaceOrTab is.following q tt))
 
 -- from a byte on, up to the marker
 collects-prefix : (bytes : List ℕ) (p q : Point) (es ys : List Event) (from end : ℕ) (all : List ℕ) →
@@ -57,7 +58,7 @@ blank-before bytes p end le blank = go (p.vs == 0) le
         is_blank (slice_range bytes (cond x p.index (p.index + 1)) end) ≡ true
     go true h = blank
     go false h =
-        blank-behind (slice_range bytes p.index (p.index + 1)) (slice_range bytes (p.index + 1) end)
+        blank-following (slice_range bytes p.index (p.index + 1)) (slice_range bytes (p.index + 1) end)
         (sym (ap is_blank (slice-split bytes p.index (p.index + 1) end (omega arith) h)) ∙ blank)
 
 -- a prefix leaves the whitespace before its marker

@@ -7,13 +7,13 @@ use Rattle.md_engine.specs.declared.event.Name.TheVariants as n
 use Rattle.md_engine.specs.declared.event.Point.{Point}
 use Rattle.md_containers.proofs.OpeningLines.{IsOpening}
 use Rattle.md_containers.proofs.QuoteLines.{IsPrefix}
-use Rattle.md_containers.proofs.UnlistedLemmas.{NoListing, among, stands-append, unlists-same}
+use Rattle.md_containers.proofs.UnlistedLemmas.{NoListing, among, valid-append, unlists-same}
 use Rattle.md_meaning.specs.declared.alert.AlertKind.{AlertKind}
 use Rattle.md_meaning.specs.State.{InQuote}
-use Rattle.md_events.specs.Events.Grammar.{behind_block, blocks}
+use Rattle.md_events.specs.Events.Grammar.{after_block, blocks}
 use Rattle.md_events.specs.Events.Nested.{enter}
 use Rattle.md_events.proofs.SpelledLemmas.{Between, QuietOrPrefix, read-prefixes}
-use Rattle.proof_frame.proofs.LeafStands.{between-stand, between-unlisted}
+use Rattle.proof_frame.proofs.LeafAllowed.{between-are_valid, between-unlisted}
 use Rattle.proof_frame.proofs.PartedFacts.{Still, sits-still}
 use Rattle.proof_frame.proofs.PlainFacts.{Untold, plain-untold}
 use Rattle.proof_frame.proofs.PrefixFacts.{Continues, Opens, OpensRead, begins, is_bare, opens-same}
@@ -57,13 +57,13 @@ plain-opens bytes p q es is = record {
       (prefixes-roles Untold es (refl, refl) (refl, refl) (refl, refl) (prefix-are bytes p q es is));
   sits = sits-still bytes es (prefixes-roles Still es tt tt tt (prefix-are bytes p q es is));
   leads =
-      λ text takes. unlists-same text (blocks ∷ []) (blocks ∷ behind_block ∷ []) (enter n.BlockQuote p ∷ es)
+      λ text takes. unlists-same text (blocks ∷ []) (blocks ∷ after_block ∷ []) (enter n.BlockQuote p ∷ es)
       (refl, none)
       (prefix-begins bytes p q es is text);
-  stands =
-      λ held. stands-append bytes (among held) (among (false ∷ held)) (among (false ∷ held)) (enter n.BlockQuote p ∷ [])
-      es (record { stand = (tt, tt); behind = refl })
-      (between-stand bytes (false ∷ held) es (prefixes-roles Between es tt tt tt (prefix-are bytes p q es is)));
+  valid =
+      λ held. valid-append bytes (among held) (among (false ∷ held)) (among (false ∷ held)) (enter n.BlockQuote p ∷ [])
+      es (record { are_valid = (tt, tt); following = refl })
+      (between-are_valid bytes (false ∷ held) es (prefixes-roles Between es tt tt tt (prefix-are bytes p q es is)));
   unlisted = none;
   read =
       λ r none shut. read-prefixes bytes (begins (InQuote None) r) es none

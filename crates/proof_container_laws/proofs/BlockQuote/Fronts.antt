@@ -19,11 +19,12 @@ use Rattle.proof_frame.proofs.PassedFacts.{Agree, HasFurther, HasOpening}
 use Rattle.proof_container_laws.proofs.BlockQuote.Facts.{quote-continues, quote-opens_read}
 
 -- a quote of this kind continues
-pub quote-goes : (options : ParseOptions) (alert : Option AlertKind) → ByRest (λ line text past r stop p.
+pub quote-proceeds : (options : ParseOptions) (alert : Option AlertKind) → ByRest (λ line text past r stop p.
     let cells = rest_cells line r p ++ stop in
-    Agree (HasFurther line text past p (past_rest r p) stop cells) (quote_rules.goes options (InQuote alert) cells p)
+    Agree (HasFurther line text past p (past_rest r p) stop cells)
+    (quote_rules.proceeds options (InQuote alert) cells p)
     (quote_taken options alert r))
-quote-goes options alert line text past r stop p is h k short =
+quote-proceeds options alert line text past r stop p is h k short =
     go (quote_taken options alert r) refl (prefix-agrees options alert line text past r stop p is k short)
   where
     cells : List Cell
@@ -45,14 +46,14 @@ quote-goes options alert line text past r stop p is h k short =
         container = sym (quote-container options alert r t e);
         read = tt;
         fed = has.fed;
-        stands = has.stands;
+        valid = has.valid;
         ends = has.ends;
         no_ending = quote-no_ending options alert r t h e;
         shorter = let lt = has.shorter in omega arith;
       };
       further =
           quote-continues text p (prefix_end options cells p) (prefix_events options cells p) has.prefix
-          (omega (arith, is.column, has.stands.column, quote-onward options alert r t e));
+          (omega (arith, is.column, has.valid.column, quote-onward options alert r t e));
     }
 
     go : (taken : Option Taken) → quote_taken options alert r ≡ taken →
@@ -90,7 +91,7 @@ quote-begins options interrupting line text past r stop p is h k short = on opti
         container = sym has.kind;
         read = tt;
         fed = has.fed;
-        stands = has.stands;
+        valid = has.valid;
         ends = has.ends;
         no_ending = opening-no_ending options r t h e;
         shorter = let lt = has.shorter in omega arith;

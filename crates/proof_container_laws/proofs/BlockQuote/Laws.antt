@@ -12,11 +12,11 @@ use Rattle.md_meaning.specs.State.{Container, container_block}
 use Rattle.md_events.proofs.RestCells.{past_rest, rest_cells}
 use Rattle.proof_container_laws.specs.Containers.BlockQuote.{quote_rules}
 use Rattle.proof_frame.specs.ContainerNames.{IsOf, container_kind}
-use Rattle.proof_container_laws.proofs.BlockQuote.Fronts.{quote-begins, quote-goes}
+use Rattle.proof_container_laws.proofs.BlockQuote.Fronts.{quote-begins, quote-proceeds}
 use Rattle.proof_container_laws.proofs.BlockQuote.Tree.{no_quote-empty, opens-quote}
 use Rattle.proof_container_laws.proofs.BlockQuote.Trial.{each-quote, prefix-ended, prefix-held, prefix-looked}
-use Rattle.proof_container_laws.proofs.BlockQuote.Trial.{prefix-passed, prefix-tried}
-use Rattle.proof_container_laws.proofs.BlockQuote.Trial.{quote-ended, quote-held, quote-looked, quote-passed, quote-tried}
+use Rattle.proof_container_laws.proofs.BlockQuote.Trial.{prefix-passed, prefix-tried, quote-ended, quote-held}
+use Rattle.proof_container_laws.proofs.BlockQuote.Trial.{quote-looked, quote-passed, quote-tried}
 use Rattle.proof_frame.proofs.ContainerLaws.{ByRest, ContainerLaws}
 use Rattle.proof_frame.proofs.PassedFacts.{Agree, HasFurther}
 
@@ -31,14 +31,14 @@ quote-laws = record {
   begins_shorter = λ options cells h. quote-shortens options cells h;
   continues_shorter = λ options cells h ends. prefix-shortens options cells h;
   opened = λ options interrupting cells p t e. quote-passed options interrupting cells p t e;
-  went = λ options c cells p t is e. prefix-passed options c cells p t e;
+  proceeded = λ options c cells p t is e. prefix-passed options c cells p t e;
   held_new = λ options interrupting cells p t e. quote-held options interrupting cells p t e;
   held_on = λ options held c cells p t holds e. prefix-held options c cells p t e;
   opens_agrees = λ options interrupting. quote-begins options interrupting;
-  goes_agrees = goes;
+  proceeds_agrees = proceeds;
   found_one = λ options interrupting r t e. ap container_kind (opens-quote options r t e).1;
   opens_not = λ options interrupting cells p ends. quote-ended options interrupting cells p ends;
-  goes_over = λ options held c cells p is holds ends. prefix-ended options c cells p is ends;
+  continues_over = λ options held c cells p is holds ends. prefix-ended options c cells p is ends;
   over_empty = λ options held c column is holds.
       each-quote (λ d. continues options d (rest_at column []) ≡ None)
       (λ alert. no_quote-empty options alert column) c is;
@@ -47,12 +47,12 @@ quote-laws = record {
   shallow = λ c bs is h. each-quote (λ d. is_shallow (container_block d bs) ≡ true) (λ alert. h) c is;
 }
   where
-    goes : (options : ParseOptions) (c : Container) → IsOf kind.BlockQuote c → ByRest (λ line text past r stop p.
+    proceeds : (options : ParseOptions) (c : Container) → IsOf kind.BlockQuote c → ByRest (λ line text past r stop p.
         let cells = rest_cells line r p ++ stop in
-        Agree (HasFurther line text past p (past_rest r p) stop cells) (quote_rules.goes options c cells p)
+        Agree (HasFurther line text past p (past_rest r p) stop cells) (quote_rules.proceeds options c cells p)
         (continues options c r))
-    goes options c is = each-quote (λ d. ByRest (λ line text past r stop p.
+    proceeds options c is = each-quote (λ d. ByRest (λ line text past r stop p.
         let cells = rest_cells line r p ++ stop in
-        Agree (HasFurther line text past p (past_rest r p) stop cells) (quote_rules.goes options d cells p)
+        Agree (HasFurther line text past p (past_rest r p) stop cells) (quote_rules.proceeds options d cells p)
         (continues options d r)))
-        (λ alert. quote-goes options alert) c is
+        (λ alert. quote-proceeds options alert) c is

@@ -17,7 +17,7 @@ use Rattle.md_outline.specs.Outlined.{are_parted, begins_line}
 use Rattle.md_containers.proofs.QuoteLines.{IsPrefix}
 use Rattle.proof_frame.proofs.SpanLemmas.{byte-order}
 use Rattle.proof_frame.proofs.PartedFacts.{clear, low-clear}
-use Rattle.proof_frame.proofs.Reached.{PartsText, behind_prefix, reaches-behind}
+use Rattle.proof_frame.proofs.Reached.{PartsText, following_prefix, reaches-following}
 use Rattle.proof_frame.proofs.BetweenFacts.{white-at}
 
 -- it begins where no tab of a character is cut
@@ -35,32 +35,33 @@ prefix-clear bytes p q es is =
 pub prefix-parted : (bytes : List ℕ) (p q : Point) (es : List Event) → IsPrefix bytes p q es → PartsText bytes p q es
 prefix-parted bytes p q es is span rest reaches between more =
     subst (λ (l : List Event). are_parted bytes (Some span) (l ++ rest) ≡ true) (sym is.events)
-    (go (same_place p is.marker) (same_place is.behind q))
+    (go (same_place p is.marker) (same_place is.following q))
   where
     marker : Point
     marker = is.marker
 
-    behind : Point
-    behind = is.behind
+    following : Point
+    following = is.following
 
     piece : List ℕ
     piece = slice_range bytes span.from marker.index
 
     step : ((begins_line span piece && is_blank (last_line (split_lines piece)))
-        && (is_between bytes (byte_at q) && are_parted bytes (Some (behind_prefix q)) rest)) ≡
+        && (is_between bytes (byte_at q) && are_parted bytes (Some (following_prefix q)) rest)) ≡
         true
     step =
-        let onward = more (behind_prefix q) (reaches-behind bytes q) in
+        let onward = more (following_prefix q) (reaches-following bytes q) in
         let at = reaches.marks marker.index (byte-order p marker is.indent is.marker_whole) is.white_before in
         and_from (begins_line span piece && is_blank (last_line (split_lines piece)))
-        (is_between bytes (byte_at q) && are_parted bytes (Some (behind_prefix q)) rest)
+        (is_between bytes (byte_at q) && are_parted bytes (Some (following_prefix q)) rest)
         (and_from (begins_line span piece) (is_blank (last_line (split_lines piece))) at.0 at.1)
-        (and_from (is_between bytes (byte_at q)) (are_parted bytes (Some (behind_prefix q)) rest) between onward)
+        (and_from (is_between bytes (byte_at q)) (are_parted bytes (Some (following_prefix q)) rest) between onward)
 
     go : (x y : Bool) →
         are_parted bytes (Some span)
         ((cond x [] (pair n.SpaceOrTab p marker) ++ enter n.BlockQuotePrefix marker
-        ∷ enter n.BlockQuoteMarker marker ∷ exit n.BlockQuoteMarker behind ∷ cond y [] (pair n.SpaceOrTab behind q)
+        ∷ enter n.BlockQuoteMarker marker ∷ exit n.BlockQuoteMarker following ∷ cond y []
+        (pair n.SpaceOrTab following q)
         ++ exit n.BlockQuotePrefix q ∷ [])
         ++ rest) ≡
         true

@@ -5,9 +5,9 @@ use Rattle.std.specs.Prelude.{Some, slice_get}
 use Rattle.md_engine.specs.declared.event.Event.{Event}
 use Rattle.md_engine.specs.declared.event.Name.TheVariants as n
 use Rattle.md_engine.specs.declared.event.Point.{Point}
-use Rattle.md_events.specs.Events.Pieces.{piece_stands}
+use Rattle.md_events.specs.Events.Pieces.{is_valid_piece}
 use Rattle.md_containers.proofs.QuoteLines.{IsPrefix}
-use Rattle.proof_frame.proofs.PieceFacts.{begins-whole, over-stands, span}
+use Rattle.proof_frame.proofs.PieceFacts.{begins-whole, over-valid, span}
 
 -- one byte of a text
 slice-one : (bytes : List ℕ) (i b : ℕ) → slice_get bytes i ≡ Some b → slice_range bytes i (suc i) ≡ b ∷ []
@@ -22,14 +22,14 @@ slice-one bytes i b e = ap (λ (k : ℕ). take k (drop i bytes)) one ∙ go byte
     go (c ∷ bytes) (suc i) e = go bytes i e
 
 -- the marker of a quote
-pub marker-stands : (bytes : List ℕ) (p q : Point) (es : List Event) → (is : IsPrefix bytes p q es) →
-    piece_stands bytes (span n.BlockQuoteMarker is.marker is.behind) ≡ true
-marker-stands bytes p q es is =
-    let past : is.behind.index ≡ suc is.marker.index = is.past in
-    over-stands bytes n.BlockQuoteMarker is.marker is.behind (62 ∷ [])
+pub marker-valid : (bytes : List ℕ) (p q : Point) (es : List Event) → (is : IsPrefix bytes p q es) →
+    is_valid_piece bytes (span n.BlockQuoteMarker is.marker is.following) ≡ true
+marker-valid bytes p q es is =
+    let past : is.following.index ≡ suc is.marker.index = is.past in
+    over-valid bytes n.BlockQuoteMarker is.marker is.following (62 ∷ [])
     (record {
       some = omega arith;
-      whole = is.behind_whole;
+      whole = is.following_whole;
       slice = ap (slice_range bytes is.marker.index) past ∙ slice-one bytes is.marker.index 62 is.byte;
     })
     (begins-whole n.BlockQuoteMarker is.marker is.marker_whole) refl

@@ -21,8 +21,8 @@ use Rattle.md_events.proofs.SpelledLemmas.{QuietOrEnding, Unmarked, unmarked-app
 use Rattle.md_containers.proofs.OpeningLines.{marker-none}
 use Rattle.md_containers.proofs.QuoteLines.{IsPrefix, prefix_by}
 use Rattle.md_events.specs.declared.inline.PartKind.{PartKind}
-use Rattle.proof_frame.proofs.PartsStand.{Inside}
-use Rattle.proof_container_laws.proofs.BlockQuote.Pieces.{marker-stands}
+use Rattle.proof_frame.proofs.PartsValid.{Inside}
+use Rattle.proof_container_laws.proofs.BlockQuote.Pieces.{marker-valid}
 use Rattle.proof_container_laws.proofs.BlockQuote.Parted.{prefix-clear}
 use Rattle.proof_container_laws.proofs.FrontParts.{FrontPart, low-past, part-append, part-around, part-facts, part-pair}
 use Rattle.proof_container_laws.proofs.FrontParts.{part-white}
@@ -41,13 +41,13 @@ pair-prefixes p q = go (same_place p q)
 pub prefix-are : (bytes : List ℕ) (p q : Point) (es : List Event) → IsPrefix bytes p q es → ArePrefixes es
 prefix-are bytes p q es is =
     let indent = pair_unless_empty n.SpaceOrTab p is.marker in
-    let white = pair_unless_empty n.SpaceOrTab is.behind q in
+    let white = pair_unless_empty n.SpaceOrTab is.following q in
     let marker = enter n.BlockQuotePrefix is.marker ∷ enter n.BlockQuoteMarker is.marker
-    ∷ exit n.BlockQuoteMarker is.behind ∷ white in
+    ∷ exit n.BlockQuoteMarker is.following ∷ white in
     subst ArePrefixes (sym is.events)
     (each-append (IsNamed is_prefix) (indent ++ marker) (exit n.BlockQuotePrefix q ∷ [])
     (each-append (IsNamed is_prefix) indent marker (pair-prefixes p is.marker)
-    ((refl, refl), ((refl, refl), ((refl, refl), pair-prefixes is.behind q))))
+    ((refl, refl), ((refl, refl), ((refl, refl), pair-prefixes is.following q))))
     ((refl, refl), tt))
 
 -- its marker gives no quote a kind
@@ -59,13 +59,13 @@ white-unmarked bytes p q =
 pub front-unmarked : (bytes : List ℕ) (p q : Point) (es : List Event) → (is : IsPrefix bytes p q es) →
     Unmarked bytes
     (pair_unless_empty n.SpaceOrTab p is.marker ++ enter n.BlockQuotePrefix is.marker
-    ∷ enter n.BlockQuoteMarker is.marker ∷ exit n.BlockQuoteMarker is.behind
-    ∷ pair_unless_empty n.SpaceOrTab is.behind q)
+    ∷ enter n.BlockQuoteMarker is.marker ∷ exit n.BlockQuoteMarker is.following
+    ∷ pair_unless_empty n.SpaceOrTab is.following q)
 front-unmarked bytes p q es is =
     unmarked-append bytes (pair_unless_empty n.SpaceOrTab p is.marker)
-    (enter n.BlockQuotePrefix is.marker ∷ enter n.BlockQuoteMarker is.marker ∷ exit n.BlockQuoteMarker is.behind
-    ∷ pair_unless_empty n.SpaceOrTab is.behind q) (white-unmarked bytes p is.marker)
-    (tt, (marker-none bytes is.marker.index is.byte, (tt, white-unmarked bytes is.behind q)))
+    (enter n.BlockQuotePrefix is.marker ∷ enter n.BlockQuoteMarker is.marker ∷ exit n.BlockQuoteMarker is.following
+    ∷ pair_unless_empty n.SpaceOrTab is.following q) (white-unmarked bytes p is.marker)
+    (tt, (marker-none bytes is.marker.index is.byte, (tt, white-unmarked bytes is.following q)))
 
 -- and with it
 pub prefix-unmarked : (bytes : List ℕ) (p q : Point) (es : List Event) → IsPrefix bytes p q es → Unmarked bytes es
@@ -73,8 +73,8 @@ prefix-unmarked bytes p q es is =
     subst (Unmarked bytes) (sym is.events)
     (unmarked-append bytes
     (pair_unless_empty n.SpaceOrTab p is.marker ++ enter n.BlockQuotePrefix is.marker
-    ∷ enter n.BlockQuoteMarker is.marker ∷ exit n.BlockQuoteMarker is.behind
-    ∷ pair_unless_empty n.SpaceOrTab is.behind q) (exit n.BlockQuotePrefix q ∷ []) (front-unmarked bytes p q es is)
+    ∷ enter n.BlockQuoteMarker is.marker ∷ exit n.BlockQuoteMarker is.following
+    ∷ pair_unless_empty n.SpaceOrTab is.following q) (exit n.BlockQuotePrefix q ∷ []) (front-unmarked bytes p q es is)
     (tt, tt))
 
 -- a prefix has events
@@ -83,8 +83,8 @@ prefix-some bytes p q es is none = go (same_place p is.marker) (sym is.events �
   where
     go : (x : Bool) →
         (cond x [] (pair n.SpaceOrTab p is.marker) ++ enter n.BlockQuotePrefix is.marker
-        ∷ enter n.BlockQuoteMarker is.marker ∷ exit n.BlockQuoteMarker is.behind
-        ∷ pair_unless_empty n.SpaceOrTab is.behind q ++ exit n.BlockQuotePrefix q ∷ []) ≢ []
+        ∷ enter n.BlockQuoteMarker is.marker ∷ exit n.BlockQuoteMarker is.following
+        ∷ pair_unless_empty n.SpaceOrTab is.following q ++ exit n.BlockQuotePrefix q ∷ []) ≢ []
     go true h = cc
     go false h = cc
 
@@ -92,24 +92,24 @@ prefix-some bytes p q es is none = go (same_place p is.marker) (sym is.events �
 pub prefix-inside : (bytes : List ℕ) (kind : PartKind) (p q : Point) (es : List Event) → IsPrefix bytes p q es →
     Inside bytes kind [] es
 prefix-inside bytes kind p q es is =
-    subst (Inside bytes kind []) (sym is.events) (go (same_place p is.marker) (same_place is.behind q))
+    subst (Inside bytes kind []) (sym is.events) (go (same_place p is.marker) (same_place is.following q))
   where
-    go : (x y : Bool) → Inside bytes kind [] (prefix_by x y p is.marker is.behind q)
+    go : (x y : Bool) → Inside bytes kind [] (prefix_by x y p is.marker is.following q)
     go true true = record {
       outside = (refl, (refl, (refl, (refl, tt))));
       ends = refl;
       white = refl;
       has = refl;
       kinds = refl;
-      stand = λ ys. refl;
+      are_valid = λ ys. refl;
     }
     go true false = record {
       outside = (refl, (refl, (refl, (refl, (refl, (refl, tt))))));
       ends = refl;
-      white = rw is.white_behind refl;
+      white = rw is.white_after refl;
       has = refl;
       kinds = refl;
-      stand = λ ys. refl;
+      are_valid = λ ys. refl;
     }
     go false true = record {
       outside = (refl, (refl, (refl, (refl, (refl, (refl, tt))))));
@@ -117,42 +117,42 @@ prefix-inside bytes kind p q es is =
       white = rw is.white_before refl;
       has = refl;
       kinds = refl;
-      stand = λ ys. refl;
+      are_valid = λ ys. refl;
     }
     go false false = record {
       outside = (refl, (refl, (refl, (refl, (refl, (refl, (refl, (refl, tt))))))));
       ends = refl;
-      white = rw (is.white_before, is.white_behind) refl;
+      white = rw (is.white_before, is.white_after) refl;
       has = refl;
       kinds = refl;
-      stand = λ ys. refl;
+      are_valid = λ ys. refl;
     }
 
 -- All of it.
 
 -- its marker
 pub mark-part : (bytes : List ℕ) (p q : Point) (es : List Event) → (is : IsPrefix bytes p q es) →
-    FrontPart bytes is.marker is.behind (pair n.BlockQuoteMarker is.marker is.behind)
+    FrontPart bytes is.marker is.following (pair n.BlockQuoteMarker is.marker is.following)
 mark-part bytes p q es is =
     let quote : slice_index bytes is.marker.index ≡ 62 = get_or_from_slice_get bytes is.marker.index 62 0 is.byte in
     let low : is_low (slice_index bytes is.marker.index) ≡ true = subst (λ (b : ℕ). is_low b ≡ true) (sym quote) refl in
-    part-pair n.BlockQuoteMarker is.marker is.behind (refl, refl, refl, refl) (λ ys h. h) refl refl
-    (further is.marker is.behind is.past) (marker-stands bytes p q es is)
-    (λ from. low-past bytes is.marker is.behind low (omega (arith, is.past)))
+    part-pair n.BlockQuoteMarker is.marker is.following (refl, refl, refl, refl) (λ ys h. h) refl refl
+    (further is.marker is.following is.past) (marker-valid bytes p q es is)
+    (λ from. low-past bytes is.marker is.following low (omega (arith, is.past)))
 
 -- with the whitespace around it
 prefix-part : (bytes : List ℕ) (p q : Point) (es : List Event) → IsPrefix bytes p q es → FrontPart bytes p q es
 prefix-part bytes p q es is =
     let indent : List Event = pair_unless_empty n.SpaceOrTab p is.marker in
     let inside : List Event =
-    pair n.BlockQuoteMarker is.marker is.behind ++ pair_unless_empty n.SpaceOrTab is.behind q in
+    pair n.BlockQuoteMarker is.marker is.following ++ pair_unless_empty n.SpaceOrTab is.following q in
     subst (FrontPart bytes p q)
     (sym
     (is.events ∙ append_assoc indent (enter n.BlockQuotePrefix is.marker ∷ inside) (exit n.BlockQuotePrefix q ∷ [])))
     (part-append (part-white p is.marker is.indent is.white_before)
     (part-around n.BlockQuotePrefix is.marker q inside (refl, refl, refl, refl) tt refl refl
-    (part-append (mark-part bytes p q es is) (part-white is.behind q is.column is.white_behind))))
+    (part-append (mark-part bytes p q es is) (part-white is.following q is.column is.white_after))))
 
 pub prefix-facts : (bytes : List ℕ) (p q : Point) (es : List Event) → IsPrefix bytes p q es → PrefixFacts bytes p q es
 prefix-facts bytes p q es is =
-    part-facts (prefix-part bytes p q es is) is.line (λ behind. prefix-clear bytes p q es is)
+    part-facts (prefix-part bytes p q es is) is.line (λ following. prefix-clear bytes p q es is)

@@ -16,10 +16,10 @@ use Rattle.md_meaning.specs.declared.alert.AlertKind.{AlertKind}
 use Rattle.md_meaning.specs.Rest.{is_white}
 use Rattle.md_meaning.specs.State.{Container, InFootnote, InItem, InQuote}
 use Rattle.md_events.specs.Ahead.{white_rest}
-use Rattle.md_events.specs.Look.{first_seen, seen_behind}
+use Rattle.md_events.specs.Look.{first_seen, seen_after}
 use Rattle.md_events.specs.Spaces.{IsRest, ends_line, small_indent}
 use Rattle.md_events.proofs.LookLemmas.{rest-begins}
-use Rattle.proof_container_laws.specs.Containers.BlockQuote.{quote_goes, quote_new, quote_on, quote_rules}
+use Rattle.proof_container_laws.specs.Containers.BlockQuote.{quote_continues, quote_new, quote_on, quote_rules}
 use Rattle.proof_frame.specs.ContainerNames.{IsOf}
 use Rattle.proof_frame.specs.Passed.{Passed, passed_by}
 use Rattle.proof_container_laws.proofs.BlockQuote.Cells.{opening-front, prefix-front}
@@ -60,15 +60,15 @@ each-quote P h (InFootnote label) is = cc
 -- on a further line,
 pub prefix-tried : (options : ParseOptions) (c : Container) (cells : List Cell) (h : Here) → IsRest h.scratch →
     h.flags.asked ≡ container_of kind.BlockQuote → IsOf kind.BlockQuote c →
-    prefix_at options cells h ≡ passed_by (quote_goes options c cells h.point) h
+    prefix_at options cells h ≡ passed_by (quote_continues options c cells h.point) h
 prefix-tried options c cells h is asked of =
-    each-quote (λ d. prefix_at options cells h ≡ passed_by (quote_goes options d cells h.point) h)
+    each-quote (λ d. prefix_at options cells h ≡ passed_by (quote_continues options d cells h.point) h)
     (λ alert.
     prefix-is options cells h is
     ∙ tried-if (takes_prefix options cells) (quote_on options alert cells h.point) h asked) c of
 
 -- not where another byte than `>` is first after whitespace,
-no_prefix : (options : ParseOptions) (cells : List Cell) (b : ℕ) → seen_behind cells ≡ Some b →
+no_prefix : (options : ParseOptions) (cells : List Cell) (b : ℕ) → seen_after cells ≡ Some b →
     may_begin b ≡ false → takes_prefix options cells ≡ false
 no_prefix options cells b seen e =
     let first = rest-begins (small_indent options) cells b seen in
@@ -90,32 +90,32 @@ ended_prefix options (c ∷ cs) ends =
     let ten : c.byte ≡ 10 = eqb-true c.byte 10 ends in no_prefix options (c ∷ cs) 10 (rw ten refl) refl
 
 pub prefix-ended : (options : ParseOptions) (c : Container) (cells : List Cell) (p : Point) →
-    IsOf kind.BlockQuote c → ends_line (first_seen cells) ≡ true → quote_goes options c cells p ≡ None
+    IsOf kind.BlockQuote c → ends_line (first_seen cells) ≡ true → quote_continues options c cells p ≡ None
 prefix-ended options c cells p of ends =
-    each-quote (λ d. quote_goes options d cells p ≡ None)
+    each-quote (λ d. quote_continues options d cells p ≡ None)
     (λ alert.
     ap (λ (x : Bool). cond x (Some (quote_on options alert cells p)) None) (ended_prefix options cells ends)) c of
 
 pub prefix-looked : (options : ParseOptions) (cells : List Cell) (h : Here) (b : ℕ) → IsRest h.scratch →
-    seen_behind cells ≡ Some b → may_begin b ≡ false → prefix_at options cells h ≡ Refuses h.scratch h.flags
+    seen_after cells ≡ Some b → may_begin b ≡ false → prefix_at options cells h ≡ Refuses h.scratch h.flags
 prefix-looked options cells h b is seen e =
     prefix-is options cells h is
     ∙ ap (λ (x : Bool). cond x (taken_by (quote_on options None cells h.point) h) (Refuses h.scratch h.flags))
     (no_prefix options cells b seen e)
 
 -- one that is taken is a quote that continues
-goes-on : (options : ParseOptions) (c : Container) (cells : List Cell) (p : Point) (t : Passed) →
-    quote_goes options c cells p ≡ Some t →
+proceeds-on : (options : ParseOptions) (c : Container) (cells : List Cell) (p : Point) (t : Passed) →
+    quote_continues options c cells p ≡ Some t →
     (alert : Option AlertKind) × (takes_prefix options cells ≡ true) × (quote_on options alert cells p ≡ t)
-goes-on options (InQuote alert) cells p t e =
+proceeds-on options (InQuote alert) cells p t e =
     let is = taken-if (takes_prefix options cells) (quote_on options alert cells p) t e in (alert, is.0, is.1)
-goes-on options (InItem digits marker width starts_blank) cells p t e = cc
-goes-on options (InFootnote label) cells p t e = cc
+proceeds-on options (InItem digits marker width starts_blank) cells p t e = cc
+proceeds-on options (InFootnote label) cells p t e = cc
 
 pub prefix-passed : (options : ParseOptions) (c : Container) (cells : List Cell) (p : Point) (t : Passed) →
-    quote_goes options c cells p ≡ Some t → IsPassed kind.BlockQuote cells t
+    quote_continues options c cells p ≡ Some t → IsPassed kind.BlockQuote cells t
 prefix-passed options c cells p t e =
-    let is = goes-on options c cells p t e in
+    let is = proceeds-on options c cells p t e in
     let lt = prefix-shorter options cells is.1 in
     subst (IsPassed kind.BlockQuote cells) is.2
     (record {
@@ -127,8 +127,8 @@ prefix-passed options c cells p t e =
     })
 
 pub prefix-held : (options : ParseOptions) (c : Container) (cells : List Cell) (p : Point) (t : Passed) →
-    quote_goes options c cells p ≡ Some t → t.held ≡ container_of kind.BlockQuote
-prefix-held options c cells p t e = sym (ap (λ (u : Passed). u.held) (goes-on options c cells p t e).2)
+    quote_continues options c cells p ≡ Some t → t.held ≡ container_of kind.BlockQuote
+prefix-held options c cells p t e = sym (ap (λ (u : Passed). u.held) (proceeds-on options c cells p t e).2)
 
 -- and where one opens
 pub quote-tried : (options : ParseOptions) (interrupting : Bool) (cells : List Cell) (h : Here) → IsRest h.scratch →
@@ -139,7 +139,7 @@ quote-tried options interrupting cells h is asked =
     ∙ tried-if (options.constructs.block_quote && takes_prefix options cells) (quote_new options cells h.point) h asked
 
 pub quote-looked : (options : ParseOptions) (cells : List Cell) (h : Here) (b : ℕ) → IsRest h.scratch →
-    seen_behind cells ≡ Some b → may_begin b ≡ false → quote_at options cells h ≡ Refuses h.scratch h.flags
+    seen_after cells ≡ Some b → may_begin b ≡ false → quote_at options cells h ≡ Refuses h.scratch h.flags
 quote-looked options cells h b is seen e = quote-is options cells h is ∙ go options.constructs.block_quote
   where
     new : Outcome

@@ -7,7 +7,7 @@ use Rattle.md_engine.specs.declared.event.Name.TheVariants as n
 use Rattle.md_engine.specs.declared.event.Point.{Point}
 use Rattle.md_engine.specs.Meaning.{Cell}
 use Rattle.md_containers.specs.Footnote.{footnote_width}
-use Rattle.md_containers.specs.FootnotePrefix.{as_footnote, footnote_behind, footnote_ended, footnote_further}
+use Rattle.md_containers.specs.FootnotePrefix.{as_footnote, footnote_after, footnote_ended, footnote_further}
 use Rattle.md_containers.specs.FootnotePrefix.{footnote_labelled, footnote_marked, footnote_new, white_events}
 use Rattle.md_containers.specs.FootnoteRule.{LabelCells, bracket_events, caret_events, label_cells, label_ended}
 use Rattle.md_containers.specs.FootnoteRule.{may_have}
@@ -59,10 +59,10 @@ marked-front front (c ∷ cs) p h =
     (front-append front _ h ((refl, refl), ((refl, refl), ((refl, refl), ((refl, refl), tt)))))) tt
 
 -- after its indent,
-behind-front : (front : List Event) (cells : List Cell) (p : Point) → AreFront front →
-    HasFront (footnote_behind front cells p)
-behind-front front [] p h = tt
-behind-front front (c ∷ cs) p h =
+following-front : (front : List Event) (cells : List Cell) (p : Point) → AreFront front →
+    HasFront (footnote_after front cells p)
+following-front front [] p h = tt
+following-front front (c ∷ cs) p h =
     front-if (nat_eq c.byte left_bracket) _ _
     (marked-front (front ++ bracket_events p c.after) cs c.after
     (front-append front _ h ((refl, refl), ((refl, refl), ((refl, refl), ((refl, refl), tt)))))) tt
@@ -71,7 +71,7 @@ behind-front front (c ∷ cs) p h =
 pub new-front : (options : ParseOptions) (cells : List Cell) (p : Point) → HasFront (footnote_new options cells p)
 new-front options cells p =
     front-if options.constructs.gfm_footnote_definition _ _
-    (behind-front (enter n.GfmFootnoteDefinition p ∷ indent_events options cells p)
+    (following-front (enter n.GfmFootnoteDefinition p ∷ indent_events options cells p)
     (white_rest (small_indent options) cells) (white_end (small_indent options) cells p)
     ((refl, refl), white-front (begins_white cells) p (white_end (small_indent options) cells p)))
     tt

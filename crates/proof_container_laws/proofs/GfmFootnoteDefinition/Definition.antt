@@ -7,7 +7,7 @@ use Rattle.md_meaning.specs.Ascii.{backslash, caret, colon, left_bracket, right_
 use Rattle.md_meaning.specs.Containers.{Labelled, Taken, footnote_by, footnote_label, is_label_mark, opens_footnote}
 use Rattle.md_meaning.specs.Containers.{with_label_byte}
 use Rattle.md_meaning.specs.Lines.{begins_with, is_ending}
-use Rattle.md_meaning.specs.Rest.{Rest, behind_indent, has_small_indent, indent, is_white}
+use Rattle.md_meaning.specs.Rest.{Rest, after_indent, has_small_indent, indent, is_white}
 use Rattle.md_meaning.specs.State.{InFootnote}
 use Rattle.md_meaning.proofs.TextsLemmas.{NoEnding, no_ending-drop}
 use Rattle.md_events.proofs.RestCells.{lose-no_ending}
@@ -51,7 +51,7 @@ by-label H from (Some l) h =
 pub opens-one : (options : ParseOptions) (r : Rest) → IsFootnote (NoEnding r.bytes) (opens_footnote options r)
 unfolding opens_footnote
 opens-one options r =
-    let from = behind_indent r in
+    let from = after_indent r in
     footnote-if (NoEnding r.bytes)
     (options.constructs.gfm_footnote_definition && has_small_indent options r
     && starts_with nat_eq from.bytes (left_bracket ∷ caret ∷ [])) _ _

@@ -14,14 +14,15 @@ use Rattle.md_containers.specs.ItemPrefix.{ItemPassed, item_further}
 use Rattle.md_containers.proofs.FootnoteHeld.{IsSame, further-footnote}
 use Rattle.md_containers.proofs.FootnoteLines.{footnote-further_agrees}
 use Rattle.md_containers.proofs.FootnoteOpens.{OpensFootnote, footnote-opens_agrees, footnote_prefix}
-use Rattle.md_containers.proofs.ItemLines.{GoesFurther, ItemAgrees, LeavesRest}
+use Rattle.md_containers.proofs.ItemLines.{ContinuesFurther, ItemAgrees, LeavesRest}
 use Rattle.md_meaning.specs.Containers.{Taken, continues, footnote_continues, opens_footnote}
 use Rattle.md_meaning.specs.State.{Container, InFootnote}
 use Rattle.md_meaning.proofs.TextsLemmas.{NoEnding}
 use Rattle.md_events.specs.Events.Inline.{pair_unless_empty}
 use Rattle.md_events.specs.Events.Nested.{enter}
 use Rattle.md_events.proofs.RestCells.{past_rest, rest_cells}
-use Rattle.proof_container_laws.specs.Containers.GfmFootnoteDefinition.{footnote_passed, footnote_passes, footnote_rules}
+use Rattle.proof_container_laws.specs.Containers.GfmFootnoteDefinition.{footnote_passed, footnote_passes}
+use Rattle.proof_container_laws.specs.Containers.GfmFootnoteDefinition.{footnote_rules}
 use Rattle.proof_frame.specs.ContainerNames.{IsOf, container_name}
 use Rattle.proof_frame.proofs.ContainerLaws.{ByRest}
 use Rattle.proof_container_laws.proofs.GfmFootnoteDefinition.Definition.{IsFootnote, opens-one}
@@ -42,7 +43,7 @@ footnote-leaves line text past label end stop cells o t leaves is = record {
   container = leaves.container;
   read = subst IsRead (sym is) tt;
   fed = leaves.fed;
-  stands = leaves.stands;
+  valid = leaves.valid;
   ends = leaves.ends;
   no_ending = leaves.no_ending;
   shorter = leaves.shorter;
@@ -54,14 +55,14 @@ as-columns : (label : List ℕ) (p : Point) (o : Option ItemPassed) → HasColum
 as-columns label p None h = tt
 as-columns label p (Some t) h = h
 
-pub footnote-goes : (options : ParseOptions) (c : Container) → IsOf kind.GfmFootnoteDefinition c →
+pub footnote-proceeds : (options : ParseOptions) (c : Container) → IsOf kind.GfmFootnoteDefinition c →
     ByRest (λ line text past r stop p.
     let cells = rest_cells line r p ++ stop in
-    Agree (HasFurther line text past p (past_rest r p) stop cells) (footnote_rules.goes options c cells p)
+    Agree (HasFurther line text past p (past_rest r p) stop cells) (footnote_rules.proceeds options c cells p)
     (continues options c r))
-footnote-goes options c is = each-footnote (λ d. ByRest (λ line text past r stop p.
+footnote-proceeds options c is = each-footnote (λ d. ByRest (λ line text past r stop p.
     let cells = rest_cells line r p ++ stop in
-    Agree (HasFurther line text past p (past_rest r p) stop cells) (footnote_rules.goes options d cells p)
+    Agree (HasFurther line text past p (past_rest r p) stop cells) (footnote_rules.proceeds options d cells p)
     (continues options d r))) each c is
   where
     each : (label : List ℕ) → ByRest (λ line text past r stop p.
@@ -78,7 +79,7 @@ footnote-goes options c is = each-footnote (λ d. ByRest (λ line text past r st
         cells = rest_cells line r p ++ stop
 
         go : (o : Option ItemPassed) (t : Option Taken) →
-            ItemAgrees (GoesFurther line text past p (past_rest r p) stop cells) o t → IsSame label o →
+            ItemAgrees (ContinuesFurther line text past p (past_rest r p) stop cells) o t → IsSame label o →
             HasColumns p o →
             Agree (HasFurther line text past p (past_rest r p) stop cells) (footnote_passes o) t
         go None None has one columns = tt
@@ -92,7 +93,7 @@ footnote-goes options c is = each-footnote (λ d. ByRest (λ line text past r st
                 events = has.events;
                 white = has.white;
                 columns = columns;
-                cut = rest-cut text past t.rest o.point has.leaves.stands;
+                cut = rest-cut text past t.rest o.point has.leaves.valid;
               });
         }
 
@@ -113,7 +114,7 @@ footnote-front line text past p end stop cells o t has one_line = record {
   one_line = one_line;
   events = refl;
   white_before = has.white_before;
-  white_behind = has.white_behind;
+  white_after = has.white_after;
 }
 
 pub footnote-begins : (options : ParseOptions) (interrupting : Bool) → ByRest (λ line text past r stop p.

@@ -6,27 +6,27 @@ use Rattle.md_engine.specs.declared.event.Event.{Event}
 use Rattle.md_engine.specs.declared.event.Link.{Link}
 use Rattle.md_engine.specs.declared.event.Name.TheVariants as n
 use Rattle.md_engine.specs.declared.event.Point.{Point}
-use Rattle.md_containers.specs.ItemsStand.{InLabel, Site}
-use Rattle.md_containers.proofs.UnlistedLemmas.{NoListing, StandsTo, Unlists, among, stands-append, unlists-same}
-use Rattle.md_events.specs.Events.Grammar.{Expression, Then, behind, behind_block, blocks, one, white}
+use Rattle.md_containers.specs.ItemsAllowed.{InLabel, Site}
+use Rattle.md_containers.proofs.UnlistedLemmas.{NoListing, ItemsLead, Unlists, among, valid-append, unlists-same}
+use Rattle.md_events.specs.Events.Grammar.{Expression, Then, following, after_block, blocks, one, white}
 use Rattle.md_events.specs.Events.Nested.{enter}
 use Rattle.md_events.proofs.GrammarLemmas.{Leads, leads-append, leads-around}
 use Rattle.proof_frame.proofs.ContainerNames.{TakesData}
-use Rattle.proof_container_laws.proofs.GfmFootnoteDefinition.Prefix.{IsFront, before_label, behind_colon, behind_label}
-use Rattle.proof_container_laws.proofs.GfmFootnoteDefinition.Prefix.{colon_at, data_at, front-each, front_by, label_at}
-use Rattle.proof_container_laws.proofs.GfmFootnoteDefinition.Prefix.{label_end, label_part}
-use Rattle.proof_frame.proofs.LeafStands.{site_of}
+use Rattle.proof_container_laws.proofs.GfmFootnoteDefinition.Prefix.{IsFront, before_label, following_colon}
+use Rattle.proof_container_laws.proofs.GfmFootnoteDefinition.Prefix.{after_label, colon_at, data_at, front-each}
+use Rattle.proof_container_laws.proofs.GfmFootnoteDefinition.Prefix.{front_by, label_at, label_end, label_part}
+use Rattle.proof_frame.proofs.LeafAllowed.{site_of}
 
 -- with the begin of the footnote definition, they lead from blocks into those of it, where its label may be
 pub front-leads : (bytes label : List ℕ) (link : Option Link) (p q : Point) (es : List Event) →
     IsFront bytes label link p q es → NoListing es → (text : Expression) → TakesData text →
-    Unlists text (blocks ∷ []) (blocks ∷ behind_block ∷ []) (enter n.GfmFootnoteDefinition p ∷ es)
+    Unlists text (blocks ∷ []) (blocks ∷ after_block ∷ []) (enter n.GfmFootnoteDefinition p ∷ es)
 front-leads bytes label link p q es is none text takes =
-    unlists-same text (blocks ∷ []) (blocks ∷ behind_block ∷ []) (enter n.GfmFootnoteDefinition p ∷ es)
+    unlists-same text (blocks ∷ []) (blocks ∷ after_block ∷ []) (enter n.GfmFootnoteDefinition p ∷ es)
     (refl, none) (front-each Leading bytes label link p q es is go)
   where
     Leading : List Event → Type 0
-    Leading xs = Leads text (blocks ∷ []) (blocks ∷ behind_block ∷ []) (enter n.GfmFootnoteDefinition p ∷ xs)
+    Leading xs = Leads text (blocks ∷ []) (blocks ∷ after_block ∷ []) (enter n.GfmFootnoteDefinition p ∷ xs)
 
     first : Point
     first = label_at is.start
@@ -36,7 +36,7 @@ front-leads bytes label link p q es is none text takes =
 
     -- what is left around a label, and after it
     around_label : List Expression
-    around_label = Then (one n.DefinitionMarker) white ∷ blocks ∷ behind_block ∷ []
+    around_label = Then (one n.DefinitionMarker) white ∷ blocks ∷ after_block ∷ []
 
     string : Expression
     string = Then (one n.GfmFootnoteDefinitionLabelString) (one n.GfmFootnoteDefinitionLabelMarker)
@@ -51,27 +51,27 @@ front-leads bytes label link p q es is none text takes =
         (label_part link first end)
     name outer =
         leads-around text string n.GfmFootnoteDefinitionLabelString first end (data_at link first end)
-        (record { left = behind n.Data text; leads = λ outer. refl; ends = takes }) (around_label ++ outer)
+        (record { left = following n.Data text; leads = λ outer. refl; ends = takes }) (around_label ++ outer)
 
     after : (same : Bool) →
-        Leads text (one n.GfmFootnoteDefinitionLabelMarker ∷ around_label) (blocks ∷ behind_block ∷ [])
-        (behind_label same end (colon_at label is.start) (behind_colon label is.start) q)
+        Leads text (one n.GfmFootnoteDefinitionLabelMarker ∷ around_label) (blocks ∷ after_block ∷ [])
+        (after_label same end (colon_at label is.start) (following_colon label is.start) q)
     after true outer = refl
     after false outer = refl
 
     all : (bare same : Bool) →
-        Leads text (blocks ∷ []) (blocks ∷ behind_block ∷ [])
+        Leads text (blocks ∷ []) (blocks ∷ after_block ∷ [])
         ((enter n.GfmFootnoteDefinition p ∷ before_label bare p is.start)
         ++ (label_part link first end
-        ++ behind_label same end (colon_at label is.start) (behind_colon label is.start) q))
+        ++ after_label same end (colon_at label is.start) (following_colon label is.start) q))
     all bare same =
-        leads-append text (blocks ∷ []) (string ∷ around_label) (blocks ∷ behind_block ∷ [])
+        leads-append text (blocks ∷ []) (string ∷ around_label) (blocks ∷ after_block ∷ [])
         (enter n.GfmFootnoteDefinition p ∷ before_label bare p is.start)
         (label_part link first end
-        ++ behind_label same end (colon_at label is.start) (behind_colon label is.start) q) (before bare)
+        ++ after_label same end (colon_at label is.start) (following_colon label is.start) q) (before bare)
         (leads-append text (string ∷ around_label) (one n.GfmFootnoteDefinitionLabelMarker ∷ around_label)
-        (blocks ∷ behind_block ∷ []) (label_part link first end)
-        (behind_label same end (colon_at label is.start) (behind_colon label is.start) q) name (after same))
+        (blocks ∷ after_block ∷ []) (label_part link first end)
+        (after_label same end (colon_at label is.start) (following_colon label is.start) q) name (after same))
 
     go : (bare same : Bool) → Leading (front_by link bare same label p is.start q)
     go true true = all true true
@@ -80,14 +80,14 @@ front-leads bytes label link p q es is none text takes =
     go false false = all false false
 
 -- blocks may be in it
-pub front-stands : (bytes label : List ℕ) (link : Option Link) (p q : Point) (es : List Event) (held : List Bool) →
+pub front-valid : (bytes label : List ℕ) (link : Option Link) (p q : Point) (es : List Event) (held : List Bool) →
     IsFront bytes label link p q es →
-    StandsTo bytes (among held) (among (false ∷ held)) (enter n.GfmFootnoteDefinition p ∷ es)
-front-stands bytes label link p q es held is =
-    front-each Standing bytes label link p q es is go
+    ItemsLead bytes (among held) (among (false ∷ held)) (enter n.GfmFootnoteDefinition p ∷ es)
+front-valid bytes label link p q es held is =
+    front-each Situation bytes label link p q es is go
   where
-    Standing : List Event → Type 0
-    Standing xs = StandsTo bytes (among held) (among (false ∷ held)) (enter n.GfmFootnoteDefinition p ∷ xs)
+    Situation : List Event → Type 0
+    Situation xs = ItemsLead bytes (among held) (among (false ∷ held)) (enter n.GfmFootnoteDefinition p ∷ xs)
 
     start : Point
     start = is.start
@@ -98,8 +98,8 @@ front-stands bytes label link p q es held is =
     close : Point
     close = colon_at label start
 
-    behind_it : Point
-    behind_it = behind_colon label start
+    after_it : Point
+    after_it = following_colon label start
 
     -- up to the end of its label, and after that
     front : Site
@@ -108,32 +108,32 @@ front-stands bytes label link p q es held is =
     inside : Site
     inside = among (false ∷ held)
 
-    begin : StandsTo bytes (among held) front (enter n.GfmFootnoteDefinition p ∷ [])
-    begin = record { stand = (tt, tt); behind = refl }
+    begin : ItemsLead bytes (among held) front (enter n.GfmFootnoteDefinition p ∷ [])
+    begin = record { are_valid = (tt, tt); following = refl }
 
-    before : (bare : Bool) → StandsTo bytes front front (before_label bare p start)
-    before true = record { stand = (tt, (tt, (tt, (tt, (tt, (tt, tt)))))); behind = refl }
-    before false = record { stand = (tt, (tt, (tt, (tt, (tt, (tt, (tt, (tt, tt)))))))); behind = refl }
+    before : (bare : Bool) → ItemsLead bytes front front (before_label bare p start)
+    before true = record { are_valid = (tt, (tt, (tt, (tt, (tt, (tt, tt)))))); following = refl }
+    before false = record { are_valid = (tt, (tt, (tt, (tt, (tt, (tt, (tt, (tt, tt)))))))); following = refl }
 
-    string : StandsTo bytes front inside (label_part link (label_at start) end)
-    string = record { stand = (tt, (tt, (tt, (tt, tt)))); behind = refl }
+    string : ItemsLead bytes front inside (label_part link (label_at start) end)
+    string = record { are_valid = (tt, (tt, (tt, (tt, tt)))); following = refl }
 
-    after : (same : Bool) → StandsTo bytes inside inside (behind_label same end close behind_it q)
-    after true = record { stand = (tt, (tt, (tt, (tt, (tt, (tt, tt)))))); behind = refl }
-    after false = record { stand = (tt, (tt, (tt, (tt, (tt, (tt, (tt, (tt, tt)))))))); behind = refl }
+    after : (same : Bool) → ItemsLead bytes inside inside (after_label same end close after_it q)
+    after true = record { are_valid = (tt, (tt, (tt, (tt, (tt, (tt, tt)))))); following = refl }
+    after false = record { are_valid = (tt, (tt, (tt, (tt, (tt, (tt, (tt, (tt, tt)))))))); following = refl }
 
     all : (bare same : Bool) →
-        Standing
-        (before_label bare p start ++ (label_part link (label_at start) end ++ behind_label same end close behind_it q))
+        Situation
+        (before_label bare p start ++ (label_part link (label_at start) end ++ after_label same end close after_it q))
     all bare same =
-        let rest : List Event = label_part link (label_at start) end ++ behind_label same end close behind_it q in
-        stands-append bytes (among held) front inside (enter n.GfmFootnoteDefinition p ∷ [])
+        let rest : List Event = label_part link (label_at start) end ++ after_label same end close after_it q in
+        valid-append bytes (among held) front inside (enter n.GfmFootnoteDefinition p ∷ [])
         (before_label bare p start ++ rest) begin
-        (stands-append bytes front front inside (before_label bare p start) rest (before bare)
-        (stands-append bytes front inside inside (label_part link (label_at start) end)
-        (behind_label same end close behind_it q) string (after same)))
+        (valid-append bytes front front inside (before_label bare p start) rest (before bare)
+        (valid-append bytes front inside inside (label_part link (label_at start) end)
+        (after_label same end close after_it q) string (after same)))
 
-    go : (bare same : Bool) → Standing (front_by link bare same label p start q)
+    go : (bare same : Bool) → Situation (front_by link bare same label p start q)
     go true true = all true true
     go true false = all true false
     go false true = all false true

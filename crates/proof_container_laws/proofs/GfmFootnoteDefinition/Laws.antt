@@ -18,7 +18,7 @@ use Rattle.proof_container_laws.specs.Containers.GfmFootnoteDefinition.{footnote
 use Rattle.proof_frame.specs.ContainerNames.{IsOf}
 use Rattle.proof_frame.proofs.ContainerLaws.{ContainerLaws}
 use Rattle.proof_container_laws.proofs.GfmFootnoteDefinition.Definition.{IsFootnote, opens-one}
-use Rattle.proof_container_laws.proofs.GfmFootnoteDefinition.Fronts.{footnote-begins, footnote-goes}
+use Rattle.proof_container_laws.proofs.GfmFootnoteDefinition.Fronts.{footnote-begins, footnote-proceeds}
 use Rattle.proof_container_laws.proofs.GfmFootnoteDefinition.Trial.{each-footnote, further-ended, further-holds}
 use Rattle.proof_container_laws.proofs.GfmFootnoteDefinition.Trial.{further-passed, further-tried, new-ended, new-holds}
 use Rattle.proof_container_laws.proofs.GfmFootnoteDefinition.Trial.{new-passed, new-tried}
@@ -40,14 +40,14 @@ footnote-laws = record {
   begins_shorter = λ options cells h. footnote-shortens options cells h;
   continues_shorter = λ options cells h ends. further-shortens cells h ends;
   opened = λ options interrupting cells p t e. new-passed options interrupting cells p t e;
-  went = λ options c cells p t is e. further-passed c cells p t is e;
+  proceeded = λ options c cells p t is e. further-passed c cells p t is e;
   held_new = λ options interrupting cells p t e. new-holds options interrupting cells p t e;
   held_on = λ options held c cells p t holds e. further-holds held c cells p t holds.1 e;
   opens_agrees = λ options interrupting. footnote-begins options interrupting;
-  goes_agrees = footnote-goes;
+  proceeds_agrees = footnote-proceeds;
   found_one = λ options interrupting r t e. found r (opens_footnote options r) t (opens-one options r) e;
   opens_not = λ options interrupting cells p ends. new-ended options interrupting cells p ends;
-  goes_over = λ options held c cells p is holds ends. further-ended held c cells p holds.0 holds.1 ends;
+  continues_over = λ options held c cells p is holds ends. further-ended held c cells p holds.0 holds.1 ends;
   over_empty = λ options held c column is holds.
       each-footnote
       (λ d. continues options d (rest_at column []) ≡ Some (record { container = d; rest = rest_at column [] }))

@@ -16,9 +16,9 @@ use Rattle.md_events.specs.Events.Nested.{around, exit, pair}
 use Rattle.md_events.specs.Events.Places.{past_text, same_place}
 use Rattle.md_events.proofs.InlineLemmas.{before-text, same-refl}
 use Rattle.md_events.proofs.PlacesLemmas.{apart-later}
-use Rattle.proof_container_laws.proofs.GfmFootnoteDefinition.Prefix.{IsFront, before_label, behind_colon, behind_label}
-use Rattle.proof_container_laws.proofs.GfmFootnoteDefinition.Prefix.{colon_at, front_by, label-text, label_at}
-use Rattle.proof_container_laws.proofs.GfmFootnoteDefinition.Prefix.{closing, label_end, label_part, opening}
+use Rattle.proof_container_laws.proofs.GfmFootnoteDefinition.Prefix.{IsFront, before_label, following_colon}
+use Rattle.proof_container_laws.proofs.GfmFootnoteDefinition.Prefix.{after_label, colon_at, front_by, label-text}
+use Rattle.proof_container_laws.proofs.GfmFootnoteDefinition.Prefix.{label_at, closing, label_end, label_part, opening}
 use Rattle.proof_frame.proofs.LineTexts.{one-last, without-none}
 use Rattle.proof_frame.proofs.PieceFacts.{Over, over-front}
 use Rattle.proof_frame.proofs.ReadAs.{Both, Part, ReadAs, Same}
@@ -103,15 +103,15 @@ before-same bytes bare p start =
     (Same (opening start) (refl, (refl, (refl, (refl, (refl, (refl, tt))))))
     (refl, (refl, (refl, (refl, (refl, (refl, tt)))))))
 
-behind-same : (bytes : List ℕ) (same : Bool) (end close behind q : Point) →
-    ReadAs bytes (behind_label same end close behind q) (behind_label same end close behind q)
-behind-same bytes same end close behind q =
-    let white : List Event = cond same [] (pair n.SpaceOrTab behind q) in
+following-same : (bytes : List ℕ) (same : Bool) (end close following q : Point) →
+    ReadAs bytes (after_label same end close following q) (after_label same end close following q)
+following-same bytes same end close following q =
+    let white : List Event = cond same [] (pair n.SpaceOrTab following q) in
     let last : List Event = exit n.GfmFootnoteDefinitionPrefix q ∷ [] in
-    Both (closing end close behind) (closing end close behind) (white ++ last) (white ++ last)
-    (Same (closing end close behind) (refl, (refl, (refl, (refl, (refl, tt)))))
+    Both (closing end close following) (closing end close following) (white ++ last) (white ++ last)
+    (Same (closing end close following) (refl, (refl, (refl, (refl, (refl, tt)))))
     (refl, (refl, (refl, (refl, (refl, tt))))))
-    (Both white white last last (white-same bytes same behind q) (Same last (refl, tt) (refl, tt)))
+    (Both white white last last (white-same bytes same following q) (Same last (refl, tt) (refl, tt)))
 
 -- All of it.
 
@@ -121,7 +121,7 @@ pub front-reads : (bytes label : List ℕ) (p q : Point) (es : List Event) →
 front-reads bytes label p q es is = (done, read, reads)
   where
     done : List Event
-    done = front_by None (same_place p is.start) (same_place (behind_colon label is.start) q) label p is.start q
+    done = front_by None (same_place p is.start) (same_place (following_colon label is.start) q) label p is.start q
 
     read : IsFront bytes label None p q done
     read = record {
@@ -133,7 +133,7 @@ front-reads bytes label p q es is = (done, read, reads)
       one_line = is.one_line;
       events = refl;
       white_before = is.white_before;
-      white_behind = is.white_behind;
+      white_after = is.white_after;
     }
 
     first : Point
@@ -146,19 +146,20 @@ front-reads bytes label p q es is = (done, read, reads)
     before : Bool → List Event
     before bare = before_label bare p is.start
 
-    behind : Bool → List Event
-    behind same = behind_label same end (colon_at label is.start) (behind_colon label is.start) q
+    following : Bool → List Event
+    following same = after_label same end (colon_at label is.start) (following_colon label is.start) q
 
     all : (bare same : Bool) →
-        ReadAs bytes (before bare ++ (label_part (Some label_link) first end ++ behind same))
-        (before bare ++ (label_part None first end ++ behind same))
+        ReadAs bytes (before bare ++ (label_part (Some label_link) first end ++ following same))
+        (before bare ++ (label_part None first end ++ following same))
     all bare same =
         let label_read : List Event = label_part None first end in
         let label_unread : List Event = label_part (Some label_link) first end in
-        Both (before bare) (before bare) (label_unread ++ behind same) (label_read ++ behind same)
+        Both (before bare) (before bare) (label_unread ++ following same) (label_read ++ following same)
         (before-same bytes bare p is.start)
-        (Both label_unread label_read (behind same) (behind same) (label-reads bytes label (Some label_link) p q es is)
-        (behind-same bytes same end (colon_at label is.start) (behind_colon label is.start) q))
+        (Both label_unread label_read (following same) (following same)
+        (label-reads bytes label (Some label_link) p q es is)
+        (following-same bytes same end (colon_at label is.start) (following_colon label is.start) q))
 
     go : (bare same : Bool) →
         ReadAs bytes (front_by (Some label_link) bare same label p is.start q)
@@ -171,4 +172,4 @@ front-reads bytes label p q es is = (done, read, reads)
     reads : ReadAs bytes es done
     reads =
         subst (λ (l : List Event). ReadAs bytes l done) (sym is.events)
-        (go (same_place p is.start) (same_place (behind_colon label is.start) q))
+        (go (same_place p is.start) (same_place (following_colon label is.start) q))

@@ -31,8 +31,8 @@ label_end label start = past_text label (label_at start)
 abbrev pub colon_at : List ℕ → Point → Point
 colon_at label start = past_byte right_bracket (label_end label start)
 
-abbrev pub behind_colon : List ℕ → Point → Point
-behind_colon label start = past_byte colon (colon_at label start)
+abbrev pub following_colon : List ℕ → Point → Point
+following_colon label start = past_byte colon (colon_at label start)
 
 -- The events: the label, linked where it is read later,
 
@@ -54,8 +54,8 @@ label_inside link label start =
 abbrev pub prefix_inside : Option Link → (same : Bool) → List ℕ → (start q : Point) → List Event
 prefix_inside link same label start q =
     around n.GfmFootnoteDefinitionLabel start (colon_at label start) (label_inside link label start)
-    ++ (pair n.DefinitionMarker (colon_at label start) (behind_colon label start)
-    ++ cond same [] (pair n.SpaceOrTab (behind_colon label start) q))
+    ++ (pair n.DefinitionMarker (colon_at label start) (following_colon label start)
+    ++ cond same [] (pair n.SpaceOrTab (following_colon label start) q))
 
 abbrev pub front_by : Option Link → (bare same : Bool) → List ℕ → (p start q : Point) → List Event
 front_by link bare same label p start q =
@@ -75,15 +75,15 @@ before_label bare p start = cond bare [] (pair n.SpaceOrTab p start) ++ opening 
 
 -- and after it, up to `:`, and up to the end.
 
-abbrev pub closing : (end close behind : Point) → List Event
-closing end close behind =
+abbrev pub closing : (end close following : Point) → List Event
+closing end close following =
     enter n.GfmFootnoteDefinitionLabelMarker end ∷ exit n.GfmFootnoteDefinitionLabelMarker close
-    ∷ exit n.GfmFootnoteDefinitionLabel close ∷ enter n.DefinitionMarker close ∷ exit n.DefinitionMarker behind ∷ []
+    ∷ exit n.GfmFootnoteDefinitionLabel close ∷ enter n.DefinitionMarker close ∷ exit n.DefinitionMarker following ∷ []
 
-abbrev pub behind_label : (same : Bool) → (end close behind q : Point) → List Event
-behind_label same end close behind q =
-    closing end close behind
-    ++ (cond same [] (pair n.SpaceOrTab behind q) ++ exit n.GfmFootnoteDefinitionPrefix q ∷ [])
+abbrev pub after_label : (same : Bool) → (end close following q : Point) → List Event
+after_label same end close following q =
+    closing end close following
+    ++ (cond same [] (pair n.SpaceOrTab following q) ++ exit n.GfmFootnoteDefinitionPrefix q ∷ [])
 
 -- they are those of a footnote definition with this label
 pub record IsFront (bytes label : List ℕ) (link : Option Link) (p q : Point) (es : List Event) : Type 0 where
@@ -95,17 +95,17 @@ pub record IsFront (bytes label : List ℕ) (link : Option Link) (p q : Point) (
   -- the label is not empty, and of one line
   pub some : 0 < length label
   pub one_line : NoEnding label
-  pub events : es ≡ front_by link (same_place p start) (same_place (behind_colon label start) q) label p start q
+  pub events : es ≡ front_by link (same_place p start) (same_place (following_colon label start) q) label p start q
   -- what is whitespace
   pub white_before : White bytes p start
-  pub white_behind : White bytes (behind_colon label start) q
+  pub white_after : White bytes (following_colon label start) q
 
 -- what holds of such events whichever whitespace is left out holds of them
 pub front-each : (P : List Event → Type 0) (bytes label : List ℕ) (link : Option Link) (p q : Point)
     (es : List Event) → (is : IsFront bytes label link p q es) →
     ((bare same : Bool) → P (front_by link bare same label p is.start q)) → P es
 front-each P bytes label link p q es is h =
-    subst P (sym is.events) (h (same_place p is.start) (same_place (behind_colon label is.start) q))
+    subst P (sym is.events) (h (same_place p is.start) (same_place (following_colon label is.start) q))
 
 -- The bytes at its points.
 

@@ -12,7 +12,7 @@ use Rattle.md_events.specs.Events.Spelled.{FootnoteShape, Reading, Text, read}
 use Rattle.md_events.proofs.FeedLines.{slice-front}
 use Rattle.md_events.proofs.InlineLemmas.{past-index}
 use Rattle.proof_container_laws.proofs.GfmFootnoteDefinition.Prefix.{IsFront, front_by, label-text, label_at, label_end}
-use Rattle.proof_container_laws.proofs.GfmFootnoteDefinition.Prefix.{behind_colon}
+use Rattle.proof_container_laws.proofs.GfmFootnoteDefinition.Prefix.{following_colon}
 use Rattle.proof_frame.proofs.PrefixFacts.{begins}
 use Rattle.md_events.specs.Events.Places.{same_place}
 
@@ -25,10 +25,10 @@ footnote_read r label = record r {
 }
 
 -- its label is the bytes that its chunk is over
-pub label-told : (bytes label : List ℕ) (link : Option Link) (p q : Point) (es : List Event) →
+pub label-recorded : (bytes label : List ℕ) (link : Option Link) (p q : Point) (es : List Event) →
     (is : IsFront bytes label link p q es) →
     slice_range bytes (label_at is.start).index (label_end label is.start).index ≡ label
-label-told bytes label link p q es is =
+label-recorded bytes label link p q es is =
     slice-front bytes (label_at is.start).index (label_end label is.start).index label _
     (label-text bytes label link p q es is) (past-index label (label_at is.start))
 
@@ -38,8 +38,8 @@ pub front-read : (bytes label : List ℕ) (link : Option Link) (p q : Point) (es
     read bytes r (enter n.GfmFootnoteDefinition p ∷ es) ≡ begins (InFootnote label) r
 front-read bytes label link p q es r is none =
     ap (λ (l : List Event). read bytes r (enter n.GfmFootnoteDefinition p ∷ l)) is.events
-    ∙ go (same_place p is.start) (same_place (behind_colon label is.start) q)
-    ∙ ap (footnote_read r) (label-told bytes label link p q es is)
+    ∙ go (same_place p is.start) (same_place (following_colon label is.start) q)
+    ∙ ap (footnote_read r) (label-recorded bytes label link p q es is)
     ∙ sym (ap (λ (t : Option Text). record (begins (InFootnote label) r) { text = t }) none)
   where
     first : Point

@@ -21,8 +21,8 @@ use Rattle.md_containers.proofs.ItemShorter.{IsShorter}
 use Rattle.md_meaning.specs.State.{Container, InFootnote, InItem, InQuote}
 use Rattle.md_events.specs.Look.{first_seen}
 use Rattle.md_events.specs.Spaces.{IsRest, ends_line}
-use Rattle.proof_container_laws.specs.Containers.GfmFootnoteDefinition.{footnote_goes, footnote_passed, footnote_passes}
-use Rattle.proof_container_laws.specs.Containers.GfmFootnoteDefinition.{footnote_rules}
+use Rattle.proof_container_laws.specs.Containers.GfmFootnoteDefinition.{footnote_proceeds, footnote_passed}
+use Rattle.proof_container_laws.specs.Containers.GfmFootnoteDefinition.{footnote_passes, footnote_rules}
 use Rattle.proof_frame.specs.Passed.{Passed, passed_by, passed_over}
 use Rattle.proof_frame.specs.ContainerNames.{IsOf}
 use Rattle.proof_frame.proofs.ContainerLaws.{IsPassed}
@@ -80,9 +80,9 @@ new-tried options cells h is asked =
 -- and on a further line
 pub further-tried : (held : Held) (c : Container) (cells : List Cell) (h : Here) → IsRest h.scratch →
     h.flags.asked ≡ held → held.kind ≡ kind.GfmFootnoteDefinition → footnote_holds held c →
-    item_on cells h ≡ passed_by (footnote_goes c cells h.point) h
+    item_on cells h ≡ passed_by (footnote_proceeds c cells h.point) h
 further-tried held c cells h is asked of =
-    each-held held (λ d. item_on cells h ≡ passed_by (footnote_goes d cells h.point) h)
+    each-held held (λ d. item_on cells h ≡ passed_by (footnote_proceeds d cells h.point) h)
     (λ label e f.
     footnote-on label cells h is (ap (λ (x : Held). x.width) asked ∙ e) (ap (λ (x : Held). x.starts_blank) asked ∙ f)
     ∙ passes-by (footnote_further label cells h.point) h (ap (λ (x : Held). x.kind) asked ∙ of))
@@ -137,18 +137,19 @@ further-one label cells p = go (footnote_further label cells p) (further-footnot
     go (Some t) is = (label, is)
 
 pub further-passed : (c : Container) (cells : List Cell) (p : Point) (t : Passed) →
-    IsOf kind.GfmFootnoteDefinition c → footnote_goes c cells p ≡ Some t → IsPassed kind.GfmFootnoteDefinition cells t
+    IsOf kind.GfmFootnoteDefinition c → footnote_proceeds c cells p ≡ Some t →
+    IsPassed kind.GfmFootnoteDefinition cells t
 further-passed c cells p t =
-    each-footnote (λ d. footnote_goes d cells p ≡ Some t → IsPassed kind.GfmFootnoteDefinition cells t)
+    each-footnote (λ d. footnote_proceeds d cells p ≡ Some t → IsPassed kind.GfmFootnoteDefinition cells t)
     (λ label.
     passed-is cells (footnote_further label cells p) t (further-one label cells p)
     (footnote-further_shorter label cells p) (further-within label cells p) (on-front label cells p))
     c
 
 pub further-holds : (held : Held) (c : Container) (cells : List Cell) (p : Point) (t : Passed) →
-    footnote_holds held c → footnote_goes c cells p ≡ Some t → footnote_rules.holds t.held t.container
+    footnote_holds held c → footnote_proceeds c cells p ≡ Some t → footnote_rules.holds t.held t.container
 further-holds held c cells p t =
-    each-held held (λ d. footnote_goes d cells p ≡ Some t → footnote_rules.holds t.held t.container)
+    each-held held (λ d. footnote_proceeds d cells p ≡ Some t → footnote_rules.holds t.held t.container)
     (λ label e f. passed-held (footnote_further label cells p) t (further-one label cells p)) c
 
 -- Where the line ends none opens,
@@ -160,9 +161,9 @@ new-ended options interrupting cells p ends = ap footnote_passes (footnote-ended
 -- and an open one continues as it is
 pub further-ended : (held : Held) (c : Container) (cells : List Cell) (p : Point) →
     held.kind ≡ kind.GfmFootnoteDefinition → footnote_holds held c → ends_line (first_seen cells) ≡ true →
-    footnote_goes c cells p ≡ Some (passed_over held c cells p)
+    footnote_proceeds c cells p ≡ Some (passed_over held c cells p)
 further-ended held c cells p is holds ends =
-    each-held held (λ d. footnote_goes d cells p ≡ Some (passed_over held d cells p))
+    each-held held (λ d. footnote_proceeds d cells p ≡ Some (passed_over held d cells p))
     (λ label e f.
     ap footnote_passes (footnote-over label cells p ends)
     ∙ ap (λ (x : Held). Some (passed_over x (InFootnote label) cells p)) (as-held e f))

@@ -8,7 +8,7 @@ use Rattle.md_engine.specs.declared.event.Name.TheVariants as n
 use Rattle.md_engine.specs.declared.event.Point.{Point}
 use Rattle.md_engine.specs.Meaning.{Cell}
 use Rattle.md_containers.specs.Item.{ends_value}
-use Rattle.md_containers.specs.ItemPrefix.{ItemPassed, Padded, digits_of, item_behind, item_further, item_marked}
+use Rattle.md_containers.specs.ItemPrefix.{ItemPassed, Padded, digits_of, item_after, item_further, item_marked}
 use Rattle.md_containers.specs.ItemPrefix.{item_new, item_numbered, item_padded, item_valued, padding, padding_room}
 use Rattle.md_containers.specs.ItemRule.{digits_end, digits_rest, digits_size}
 use Rattle.md_containers.specs.QuoteRule.{indent_events}
@@ -75,11 +75,11 @@ numbered-front interrupting from digits size front (c ∷ cs) p h =
     (marked-front interrupting from digits front c cs p h) tt
 
 -- after its indent,
-behind-front : (options : ParseOptions) (interrupting : Bool) (from : Point) (front : List Event) (cells : List Cell)
+following-front : (options : ParseOptions) (interrupting : Bool) (from : Point) (front : List Event) (cells : List Cell)
     (p : Point) →
-    AreFront front → HasFront (item_behind options interrupting from front cells p)
-behind-front options interrupting from front [] p h = tt
-behind-front options interrupting from front (c ∷ cs) p h =
+    AreFront front → HasFront (item_after options interrupting from front cells p)
+following-front options interrupting from front [] p h = tt
+following-front options interrupting from front (c ∷ cs) p h =
     front-if (is_bullet c.byte) _ _
     (front-if (options.constructs.thematic_break && is_rule (line_bytes (c ∷ cs))) _ _ tt
     (marked-front interrupting from [] (front ++ enter n.ListItemPrefix p ∷ []) c cs p
@@ -98,7 +98,7 @@ pub new-front : (options : ParseOptions) (interrupting : Bool) (cells : List Cel
     HasFront (item_new options interrupting cells p)
 new-front options interrupting cells p =
     front-if options.constructs.list_item _ _
-    (behind-front options interrupting p (enter n.ListItem p ∷ indent_events options cells p)
+    (following-front options interrupting p (enter n.ListItem p ∷ indent_events options cells p)
     (white_rest (small_indent options) cells) (white_end (small_indent options) cells p)
     ((refl, refl), white-front (begins_white cells) p (white_end (small_indent options) cells p)))
     tt

@@ -14,11 +14,11 @@ use Rattle.md_events.specs.Events.Spelled.{byte_at}
 use Rattle.md_events.proofs.FeedLines.{slice-split}
 use Rattle.md_events.proofs.SpelledLemmas.{QuietOrEnding}
 use Rattle.proof_container_laws.proofs.BlockQuote.Collected.{blank-before}
-use Rattle.proof_frame.proofs.CollectFacts.{Collects, blank-append, collects-back, collects-behind}
+use Rattle.proof_frame.proofs.CollectFacts.{Collects, blank-append, collects-back, collects-following}
 use Rattle.proof_container_laws.proofs.ListItem.Parted.{byte-grows}
 use Rattle.proof_container_laws.proofs.ListItem.Prefix.{IsIndent}
 use Rattle.md_events.specs.declared.inline.PartKind.{PartKind}
-use Rattle.proof_frame.proofs.PartsStand.{Inside}
+use Rattle.proof_frame.proofs.PartsValid.{Inside}
 use Rattle.proof_frame.proofs.PlainRoles.{pair-roles}
 
 -- it may be in a text part
@@ -27,14 +27,14 @@ pub white-inside : (bytes : List ℕ) (kind : PartKind) (p q : Point) → White 
 white-inside bytes kind p q is = go (same_place p q)
   where
     go : (same : Bool) → Inside bytes kind [] (cond same [] (pair n.SpaceOrTab p q))
-    go true = record { outside = tt; ends = refl; white = refl; has = refl; kinds = refl; stand = λ ys. refl }
+    go true = record { outside = tt; ends = refl; white = refl; has = refl; kinds = refl; are_valid = λ ys. refl }
     go false = record {
       outside = (refl, (refl, tt));
       ends = refl;
       white = rw is.blank refl;
       has = refl;
       kinds = refl;
-      stand = λ ys. refl;
+      are_valid = λ ys. refl;
     }
 
 -- what is up to the next byte after it is whitespace
@@ -62,6 +62,6 @@ indent-collects bytes p q es ys end all is c = (
       (sym is.events)
       (collects-back bytes (pair_unless_empty n.SpaceOrTab p q ++ ys) (byte_at p) (byte_at q) end all
       (byte-grows p q is.white.onward)
-      (collects-behind bytes (pair_unless_empty n.SpaceOrTab p q) ys (byte_at q) end all
+      (collects-following bytes (pair_unless_empty n.SpaceOrTab p q) ys (byte_at q) end all
       (pair-roles QuietOrEnding n.SpaceOrTab p q tt) c)),
 )

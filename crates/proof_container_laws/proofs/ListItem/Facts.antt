@@ -11,13 +11,13 @@ use Rattle.md_events.proofs.GrammarLemmas.{Leads}
 use Rattle.md_events.proofs.SpelledLemmas.{Unmarked}
 use Rattle.proof_container_laws.proofs.BlockQuote.Prefix.{pair-prefixes, white-unmarked}
 use Rattle.proof_container_laws.proofs.ListItem.Collected.{indent-collects, white-inside}
-use Rattle.proof_container_laws.proofs.ListItem.Grammar.{front-leads, front-stands, white-stays}
+use Rattle.proof_container_laws.proofs.ListItem.Grammar.{front-leads, front-valid, white-stays}
 use Rattle.proof_container_laws.proofs.FrontParts.{FrontPart, part-facts, part-white}
 use Rattle.proof_container_laws.proofs.ListItem.Names.{front-part, front-some, front-whole}
 use Rattle.proof_container_laws.proofs.ListItem.Parted.{white-clear, white-parted}
 use Rattle.proof_container_laws.proofs.ListItem.Prefix.{IsFront, IsIndent, front-line}
 use Rattle.proof_container_laws.proofs.ListItem.Read.{front-read}
-use Rattle.proof_frame.proofs.PartsStand.{Inside}
+use Rattle.proof_frame.proofs.PartsValid.{Inside}
 use Rattle.proof_frame.proofs.PrefixFacts.{Continues, Opens, OpensRead, PrefixFacts, is_bare, opens-same}
 use Rattle.proof_frame.proofs.PrefixNames.{ArePrefixes}
 
@@ -52,7 +52,7 @@ front-facts : (bytes digits : List ℕ) (byte : ℕ) (p q : Point) (es : List Ev
     PrefixFacts bytes p q es
 front-facts bytes digits byte p q es is =
     part-facts (front-part bytes digits byte p q es is) (front-line bytes digits byte p q es is)
-    (λ behind. white-clear bytes p is.start is.white_before (rw is.whole refl))
+    (λ following. white-clear bytes p is.start is.white_before (rw is.whole refl))
 
 -- and where it opens
 pub item-opens : (bytes digits : List ℕ) (byte width : ℕ) (blank : Bool) (p q : Point) (es : List Event) →
@@ -65,7 +65,7 @@ item-opens bytes digits byte width blank p q es is =
       plain = part.plain;
       sits = part.sits;
       leads = λ text takes. front-leads bytes digits byte p q es is text;
-      stands = λ held. front-stands bytes digits byte p q es held is;
+      valid = λ held. front-valid bytes digits byte p q es held is;
       unlisted = part.unlisted;
       read = λ r none shut. front-read bytes digits byte width blank p q es r is none;
       shown = refl;

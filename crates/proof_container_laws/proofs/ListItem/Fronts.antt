@@ -14,7 +14,7 @@ use Rattle.md_engine.specs.Meaning.{Cell}
 use Rattle.md_engine.specs.World.{container_of}
 use Rattle.md_containers.specs.ItemPrefix.{ItemPassed, held_as, item_further, item_new}
 use Rattle.md_containers.proofs.ItemHeld.{IsHeld, further-held, new-held}
-use Rattle.md_containers.proofs.ItemLines.{GoesFurther, ItemAgrees, LeavesRest, further-agrees}
+use Rattle.md_containers.proofs.ItemLines.{ContinuesFurther, ItemAgrees, LeavesRest, further-agrees}
 use Rattle.md_containers.proofs.ItemOpens.{OpensItem, opens-agrees, prefix_of}
 use Rattle.md_meaning.specs.Containers.{Taken, continues, item_continues, opens_item}
 use Rattle.md_meaning.specs.Rest.{Rest, cut_tab, is_blank}
@@ -55,7 +55,7 @@ item-leaves line text past end stop cells held o t leaves holds = record {
   container = leaves.container;
   read = held-read held o holds;
   fed = leaves.fed;
-  stands = leaves.stands;
+  valid = leaves.valid;
   ends = leaves.ends;
   no_ending = leaves.no_ending;
   shorter = leaves.shorter;
@@ -114,7 +114,7 @@ white-columns line text past width r p stop is k some = go (begins_white cells) 
     go : (x : Bool) → begins_white cells ≡ x → TakesColumns p q
     go true white =
         apart-columns p q (lost.apart some white)
-        (omega (arith, is.column, lost.stands.column, lost.column, white-some width cells some white))
+        (omega (arith, is.column, lost.valid.column, lost.column, white-some width cells some white))
     go false dark = subst (TakesColumns p) (sym (none-end width cells p dark)) (no-columns p)
 
 -- one that continues takes these
@@ -131,13 +131,13 @@ further-columns digits marker width blank line text past r p stop is k some =
     cells = rest_cells line r p ++ stop
 
 -- an item continues
-pub item-goes : (options : ParseOptions) (c : Container) → IsOf kind.ListItem c → ByRest (λ line text past r stop p.
+pub item-proceeds : (options : ParseOptions) (c : Container) → IsOf kind.ListItem c → ByRest (λ line text past r stop p.
     let cells = rest_cells line r p ++ stop in
-    Agree (HasFurther line text past p (past_rest r p) stop cells) (item_rules.goes options c cells p)
+    Agree (HasFurther line text past p (past_rest r p) stop cells) (item_rules.proceeds options c cells p)
     (continues options c r))
-item-goes options c is = each-item (λ d. ByRest (λ line text past r stop p.
+item-proceeds options c is = each-item (λ d. ByRest (λ line text past r stop p.
     let cells = rest_cells line r p ++ stop in
-    Agree (HasFurther line text past p (past_rest r p) stop cells) (item_rules.goes options d cells p)
+    Agree (HasFurther line text past p (past_rest r p) stop cells) (item_rules.proceeds options d cells p)
     (continues options d r))) each c is
   where
     each : (digits : List ℕ) (marker width : ℕ) (blank : Bool) → 1 ≤ width → ByRest (λ line text past r stop p.
@@ -157,7 +157,8 @@ item-goes options c is = each-item (λ d. ByRest (λ line text past r stop p.
         held = container_of kind.ListItem
 
         go : (o : Option ItemPassed) (t : Option Taken) →
-            ItemAgrees (GoesFurther line text past p (past_rest r p) stop cells) o t → IsHeld held o → HasColumns p o →
+            ItemAgrees (ContinuesFurther line text past p (past_rest r p) stop cells) o t → IsHeld held o →
+            HasColumns p o →
             Agree (HasFurther line text past p (past_rest r p) stop cells) (item_passes o) t
         go None None has holds columns = tt
         go None (Some t) has holds columns = absurd has
@@ -170,7 +171,7 @@ item-goes options c is = each-item (λ d. ByRest (λ line text past r stop p.
                 events = has.events;
                 white = has.white;
                 columns = columns;
-                cut = rest-cut text past t.rest o.point has.leaves.stands;
+                cut = rest-cut text past t.rest o.point has.leaves.valid;
               });
         }
 
@@ -179,9 +180,9 @@ item-goes options c is = each-item (λ d. ByRest (λ line text past r stop p.
 -- a prefix is around its value, its marker and what is after that
 prefix-around : (digits : List ℕ) (byte : ℕ) (a q : Point) →
     let marker = past_text digits a in
-    let behind = past_byte byte marker in
+    let following = past_byte byte marker in
     prefix_of digits byte a q ≡
-    around n.ListItemPrefix a q (inside_by (no_digits digits) (same_place behind q) a marker behind q)
+    around n.ListItemPrefix a q (inside_by (no_digits digits) (same_place following q) a marker following q)
 prefix-around [] byte a q = refl
 prefix-around (d ∷ ds) byte a q = refl
 
@@ -193,9 +194,9 @@ item-front : (line : Line) (text past : List ℕ) (p end : Point) (stop cells : 
 item-front line text past p end stop cells o t has = record {
   start = has.value;
   marker = past_text has.digits has.value;
-  behind = past_byte has.byte (past_text has.digits has.value);
+  following = past_byte has.byte (past_text has.digits has.value);
   marker_is = refl;
-  behind_is = refl;
+  following_is = refl;
   more = has.more;
   text_is = has.text_is;
   whole = has.whole;
@@ -203,7 +204,7 @@ item-front line text past p end stop cells o t has = record {
   events = ap (λ (l : List Event). pair_unless_empty n.SpaceOrTab p has.value ++ l)
       (prefix-around has.digits has.byte has.value o.point);
   white_before = has.white_before;
-  white_behind = has.white_behind;
+  white_after = has.white_after;
 }
 
 -- an item opens, if items are on

@@ -5,17 +5,17 @@ use Rattle.md_engine.specs.declared.event.Event.{Event}
 use Rattle.md_engine.specs.declared.event.Name.TheVariants as n
 use Rattle.md_engine.specs.declared.event.Point.{Point}
 use Rattle.md_containers.specs.Item.{is_item_marker}
-use Rattle.md_containers.specs.ItemsStand.{InFront, IsMarkerAt, ItemsStand, Site, is_list_marker}
-use Rattle.md_containers.proofs.UnlistedLemmas.{StandsTo, Unlists, among, site_behind}
+use Rattle.md_containers.specs.ItemsAllowed.{InFront, IsMarkerAt, ItemsAllowed, Site, is_list_marker}
+use Rattle.md_containers.proofs.UnlistedLemmas.{ItemsLead, Unlists, among, site_following}
 use Rattle.md_containers.specs.Unlisted.{unlisted_left}
-use Rattle.md_events.specs.Events.Grammar.{Expression, behind_block, blocks}
+use Rattle.md_events.specs.Events.Grammar.{Expression, after_block, blocks}
 use Rattle.md_events.specs.Events.Inline.{pair_unless_empty}
 use Rattle.md_events.specs.Events.Nested.{enter, exit, pair}
 use Rattle.md_events.specs.Events.Places.{same_place}
 use Rattle.md_events.proofs.GrammarLemmas.{Leads}
 use Rattle.proof_frame.proofs.ContainerNames.{TakesPrefixes}
 use Rattle.proof_container_laws.proofs.ListItem.Pieces.{is-marker}
-use Rattle.proof_container_laws.proofs.ListItem.Prefix.{IsFront, behind-index, front-each, front_by, inside_by}
+use Rattle.proof_container_laws.proofs.ListItem.Prefix.{IsFront, following-index, front-each, front_by, inside_by}
 use Rattle.proof_container_laws.proofs.ListItem.Prefix.{marker-byte, marker-whole}
 
 -- Whitespace.
@@ -34,14 +34,14 @@ white-stays p q text x takes = go (same_place p q)
 -- with the begin of the item, they lead from blocks into those of the item
 pub front-leads : (bytes digits : List ℕ) (byte : ℕ) (p q : Point) (es : List Event) →
     IsFront bytes digits byte p q es → (text : Expression) →
-    Unlists text (blocks ∷ []) (blocks ∷ behind_block ∷ []) (enter n.ListItem p ∷ es)
+    Unlists text (blocks ∷ []) (blocks ∷ after_block ∷ []) (enter n.ListItem p ∷ es)
 front-leads bytes digits byte p q es is text outer =
     front-each Leading bytes digits byte p q es is go
   where
     Leading : List Event → Type 0
-    Leading xs = unlisted_left text (blocks ∷ outer) (enter n.ListItem p ∷ xs) ≡ blocks ∷ behind_block ∷ outer
+    Leading xs = unlisted_left text (blocks ∷ outer) (enter n.ListItem p ∷ xs) ≡ blocks ∷ after_block ∷ outer
 
-    go : (bare none same : Bool) → Leading (front_by bare none same p is.start is.marker is.behind q)
+    go : (bare none same : Bool) → Leading (front_by bare none same p is.start is.marker is.following q)
     go true true true = refl
     go true true false = refl
     go true false true = refl
@@ -56,14 +56,14 @@ list-marker : (byte : ℕ) → is_item_marker byte ≡ true → is_list_marker b
 list-marker byte h = grind (arith, nat_tests)
 
 -- the item shows its marker, and blocks may be in it
-pub front-stands : (bytes digits : List ℕ) (byte : ℕ) (p q : Point) (es : List Event) (held : List Bool) →
-    IsFront bytes digits byte p q es → StandsTo bytes (among held) (among (true ∷ held)) (enter n.ListItem p ∷ es)
-front-stands bytes digits byte p q es held is =
-    front-each Standing bytes digits byte p q es is
-    (λ bare none same. record { stand = stand bare none same; behind = reach bare none same })
+pub front-valid : (bytes digits : List ℕ) (byte : ℕ) (p q : Point) (es : List Event) (held : List Bool) →
+    IsFront bytes digits byte p q es → ItemsLead bytes (among held) (among (true ∷ held)) (enter n.ListItem p ∷ es)
+front-valid bytes digits byte p q es held is =
+    front-each Situation bytes digits byte p q es is
+    (λ bare none same. record { are_valid = are_valid bare none same; following = reach bare none same })
   where
-    Standing : List Event → Type 0
-    Standing xs = StandsTo bytes (among held) (among (true ∷ held)) (enter n.ListItem p ∷ xs)
+    Situation : List Event → Type 0
+    Situation xs = ItemsLead bytes (among held) (among (true ∷ held)) (enter n.ListItem p ∷ xs)
 
     a : Point
     a = is.start
@@ -72,7 +72,7 @@ front-stands bytes digits byte p q es held is =
     m = is.marker
 
     b : Point
-    b = is.behind
+    b = is.following
 
     -- before the marker
     front : Site
@@ -87,24 +87,24 @@ front-stands bytes digits byte p q es held is =
     }
 
     size : b.index ≡ m.index + 1
-    size = behind-index bytes digits byte p q es is
+    size = following-index bytes digits byte p q es is
 
     tail : (same : Bool) →
-        ItemsStand bytes (among (true ∷ held)) (cond same [] (pair n.SpaceOrTab b q) ++ exit n.ListItemPrefix q ∷ [])
+        ItemsAllowed bytes (among (true ∷ held)) (cond same [] (pair n.SpaceOrTab b q) ++ exit n.ListItemPrefix q ∷ [])
     tail true = (tt, tt)
     tail false = (tt, (tt, (tt, tt)))
 
-    inner : (none same : Bool) → ItemsStand bytes front (inside_by none same a m b q ++ exit n.ListItemPrefix q ∷ [])
+    inner : (none same : Bool) → ItemsAllowed bytes front (inside_by none same a m b q ++ exit n.ListItemPrefix q ∷ [])
     inner true same = (marks, (size, tail same))
     inner false same = (tt, (tt, (marks, (size, tail same))))
 
-    stand : (bare none same : Bool) →
-        ItemsStand bytes (among held) (enter n.ListItem p ∷ front_by bare none same p a m b q)
-    stand true none same = (refl, (tt, inner none same))
-    stand false none same = (refl, (tt, (tt, (tt, inner none same))))
+    are_valid : (bare none same : Bool) →
+        ItemsAllowed bytes (among held) (enter n.ListItem p ∷ front_by bare none same p a m b q)
+    are_valid true none same = (refl, (tt, inner none same))
+    are_valid false none same = (refl, (tt, (tt, (tt, inner none same))))
 
     reach : (bare none same : Bool) →
-        site_behind (among held) (enter n.ListItem p ∷ front_by bare none same p a m b q) ≡ among (true ∷ held)
+        site_following (among held) (enter n.ListItem p ∷ front_by bare none same p a m b q) ≡ among (true ∷ held)
     reach true true true = refl
     reach true true false = refl
     reach true false true = refl

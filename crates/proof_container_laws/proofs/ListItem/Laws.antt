@@ -11,16 +11,16 @@ use Rattle.md_containers.proofs.ItemShorter.{further-shortens, item-shortens}
 use Rattle.md_meaning.specs.Containers.{Marker, Taken, continues, item_by, list_marker, may_interrupt, opens_item}
 use Rattle.md_meaning.specs.Leaves.{is_rule}
 use Rattle.md_meaning.specs.Preamble.{rest_at}
-use Rattle.md_meaning.specs.Rest.{Rest, behind, behind_indent, has_small_indent, indent, is_blank, is_parted}
+use Rattle.md_meaning.specs.Rest.{Rest, following, after_indent, has_small_indent, indent, is_blank, is_parted}
 use Rattle.md_meaning.specs.State.{Container, InItem, container_block}
 use Rattle.md_outline.specs.HeadingDepths.{is_shallow}
 use Rattle.proof_container_laws.specs.Containers.ListItem.{item_rules}
 use Rattle.proof_frame.specs.ContainerNames.{IsOf}
 use Rattle.proof_frame.proofs.ContainerLaws.{ContainerLaws}
-use Rattle.proof_container_laws.proofs.ListItem.Fronts.{item-begins, item-goes}
-use Rattle.proof_container_laws.proofs.ListItem.Trial.{each-held, each-item, further-ended, further-holds, further-passed}
-use Rattle.proof_container_laws.proofs.ListItem.Trial.{further-tried, new-ended, new-holds}
-use Rattle.proof_container_laws.proofs.ListItem.Trial.{new-passed, new-tried, wide-one}
+use Rattle.proof_container_laws.proofs.ListItem.Fronts.{item-begins, item-proceeds}
+use Rattle.proof_container_laws.proofs.ListItem.Trial.{each-held, each-item, further-ended, further-holds}
+use Rattle.proof_container_laws.proofs.ListItem.Trial.{further-passed, further-tried, new-ended, new-holds, new-passed}
+use Rattle.proof_container_laws.proofs.ListItem.Trial.{new-tried, wide-one}
 
 -- By the line definition what opens is an item that is a column wide at least.
 
@@ -42,12 +42,12 @@ by-marker options interrupting before from (Some marker) =
     (wide-one marker.digits marker.byte _ (is_blank after.bytes) (omega arith)) tt
   where
     after : Rest
-    after = behind (length marker.digits + 1) from
+    after = following (length marker.digits + 1) from
 
 opens-one : (options : ParseOptions) (interrupting : Bool) (r : Rest) → IsOne (opens_item options interrupting r)
 unfolding opens_item
 opens-one options interrupting r =
-    let from = behind_indent r in
+    let from = after_indent r in
     one-if (options.constructs.list_item && has_small_indent options r) _ _
     (by-marker options interrupting (indent r) from (list_marker from.bytes)) tt
 
@@ -65,15 +65,15 @@ item-laws = record {
   begins_shorter = λ options cells h. item-shortens options cells h;
   continues_shorter = λ options cells h ends. further-shortens cells h ends;
   opened = λ options interrupting cells p t e. new-passed options interrupting cells p t e;
-  went = λ options c cells p t is e. further-passed c cells p t is e;
+  proceeded = λ options c cells p t is e. further-passed c cells p t is e;
   held_new = λ options interrupting cells p t e. new-holds options interrupting cells p t e;
   held_on = λ options held c cells p t holds e. further-holds held c cells p t holds.1 e;
   opens_agrees = λ options interrupting. item-begins options interrupting;
-  goes_agrees = item-goes;
+  proceeds_agrees = item-proceeds;
   found_one = λ options interrupting r t e.
       found (opens_item options interrupting r) t (opens-one options interrupting r) e;
   opens_not = λ options interrupting cells p ends. new-ended options interrupting cells p ends;
-  goes_over = λ options held c cells p is holds ends. further-ended held c cells p holds.0 holds.1 ends;
+  continues_over = λ options held c cells p is holds ends. further-ended held c cells p holds.0 holds.1 ends;
   over_empty = λ options held c column is holds. over options held column c holds.1;
   over_kind = λ held. refl;
   may_hold = each-item (λ c. (held : Held) × item_rules.holds held c) may_hold;

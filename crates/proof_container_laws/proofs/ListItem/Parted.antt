@@ -31,10 +31,10 @@ reaches-white : (bytes : List ℕ) (p q : Point) (span : OpenTextSpan) → White
 reaches-white bytes p q span white reaches = record {
   marks = λ j h blank.
       let here : q.index ≤ byte_at q = byte-from q in
-      let behind : q.index ≤ j = omega (arith, here, h) in
+      let following : q.index ≤ j = omega (arith, here, h) in
       let before : byte_at p ≤ j = omega (arith, grows, h) in
       reaches.marks j before
-      (ap is_blank (slice-split bytes p.index q.index j white.index behind)
+      (ap is_blank (slice-split bytes p.index q.index j white.index following)
       ∙ blank-append (slice_range bytes p.index q.index) (slice_range bytes q.index j) white.blank blank);
   from = let from = reaches.from in omega (arith, from, grows);
 }

@@ -36,15 +36,15 @@ no_digits (d ∷ ds) = false
 
 -- The events after the begin of an item: from a point to the prefix, the marker, after it, and to its end; by whether
 -- there is no whitespace before the prefix, no value, and no whitespace after the marker.
-abbrev pub inside_by : (none same : Bool) → (start marker behind q : Point) → List Event
-inside_by none same start marker behind q =
+abbrev pub inside_by : (none same : Bool) → (start marker following q : Point) → List Event
+inside_by none same start marker following q =
     cond none [] (pair n.ListItemValue start marker)
-    ++ (pair n.ListItemMarker marker behind ++ cond same [] (pair n.SpaceOrTab behind q))
+    ++ (pair n.ListItemMarker marker following ++ cond same [] (pair n.SpaceOrTab following q))
 
-abbrev pub front_by : (bare none same : Bool) → (p start marker behind q : Point) → List Event
-front_by bare none same p start marker behind q =
+abbrev pub front_by : (bare none same : Bool) → (p start marker following q : Point) → List Event
+front_by bare none same p start marker following q =
     cond bare [] (pair n.SpaceOrTab p start)
-    ++ around n.ListItemPrefix start q (inside_by none same start marker behind q)
+    ++ around n.ListItemPrefix start q (inside_by none same start marker following q)
 
 -- they are those of an item with these digits and this marker
 pub record IsFront (bytes digits : List ℕ) (byte : ℕ) (p q : Point) (es : List Event) : Type 0 where
@@ -52,25 +52,25 @@ pub record IsFront (bytes digits : List ℕ) (byte : ℕ) (p q : Point) (es : Li
   pub start : Point
   -- where the marker is, and the point after it
   pub marker : Point
-  pub behind : Point
+  pub following : Point
   pub marker_is : marker ≡ past_text digits start
-  pub behind_is : behind ≡ past_byte byte marker
+  pub following_is : following ≡ past_byte byte marker
   -- the bytes there, of which the first begins in no tab
   pub more : List ℕ
   pub text_is : drop start.index bytes ≡ digits ++ (byte ∷ more)
   pub whole : start.vs ≡ 0
   pub marks : IsMarker digits byte
-  pub events : es ≡ front_by (same_place p start) (no_digits digits) (same_place behind q) p start marker behind q
+  pub events : es ≡ front_by (same_place p start) (no_digits digits) (same_place following q) p start marker following q
   -- what is whitespace
   pub white_before : White bytes p start
-  pub white_behind : White bytes behind q
+  pub white_after : White bytes following q
 
 -- what holds of such events whichever of the three are left out holds of them
 pub front-each : (P : List Event → Type 0) (bytes digits : List ℕ) (byte : ℕ) (p q : Point) (es : List Event) →
     (is : IsFront bytes digits byte p q es) →
-    ((bare none same : Bool) → P (front_by bare none same p is.start is.marker is.behind q)) → P es
+    ((bare none same : Bool) → P (front_by bare none same p is.start is.marker is.following q)) → P es
 front-each P bytes digits byte p q es is h =
-    subst P (sym is.events) (h (same_place p is.start) (no_digits digits) (same_place is.behind q))
+    subst P (sym is.events) (h (same_place p is.start) (no_digits digits) (same_place is.following q))
 
 -- Its points.
 
@@ -84,15 +84,15 @@ pub marker-index : (bytes digits : List ℕ) (byte : ℕ) (p q : Point) (es : Li
 marker-index bytes digits byte p q es is =
     ap (λ (r : Point). r.index) is.marker_is ∙ past-index digits is.start
 
-pub behind-index : (bytes digits : List ℕ) (byte : ℕ) (p q : Point) (es : List Event) →
-    (is : IsFront bytes digits byte p q es) → is.behind.index ≡ is.marker.index + 1
-behind-index bytes digits byte p q es is = ap (λ (r : Point). r.index) is.behind_is
+pub following-index : (bytes digits : List ℕ) (byte : ℕ) (p q : Point) (es : List Event) →
+    (is : IsFront bytes digits byte p q es) → is.following.index ≡ is.marker.index + 1
+following-index bytes digits byte p q es is = ap (λ (r : Point). r.index) is.following_is
 
 -- all on one line
 pub front-line : (bytes digits : List ℕ) (byte : ℕ) (p q : Point) (es : List Event) → IsFront bytes digits byte p q es →
     q.line ≡ p.line
 front-line bytes digits byte p q es is =
-    is.white_behind.line ∙ ap (λ (r : Point). r.line) is.behind_is ∙ ap (λ (r : Point). r.line) is.marker_is
+    is.white_after.line ∙ ap (λ (r : Point). r.line) is.following_is ∙ ap (λ (r : Point). r.line) is.marker_is
     ∙ past_text-line digits is.start ∙ is.white_before.line
 
 -- the bytes at the marker

@@ -10,10 +10,10 @@ use Rattle.md_meaning.specs.Texts.{first_byte}
 use Rattle.md_meaning.specs.Tree.{End}
 use Rattle.md_events.specs.Events.Nested.{around, enter, exit, pair}
 use Rattle.md_events.specs.Events.Places.{same_place}
-use Rattle.md_events.specs.Events.Spelled.{AsDigits, AsItemMarker, ItemShape, Reading, Text, begun, read, told_at}
+use Rattle.md_events.specs.Events.Spelled.{AsDigits, AsItemMarker, ItemShape, Reading, Text, begun, read, recorded_at}
 use Rattle.md_events.proofs.FeedLines.{slice-front}
 use Rattle.md_events.proofs.SpelledLemmas.{read-append}
-use Rattle.proof_container_laws.proofs.ListItem.Prefix.{IsFront, behind-index, front_by, marker-index}
+use Rattle.proof_container_laws.proofs.ListItem.Prefix.{IsFront, following-index, front_by, marker-index}
 use Rattle.proof_container_laws.proofs.ListItem.Prefix.{marker-text, marker-whole, no_digits}
 use Rattle.proof_frame.proofs.PrefixFacts.{begins}
 
@@ -30,21 +30,21 @@ item_read r marker digits = record r {
 }
 
 -- its digits are said, if it has some
-digits-told : (bytes digits rest : List ℕ) (r : Reading) (p q : Point) → p.vs ≡ 0 →
+digits-recorded : (bytes digits rest : List ℕ) (r : Reading) (p q : Point) → p.vs ≡ 0 →
     drop p.index bytes ≡ digits ++ rest → q.index ≡ p.index + length digits →
     read bytes (item_read r 0 []) (cond (no_digits digits) [] (pair n.ListItemValue p q)) ≡ item_read r 0 digits
-digits-told bytes [] rest r p q whole e size = refl
-digits-told bytes (d ∷ ds) rest r p q whole e size =
-    ap (λ (t : Text). told_at bytes AsDigits q (Some t) (record (item_read r 0 []) { text = Some t }))
+digits-recorded bytes [] rest r p q whole e size = refl
+digits-recorded bytes (d ∷ ds) rest r p q whole e size =
+    ap (λ (t : Text). recorded_at bytes AsDigits q (Some t) (record (item_read r 0 []) { text = Some t }))
     (begun-whole p whole)
     ∙ ap (λ (l : List ℕ). item_read r 0 l) (slice-front bytes p.index q.index (d ∷ ds) rest e size)
 
 -- and its marker
-marker-told : (bytes digits rest : List ℕ) (byte : ℕ) (r : Reading) (p q : Point) → p.vs ≡ 0 →
+marker-recorded : (bytes digits rest : List ℕ) (byte : ℕ) (r : Reading) (p q : Point) → p.vs ≡ 0 →
     drop p.index bytes ≡ byte ∷ rest → q.index ≡ p.index + 1 →
     read bytes (item_read r 0 digits) (pair n.ListItemMarker p q) ≡ item_read r byte digits
-marker-told bytes digits rest byte r p q whole e size =
-    ap (λ (t : Text). told_at bytes AsItemMarker q (Some t) (record (item_read r 0 digits) { text = Some t }))
+marker-recorded bytes digits rest byte r p q whole e size =
+    ap (λ (t : Text). recorded_at bytes AsItemMarker q (Some t) (record (item_read r 0 digits) { text = Some t }))
     (begun-whole p whole)
     ∙ ap (λ (l : List ℕ). item_read r (first_byte l) digits) (slice-front bytes p.index q.index (byte ∷ []) rest e size)
 
@@ -54,24 +54,24 @@ pub front-read : (bytes digits : List ℕ) (byte width : ℕ) (blank : Bool) (p 
     read bytes r (enter n.ListItem p ∷ es) ≡ begins (InItem digits byte width blank) r
 front-read bytes digits byte width blank p q es r is none =
     ap (λ (l : List Event). read bytes r (enter n.ListItem p ∷ l)) is.events
-    ∙ go (same_place p is.start) (same_place is.behind q)
+    ∙ go (same_place p is.start) (same_place is.following q)
     ∙ sym (ap (λ (t : Option Text). record (begins (InItem digits byte width blank) r) { text = t }) none)
   where
     value : List Event
     value = cond (no_digits digits) [] (pair n.ListItemValue is.start is.marker)
 
     marker : List Event
-    marker = pair n.ListItemMarker is.marker is.behind
+    marker = pair n.ListItemMarker is.marker is.following
 
     -- what is known from the value and the marker
-    tell : read bytes (item_read r 0 []) (value ++ marker) ≡ item_read r byte digits
-    tell =
+    write_message : read bytes (item_read r 0 []) (value ++ marker) ≡ item_read r byte digits
+    write_message =
         read-append bytes (item_read r 0 []) value marker
         ∙ ap (λ (x : Reading). read bytes x marker)
-        (digits-told bytes digits (byte ∷ is.more) r is.start is.marker is.whole is.text_is
+        (digits-recorded bytes digits (byte ∷ is.more) r is.start is.marker is.whole is.text_is
         (marker-index bytes digits byte p q es is))
-        ∙ marker-told bytes digits is.more byte r is.marker is.behind (marker-whole bytes digits byte p q es is)
-        (marker-text bytes digits byte p q es is) (behind-index bytes digits byte p q es is)
+        ∙ marker-recorded bytes digits is.more byte r is.marker is.following (marker-whole bytes digits byte p q es is)
+        (marker-text bytes digits byte p q es is) (following-index bytes digits byte p q es is)
 
     begun-read : read bytes r (enter n.ListItem p ∷ []) ≡ item_read r 0 []
     begun-read = ap (λ (t : Option Text). record (item_read r 0 []) { text = t }) none
@@ -83,18 +83,18 @@ front-read bytes digits byte width blank p q es r is none =
 
     go : (bare same : Bool) →
         read bytes r
-        (enter n.ListItem p ∷ front_by bare (no_digits digits) same p is.start is.marker is.behind q) ≡
+        (enter n.ListItem p ∷ front_by bare (no_digits digits) same p is.start is.marker is.following q) ≡
         item_read r byte digits
     go bare same =
         let before : List Event = cond bare [] (pair n.SpaceOrTab p is.start) in
-        let behind : List Event = cond same [] (pair n.SpaceOrTab is.behind q) in
-        let inside : List Event = value ++ (marker ++ behind) in
+        let following : List Event = cond same [] (pair n.SpaceOrTab is.following q) in
+        let inside : List Event = value ++ (marker ++ following) in
         let start : Reading = item_read r 0 [] in
         ap (λ (x : Reading). read bytes x (before ++ around n.ListItemPrefix is.start q inside)) begun-read
         ∙ read-append bytes start before (around n.ListItemPrefix is.start q inside)
         ∙ ap (λ (x : Reading). read bytes x (around n.ListItemPrefix is.start q inside)) (white bare p is.start start)
         ∙ read-append bytes start inside (exit n.ListItemPrefix q ∷ [])
-        ∙ ap (read bytes start) (sym (append_assoc value marker behind))
-        ∙ read-append bytes start (value ++ marker) behind
-        ∙ ap (λ (x : Reading). read bytes x behind) tell
-        ∙ white same is.behind q (item_read r byte digits)
+        ∙ ap (read bytes start) (sym (append_assoc value marker following))
+        ∙ read-append bytes start (value ++ marker) following
+        ∙ ap (λ (x : Reading). read bytes x following) write_message
+        ∙ white same is.following q (item_read r byte digits)

@@ -13,7 +13,7 @@ use Rattle.md_engine.specs.declared.tokenizer.container.name.ContainerKind.TheVa
 use Rattle.md_engine.specs.Meaning.{Accepts, Cell, Here}
 use Rattle.md_engine.specs.World.{container_of}
 use Rattle.md_containers.specs.Interrupts.{interrupts}
-use Rattle.md_containers.specs.ItemPrefix.{ItemPassed, held_as, item_behind, item_by, item_further, item_holds}
+use Rattle.md_containers.specs.ItemPrefix.{ItemPassed, held_as, item_after, item_by, item_further, item_holds}
 use Rattle.md_containers.specs.ItemPrefix.{item_indented, item_new, item_same}
 use Rattle.md_containers.specs.ItemRule.{item_at, item_on}
 use Rattle.md_containers.specs.QuoteRule.{indent_events}
@@ -31,7 +31,7 @@ use Rattle.md_events.specs.Look.{first_seen}
 use Rattle.md_events.specs.Spaces.{IsRest, ends_line, small_indent}
 use Rattle.md_events.proofs.AheadLemmas.{none-rest}
 use Rattle.md_events.proofs.RestCells.{white-length}
-use Rattle.proof_container_laws.specs.Containers.ListItem.{item_goes, item_passed, item_passes, item_rules}
+use Rattle.proof_container_laws.specs.Containers.ListItem.{item_proceeds, item_passed, item_passes, item_rules}
 use Rattle.proof_frame.specs.Passed.{Passed, passed_by, passed_over}
 use Rattle.proof_frame.specs.ContainerNames.{IsOf}
 use Rattle.proof_frame.proofs.ContainerLaws.{IsPassed}
@@ -98,9 +98,9 @@ new-tried options interrupting cells h is asked column by_flags =
 -- and on a further line
 pub further-tried : (held : Held) (c : Container) (cells : List Cell) (h : Here) → IsRest h.scratch →
     h.flags.asked ≡ held → held.kind ≡ kind.ListItem → item_holds held c →
-    item_on cells h ≡ passed_by (item_goes c cells h.point) h
+    item_on cells h ≡ passed_by (item_proceeds c cells h.point) h
 further-tried held c cells h is asked of =
-    each-held held (λ d. item_on cells h ≡ passed_by (item_goes d cells h.point) h)
+    each-held held (λ d. item_on cells h ≡ passed_by (item_proceeds d cells h.point) h)
     (λ digits marker width blank e f some.
     further-is width blank digits marker cells h is some (ap (λ (x : Held). x.width) asked ∙ e)
     (ap (λ (x : Held). x.starts_blank) asked ∙ f)
@@ -179,9 +179,9 @@ new-holds options interrupting cells p t =
 
 -- and on a further line
 pub further-passed : (c : Container) (cells : List Cell) (p : Point) (t : Passed) → IsOf kind.ListItem c →
-    item_goes c cells p ≡ Some t → IsPassed kind.ListItem cells t
+    item_proceeds c cells p ≡ Some t → IsPassed kind.ListItem cells t
 further-passed c cells p t is =
-    each-item (λ d. item_goes d cells p ≡ Some t → IsPassed kind.ListItem cells t)
+    each-item (λ d. item_proceeds d cells p ≡ Some t → IsPassed kind.ListItem cells t)
     (λ digits marker width blank some.
     passed-is cells (item_further digits marker width blank cells p) t
     (further-held (container_of kind.ListItem) digits marker width blank cells p some)
@@ -190,9 +190,9 @@ further-passed c cells p t is =
     c is
 
 pub further-holds : (held : Held) (c : Container) (cells : List Cell) (p : Point) (t : Passed) → item_holds held c →
-    item_goes c cells p ≡ Some t → item_rules.holds t.held t.container
+    item_proceeds c cells p ≡ Some t → item_rules.holds t.held t.container
 further-holds held c cells p t =
-    each-held held (λ d. item_goes d cells p ≡ Some t → item_rules.holds t.held t.container)
+    each-held held (λ d. item_proceeds d cells p ≡ Some t → item_rules.holds t.held t.container)
     (λ digits marker width blank e f some.
     passed-held (item_further digits marker width blank cells p) t
     (further-held (container_of kind.ListItem) digits marker width blank cells p some))
@@ -200,10 +200,10 @@ further-holds held c cells p t =
 
 -- Where the line ends none opens,
 
-ended-behind : (options : ParseOptions) (interrupting : Bool) (from : Point) (front : List Event) (c : Cell)
+ended-following : (options : ParseOptions) (interrupting : Bool) (from : Point) (front : List Event) (c : Cell)
     (cs : List Cell) (p : Point) →
-    c.byte ≡ 10 → item_behind options interrupting from front (c ∷ cs) p ≡ None
-ended-behind options interrupting from front c cs p e =
+    c.byte ≡ 10 → item_after options interrupting from front (c ∷ cs) p ≡ None
+ended-following options interrupting from front c cs p e =
     let bullet : is_bullet c.byte ≡ false = ap is_bullet e in
     let digit : is_digit c.byte ≡ false = ap is_digit e in
     rw (bullet, digit) refl
@@ -211,12 +211,12 @@ ended-behind options interrupting from front c cs p e =
 ended-rest : (options : ParseOptions) (interrupting : Bool) (from : Point) (front : List Event) (room : ℕ)
     (cells : List Cell) (p : Point) →
     ends_line (first_seen cells) ≡ true →
-    item_behind options interrupting from front (white_rest room cells) p ≡ None
+    item_after options interrupting from front (white_rest room cells) p ≡ None
 ended-rest options interrupting from front room [] p ends = refl
 ended-rest options interrupting from front room (c ∷ cs) p ends =
     let ten : c.byte ≡ 10 = eqb-true c.byte 10 ends in
-    ap (λ (l : List Cell). item_behind options interrupting from front l p) (none-rest room (c ∷ cs) (ap is_white ten))
-    ∙ ended-behind options interrupting from front c cs p ten
+    ap (λ (l : List Cell). item_after options interrupting from front l p) (none-rest room (c ∷ cs) (ap is_white ten))
+    ∙ ended-following options interrupting from front c cs p ten
 
 pub new-ended : (options : ParseOptions) (interrupting : Bool) (cells : List Cell) (p : Point) →
     ends_line (first_seen cells) ≡ true → item_rules.opens options interrupting cells p ≡ None
@@ -224,7 +224,7 @@ new-ended options interrupting cells p ends = ap item_passes (go options.constru
   where
     new : Option ItemPassed
     new =
-        item_behind options interrupting p (enter ListItem p ∷ indent_events options cells p)
+        item_after options interrupting p (enter ListItem p ∷ indent_events options cells p)
         (white_rest (small_indent options) cells) (white_end (small_indent options) cells p)
 
     go : (x : Bool) → cond x new None ≡ None
@@ -236,10 +236,10 @@ new-ended options interrupting cells p ends = ap item_passes (go options.constru
 -- and an open one continues as it is, unless it started blank
 pub further-ended : (held : Held) (c : Container) (cells : List Cell) (p : Point) → held.kind ≡ kind.ListItem →
     item_holds held c → ends_line (first_seen cells) ≡ true →
-    item_goes c cells p ≡ cond (not held.starts_blank) (Some (passed_over held c cells p)) None
+    item_proceeds c cells p ≡ cond (not held.starts_blank) (Some (passed_over held c cells p)) None
 further-ended held c cells p is holds ends =
     each-held held
-    (λ d. item_goes d cells p ≡ cond (not held.starts_blank) (Some (passed_over held d cells p)) None) ended c holds
+    (λ d. item_proceeds d cells p ≡ cond (not held.starts_blank) (Some (passed_over held d cells p)) None) ended c holds
   where
     over : (digits : List ℕ) (marker width : ℕ) → Held → Passed
     over digits marker width held = passed_over held (InItem digits marker width false) cells p

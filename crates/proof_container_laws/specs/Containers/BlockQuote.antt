@@ -41,10 +41,10 @@ quote_new options cells p = record {
 }
 
 -- an open one, if it continues
-abbrev pub quote_goes : ParseOptions → Container → List Cell → Point → Option Passed
-quote_goes options (InQuote alert) cells p =
+abbrev pub quote_continues : ParseOptions → Container → List Cell → Point → Option Passed
+quote_continues options (InQuote alert) cells p =
     if takes_prefix options cells then Some (quote_on options alert cells p) else None
-quote_goes options _ cells p = None
+quote_continues options _ cells p = None
 
 -- that it is a quote is held, and no more: the events show whether it is an alert
 abbrev pub quote_rules : ContainerRules
@@ -55,12 +55,12 @@ quote_rules = record {
   further = s.BlockQuote its.ContStart;
   continues = λ options cells h. prefix_at options cells h;
   may_open = may_begin;
-  may_go_on = may_begin;
+  may_continue = may_begin;
   plain = λ held w. IsPlainPrefix w;
   taken = λ held w. prefixed w;
   opens = λ options interrupting cells p.
       if options.constructs.block_quote && takes_prefix options cells then Some (quote_new options cells p) else None;
-  goes = λ options c cells p. quote_goes options c cells p;
+  proceeds = λ options c cells p. quote_continues options c cells p;
   found = λ options interrupting r. opens_quote options r;
   over_empty = λ held. false;
   holds = λ held c. held ≡ container_of kind.BlockQuote;

@@ -35,9 +35,9 @@ footnote_passes None = None
 footnote_passes (Some t) = Some (footnote_passed t)
 
 -- an open one, if it continues
-abbrev pub footnote_goes : Container → List Cell → Point → Option Passed
-footnote_goes (InFootnote label) cells p = footnote_passes (footnote_further label cells p)
-footnote_goes _ cells p = None
+abbrev pub footnote_proceeds : Container → List Cell → Point → Option Passed
+footnote_proceeds (InFootnote label) cells p = footnote_passes (footnote_further label cells p)
+footnote_proceeds _ cells p = None
 
 -- Its label is not held: the events show it. On a further line it is an item with so many columns, and the states of an
 -- item have it continue.
@@ -49,11 +49,11 @@ footnote_rules = record {
   further = s.ListItem item.ContStart;
   continues = λ options cells h. item_on cells h;
   may_open = may_begin;
-  may_go_on = λ b. true;
+  may_continue = λ b. true;
   plain = λ held w. IsPlainIndent (least_width held) w;
   taken = λ held w. indented (least_width held) w;
   opens = λ options interrupting cells p. footnote_passes (footnote_new options cells p);
-  goes = λ options c cells p. footnote_goes c cells p;
+  proceeds = λ options c cells p. footnote_proceeds c cells p;
   found = λ options interrupting r. opens_footnote options r;
   over_empty = λ held. true;
   holds = λ held c. (held.kind ≡ kind.GfmFootnoteDefinition) × footnote_holds held c;

@@ -31,9 +31,9 @@ item_passes None = None
 item_passes (Some t) = Some (item_passed t)
 
 -- an open one, if it continues
-abbrev pub item_goes : Container → List Cell → Point → Option Passed
-item_goes (InItem digits marker width blank) cells p = item_passes (item_further digits marker width blank cells p)
-item_goes _ cells p = None
+abbrev pub item_proceeds : Container → List Cell → Point → Option Passed
+item_proceeds (InItem digits marker width blank) cells p = item_passes (item_further digits marker width blank cells p)
+item_proceeds _ cells p = None
 
 -- its width is held, and whether it started blank
 abbrev pub item_rules : ContainerRules
@@ -44,11 +44,11 @@ item_rules = record {
   further = s.ListItem its.ContStart;
   continues = λ options cells h. item_on cells h;
   may_open = may_begin;
-  may_go_on = λ b. true;
+  may_continue = λ b. true;
   plain = λ held w. IsPlainIndent (least_width held) w;
   taken = λ held w. indented (least_width held) w;
   opens = λ options interrupting cells p. item_passes (item_new options interrupting cells p);
-  goes = λ options c cells p. item_goes c cells p;
+  proceeds = λ options c cells p. item_proceeds c cells p;
   found = λ options interrupting r. opens_item options interrupting r;
   over_empty = λ held. not held.starts_blank;
   holds = λ held c. (held.kind ≡ kind.ListItem) × item_holds held c;

@@ -12,7 +12,7 @@ use Rattle.md_engine.specs.Meaning.{Cell}
 use Rattle.md_engine.specs.Place.{is_ending, next_point, seen_at}
 use Rattle.md_meaning.specs.Rest.{cut_tab, is_blank, is_white}
 use Rattle.md_events.specs.Events.Places.{past_byte}
-use Rattle.md_events.proofs.FeedLines.{NoFeed, all-spread, behind_last, bytes-append, bytes_of, cell, columns_more}
+use Rattle.md_events.proofs.FeedLines.{NoFeed, all-spread, after_last, bytes-append, bytes_of, cell, columns_more}
 use Rattle.md_events.proofs.FeedLines.{next_column, spread, tab_cells, tab_end}
 use Rattle.md_events.proofs.RestCells.{cells_by}
 use Rattle.proof_frame.specs.Laid.{LineBreak}
@@ -36,7 +36,7 @@ breaks [] = []
 breaks (turn ∷ turns) = turn.break ∷ breaks turns
 
 -- a point of a text: within a byte only if that is a tab
-pub record Stands (bytes : List ℕ) (p : Point) : Type 0 where
+pub record Valid (bytes : List ℕ) (p : Point) : Type 0 where
   pub column : 1 ≤ p.column
   pub within : p.index ≤ length bytes
   pub tab : 0 < p.vs → slice_index bytes p.index ≡ 9
@@ -50,8 +50,8 @@ pub record IsStep (bytes : List ℕ) (p : Point) (c : Cell) : Type 0 where
   pub within : p.index < length bytes
 
 -- no blank line ends here
-abbrev pub GoesOn : List Cell → Type 0
-GoesOn cells =
+abbrev pub IsContinued : List Cell → Type 0
+IsContinued cells =
     (line : List Cell) (d : Cell) (ds : List Cell) → cells ≡ line ++ d ∷ ds → nat_eq d.byte 10 ≡ true →
     list_all is_white (bytes_of line) ≡ false
 
@@ -65,8 +65,8 @@ pub record IsTurn (bytes : List ℕ) (p : Point) (c : Cell) (cs : List Cell) (tu
   pub said : c.line ≡ no_line
   pub cells : cs ≡ turn.cells
   pub break : IsBreak bytes p turn.break.after turn.first turn.break.front
-  pub stands : Stands bytes turn.first
-  pub filled : GoesOn cs
+  pub valid : Valid bytes turn.first
+  pub filled : IsContinued cs
 
 abbrev pub IsCell : List ℕ → Point → Cell → List Cell → List Turn → List Turn → Type 0
 IsCell bytes p c cs turns left = (IsStep bytes p c × (turns ≡ left)) ⊎ IsTurn bytes p c cs turns left
@@ -102,7 +102,7 @@ pub record IsColumn (bytes : List ℕ) (p : Point) (c : Cell) : Type 0 where
 pub record IsLast (bytes : List ℕ) (p : Point) (c : Cell) : Type 0 where
   pub tab : slice_index bytes p.index ≡ 9
   pub more : columns_more p ≡ 0
-  pub cell_is : c ≡ cell (column_byte p) (behind_last p) no_line
+  pub cell_is : c ≡ cell (column_byte p) (after_last p) no_line
 
 pub data Kind (bytes : List ℕ) (p : Point) (c : Cell) : Type 0 where
   OfByte : IsPlain bytes p c → Kind bytes p c
@@ -114,8 +114,8 @@ cell-as : (c : Cell) (byte : ℕ) (after : Point) → c.byte ≡ byte → c.afte
     c ≡ cell byte after no_line
 cell-as c byte after e k l = rw (← e, ← k, ← l) refl
 
-pub kind : (bytes : List ℕ) (p : Point) (c : Cell) → Stands bytes p → IsStep bytes p c → Kind bytes p c
-kind bytes p c stands is = go (nat_eq (slice_index bytes p.index) 9) refl
+pub kind : (bytes : List ℕ) (p : Point) (c : Cell) → Valid bytes p → IsStep bytes p c → Kind bytes p c
+kind bytes p c valid is = go (nat_eq (slice_index bytes p.index) 9) refl
   where
     b : ℕ
     b = slice_index bytes p.index
@@ -134,23 +134,23 @@ kind bytes p c stands is = go (nat_eq (slice_index bytes p.index) 9) refl
     tab at false e =
         let more : columns_more p ≡ 0 = grind (arith, nat_tests) in
         let byte : seen_at bytes p ≡ column_byte p = rw at refl in
-        let after : next_point bytes p ≡ behind_last p = rw (at, e) refl in
+        let after : next_point bytes p ≡ after_last p = rw (at, e) refl in
         OfLast
         (record {
           tab = at;
           more = more;
-          cell_is = cell-as c (column_byte p) (behind_last p) (is.byte ∙ byte) (is.after ∙ after) is.said;
+          cell_is = cell-as c (column_byte p) (after_last p) (is.byte ∙ byte) (is.after ∙ after) is.said;
         })
 
     whole : nat_eq b 9 ≡ false → (vs : ℕ) → p.vs ≡ vs → p.vs ≡ 0
     whole e zero k = k
     whole e (suc n) k =
-        let tab : b ≡ 9 = stands.tab (omega (arith, k)) in let no : true ≡ false = rw tab at e in cc
+        let tab : b ≡ 9 = valid.tab (omega (arith, k)) in let no : true ≡ false = rw tab at e in cc
 
     go : (x : Bool) → nat_eq b 9 ≡ x → Kind bytes p c
     go true e = tab (eqb-true b 9 e) (not (nat_eq (p.column % 4) 0)) refl
     go false e =
-        let column : p.column + 1 ≡ p.column - 1 + 1 + 1 = let one = stands.column in omega arith in
+        let column : p.column + 1 ≡ p.column - 1 + 1 + 1 = let one = valid.column in omega arith in
         let byte : seen_at bytes p ≡ b = rw (is.plain, e) refl in
         let after : next_point bytes p ≡
         past_byte b p = rw (is.plain, e)
@@ -183,15 +183,16 @@ cells-white (suc n) text p =
     ∙ all-spread is_white refl no_line text (tab_end n p)
 
 -- cells of a line that is not blank, and others after them
-pub goes-on : (line more : List Cell) → NoFeed line → list_all is_white (bytes_of line) ≡ false → GoesOn (line ++ more)
-goes-on [] more none dark other d ds e ten = cc
-goes-on (x ∷ xs) more none dark [] d ds e ten = absurd (true≢false (sym ten ∙ here ∙ none.0))
+pub proceeds-on : (line more : List Cell) → NoFeed line → list_all is_white (bytes_of line) ≡ false →
+    IsContinued (line ++ more)
+proceeds-on [] more none dark other d ds e ten = cc
+proceeds-on (x ∷ xs) more none dark [] d ds e ten = absurd (true≢false (sym ten ∙ here ∙ none.0))
   where
     here : nat_eq d.byte 10 ≡ nat_eq x.byte 10
     here = cc
-goes-on (x ∷ xs) more none dark (y ∷ ys) d ds e ten =
+proceeds-on (x ∷ xs) more none dark (y ∷ ys) d ds e ten =
     subst (λ (c : Cell). (is_white c.byte && list_all is_white (bytes_of ys)) ≡ false) same
-    (go (is_white x.byte) dark (λ h. goes-on xs more none.1 h ys d ds rest ten))
+    (go (is_white x.byte) dark (λ h. proceeds-on xs more none.1 h ys d ds rest ten))
   where
     same : x ≡ y
     same = cc

@@ -42,8 +42,8 @@ title-string bytes p q (Some t) is = go t.text is.inside
     go (Some s) inside =
         title-facts bytes t.a t.b s is.opens.1.whole inside (further-filled bytes t.a t.b s inside)
 
-form-strings : (bytes : List ℕ) (x : Form) (behind_gap behind_target : Point) →
-    IsForm bytes x behind_gap behind_target → FormStrings bytes x
+form-strings : (bytes : List ℕ) (x : Form) (following_gap after_target : Point) →
+    IsForm bytes x following_gap after_target → FormStrings bytes x
 form-strings bytes x g t is = record {
   label =
       label-facts bytes x.a x.b x.label is.opens.1.whole is.label (further-filled bytes x.a x.b x.label is.label);
@@ -52,14 +52,14 @@ form-strings bytes x g t is = record {
 }
 
 -- All of it.
-pub defined-facts : (bytes : List ℕ) (x : Form) (behind_gap behind_target : Point) →
-    IsForm bytes x behind_gap behind_target →
+pub defined-facts : (bytes : List ℕ) (x : Form) (following_gap after_target : Point) →
+    IsForm bytes x following_gap after_target →
     LeafFacts bytes (Some (form_block x)) true x.first x.last (form_unread x) (form_done bytes x)
 defined-facts bytes x g t is =
     let known : FormStrings bytes x = form-strings bytes x g t is in
     facts-by bytes x g t is (form-texts bytes x known) (form-plain bytes x g t is known)
 
-pub defined-done : (bytes : List ℕ) (x : Form) (behind_gap behind_target : Point) →
-    IsForm bytes x behind_gap behind_target → plain_read bytes (form_unread x) ≡ form_done bytes x
+pub defined-done : (bytes : List ℕ) (x : Form) (following_gap after_target : Point) →
+    IsForm bytes x following_gap after_target → plain_read bytes (form_unread x) ≡ form_done bytes x
 defined-done bytes x g t is =
-    filled-read bytes (form_unread x) (form_done bytes x) (defined-facts bytes x g t is).stand.stretch.filled
+    filled-read bytes (form_unread x) (form_done bytes x) (defined-facts bytes x g t is).are_valid.stretch.filled

@@ -250,14 +250,14 @@ IsTitle bytes p q None = p ≡ q
 IsTitle bytes p q (Some t) = IsTitled bytes p q t
 
 -- A definition from a point to a point, with the places where its gap and its title begin.
-pub record IsForm (bytes : List ℕ) (x : Form) (behind_gap behind_target : Point) : Type 0 where
+pub record IsForm (bytes : List ℕ) (x : Form) (following_gap after_target : Point) : Type 0 where
   pub column : 1 ≤ x.first.column
   pub indent : IsWhite bytes x.first x.p
   pub opens : IsByte bytes 91 x.p x.a
   pub label : IsStrand bytes x.a x.b x.label
   pub closes : IsByte bytes 93 x.b x.c
   pub colon : IsByte bytes 58 x.c x.d
-  pub gap : IsGap bytes x.d behind_gap x.gap
-  pub target : IsTarget bytes behind_gap behind_target x.target
-  pub title : IsTitle bytes behind_target x.e x.title
+  pub gap : IsGap bytes x.d following_gap x.gap
+  pub target : IsTarget bytes following_gap after_target x.target
+  pub title : IsTitle bytes after_target x.e x.title
   pub white : IsWhite bytes x.e x.last

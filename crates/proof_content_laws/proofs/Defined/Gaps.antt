@@ -68,10 +68,10 @@ and-right : (x y : Bool) → (x && y) ≡ true → y ≡ true
 and-right true y e = e
 and-right false y e = cc
 
-all-behind : (f : ℕ → Bool) (xs ys : List Cell) → list_all f (bytes_of (xs ++ ys)) ≡ true →
+all-following : (f : ℕ → Bool) (xs ys : List Cell) → list_all f (bytes_of (xs ++ ys)) ≡ true →
     list_all f (bytes_of ys) ≡ true
-all-behind f [] ys e = e
-all-behind f (x ∷ xs) ys e = all-behind f xs ys (and-right (f x.byte) (list_all f (bytes_of (xs ++ ys))) e)
+all-following f [] ys e = e
+all-following f (x ∷ xs) ys e = all-following f xs ys (and-right (f x.byte) (list_all f (bytes_of (xs ++ ys))) e)
 
 run-white : (bytes : List ℕ) (p q : Point) (cells : List Cell) (run : RunOf bytes p q cells) →
     list_all is_white (bytes_of cells) ≡ true → is_blank (run_text bytes p q cells run) ≡ true
@@ -83,7 +83,7 @@ run-white bytes p q cells run white = go run.spaces run.cells_are
         ∙ ap (λ (l : List Cell). list_all is_white (bytes_of l)) (sym e) ∙ white
     go (suc k) e =
         sym (all-spread is_white refl no_line run.text (tab_end k p))
-        ∙ all-behind is_white (tab_cells no_line k 32 p) (spread no_line run.text (tab_end k p))
+        ∙ all-following is_white (tab_cells no_line k 32 p) (spread no_line run.text (tab_end k p))
         (ap (λ (l : List Cell). list_all is_white (bytes_of l)) (sym e) ∙ white)
 
 -- All whitespace that comes first.
@@ -124,13 +124,13 @@ white-of bytes last p cells turns walk = by (begins_white cells) refl
         let steps = (on-line bytes last p known.front rest turns known.none front-walk).steps in
         let whole : (point_after known.front p).vs ≡ 0 =
         ap (λ (r : Point). r.vs) known.end ∙ walk-whole bytes last q rest turns bare.walk dark in
-        let run = run-of bytes p known.front walk.stands steps whole in
+        let run = run-of bytes p known.front walk.valid steps whole in
         let text = run_text bytes p (point_after known.front p) known.front run in (
           text,
           run-some c cs p run.spaces run.text (sym e ∙ run.cells_are),
           run-white bytes p (point_after known.front p) known.front run known.white,
           subst (λ (r : Point). IsRun bytes text p r) known.end
-              (is-run bytes p (point_after known.front p) known.front walk.stands run),
+              (is-run bytes p (point_after known.front p) known.front walk.valid run),
         )
 
     by : (x : Bool) → begins_white cells ≡ x → WhiteOf bytes last p cells turns
@@ -248,12 +248,12 @@ gap-by bytes last p cells (c ∷ cs) turns e white = go (nat_eq c.byte 10) refl
         let ending = takes-then bytes last q turns q (c ∷ cs) turns (enter n.LineEnding q ∷ [])
         (enter n.LineEnding q ∷ []) r cs over.left (exit n.LineEnding r ∷ [])
         (exit n.LineEnding b.after ∷ b.front) begin over.takes in
-        let behind = takes-then bytes last q turns r cs over.left (pair n.LineEnding q r)
+        let following = takes-then bytes last q turns r cs over.left (pair n.LineEnding q r)
         (pair n.LineEnding q b.after ++ b.front) s rest over.left (white_part cs r)
         (pair_unless_empty n.SpaceOrTab r s) ending more.takes in
         let all = takes-then bytes last p turns q (c ∷ cs) turns first (pair_unless_empty n.SpaceOrTab p q) s rest
         over.left (pair n.LineEnding q r ++ white_part cs r)
-        ((pair n.LineEnding q b.after ++ b.front) ++ pair_unless_empty n.SpaceOrTab r s) here behind in
+        ((pair n.LineEnding q b.after ++ b.front) ++ pair_unless_empty n.SpaceOrTab r s) here following in
         let broken : IsBreak bytes q b.after r b.front =
         subst (λ (x : Point). IsBreak bytes q b.after x b.front) (sym turn.after) turn.break in
         let gap = OverLine p q b.after r s b.front in

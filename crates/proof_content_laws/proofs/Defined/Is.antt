@@ -16,9 +16,9 @@ use Rattle.proof_content_laws.proofs.Defined.Form.{text_lines}
 
 pub record IsDefined (bytes : List ℕ) (d : DefinitionParts) (row : Row) (rows : List Row) : Type 0 where
   pub form : Form
-  pub behind_gap : Point
-  pub behind_target : Point
-  pub is : IsForm bytes form behind_gap behind_target
+  pub following_gap : Point
+  pub after_target : Point
+  pub is : IsForm bytes form following_gap after_target
   pub first : form.first ≡ row.first
   pub last : form.last ≡ (last_row row rows).end
   pub unread : defined_unread d row rows ≡ form_unread form

@@ -13,7 +13,7 @@ use Rattle.md_engine.specs.declared.event.Point.{Point}
 use Rattle.md_engine.specs.Meaning.{Cell}
 use Rattle.md_link_definitions.specs.CellLines.{cell_lines}
 use Rattle.md_link_definitions.specs.Chunks.{before_mark, chunks, from_mark}
-use Rattle.md_link_definitions.specs.DefinitionRule.{ends_behind, lone, title_behind}
+use Rattle.md_link_definitions.specs.DefinitionRule.{ends_after, lone, title_following}
 use Rattle.md_link_definitions.specs.DefinitionRule.{titled_end, titled_part, titled_rest}
 use Rattle.md_link_definitions.specs.GapRule.{begins_gap, gap_end, gap_part, gap_rest}
 use Rattle.md_link_definitions.specs.Label.{is_bracket}
@@ -26,11 +26,12 @@ use Rattle.md_link_definitions.proofs.LineCells.{mark-split}
 use Rattle.md_link_definitions.proofs.TitleLemmas.{title-marks}
 use Rattle.md_events.specs.Ahead.{point_after}
 use Rattle.md_events.specs.Events.Nested.{around, enter, exit, pair}
-use Rattle.proof_content_laws.proofs.Defined.Along.{IsCell, Stands, Turn}
-use Rattle.proof_content_laws.proofs.Defined.Form.{IsByte, IsStrand, IsText, IsTitle, NoLine, Strand, Titled, gap_events}
-use Rattle.proof_content_laws.proofs.Defined.Form.{strand_lines, strand_unread, string_of, text_lines, title_by}
+use Rattle.proof_content_laws.proofs.Defined.Along.{IsCell, Valid, Turn}
+use Rattle.proof_content_laws.proofs.Defined.Form.{IsByte, IsStrand, IsText, IsTitle, NoLine, Strand, Titled}
+use Rattle.proof_content_laws.proofs.Defined.Form.{gap_events, strand_lines, strand_unread, string_of, text_lines}
+use Rattle.proof_content_laws.proofs.Defined.Form.{title_by}
 use Rattle.proof_content_laws.proofs.Defined.Gaps.{gap-of}
-use Rattle.proof_content_laws.proofs.Defined.Runs.{step-stands}
+use Rattle.proof_content_laws.proofs.Defined.Runs.{step-valid}
 use Rattle.proof_content_laws.proofs.Defined.Strands.{StrandOf, strand-of}
 use Rattle.proof_content_laws.proofs.Defined.Takes.{Takes, Walk, takes-none, takes-quiet, takes-then, walk-whole}
 use Rattle.proof_content_laws.proofs.Defined.Targets.{byte-of}
@@ -48,7 +49,7 @@ walk-over bytes last p (c ∷ cs) rest turns walk =
     next (inl (step, same)) =
         let small = walk.small in
         record {
-          stands = step-stands bytes p c walk.stands step;
+          valid = step-valid bytes p c walk.valid step;
           walks = walk.walks.2;
           small = omega (arith, small);
           whole = walk.whole;
@@ -56,7 +57,7 @@ walk-over bytes last p (c ∷ cs) rest turns walk =
     next (inr turn) =
         let small = walk.small in
         record {
-          stands = subst (Stands bytes) (sym turn.after) turn.stands;
+          valid = subst (Valid bytes) (sym turn.after) turn.valid;
           walks = walk.walks.2;
           small = omega (arith, small);
           whole = walk.whole;
@@ -353,8 +354,8 @@ title-of bytes last p cells t turns are walk =
 -- The title after a destination, with the gap before it, or none.
 
 -- what is said of it
-abbrev pub told_title : Option TitleParts → Option (List (List ℕ))
-told_title o = option_map (λ (t : TitleParts). cell_lines false (whole_cells t.opener.after t.text)) o
+abbrev pub recorded_title : Option TitleParts → Option (List (List ℕ))
+recorded_title o = option_map (λ (t : TitleParts). cell_lines false (whole_cells t.opener.after t.text)) o
 
 pub record TailOf (bytes : List ℕ) (last p : Point) (cells : List Cell) (turns : List Turn) (o : Option TitleParts) :
     Type 0 where
@@ -363,12 +364,12 @@ pub record TailOf (bytes : List ℕ) (last p : Point) (cells : List Cell) (turns
   pub takes : Takes bytes last p turns (titled_end o p) (titled_rest o cells) left (titled_part o cells p)
       (title_by strand_unread title)
   pub is : IsTitle bytes p (titled_end o p) title
-  pub lines : option_map (λ (t : Titled). text_lines t.text) title ≡ told_title o
+  pub lines : option_map (λ (t : Titled). text_lines t.text) title ≡ recorded_title o
 
 -- where one is found it is after a gap
-pub behind-gap : (cells : List Cell) (t : TitleParts) → title_behind cells ≡ Some t →
+pub following-gap : (cells : List Cell) (t : TitleParts) → title_following cells ≡ Some t →
     title_parts (gap_rest cells) ≡ Some t
-behind-gap cells t e = go (begins_gap cells) (title_parts (gap_rest cells)) refl e
+following-gap cells t e = go (begins_gap cells) (title_parts (gap_rest cells)) refl e
   where
     by : (u : TitleParts) (x : Bool) → title_parts (gap_rest cells) ≡ Some u → cond x (Some u) None ≡ Some t →
         title_parts (gap_rest cells) ≡ Some t
@@ -378,11 +379,11 @@ behind-gap cells t e = go (begins_gap cells) (title_parts (gap_rest cells)) refl
     go : (x : Bool) (o : Option TitleParts) → title_parts (gap_rest cells) ≡ o → cond x (lone o) None ≡ Some t →
         title_parts (gap_rest cells) ≡ Some t
     go true None k e = let bad : (let o : Option TitleParts = None in o) ≡ Some t = e in cc
-    go true (Some u) k e = by u (ends_behind u.rest) k e
+    go true (Some u) k e = by u (ends_after u.rest) k e
     go false o k e = let bad : (let o : Option TitleParts = None in o) ≡ Some t = e in cc
 
 pub tail-of : (bytes : List ℕ) (last p : Point) (cells : List Cell) (turns : List Turn) (o : Option TitleParts) →
-    title_behind cells ≡ o → Walk bytes last p cells turns → TailOf bytes last p cells turns o
+    title_following cells ≡ o → Walk bytes last p cells turns → TailOf bytes last p cells turns o
 tail-of bytes last p cells turns None e walk = record {
   title = None;
   left = turns;
@@ -393,7 +394,7 @@ tail-of bytes last p cells turns None e walk = record {
 tail-of bytes last p cells turns (Some t) e walk =
     let gap = gap-of bytes last p cells turns walk in
     let q = gap_end cells p in
-    let are = title-are (gap_rest cells) t (behind-gap cells t e) in
+    let are = title-are (gap_rest cells) t (following-gap cells t e) in
     let title = title-of bytes last q (gap_rest cells) t gap.left are gap.takes.walk in
     let a = t.opener.after in
     let b = point_after t.text a in

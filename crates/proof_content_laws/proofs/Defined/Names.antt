@@ -2,7 +2,7 @@
 use Rattle.std.proofs.Common.{◌≡◌, ℕ, Bool, true, false, cond, List, [], ◌∷◌, ◌++◌, refl, zero, suc, length}
 use Rattle.std.proofs.lemmas.Bool.{and_right}
 use Rattle.std.specs.Prelude.{◌==◌, Option, Some, None}
-use Rattle.md_content.specs.ContentRule.{behind_definition, content_by, content_of, content_over, definition_in}
+use Rattle.md_content.specs.ContentRule.{following_definition, content_by, content_of, content_over, definition_in}
 use Rattle.md_content.specs.Paragraph.{text_link}
 use Rattle.md_content.specs.ParagraphRule.{line_events, paragraph_over}
 use Rattle.md_engine.specs.declared.configuration.ParseOptions.{ParseOptions}
@@ -15,7 +15,7 @@ use Rattle.md_link_definitions.specs.Chunks.{chunks}
 use Rattle.md_link_definitions.specs.DefinitionRule.{DefinitionParts, definition_end, definition_events}
 use Rattle.md_link_definitions.specs.DefinitionRule.{definition_rest, is_literal, destination_begin, destination_end}
 use Rattle.md_link_definitions.specs.DefinitionRule.{destination_rest, label_begin, parts_end, parts_rest, titled_part}
-use Rattle.md_link_definitions.specs.DestinationRule.{behind_cells, destination_part, literal_begin, literal_end}
+use Rattle.md_link_definitions.specs.DestinationRule.{after_cells, destination_part, literal_begin, literal_end}
 use Rattle.md_link_definitions.specs.DestinationRule.{text_part}
 use Rattle.md_link_definitions.specs.GapRule.{ending_part, gap_end, gap_part, gap_rest, white_part}
 use Rattle.md_link_definitions.specs.LabelRule.{LabelParts, label_events}
@@ -147,9 +147,9 @@ literal-names p q r s text h =
 destination-names : (literal : Bool) (text : List ℕ) (cells : List Cell) (p : Point) →
     AreOfDefinition (destination_part literal text cells p)
 destination-names true text cells p =
-    let q : Point = behind_cells 1 cells p in
-    let r : Point = behind_cells (suc (length text)) cells p in
-    literal-names p q r (behind_cells (suc (suc (length text))) cells p) (text_part text q r) (text-names text q r)
+    let q : Point = after_cells 1 cells p in
+    let r : Point = after_cells (suc (length text)) cells p in
+    literal-names p q r (after_cells (suc (suc (length text))) cells p) (text_part text q r) (text-names text q r)
 destination-names false text cells p = (refl, (refl, (refl, (refl, (refl, (refl, (refl, (refl, tt))))))))
 
 strung-names : (text : List Cell) (p : Point) → AreOfDefinition (title_text text p)
@@ -223,11 +223,11 @@ paragraph-each P paragraph cells p = (
   ),
 )
 
-behind-each : (P : Event → Type 0) (named : (e : Event) → IsOfDefinition e → P e)
+following-each : (P : Event → Type 0) (named : (e : Event) → IsOfDefinition e → P e)
     (more : List Cell → Point → List Event) → ((cells : List Cell) (p : Point) → Each P (more cells p)) →
-    (cells : List Cell) (p : Point) → Each P (behind_definition more cells p)
-behind-each P named more h [] p = tt
-behind-each P named more h (c ∷ cs) p =
+    (cells : List Cell) (p : Point) → Each P (following_definition more cells p)
+following-each P named more h [] p = tt
+following-each P named more h (c ∷ cs) p =
     (named (enter n.LineEnding p) refl, (named (exit n.LineEnding c.after) refl, h cs c.after))
 
 of-each : (P : Event → Type 0) (named : (e : Event) → IsOfDefinition e → P e)
@@ -242,9 +242,9 @@ of-each P named paragraph options (suc n) cells p =
     go None below = paragraph-each P paragraph cells p
     go (Some d) below =
         each-append P (definition_events d p)
-        (behind_definition (content_of options n) (definition_rest d) (definition_end d))
+        (following_definition (content_of options n) (definition_rest d) (definition_end d))
         (each-as IsOfDefinition P named (definition_events d p) (definition-names d p))
-        (behind-each P named (content_of options n) below (definition_rest d) (definition_end d))
+        (following-each P named (content_of options n) below (definition_rest d) (definition_end d))
 
 pub content-each : (P : Event → Type 0) → ((e : Event) → IsOfDefinition e → P e) →
     ((e : Event) → is_paragraph_part e.name ≡ true → P e) → (options : ParseOptions) (cells : List Cell) (p : Point) →

@@ -13,9 +13,9 @@ use Rattle.md_engine.specs.Meaning.{Cell}
 use Rattle.md_link_definitions.specs.CellLines.{cell_lines}
 use Rattle.md_link_definitions.specs.DefinitionRule.{DefinitionParts, definition_end, definition_events}
 use Rattle.md_link_definitions.specs.DefinitionRule.{definition_parts, definition_rest, destination_begin}
-use Rattle.md_link_definitions.specs.DefinitionRule.{destination_end, destination_rest, ends_behind, is_literal}
-use Rattle.md_link_definitions.specs.DefinitionRule.{label_begin, parts_behind, parts_end, parts_labelled}
-use Rattle.md_link_definitions.specs.DefinitionRule.{parts_rest, parts_with, title_behind, titled_part}
+use Rattle.md_link_definitions.specs.DefinitionRule.{destination_end, destination_rest, ends_after, is_literal}
+use Rattle.md_link_definitions.specs.DefinitionRule.{label_begin, parts_after, parts_end, parts_labelled}
+use Rattle.md_link_definitions.specs.DefinitionRule.{parts_rest, parts_with, title_following, titled_part}
 use Rattle.md_link_definitions.specs.DestinationRule.{destination_left, destination_part}
 use Rattle.md_link_definitions.specs.GapRule.{gap_part, gap_rest, white_part}
 use Rattle.md_link_definitions.specs.LabelRule.{LabelParts, label_events, label_parts}
@@ -30,7 +30,7 @@ use Rattle.proof_content_laws.proofs.Defined.Form.{Form, IsByte, IsForm, Titled,
 use Rattle.proof_content_laws.proofs.Defined.Form.{string_unread, strand_lines, strand_unread, target_by, target_text}
 use Rattle.proof_content_laws.proofs.Defined.Form.{text_lines, title_by}
 use Rattle.proof_content_laws.proofs.Defined.Gaps.{gap-of, white-of}
-use Rattle.proof_content_laws.proofs.Defined.Marked.{LabelAre, label-are, label-of, labelled, tail-of, told_title}
+use Rattle.proof_content_laws.proofs.Defined.Marked.{LabelAre, label-are, label-of, labelled, tail-of, recorded_title}
 use Rattle.proof_content_laws.proofs.Defined.Takes.{Takes, Walk, takes-around, takes-quiet, takes-then, walk-whole}
 use Rattle.proof_content_laws.proofs.Defined.Targets.{byte-of, target-of}
 
@@ -41,8 +41,8 @@ pub record DefinitionAre (cells : List Cell) (d : DefinitionParts) : Type 0 wher
   pub rest : d.label.rest ≡ d.colon ∷ d.more
   pub colon_is : d.colon.byte ≡ colon
   pub destination : found.destination_at (line_bytes (gap_rest d.more)) ≡ Some d.destination
-  pub title : title_behind (destination_rest d) ≡ d.title
-  pub ends : ends_behind (parts_rest d) ≡ true
+  pub title : title_following (destination_rest d) ≡ d.title
+  pub ends : ends_after (parts_rest d) ≡ true
 
 -- by the destination
 are-with : (cells : List Cell) (label : LabelParts) (c : Cell) (cs : List Cell) (o : Option Destination)
@@ -50,7 +50,7 @@ are-with : (cells : List Cell) (label : LabelParts) (c : Cell) (cs : List Cell) 
     found.destination_at (line_bytes (gap_rest cs)) ≡ o → parts_with cells label c cs o ≡ Some d →
     DefinitionAre cells d
 are-with cells label c cs None d l r i k e = let bad : (let o : Option DefinitionParts = None in o) ≡ Some d = e in cc
-are-with cells label c cs (Some destination) d l r i k e = go (ends_behind (parts_rest all)) refl e
+are-with cells label c cs (Some destination) d l r i k e = go (ends_after (parts_rest all)) refl e
   where
     all : DefinitionParts
     all = record {
@@ -59,10 +59,10 @@ are-with cells label c cs (Some destination) d l r i k e = go (ends_behind (part
       colon = c;
       more = cs;
       destination = destination;
-      title = title_behind (destination_left destination (gap_rest cs));
+      title = title_following (destination_left destination (gap_rest cs));
     }
 
-    go : (x : Bool) → ends_behind (parts_rest all) ≡ x → cond x (Some all) None ≡ Some d → DefinitionAre cells d
+    go : (x : Bool) → ends_after (parts_rest all) ≡ x → cond x (Some all) None ≡ Some d → DefinitionAre cells d
     go true is e =
         let same : all ≡ d = cc in
         subst (DefinitionAre cells) same
@@ -70,11 +70,11 @@ are-with cells label c cs (Some destination) d l r i k e = go (ends_behind (part
     go false is e = let bad : (let o : Option DefinitionParts = None in o) ≡ Some d = e in cc
 
 -- by what follows the label
-are-behind : (cells : List Cell) (label : LabelParts) (left : List Cell) (d : DefinitionParts) →
-    LabelAre (white_rest any_size cells) label → label.rest ≡ left → parts_behind cells label left ≡ Some d →
+are-following : (cells : List Cell) (label : LabelParts) (left : List Cell) (d : DefinitionParts) →
+    LabelAre (white_rest any_size cells) label → label.rest ≡ left → parts_after cells label left ≡ Some d →
     DefinitionAre cells d
-are-behind cells label [] d l r e = let bad : (let o : Option DefinitionParts = None in o) ≡ Some d = e in cc
-are-behind cells label (c ∷ cs) d l r e = go (nat_eq c.byte colon) refl e
+are-following cells label [] d l r e = let bad : (let o : Option DefinitionParts = None in o) ≡ Some d = e in cc
+are-following cells label (c ∷ cs) d l r e = go (nat_eq c.byte colon) refl e
   where
     go : (x : Bool) → nat_eq c.byte colon ≡ x →
         cond x (parts_with cells label c cs (found.destination_at (line_bytes (gap_rest cs)))) None ≡ Some d →
@@ -93,7 +93,7 @@ definition-are cells d e = go (label_parts (white_rest any_size cells)) refl e
         DefinitionAre cells d
     go None k e = let bad : (let o : Option DefinitionParts = None in o) ≡ Some d = e in cc
     go (Some label) k e =
-        are-behind cells label label.rest d (label-are (white_rest any_size cells) label k) refl e
+        are-following cells label label.rest d (label-are (white_rest any_size cells) label k) refl e
 
 -- Its form.
 pub record DefinitionOf (bytes : List ℕ) (last p : Point) (turns : List Turn) (d : DefinitionParts) : Type 0 where
@@ -107,7 +107,7 @@ pub record DefinitionOf (bytes : List ℕ) (last p : Point) (turns : List Turn) 
   pub label_lines : cell_lines false (whole_cells d.label.opener.after d.label.text) ≡
       trim_further (strand_lines form.label)
   pub target_is : target_text form.target ≡ text_bytes d.destination (gap_rest d.more) (destination_begin d)
-  pub title_lines : option_map (λ (t : Titled). text_lines t.text) form.title ≡ told_title d.title
+  pub title_lines : option_map (λ (t : Titled). text_lines t.text) form.title ≡ recorded_title d.title
 
 definition-by : (bytes : List ℕ) (last p : Point) (turns : List Turn) (d : DefinitionParts) →
     DefinitionAre d.cells d → Walk bytes last p d.cells turns → DefinitionOf bytes last p turns d
@@ -184,7 +184,7 @@ definition-by bytes last p turns d are walk =
           (enter n.Definition x ∷ (fs1 ++ marker ++ fs2 ++ fs3 ++ fs4 ++ fs5) ++ exit n.Definition z ∷ [])
           white.takes taken;
       is = record {
-        column = walk.stands.column;
+        column = walk.valid.column;
         indent = white.is;
         opens = label.opens;
         label = label.is;

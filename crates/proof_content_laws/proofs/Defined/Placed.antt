@@ -12,12 +12,12 @@ use Rattle.md_engine.specs.declared.event.Point.{Point}
 use Rattle.md_meaning.specs.State.{Container}
 use Rattle.md_events.specs.Events.Inline.{Piece, piece_of, pieces, pieces_from}
 use Rattle.md_events.specs.Events.Nested.{Forward, last_point}
-use Rattle.md_events.specs.Events.Pieces.{piece_stands}
+use Rattle.md_events.specs.Events.Pieces.{is_valid_piece}
 use Rattle.md_events.specs.Events.Places.{at_or_before, same_place}
 use Rattle.md_events.specs.Substituted.{belongs, belongs_by}
 use Rattle.md_events.proofs.NestedLemmas.{at_or_before-trans, forward-last}
 use Rattle.proof_frame.specs.Laid.{LineBreak}
-use Rattle.proof_frame.proofs.FrontFacts.{Begins, Behind, Goes, LinePrefix}
+use Rattle.proof_frame.proofs.FrontFacts.{Begins, Following, Proceeds, LinePrefix}
 use Rattle.proof_frame.proofs.FrontPlaces.{fronts-grow}
 use Rattle.proof_frame.proofs.PiecesLemmas as tiles
 use Rattle.proof_frame.proofs.PiecesLemmas.{Ends}
@@ -171,26 +171,26 @@ Flat i [] = Unit {0}
 Flat i (e ∷ es) = (e.point.index ≡ i) × (e.point.vs ≡ 0) × Flat i es
 
 flat-none : (bytes : List ℕ) (i : ℕ) (e : Event) (es : List Event) → e.kind ≡ Enter → Ends e.kind es →
-    Flat i (e ∷ es) → list_all (piece_stands bytes) (pieces_from e es) ≡ true → ⊥
-flat-none bytes i e [] enter ends flat stand = let no : Enter ≡ Exit = sym enter ∙ ends in cc
-flat-none bytes i e (f ∷ es) enter ends flat stand =
-    go e.kind f.kind enter refl (λ o k. flat-none bytes i f es o ends flat.2 k) stand
+    Flat i (e ∷ es) → list_all (is_valid_piece bytes) (pieces_from e es) ≡ true → ⊥
+flat-none bytes i e [] enter ends flat are_valid = let no : Enter ≡ Exit = sym enter ∙ ends in cc
+flat-none bytes i e (f ∷ es) enter ends flat are_valid =
+    go e.kind f.kind enter refl (λ o k. flat-none bytes i f es o ends flat.2 k) are_valid
   where
-    Stand : List Piece → Type 0
-    Stand l = list_all (piece_stands bytes) l ≡ true
+    AreValid : List Piece → Type 0
+    AreValid l = list_all (is_valid_piece bytes) l ≡ true
 
-    go : (k l : Kind) → k ≡ Enter → f.kind ≡ l → (f.kind ≡ Enter → Stand (pieces_from f es) → ⊥) →
-        Stand (piece_of e f k l ++ pieces_from f es) → ⊥
-    go Enter Enter n o more stand = more o stand
-    go Enter Exit n o more stand =
+    go : (k l : Kind) → k ≡ Enter → f.kind ≡ l → (f.kind ≡ Enter → AreValid (pieces_from f es) → ⊥) →
+        AreValid (piece_of e f k l ++ pieces_from f es) → ⊥
+    go Enter Enter n o more are_valid = more o are_valid
+    go Enter Exit n o more are_valid =
         let first = flat.0 in
         let second = flat.2.0 in
         let here = flat.1 in
         let there = flat.2.1 in
         let same : same_place e.point f.point ≡ true = grind (arith, nat_tests) in
-        let no : false ≡ true = rw same at stand in
+        let no : false ≡ true = rw same at are_valid in
         cc
-    go Exit l n o more stand = cc
+    go Exit l n o more are_valid = cc
 
 forward-flat : (p q : Point) (es : List Event) → Forward p es → IsTrue (at_or_before (last_point p es) q) →
     q.vs ≡ 0 → q.index ≡ p.index → p.vs ≡ 0 → Flat p.index es
@@ -207,8 +207,8 @@ forward-flat p q (e ∷ es) f h whole same first =
 -- where no byte is, nothing does
 pub bare-front : (bytes : List ℕ) (opens : List Container) (p q : Point) (es : List Event) →
     LinePrefix bytes opens p q es → opens ≡ [] → p.vs ≡ 0 → q.vs ≡ 0 → q.index ≡ p.index → es ≡ []
-bare-front bytes opens p q es (Behind at) none first last same = refl
-bare-front bytes opens p q es (Goes open_ones first mid last xs ys is more) none h k same =
+bare-front bytes opens p q es (Following at) none first last same = refl
+bare-front bytes opens p q es (Proceeds open_ones first mid last xs ys is more) none h k same =
     let span = is.common.nested.1 in
     let to = order-grows first mid (at_or_before-trans first (last_point first xs) mid
     (forward-last first xs span.0) span.1) in
@@ -217,12 +217,13 @@ bare-front bytes opens p q es (Goes open_ones first mid last xs ys is more) none
     let order = fronts-order bytes open_ones mid last ys more in
     let whole : mid.vs ≡ 0 = order-whole mid last order k (omega (arith, same, at)) in
     let flat = forward-flat first mid xs span.0 span.1 whole at h in
-    let empty : xs ≡ [] = one first.index xs flat is.common.tiled.begins is.common.tiled.ends is.common.stood.stand in
-    let behind = bare-front bytes open_ones mid last ys more none whole k (omega (arith, same, at)) in
-    ap (λ (l : List Event). l ++ ys) empty ∙ behind
+    let empty : xs ≡ [] = one first.index xs flat is.common.tiled.begins is.common.tiled.ends
+    is.common.is_valid.are_valid in
+    let following = bare-front bytes open_ones mid last ys more none whole k (omega (arith, same, at)) in
+    ap (λ (l : List Event). l ++ ys) empty ∙ following
   where
     one : (i : ℕ) (xs : List Event) → Flat i xs → tiles.Begins xs → Ends Exit xs →
-        list_all (piece_stands bytes) (pieces xs) ≡ true → xs ≡ []
-    one i [] flat begins ends stand = refl
-    one i (x ∷ xs) flat begins ends stand = absurd (flat-none bytes i x xs begins ends flat stand)
+        list_all (is_valid_piece bytes) (pieces xs) ≡ true → xs ≡ []
+    one i [] flat begins ends are_valid = refl
+    one i (x ∷ xs) flat begins ends are_valid = absurd (flat-none bytes i x xs begins ends flat are_valid)
 bare-front bytes opens p q es (Begins c below first mid last xs ys is more) none h k same = cc

@@ -10,11 +10,11 @@ use Rattle.md_meaning.specs.Rest.{cut_tab}
 use Rattle.md_meaning.proofs.TextsLemmas.{NoEnding}
 use Rattle.md_events.specs.Ahead.{point_after}
 use Rattle.md_events.specs.Events.Places.{past_byte, past_text}
-use Rattle.md_events.proofs.FeedLines.{behind_last, byte_cells, cell, columns_more, next_column}
-use Rattle.md_events.proofs.FeedLines.{slice-front, spread, tab_cells, tab_end, tab_end-last, tab_end-next, tab_end-stop}
+use Rattle.md_events.proofs.FeedLines.{after_last, byte_cells, cell, columns_more, next_column, slice-front, spread}
+use Rattle.md_events.proofs.FeedLines.{tab_cells, tab_end, tab_end-last, tab_end-next, tab_end-stop}
 use Rattle.md_events.proofs.RestCells.{Cut, cells_by}
 use Rattle.proof_content_laws.proofs.Defined.Along.{IsColumn, IsLast, IsPlain, IsStep, Kind, OfByte, OfColumn, OfLast}
-use Rattle.proof_content_laws.proofs.Defined.Along.{Stands, Steps, column_byte, kind, no_line}
+use Rattle.proof_content_laws.proofs.Defined.Along.{Valid, Steps, column_byte, kind, no_line}
 use Rattle.proof_content_laws.proofs.Defined.Form.{IsRun}
 use Rattle.proof_frame.proofs.PieceFacts.{CutsFirst}
 
@@ -42,8 +42,8 @@ pub record RunOf (bytes : List ℕ) (p q : Point) (cells : List Cell) : Type 0 w
   pub whole : q.vs ≡ 0
 
 -- none
-run-none : (bytes : List ℕ) (p : Point) → Stands bytes p → p.vs ≡ 0 → RunOf bytes p p []
-run-none bytes p stands whole = record {
+run-none : (bytes : List ℕ) (p : Point) → Valid bytes p → p.vs ≡ 0 → RunOf bytes p p []
+run-none bytes p valid whole = record {
   spaces = 0;
   text = [];
   cells_are = refl;
@@ -52,7 +52,7 @@ run-none bytes p stands whole = record {
   here = refl;
   size = omega arith;
   end = refl;
-  within = stands.within;
+  within = valid.within;
   whole = whole;
 }
 
@@ -127,7 +127,7 @@ past-column bytes p one more =
     ∙ tab_end-next (columns_more (next_column p)) p
     ∙ ap (λ (n : ℕ). tab_end n p) (sym more) ∙ tab_end-stop p one
 
-past-last : (p : Point) → 1 ≤ p.column → columns_more p ≡ 0 → behind_last p ≡ past_byte 9 p
+past-last : (p : Point) → 1 ≤ p.column → columns_more p ≡ 0 → after_last p ≡ past_byte 9 p
 past-last p one none =
     tab_end-last p ∙ ap (λ (n : ℕ). tab_end n p) (sym none) ∙ tab_end-stop p one
 
@@ -136,9 +136,9 @@ column-white : (p : Point) → 0 < p.vs → column_byte p ≡ 32
 column-white p lt = let more : nat_lt 0 p.vs ≡ true = grind (arith, nat_tests) in rw more refl
 
 -- a column of a tab before others
-run-column : (bytes : List ℕ) (p q : Point) (c : Cell) (cs : List Cell) → Stands bytes p → IsColumn bytes p c →
+run-column : (bytes : List ℕ) (p q : Point) (c : Cell) (cs : List Cell) → Valid bytes p → IsColumn bytes p c →
     RunOf bytes c.after q cs → RunOf bytes p q (c ∷ cs)
-run-column bytes p q c cs stands is more =
+run-column bytes p q c cs valid is more =
     subst (λ (d : Cell). RunOf bytes p q (d ∷ cs)) (sym is.cell_is)
     (on (subst (λ (d : Cell). RunOf bytes d.after q cs) is.cell_is more))
   where
@@ -154,7 +154,7 @@ run-column bytes p q c cs stands is more =
         let byte : column_byte p ≡ 9 = rw vs refl in
         let columns : columns_more p ≡ suc n = let left = cut.1 in is.more ∙ ap suc (sym left) in
         let same : tab_end n r ≡ past_byte 9 p =
-        tab_end-next n p ∙ ap (λ (m : ℕ). tab_end m p) (sym columns) ∙ tab_end-stop p stands.column in
+        tab_end-next n p ∙ ap (λ (m : ℕ). tab_end m p) (sym columns) ∙ tab_end-stop p valid.column in
         record {
           spaces = 0;
           text = 9 ∷ run.text;
@@ -167,7 +167,7 @@ run-column bytes p q c cs stands is more =
           no_ending = (refl, run.no_ending);
           here = here;
           size = size;
-          end = end ∙ ap (past_text run.text) (past-column bytes p stands.column is.more);
+          end = end ∙ ap (past_text run.text) (past-column bytes p valid.column is.more);
           within = run.within;
           whole = run.whole;
         }
@@ -187,7 +187,7 @@ run-column bytes p q c cs stands is more =
           no_ending = run.no_ending;
           here = here;
           size = size;
-          end = end ∙ ap (past_text run.text) (past-column bytes p stands.column is.more);
+          end = end ∙ ap (past_text run.text) (past-column bytes p valid.column is.more);
           within = run.within;
           whole = run.whole;
         }
@@ -203,19 +203,19 @@ run-column bytes p q c cs stands is more =
         go (suc n) k e cut here size end = at run n k p.vs refl e cut here size end
 
 -- and the last
-run-last : (bytes : List ℕ) (p q : Point) (c : Cell) (cs : List Cell) → Stands bytes p → IsLast bytes p c →
+run-last : (bytes : List ℕ) (p q : Point) (c : Cell) (cs : List Cell) → Valid bytes p → IsLast bytes p c →
     p.index < length bytes → RunOf bytes c.after q cs → RunOf bytes p q (c ∷ cs)
-run-last bytes p q c cs stands is lt more =
+run-last bytes p q c cs valid is lt more =
     subst (λ (d : Cell). RunOf bytes p q (d ∷ cs)) (sym is.cell_is)
     (on p.vs refl
-    (bytes-only bytes (behind_last p) q cs refl
+    (bytes-only bytes (after_last p) q cs refl
     (subst (λ (d : Cell). RunOf bytes d.after q cs) is.cell_is more)))
   where
     r : Point
-    r = behind_last p
+    r = after_last p
 
     same : r ≡ past_byte 9 p
-    same = past-last p stands.column is.more
+    same = past-last p valid.column is.more
 
     all : (text : List ℕ) → drop r.index bytes ≡ text ++ drop q.index bytes →
         drop p.index bytes ≡ 9 ∷ text ++ drop q.index bytes
@@ -265,22 +265,22 @@ run-last bytes p q c cs stands is lt more =
         }
 
 -- after a cell of a line
-pub step-stands : (bytes : List ℕ) (p : Point) (c : Cell) → Stands bytes p → IsStep bytes p c → Stands bytes c.after
-step-stands bytes p c stands is = go (kind bytes p c stands is)
+pub step-valid : (bytes : List ℕ) (p : Point) (c : Cell) → Valid bytes p → IsStep bytes p c → Valid bytes c.after
+step-valid bytes p c valid is = go (kind bytes p c valid is)
   where
-    go : Kind bytes p c → Stands bytes c.after
+    go : Kind bytes p c → Valid bytes c.after
     go (OfByte k) =
-        subst (λ (d : Cell). Stands bytes d.after) (sym k.cell_is)
+        subst (λ (d : Cell). Valid bytes d.after) (sym k.cell_is)
         (record {
           column = omega arith;
           within = let lt = is.within in omega (arith, lt);
           tab = λ e. absurd (omega (arith, e));
         })
     go (OfColumn k) =
-        subst (λ (d : Cell). Stands bytes d.after) (sym k.cell_is)
-        (record { column = omega arith; within = stands.within; tab = λ e. k.tab })
+        subst (λ (d : Cell). Valid bytes d.after) (sym k.cell_is)
+        (record { column = omega arith; within = valid.within; tab = λ e. k.tab })
     go (OfLast k) =
-        subst (λ (d : Cell). Stands bytes d.after) (sym k.cell_is)
+        subst (λ (d : Cell). Valid bytes d.after) (sym k.cell_is)
         (record {
           column = omega arith;
           within = let lt = is.within in omega (arith, lt);
@@ -288,9 +288,9 @@ step-stands bytes p c stands is = go (kind bytes p c stands is)
         })
 
 -- and it stays on its line, and does not go back
-pub step-line : (bytes : List ℕ) (p : Point) (c : Cell) → Stands bytes p → IsStep bytes p c →
+pub step-line : (bytes : List ℕ) (p : Point) (c : Cell) → Valid bytes p → IsStep bytes p c →
     (c.after.line ≡ p.line) × (p.index ≤ c.after.index)
-step-line bytes p c stands is = go (kind bytes p c stands is)
+step-line bytes p c valid is = go (kind bytes p c valid is)
   where
     Is : Cell → Type 0
     Is d = (d.after.line ≡ p.line) × (p.index ≤ d.after.index)
@@ -301,32 +301,32 @@ step-line bytes p c stands is = go (kind bytes p c stands is)
     go (OfLast k) = subst Is (sym k.cell_is) (refl, omega arith)
 
 -- Cells of a line that end where a byte does are a run.
-pub run-of : (bytes : List ℕ) (p : Point) (cells : List Cell) → Stands bytes p → Steps bytes p cells →
+pub run-of : (bytes : List ℕ) (p : Point) (cells : List Cell) → Valid bytes p → Steps bytes p cells →
     (point_after cells p).vs ≡ 0 → RunOf bytes p (point_after cells p) cells
-run-of bytes p [] stands is whole = run-none bytes p stands whole
-run-of bytes p (c ∷ cs) stands is whole =
-    go (kind bytes p c stands is.0) (run-of bytes c.after cs (step-stands bytes p c stands is.0) is.1 whole)
+run-of bytes p [] valid is whole = run-none bytes p valid whole
+run-of bytes p (c ∷ cs) valid is whole =
+    go (kind bytes p c valid is.0) (run-of bytes c.after cs (step-valid bytes p c valid is.0) is.1 whole)
   where
     go : Kind bytes p c → RunOf bytes c.after (point_after cs c.after) cs →
         RunOf bytes p (point_after cs c.after) (c ∷ cs)
     go (OfByte k) more = run-plain bytes p (point_after cs c.after) c cs k is.0.plain is.0.within more
-    go (OfColumn k) more = run-column bytes p (point_after cs c.after) c cs stands k more
-    go (OfLast k) more = run-last bytes p (point_after cs c.after) c cs stands k is.0.within more
+    go (OfColumn k) more = run-column bytes p (point_after cs c.after) c cs valid k more
+    go (OfLast k) more = run-last bytes p (point_after cs c.after) c cs valid k is.0.within more
 
 abbrev pub run_text : (bytes : List ℕ) (p q : Point) (cells : List Cell) → RunOf bytes p q cells → List ℕ
 run_text bytes p q cells run = cut_tab run.spaces ++ run.text
 
 -- as a form has it
-pub is-run : (bytes : List ℕ) (p q : Point) (cells : List Cell) → Stands bytes p → (run : RunOf bytes p q cells) →
+pub is-run : (bytes : List ℕ) (p q : Point) (cells : List Cell) → Valid bytes p → (run : RunOf bytes p q cells) →
     IsRun bytes (run_text bytes p q cells run) p q
-is-run bytes p q cells stands run = record {
+is-run bytes p q cells valid run = record {
   no_ending = none run.spaces;
   slice =
       slice-front bytes p.index q.index (cut_tab run.spaces ++ run.text) (drop q.index bytes) run.here run.size;
   size = run.size;
   within = run.within;
   end = run.end;
-  column = stands.column;
+  column = valid.column;
   whole = run.whole;
   cut_first = first run.spaces run.cut run.text;
 }

@@ -19,9 +19,9 @@ use Rattle.md_events.specs.Events.Nested.{enter_link, exit}
 use Rattle.md_events.proofs.FeedLines.{NoFeed, Stops, bytes_of, point_after-append, spread}
 use Rattle.md_events.proofs.RestCells.{Cut, cells_by}
 use Rattle.md_events.proofs.RestLines.{trim-white}
-use Rattle.proof_content_laws.proofs.Defined.Along.{GoesOn, Turn, cells-white, no_line}
-use Rattle.proof_content_laws.proofs.Defined.Form.{IsBreak, IsFilled, IsRun, IsStrand, LastLine, NoLine, OneLine, Strand}
-use Rattle.proof_content_laws.proofs.Defined.Form.{strand_lines, strand_unread}
+use Rattle.proof_content_laws.proofs.Defined.Along.{IsContinued, Turn, cells-white, no_line}
+use Rattle.proof_content_laws.proofs.Defined.Form.{IsBreak, IsFilled, IsRun, IsStrand, LastLine, NoLine, OneLine}
+use Rattle.proof_content_laws.proofs.Defined.Form.{Strand, strand_lines, strand_unread}
 use Rattle.proof_content_laws.proofs.Defined.Runs.{RunOf, is-run, run-of, run_text}
 use Rattle.proof_content_laws.proofs.Defined.Takes.{Takes, Walk, on-line, over-end, takes-end, takes-none}
 use Rattle.proof_content_laws.proofs.Defined.Takes.{takes-quiet, takes-then}
@@ -114,7 +114,7 @@ pub record StrandOf (bytes : List ℕ) (last p : Point) (cells : List Cell) (tur
   pub takes : Takes bytes last p turns (point_after cells p) rest left (chunks false cells p) (strand_unread strand)
   pub none : cells ≡ [] → strand ≡ NoLine
   pub is : cells ≢ [] → IsStrand bytes p (point_after cells p) strand
-  pub filled : GoesOn cells → IsFilled strand
+  pub filled : IsContinued cells → IsFilled strand
   pub lines : p.vs ≡ 0 → cell_lines false (whole_cells p cells) ≡ trim_further (strand_lines strand)
   pub led : cell_lines true (whole_cells p cells) ≡ trim_each (strand_lines strand)
 
@@ -128,7 +128,7 @@ strand-none bytes last p turns rest walk = record {
   takes = takes-none bytes last p rest turns walk;
   none = λ e. refl;
   is = λ some. absurd (some refl);
-  filled = λ goes. tt;
+  filled = λ proceeds. tt;
   lines = λ whole. refl;
   led = refl;
 }
@@ -148,7 +148,7 @@ strand-last bytes last p c cs turns rest none walk whole =
     let cells = c ∷ cs in
     let q = point_after cells p in
     let line = on-line bytes last p cells rest turns none walk in
-    let run = run-of bytes p cells walk.stands line.steps whole in
+    let run = run-of bytes p cells walk.valid line.steps whole in
     let text = run_text bytes p q cells run in
     let begin = takes-quiet bytes last p turns p (cells ++ rest) turns (enter_link n.Data p string_link ∷ []) (refl, tt)
     (takes-none bytes last p (cells ++ rest) turns walk) refl (omega arith) (omega arith, tt) in
@@ -164,10 +164,10 @@ strand-last bytes last p c cs turns rest none walk whole =
           (sym (chunks-last c cs p none)) both;
       none = λ e. cc;
       is = λ some.
-          (refl, refl, run-some c cs p run.spaces run.text run.cells_are, is-run bytes p q cells walk.stands run);
-      filled = λ goes. tt;
-      lines = λ at. last-lines bytes p q cells run walk.stands.column at;
-      led = last-led bytes p q cells run walk.stands.column;
+          (refl, refl, run-some c cs p run.spaces run.text run.cells_are, is-run bytes p q cells walk.valid run);
+      filled = λ proceeds. tt;
+      lines = λ at. last-lines bytes p q cells run walk.valid.column at;
+      led = last-led bytes p q cells run walk.valid.column;
     }
 
 -- a strand after a line
@@ -205,7 +205,7 @@ strand-next bytes last p line d ds turns rest none ten walk whole further =
     let ends : point_after cells p ≡ point_after ds d.after = point_after-append line (d ∷ ds) p in
     let end : (point_after ds d.after).vs ≡ 0 = sym (ap (λ (q : Point). q.vs) ends) ∙ whole in
     let more = further over.left over.takes.walk end in
-    let run = run-of bytes p line walk.stands on.steps turn.break.whole in
+    let run = run-of bytes p line walk.valid on.steps turn.break.whole in
     let text = run_text bytes p e line run in
     let begin = takes-quiet bytes last p turns p (line ++ (d ∷ ds ++ rest)) turns (enter_link n.Data p string_link ∷ [])
     (refl, tt)
@@ -241,23 +241,23 @@ strand-next bytes last p line d ds turns rest none ten walk whole further =
       is = λ some.
           subst (λ (q : Point). IsStrand bytes p q strand) (sym ends)
           (one-is bytes p e b.after d.after (point_after ds d.after) text b.front more.strand ds
-          (is-run bytes p e line walk.stands run) broken
+          (is-run bytes p e line walk.valid run) broken
           (λ k. (more.none k, sym (ap (λ (l : List Cell). point_after l d.after) k), end)) more.is
           (more.filled (λ l x xs k.
           turn.filled l x (xs ++ rest) (ap (λ (cs : List Cell). cs ++ rest) k ∙ append_assoc l (x ∷ xs) rest))));
-      filled = λ goes. line-some run.spaces run.text run.cells_are goes;
+      filled = λ proceeds. line-some run.spaces run.text run.cells_are proceeds;
       lines = λ at.
-          next-lines bytes p e line run d ds walk.stands.column at ten ∙ ap (λ (l : List (List ℕ)). text ∷ l) more.led;
+          next-lines bytes p e line run d ds walk.valid.column at ten ∙ ap (λ (l : List (List ℕ)). text ∷ l) more.led;
       led =
-          next-led bytes p e line run d ds walk.stands.column ten
+          next-led bytes p e line run d ds walk.valid.column ten
           ∙ ap (λ (l : List (List ℕ)). trim_start text ∷ l) more.led;
     }
   where
-    line-some : (spaces : ℕ) (text : List ℕ) → line ≡ cells_by no_line spaces text p → GoesOn (line ++ d ∷ ds) →
+    line-some : (spaces : ℕ) (text : List ℕ) → line ≡ cells_by no_line spaces text p → IsContinued (line ++ d ∷ ds) →
         is_blank (cut_tab spaces ++ text) ≡ false
-    line-some spaces text e goes =
+    line-some spaces text e proceeds =
         sym (cells-white spaces text p) ∙ ap (λ (l : List Cell). list_all is_white (bytes_of l)) (sym e)
-        ∙ goes line d ds refl ten
+        ∙ proceeds line d ds refl ten
 
     some : (l : List Cell) → l ++ d ∷ ds ≡ [] → ⊥
     some [] e = cc

@@ -18,13 +18,13 @@ use Rattle.md_events.specs.Events.Nested.{exit}
 use Rattle.md_events.specs.Events.Places.{past_byte}
 use Rattle.md_events.specs.Events.Tiles.{is_data}
 use Rattle.md_events.specs.Spaces.{any_size}
-use Rattle.md_events.proofs.FeedLines.{NoFeed, behind_last, ending-some, next_column}
+use Rattle.md_events.proofs.FeedLines.{NoFeed, after_last, ending-some, next_column}
 use Rattle.proof_frame.specs.Laid.{LineBreak, laid}
-use Rattle.proof_content_laws.proofs.Defined.Along.{IsCell, IsStep, IsTurn, Kind, OfByte, OfColumn, OfLast, Stands, Steps}
-use Rattle.proof_content_laws.proofs.Defined.Along.{Turn, Walks, breaks, column_byte, kind}
+use Rattle.proof_content_laws.proofs.Defined.Along.{IsCell, IsStep, IsTurn, Kind, OfByte, OfColumn, OfLast, Valid}
+use Rattle.proof_content_laws.proofs.Defined.Along.{Steps, Turn, Walks, breaks, column_byte, kind}
 use Rattle.proof_content_laws.proofs.Defined.Placed.{Before, Fits, Upto, bare-front, bared, fits-append, fits-from}
 use Rattle.proof_content_laws.proofs.Defined.Placed.{placed, placed-break, placed-here, placed-upto}
-use Rattle.proof_content_laws.proofs.Defined.Runs.{step-line, step-stands}
+use Rattle.proof_content_laws.proofs.Defined.Runs.{step-line, step-valid}
 use Rattle.proof_frame.proofs.FrontPlaces.{fronts-grow, fronts-line}
 
 -- What a cell is.
@@ -35,8 +35,8 @@ column-is-white true = (refl, refl)
 column-is-white false = (refl, refl)
 
 -- one of a line is no ending,
-pub step-plain : (bytes : List ℕ) (p : Point) (c : Cell) → Stands bytes p → IsStep bytes p c → nat_eq c.byte 10 ≡ false
-step-plain bytes p c stands is = go (kind bytes p c stands is)
+pub step-plain : (bytes : List ℕ) (p : Point) (c : Cell) → Valid bytes p → IsStep bytes p c → nat_eq c.byte 10 ≡ false
+step-plain bytes p c valid is = go (kind bytes p c valid is)
   where
     go : Kind bytes p c → nat_eq c.byte 10 ≡ false
     go (OfByte k) =
@@ -46,9 +46,9 @@ step-plain bytes p c stands is = go (kind bytes p c stands is)
     go (OfLast k) = ap (λ (d : Cell). nat_eq d.byte 10) k.cell_is ∙ (column-is-white (nat_lt 0 p.vs)).1
 
 -- and a byte begins at one that is no whitespace
-pub step-whole : (bytes : List ℕ) (p : Point) (c : Cell) → Stands bytes p → IsStep bytes p c →
+pub step-whole : (bytes : List ℕ) (p : Point) (c : Cell) → Valid bytes p → IsStep bytes p c →
     is_white c.byte ≡ false → p.vs ≡ 0
-step-whole bytes p c stands is other = go (kind bytes p c stands is)
+step-whole bytes p c valid is other = go (kind bytes p c valid is)
   where
     white : (q : Point) → c.byte ≡ column_byte p → p.vs ≡ 0
     white q e =
@@ -66,7 +66,7 @@ before-from p q [] le h = tt
 before-from p q (b ∷ bs) le h = omega (arith, le, h)
 
 pub record Walk (bytes : List ℕ) (last p : Point) (cells : List Cell) (turns : List Turn) : Type 0 where
-  pub stands : Stands bytes p
+  pub valid : Valid bytes p
   pub walks : Walks bytes last p cells turns
   pub small : length cells ≤ any_size
   pub whole : last.vs ≡ 0
@@ -97,7 +97,7 @@ walk-whole bytes last p [] turns walk other = ap (λ (q : Point). q.vs) walk.wal
 walk-whole bytes last p (c ∷ cs) turns walk other = go walk.walks.1
   where
     go : IsCell bytes p c cs turns walk.walks.0 → p.vs ≡ 0
-    go (inl (step, same)) = step-whole bytes p c walk.stands step other
+    go (inl (step, same)) = step-whole bytes p c walk.valid step other
     go (inr turn) = turn.break.whole
 
 -- What is taken.
@@ -151,9 +151,9 @@ quiet-end_in last (e ∷ es) quiet =
     (λ ends. let no : true ≡ false = sym ends ∙ quiet.0 in cc, quiet-end_in last es quiet.1)
 
 -- Cells that end at a point begin there or before it.
-step-apart : (bytes : List ℕ) (p last : Point) (c : Cell) → Stands bytes p → IsStep bytes p c → last.vs ≡ 0 →
+step-apart : (bytes : List ℕ) (p last : Point) (c : Cell) → Valid bytes p → IsStep bytes p c → last.vs ≡ 0 →
     (c.after ≡ last) ⊎ (c.after.index < last.index) → p.index < last.index
-step-apart bytes p last c stands is whole h = go (kind bytes p c stands is)
+step-apart bytes p last c valid is whole h = go (kind bytes p c valid is)
   where
     At : Cell → Type 0
     At d = (d.after ≡ last) ⊎ (d.after.index < last.index)
@@ -170,36 +170,36 @@ step-apart bytes p last c stands is whole h = go (kind bytes p c stands is)
     go : Kind bytes p c → p.index < last.index
     go (OfByte k) = further (past_byte k.byte p) refl (subst At k.cell_is h)
     go (OfColumn k) = column (next_column p) refl refl (subst At k.cell_is h)
-    go (OfLast k) = further (behind_last p) refl (subst At k.cell_is h)
+    go (OfLast k) = further (after_last p) refl (subst At k.cell_is h)
 
-walks-last : (bytes : List ℕ) (last p : Point) (cells : List Cell) (turns : List Turn) → Stands bytes p →
+walks-last : (bytes : List ℕ) (last p : Point) (cells : List Cell) (turns : List Turn) → Valid bytes p →
     Walks bytes last p cells turns → last.vs ≡ 0 → (p ≡ last) ⊎ (p.index < last.index)
-walks-last bytes last p [] turns stands walks whole = inl walks.0
-walks-last bytes last p (c ∷ cs) turns stands walks whole =
+walks-last bytes last p [] turns valid walks whole = inl walks.0
+walks-last bytes last p (c ∷ cs) turns valid walks whole =
     go walks.1 (λ after. walks-last bytes last c.after cs walks.0 after walks.2 whole)
   where
     over : (q : Point) → p.index < q.index → (q ≡ last) ⊎ (q.index < last.index) → p.index < last.index
     over q lt (inl same) = let at = ap (λ (r : Point). r.index) same in omega (arith, lt, at)
     over q lt (inr further) = omega (arith, lt, further)
 
-    go : IsCell bytes p c cs turns walks.0 → (Stands bytes c.after → (c.after ≡ last) ⊎ (c.after.index < last.index)) →
+    go : IsCell bytes p c cs turns walks.0 → (Valid bytes c.after → (c.after ≡ last) ⊎ (c.after.index < last.index)) →
         (p ≡ last) ⊎ (p.index < last.index)
     go (inl (step, same)) on =
-        inr (step-apart bytes p last c stands step whole (on (step-stands bytes p c stands step)))
+        inr (step-apart bytes p last c valid step whole (on (step-valid bytes p c valid step)))
     go (inr turn) on =
         let grows = turn-grows bytes p c cs turns walks.0 turn in
         let first = grows.0 in
         let more = grows.1 in
-        inr (over c.after (omega (arith, first, more)) (on (subst (Stands bytes) (sym turn.after) turn.stands)))
+        inr (over c.after (omega (arith, first, more)) (on (subst (Valid bytes) (sym turn.after) turn.valid)))
 
 pub walk-last : (bytes : List ℕ) (last p : Point) (cells : List Cell) (turns : List Turn) →
     Walk bytes last p cells turns → (p ≡ last) ⊎ (p.index < last.index)
-walk-last bytes last p cells turns walk = walks-last bytes last p cells turns walk.stands walk.walks walk.whole
+walk-last bytes last p cells turns walk = walks-last bytes last p cells turns walk.valid walk.walks walk.whole
 
 -- a cell at whose end no tab is cut, of no byte, begins where none is
-step-kept : (bytes : List ℕ) (p : Point) (c : Cell) → Stands bytes p → IsStep bytes p c → p.index ≡ c.after.index →
+step-kept : (bytes : List ℕ) (p : Point) (c : Cell) → Valid bytes p → IsStep bytes p c → p.index ≡ c.after.index →
     c.after.vs ≡ 0 → p.vs ≡ 0
-step-kept bytes p c stands is = go (kind bytes p c stands is)
+step-kept bytes p c valid is = go (kind bytes p c valid is)
   where
     At : Cell → Type 0
     At d = p.index ≡ d.after.index → d.after.vs ≡ 0 → p.vs ≡ 0
@@ -268,10 +268,10 @@ breaks-append (t ∷ ts) us bs = ap (λ (l : List LineBreak). t.break ∷ l) (br
 
 -- one after another
 pub takes-then : (bytes : List ℕ) (last p : Point) (turns : List Turn) (q : Point) (rest : List Cell)
-    (left : List Turn) (es fs : List Event) (r : Point) (behind : List Cell) (end : List Turn) (gs hs : List Event) →
-    Takes bytes last p turns q rest left es fs → Takes bytes last q left r behind end gs hs →
-    Takes bytes last p turns r behind end (es ++ gs) (fs ++ hs)
-takes-then bytes last p turns q rest left es fs r behind end gs hs one two = record {
+    (left : List Turn) (es fs : List Event) (r : Point) (following : List Cell) (end : List Turn) (gs hs : List Event) →
+    Takes bytes last p turns q rest left es fs → Takes bytes last q left r following end gs hs →
+    Takes bytes last p turns r following end (es ++ gs) (fs ++ hs)
+takes-then bytes last p turns q rest left es fs r following end gs hs one two = record {
   walk = two.walk;
   took = one.took ++ two.took;
   turns_are =
@@ -455,10 +455,10 @@ on-line bytes last p (c ∷ cs) rest turns none walk =
         OnLine bytes last p (c ∷ cs) turns rest
     go (inl (step, same)) on =
         let small = walk.small in
-        let line = step-line bytes p c walk.stands step in
+        let line = step-line bytes p c walk.valid step in
         let more = on
         (record {
-          stands = step-stands bytes p c walk.stands step;
+          valid = step-valid bytes p c walk.valid step;
           walks = walk.walks.2;
           small = omega (arith, small);
           whole = walk.whole;
@@ -478,13 +478,13 @@ on-line bytes last p (c ∷ cs) rest turns none walk =
             kept = λ at whole.
                 let further = takes.index in
                 let first = line.1 in
-                step-kept bytes p c walk.stands step (omega (arith, further, first, at))
+                step-kept bytes p c walk.valid step (omega (arith, further, first, at))
                 (takes.kept (omega (arith, further, first, at)) whole);
             settled = takes.settled;
             settles = takes.settles;
             begins = λ more fits.
                 fits-from p c.after (takes.settled ++ more) line.1
-                (λ at whole. step-kept bytes p c walk.stands step at whole) (takes.begins more fits);
+                (λ at whole. step-kept bytes p c walk.valid step at whole) (takes.begins more fits);
             cuts = takes.cuts;
             ends = takes.ends;
           };
@@ -513,14 +513,14 @@ over-end bytes last p c cs turns name may ten walk = go walk.walks.1
     here i = grind (arith, nat_tests)
 
     go : IsCell bytes p c cs turns walk.walks.0 → OverEnd bytes last p c cs turns name
-    go (inl (step, same)) = let no : nat_eq c.byte 10 ≡ false = step-plain bytes p c walk.stands step in cc
+    go (inl (step, same)) = let no : nat_eq c.byte 10 ≡ false = step-plain bytes p c walk.valid step in cc
     go (inr is) =
         let small = walk.small in
         let grows = turn-grows bytes p c cs turns walk.walks.0 is in
         let b = is.turn.break in
-        let behind : nat_le b.after.index c.after.index ≡ true = let le = grows.1 in grind (arith, nat_tests) in
-        let behind_walk : Walk bytes last c.after cs walk.walks.0 = record {
-          stands = subst (Stands bytes) (sym is.after) is.stands;
+        let following : nat_le b.after.index c.after.index ≡ true = let le = grows.1 in grind (arith, nat_tests) in
+        let after_walk : Walk bytes last c.after cs walk.walks.0 = record {
+          valid = subst (Valid bytes) (sym is.after) is.valid;
           walks = walk.walks.2;
           small = omega (arith, small);
           whole = walk.whole;
@@ -529,7 +529,7 @@ over-end bytes last p c cs turns name may ten walk = go walk.walks.1
           left = walk.walks.0;
           turn = is;
           takes = record {
-            walk = behind_walk;
+            walk = after_walk;
             took = is.turn ∷ [];
             turns_are = is.turns_are;
             line = grows.2;
@@ -543,7 +543,7 @@ over-end bytes last p c cs turns name may ten walk = go walk.walks.1
                 ∙ ap
                 (λ (x : Bool).
                 cond x (exit name b.after ∷ b.front ++ laid bs more)
-                (exit name c.after ∷ laid (b ∷ bs) more)) behind;
+                (exit name c.after ∷ laid (b ∷ bs) more)) following;
             kept = λ at whole.
                 let first = grows.0 in let more = grows.1 in absurd (omega (arith, first, more, at));
             settled = exit name b.after ∷ [];
@@ -555,7 +555,7 @@ over-end bytes last p c cs turns name may ten walk = go walk.walks.1
                 (exit name c.after ∷ laid (d ∷ bs) more)) may
                 ∙ ap
                 (λ (x : Bool).
-                cond x (exit name b.after ∷ laid bs more) (exit name c.after ∷ laid (d ∷ bs) more)) behind;
+                cond x (exit name b.after ∷ laid bs more) (exit name c.after ∷ laid (d ∷ bs) more)) following;
             begins = λ more fits.
                 let first = grows.0 in (omega (arith, first), λ same. absurd (omega (arith, first, same)));
             cuts = λ bs h more fits.
@@ -567,6 +567,6 @@ over-end bytes last p c cs turns name may ten walk = go walk.walks.1
                 let same = ap (λ (r : Point). r.vs) is.after in
                 bare-front bytes [] b.after is.turn.first b.front is.break.front_is refl is.break.ending.whole
                 (omega (arith, same, whole)) (omega (arith, first, at))));
-            ends = (λ ends. walk-last bytes last c.after cs walk.walks.0 behind_walk, tt);
+            ends = (λ ends. walk-last bytes last c.after cs walk.walks.0 after_walk, tt);
           };
         }

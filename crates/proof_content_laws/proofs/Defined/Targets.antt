@@ -32,11 +32,11 @@ use Rattle.md_link_definitions.proofs.SpreadLines.{spread-whole}
 use Rattle.md_events.specs.Ahead.{from_ending, line_bytes, line_cells, point_after}
 use Rattle.md_events.specs.Events.Nested.{around, enter, enter_link, exit, pair}
 use Rattle.md_events.proofs.FeedLines.{NoFeed, bytes_of, line_cells-append, point_after-append, slice-front}
-use Rattle.proof_content_laws.proofs.Defined.Along.{IsPlain, IsStep, Kind, OfByte, OfColumn, OfLast, Stands, Steps, Turn}
+use Rattle.proof_content_laws.proofs.Defined.Along.{IsPlain, IsStep, Kind, OfByte, OfColumn, OfLast, Valid, Steps, Turn}
 use Rattle.proof_content_laws.proofs.Defined.Along.{kind, no_line}
 use Rattle.proof_content_laws.proofs.Defined.Form.{IsByte, IsRun, IsTarget, Literal, Raw, Target, string_unread}
 use Rattle.proof_content_laws.proofs.Defined.Form.{target_by, target_text, unless_empty}
-use Rattle.proof_content_laws.proofs.Defined.Runs.{RunOf, drop-here, is-run, run-of, run_text, step-stands}
+use Rattle.proof_content_laws.proofs.Defined.Runs.{RunOf, drop-here, is-run, run-of, run_text, step-valid}
 use Rattle.proof_content_laws.proofs.Defined.Strands.{last-lines, run-some, uncut}
 use Rattle.proof_frame.proofs.PieceFacts.{whole-first}
 use Rattle.proof_content_laws.proofs.Defined.Takes.{OnLine, Takes, Walk, on-line, step-whole, takes-around, takes-end}
@@ -45,9 +45,9 @@ use Rattle.proof_content_laws.proofs.Defined.Takes.{takes-quiet, column-is-white
 -- One byte.
 
 -- a cell that is no whitespace is a byte, and a byte begins after it
-pub dark-plain : (bytes : List ℕ) (p : Point) (c : Cell) → Stands bytes p → IsStep bytes p c →
+pub dark-plain : (bytes : List ℕ) (p : Point) (c : Cell) → Valid bytes p → IsStep bytes p c →
     is_white c.byte ≡ false → IsPlain bytes p c
-dark-plain bytes p c stands is dark = go (kind bytes p c stands is)
+dark-plain bytes p c valid is dark = go (kind bytes p c valid is)
   where
     go : Kind bytes p c → IsPlain bytes p c
     go (OfByte k) = k
@@ -70,7 +70,7 @@ pub byte-of : (bytes : List ℕ) (last p : Point) (c : Cell) (cs : List Cell) (t
 byte-of bytes last p c cs turns dark plain walk =
     let line = on-line bytes last p (c ∷ []) cs turns (plain, tt) walk in
     let step = line.steps.0 in
-    let k = dark-plain bytes p c walk.stands step dark in
+    let k = dark-plain bytes p c walk.valid step dark in
     record {
       takes = line.takes;
       is = (
@@ -86,7 +86,7 @@ byte-of bytes last p c cs turns dark plain walk =
               size = refl;
               within = let lt = step.within in omega (arith, lt);
               end = refl;
-              column = walk.stands.column;
+              column = walk.valid.column;
               whole = refl;
               cut_first = whole-first p (k.byte ∷ []) k.whole;
             }),
@@ -152,12 +152,12 @@ pub raw-no_feed : (cells : List Cell) → AllRaw cells → NoFeed cells
 raw-no_feed [] raw = tt
 raw-no_feed (c ∷ cs) raw = (raw-no_ending c.byte raw.0, raw-no_feed cs raw.1)
 
-raw-whole : (bytes : List ℕ) (p : Point) (cells : List Cell) → Stands bytes p → Steps bytes p cells → AllRaw cells →
+raw-whole : (bytes : List ℕ) (p : Point) (cells : List Cell) → Valid bytes p → Steps bytes p cells → AllRaw cells →
     p.vs ≡ 0 → (point_after cells p).vs ≡ 0
-raw-whole bytes p [] stands steps raw whole = whole
-raw-whole bytes p (c ∷ cs) stands steps raw whole =
-    let k = dark-plain bytes p c stands steps.0 (raw-no_white c.byte raw.0) in
-    raw-whole bytes c.after cs (step-stands bytes p c stands steps.0) steps.1 raw.1
+raw-whole bytes p [] valid steps raw whole = whole
+raw-whole bytes p (c ∷ cs) valid steps raw whole =
+    let k = dark-plain bytes p c valid steps.0 (raw-no_white c.byte raw.0) in
+    raw-whole bytes c.after cs (step-valid bytes p c valid steps.0) steps.1 raw.1
     (ap (λ (d : Cell). d.after.vs) k.cell_is)
 
 target-raw : (bytes : List ℕ) (last p : Point) (c : Cell) (text rest cells : List Cell) (turns : List Turn)
@@ -168,10 +168,10 @@ target-raw bytes last p c text rest cells turns more none split raw walk =
     let all = c ∷ text in
     let here = subst (λ (l : List Cell). Walk bytes last p l turns) (sym split) walk in
     let line = on-line bytes last p all rest turns (raw-no_feed all raw) here in
-    let first : p.vs ≡ 0 = step-whole bytes p c walk.stands line.steps.0 (raw-no_white c.byte raw.0) in
-    let whole = raw-whole bytes p all walk.stands line.steps raw first in
+    let first : p.vs ≡ 0 = step-whole bytes p c walk.valid line.steps.0 (raw-no_white c.byte raw.0) in
+    let whole = raw-whole bytes p all walk.valid line.steps raw first in
     let q = point_after all p in
-    let run = run-of bytes p all walk.stands line.steps whole in
+    let run = run-of bytes p all walk.valid line.steps whole in
     let text_is = run_text bytes p q all run in
     let front : take (length (bytes_of all)) cells ≡ all =
     ap (take (length (bytes_of all))) (sym split) ∙ take_at all rest (length (bytes_of all)) (sym (bytes-length all)) in
@@ -194,11 +194,11 @@ target-raw bytes last p c text rest cells turns more none split raw walk =
         refl,
         first,
         run-some c text p run.spaces run.text run.cells_are,
-        is-run bytes p q all walk.stands run,
+        is-run bytes p q all walk.valid run,
       );
       text =
           rw (none, front)
-          (sym (run-bytes bytes p q all run walk.stands.column first (raw-no_feed all raw)));
+          (sym (run-bytes bytes p q all run walk.valid.column first (raw-no_feed all raw)));
     }
 
 -- Between angle brackets.
@@ -232,7 +232,7 @@ module _ (bytes : List ℕ) (last p : Point) (c : Cell) (text : List Cell) (d : 
   closer = byte-of bytes last text_to d rest turns (rw closes refl) (rw closes refl) inside.takes.walk
 
   text_run : RunOf bytes text_from text_to text
-  text_run = run-of bytes text_from text opener.takes.walk.stands inside.steps closer.is.0
+  text_run = run-of bytes text_from text opener.takes.walk.valid inside.steps closer.is.0
 
   abbrev literal_text : List ℕ
   literal_text = run_text bytes text_from text_to text text_run
@@ -243,17 +243,17 @@ module _ (bytes : List ℕ) (last p : Point) (c : Cell) (text : List Cell) (d : 
     refl,
     refl,
     subst (λ (x : ℕ). IsByte bytes x p text_from) opens opener.is,
-    is-run bytes text_from text_to text opener.takes.walk.stands text_run,
+    is-run bytes text_from text_to text opener.takes.walk.valid text_run,
     subst (λ (x : ℕ). IsByte bytes x text_to literal_to) closes closer.is,
   )
 
   -- and its text is that of the cells
   literal-text : literal_text ≡ bytes_of (whole_cells text_from text)
   literal-text =
-      sym (run-bytes bytes text_from text_to text text_run opener.takes.walk.stands.column
+      sym (run-bytes bytes text_from text_to text text_run opener.takes.walk.valid.column
       (let first : OnLine bytes last p (c ∷ []) turns (text ++ (d ∷ rest)) =
       on-line bytes last p (c ∷ []) (text ++ (d ∷ rest)) turns (rw opens refl, tt) here in
-      let whole = (dark-plain bytes p c here.stands first.steps.0 (rw opens refl)).cell_is in
+      let whole = (dark-plain bytes p c here.valid first.steps.0 (rw opens refl)).cell_is in
       ap (λ (x : Cell). x.after.vs) whole) none)
 
   -- the cells after it begin where its second bracket ends
@@ -419,10 +419,10 @@ literal-of bytes last p c cs text (d ∷ ds) turns found opens none split e walk
     go false k = let none : (let o : Option Destination = None in o) ≡ Some found = rw k at e in cc
 
 raw-of : (bytes : List ℕ) (last p : Point) (cells : List Cell) (turns : List Turn) (found : Destination)
-    (first : Cell) (behind : List Cell) → cells ≡ first ∷ behind → is_raw_byte first.byte ≡ true →
+    (first : Cell) (following : List Cell) → cells ≡ first ∷ following → is_raw_byte first.byte ≡ true →
     begins_literal cells ≡ false → raw_found (line_bytes cells) ≡ Some found → Walk bytes last p cells turns →
     TargetOf bytes last p cells turns found
-raw-of bytes last p cells turns found first behind is raw none e walk =
+raw-of bytes last p cells turns found first following is raw none e walk =
     by known.text known.split known.found known.raw
   where
     known : RawFront cells
@@ -434,12 +434,12 @@ raw-of bytes last p cells turns found first behind is raw none e walk =
     more : List ℕ
     more = after is_raw_byte (line_bytes cells)
 
-    some : take_while is_raw_byte (line_bytes cells) ≡ first.byte ∷ take_while is_raw_byte (line_bytes behind)
-    some = ap (λ (l : List Cell). take_while is_raw_byte (line_bytes l)) is ∙ raw-cons first behind raw
+    some : take_while is_raw_byte (line_bytes cells) ≡ first.byte ∷ take_while is_raw_byte (line_bytes following)
+    some = ap (λ (l : List Cell). take_while is_raw_byte (line_bytes l)) is ∙ raw-cons first following raw
 
     by : (front : List Cell) → front ++ known.rest ≡ cells → text ≡ bytes_of front → AllRaw front →
         TargetOf bytes last p cells turns found
-    by [] split k all = let no : [] ≡ first.byte ∷ take_while is_raw_byte (line_bytes behind) = sym k ∙ some in cc
+    by [] split k all = let no : [] ≡ first.byte ∷ take_while is_raw_byte (line_bytes following) = sym k ∙ some in cc
     by (c ∷ cs) split k all = go (balanced 0 false text) e
       where
         go : (x : Bool) → cond x (Some (record { text = text; rest = more })) None ≡ Some found →

@@ -1,4 +1,4 @@
--- The labels of footnote definitions among events that may be as blocks do (`ItemsStand`) are those of the tree that
+-- The labels of footnote definitions among events that may be as blocks do (`ItemsAllowed`) are those of the tree that
 -- these spell out: each footnote definition begins with its label, which no container prefix parts.
 use Rattle.std.proofs.Common.{◌≡◌, ◌⊎◌, inl, inr, ℕ, Bool, true, false, cond, ◌&&◌, not, List, [], ◌∷◌, ◌++◌, refl, ap}
 use Rattle.std.proofs.Common.{ap₂, sym, ◌∙◌, append_assoc, append-nil, subst, slice_range}
@@ -10,22 +10,22 @@ use Rattle.md_engine.specs.declared.event.Kind.TheVariants.{Enter, Exit}
 use Rattle.md_engine.specs.declared.event.Name.{Name}
 use Rattle.md_engine.specs.declared.event.Name.TheVariants as n
 use Rattle.md_engine.specs.declared.event.Point.{Point}
-use Rattle.md_containers.specs.ItemsStand.{AmongBlocks, InFront, InLabel, InLeaf, InMarker, InText, Inner, IsBetween}
-use Rattle.md_containers.specs.ItemsStand.{IsOfLeaf, ItemsStand, MayBegin, MayEnd, MayStand, Site}
-use Rattle.md_containers.specs.ItemsStand.{inner_behind, inner_in, root, site_after}
+use Rattle.md_containers.specs.ItemsAllowed.{AmongBlocks, InFront, InLabel, InLeaf, InMarker, InText, Inner, IsBetween}
+use Rattle.md_containers.specs.ItemsAllowed.{IsOfLeaf, ItemsAllowed, MayBegin, MayEnd, MayBeHere, Site}
+use Rattle.md_containers.specs.ItemsAllowed.{inner_after, inner_in, root, site_after}
 use Rattle.md_content.specs.FootnoteLabels.{footnote_labels_from, footnote_labels_in, is_footnote_label}
 use Rattle.md_meaning.specs.Label.{normal_form}
 use Rattle.md_meaning.specs.Tree.{Blocks, End}
 use Rattle.md_outline.specs.Outlined.{OpenTextSpan, are_parted, parts_by, span_by}
-use Rattle.md_events.specs.Events.Nested.{Fits, Matches, is_enter, is_exit, open_behind}
+use Rattle.md_events.specs.Events.Nested.{Fits, Matches, is_enter, is_exit, open_following}
 use Rattle.md_events.specs.Events.Spelled.{AsDigits, AsFootnoteLabel, AsItemMarker, AsParagraph, OpenContainer}
 use Rattle.md_events.specs.Events.Spelled.{FootnoteShape, ContainerRole, IsEnding, IsPrefix, IsQuiet, IsQuoteMarker}
 use Rattle.md_events.specs.Events.Spelled.{ItemShape, OpenLeaf, LeafRole, OrderedShape, Purpose, QuoteShape, Reading}
-use Rattle.md_events.specs.Events.Spelled.{Role, Shape, TextRole, Text, UnorderedShape, at_ending, block_around, block_of}
-use Rattle.md_events.specs.Events.Spelled.{byte_at, finished, left, named, on_leaf, on_shape, read, read_by, role}
-use Rattle.md_events.specs.Events.Spelled.{spelled, text_to, told_at, BreakLeaf, CodeLeaf, DefinitionLeaf, FenceLeaf}
-use Rattle.md_events.specs.Events.Spelled.{FrontmatterLeaf, HeadingAtxLeaf, HeadingSetextLeaf, HtmlLeaf, MathLeaf}
-use Rattle.md_events.specs.Events.Spelled.{TableLeaf, is_before_blocks, kind_at, next_line, unread, with_kind}
+use Rattle.md_events.specs.Events.Spelled.{Role, Shape, TextRole, Text, UnorderedShape, at_ending, block_around}
+use Rattle.md_events.specs.Events.Spelled.{block_of, byte_at, finished, left, named, on_leaf, on_shape, read, read_by}
+use Rattle.md_events.specs.Events.Spelled.{role, spelled, text_to, recorded_at, BreakLeaf, CodeLeaf, DefinitionLeaf}
+use Rattle.md_events.specs.Events.Spelled.{FenceLeaf, FrontmatterLeaf, HeadingAtxLeaf, HeadingSetextLeaf, HtmlLeaf}
+use Rattle.md_events.specs.Events.Spelled.{MathLeaf, TableLeaf, is_before_blocks, kind_at, next_line, unread, with_kind}
 use Rattle.md_meaning.specs.declared.alert.AlertKind.{AlertKind}
 use Rattle.proof_content_laws.proofs.Labels.Trees.{noted-then, noted_by, noted_in}
 
@@ -139,9 +139,9 @@ IsAt _ names span from r = Unit {0}
 -- What one event does.
 abbrev Stepped : List ℕ → Kind → Name → Role → Point → Inner → Inner → List Name → Option OpenTextSpan → ℕ → Reading →
     Type 0
-Stepped bytes kind name x p inner behind names span from r =
-    (told : notes inner r ++ own_by bytes kind x p from ≡ notes behind (read_by bytes kind x p r))
-    × IsAt behind (open_behind names kind name) (span_by kind x p span) (from_by kind x p from)
+Stepped bytes kind name x p inner following names span from r =
+    (recorded : notes inner r ++ own_by bytes kind x p from ≡ notes following (read_by bytes kind x p r))
+    × IsAt following (open_following names kind name) (span_by kind x p span) (from_by kind x p from)
     (read_by bytes kind x p r)
 
 -- nothing, where neither a container nor a block begins or ends
@@ -162,14 +162,15 @@ ending-outer bytes p None r = go (nat_lt p.index (length bytes))
     go false = (refl, refl)
 
 -- a text of a leaf block ends
-leaf-told : (bytes : List ℕ) (purpose : Purpose) (p : Point) (text : Option Text) (r : Reading) → IsOfLeaf purpose →
-    (outer : (told_at bytes purpose p text r).outer ≡ r.outer) × ((told_at bytes purpose p text r).here ≡ r.here)
-leaf-told bytes purpose p None r of = (refl, refl)
-leaf-told bytes AsParagraph p (Some text) r of = absurd of
-leaf-told bytes AsDigits p (Some text) r of = absurd of
-leaf-told bytes AsItemMarker p (Some text) r of = absurd of
-leaf-told bytes AsFootnoteLabel p (Some text) r of = absurd of
-leaf-told bytes _ p (Some text) r of = (refl, refl)
+leaf-recorded : (bytes : List ℕ) (purpose : Purpose) (p : Point) (text : Option Text) (r : Reading) → IsOfLeaf purpose →
+    (outer : (recorded_at bytes purpose p text r).outer ≡ r.outer)
+    × ((recorded_at bytes purpose p text r).here ≡ r.here)
+leaf-recorded bytes purpose p None r of = (refl, refl)
+leaf-recorded bytes AsParagraph p (Some text) r of = absurd of
+leaf-recorded bytes AsDigits p (Some text) r of = absurd of
+leaf-recorded bytes AsItemMarker p (Some text) r of = absurd of
+leaf-recorded bytes AsFootnoteLabel p (Some text) r of = absurd of
+leaf-recorded bytes _ p (Some text) r of = (refl, refl)
 
 -- and one of an item
 named-notes : (purpose : Purpose) (text : List ℕ) (shape : Shape) →
@@ -189,18 +190,18 @@ item-notes purpose text (a ∷ outer) other = go (named-notes purpose text a.sha
     go (inl same) = ap (λ (l : List (List ℕ)). (outer_notes outer ++ noted_in a.before) ++ l) same
     go (inr is) = absurd (other is)
 
-digits-told : (bytes : List ℕ) (p : Point) (text : Option Text) (r : Reading) →
-    read_notes r ++ [] ≡ read_notes (told_at bytes AsDigits p text r)
-digits-told bytes p None r = append-nil (read_notes r)
-digits-told bytes p (Some text) r =
+digits-recorded : (bytes : List ℕ) (p : Point) (text : Option Text) (r : Reading) →
+    read_notes r ++ [] ≡ read_notes (recorded_at bytes AsDigits p text r)
+digits-recorded bytes p None r = append-nil (read_notes r)
+digits-recorded bytes p (Some text) r =
     append-nil (read_notes r)
     ∙ ap (λ (l : List (List ℕ)). l ++ noted_in r.here)
     (sym (item-notes AsDigits (text_to bytes p.index text) r.outer (λ e. cc)))
 
-marker-told : (bytes : List ℕ) (p : Point) (text : Option Text) (r : Reading) →
-    read_notes r ++ [] ≡ read_notes (told_at bytes AsItemMarker p text r)
-marker-told bytes p None r = append-nil (read_notes r)
-marker-told bytes p (Some text) r =
+marker-recorded : (bytes : List ℕ) (p : Point) (text : Option Text) (r : Reading) →
+    read_notes r ++ [] ≡ read_notes (recorded_at bytes AsItemMarker p text r)
+marker-recorded bytes p None r = append-nil (read_notes r)
+marker-recorded bytes p (Some text) r =
     append-nil (read_notes r)
     ∙ ap (λ (l : List (List ℕ)). l ++ noted_in r.here)
     (sym (item-notes AsItemMarker (text_to bytes p.index text) r.outer (λ e. cc)))
@@ -221,9 +222,9 @@ outer-kind kind (a ∷ outer) =
 abbrev marked : List ℕ → Point → Bool → Reading → Reading
 marked bytes p x r = cond x (record r { outer = on_shape (with_kind (kind_at bytes p.index)) r.outer }) r
 
-quote-told : (bytes : List ℕ) (p : Point) (r : Reading) →
+quote-recorded : (bytes : List ℕ) (p : Point) (r : Reading) →
     read_notes r ++ [] ≡ read_notes (read_by bytes Enter IsQuoteMarker p r)
-quote-told bytes p r = append-nil (read_notes r) ∙ sym (go (is_before_blocks r.text r.leaf r.here))
+quote-recorded bytes p r = append-nil (read_notes r) ∙ sym (go (is_before_blocks r.text r.leaf r.here))
   where
     go : (x : Bool) → read_notes (marked bytes p x r) ≡ read_notes r
     go true = ap (λ (l : List (List ℕ)). l ++ noted_in r.here) (outer-kind (kind_at bytes p.index) r.outer)
@@ -256,10 +257,10 @@ quote-same bytes p r label before outer is = go (is_before_blocks r.text r.leaf 
     go false = refl
 
 -- a paragraph ends
-paragraph-told : (bytes : List ℕ) (p : Point) (text : Option Text) (r : Reading) →
-    read_notes r ++ [] ≡ read_notes (told_at bytes AsParagraph p text r)
-paragraph-told bytes p None r = append-nil (read_notes r)
-paragraph-told bytes p (Some text) r =
+paragraph-recorded : (bytes : List ℕ) (p : Point) (text : Option Text) (r : Reading) →
+    read_notes r ++ [] ≡ read_notes (recorded_at bytes AsParagraph p text r)
+paragraph-recorded bytes p None r = append-nil (read_notes r)
+paragraph-recorded bytes p (Some text) r =
     append-nil (read_notes r)
     ∙ ap (λ (l : List (List ℕ)). outer_notes r.outer ++ l) (sym (noted-then r.here _ ∙ append-nil (noted_in r.here)))
 
@@ -329,7 +330,7 @@ among-begins bytes name (LeafRole kind) p names span from r e may = (append-nil 
 among-begins bytes name (TextRole AsParagraph) p names span from r e may = (append-nil (read_notes r), tt)
 among-begins bytes name (TextRole purpose) p names span from r e may = absurd may
 among-begins bytes name IsPrefix p names span from r e may = (append-nil (read_notes r), tt)
-among-begins bytes name IsQuoteMarker p names span from r e may = (quote-told bytes p r, tt)
+among-begins bytes name IsQuoteMarker p names span from r e may = (quote-recorded bytes p r, tt)
 among-begins bytes name IsEnding p names span from r e may = (append-nil (read_notes r), tt)
 among-begins bytes name IsQuiet p names span from r e may = (append-nil (read_notes r), tt)
 among-begins bytes name _ p names span from r e may = absurd may
@@ -355,15 +356,15 @@ front-begins bytes name _ p names span from r may = absurd may
 
 front-ends : (bytes : List ℕ) (held : List Bool) (name : Name) (x : Role) (p : Point) (names : List Name)
     (span : Option OpenTextSpan) (from : ℕ) (r : Reading) → MayEnd held p InFront x →
-    Stepped bytes Exit name x p InFront (inner_behind InFront x) names span from r
+    Stepped bytes Exit name x p InFront (inner_after InFront x) names span from r
 front-ends bytes held name IsQuiet p names span from r may = (append-nil (read_notes r), tt)
-front-ends bytes held name (TextRole AsDigits) p names span from r may = (digits-told bytes p r.text r, tt)
+front-ends bytes held name (TextRole AsDigits) p names span from r may = (digits-recorded bytes p r.text r, tt)
 front-ends bytes held name _ p names span from r may = absurd may
 
 marker-ends : (bytes : List ℕ) (held : List Bool) (name : Name) (x : Role) (p q : Point) (names : List Name)
     (span : Option OpenTextSpan) (from : ℕ) (r : Reading) → MayEnd held p (InMarker q) x →
-    Stepped bytes Exit name x p (InMarker q) (inner_behind (InMarker q) x) names span from r
-marker-ends bytes held name (TextRole AsItemMarker) p q names span from r may = (marker-told bytes p r.text r, tt)
+    Stepped bytes Exit name x p (InMarker q) (inner_after (InMarker q) x) names span from r
+marker-ends bytes held name (TextRole AsItemMarker) p q names span from r may = (marker-recorded bytes p r.text r, tt)
 marker-ends bytes held name _ p q names span from r may = absurd may
 
 leaf-begins : (bytes : List ℕ) (name : Name) (x : Role) (p : Point) (names : List Name) (span : Option OpenTextSpan)
@@ -372,18 +373,18 @@ leaf-begins : (bytes : List ℕ) (name : Name) (x : Role) (p : Point) (names : L
 leaf-begins bytes name (ContainerRole shape) p names span from r may = absurd may
 leaf-begins bytes name (LeafRole kind) p names span from r may = absurd may
 leaf-begins bytes name (TextRole purpose) p names span from r may = (append-nil (read_notes r), tt)
-leaf-begins bytes name IsQuoteMarker p names span from r may = (quote-told bytes p r, tt)
+leaf-begins bytes name IsQuoteMarker p names span from r may = (quote-recorded bytes p r, tt)
 leaf-begins bytes name _ p names span from r may = (append-nil (read_notes r), tt)
 
 leaf-ends : (bytes : List ℕ) (held : List Bool) (name : Name) (x : Role) (p : Point) (names : List Name)
     (span : Option OpenTextSpan) (from : ℕ) (r : Reading) → MayEnd held p InLeaf x →
-    Stepped bytes Exit name x p InLeaf (inner_behind InLeaf x) names span from r
+    Stepped bytes Exit name x p InLeaf (inner_after InLeaf x) names span from r
 leaf-ends bytes held name (ContainerRole shape) p names span from r may = absurd may
 leaf-ends bytes held name (LeafRole kind) p names span from r may = (leaf-finished r.leaf r, tt)
 leaf-ends bytes held name (TextRole AsFootnoteLabel) p names span from r may = absurd may
 leaf-ends bytes held name (TextRole purpose) p names span from r may =
-    let same = leaf-told bytes purpose p r.text r may in
-    (still bytes r (told_at bytes purpose p r.text r) same.0 same.1, tt)
+    let same = leaf-recorded bytes purpose p r.text r may in
+    (still bytes r (recorded_at bytes purpose p r.text r) same.0 same.1, tt)
 leaf-ends bytes held name IsEnding p names span from r may =
     let same = ending-outer bytes p r.text r in (still bytes r (at_ending bytes p r.text r) same.0 same.1, tt)
 leaf-ends bytes held name _ p names span from r may = (append-nil (read_notes r), tt)
@@ -392,15 +393,15 @@ text-begins : (bytes : List ℕ) (name : Name) (x : Role) (p : Point) (names : L
     (from : ℕ) (r : Reading) → MayBegin bytes p InText x →
     Stepped bytes Enter name x p InText (inner_in p InText x) names span from r
 text-begins bytes name IsPrefix p names span from r may = (append-nil (read_notes r), tt)
-text-begins bytes name IsQuoteMarker p names span from r may = (quote-told bytes p r, tt)
+text-begins bytes name IsQuoteMarker p names span from r may = (quote-recorded bytes p r, tt)
 text-begins bytes name IsEnding p names span from r may = (append-nil (read_notes r), tt)
 text-begins bytes name IsQuiet p names span from r may = (append-nil (read_notes r), tt)
 text-begins bytes name _ p names span from r may = absurd may
 
 text-ends : (bytes : List ℕ) (held : List Bool) (name : Name) (x : Role) (p : Point) (names : List Name)
     (span : Option OpenTextSpan) (from : ℕ) (r : Reading) → MayEnd held p InText x →
-    Stepped bytes Exit name x p InText (inner_behind InText x) names span from r
-text-ends bytes held name (TextRole AsParagraph) p names span from r may = (paragraph-told bytes p r.text r, tt)
+    Stepped bytes Exit name x p InText (inner_after InText x) names span from r
+text-ends bytes held name (TextRole AsParagraph) p names span from r may = (paragraph-recorded bytes p r.text r, tt)
 text-ends bytes held name (TextRole purpose) p names span from r may = absurd may
 text-ends bytes held name IsPrefix p names span from r may = (append-nil (read_notes r), tt)
 text-ends bytes held name IsQuoteMarker p names span from r may = (append-nil (read_notes r), tt)
@@ -421,7 +422,7 @@ above-begins name IsQuiet names e may h = subst (λ (y : Role). Above y (Unbegun
 above-begins name _ names e may h = absurd may
 
 above-ends : (name : Name) (x : Role) (names : List Name) → role name ≡ x → IsBetween x → Fits names Exit name →
-    Unbegun names → Unbegun (open_behind names Exit name)
+    Unbegun names → Unbegun (open_following names Exit name)
 above-ends name x [] e may fits h = absurd h
 above-ends name x (innermost ∷ names) e may fits h = go x may (subst (λ (y : Role). Above y (Unbegun names)) same h)
   where
@@ -443,12 +444,12 @@ above-label name (innermost ∷ names) e fits h =
     subst (λ (y : Role). Above y (Unbegun names)) (ap role fits ∙ e) h
 
 -- nor what is read of its text, but that a prefix parts it
-begun-by : (names behind : List Name) (span after : Option OpenTextSpan) (from : ℕ) (text now : Option Text) →
-    after ≡ span → now ≡ text → (Unparted names → Unparted behind) → IsBegun names span from text →
-    IsBegun behind after from now
-begun-by names behind span after from text now same unchanged open_so h = (h.0, same ∙ h.1, go h.2)
+begun-by : (names following : List Name) (span after : Option OpenTextSpan) (from : ℕ) (text now : Option Text) →
+    after ≡ span → now ≡ text → (Unparted names → Unparted following) → IsBegun names span from text →
+    IsBegun following after from now
+begun-by names following span after from text now same unchanged open_so h = (h.0, same ∙ h.1, go h.2)
   where
-    go : (h.0.is_parted ≡ true) ⊎ BeginsAt names from text → (h.0.is_parted ≡ true) ⊎ BeginsAt behind from now
+    go : (h.0.is_parted ≡ true) ⊎ BeginsAt names from text → (h.0.is_parted ≡ true) ⊎ BeginsAt following from now
     go (inl is) = inl is
     go (inr is) = inr (open_so is.0, is.1, unchanged ∙ is.2, is.3, is.4)
 
@@ -465,7 +466,7 @@ pure-begins : (name : Name) (x : Role) (names : List Name) → role name ≡ x �
 pure-begins name x names e pure h = subst (λ (y : Role). Pure y (Unparted names)) (sym e) (pure (Unparted names) h)
 
 pure-ends : (name : Name) (x : Role) (names : List Name) → role name ≡ x → Fits names Exit name →
-    ((T : Type 0) → Pure x T → T) → Unparted names → Unparted (open_behind names Exit name)
+    ((T : Type 0) → Pure x T → T) → Unparted names → Unparted (open_following names Exit name)
 pure-ends name x [] e fits pure h = absurd h
 pure-ends name x (innermost ∷ names) e fits pure h =
     pure (Unparted names) (subst (λ (y : Role). Pure y (Unparted names)) (ap role fits ∙ e) h)
@@ -479,7 +480,7 @@ prefix-open name (innermost ∷ names) e fits h =
 begun-between : (bytes : List ℕ) (kind : Kind) (name : Name) (x : Role) (p : Point) (names : List Name)
     (span : Option OpenTextSpan) (from : ℕ) (r : Reading) → role name ≡ x → IsBetween x → Fits names kind name →
     (read_by bytes Enter IsQuoteMarker p r ≡ r) → IsBegun names span from r.text →
-    IsBegun (open_behind names kind name) (span_by kind x p span) (from_by kind x p from)
+    IsBegun (open_following names kind name) (span_by kind x p span) (from_by kind x p from)
     (read_by bytes kind x p r).text
 begun-between bytes Enter name IsPrefix p names span from r e may fits same h =
     (record h.0 { is_parted = true }, ap (λ (o : Option OpenTextSpan). span_by Enter IsPrefix p o) h.1, inl refl)
@@ -488,26 +489,26 @@ begun-between bytes Exit name IsPrefix p names span from r e may fits same h =
   where
     go : (h.0.is_parted ≡ true) ⊎ BeginsAt names from r.text →
         (h.0.is_parted ≡ true)
-        ⊎ BeginsAt (open_behind names Exit name) from (read_by bytes Exit IsPrefix p r).text
+        ⊎ BeginsAt (open_following names Exit name) from (read_by bytes Exit IsPrefix p r).text
     go (inl is) = inl is
     go (inr is) = absurd (prefix-open name names e fits is.0)
 begun-between bytes Enter name IsQuoteMarker p names span from r e may fits same h =
     begun-by names (name ∷ names) span span from r.text _ refl (ap (λ (s : Reading). s.text) same)
     (pure-begins name IsQuoteMarker names e (λ T t. t)) h
 begun-between bytes Exit name IsQuoteMarker p names span from r e may fits same h =
-    begun-by names (open_behind names Exit name) span span from r.text r.text refl refl
+    begun-by names (open_following names Exit name) span span from r.text r.text refl refl
     (pure-ends name IsQuoteMarker names e fits (λ T t. t)) h
 begun-between bytes Enter name IsEnding p names span from r e may fits same h =
     begun-by names (name ∷ names) span span from r.text r.text refl refl
     (pure-begins name IsEnding names e (λ T t. t)) h
 begun-between bytes Exit name IsEnding p names span from r e may fits same h =
-    begun-by names (open_behind names Exit name) span span from r.text _ refl (ending-text bytes p r.text r)
+    begun-by names (open_following names Exit name) span span from r.text _ refl (ending-text bytes p r.text r)
     (pure-ends name IsEnding names e fits (λ T t. t)) h
 begun-between bytes Enter name IsQuiet p names span from r e may fits same h =
     begun-by names (name ∷ names) span span from r.text r.text refl refl
     (pure-begins name IsQuiet names e (λ T t. t)) h
 begun-between bytes Exit name IsQuiet p names span from r e may fits same h =
-    begun-by names (open_behind names Exit name) span span from r.text r.text refl refl
+    begun-by names (open_following names Exit name) span span from r.text r.text refl refl
     (pure-ends name IsQuiet names e fits (λ T t. t)) h
 begun-between bytes kind name _ p names span from r e may fits same h = absurd may
 
@@ -538,7 +539,7 @@ own-none bytes Exit IsQuiet p from may = refl
 own-none bytes Exit _ p from may = absurd may
 
 above-between : (kind : Kind) (name : Name) (x : Role) (names : List Name) → role name ≡ x → IsBetween x →
-    Fits names kind name → Unbegun names → Unbegun (open_behind names kind name)
+    Fits names kind name → Unbegun names → Unbegun (open_following names kind name)
 above-between Enter name x names e may fits h = above-begins name x names e may h
 above-between Exit name x names e may fits h = above-ends name x names e may fits h
 
@@ -556,8 +557,8 @@ label-between bytes kind name x p names span from r e may fits at =
     unchanged = quote-same bytes p r [] at.0 at.1 at.2
 
     go : Unbegun names ⊎ IsBegun names span from r.text →
-        Unbegun (open_behind names kind name)
-        ⊎ IsBegun (open_behind names kind name) (span_by kind x p span) (from_by kind x p from)
+        Unbegun (open_following names kind name)
+        ⊎ IsBegun (open_following names kind name) (span_by kind x p span) (from_by kind x p from)
         (read_by bytes kind x p r).text
     go (inl h) = inl (above-between kind name x names e may fits h)
     go (inr h) = inr (begun-between bytes kind name x p names span from r e may fits unchanged h)
@@ -590,20 +591,20 @@ label-begins bytes name IsQuiet p names span from r e may at =
 label-begins bytes name _ p names span from r e may at = absurd may
 
 -- its end shows it
-label-told : (bytes : List ℕ) (p : Point) (from : ℕ) (r : Reading) (before : Blocks) (outer : List OpenContainer)
+label-recorded : (bytes : List ℕ) (p : Point) (from : ℕ) (r : Reading) (before : Blocks) (outer : List OpenContainer)
     (t : Text) →
     r.outer ≡ record { shape = FootnoteShape []; before = before } ∷ outer → r.here ≡ End → r.text ≡ Some t →
     t.front ≡ [] → t.from ≡ from →
     before_notes r.outer ++ normal_form (slice_range bytes from p.index ∷ []) ∷ [] ≡
-    read_notes (told_at bytes AsFootnoteLabel p r.text r)
-label-told bytes p from r before outer t is empty text front begin =
+    read_notes (recorded_at bytes AsFootnoteLabel p r.text r)
+label-recorded bytes p from r before outer t is empty text front begin =
     ap (λ (l : List OpenContainer). before_notes l ++ normal_form (slice_range bytes from p.index ∷ []) ∷ []) is
     ∙ ap (λ (l : List ℕ). (outer_notes outer ++ noted_in before) ++ normal_form (l ∷ []) ∷ []) same
     ∙ sym (append-nil ((outer_notes outer ++ noted_in before) ++ normal_form (text_to bytes p.index t ∷ []) ∷ []))
     ∙ ap₂
     (λ (l : List OpenContainer) (bs : Blocks).
     outer_notes (on_shape (named AsFootnoteLabel (text_to bytes p.index t)) l) ++ noted_in bs) (sym is) (sym empty)
-    ∙ ap (λ (o : Option Text). read_notes (told_at bytes AsFootnoteLabel p o r)) (sym text)
+    ∙ ap (λ (o : Option Text). read_notes (recorded_at bytes AsFootnoteLabel p o r)) (sym text)
   where
     same : slice_range bytes from p.index ≡ text_to bytes p.index t
     same = ap₂ (λ (l : List ℕ) (i : ℕ). l ++ slice_range bytes i p.index) (sym front) (sym begin)
@@ -611,7 +612,7 @@ label-told bytes p from r before outer t is empty text front begin =
 label-ends : (bytes : List ℕ) (held : List Bool) (name : Name) (x : Role) (p : Point) (names : List Name)
     (span : Option OpenTextSpan) (from : ℕ) (r : Reading) → role name ≡ x → MayEnd held p InLabel x →
     Fits names Exit name → parts_by bytes Exit x p span ≡ true → IsAt InLabel names span from r →
-    Stepped bytes Exit name x p InLabel (inner_behind InLabel x) names span from r
+    Stepped bytes Exit name x p InLabel (inner_after InLabel x) names span from r
 label-ends bytes held name (TextRole AsFootnoteLabel) p names span from r e may fits parts at = (go at.4, tt)
   where
     parted : (s : OpenTextSpan) → span ≡ Some s → s.is_parted ≡ true → ⊥
@@ -621,15 +622,15 @@ label-ends bytes held name (TextRole AsFootnoteLabel) p names span from r e may 
 
     go : Unbegun names ⊎ IsBegun names span from r.text →
         before_notes r.outer ++ normal_form (slice_range bytes from p.index ∷ []) ∷ [] ≡
-        read_notes (told_at bytes AsFootnoteLabel p r.text r)
+        read_notes (recorded_at bytes AsFootnoteLabel p r.text r)
     go (inl h) = absurd (above-label name names e fits h)
     go (inr h) = by h.2
       where
         by : (h.0.is_parted ≡ true) ⊎ BeginsAt names from r.text →
             before_notes r.outer ++ normal_form (slice_range bytes from p.index ∷ []) ∷ [] ≡
-            read_notes (told_at bytes AsFootnoteLabel p r.text r)
+            read_notes (recorded_at bytes AsFootnoteLabel p r.text r)
         by (inl so) = absurd (parted h.0 h.1 so)
-        by (inr is) = label-told bytes p from r at.0 at.1 is.1 at.2 at.3 is.2 is.3 is.4
+        by (inr is) = label-recorded bytes p from r at.0 at.1 is.1 at.2 at.3 is.2 is.3 is.4
 label-ends bytes held name IsPrefix p names span from r e may fits parts at =
     label-between bytes Exit name IsPrefix p names span from r e tt fits at
 label-ends bytes held name IsQuoteMarker p names span from r e may fits parts at =
@@ -644,7 +645,7 @@ label-ends bytes held name _ p names span from r e may fits parts at = absurd ma
 
 step : (bytes : List ℕ) (held : List Bool) (inner : Inner) (kind : Kind) (name : Name) (x : Role) (p : Point)
     (names : List Name) (span : Option OpenTextSpan) (from : ℕ) (r : Reading) → role name ≡ x →
-    MayStand bytes (record { held = held; inner = inner }) kind x p → Fits names kind name →
+    MayBeHere bytes (record { held = held; inner = inner }) kind x p → Fits names kind name →
     parts_by bytes kind x p span ≡ true → IsAt inner names span from r →
     Stepped bytes kind name x p inner (site_after (record { held = held; inner = inner }) kind x p).inner names span
     from r
@@ -654,7 +655,7 @@ step bytes held AmongBlocks Exit name x p names span from r e may fits parts at 
     among-exits x may
   where
     among-exits : (x : Role) → MayEnd held p AmongBlocks x →
-        Stepped bytes Exit name x p AmongBlocks (inner_behind AmongBlocks x) names span from r
+        Stepped bytes Exit name x p AmongBlocks (inner_after AmongBlocks x) names span from r
     among-exits x may = among-ends bytes held name x p names span from r may
 step bytes held InFront Enter name x p names span from r e may fits parts at =
     front-begins bytes name x p names span from r may
@@ -690,19 +691,21 @@ at-end (InMarker q) names span from r at none = closed r none
 at-end InLeaf names span from r at none = closed r none
 at-end InText names span from r at none = closed r none
 
-all-told : (bytes : List ℕ) (site : Site) (names : List Name) (span : Option OpenTextSpan) (from : ℕ) (r : Reading)
-    (es : List Event) → ItemsStand bytes site es → Matches names es → are_parted bytes span es ≡ true →
+all-recorded : (bytes : List ℕ) (site : Site) (names : List Name) (span : Option OpenTextSpan) (from : ℕ) (r : Reading)
+    (es : List Event) → ItemsAllowed bytes site es → Matches names es → are_parted bytes span es ≡ true →
     IsAt site.inner names span from r → (read bytes r es).outer ≡ [] →
     notes site.inner r ++ footnote_labels_from bytes from es ≡ noted_in (read bytes r es).here
-all-told bytes site names span from r [] stand match parted at none = at-end site.inner names span from r at none
-all-told bytes site names span from r (e ∷ es) stand match parted at none =
+all-recorded bytes site names span from r [] are_valid match parted at none =
+    at-end site.inner names span from r at none
+all-recorded bytes site names span from r (e ∷ es) are_valid match parted at none =
     let parts = and_parts _ _ parted in
     let x : Role = role e.name in
-    let behind : Site = site_after site e.kind x e.point in
-    let next = step bytes site.held site.inner e.kind e.name x e.point names span from r refl stand.0 match.0 parts.0
+    let following : Site = site_after site e.kind x e.point in
+    let next = step bytes site.held site.inner e.kind e.name x e.point names span from r refl are_valid.0
+    match.0 parts.0
     at in
-    let more = all-told bytes behind (open_behind names e.kind e.name) (span_by e.kind x e.point span)
-    (from_by e.kind x e.point from) (read_by bytes e.kind x e.point r) es stand.1 match.1 parts.1 next.1 none in
+    let more = all-recorded bytes following (open_following names e.kind e.name) (span_by e.kind x e.point span)
+    (from_by e.kind x e.point from) (read_by bytes e.kind x e.point r) es are_valid.1 match.1 parts.1 next.1 none in
     let rest : List (List ℕ) = footnote_labels_from bytes (from_by e.kind x e.point from) es in
     ap (λ (l : List (List ℕ)). notes site.inner r ++ l) (labels-step bytes from e es)
     ∙ sym (append_assoc (notes site.inner r) (own_by bytes e.kind x e.point from) rest)
@@ -710,8 +713,9 @@ all-told bytes site names span from r (e ∷ es) stand match parted at none =
     ∙ more
 
 -- The labels among events of a whole text are those of its tree.
-pub stand-labels : (bytes : List ℕ) (es : List Event) → ItemsStand bytes root es → Matches [] es →
+pub are_valid-labels : (bytes : List ℕ) (es : List Event) → ItemsAllowed bytes root es → Matches [] es →
     are_parted bytes None es ≡ true → (read bytes unread es).outer ≡ [] →
     footnote_labels_in bytes es ≡ noted_in (spelled es bytes)
 unfolding spelled
-stand-labels bytes es stand match parted none = all-told bytes root [] None 0 unread es stand match parted tt none
+are_valid-labels bytes es are_valid match parted none = all-recorded bytes root [] None 0 unread es are_valid match
+    parted tt none

@@ -12,10 +12,10 @@ use Rattle.md_events.specs.Events.Nested.{around, enter, exit, pair}
 use Rattle.md_events.specs.Events.Places.{same_place}
 use Rattle.md_events.proofs.PlacesLemmas.{all-append}
 use Rattle.md_engine.specs.declared.event.Name.{Name}
-use Rattle.proof_content_laws.proofs.Defined.Form.{Form, Gap, IsForm, IsGap, IsStrand, IsText, IsTitle, LastLine, Literal}
-use Rattle.proof_content_laws.proofs.Defined.Form.{NoLine, OnLine, OneLine, OverLine, Raw, Strand, Target, Titled}
-use Rattle.proof_content_laws.proofs.Defined.Form.{form_block, form_unread, gap_events, strand_unread, string_of}
-use Rattle.proof_content_laws.proofs.Defined.Form.{string_unread, target_by, title_by, unless_empty}
+use Rattle.proof_content_laws.proofs.Defined.Form.{Form, Gap, IsForm, IsGap, IsStrand, IsText, IsTitle, LastLine}
+use Rattle.proof_content_laws.proofs.Defined.Form.{Literal, NoLine, OnLine, OneLine, OverLine, Raw, Strand, Target}
+use Rattle.proof_content_laws.proofs.Defined.Form.{Titled, form_block, form_unread, gap_events, strand_unread}
+use Rattle.proof_content_laws.proofs.Defined.Form.{string_of, string_unread, target_by, title_by, unless_empty}
 use Rattle.proof_frame.proofs.FrontFacts.{LinePrefix}
 use Rattle.proof_frame.proofs.FrontNames.{fronts-prefixes}
 use Rattle.proof_content_laws.proofs.Labels.Text.{label-normal, prefix-label}
@@ -109,14 +109,14 @@ white-skipped : (bytes : List ℕ) (p q : Point) (es : List Event) →
 white-skipped bytes p q es = labels-skip bytes (pair_unless_empty n.SpaceOrTab p q) es (white-none p q)
 
 -- what follows the label's text in a definition
-abbrev behind_text : Form → List Event
-behind_text x =
+abbrev after_text : Form → List Event
+after_text x =
     (pair n.DefinitionMarker x.c x.d ++ gap_events x.gap ++ target_by string_unread x.target
     ++ title_by strand_unread x.title)
     ++ pair_unless_empty n.SpaceOrTab x.e x.last ++ exit n.Definition x.last ∷ []
 
-behind-none : (bytes : List ℕ) (x : Form) (a b : Point) → IsForm bytes x a b → has_no_label (behind_text x) ≡ true
-behind-none bytes x a b is =
+following-none : (bytes : List ℕ) (x : Form) (a b : Point) → IsForm bytes x a b → has_no_label (after_text x) ≡ true
+following-none bytes x a b is =
     let mark : List Event = pair n.DefinitionMarker x.c x.d in
     let gap : List Event = gap_events x.gap in
     let target : List Event = target_by string_unread x.target in
@@ -135,9 +135,9 @@ form-label bytes x a b is more =
     ap (labels_in bytes) apart
     ∙ white-skipped bytes x.first x.p (begin ++ (enter n.DefinitionLabelString x.a ∷ (text ++ rest)))
     ∙ ap₂ (λ (l : List ℕ) (ls : List (List ℕ)). l ∷ ls)
-    (label-normal bytes x.a x.b x.label is.label x.b (closes ++ (behind_text x ++ more)))
+    (label-normal bytes x.a x.b x.label is.label x.b (closes ++ (after_text x ++ more)))
     (labels-skip bytes text rest (strand-none bytes x.a x.b x.label is.label)
-    ∙ labels-skip bytes (behind_text x) more (behind-none bytes x a b is))
+    ∙ labels-skip bytes (after_text x) more (following-none bytes x a b is))
   where
     text : List Event
     text = strand_unread x.label
@@ -149,7 +149,7 @@ form-label bytes x a b is more =
     closes = pair n.DefinitionLabelMarker x.b x.c ++ exit n.DefinitionLabel x.c ∷ []
 
     rest : List Event
-    rest = exit n.DefinitionLabelString x.b ∷ (closes ++ (behind_text x ++ more))
+    rest = exit n.DefinitionLabelString x.b ∷ (closes ++ (after_text x ++ more))
 
     apart : form_unread x ++ more ≡
         pair_unless_empty n.SpaceOrTab x.first x.p

@@ -9,8 +9,8 @@ use Rattle.md_engine.specs.declared.event.Kind.TheVariants.{Enter, Exit}
 use Rattle.md_engine.specs.declared.event.Name.{Name}
 use Rattle.md_engine.specs.declared.event.Name.TheVariants as n
 use Rattle.md_engine.specs.declared.event.Point.{Point}
-use Rattle.md_containers.specs.Listed.{Place, goes_on, is_item, list_begin, list_end, list_name, listed, listed_from}
-use Rattle.md_containers.specs.Listed.{marker_ahead, next_item, outside, place_behind}
+use Rattle.md_containers.specs.Listed.{Place, is_continued, is_item, list_begin, list_end, list_name, listed}
+use Rattle.md_containers.specs.Listed.{listed_from, marker_ahead, next_item, outside, place_following}
 use Rattle.md_containers.proofs.ListedKept.{by-turn}
 use Rattle.md_containers.proofs.ListedLemmas.{passes-given}
 use Rattle.md_content.specs.FootnoteLabels.{footnote_labels_from, footnote_labels_in, is_footnote_label}
@@ -20,8 +20,8 @@ use Rattle.md_events.specs.Events.Inline.{Part, is_linked, line_end, plain_chunk
 use Rattle.md_events.specs.Events.Nested.{enter, exit, is_enter, is_exit, pair}
 use Rattle.md_events.specs.Events.Places.{same_place}
 use Rattle.md_events.specs.Events.Spelled.{byte_at, is_ordered, role}
-use Rattle.md_events.specs.Events.Tiles.{chunks_stand, depth_behind, filled_from, first_list, further_lists, is_chunk}
-use Rattle.md_events.specs.Events.Tiles.{is_data, is_part, parts, plain_lists, plain_read, stands_in_part}
+use Rattle.md_events.specs.Events.Tiles.{chunks_in_parts, depth_following, filled_from, first_list, further_lists}
+use Rattle.md_events.specs.Events.Tiles.{is_chunk, is_data, is_part, parts, plain_lists, plain_read, may_be_in_part}
 use Rattle.md_events.proofs.FilledLemmas.{data-no_part}
 
 -- One event.
@@ -86,8 +86,8 @@ list-kept text bytes place (e ∷ es) from =
     (begins place.within
     (list-kept text bytes (record { within = false; markers = marker_ahead bytes es ∷ place.markers }) es from))
     (ends place.markers
-    (listed_from bytes (place_behind place (next_item bytes es)) es)
-    ∙ list-kept text bytes (place_behind place (next_item bytes es)) es from)
+    (listed_from bytes (place_following place (next_item bytes es)) es)
+    ∙ list-kept text bytes (place_following place (next_item bytes es)) es from)
     (passed (λ i. list-kept text bytes place es i)) e.kind e.name
   where
     begins : (within : Bool) →
@@ -110,7 +110,7 @@ list-kept text bytes place (e ∷ es) from =
         footnote_labels_from text from (list_end markers (next_item bytes es) e.point ++ rest)
         ≡ footnote_labels_from text from rest
     ends [] rest = refl
-    ends (m ∷ markers) rest = go (goes_on m (next_item bytes es))
+    ends (m ∷ markers) rest = go (is_continued m (next_item bytes es))
       where
         go : (x : Bool) →
             footnote_labels_from text from (cond x [] (exit (list_name m) e.point ∷ []) ++ rest)
@@ -223,23 +223,23 @@ chunk-is e f es h =
     exits Enter h = cc
 
 -- the events after it are as before it
-chunk-behind : (depth : ℕ) (e f : Event) (es : List Event) → IsChunk e f →
-    chunks_stand (depth_behind e.kind (suc depth)) (f ∷ es) ≡ true → chunks_stand (suc depth) es ≡ true
-chunk-behind depth e f es is h =
-    let inside : chunks_stand (suc (suc depth)) (f ∷ es) ≡ true =
-    subst (λ (k : Kind). chunks_stand (depth_behind k (suc depth)) (f ∷ es) ≡ true) is.kind h in
-    let apart : (stands f && chunks_stand (depth_behind f.kind (suc (suc depth))) es) ≡ true =
+chunk-following : (depth : ℕ) (e f : Event) (es : List Event) → IsChunk e f →
+    chunks_in_parts (depth_following e.kind (suc depth)) (f ∷ es) ≡ true → chunks_in_parts (suc depth) es ≡ true
+chunk-following depth e f es is h =
+    let inside : chunks_in_parts (suc (suc depth)) (f ∷ es) ≡ true =
+    subst (λ (k : Kind). chunks_in_parts (depth_following k (suc depth)) (f ∷ es) ≡ true) is.kind h in
+    let apart : (valid f && chunks_in_parts (depth_following f.kind (suc (suc depth))) es) ≡ true =
     sym
     (ap
     (λ (x : Bool).
-    cond x (is_exit f.kind && (suc depth == 0) && not (is_linked f) && chunks_stand 0 es)
-    (stands f && chunks_stand (depth_behind f.kind (suc (suc depth))) es)) (data-no_part f.name is.end_name))
+    cond x (is_exit f.kind && (suc depth == 0) && not (is_linked f) && chunks_in_parts 0 es)
+    (valid f && chunks_in_parts (depth_following f.kind (suc (suc depth))) es)) (data-no_part f.name is.end_name))
     ∙ inside in
-    subst (λ (k : Kind). chunks_stand (depth_behind k (suc (suc depth))) es ≡ true) is.end_kind
+    subst (λ (k : Kind). chunks_in_parts (depth_following k (suc (suc depth))) es ≡ true) is.end_kind
     (and_parts _ _ apart).1
   where
-    stands : Event → Bool
-    stands f = cond (is_linked f) ((suc depth == 0) && is_chunk f es) (stands_in_part f.kind f.name)
+    valid : Event → Bool
+    valid f = cond (is_linked f) ((suc depth == 0) && is_chunk f es) (may_be_in_part f.kind f.name)
 
 -- in the place of a chunk is nothing of a label
 linked-kept : (text : List ℕ) (from : ℕ) (e f : Event) (es : List Event) (lists : List (List Event)) →
@@ -263,20 +263,20 @@ linked-or true = inl refl
 linked-or false = inr refl
 
 -- one that is in a part is a chunk if it is linked,
-chunk-in : (depth : ℕ) (e : Event) (es : List Event) → chunks_stand depth (e ∷ es) ≡ true → is_linked e ≡ true →
+chunk-in : (depth : ℕ) (e : Event) (es : List Event) → chunks_in_parts depth (e ∷ es) ≡ true → is_linked e ≡ true →
     (under : ℕ) × (depth ≡ suc under) × (is_chunk e es ≡ true)
-    × (chunks_stand (depth_behind e.kind (suc under)) es ≡ true)
+    × (chunks_in_parts (depth_following e.kind (suc under)) es ≡ true)
 chunk-in zero e es h linked =
     let bad : false ≡ true = ap not (sym linked) ∙ (and_parts _ _ h).0 in absurd (cc)
 chunk-in (suc depth) e es h linked = go (is_part e.name) (is_linked e) linked h
   where
     go : (x y : Bool) → y ≡ true →
-        cond x (is_exit e.kind && (depth == 0) && not y && chunks_stand 0 es)
-        (cond y ((depth == 0) && is_chunk e es) (stands_in_part e.kind e.name)
-        && chunks_stand (depth_behind e.kind (suc depth)) es) ≡
+        cond x (is_exit e.kind && (depth == 0) && not y && chunks_in_parts 0 es)
+        (cond y ((depth == 0) && is_chunk e es) (may_be_in_part e.kind e.name)
+        && chunks_in_parts (depth_following e.kind (suc depth)) es) ≡
         true →
         (under : ℕ) × (suc depth ≡ suc under) × (is_chunk e es ≡ true)
-        × (chunks_stand (depth_behind e.kind (suc under)) es ≡ true)
+        × (chunks_in_parts (depth_following e.kind (suc under)) es ≡ true)
     go true true l k =
         let front : (is_exit e.kind && (depth == 0) && false) ≡ true = (and_parts _ _ k).0 in
         let bad : false ≡ true = (and_parts (is_exit e.kind && (depth == 0)) false front).1 in absurd (cc)
@@ -285,22 +285,22 @@ chunk-in (suc depth) e es h linked = go (is_part e.name) (is_linked e) linked h
     go x false l k = absurd (cc)
 
 -- and after any other the rest is
-rest-stands : (depth : ℕ) (e : Event) (es : List Event) → chunks_stand depth (e ∷ es) ≡ true → is_linked e ≡ false →
-    (behind : ℕ) × (chunks_stand behind es ≡ true)
-rest-stands zero e es h plain = (_, (and_parts _ _ h).1)
-rest-stands (suc depth) e es h plain = go (is_part e.name) h
+rest-valid : (depth : ℕ) (e : Event) (es : List Event) → chunks_in_parts depth (e ∷ es) ≡ true → is_linked e ≡ false →
+    (following : ℕ) × (chunks_in_parts following es ≡ true)
+rest-valid zero e es h plain = (_, (and_parts _ _ h).1)
+rest-valid (suc depth) e es h plain = go (is_part e.name) h
   where
     go : (x : Bool) →
-        cond x (is_exit e.kind && (depth == 0) && not (is_linked e) && chunks_stand 0 es)
-        (cond (is_linked e) ((depth == 0) && is_chunk e es) (stands_in_part e.kind e.name)
-        && chunks_stand (depth_behind e.kind (suc depth)) es) ≡
+        cond x (is_exit e.kind && (depth == 0) && not (is_linked e) && chunks_in_parts 0 es)
+        (cond (is_linked e) ((depth == 0) && is_chunk e es) (may_be_in_part e.kind e.name)
+        && chunks_in_parts (depth_following e.kind (suc depth)) es) ≡
         true →
-        (behind : ℕ) × (chunks_stand behind es ≡ true)
+        (following : ℕ) × (chunks_in_parts following es ≡ true)
     go true k = (0, (and_parts _ _ k).1)
     go false k = (_, (and_parts _ _ k).1)
 
 filled-kept : (text : List ℕ) (depth : ℕ) (es : List Event) (lists : List (List Event)) (from : ℕ) →
-    chunks_stand depth es ≡ true → AllUnlabelled lists →
+    chunks_in_parts depth es ≡ true → AllUnlabelled lists →
     footnote_labels_from text from (filled_from false es lists) ≡ footnote_labels_from text from es
 filled-kept text depth [] lists from h none = refl
 filled-kept text depth (e ∷ []) lists from h none = by (linked-or (is_linked e))
@@ -314,24 +314,24 @@ filled-kept text depth (e ∷ f ∷ es) lists from h none =
     (λ d s. filled-kept text d es (further_lists lists) from s (further-unlabelled lists none))
   where
     by : (is_linked e ≡ true) ⊎ (is_linked e ≡ false) →
-        ((d i : ℕ) → chunks_stand d (f ∷ es) ≡ true →
+        ((d i : ℕ) → chunks_in_parts d (f ∷ es) ≡ true →
         footnote_labels_from text i (filled_from false (f ∷ es) lists) ≡ footnote_labels_from text i (f ∷ es)) →
-        ((d : ℕ) → chunks_stand d es ≡ true →
+        ((d : ℕ) → chunks_in_parts d es ≡ true →
         footnote_labels_from text from (filled_from false es (further_lists lists)) ≡
         footnote_labels_from text from es) →
         footnote_labels_from text from (filled_from false (e ∷ f ∷ es) lists) ≡
         footnote_labels_from text from (e ∷ f ∷ es)
-    by (inl linked) next behind =
+    by (inl linked) next following =
         let in_part = chunk-in depth e (f ∷ es) h linked in
         let is : IsChunk e f = chunk-is e f es in_part.2 in
         linked-kept text from e f es lists linked is none
-        (behind (suc in_part.0) (chunk-behind in_part.0 e f es is in_part.3))
-    by (inr plain) next behind =
-        let rest = rest-stands depth e (f ∷ es) h plain in
+        (following (suc in_part.0) (chunk-following in_part.0 e f es is in_part.3))
+    by (inr plain) next following =
+        let rest = rest-valid depth e (f ∷ es) h plain in
         unlinked-kept text from e (f ∷ es) lists plain (λ i. next rest.0 i rest.1)
 
 -- What is read in the places of chunks shows nothing of labels.
-pub read-labels : (bytes : List ℕ) (blocks : List Event) → chunks_stand 0 blocks ≡ true →
+pub read-labels : (bytes : List ℕ) (blocks : List Event) → chunks_in_parts 0 blocks ≡ true →
     footnote_labels_in bytes (plain_read bytes blocks) ≡ footnote_labels_in bytes blocks
 read-labels bytes blocks h =
     filled-kept bytes 0 blocks (together (plain_lists bytes (parts blocks))) 0 h (parts-unlabelled bytes (parts blocks))

@@ -22,8 +22,8 @@ use Rattle.md_events.specs.Events.Nested.{enter_link, exit, is_enter, is_exit}
 use Rattle.md_events.specs.Events.Prefix.{is_prefix}
 use Rattle.md_events.specs.Events.Tiles.{is_data}
 use Rattle.md_events.proofs.FeedLines.{slice-split}
-use Rattle.proof_content_laws.proofs.Defined.Form.{IsBreak, IsFilled, IsRun, IsStrand, LastLine, NoLine, OneLine, Strand}
-use Rattle.proof_content_laws.proofs.Defined.Form.{strand_lines, strand_unread}
+use Rattle.proof_content_laws.proofs.Defined.Form.{IsBreak, IsFilled, IsRun, IsStrand, LastLine, NoLine, OneLine}
+use Rattle.proof_content_laws.proofs.Defined.Form.{Strand, strand_lines, strand_unread}
 use Rattle.proof_frame.proofs.FrontNames.{fronts-prefixes}
 use Rattle.proof_frame.proofs.ParagraphLines.{ends-before}
 use Rattle.proof_frame.proofs.PrefixNames.{ArePrefixes}
@@ -90,7 +90,7 @@ fronts-skipped bytes (e ∷ g ∷ front) f es h =
     skipped bytes e g (front ++ f ∷ es) names.0 names.1 ∙ fronts-skipped bytes (g ∷ front) f es h.1
 
 -- What is in a label's chunks, up to its end.
-pub record Told (bytes : List ℕ) (s : Strand) : Type 0 where
+pub record Recorded (bytes : List ℕ) (s : Strand) : Type 0 where
   pub text : List ℕ
   pub is : (q : Point) (more : List Event) →
       label_text bytes (strand_unread s ++ exit n.DefinitionLabelString q ∷ more) ≡ text
@@ -126,10 +126,10 @@ chunk-ended bytes b [] f es h = refl
 chunk-ended bytes b (e ∷ front) f es h = fronts-skipped bytes (e ∷ front) f es h
 
 -- a line before others
-line-told : (bytes : List ℕ) (p a e b r : Point) (text : List ℕ) (front : List Event) (s : Strand) → a ≡ p →
-    IsRun bytes text p e → IsBreak bytes e b r front → IsFilled s → Told bytes s →
-    Told bytes (OneLine a e b r text front s)
-line-told bytes p a e b r text front s first run break filled below = record {
+line-recorded : (bytes : List ℕ) (p a e b r : Point) (text : List ℕ) (front : List Event) (s : Strand) → a ≡ p →
+    IsRun bytes text p e → IsBreak bytes e b r front → IsFilled s → Recorded bytes s →
+    Recorded bytes (OneLine a e b r text front s)
+line-recorded bytes p a e b r text front s first run break filled below = record {
   text = text ++ ending_bytes ending ++ below.text;
   is = λ end more. let rest : List Event = exit n.DefinitionLabelString end ∷ more in
       let begin = begins-with s end more in
@@ -162,9 +162,9 @@ line-told bytes p a e b r text front s first run break filled below = record {
     lines (OneLine c d f g next prefix s) h =
         (run.no_ending, (ending, below.text, ends-before ending below.text (below.begins filled), refl, h))
 
-pub strand-told : (bytes : List ℕ) (p q : Point) (s : Strand) → IsStrand bytes p q s → Told bytes s
-strand-told bytes p q NoLine is = absurd is
-strand-told bytes p q (LastLine a b text) is = record {
+pub strand-recorded : (bytes : List ℕ) (p q : Point) (s : Strand) → IsStrand bytes p q s → Recorded bytes s
+strand-recorded bytes p q NoLine is = absurd is
+strand-recorded bytes p q (LastLine a b text) is = record {
   text = text;
   is = λ end more.
       ap (λ (l : List ℕ). l ++ label_text bytes (exit n.Data b ∷ exit n.DefinitionLabelString end ∷ more))
@@ -174,19 +174,19 @@ strand-told bytes p q (LastLine a b text) is = record {
   lines = (is.3.no_ending, refl);
   begins = λ filled. ap (begins_with 10) (sym (append-nil text)) ∙ some-begins text [] is.2 is.3.no_ending;
 }
-strand-told bytes p q (OneLine a e b r text front NoLine) is =
-    line-told bytes p a e b r text front NoLine is.0 is.1 is.2 tt (record {
+strand-recorded bytes p q (OneLine a e b r text front NoLine) is =
+    line-recorded bytes p a e b r text front NoLine is.0 is.1 is.2 tt (record {
       text = [];
       is = λ end more. label-ended bytes end more;
       lines = (tt, refl);
       begins = λ filled. refl;
     })
-strand-told bytes p q (OneLine a e b r text front (LastLine c d last)) is =
-    line-told bytes p a e b r text front (LastLine c d last) is.0 is.1 is.2 is.3
-    (strand-told bytes r q (LastLine c d last) is.4)
-strand-told bytes p q (OneLine a e b r text front (OneLine c d f g next prefix s)) is =
-    line-told bytes p a e b r text front (OneLine c d f g next prefix s) is.0 is.1 is.2 is.3
-    (strand-told bytes r q (OneLine c d f g next prefix s) is.4)
+strand-recorded bytes p q (OneLine a e b r text front (LastLine c d last)) is =
+    line-recorded bytes p a e b r text front (LastLine c d last) is.0 is.1 is.2 is.3
+    (strand-recorded bytes r q (LastLine c d last) is.4)
+strand-recorded bytes p q (OneLine a e b r text front (OneLine c d f g next prefix s)) is =
+    line-recorded bytes p a e b r text front (OneLine c d f g next prefix s) is.0 is.1 is.2 is.3
+    (strand-recorded bytes r q (OneLine c d f g next prefix s) is.4)
 
 -- The normal form of a label is that of its lines.
 pub label-normal : (bytes : List ℕ) (p q : Point) (s : Strand) → IsStrand bytes p q s → (end : Point)
@@ -194,7 +194,7 @@ pub label-normal : (bytes : List ℕ) (p q : Point) (s : Strand) → IsStrand by
     normal_form (split_lines (label_text bytes (strand_unread s ++ exit n.DefinitionLabelString end ∷ more))) ≡
     normal_form (trim_further (strand_lines s))
 label-normal bytes p q s is end more =
-    let told : Told bytes s = strand-told bytes p q s is in
-    ap (λ (l : List ℕ). normal_form (split_lines l)) (told.is end more)
-    ∙ ap normal_form (split-lines (strand_lines s) told.text told.lines)
+    let recorded : Recorded bytes s = strand-recorded bytes p q s is in
+    ap (λ (l : List ℕ). normal_form (split_lines l)) (recorded.is end more)
+    ∙ ap normal_form (split-lines (strand_lines s) recorded.text recorded.lines)
     ∙ sym (normal-trimmed (strand_lines s))

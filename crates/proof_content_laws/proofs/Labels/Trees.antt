@@ -26,8 +26,8 @@ labels_of definitions footnotes = record { definitions = definitions; footnotes 
 same-labels : (a b c d : List (List ℕ)) → a ≡ b → c ≡ d → labels_of a c ≡ labels_of b d
 same-labels a b c d e f = ap₂ labels_of e f
 
-none-behind : (a : Labels) → both a no_labels ≡ a
-none-behind a = same-labels _ _ _ _ (append-nil a.definitions) (append-nil a.footnotes)
+none-following : (a : Labels) → both a no_labels ≡ a
+none-following a = same-labels _ _ _ _ (append-nil a.definitions) (append-nil a.footnotes)
 
 three : (a b c : Labels) → both (both a b) c ≡ both a (both b c)
 three a b c =
@@ -36,7 +36,7 @@ three a b c =
 
 -- with one block more after them
 labels-then : (bs : Blocks) (b : Block) → labels (then_block bs b) ≡ both (labels bs) (block_labels b)
-labels-then End b = none-behind (block_labels b)
+labels-then End b = none-following (block_labels b)
 labels-then (More a bs) b =
     ap (both (block_labels a)) (labels-then bs b) ∙ sym (three (block_labels a) (labels bs) (block_labels b))
 
@@ -55,8 +55,8 @@ labels-item m item (More (ListOf k items) bs) = go (m == k)
         (cond x (More (ListOf k (More item items)) bs) (More (ListOf m (More item End)) (More (ListOf k items) bs))) ≡
         both (block_labels item) (labels (More (ListOf k items) bs))
     go true = three (block_labels item) (labels items) (labels bs)
-    go false = ap (λ (l : Labels). both l (labels (More (ListOf k items) bs))) (none-behind (block_labels item))
-labels-item m item bs = ap (λ (l : Labels). both l (labels bs)) (none-behind (block_labels item))
+    go false = ap (λ (l : Labels). both l (labels (More (ListOf k items) bs))) (none-following (block_labels item))
+labels-item m item bs = ap (λ (l : Labels). both l (labels bs)) (none-following (block_labels item))
 
 labels-front : (b : Block) (bs : Blocks) → labels (with_front b bs) ≡ both (block_labels b) (labels bs)
 labels-front (Item m d x) bs = labels-item m (Item m d x) bs

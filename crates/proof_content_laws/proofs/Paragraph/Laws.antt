@@ -18,7 +18,7 @@ use Rattle.proof_content_laws.specs.Defined.{then_front}
 use Rattle.proof_frame.specs.HeldLeaf.{IsNoneTextOr}
 use Rattle.proof_frame.proofs.EachEvent.{settled-each}
 use Rattle.proof_frame.proofs.OutsideFacts.{AreOutside, IsOutside}
-use Rattle.proof_content_laws.proofs.Paragraph.Stands.{text-stands}
+use Rattle.proof_content_laws.proofs.Paragraph.Valid.{text-valid}
 use Rattle.proof_frame.proofs.ShallowBlocks.{shallow-then}
 use Rattle.proof_frame.proofs.TextLaws.{TextLaws}
 
@@ -52,10 +52,10 @@ shallow-front options bs (OpenParagraph lines) h = shallow-definitions bs (cut o
 shallow-front options bs _ h = h
 
 -- and what remains.
-shallow-behind : (options : ParseOptions) (bs : Blocks) (lines : List (List ℕ)) → are_shallow bs ≡ true →
+shallow-following : (options : ParseOptions) (bs : Blocks) (lines : List (List ℕ)) → are_shallow bs ≡ true →
     are_shallow (shut_paragraph options bs lines) ≡ true
 unfolding shut_paragraph
-shallow-behind options bs lines h =
+shallow-following options bs lines h =
     let c = cut options lines in
     shallow-remaining (then_definitions bs c.0) c.1 (shallow-definitions bs c.0 h)
 
@@ -74,7 +74,7 @@ pub paragraph-laws : TextLaws paragraph_leaf
 paragraph-laws = record {
   cases = λ IsSpan P none text span leaf plain. open-cases IsSpan P none text span leaf plain;
   shut = λ options bs ks. refl;
-  shallow = λ options bs lines h. shallow-behind options bs lines h;
-  stands = λ bytes held p q inside between. text-stands bytes held paragraph_leaf.name p q inside refl between;
+  shallow = λ options bs lines h. shallow-following options bs lines h;
+  valid = λ bytes held p q inside between. text-valid bytes held paragraph_leaf.name p q inside refl between;
   outside = λ bytes options chunks. content-outside bytes options chunks;
 }

@@ -2,12 +2,12 @@
 use Rattle.std.proofs.Common.{◌<◌, ℕ, List, arith}
 use Rattle.md_engine.specs.declared.event.Name.TheVariants as n
 use Rattle.md_engine.specs.declared.event.Point.{Point}
-use Rattle.md_events.specs.Events.Grammar.{Expression, behind, unread_text}
+use Rattle.md_events.specs.Events.Grammar.{Expression, following, unread_text}
 use Rattle.md_events.proofs.FeedLines.{ending-some, IsEnding}
 
 -- what is left of a text after its first line
 abbrev pub unread_rest : Expression
-unread_rest = behind n.Data unread_text
+unread_rest = following n.Data unread_text
 
 -- an ending has a byte at least
 pub ending-grows : (bytes : List ℕ) (p q : Point) → IsEnding bytes p q → p.index < q.index

@@ -12,8 +12,8 @@ use Rattle.md_events.specs.Ahead.{begins_white, white_end}
 use Rattle.md_events.specs.Events.Places.{past_byte, past_text}
 use Rattle.md_events.proofs.AheadLemmas.{none-end}
 use Rattle.md_events.proofs.FeedLines.{Stops, columns_more, spread, tab_cells, tab_end, tab_end-stop}
-use Rattle.md_events.proofs.RestCells.{Cut, HasColumn, RestAt, bare-cells, column-first, past_cut, past_rest, rest_cells}
-use Rattle.md_events.proofs.RestCells.{without_first}
+use Rattle.md_events.proofs.RestCells.{Cut, HasColumn, RestAt, bare-cells, column-first, past_cut, past_rest}
+use Rattle.md_events.proofs.RestCells.{rest_cells, without_first}
 use Rattle.proof_frame.specs.RestLine.{rest_line}
 use Rattle.proof_frame.specs.LineColumns.{next_point, past_columns, rest_of}
 
@@ -23,8 +23,9 @@ abbrev pub rest : ℕ → ℕ → List ℕ → Rest
 rest column spaces bytes = record { column = column; spaces = spaces; bytes = bytes }
 
 -- a rest is that of its line, where it begins
-pub rest-again : (text behind : List ℕ) (r : Rest) (p : Point) → RestAt text behind r p → rest_of p (rest_line r) ≡ r
-rest-again text behind r p is = go r.column r.spaces r.bytes is.column is.cut
+pub rest-again : (text following : List ℕ) (r : Rest) (p : Point) → RestAt text following r p →
+    rest_of p (rest_line r) ≡ r
+rest-again text following r p is = go r.column r.spaces r.bytes is.column is.cut
   where
     go : (column spaces : ℕ) (bytes : List ℕ) → p.column ≡ column + 1 → Cut spaces p →
         rest_of p (cut_tab spaces ++ bytes) ≡ rest column spaces bytes
@@ -39,9 +40,9 @@ rest-again text behind r p is = go r.column r.spaces r.bytes is.column is.cut
         rw some (ap₂ (λ (c s : ℕ). rest c s bytes) same left)
 
 -- where it ends
-pub past-line : (text behind : List ℕ) (r : Rest) (p : Point) → RestAt text behind r p →
+pub past-line : (text following : List ℕ) (r : Rest) (p : Point) → RestAt text following r p →
     past_rest r p ≡ past_text (rest_line r) p
-past-line text behind r p is = go r.spaces is.cut
+past-line text following r p is = go r.spaces is.cut
   where
     one : 1 ≤ p.column
     one = omega (arith, is.column)
@@ -57,22 +58,23 @@ first_after p [] = p
 first_after p (c ∷ cs) = c.after
 
 -- a column of whitespace goes to the next point
-pub first-next : (said : Line) (text behind : List ℕ) (r : Rest) (p : Point) → RestAt text behind r p → 0 < indent r →
-    (first : HasColumn said text behind r p) → first.at ≡ next_point (without_first r) p
-first-next said text behind r p is lt first =
+pub first-next : (said : Line) (text following : List ℕ) (r : Rest) (p : Point) → RestAt text following r p →
+    0 < indent r →
+    (first : HasColumn said text following r p) → first.at ≡ next_point (without_first r) p
+first-next said text following r p is lt first =
     sym (ap (first_after p) first.cells) ∙ go r.column r.spaces r.bytes is lt
   where
     Next : Rest → Type 0
     Next s = first_after p (rest_cells said s p) ≡ next_point (without_first s) p
 
-    go : (column spaces : ℕ) (bytes : List ℕ) → RestAt text behind (rest column spaces bytes) p →
+    go : (column spaces : ℕ) (bytes : List ℕ) → RestAt text following (rest column spaces bytes) p →
         0 < indent (rest column spaces bytes) → Next (rest column spaces bytes)
     go column (suc zero) bytes h lt = refl
     go column (suc (suc k)) bytes h lt = let some : (suc k == 0) ≡ false = grind (arith, nat_tests) in rw some refl
     go column zero [] h lt = absurd (omega (arith, lt))
     go column zero (b ∷ bs) h lt = by (b == 9) refl (b == 32) refl h
       where
-        tab : (k : ℕ) → k ≡ columns_more p → RestAt text behind (rest column 0 (9 ∷ bs)) p →
+        tab : (k : ℕ) → k ≡ columns_more p → RestAt text following (rest column 0 (9 ∷ bs)) p →
             first_after p (tab_cells said k 9 p ++ spread said bs (past_byte 9 p)) ≡
             next_point (rest (column + 1) (tab_columns column - 1) bs) p
         tab zero e h =
@@ -82,26 +84,28 @@ first-next said text behind r p is lt first =
             let at = h.column in
             let some : (tab_columns column - 1 == 0) ≡ false = grind (arith, nat_tests) in rw some refl
 
-        space : RestAt text behind (rest column 0 (32 ∷ bs)) p → Next (rest column 0 (32 ∷ bs))
+        space : RestAt text following (rest column 0 (32 ∷ bs)) p → Next (rest column 0 (32 ∷ bs))
         space h =
             let at = h.column in
             ap (λ (c : ℕ). let x : Point = record { line = p.line; column = c; index = p.index + 1; vs = 0 } in x)
             (omega (arith, at))
 
         by : (t : Bool) → (b == 9) ≡ t → (s : Bool) → (b == 32) ≡ s →
-            RestAt text behind (rest column 0 (b ∷ bs)) p → Next (rest column 0 (b ∷ bs))
+            RestAt text following (rest column 0 (b ∷ bs)) p → Next (rest column 0 (b ∷ bs))
         by true e s f h =
-            let Has : ℕ → Type 0 = λ c. RestAt text behind (rest column 0 (c ∷ bs)) p → Next (rest column 0 (c ∷ bs)) in
+            let Has : ℕ → Type 0 = λ c. RestAt text following (rest column 0 (c ∷ bs)) p →
+            Next (rest column 0 (c ∷ bs)) in
             subst Has (sym (eqb-true b 9 e)) (tab (columns_more p) refl) h
         by false e true f h =
-            let Has : ℕ → Type 0 = λ c. RestAt text behind (rest column 0 (c ∷ bs)) p → Next (rest column 0 (c ∷ bs)) in
+            let Has : ℕ → Type 0 = λ c. RestAt text following (rest column 0 (c ∷ bs)) p →
+            Next (rest column 0 (c ∷ bs)) in
             subst Has (sym (eqb-true b 32 f)) space h
         by false e false f h = absurd (omega (arith, lt, rw (e, f) at lt))
 
 -- whether whitespace comes first
-pub first-white : (said : Line) (text behind : List ℕ) (r : Rest) (p : Point) (stop : List Cell) →
-    RestAt text behind r p → Stops stop → begins_white (rest_cells said r p ++ stop) ≡ nat_lt 0 (indent r)
-first-white said text behind r p stop is k = go (indent r) refl
+pub first-white : (said : Line) (text following : List ℕ) (r : Rest) (p : Point) (stop : List Cell) →
+    RestAt text following r p → Stops stop → begins_white (rest_cells said r p ++ stop) ≡ nat_lt 0 (indent r)
+first-white said text following r p stop is k = go (indent r) refl
   where
     go : (m : ℕ) → indent r ≡ m → begins_white (rest_cells said r p ++ stop) ≡ nat_lt 0 (indent r)
     go zero e =
@@ -109,26 +113,26 @@ first-white said text behind r p stop is k = go (indent r) refl
         bare-cells said r p stop e k ∙ sym none
     go (suc m) e =
         let some : nat_lt 0 (indent r) ≡ true = grind (arith, nat_tests) in
-        let first = column-first said text behind r p is (omega (arith, e)) in
+        let first = column-first said text following r p is (omega (arith, e)) in
         ap (λ (l : List Cell). begins_white (l ++ stop)) first.cells ∙ first.white ∙ sym some
 
 -- so many columns of whitespace end where their points do
-pub columns-end : (said : Line) (text behind : List ℕ) (room : ℕ) (r : Rest) (p : Point) (stop : List Cell) →
-    RestAt text behind r p → Stops stop →
+pub columns-end : (said : Line) (text following : List ℕ) (room : ℕ) (r : Rest) (p : Point) (stop : List Cell) →
+    RestAt text following r p → Stops stop →
     white_end room (rest_cells said r p ++ stop) p ≡ past_columns room r p
-columns-end said text behind zero r p stop is k = none (rest_cells said r p ++ stop)
+columns-end said text following zero r p stop is k = none (rest_cells said r p ++ stop)
   where
     none : (cells : List Cell) → white_end 0 cells p ≡ p
     none [] = refl
     none (c ∷ cs) = refl
-columns-end said text behind (suc room) r p stop is k =
-    go (indent r) refl (λ first. columns-end said text behind room (without_first r) first.at stop first.stands k)
+columns-end said text following (suc room) r p stop is k =
+    go (indent r) refl (λ first. columns-end said text following room (without_first r) first.at stop first.valid k)
   where
     cells : List Cell
     cells = rest_cells said r p ++ stop
 
     go : (m : ℕ) → indent r ≡ m →
-        ((first : HasColumn said text behind r p) →
+        ((first : HasColumn said text following r p) →
         white_end room (rest_cells said (without_first r) first.at ++ stop) first.at ≡
         past_columns room (without_first r) first.at) →
         white_end (suc room) cells p ≡ past_columns (suc room) r p
@@ -139,11 +143,11 @@ columns-end said text behind (suc room) r p stop is k =
         (ap (λ (x : Bool). cond x p (past_columns room (without_first r) (next_point (without_first r) p))) none)
     go (suc m) e more =
         let some : (indent r == 0) ≡ false = grind (arith, nat_tests) in
-        let first = column-first said text behind r p is (omega (arith, e)) in
+        let first = column-first said text following r p is (omega (arith, e)) in
         let left = rest_cells said (without_first r) first.at ++ stop in
         ap (λ (l : List Cell). white_end (suc room) (l ++ stop) p) first.cells
         ∙ ap (λ (t : Bool). cond t (white_end room left first.at) p) first.white
         ∙ more first
-        ∙ ap (past_columns room (without_first r)) (first-next said text behind r p is (omega (arith, e)) first)
+        ∙ ap (past_columns room (without_first r)) (first-next said text following r p is (omega (arith, e)) first)
         ∙ sym
         (ap (λ (x : Bool). cond x p (past_columns room (without_first r) (next_point (without_first r) p))) some)

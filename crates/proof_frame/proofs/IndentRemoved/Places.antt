@@ -20,7 +20,7 @@ use Rattle.proof_frame.specs.LineColumns.{next_point, past_columns}
 use Rattle.proof_frame.specs.LineLeaf.{LineLeaf}
 use Rattle.proof_frame.specs.Row.{Row}
 use Rattle.proof_frame.proofs.LeafFacts.{LineAt}
-use Rattle.proof_frame.proofs.LineTexts.{line-stands}
+use Rattle.proof_frame.proofs.LineTexts.{line-valid}
 use Rattle.proof_frame.proofs.IndentRemoved.Columns.{columns-end, first-white, past-line}
 use Rattle.proof_frame.proofs.SpanLaws.{IsLineOf}
 
@@ -40,7 +40,7 @@ pub further-rest : (bytes : List ℕ) (r : Rest) (p q : Point) → FurtherAt byt
 further-rest bytes r p q is = record {
   column = is.column;
   cut = is.at.cut;
-  text_is = line-stands bytes r (rest_line r) p q is.at;
+  text_is = line-valid bytes r (rest_line r) p q is.at;
 }
 
 pub further-no_ending : (bytes : List ℕ) (r : Rest) (p q : Point) → FurtherAt bytes r p q → NoEnding r.bytes
@@ -54,7 +54,7 @@ further-no_ending bytes r p q is = go r.spaces is.at.no_ending
 pub line-over : (bytes : List ℕ) (r : Rest) (p q : Point) → FurtherAt bytes r p q → length bytes ≤ p.index →
     rest_line r ≡ []
 line-over bytes r p q is over =
-    go (rest_line r) (sym (line-stands bytes r (rest_line r) p q is.at) ∙ drop_all p.index bytes over)
+    go (rest_line r) (sym (line-valid bytes r (rest_line r) p q is.at) ∙ drop_all p.index bytes over)
   where
     go : (line : List ℕ) → line ++ drop q.index bytes ≡ [] → line ≡ []
     go [] h = refl
@@ -65,7 +65,7 @@ pub record HasLeft (bytes : List ℕ) (room : ℕ) (r : Rest) (p q : Point) : Ty
   pub white : White bytes p (past_columns room r p)
   pub apart : (nat_lt 0 room && nat_lt 0 (indent r)) ≡ true → same_place p (past_columns room r p) ≡ false
   pub none : (nat_lt 0 room && nat_lt 0 (indent r)) ≡ false → past_columns room r p ≡ p
-  pub stands : RestAt bytes (drop q.index bytes) (lose room r) (past_columns room r p)
+  pub valid : RestAt bytes (drop q.index bytes) (lose room r) (past_columns room r p)
   pub ends : q ≡ past_text (rest_line (lose room r)) (past_columns room r p)
 
 -- where none is taken
@@ -85,21 +85,22 @@ unsaid = record { start = 0; lazy = false }
 pub has-left : (bytes : List ℕ) (room : ℕ) (r : Rest) (p q : Point) → FurtherAt bytes r p q →
     HasLeft bytes room r p q
 has-left bytes room r p q is =
-    let behind = drop q.index bytes in
-    let stands = further-rest bytes r p q is in
+    let following = drop q.index bytes in
+    let valid = further-rest bytes r p q is in
     let cells : List Cell = rest_cells unsaid r p ++ [] in
     let end : white_end room cells p ≡ past_columns room r p =
-    columns-end unsaid bytes behind room r p [] stands tt in
-    let lost : HasLost unsaid bytes behind room r p [] cells (past_columns room r p) =
-    subst (HasLost unsaid bytes behind room r p [] cells) end (lose-walk unsaid bytes behind room r p [] stands tt) in
+    columns-end unsaid bytes following room r p [] valid tt in
+    let lost : HasLost unsaid bytes following room r p [] cells (past_columns room r p) =
+    subst (HasLost unsaid bytes following room r p [] cells) end
+    (lose-walk unsaid bytes following room r p [] valid tt) in
     record {
       white = lost.white;
       apart = λ some.
           let both = and_parts (nat_lt 0 room) (nat_lt 0 (indent r)) some in
           let one : 1 ≤ room = let lt = both.0 in grind (arith, nat_tests) in
-          lost.apart one (first-white unsaid bytes behind r p [] stands tt ∙ both.1);
+          lost.apart one (first-white unsaid bytes following r p [] valid tt ∙ both.1);
       none = none-taken room r p;
-      stands = lost.stands;
-      ends = is.at.end ∙ sym (past-line bytes behind r p stands) ∙ sym lost.ends
-          ∙ past-line bytes behind (lose room r) (past_columns room r p) lost.stands;
+      valid = lost.valid;
+      ends = is.at.end ∙ sym (past-line bytes following r p valid) ∙ sym lost.ends
+          ∙ past-line bytes following (lose room r) (past_columns room r p) lost.valid;
     }

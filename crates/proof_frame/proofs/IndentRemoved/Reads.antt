@@ -32,9 +32,9 @@ columns-quiet room r p = go (nat_lt 0 room && nat_lt 0 (indent r))
     go false = tt
 
 -- a text of an open leaf
-pub leaf-told : (rd : Reading) (f : OpenLeaf → OpenLeaf) (leaf : OpenLeaf) → rd.text ≡ None → rd.leaf ≡ Some leaf →
+pub leaf-recorded : (rd : Reading) (f : OpenLeaf → OpenLeaf) (leaf : OpenLeaf) → rd.text ≡ None → rd.leaf ≡ Some leaf →
     on_leaf f (record rd { text = None }) ≡ record rd { leaf = Some (f leaf) }
-leaf-told rd f leaf none is =
+leaf-recorded rd f leaf none is =
     ap₂
     (λ (t : Option Text) (l : Option OpenLeaf).
     let x : Reading = record rd { text = t; leaf = option_map f l } in x)

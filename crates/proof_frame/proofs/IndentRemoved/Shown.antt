@@ -10,7 +10,7 @@ use Rattle.md_engine.specs.declared.event.Name.{Name}
 use Rattle.md_engine.specs.declared.event.Name.TheVariants as n
 use Rattle.md_engine.specs.declared.event.Point.{Point}
 use Rattle.md_meaning.specs.Rest.{Rest, cut_tab, indent, lose}
-use Rattle.md_outline.specs.Roles.{is_told}
+use Rattle.md_outline.specs.Roles.{is_recorded}
 use Rattle.md_events.specs.Events.Nested.{pair}
 use Rattle.md_events.specs.Events.Spelled.{role}
 use Rattle.md_events.proofs.PlacesLemmas.{at-next}
@@ -63,15 +63,15 @@ whole-clear bytes p e = low-clear bytes p (λ some. absurd (none some))
     none some = grind (arith, nat_tests, e)
 
 -- after whitespace: a tab is cut, if any byte is
-pub left-clear : (bytes behind : List ℕ) (r : Rest) (p : Point) → RestAt bytes behind r p → clear bytes p ≡ true
-left-clear bytes behind r p is = go r.spaces is.cut is.text_is
+pub left-clear : (bytes following : List ℕ) (r : Rest) (p : Point) → RestAt bytes following r p → clear bytes p ≡ true
+left-clear bytes following r p is = go r.spaces is.cut is.text_is
   where
-    go : (spaces : ℕ) → Cut spaces p → drop p.index bytes ≡ (cut_tab spaces ++ r.bytes ++ behind) →
+    go : (spaces : ℕ) → Cut spaces p → drop p.index bytes ≡ (cut_tab spaces ++ r.bytes ++ following) →
         clear bytes p ≡ true
     go zero cut text = whole-clear bytes p cut
     go (suc k) cut text =
         low-clear bytes p
-        (λ some. subst (λ (b : ℕ). is_low b ≡ true) (sym (at-next p.index bytes 9 (r.bytes ++ behind) text)) refl)
+        (λ some. subst (λ (b : ℕ). is_low b ≡ true) (sym (at-next p.index bytes 9 (r.bytes ++ following) text)) refl)
 
 pub points-clear : (bytes : List ℕ) (es : List Event) → OfPoints (λ x. clear bytes x ≡ true) es →
     list_all (is_clear bytes) es ≡ true
@@ -79,4 +79,4 @@ points-clear bytes es h = each-all (is_clear bytes) es (points es h)
   where
     points : (es : List Event) → OfPoints (λ x. clear bytes x ≡ true) es → Each (λ e. is_clear bytes e ≡ true) es
     points [] h = tt
-    points (e ∷ es) h = (or_right (not (is_told (role e.name))) (clear bytes e.point) h.0, points es h.1)
+    points (e ∷ es) h = (or_right (not (is_recorded (role e.name))) (clear bytes e.point) h.0, points es h.1)

@@ -5,7 +5,7 @@ use Rattle.std.proofs.Common.{append-nil}
 use Rattle.md_engine.specs.declared.event.Event.{Event}
 use Rattle.md_engine.specs.declared.event.Name.TheVariants as n
 use Rattle.proof_frame.specs.Row.{Row, any_framed, but_end, but_ends, end_by, end_of, ending_events, inside_leaf}
-use Rattle.proof_frame.specs.Row.{is_framed, last_row, span_behind, span_by, span_rest}
+use Rattle.proof_frame.specs.Row.{is_framed, last_row, span_after, span_by, span_rest}
 use Rattle.proof_frame.proofs.LeafLines.Cuts.{but_ends-is}
 use Rattle.proof_frame.proofs.LeafLines.Framed.{framed_by, framed_rest}
 
@@ -85,7 +85,7 @@ rest-split : (begin end : Row → Event) (f : Row → List Event) (ended : List 
     span_rest f ended row rows ≡
     (framed_rest (paired begin end f) row (inner f rows)
     ++ (cond (any_framed f rows) (end_of (f (last_row row (inner f rows)))) ended
-    ++ span_behind f (last_row row (inner f rows)) (outer f rows)))
+    ++ span_after f (last_row row (inner f rows)) (outer f rows)))
 rest-split begin end f ended row [] = sym (append-nil ended)
 rest-split begin end f ended row (next ∷ rows) =
     go (any_framed f (next ∷ rows)) refl (rest-split begin end f (end_by ended (f next)) next rows)
@@ -96,8 +96,8 @@ rest-split begin end f ended row (next ∷ rows) =
     last : Row
     last = last_row next (inner f rows)
 
-    behind : List Event
-    behind = span_behind f (last_row next (inner f rows)) (outer f rows)
+    following : List Event
+    following = span_after f (last_row next (inner f rows)) (outer f rows)
 
     inside : List Event
     inside = framed_rest (paired begin end f) next (inner f rows)
@@ -115,19 +115,19 @@ rest-split begin end f ended row (next ∷ rows) =
 
     go : (x : Bool) → any_framed f (next ∷ rows) ≡ x →
         span_rest f (end_by ended (f next)) next rows ≡
-        (inside ++ (cond (any_framed f rows) (end_of (f last)) (end_by ended (f next)) ++ behind)) →
+        (inside ++ (cond (any_framed f rows) (end_of (f last)) (end_by ended (f next)) ++ following)) →
         cond x (front ++ inside_leaf (f next) ++ span_rest f (end_by ended (f next)) next rows)
-        (ended ++ span_behind f row (next ∷ rows)) ≡
+        (ended ++ span_after f row (next ∷ rows)) ≡
         (framed_rest (paired begin end f) row (cond x (next ∷ inner f rows) [])
         ++ (cond x (end_of (f (last_row row (cond x (next ∷ inner f rows) [])))) ended
-        ++ span_behind f (last_row row (cond x (next ∷ inner f rows) [])) (cond x (outer f rows) (next ∷ rows))))
+        ++ span_after f (last_row row (cond x (next ∷ inner f rows) [])) (cond x (outer f rows) (next ∷ rows))))
     go false e h = refl
     go true e h =
         ap (λ (l : List Event). front ++ inside_leaf (f next) ++ l) h
-        ∙ ap (λ (l : List Event). front ++ l ++ (inside ++ (ends ++ behind))) (paired-inside begin end f next)
-        ∙ ap (λ (l : List Event). front ++ but_ends (paired begin end f next) ++ (inside ++ (l ++ behind)))
+        ∙ ap (λ (l : List Event). front ++ l ++ (inside ++ (ends ++ following))) (paired-inside begin end f next)
+        ∙ ap (λ (l : List Event). front ++ but_ends (paired begin end f next) ++ (inside ++ (l ++ following)))
         (end-last f next rows (end_by ended (f next)) (here e))
-        ∙ sym (append_assoc (front ++ but_ends (paired begin end f next)) inside (end_of (f last) ++ behind))
+        ∙ sym (append_assoc (front ++ but_ends (paired begin end f next)) inside (end_of (f last) ++ following))
       where
         ends : List Event
         ends = cond (any_framed f rows) (end_of (f last)) (end_by ended (f next))
@@ -136,24 +136,24 @@ rest-split begin end f ended row (next ∷ rows) =
 pub span-split : (begin end : Row → Event) (f : Row → List Event) (row : Row) (rows : List Row) →
     is_framed (f row) ≡ true →
     span_by f row rows ≡
-    (framed_by (paired begin end f) row (inner f rows) ++ span_behind f (last_row row (inner f rows)) (outer f rows))
+    (framed_by (paired begin end f) row (inner f rows) ++ span_after f (last_row row (inner f rows)) (outer f rows))
 span-split begin end f row rows h =
     ap (λ (l : List Event). but_end (f row) ++ l) (rest-split begin end f (end_of (f row)) row rows)
-    ∙ ap (λ (l : List Event). but_end (f row) ++ (inside ++ (l ++ behind)))
+    ∙ ap (λ (l : List Event). but_end (f row) ++ (inside ++ (l ++ following)))
     (end-last f row rows (end_of (f row)) (λ none. refl))
-    ∙ ap (λ (l : List Event). but_end l ++ (inside ++ (end_of (f last) ++ behind)))
+    ∙ ap (λ (l : List Event). but_end l ++ (inside ++ (end_of (f last) ++ following)))
     (sym (paired-is begin end f row h))
-    ∙ ap (λ (l : List Event). but_end (paired begin end f row) ++ (inside ++ (end_of l ++ behind)))
+    ∙ ap (λ (l : List Event). but_end (paired begin end f row) ++ (inside ++ (end_of l ++ following)))
     (sym (paired-is begin end f last (inner-framed f row rows (rw h refl))))
-    ∙ sym (append_assoc (but_end (paired begin end f row)) inside (end_of (paired begin end f last) ++ behind))
+    ∙ sym (append_assoc (but_end (paired begin end f row)) inside (end_of (paired begin end f last) ++ following))
     ∙ sym
-    (append_assoc (but_end (paired begin end f row) ++ inside) (end_of (paired begin end f last)) behind)
+    (append_assoc (but_end (paired begin end f row) ++ inside) (end_of (paired begin end f last)) following)
   where
     last : Row
     last = last_row row (inner f rows)
 
-    behind : List Event
-    behind = span_behind f (last_row row (inner f rows)) (outer f rows)
+    following : List Event
+    following = span_after f (last_row row (inner f rows)) (outer f rows)
 
     inside : List Event
     inside = framed_rest (paired begin end f) row (inner f rows)

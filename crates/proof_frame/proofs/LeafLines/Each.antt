@@ -12,7 +12,7 @@ use Rattle.md_events.specs.Events.Nested.{pair}
 use Rattle.md_events.specs.Events.Spelled.{without_last}
 use Rattle.proof_frame.specs.EndingName.{ending_name}
 use Rattle.proof_frame.specs.Row.{Row, any_framed, but_end, but_ends, end_by, end_of, ending_events, ending_of}
-use Rattle.proof_frame.specs.Row.{inside_leaf, is_blank_by, is_framed, span_behind, span_by, span_rest}
+use Rattle.proof_frame.specs.Row.{inside_leaf, is_blank_by, is_framed, span_after, span_by, span_rest}
 use Rattle.proof_frame.proofs.EachEvent.{Each, each-drop}
 use Rattle.proof_frame.proofs.SpanLemmas.{either}
 
@@ -74,17 +74,17 @@ ending-each P L of row = go (is_blank_by row.kind row)
 abbrev its_events : Row → List Event
 its_events row = row.inside
 
-behind-each : (P : Event → Type 0) (L : List Event → Type 0) → OfGaps P L → (row : Row) (rows : List Row) →
-    AreEach P rows → L (span_behind its_events row rows)
-behind-each P L of row [] h = of.all [] tt
-behind-each P L of row (next ∷ rows) h =
+following-each : (P : Event → Type 0) (L : List Event → Type 0) → OfGaps P L → (row : Row) (rows : List Row) →
+    AreEach P rows → L (span_after its_events row rows)
+following-each P L of row [] h = of.all [] tt
+following-each P L of row (next ∷ rows) h =
     let ending : List Event = ending_events (ending_of row.kind row) row in
     let white : List Event = map (renamed Outside) next.inside in
-    of.append (ending ++ next.front ++ white) (span_behind its_events next rows)
+    of.append (ending ++ next.front ++ white) (span_after its_events next rows)
     (of.append (ending ++ next.front) white
     (of.append ending next.front (ending-each P L of row) (of.all next.front h.0))
     (of.all white (white-each P L of next.inside h.1)))
-    (behind-each P L of next rows h.2)
+    (following-each P L of next rows h.2)
 
 rest-each : (P : Event → Type 0) (L : List Event → Type 0) → OfGaps P L → (end : List Event) (row : Row)
     (rows : List Row) → Each P end → AreEach P rows → L (span_rest its_events end row rows)
@@ -95,15 +95,15 @@ rest-each P L of end row (next ∷ rows) k h =
     let last : List Event = end_by end next.inside in
     let more : List Event = span_rest its_events last next rows in
     either L (any_framed its_events (next ∷ rows)) (ending ++ next.front ++ inside ++ more)
-    (end ++ span_behind its_events row (next ∷ rows))
+    (end ++ span_after its_events row (next ∷ rows))
     (of.append (ending ++ next.front ++ inside) more
     (of.append (ending ++ next.front) inside
     (of.append ending next.front (pair-each P L of n.LineEnding row of.ending) (of.all next.front h.0))
     (of.all inside (inside-each P next.inside h.1)))
     (rest-each P L of last next rows
     (either (Each P) (is_framed next.inside) (end_of next.inside) end (end-each P next.inside h.1) k) h.2))
-    (of.append end (span_behind its_events row (next ∷ rows)) (of.all end k)
-    (behind-each P L of row (next ∷ rows) h))
+    (of.append end (span_after its_events row (next ∷ rows)) (of.all end k)
+    (following-each P L of row (next ∷ rows) h))
 
 pub span-each : (P : Event → Type 0) (L : List Event → Type 0) → OfGaps P L → (row : Row) (rows : List Row) →
     Each P row.inside → AreEach P rows → L (span_by its_events row rows)

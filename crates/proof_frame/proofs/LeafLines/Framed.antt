@@ -11,7 +11,7 @@ use Rattle.md_leaves.proofs.SpannedLines.{NoLines}
 use Rattle.md_events.specs.Events.Nested.{exit}
 use Rattle.md_events.specs.Events.Spelled.{role}
 use Rattle.proof_frame.specs.Row.{Row, any_framed, but_end, but_ends, end_of, ending_events, is_framed, last_row}
-use Rattle.proof_frame.specs.Row.{end_by, inside_leaf, span_behind, span_by, span_rest}
+use Rattle.proof_frame.specs.Row.{end_by, inside_leaf, span_after, span_by, span_rest}
 use Rattle.proof_frame.proofs.SpanLaws.{IsSpanned}
 
 -- after the first of them, before the end of the last
@@ -71,7 +71,7 @@ rest-framed f end row next rows is =
     cond (x || any_framed f rows)
     (ending_events n.LineEnding row ++ next.front ++ cond x (but_ends (f next)) (f next)
     ++ span_rest f (cond x (end_of (f next)) end) next rows)
-    (end ++ span_behind f row (next ∷ rows))) is
+    (end ++ span_after f row (next ∷ rows))) is
 
 -- a bare one, before one that has them,
 pub rest-bare : (f : Row → List Event) (end : List Event) (row next : Row) (rows : List Row) →
@@ -84,19 +84,19 @@ rest-bare f end row next rows bare more =
     cond (x || y)
     (ending_events n.LineEnding row ++ next.front ++ cond x (but_ends (f next)) (f next)
     ++ span_rest f (cond x (end_of (f next)) end) next rows)
-    (end ++ span_behind f row (next ∷ rows))) bare more
+    (end ++ span_after f row (next ∷ rows))) bare more
 
 -- or bare ones alone
-pub rest-behind : (f : Row → List Event) (end : List Event) (row : Row) (rows : List Row) →
-    any_framed f rows ≡ false → span_rest f end row rows ≡ end ++ span_behind f row rows
-rest-behind f end row [] none = sym (append-nil end)
-rest-behind f end row (next ∷ rows) none =
+pub rest-following : (f : Row → List Event) (end : List Event) (row : Row) (rows : List Row) →
+    any_framed f rows ≡ false → span_rest f end row rows ≡ end ++ span_after f row rows
+rest-following f end row [] none = sym (append-nil end)
+rest-following f end row (next ∷ rows) none =
     ap
     (λ (x : Bool).
     cond x
     (ending_events n.LineEnding row ++ next.front ++ inside_leaf (f next)
     ++ span_rest f (end_by end (f next)) next rows)
-    (end ++ span_behind f row (next ∷ rows))) none
+    (end ++ span_after f row (next ∷ rows))) none
 
 -- Where all have them, the lines are joined by these alone.
 all-framed : (f : Row → List Event) (row : Row) (rows : List Row) → AreFramed f rows →

@@ -6,20 +6,21 @@ use Rattle.std.proofs.Common.{◌≡◌, ℕ, true, List, [], ◌++◌, refl}
 use Rattle.md_engine.specs.declared.event.Event.{Event}
 use Rattle.md_engine.specs.declared.event.Name.TheVariants as n
 use Rattle.md_engine.specs.declared.event.Point.{Point}
-use Rattle.md_events.specs.Events.Grammar.{Expression, behind}
+use Rattle.md_events.specs.Events.Grammar.{Expression, following}
 use Rattle.md_events.specs.Events.Nested.{pair}
 use Rattle.md_events.specs.Events.Spelled.{OpenLeaf}
 use Rattle.md_events.proofs.FeedLines.{IsEnding}
 use Rattle.md_events.proofs.SpelledLemmas.{QuietOrPrefix}
 use Rattle.md_outline.specs.Between.{is_between}
-use Rattle.md_outline.specs.LinesStand.{Site}
+use Rattle.md_outline.specs.LinesAllowed.{Site}
 use Rattle.md_outline.proofs.LinesPass.{IsOnLine, ended_site, passes-ending, passes-prefixes}
 use Rattle.proof_frame.proofs.ContainerNames.{TakesPrefixes}
 use Rattle.proof_frame.proofs.FrontFacts.{LinePrefix}
 use Rattle.proof_frame.proofs.FrontNames.{fronts-prefixes}
-use Rattle.proof_frame.proofs.FrontStands.{plain-front}
+use Rattle.proof_frame.proofs.FrontValid.{plain-front}
 use Rattle.proof_frame.proofs.PartedFacts.{clear}
-use Rattle.proof_frame.proofs.PartsFacts.{PartsFacts, behind_ending, parts-append, parts-ended, parts-front, parts-none}
+use Rattle.proof_frame.proofs.PartsFacts.{PartsFacts, following_ending, parts-append, parts-ended, parts-front}
+use Rattle.proof_frame.proofs.PartsFacts.{parts-none}
 use Rattle.proof_frame.proofs.PlainFacts.{ArePlainFrom, plain-none, plain-through, plain-untold}
 use Rattle.proof_frame.proofs.PrefixNames.{prefixes-roles}
 
@@ -56,7 +57,8 @@ inside-none bytes p x leaf site =
 -- an ending between two lines
 pub ending-inside : (bytes : List ℕ) (p q : Point) (x : Expression) (leaf : OpenLeaf) (site : Site) → p.vs ≡ 0 →
     IsEnding bytes p q → IsOnLine site →
-    InsideFacts bytes p q x (behind n.LineEnding x) leaf (behind_ending bytes q leaf) site (ended_site bytes q site)
+    InsideFacts bytes p q x (following n.LineEnding x) leaf (following_ending bytes q leaf) site
+    (ended_site bytes q site)
     (pair n.LineEnding p q) (pair n.LineEnding p q)
 ending-inside bytes p q x leaf site whole is on = record {
   parts = parts-ended bytes p q x leaf whole is;

@@ -6,7 +6,7 @@ use Rattle.md_engine.specs.declared.event.Name.TheVariants as n
 use Rattle.md_engine.specs.declared.event.Point.{Point}
 use Rattle.md_events.specs.Events.Grammar.{Expression, blocks}
 use Rattle.md_events.specs.Events.Nested.{pair}
-use Rattle.md_events.specs.Events.Pieces.{piece_stands}
+use Rattle.md_events.specs.Events.Pieces.{is_valid_piece}
 use Rattle.md_events.specs.Events.Places.{at_or_before}
 use Rattle.md_events.proofs.EndingsLemmas.{AreOthers}
 use Rattle.md_events.proofs.GrammarLemmas as grammar
@@ -24,7 +24,7 @@ pub record LeadFacts (bytes : List ℕ) (p q : Point) (lead : List Event) : Type
   -- no ending is in it, and no begin or end of a leaf
   pub others : AreOthers lead
   -- it ends between characters, and where no tab of one is cut, if it begins so
-  pub behind : is_between bytes p.index ≡ true → is_between bytes q.index ≡ true
+  pub following : is_between bytes p.index ≡ true → is_between bytes q.index ≡ true
   pub clear : clear bytes p ≡ true → clear bytes q ≡ true
 
 -- none
@@ -33,21 +33,21 @@ lead-none bytes p = record {
   stretch = stretch-none Quiet bytes p;
   word = λ text outer. refl;
   others = refl;
-  behind = λ first. first;
+  following = λ first. first;
   clear = λ first. first;
 }
 
 -- spaces and tabs
 pub lead-white : (bytes : List ℕ) (p q : Point) → IsTrue (at_or_before p q) →
-    piece_stands bytes (span n.SpaceOrTab p q) ≡ true →
+    is_valid_piece bytes (span n.SpaceOrTab p q) ≡ true →
     (is_between bytes p.index ≡ true → is_between bytes q.index ≡ true) →
     (clear bytes p ≡ true → clear bytes q ≡ true) → LeadFacts bytes p q (pair n.SpaceOrTab p q)
-lead-white bytes p q order stands behind whole = record {
+lead-white bytes p q order valid following whole = record {
   stretch =
       stretch-pair Quiet bytes n.SpaceOrTab p q
-      (white-piece Quiet bytes tt) order stands;
+      (white-piece Quiet bytes tt) order valid;
   word = λ text outer. refl;
   others = refl;
-  behind = behind;
+  following = following;
   clear = whole;
 }

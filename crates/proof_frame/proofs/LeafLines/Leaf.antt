@@ -6,30 +6,30 @@ use Rattle.md_engine.specs.declared.event.Event.{Event}
 use Rattle.md_engine.specs.declared.event.Kind.TheVariants.{Enter, Exit}
 use Rattle.md_engine.specs.declared.event.Name.{Name}
 use Rattle.md_engine.specs.declared.event.Point.{Point}
-use Rattle.md_containers.specs.ItemsStand.{IsPart}
-use Rattle.md_containers.proofs.UnlistedLemmas.{among, stands-append as places-append}
+use Rattle.md_containers.specs.ItemsAllowed.{IsPart}
+use Rattle.md_containers.proofs.UnlistedLemmas.{among, valid-append as places-append}
 use Rattle.md_meaning.specs.Tree.{Block}
-use Rattle.md_events.specs.Events.Endings.{IsLeaf, OnLine, EndingPlace, endings_stand_from, ends_rightly, line_start}
-use Rattle.md_events.specs.Events.Endings.{on_line, spot_behind}
-use Rattle.md_events.specs.Events.Grammar.{Expression, behind, behind_block, blocks, inside, may_end, plain_text}
+use Rattle.md_events.specs.Events.Endings.{IsLeaf, OnLine, EndingPlace, endings_are_right_from, ends_as_begun}
+use Rattle.md_events.specs.Events.Endings.{line_start, on_line, spot_after}
+use Rattle.md_events.specs.Events.Grammar.{Expression, following, after_block, blocks, inside, may_end, plain_text}
 use Rattle.md_events.specs.Events.Grammar.{unread_text}
 use Rattle.md_events.specs.Events.Nested.{around, exit}
-use Rattle.md_events.specs.Events.Spelled.{LeafKind, OpenLeaf, LeafRole, Reading, Role, add_block, block_of, fresh, read}
-use Rattle.md_events.specs.Events.Spelled.{read_enter, read_exit, role}
+use Rattle.md_events.specs.Events.Spelled.{LeafKind, OpenLeaf, LeafRole, Reading, Role, add_block, block_of, fresh}
+use Rattle.md_events.specs.Events.Spelled.{read, read_enter, read_exit, role}
 use Rattle.md_events.specs.Events.Tiles.{part_kind}
 use Rattle.md_events.proofs.EndingsLemmas as ending
 use Rattle.md_events.proofs.EndingsLemmas.{in_leaf, others-lead}
 use Rattle.md_events.proofs.GrammarLemmas as grammar
 use Rattle.md_events.proofs.GrammarLemmas.{IsWord, leads-around}
 use Rattle.md_events.proofs.SpelledLemmas.{read-from, read-quiet}
-use Rattle.md_outline.specs.LinesStand.{HasLines, Site, begun_site}
-use Rattle.md_outline.specs.Roles.{is_told, is_unlisted}
+use Rattle.md_outline.specs.LinesAllowed.{HasLines, Site, begun_site}
+use Rattle.md_outline.specs.Roles.{is_recorded, is_unlisted}
 use Rattle.md_outline.proofs.LinesPass.{MayLeave, passes-leaf}
 use Rattle.proof_frame.proofs.EventNames.{NoContainer, lined-known, part-no_container}
-use Rattle.proof_frame.proofs.GrammarFronts.{blocks_behind}
+use Rattle.proof_frame.proofs.GrammarFronts.{blocks_after}
 use Rattle.proof_frame.proofs.LeafFacts as leaf
 use Rattle.proof_frame.proofs.LeafFacts.{LeafFacts}
-use Rattle.proof_frame.proofs.LeafStands.{between-stand, leaf-stands, quiet-part, quiets-between}
+use Rattle.proof_frame.proofs.LeafAllowed.{between-are_valid, leaf-valid, quiet-part, quiets-between}
 use Rattle.proof_frame.proofs.PartedFacts.{Still, clear}
 use Rattle.proof_frame.proofs.PieceFacts.{Starts}
 use Rattle.proof_frame.proofs.PlainFacts.{ArePlain, ArePlainFrom, known-around, plain-append, plain-quiet}
@@ -43,7 +43,7 @@ pub record IsLeafBlock (name : Name) (kind : LeafKind) : Type 0 where
   pub leaf : on_line name ≡ IsLeaf
   pub no_part : part_kind name ≡ None
   -- it is a block, of no text part
-  pub block : behind name blocks ≡ behind_block
+  pub block : following name blocks ≡ after_block
 
 -- and what it holds, whether text parts are read or not
 pub record IsLeafName (name : Name) (kind : LeafKind) : Type 0 where
@@ -54,27 +54,27 @@ pub record IsLeafName (name : Name) (kind : LeafKind) : Type 0 where
 -- where its line ends, by whether anything is on the last line of the leaf
 around-leads : (name : Name) (p q : Point) (es : List Event) (filled : Bool) → on_line name ≡ IsLeaf →
     ending.Leads (in_leaf true) (in_leaf filled) es →
-    ending.Leads line_start (leaf.spot_behind filled) (around name p q es)
+    ending.Leads line_start (leaf.spot_after filled) (around name p q es)
 around-leads name p q es filled named leads = λ ys.
     ap
     (λ (x : OnLine).
-    ends_rightly Enter x line_start
-    && endings_stand_from (spot_behind Enter x line_start) ((es ++ exit name q ∷ []) ++ ys)) named
-    ∙ ap (endings_stand_from (in_leaf true)) (append_assoc es (exit name q ∷ []) ys)
+    ends_as_begun Enter x line_start
+    && endings_are_right_from (spot_after Enter x line_start) ((es ++ exit name q ∷ []) ++ ys)) named
+    ∙ ap (endings_are_right_from (in_leaf true)) (append_assoc es (exit name q ∷ []) ys)
     ∙ leads (exit name q ∷ ys)
     ∙ ap
     (λ (x : OnLine).
-    ends_rightly Exit x (in_leaf filled) && endings_stand_from (spot_behind Exit x (in_leaf filled)) ys) named
-    ∙ ap (λ (s : EndingPlace). endings_stand_from s ys) (left_leaf filled)
+    ends_as_begun Exit x (in_leaf filled) && endings_are_right_from (spot_after Exit x (in_leaf filled)) ys) named
+    ∙ ap (λ (s : EndingPlace). endings_are_right_from s ys) (left_leaf filled)
   where
-    left_leaf : (x : Bool) → spot_behind Exit IsLeaf (in_leaf x) ≡ leaf.spot_behind x
+    left_leaf : (x : Bool) → spot_after Exit IsLeaf (in_leaf x) ≡ leaf.spot_after x
     left_leaf true = refl
     left_leaf false = refl
 
 -- in the grammar
-around-word : (text : Expression) (name : Name) (p q : Point) (es : List Event) → behind name blocks ≡ behind_block →
+around-word : (text : Expression) (name : Name) (p q : Point) (es : List Event) → following name blocks ≡ after_block →
     IsWord text (inside text name ∷ []) es →
-    grammar.Leads text (blocks ∷ []) (behind_block ∷ []) (around name p q es)
+    grammar.Leads text (blocks ∷ []) (after_block ∷ []) (around name p q es)
 around-word text name p q es block word =
     subst (λ (x : Expression). grammar.Leads text (blocks ∷ []) (x ∷ []) (around name p q es)) block
     (leads-around text blocks name p q es word)
@@ -101,8 +101,8 @@ around-plain bytes name kind p q end es is lined leave h = record {
   lines = passes-leaf bytes name kind p q end es is lined leave h.lines;
 }
   where
-    untold : (x : Point) → (not (is_told (role name)) || clear bytes x) ≡ true
-    untold x = ap (λ (y : Role). not (is_told y) || clear bytes x) is
+    untold : (x : Point) → (not (is_recorded (role name)) || clear bytes x) ≡ true
+    untold x = ap (λ (y : Role). not (is_recorded y) || clear bytes x) is
 
 -- What is inside of a leaf with this name, which shows this block: whether anything is on its last line, and what is
 -- asked of all of it together.
@@ -127,7 +127,7 @@ pub leaf-around : {bytes : List ℕ} {block : Block} {full : Bool} {p q : Point}
     IsLeafBlock name kind → LeafInside bytes name block full p q us es →
     LeafFacts bytes (Some block) full p q (around name p q us) (around name p q es)
 leaf-around {bytes = bytes} {full = full} {p = p} {q = q} {us = us} {es = es} name kind named h = record {
-  stand = record {
+  are_valid = record {
     stretch =
         stretch-around name
         (record {
@@ -135,42 +135,43 @@ leaf-around {bytes = bytes} {full = full} {p = p} {q = q} {us = us} {es = es} na
           no_part = named.no_part;
           still = subst (λ (x : Role). Still x) (sym named.is) tt;
         }) h.unread_starts h.starts (stretch-as part-no_container h.stretch);
-    behind = true;
+    following = true;
     unread_word = around-word unread_text name p q us named.block h.unread_word;
     word = around-word plain_text name p q es named.block h.word;
     unread_ending = around-leads name p q us full named.leaf h.unread_ending;
     ending = around-leads name p q es full named.leaf h.ending;
-    stands = λ held. leaf-stands bytes held name kind p q es named.is h.stretch.roles;
+    valid = λ held. leaf-valid bytes held name kind p q es named.is h.stretch.roles;
     plain = h.plain;
   };
   reads = h.reads;
 }
 
 -- The same after whitespace.
-pub facts-behind_lead : {bytes : List ℕ} {block : Option Block} {full : Bool} {p a q : Point}
+pub facts-after_lead : {bytes : List ℕ} {block : Option Block} {full : Bool} {p a q : Point}
     {lead us es : List Event} →
     LeadFacts bytes p a lead → LeafFacts bytes block full a q us es →
     LeafFacts bytes block full p q (lead ++ us) (lead ++ es)
-facts-behind_lead {bytes = bytes} {full = full} {lead = lead} {us = us} {es = es} front h = record {
-  stand = record {
+facts-after_lead {bytes = bytes} {full = full} {lead = lead} {us = us} {es = es} front h = record {
+  are_valid = record {
     stretch =
-        stretch-append (stretch-as (λ x quiet. part-no_container x (quiet-part x quiet)) front.stretch) h.stand.stretch
-        (λ first last. front.behind first);
-    behind = h.stand.behind;
+        stretch-append (stretch-as (λ x quiet. part-no_container x (quiet-part x quiet)) front.stretch)
+        h.are_valid.stretch
+        (λ first last. front.following first);
+    following = h.are_valid.following;
     unread_word =
-        grammar.leads-append unread_text (blocks ∷ []) (blocks ∷ []) (blocks_behind h.stand.behind ∷ []) lead us
-        (front.word unread_text) h.stand.unread_word;
+        grammar.leads-append unread_text (blocks ∷ []) (blocks ∷ []) (blocks_after h.are_valid.following ∷ []) lead us
+        (front.word unread_text) h.are_valid.unread_word;
     word =
-        grammar.leads-append plain_text (blocks ∷ []) (blocks ∷ []) (blocks_behind h.stand.behind ∷ []) lead es
-        (front.word plain_text) h.stand.word;
+        grammar.leads-append plain_text (blocks ∷ []) (blocks ∷ []) (blocks_after h.are_valid.following ∷ []) lead es
+        (front.word plain_text) h.are_valid.word;
     unread_ending =
-        ending.leads-append line_start line_start (leaf.spot_behind full) lead us lead_ends h.stand.unread_ending;
-    ending = ending.leads-append line_start line_start (leaf.spot_behind full) lead es lead_ends h.stand.ending;
-    stands = λ held.
+        ending.leads-append line_start line_start (leaf.spot_after full) lead us lead_ends h.are_valid.unread_ending;
+    ending = ending.leads-append line_start line_start (leaf.spot_after full) lead es lead_ends h.are_valid.ending;
+    valid = λ held.
         places-append bytes (among held) (among held) (among held) lead es
-        (between-stand bytes held lead (quiets-between lead front.stretch.roles)) (h.stand.stands held);
+        (between-are_valid bytes held lead (quiets-between lead front.stretch.roles)) (h.are_valid.valid held);
     plain = λ first.
-        plain-append bytes lead es (plain-quiet bytes lead front.stretch.roles) (h.stand.plain (front.clear first));
+        plain-append bytes lead es (plain-quiet bytes lead front.stretch.roles) (h.are_valid.plain (front.clear first));
   };
   reads = λ r text shut.
       read-from bytes r r lead es (read-quiet bytes r lead front.stretch.roles) ∙ h.reads r text shut;

@@ -5,17 +5,17 @@ use Rattle.md_engine.specs.declared.event.Event.{Event}
 use Rattle.md_engine.specs.declared.event.Name.{Name}
 use Rattle.md_engine.specs.declared.event.Name.TheVariants as n
 use Rattle.md_engine.specs.declared.event.Point.{Point}
-use Rattle.md_events.specs.Events.Grammar.{Expression, behind, may_end}
+use Rattle.md_events.specs.Events.Grammar.{Expression, following, may_end}
 use Rattle.md_events.specs.Events.Nested.{around, enter, exit, pair}
 use Rattle.md_events.specs.Events.Spelled.{LeafKind, OpenLeaf, block_of, byte_at, fresh}
 use Rattle.md_outline.specs.Between.{is_between}
-use Rattle.md_outline.specs.LinesStand.{HasLines, Site, begun_site}
+use Rattle.md_outline.specs.LinesAllowed.{HasLines, Site, begun_site}
 use Rattle.md_outline.proofs.LinesPass.{IsOnLine, MayLeave, ended_site, on-ended}
 use Rattle.proof_frame.specs.Row.{Row, last_row, but_end, but_ends, end_of}
-use Rattle.proof_frame.proofs.BetweenFacts.{ending-before, ending-behind}
+use Rattle.proof_frame.proofs.BetweenFacts.{ending-before, ending-following}
 use Rattle.proof_frame.proofs.ContainerNames.{TakesPrefixes}
 use Rattle.proof_frame.proofs.FrontFacts.{LinePrefix}
-use Rattle.proof_frame.proofs.FrontStands.{fronts-between, fronts-clear}
+use Rattle.proof_frame.proofs.FrontValid.{fronts-between, fronts-clear}
 use Rattle.proof_frame.proofs.LeafFacts.{LeafFacts}
 use Rattle.proof_frame.proofs.PartedFacts.{clear}
 use Rattle.proof_frame.proofs.PieceFacts.{Starts, starts-append}
@@ -24,10 +24,10 @@ use Rattle.proof_frame.proofs.LeafLines.Cuts.{end-is, ending-is, span-is}
 use Rattle.proof_frame.proofs.LeafLines.Framed.{framed_by, framed_rest}
 use Rattle.proof_frame.proofs.LeafLines.Inside.{InsideFacts, Meets, ending-inside, front-inside, inside-append}
 use Rattle.proof_frame.proofs.LeafLines.Inside.{inside-none}
-use Rattle.proof_frame.proofs.PartsFacts.{behind_ending}
+use Rattle.proof_frame.proofs.PartsFacts.{following_ending}
 use Rattle.md_events.proofs.EndingsLemmas.{Leads, in_leaf}
 use Rattle.proof_frame.proofs.LeafLines.Lead.{LeadFacts}
-use Rattle.proof_frame.proofs.LeafLines.Leaf.{IsLeafName, around-plain, facts-behind_lead, inside-leaf}
+use Rattle.proof_frame.proofs.LeafLines.Leaf.{IsLeafName, around-plain, facts-after_lead, inside-leaf}
 
 -- A line.
 
@@ -80,9 +80,9 @@ AreFurther bytes unread done name left leaf to site row [] =
     (end : may_end left ≡ true) × (leaf ≡ to) × MayLeave site
 AreFurther bytes unread done name left leaf to site row (next ∷ rows) =
     (q : Point) × (after : row.after ≡ Some q) × (ending : IsEnding bytes row.end q) ×
-    (front : LinePrefix bytes [] q next.first next.front) × (takes : TakesPrefixes (behind n.LineEnding left)) ×
+    (front : LinePrefix bytes [] q next.first next.front) × (takes : TakesPrefixes (following n.LineEnding left)) ×
     (on : IsOnLine site) ×
-    (line : SpanLine bytes unread done name (behind n.LineEnding left) (behind_ending bytes q leaf)
+    (line : SpanLine bytes unread done name (following n.LineEnding left) (following_ending bytes q leaf)
     (ended_site bytes q site) next) ×
     AreFurther bytes unread done name line.left line.leaf to line.site next rows
 
@@ -166,10 +166,10 @@ next-inside bytes unread done name left leaf to site row next rows whole are res
     ended = pair n.LineEnding row.end q
 
     again : Expression
-    again = behind n.LineEnding left
+    again = following n.LineEnding left
 
     opened : OpenLeaf
-    opened = behind_ending bytes q leaf
+    opened = following_ending bytes q leaf
 
     start : Site
     start = ended_site bytes q site
@@ -178,7 +178,7 @@ next-inside bytes unread done name left leaf to site row next rows whole are res
     line = are.6
 
     begin : is_between bytes next.first.index ≡ true
-    begin = (fronts-between bytes [] q next.first next.front (ending-behind bytes row.end q are.2) are.3).1
+    begin = (fronts-between bytes [] q next.first next.front (ending-following bytes row.end q are.2) are.3).1
 
     front :
         InsideFacts bytes row.end next.first left again leaf opened site start (ended ++ next.front)
@@ -187,7 +187,7 @@ next-inside bytes unread done name left leaf to site row next rows whole are res
         inside-append (ending-inside bytes row.end q left leaf site whole are.2 are.5)
         (front-inside bytes q next.first again opened start next.front are.4 (on-ended bytes q site are.5) are.3)
         (record {
-          between = λ end. ending-behind bytes row.end q are.2;
+          between = λ end. ending-following bytes row.end q are.2;
           clear = fronts-clear bytes [] q next.first next.front are.3 line.clear;
         })
 
@@ -247,7 +247,7 @@ span-facts bytes unread done name kind to row rows filled named lined first are 
     LeafFacts bytes (Some (block_of to)) filled row.first last
     (first.lead ++ around name first.at last (first.unread_inside ++ framed_rest unread row rows)) es)
     (sym (span-is done name first.at first.lead first.inside row rows first.is ends.end))
-    (facts-behind_lead first.lead_is
+    (facts-after_lead first.lead_is
     (inside-leaf name kind named
     (starts-append first.unread_inside (framed_rest unread row rows) first.unread_starts)
     (starts-append first.inside (framed_rest done row rows) first.starts)

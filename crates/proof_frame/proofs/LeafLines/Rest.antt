@@ -14,15 +14,15 @@ use Rattle.md_engine.specs.declared.event.Name.TheVariants as n
 use Rattle.md_engine.specs.declared.event.Point.{Point}
 use Rattle.md_meaning.specs.Leaves.{LeafResult}
 use Rattle.md_meaning.specs.State.{shut, then_block}
-use Rattle.md_meaning.specs.Step.{came}
+use Rattle.md_meaning.specs.Step.{became}
 use Rattle.md_meaning.specs.Tree.{Block, Blocks}
 use Rattle.md_leaves.specs.Further.{further_link}
 use Rattle.md_leaves.specs.Spanned.{has_lines}
-use Rattle.md_outline.specs.LinesStand.{Site}
+use Rattle.md_outline.specs.LinesAllowed.{Site}
 use Rattle.md_outline.proofs.LinesPass.{IsOnLine, MayLeave, ended_site}
-use Rattle.md_events.specs.Events.Endings.{Ends, IsLeaf, IsOther, OnLine, endings_stand_from, ends_rightly, on_line}
-use Rattle.md_events.specs.Events.Endings.{spot_behind}
-use Rattle.md_events.specs.Events.Grammar.{Expression, behind, may_end}
+use Rattle.md_events.specs.Events.Endings.{Ends, IsLeaf, IsOther, OnLine, endings_are_right_from, ends_as_begun}
+use Rattle.md_events.specs.Events.Endings.{on_line, spot_after}
+use Rattle.md_events.specs.Events.Grammar.{Expression, following, may_end}
 use Rattle.md_events.specs.Events.Inline.{is_linked}
 use Rattle.md_events.specs.Events.Nested.{Balanced, Fits, enter_link, exit}
 use Rattle.md_events.specs.Events.Spelled.{OpenLeaf, block_of, role}
@@ -33,39 +33,39 @@ use Rattle.proof_frame.proofs.ContainerNames.{TakesPrefixes}
 use Rattle.proof_frame.proofs.FrontFacts.{LinePrefix}
 use Rattle.proof_frame.proofs.FrontLemmas.{fronts-balanced}
 use Rattle.proof_frame.proofs.FrontPlaces.{fronts-columns}
-use Rattle.proof_frame.proofs.FrontStands.{fronts-others}
+use Rattle.proof_frame.proofs.FrontValid.{fronts-others}
 use Rattle.proof_frame.proofs.PartedFacts.{clear}
 use Rattle.proof_frame.proofs.PrefixFacts.{is_bare}
 use Rattle.md_events.proofs.FeedLines.{IsEnding}
 use Rattle.proof_frame.proofs.LeafLines.Cuts.{but_ends-is, ending-is}
 use Rattle.proof_frame.proofs.LeafLines.Framed.{AreFramed, framed_rest}
 use Rattle.proof_frame.proofs.LeafLines.Inside.{InsideFacts}
-use Rattle.proof_frame.proofs.PartsFacts.{behind_ending}
+use Rattle.proof_frame.proofs.PartsFacts.{following_ending}
 use Rattle.proof_frame.proofs.LeafLines.Lines.{AreFurther, SpanLine, ends-by}
 
 -- What is read of a line: a further one, which is linked to the one in front, has no text parts.
-abbrev pub goes_back : List Event → Bool
-goes_back [] = false
-goes_back (e ∷ es) = is_linked e
+abbrev pub leads_back : List Event → Bool
+leads_back [] = false
+leads_back (e ∷ es) = is_linked e
 
 abbrev pub row_unread : Row → List Event
 row_unread row = row.inside
 
 abbrev pub row_done : List ℕ → Row → List Event
-row_done bytes row = if goes_back row.inside then row.inside else plain_read bytes row.inside
+row_done bytes row = if leads_back row.inside then row.inside else plain_read bytes row.inside
 
 -- What the line definition has is this block, once it is shut.
 abbrev pub ShutsAs : LeafResult → Block → Type 0
-ShutsAs c block = (options : ParseOptions) (bs : Blocks) → shut options (came bs c) ≡ then_block bs block
+ShutsAs c block = (options : ParseOptions) (bs : Blocks) → shut options (became bs c) ≡ then_block bs block
 
 -- Whether anything is on the last of some lines, in a leaf on a line on which something is, or nothing.
 
-abbrev pub full_behind : Bool → List Row → Bool
-full_behind full [] = full
-full_behind full (next ∷ rows) = full_behind (not next.empty) rows
+abbrev pub full_after : Bool → List Row → Bool
+full_after full [] = full
+full_after full (next ∷ rows) = full_after (not next.empty) rows
 
 pub full-last : (full : Bool) (row : Row) (rows : List Row) → full ≡ not row.empty →
-    full_behind full rows ≡ not (last_row row rows).empty
+    full_after full rows ≡ not (last_row row rows).empty
 full-last full row [] e = e
 full-last full row (next ∷ rows) e = full-last (not next.empty) next rows refl
 
@@ -82,8 +82,8 @@ others-fill false (e ∷ es) others balanced = λ ys.
     ∙ others-lead (in_leaf true) es refl both.1 ys
   where
     one : (kind : Kind) (name : Name) (x : OnLine) (zs : List Event) → Fits [] kind name → is_other x ≡ true →
-        (ends_rightly kind x (in_leaf false) && endings_stand_from (spot_behind kind x (in_leaf false)) zs) ≡
-        endings_stand_from (in_leaf true) zs
+        (ends_as_begun kind x (in_leaf false) && endings_are_right_from (spot_after kind x (in_leaf false)) zs) ≡
+        endings_are_right_from (in_leaf true) zs
     one Enter name IsOther zs fits h = refl
     one Enter name IsLeaf zs fits h = cc
     one Enter name (Ends blank) zs fits h = cc
@@ -117,7 +117,7 @@ pub record HasRest (bytes : List ℕ) (name : Name) (left : Expression) (leaf : 
   -- the block is that of the line definition
   pub shuts : ShutsAs c (block_of to)
   -- whether something is on the last line, as its endings say
-  pub fills : (full : Bool) → Leads (in_leaf full) (in_leaf (full_behind full rows)) (framed_rest row_unread row rows)
+  pub fills : (full : Bool) → Leads (in_leaf full) (in_leaf (full_after full rows)) (framed_rest row_unread row rows)
   -- nothing is read of them
   pub same : framed_rest (row_done bytes) row rows ≡ framed_rest row_unread row rows
 
@@ -138,8 +138,8 @@ rest-none bytes name left leaf site row c ends leave shuts = record {
 pub rest-more : (bytes : List ℕ) (name : Name) (left x after : Expression) (leaf to : OpenLeaf) (site end : Site)
     (row next : Row) (rows : List Row) (c : LeafResult) (q : Point) →
     row.after ≡ Some q → IsEnding bytes row.end q → LinePrefix bytes [] q next.first next.front →
-    has_lines (role name) ≡ true → behind n.LineEnding left ≡ x → TakesPrefixes x → IsOnLine site →
-    FurtherLine bytes name x after (behind_ending bytes q leaf) to (ended_site bytes q site) end next →
+    has_lines (role name) ≡ true → following n.LineEnding left ≡ x → TakesPrefixes x → IsOnLine site →
+    FurtherLine bytes name x after (following_ending bytes q leaf) to (ended_site bytes q site) end next →
     HasRest bytes name after to end next rows c → HasRest bytes name left leaf site row (next ∷ rows) c
 rest-more bytes name left x after leaf to site end row next rows c q at ending front has e takes on line rest = record {
   to = rest.to;
@@ -151,7 +151,7 @@ rest-more bytes name left x after leaf to site end row next rows c q at ending f
   shuts = rest.shuts;
   fills = λ full.
       leads-append (in_leaf full) (in_leaf (not (is_bare next.front) || not (is_bare line.parts)))
-      (in_leaf (full_behind full (next ∷ rows))) (ended ++ next.front ++ but_ends next.inside)
+      (in_leaf (full_after full (next ∷ rows))) (ended ++ next.front ++ but_ends next.inside)
       (framed_rest row_unread next rows)
       (leads-append (in_leaf full) (in_leaf (not (is_bare next.front)))
       (in_leaf (not (is_bare next.front) || not (is_bare line.parts))) (ended ++ next.front) (but_ends next.inside)
@@ -165,7 +165,7 @@ rest-more bytes name left x after leaf to site end row next rows c q at ending f
       Leads (in_leaf (not (is_bare next.front))) (in_leaf (not (is_bare next.front) || not (is_bare line.parts))) es)
       (sym parts) (others-fill (not (is_bare next.front)) line.parts line.others line.balanced)))
       (subst
-      (λ (full : Bool). Leads (in_leaf full) (in_leaf (full_behind (not next.empty) rows))
+      (λ (full : Bool). Leads (in_leaf full) (in_leaf (full_after (not next.empty) rows))
       (framed_rest row_unread next rows)) (sym filled) (rest.fills (not next.empty)));
   same =
       ap₂ (λ (es fs : List Event). ended ++ next.front ++ but_ends es ++ fs) done rest.same;
@@ -176,7 +176,7 @@ rest-more bytes name left x after leaf to site end row next rows c q at ending f
 
     done : row_done bytes next ≡ next.inside
     done =
-        ap (λ (es : List Event). cond (goes_back es) es (plain_read bytes es)) line.is ∙ sym line.is
+        ap (λ (es : List Event). cond (leads_back es) es (plain_read bytes es)) line.is ∙ sym line.is
 
     parts : but_ends next.inside ≡ line.parts
     parts = ap but_ends line.is ∙ but_ends-is (enter_link name next.first further_link) line.parts (exit name next.end)
@@ -197,7 +197,7 @@ rest-more bytes name left x after leaf to site end row next rows c q at ending f
         both false false = refl
 
     one :
-        SpanLine bytes row_unread (row_done bytes) name (behind n.LineEnding left) (behind_ending bytes q leaf)
+        SpanLine bytes row_unread (row_done bytes) name (following n.LineEnding left) (following_ending bytes q leaf)
         (ended_site bytes q site) next
     one = record {
       ends =
@@ -210,15 +210,16 @@ rest-more bytes name left x after leaf to site end row next rows c q at ending f
       facts =
           subst
           (λ (y : Expression).
-          InsideFacts bytes next.first next.end y after (behind_ending bytes q leaf) to (ended_site bytes q site) end
+          InsideFacts bytes next.first next.end y after (following_ending bytes q leaf) to (ended_site bytes q site) end
           (but_ends next.inside) (but_ends (row_done bytes next))) (sym e)
           (subst
           (λ (es : List Event).
-          InsideFacts bytes next.first next.end x after (behind_ending bytes q leaf) to (ended_site bytes q site) end
+          InsideFacts bytes next.first next.end x after (following_ending bytes q leaf) to (ended_site bytes q site) end
           (but_ends next.inside) (but_ends es)) (sym done)
           (subst
           (λ (es : List Event).
-          InsideFacts bytes next.first next.end x after (behind_ending bytes q leaf) to (ended_site bytes q site) end es
+          InsideFacts bytes next.first next.end x after (following_ending bytes q leaf) to
+          (ended_site bytes q site) end es
           es) (sym parts)
           line.facts));
     }

@@ -4,7 +4,7 @@ use Rattle.std.specs.Prelude.{Some}
 use Rattle.md_engine.specs.declared.event.Event.{Event}
 use Rattle.md_engine.specs.declared.event.Name.{Name}
 use Rattle.md_meaning.specs.Leaves.{LeafResult}
-use Rattle.md_outline.specs.LinesStand.{HasLines, begun_site}
+use Rattle.md_outline.specs.LinesAllowed.{HasLines, begun_site}
 use Rattle.md_events.specs.Events.Spelled.{LeafKind, block_of, fresh}
 use Rattle.md_events.proofs.EndingsLemmas.{AreOthers, Leads, in_leaf, leads-append, others-lead}
 use Rattle.proof_frame.specs.Row.{Row, last_row, span_by}
@@ -12,7 +12,7 @@ use Rattle.proof_frame.proofs.LeafFacts.{LeafFacts}
 use Rattle.proof_frame.proofs.LeafLines.Framed.{framed_by, framed_rest, span-framed}
 use Rattle.proof_frame.proofs.LeafLines.Leaf.{IsLeafName}
 use Rattle.proof_frame.proofs.LeafLines.Lines.{SpanFirst, span-facts}
-use Rattle.proof_frame.proofs.LeafLines.Rest.{HasRest, full-last, full_behind, row_done, row_unread}
+use Rattle.proof_frame.proofs.LeafLines.Rest.{HasRest, full-last, full_after, row_done, row_unread}
 
 -- All that the frame asks of the lines of such a leaf, on the first of which something is.
 pub rest-facts : (bytes : List ℕ) (name : Name) (kind : LeafKind) (row : Row) (rows : List Row) (c : LeafResult) →
@@ -31,7 +31,7 @@ rest-facts bytes name kind row rows c named lined first rest unread_others other
     (filled us (framed_rest row_unread row rows) unread_others rest.fills)
     (filled es (framed_rest (row_done bytes) row rows) others
     (λ x.
-    subst (λ (l : List Event). Leads (in_leaf x) (in_leaf (full_behind x rows)) l) (sym rest.same) (rest.fills x))))
+    subst (λ (l : List Event). Leads (in_leaf x) (in_leaf (full_after x rows)) l) (sym rest.same) (rest.fills x))))
   where
     us : List Event
     us = first.unread_inside
@@ -44,9 +44,9 @@ rest-facts bytes name kind row rows c named lined first rest unread_others other
 
     -- the first line is filled, so the last one is by itself
     filled : (xs ys : List Event) → AreOthers xs →
-        ((x : Bool) → Leads (in_leaf x) (in_leaf (full_behind x rows)) ys) →
+        ((x : Bool) → Leads (in_leaf x) (in_leaf (full_after x rows)) ys) →
         Leads (in_leaf true) (in_leaf full) (xs ++ ys)
     filled xs ys h k =
         subst (λ (x : Bool). Leads (in_leaf true) (in_leaf x) (xs ++ ys)) (full-last true row rows (sym some))
-        (leads-append (in_leaf true) (in_leaf true) (in_leaf (full_behind true rows)) xs ys
+        (leads-append (in_leaf true) (in_leaf true) (in_leaf (full_after true rows)) xs ys
         (others-lead (in_leaf true) xs refl h) (k true))

@@ -19,7 +19,7 @@ use Rattle.md_events.proofs.EndingsLemmas.{AreOthers, is_other}
 use Rattle.md_events.proofs.SpelledLemmas.{Roles}
 use Rattle.proof_frame.specs.MarkRuns.{Apart, Marks, Run, White, mark_runs}
 use Rattle.proof_frame.proofs.ContentFacts.{NoContent}
-use Rattle.proof_frame.proofs.EventNames.{is_told}
+use Rattle.proof_frame.proofs.EventNames.{is_recorded}
 use Rattle.proof_frame.proofs.EachEvent.{Each, each-append}
 use Rattle.proof_frame.proofs.SpanLemmas.{either}
 
@@ -100,7 +100,7 @@ each-roles P (e ∷ es) h = (h.0, each-roles P es h.1)
 
 -- no content
 abbrev pub IsNoContent : (Content → Bool) → Event → Type 0
-IsNoContent wants e = (wanted wants e ≡ None) × (is_told e.name ≡ false)
+IsNoContent wants e = (wanted wants e ≡ None) × (is_recorded e.name ≡ false)
 
 -- of each event
 pub each-no_content : (wants : Content → Bool) (es : List Event) → Each (IsNoContent wants) es → NoContent wants es

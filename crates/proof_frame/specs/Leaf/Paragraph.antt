@@ -18,7 +18,7 @@ paragraph_leaf = record {
   link = text_link;
   block = λ lines. Paragraph lines;
   held = λ lines. OpenParagraph lines;
-  behind = λ options bs lines. shut_paragraph options bs lines;
+  following = λ options bs lines. shut_paragraph options bs lines;
 }
 
 -- the lines of an open text

@@ -18,7 +18,7 @@ use Rattle.md_events.specs.Events.Nested.{around, enter, exit, pair}
 use Rattle.md_events.specs.Events.Places.{past_text}
 use Rattle.md_events.proofs.FeedLines.{drop-past, is-ending, past_ending, IsEnding}
 use Rattle.md_events.proofs.InlineLemmas.{past-index}
-use Rattle.proof_leaf_laws.specs.Front.{FrontRead, behind_these, ending_of, fence_part, front_from}
+use Rattle.proof_leaf_laws.specs.Front.{FrontRead, after_these, ending_of, fence_part, front_from}
 use Rattle.proof_leaf_laws.specs.Front.{front_read, line_part, lines_read}
 use Rattle.proof_leaf_laws.proofs.FrontAgrees as agrees
 use Rattle.proof_leaf_laws.proofs.FrontAgrees.{from-by, last-none, lines_from, marked, marker_by, off-none, part-same}
@@ -51,7 +51,7 @@ first-later p x xs e =
 
 -- Where the text begins that is left.
 pub record Here (bytes text : List ℕ) (p : Point) : Type 0 where
-  pub stands : drop p.index bytes ≡ text
+  pub valid : drop p.index bytes ≡ text
   pub whole : p.vs ≡ 0
   pub column : 1 ≤ p.column
 
@@ -67,7 +67,7 @@ pub record RestFound (bytes : List ℕ) (m : ℕ) (p : Point) (lines : List (Lis
   pub z : Point
   pub tail : List Event
   pub rest : IsRest bytes m p texts es z
-  pub behind : Tail bytes z f.point tail
+  pub following : Tail bytes z f.point tail
   pub events : f.events ≡ es ++ exit n.Frontmatter z ∷ tail
   pub any : list_any (is_front_fence m) (map without_ending lines) ≡ true
   pub before : before_first (is_front_fence m) (map without_ending lines) ≡ texts
@@ -88,7 +88,7 @@ closes-mean : (bytes : List ℕ) (m : ℕ) (p : Point) (full line : List ℕ) (m
     is_front_fence m line ≡ true → Tail bytes (past_text line p) f.point tail →
     f.events ≡ fence_part line p ++ exit n.Frontmatter (past_text line p) ∷ tail →
     map without_ending more ≡ lines_of (drop f.point.index bytes) → RestFound bytes m p (full ∷ more) f
-closes-mean bytes m p full line more f tail marks is text fence behind events left =
+closes-mean bytes m p full line more f tail marks is text fence following events left =
     let test : is_front_fence m (without_ending full) ≡ true = ap (is_front_fence m) is ∙ fence in
     let first = first-here (is_front_fence m) (without_ending full) (map without_ending more) test in
     record {
@@ -97,7 +97,7 @@ closes-mean bytes m p full line more f tail marks is text fence behind events le
       z = past_text line p;
       tail = tail;
       rest = Closes line p (past_text line p) (has-fence bytes line m p (past_text line p) text marks fence);
-      behind = behind;
+      following = following;
       events = events;
       any = ap (λ (t : Bool). t || list_any (is_front_fence m) (map without_ending more)) test;
       before = first.0;
@@ -109,7 +109,7 @@ more-means : (bytes : List ℕ) (m : ℕ) (p : Point) (full line : List ℕ) (mo
     without_ending full ≡ line → HasText bytes line p (past_text line p) → is_front_fence m line ≡ false →
     IsEnding bytes (past_text line p) r → (o : Option FrontRead) → RestMeans bytes m r more o →
     RestMeans bytes m p (full ∷ more)
-    (option_map (behind_these (line_part line p ++ pair n.LineEnding (past_text line p) r)) o)
+    (option_map (after_these (line_part line p ++ pair n.LineEnding (past_text line p) r)) o)
 more-means bytes m p full line more r is text other ending None none =
     ap (λ (t : Bool). t || list_any (is_front_fence m) (map without_ending more)) (ap (is_front_fence m) is ∙ other)
     ∙ none
@@ -123,7 +123,7 @@ more-means bytes m p full line more r is text other ending (Some f) found =
       z = found.z;
       tail = found.tail;
       rest = More line p (past_text line p) r found.z found.texts found.es text ending found.rest;
-      behind = found.behind;
+      following = found.following;
       events =
           ap (λ (es : List Event). front ++ es) found.events
           ∙ sym (append_assoc front found.es (exit n.Frontmatter found.z ∷ found.tail));
@@ -137,12 +137,12 @@ more-means bytes m p full line more r is text other ending (Some f) found =
 last-text : (bytes line : List ℕ) (p : Point) → Here bytes line p → NoEnding line →
     (text : HasText bytes line p (past_text line p)) × (drop (past_text line p).index bytes ≡ [])
 last-text bytes line p at bare =
-    let stands : drop p.index bytes ≡ line ++ [] = at.stands ∙ sym (append-nil line) in
+    let valid : drop p.index bytes ≡ line ++ [] = at.valid ∙ sym (append-nil line) in
     let none : drop (past_text line p).index bytes ≡ [] =
-    ap (λ (i : ℕ). drop i bytes) (past-index line p) ∙ drop-past bytes p.index line [] stands in (
+    ap (λ (i : ℕ). drop i bytes) (past-index line p) ∙ drop-past bytes p.index line [] valid in (
       record {
         no_ending = bare;
-        stands = stands ∙ ap (λ (l : List ℕ). line ++ l) (sym none);
+        valid = valid ∙ ap (λ (l : List ℕ). line ++ l) (sym none);
         end = refl;
         whole = at.whole;
         column = at.column;
@@ -150,30 +150,30 @@ last-text bytes line p at bare =
       none,
     )
 
-record Goes (bytes line : List ℕ) (ending : Ending) (rest : List ℕ) (p : Point) : Type 0 where
+record Proceeds (bytes line : List ℕ) (ending : Ending) (rest : List ℕ) (p : Point) : Type 0 where
   pub text : HasText bytes line p (past_text line p)
   pub ending_is : IsEnding bytes (past_text line p) (past_ending ending (past_text line p))
   pub next : Here bytes rest (past_ending ending (past_text line p))
 
 next-text : (bytes line : List ℕ) (ending : Ending) (rest : List ℕ) (p : Point) →
     Here bytes (line ++ (ending_bytes ending ++ rest)) p → NoEnding line → EndsBefore ending rest →
-    Goes bytes line ending rest p
+    Proceeds bytes line ending rest p
 next-text bytes line ending rest p at bare before =
     let q = past_text line p in
-    let behind : drop q.index bytes ≡ ending_bytes ending ++ rest =
+    let following : drop q.index bytes ≡ ending_bytes ending ++ rest =
     ap (λ (i : ℕ). drop i bytes) (past-index line p)
-    ∙ drop-past bytes p.index line (ending_bytes ending ++ rest) at.stands in
+    ∙ drop-past bytes p.index line (ending_bytes ending ++ rest) at.valid in
     record {
       text = record {
         no_ending = bare;
-        stands = at.stands ∙ ap (λ (l : List ℕ). line ++ l) (sym behind);
+        valid = at.valid ∙ ap (λ (l : List ℕ). line ++ l) (sym following);
         end = refl;
         whole = at.whole;
         column = at.column;
       };
-      ending_is = is-ending bytes ending rest q behind before;
+      ending_is = is-ending bytes ending rest q following before;
       next = record {
-        stands = drop-past bytes q.index (ending_bytes ending) rest behind;
+        valid = drop-past bytes q.index (ending_bytes ending) rest following;
         whole = refl;
         column = omega arith;
       };
@@ -183,7 +183,7 @@ next-text bytes line ending rest p at bare before =
 left-lines : (bytes text : List ℕ) (lines : List (List ℕ)) (p : Point) → Here bytes text p →
     lines ≡ full_lines_of text → map without_ending lines ≡ lines_of (drop p.index bytes)
 left-lines bytes text lines p at is =
-    ap (map without_ending) is ∙ ap lines_of (sym at.stands)
+    ap (map without_ending) is ∙ ap lines_of (sym at.valid)
 
 -- After the opening fence: the last line,
 last-means : (bytes : List ℕ) (m : ℕ) (line : List ℕ) (p : Point) → is_marker m ≡ true → NoEnding line →
@@ -217,7 +217,7 @@ next-means bytes m line ending rest more p marks bare before same at below =
     RestMeans bytes m p (full ∷ more)
     (cond (is_front_fence m line)
     (Some (record { events = fence_part line p ++ exit n.Frontmatter q ∷ es; point = x }))
-    (option_map (behind_these (line_part line p ++ es)) (lines_read m more x))))
+    (option_map (after_these (line_part line p ++ es)) (lines_read m more x))))
     (sym (past-same ending q)) (sym (part-same ending q)) (go (is_front_fence m line) refl)
   where
     q : Point
@@ -229,22 +229,22 @@ next-means bytes m line ending rest more p marks bare before same at below =
     full : List ℕ
     full = line ++ ending_bytes ending
 
-    goes : Goes bytes line ending rest p
-    goes = next-text bytes line ending rest p at bare before
+    proceeds : Proceeds bytes line ending rest p
+    proceeds = next-text bytes line ending rest p at bare before
 
     go : (x : Bool) → is_front_fence m line ≡ x →
         RestMeans bytes m p (full ∷ more)
         (cond x
         (Some
         (record { events = fence_part line p ++ exit n.Frontmatter q ∷ pair n.LineEnding q r; point = r }))
-        (option_map (behind_these (line_part line p ++ pair n.LineEnding q r)) (lines_read m more r)))
+        (option_map (after_these (line_part line p ++ pair n.LineEnding q r)) (lines_read m more r)))
     go true e =
         closes-mean bytes m p full line more
         (record { events = fence_part line p ++ exit n.Frontmatter q ∷ pair n.LineEnding q r; point = r })
-        (pair n.LineEnding q r) marks (without-one line ending bare) goes.text e (Ended r goes.ending_is) refl
-        (left-lines bytes rest more r goes.next same)
+        (pair n.LineEnding q r) marks (without-one line ending bare) proceeds.text e (Ended r proceeds.ending_is) refl
+        (left-lines bytes rest more r proceeds.next same)
     go false e =
-        more-means bytes m p full line more r (without-one line ending bare) goes.text e goes.ending_is
+        more-means bytes m p full line more r (without-one line ending bare) proceeds.text e proceeds.ending_is
         (lines_read m more r) below
 
 lines-mean : (bytes : List ℕ) (m : ℕ) → is_marker m ≡ true → (text : List ℕ) (lines : List (List ℕ)) →
@@ -254,11 +254,11 @@ lines-mean bytes m marks _ _ (LastLine b line bare) p at =
     subst₂ (λ (l e : List ℕ). Means bytes m p ((b ∷ line) ∷ []) l e []) (sym (line-whole (b ∷ line) bare))
     (sym (last-ending (b ∷ line) bare)) (last-means bytes m (b ∷ line) p marks bare at)
 lines-mean bytes m marks _ _ (NextLine line ending rest more bare before lines same) p at =
-    let goes = next-text bytes line ending rest p at bare before in
+    let proceeds = next-text bytes line ending rest p at bare before in
     subst₂ (λ (l e : List ℕ). Means bytes m p ((line ++ ending_bytes ending) ∷ more) l e more)
     (sym (without-one line ending bare)) (sym (ending-is line ending bare))
     (next-means bytes m line ending rest more p marks bare before same at
-    (lines-mean bytes m marks rest more lines (past_ending ending (past_text line p)) goes.next))
+    (lines-mean bytes m marks rest more lines (past_ending ending (past_text line p)) proceeds.next))
 
 -- All of it.
 
@@ -270,7 +270,7 @@ pub record FrontFound (bytes : List ℕ) (options : ParseOptions) (p : Point) (l
   pub z : Point
   pub tail : List Event
   pub is : IsFront bytes p texts es z
-  pub behind : Tail bytes z f.point tail
+  pub following : Tail bytes z f.point tail
   pub events : f.events ≡ around n.Frontmatter p z es ++ tail
   pub meaning : front_of options (map without_ending lines) ≡
       Some (record { block = Frontmatter is.m texts; after = lines_of (drop f.point.index bytes) })
@@ -302,7 +302,7 @@ found-front : (m : ℕ) (lines : List (List ℕ)) (texts after : List (List ℕ)
     list_any (is_front_fence m) lines ≡ true → before_first (is_front_fence m) lines ≡ texts →
     after_first (is_front_fence m) lines ≡ after →
     front_by (Some m) lines ≡ Some (record { block = Frontmatter m texts; after = after })
-found-front m lines texts after any before behind =
+found-front m lines texts after any before following =
     ap
     (λ (t : Bool).
     cond t
@@ -314,7 +314,7 @@ found-front m lines texts after any before behind =
     None) any
     ∙ ap₂
     (λ (ls left : List (List ℕ)).
-    let f : Front = record { block = Frontmatter m ls; after = left } in Some f) before behind
+    let f : Front = record { block = Frontmatter m ls; after = left } in Some f) before following
 
 joined : (front es : List Event) (z : Point) (tail : List Event) →
     front ++ (es ++ exit n.Frontmatter z ∷ tail) ≡ ((front ++ es) ++ exit n.Frontmatter z ∷ []) ++ tail
@@ -326,16 +326,16 @@ joined front es z tail =
 open-means : (bytes : List ℕ) (options : ParseOptions) (p : Point) (full line : List ℕ) (ending : Ending)
     (rest : List ℕ) (more : List (List ℕ)) (m : ℕ) →
     options.constructs.frontmatter ≡ true → without_ending full ≡ line → front_marker line ≡ Some m →
-    (goes : Goes bytes line ending rest p) →
+    (proceeds : Proceeds bytes line ending rest p) →
     (o : Option FrontRead) → RestMeans bytes m (past_ending ending (past_text line p)) more o →
     FrontMeans bytes options p (full ∷ more)
     (option_map
-    (behind_these
+    (after_these
     (enter n.Frontmatter p ∷ fence_part line p
     ++ pair n.LineEnding (past_text line p) (past_ending ending (past_text line p))))
     o)
 unfolding front_of
-open-means bytes options p full line ending rest more m on is marker goes None none =
+open-means bytes options p full line ending rest more m on is marker proceeds None none =
     ap₂
     (λ (t : Bool) (l : List ℕ). cond t (front_by (front_marker l) (map without_ending more)) None) on is
     ∙ ap (λ (o : Option ℕ). front_by o (map without_ending more)) marker
@@ -348,7 +348,7 @@ open-means bytes options p full line ending rest more m on is marker goes None n
       after = after_first (is_front_fence m) (map without_ending more);
     }))
     None) none
-open-means bytes options p full line ending rest more m on is marker goes (Some f) found =
+open-means bytes options p full line ending rest more m on is marker proceeds (Some f) found =
     let marks = marker-marks line m marker in
     let q = past_text line p in
     let r = past_ending ending q in
@@ -364,12 +364,12 @@ open-means bytes options p full line ending rest more m on is marker goes (Some 
         q = q;
         r = r;
         rest = found.es;
-        opens = has-fence bytes line m p q goes.text marks.0 marks.1;
-        ending = goes.ending_is;
+        opens = has-fence bytes line m p q proceeds.text marks.0 marks.1;
+        ending = proceeds.ending_is;
         lines = found.rest;
         all = refl;
       };
-      behind = found.behind;
+      following = found.following;
       events =
           ap (λ (es : List Event). enter n.Frontmatter p ∷ (fence_part line p ++ pair n.LineEnding q r) ++ es)
           found.events
@@ -418,24 +418,24 @@ none-lines options = refl
 -- a line with its ending
 next-front : (bytes : List ℕ) (options : ParseOptions) (line : List ℕ) (ending : Ending) (rest : List ℕ)
     (more : List (List ℕ)) (p : Point) →
-    options.constructs.frontmatter ≡ true → NoEnding line → IsLines rest more → Goes bytes line ending rest p →
+    options.constructs.frontmatter ≡ true → NoEnding line → IsLines rest more → Proceeds bytes line ending rest p →
     (o : Option ℕ) → front_marker line ≡ o →
     FrontMeans bytes options p ((line ++ ending_bytes ending) ∷ more)
     (agrees.front_by o line (ending_bytes ending) more p)
-next-front bytes options line ending rest more p on bare lines goes None marker =
+next-front bytes options line ending rest more p on bare lines proceeds None marker =
     ap (λ (l : List ℕ). front_of options (l ∷ map without_ending more)) (without-one line ending bare)
     ∙ none-by options line (map without_ending more) marker
-next-front bytes options line ending rest more p on bare lines goes (Some m) marker =
+next-front bytes options line ending rest more p on bare lines proceeds (Some m) marker =
     let q = past_text line p in
     subst₂
     (λ (x : Point) (es : List Event).
     FrontMeans bytes options p ((line ++ ending_bytes ending) ∷ more)
-    (option_map (behind_these (enter n.Frontmatter p ∷ fence_part line p ++ es)) (lines_read m more x)))
+    (option_map (after_these (enter n.Frontmatter p ∷ fence_part line p ++ es)) (lines_read m more x)))
     (sym (past-same ending q)) (sym (part-same ending q))
     (open-means bytes options p (line ++ ending_bytes ending) line ending rest more m on
     (without-one line ending bare) marker
-    goes (lines_read m more (past_ending ending q))
-    (lines-mean bytes m (marker-marks line m marker).0 rest more lines (past_ending ending q) goes.next))
+    proceeds (lines_read m more (past_ending ending q))
+    (lines-mean bytes m (marker-marks line m marker).0 rest more lines (past_ending ending q) proceeds.next))
 
 on-means : (bytes : List ℕ) (options : ParseOptions) (text : List ℕ) (lines : List (List ℕ)) →
     options.constructs.frontmatter ≡ true → IsLines text lines → (p : Point) → Here bytes text p →

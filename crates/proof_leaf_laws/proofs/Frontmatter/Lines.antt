@@ -8,7 +8,7 @@ use Rattle.md_engine.specs.declared.event.Event.{Event}
 use Rattle.md_engine.specs.declared.event.Name.TheVariants as n
 use Rattle.md_engine.specs.declared.event.Point.{Point}
 use Rattle.md_meaning.specs.Tree.{Line}
-use Rattle.md_outline.specs.LinesStand.{AtEnd, AtEnding, AtLine, AtMarkers}
+use Rattle.md_outline.specs.LinesAllowed.{AtEnd, AtEnding, AtLine, AtMarkers}
 use Rattle.md_events.specs.Events.Grammar.{Nothing, inside, plain_text}
 use Rattle.md_events.specs.Events.Nested.{pair}
 use Rattle.md_events.specs.Events.Spelled.{OfFrontmatter, OpenLeaf, empty_line, fresh, next_line}
@@ -16,13 +16,13 @@ use Rattle.md_events.proofs.EndingsLemmas.{Filling, filling-append, stays-append
 use Rattle.md_events.proofs.FeedLines.{ending-some, IsEnding}
 use Rattle.md_events.proofs.InlineLemmas.{past-index}
 use Rattle.proof_frame.specs.LineColumns.{part_over}
-use Rattle.proof_frame.proofs.BetweenFacts.{ending-before, ending-behind}
-use Rattle.proof_leaf_laws.proofs.Frontmatter.Parts.{HasFence, HasText, behind_chunk, behind_open, chunk-inside}
+use Rattle.proof_frame.proofs.BetweenFacts.{ending-before, ending-following}
+use Rattle.proof_leaf_laws.proofs.Frontmatter.Parts.{HasFence, HasText, after_chunk, after_open, chunk-inside}
 use Rattle.proof_leaf_laws.proofs.Frontmatter.Parts.{close-inside, end-whole, fence-fills, fence_over, front_leaf}
 use Rattle.proof_leaf_laws.proofs.Frontmatter.Parts.{in_line, open-inside, text_line}
 use Rattle.proof_frame.proofs.IndentRemoved.Shown.{whole-clear}
 use Rattle.proof_frame.proofs.LeafLines.Inside.{InsideFacts, Meets, ending-inside, inside-append}
-use Rattle.proof_frame.proofs.PartsFacts.{behind_ending}
+use Rattle.proof_frame.proofs.PartsFacts.{following_ending}
 
 -- a line between the fences, and its ending
 abbrev pub line_over : List ℕ → Point → Point → List Event
@@ -36,10 +36,10 @@ pub data IsRest (bytes : List ℕ) (m : ℕ) : Point → List (List ℕ) → Lis
       IsRest bytes m p (line ∷ texts) ((line_over line p q ++ pair n.LineEnding q r) ++ es) z
 
 -- the text continues there
-rest-goes : (bytes : List ℕ) (m : ℕ) (p : Point) (texts : List (List ℕ)) (es : List Event) (z : Point) →
+rest-proceeds : (bytes : List ℕ) (m : ℕ) (p : Point) (texts : List (List ℕ)) (es : List Event) (z : Point) →
     IsRest bytes m p texts es z → p.index < length bytes
-rest-goes bytes m p _ _ z (Closes line _ _ h) =
-    let size = ap length h.is.stands in
+rest-proceeds bytes m p _ _ z (Closes line _ _ h) =
+    let size = ap length h.is.valid in
     let parts = length-append line (drop z.index bytes) in
     let left = length-drop p.index bytes in
     let three = three-long line (ap length h.markers) in
@@ -48,7 +48,7 @@ rest-goes bytes m p _ _ z (Closes line _ _ h) =
     three-long : (line : List ℕ) → length (take 3 line) ≡ 3 → 0 < length line
     three-long [] e = absurd (omega (arith, e))
     three-long (b ∷ bs) e = omega arith
-rest-goes bytes m p _ _ z (More line _ q r _ texts es is ending more) =
+rest-proceeds bytes m p _ _ z (More line _ q r _ texts es is ending more) =
     let size : q.index ≡ p.index + length line = ap (λ (x : Point). x.index) is.end ∙ past-index line p in
     let some = ending-some ending.ending in
     let next = ending.size in
@@ -57,10 +57,10 @@ rest-goes bytes m p _ _ z (More line _ q r _ texts es is ending more) =
 
 -- after an ending, a line of it begins
 ended-leaf : (bytes markers : List ℕ) (lines : List Line) (q : Point) → q.index < length bytes →
-    behind_ending bytes q (front_leaf markers lines false) ≡ front_leaf markers (lines ++ empty_line ∷ []) false
+    following_ending bytes q (front_leaf markers lines false) ≡ front_leaf markers (lines ++ empty_line ∷ []) false
 ended-leaf bytes markers lines q lt =
-    let goes : nat_lt q.index (length bytes) ≡ true = grind (arith, nat_tests) in
-    ap (λ (x : Bool). cond x (next_line (front_leaf markers lines false)) (front_leaf markers lines false)) goes
+    let proceeds : nat_lt q.index (length bytes) ≡ true = grind (arith, nat_tests) in
+    ap (λ (x : Bool). cond x (next_line (front_leaf markers lines false)) (front_leaf markers lines false)) proceeds
 
 meets-ending : (bytes line : List ℕ) (p q r : Point) → HasText bytes line p q → IsEnding bytes q r → Meets bytes q r
 meets-ending bytes line p q r is ending = record {
@@ -70,7 +70,7 @@ meets-ending bytes line p q r is ending = record {
 
 meets-line : (bytes : List ℕ) (q r z : Point) → IsEnding bytes q r → Meets bytes r z
 meets-line bytes q r z ending = record {
-  between = λ end. ending-behind bytes q r ending;
+  between = λ end. ending-following bytes q r ending;
   clear = whole-clear bytes r ending.whole;
 }
 
@@ -80,49 +80,49 @@ line-inside : (bytes line markers : List ℕ) (lines : List Line) (p q r : Point
     InsideFacts bytes p r in_line in_line (front_leaf markers (lines ++ empty_line ∷ []) false)
     (front_leaf markers ((lines ++ text_line line ∷ []) ++ empty_line ∷ []) false) (AtLine OfFrontmatter)
     (AtLine OfFrontmatter) (line_over line p q ++ pair n.LineEnding q r) (line_over line p q ++ pair n.LineEnding q r)
-line-inside bytes [] markers lines p q r is ending goes =
+line-inside bytes [] markers lines p q r is ending proceeds =
     subst
     (λ (l : OpenLeaf).
     InsideFacts bytes p r in_line in_line (front_leaf markers (lines ++ empty_line ∷ []) false) l (AtLine OfFrontmatter)
     (AtLine OfFrontmatter) (pair n.LineEnding q r) (pair n.LineEnding q r))
-    (ended-leaf bytes markers (lines ++ empty_line ∷ []) r goes)
+    (ended-leaf bytes markers (lines ++ empty_line ∷ []) r proceeds)
     (subst
     (λ (x : Point).
     InsideFacts bytes x r in_line in_line (front_leaf markers (lines ++ empty_line ∷ []) false)
-    (behind_ending bytes r (front_leaf markers (lines ++ empty_line ∷ []) false)) (AtLine OfFrontmatter)
+    (following_ending bytes r (front_leaf markers (lines ++ empty_line ∷ []) false)) (AtLine OfFrontmatter)
     (AtLine OfFrontmatter) (pair n.LineEnding q r) (pair n.LineEnding q r)) is.end
     (ending-inside bytes q r in_line (front_leaf markers (lines ++ empty_line ∷ []) false) (AtLine OfFrontmatter)
     (end-whole bytes [] p q is) ending tt))
-line-inside bytes (b ∷ line) markers lines p q r is ending goes =
-    let told = lines ++ text_line (b ∷ line) ∷ [] in
+line-inside bytes (b ∷ line) markers lines p q r is ending proceeds =
+    let recorded = lines ++ text_line (b ∷ line) ∷ [] in
     let es = pair n.FrontmatterChunk p q in
     subst
     (λ (l : OpenLeaf).
     InsideFacts bytes p r in_line in_line (front_leaf markers (lines ++ empty_line ∷ []) false) l (AtLine OfFrontmatter)
     (AtLine OfFrontmatter) (es ++ pair n.LineEnding q r) (es ++ pair n.LineEnding q r))
-    (ended-leaf bytes markers told r goes)
+    (ended-leaf bytes markers recorded r proceeds)
     (inside-append (chunk-inside bytes b line markers lines p q is)
     (at-line
-    (ending-inside bytes q r behind_chunk (front_leaf markers told false) (AtEnding OfFrontmatter)
+    (ending-inside bytes q r after_chunk (front_leaf markers recorded false) (AtEnding OfFrontmatter)
     (end-whole bytes (b ∷ line) p q is) ending tt)) (meets-ending bytes (b ∷ line) p q r is ending))
   where
     with_this : List Line
     with_this = lines ++ text_line (b ∷ line) ∷ []
 
     at-line :
-        InsideFacts bytes q r behind_chunk in_line (front_leaf markers with_this false)
-        (behind_ending bytes r (front_leaf markers with_this false)) (AtEnding OfFrontmatter)
+        InsideFacts bytes q r after_chunk in_line (front_leaf markers with_this false)
+        (following_ending bytes r (front_leaf markers with_this false)) (AtEnding OfFrontmatter)
         (cond (nat_lt r.index (length bytes)) (AtLine OfFrontmatter) (AtEnding OfFrontmatter)) (pair n.LineEnding q r)
         (pair n.LineEnding q r) →
-        InsideFacts bytes q r behind_chunk in_line (front_leaf markers with_this false)
-        (behind_ending bytes r (front_leaf markers with_this false)) (AtEnding OfFrontmatter) (AtLine OfFrontmatter)
+        InsideFacts bytes q r after_chunk in_line (front_leaf markers with_this false)
+        (following_ending bytes r (front_leaf markers with_this false)) (AtEnding OfFrontmatter) (AtLine OfFrontmatter)
         (pair n.LineEnding q r) (pair n.LineEnding q r)
     at-line h =
         let lt : nat_lt r.index (length bytes) ≡ true = grind (arith, nat_tests) in
         subst
         (λ (x : Bool).
-        InsideFacts bytes q r behind_chunk in_line (front_leaf markers with_this false)
-        (behind_ending bytes r (front_leaf markers with_this false)) (AtEnding OfFrontmatter)
+        InsideFacts bytes q r after_chunk in_line (front_leaf markers with_this false)
+        (following_ending bytes r (front_leaf markers with_this false)) (AtEnding OfFrontmatter)
         (cond x (AtLine OfFrontmatter) (AtEnding OfFrontmatter)) (pair n.LineEnding q r) (pair n.LineEnding q r)) lt h
 
 -- all of them, and the closing fence
@@ -139,14 +139,14 @@ rest-inside bytes m markers lines p _ _ z some (Closes line _ _ h) =
     (sym (append-nil lines)) (close-inside bytes line m markers lines p z h some)
 rest-inside bytes m markers lines p _ _ z some (More line _ q r _ texts es is ending more) =
     let front = line_over line p q ++ pair n.LineEnding q r in
-    let told = lines ++ text_line line ∷ [] in
+    let recorded = lines ++ text_line line ∷ [] in
     subst
     (λ (ls : List Line).
     InsideFacts bytes p z in_line Nothing (front_leaf markers (lines ++ empty_line ∷ []) false)
     (front_leaf markers ls true) (AtLine OfFrontmatter) (AtEnd OfFrontmatter) (front ++ es) (front ++ es))
     (append_assoc lines (text_line line ∷ []) (map text_line texts))
-    (inside-append (line-inside bytes line markers lines p q r is ending (rest-goes bytes m r texts es z more))
-    (rest-inside bytes m markers told r texts es z some more) (meets-line bytes q r z ending))
+    (inside-append (line-inside bytes line markers lines p q r is ending (rest-proceeds bytes m r texts es z more))
+    (rest-inside bytes m markers recorded r texts es z some more) (meets-line bytes q r z ending))
 
 -- it ends on a line that is filled
 rest-fills : (bytes : List ℕ) (m : ℕ) (p : Point) (texts : List (List ℕ)) (es : List Event) (z : Point) →
@@ -155,7 +155,7 @@ rest-fills bytes m p _ _ z (Closes line _ _ h) = fence-fills line p z
 rest-fills bytes m p _ _ z (More line _ q r _ texts es is ending more) =
     let front = line_over line p q ++ pair n.LineEnding q r in
     filling-append front es
-    (line-inside bytes line [] [] p q r is ending (rest-goes bytes m r texts es z more)).parts.stays
+    (line-inside bytes line [] [] p q r is ending (rest-proceeds bytes m r texts es z more)).parts.stays
     (rest-fills bytes m r texts es z more)
 
 -- Frontmatter: its opening fence, and the lines after that.
@@ -193,8 +193,8 @@ front-inside bytes p texts es z is =
     some : (length markers == 0) ≡ false
     some = ap (λ (l : List ℕ). length l == 0) is.opens.markers
 
-    goes : nat_lt is.r.index (length bytes) ≡ true
-    goes = let lt = rest-goes bytes is.m is.r texts is.rest z is.lines in grind (arith, nat_tests)
+    proceeds : nat_lt is.r.index (length bytes) ≡ true
+    proceeds = let lt = rest-proceeds bytes is.m is.r texts is.rest z is.lines in grind (arith, nat_tests)
 
     first : InsideFacts bytes p is.r (inside plain_text n.Frontmatter) in_line (fresh OfFrontmatter)
         (front_leaf markers (empty_line ∷ []) false) (AtMarkers OfFrontmatter) (AtLine OfFrontmatter) front front
@@ -203,9 +203,9 @@ front-inside bytes p texts es z is =
         (λ (x : Bool).
         InsideFacts bytes p is.r (inside plain_text n.Frontmatter) in_line (fresh OfFrontmatter)
         (cond x (front_leaf markers (empty_line ∷ []) false) (front_leaf markers [] false)) (AtMarkers OfFrontmatter)
-        (cond x (AtLine OfFrontmatter) (AtEnding OfFrontmatter)) front front) goes
+        (cond x (AtLine OfFrontmatter) (AtEnding OfFrontmatter)) front front) proceeds
         (inside-append (open-inside bytes is.line is.m p is.q is.opens)
-        (ending-inside bytes is.q is.r behind_open (front_leaf markers [] false) (AtEnding OfFrontmatter)
+        (ending-inside bytes is.q is.r after_open (front_leaf markers [] false) (AtEnding OfFrontmatter)
         (end-whole bytes is.line p is.q is.opens.is) is.ending tt)
         (meets-ending bytes is.line p is.q is.r is.opens.is is.ending))
 

@@ -18,16 +18,16 @@ use Rattle.md_meaning.specs.Tree.{Line}
 use Rattle.md_meaning.proofs.TextsLemmas.{NoEnding}
 use Rattle.md_code.specs.CodeLine as code
 use Rattle.md_outline.specs.Between.{is_between}
-use Rattle.md_containers.specs.ItemsStand.{IsPart}
-use Rattle.md_outline.specs.LinesStand.{AtEnd, AtEnding, AtLine, AtMarkers}
+use Rattle.md_containers.specs.ItemsAllowed.{IsPart}
+use Rattle.md_outline.specs.LinesAllowed.{AtEnd, AtEnding, AtLine, AtMarkers}
 use Rattle.md_outline.proofs.FrontPass.{passes-front_chunk, passes-front_fence, passes-last_fence}
 use Rattle.md_outline.proofs.LinesPass.{Passes}
-use Rattle.md_events.specs.Events.Grammar.{Expression, Nothing, behind, inside, may_end, plain_text, unread_text}
+use Rattle.md_events.specs.Events.Grammar.{Expression, Nothing, following, inside, may_end, plain_text, unread_text}
 use Rattle.md_events.specs.Events.Nested.{around, exit, pair}
-use Rattle.md_events.specs.Events.Pieces.{stands_over}
+use Rattle.md_events.specs.Events.Pieces.{may_cover}
 use Rattle.md_events.specs.Events.Places.{past_text}
 use Rattle.md_events.specs.Events.Spelled.{AsLine, AsMarkers, Fenced, FrontmatterLeaf, OfFrontmatter, OpenLeaf, Reading}
-use Rattle.md_events.specs.Events.Spelled.{at_fence, byte_at, empty_line, first_told, fresh, joined, noted}
+use Rattle.md_events.specs.Events.Spelled.{at_fence, byte_at, empty_line, first_recorded, fresh, joined, noted}
 use Rattle.md_events.specs.Events.Spelled.{on_leaf, read, without_last}
 use Rattle.md_events.proofs.EndingsLemmas.{AreOthers, Filling, stays-others}
 use Rattle.md_events.proofs.FeedLines.{drop-past, past_text-whole, slice-front}
@@ -36,12 +36,12 @@ use Rattle.md_events.proofs.InlineLemmas.{past-index, past_text-append}
 use Rattle.md_events.proofs.RestLines.{count-none, count-one}
 use Rattle.md_events.proofs.SpelledLemmas.{read-from, read-quiet}
 use Rattle.proof_frame.specs.LineColumns.{part_over}
-use Rattle.proof_frame.proofs.BetweenFacts.{between-behind, is_low, low-at}
+use Rattle.proof_frame.proofs.BetweenFacts.{between-following, is_low, low-at}
 use Rattle.proof_frame.proofs.WhiteQuiet.{white-quiet}
 use Rattle.proof_frame.proofs.IndentRemoved.Placed.{over-onward, over-stretch}
-use Rattle.proof_frame.proofs.IndentRemoved.Reads.{empty-joined, leaf-told, on-last}
+use Rattle.proof_frame.proofs.IndentRemoved.Reads.{empty-joined, leaf-recorded, on-last}
 use Rattle.proof_frame.proofs.IndentRemoved.Shown.{whole-clear}
-use Rattle.proof_frame.proofs.PieceFacts.{begins-cut, begins-whole, over-front, over-stands}
+use Rattle.proof_frame.proofs.PieceFacts.{begins-cut, begins-whole, over-front, over-valid}
 use Rattle.proof_frame.proofs.PlainFacts.{AreKnown, known-append, known-around, known-none, plain-quiet}
 use Rattle.proof_frame.proofs.LeafLines.Inside.{InsideFacts}
 use Rattle.proof_frame.proofs.PartsFacts.{ReadsLeaf, PartsFacts}
@@ -51,7 +51,7 @@ use Rattle.proof_frame.proofs.ChunkFacts.{in-line}
 -- A line, where it is: it begins at a byte, and ends after its bytes.
 pub record HasText (bytes line : List ℕ) (p q : Point) : Type 0 where
   pub no_ending : NoEnding line
-  pub stands : drop p.index bytes ≡ line ++ drop q.index bytes
+  pub valid : drop p.index bytes ≡ line ++ drop q.index bytes
   pub end : q ≡ past_text line p
   pub whole : p.vs ≡ 0
   pub column : 1 ≤ p.column
@@ -61,14 +61,14 @@ end-whole bytes line p q is = ap (λ (x : Point). x.vs) is.end ∙ past_text-who
 
 -- What is left of the grammar of frontmatter: after its opening fence, where a further line begins, and after a line
 -- that is not empty.
-abbrev pub behind_open : Expression
-behind_open = behind n.FrontmatterFence (inside plain_text n.Frontmatter)
+abbrev pub after_open : Expression
+after_open = following n.FrontmatterFence (inside plain_text n.Frontmatter)
 
 abbrev pub in_line : Expression
-in_line = behind n.LineEnding behind_open
+in_line = following n.LineEnding after_open
 
-abbrev pub behind_chunk : Expression
-behind_chunk = behind n.FrontmatterChunk in_line
+abbrev pub after_chunk : Expression
+after_chunk = following n.FrontmatterChunk in_line
 
 -- As it is read: with these markers, and these lines.
 abbrev pub front_leaf : List ℕ → List Line → Bool → OpenLeaf
@@ -78,12 +78,12 @@ abbrev pub text_line : List ℕ → Line
 text_line text = record { spaces = 0; text = text }
 
 -- what a part that begins at a byte shows
-told-text : (bytes line rest : List ℕ) (p q : Point) → p.vs ≡ 0 → drop p.index bytes ≡ line ++ rest →
+recorded-text : (bytes line rest : List ℕ) (p q : Point) → p.vs ≡ 0 → drop p.index bytes ≡ line ++ rest →
     q ≡ past_text line p → code.chunk_line bytes p q ≡ text_line line
-told-text bytes line rest p q whole stands end =
+recorded-text bytes line rest p q whole valid end =
     let size : q.index ≡ p.index + length line = ap (λ (x : Point). x.index) end ∙ past-index line p in
     rw whole
-    (ap text_line (slice-front bytes p.index q.index line rest stands size))
+    (ap text_line (slice-front bytes p.index q.index line rest valid size))
 
 -- A line that is not empty.
 
@@ -91,7 +91,7 @@ chunk-stretch : (bytes : List ℕ) (b : ℕ) (line : List ℕ) (p q : Point) →
     Stretch IsPart bytes p q (pair n.FrontmatterChunk p q) (pair n.FrontmatterChunk p q)
 chunk-stretch bytes b line p q is =
     over-stretch IsPart bytes n.FrontmatterChunk (b ∷ line) (drop q.index bytes) p q
-    (record { role_is = tt; no_part = refl; parted = λ x y ys h. h }) is.stands is.end
+    (record { role_is = tt; no_part = refl; parted = λ x y ys h. h }) is.valid is.end
     (begins-whole n.FrontmatterChunk p is.whole) (in-line (b ∷ line) is.no_ending)
 
 chunk-reads : (bytes : List ℕ) (b : ℕ) (line markers : List ℕ) (lines : List Line) (p q : Point) →
@@ -99,7 +99,8 @@ chunk-reads : (bytes : List ℕ) (b : ℕ) (line markers : List ℕ) (lines : Li
     ReadsLeaf bytes (front_leaf markers (lines ++ empty_line ∷ []) false)
     (front_leaf markers (lines ++ text_line (b ∷ line) ∷ []) false) (pair n.FrontmatterChunk p q)
 chunk-reads bytes b line markers lines p q is r none opened =
-    leaf-told r (noted AsLine (code.chunk_line bytes p q)) (front_leaf markers (lines ++ empty_line ∷ []) false) none
+    leaf-recorded r (noted AsLine (code.chunk_line bytes p q))
+    (front_leaf markers (lines ++ empty_line ∷ []) false) none
     opened
     ∙ ap
     (λ (ls : List Line).
@@ -107,11 +108,11 @@ chunk-reads bytes b line markers lines p q is r none opened =
     (on-last (λ (l : Line). joined l (code.chunk_line bytes p q)) lines empty_line
     ∙ ap (λ (l : Line). lines ++ l ∷ [])
     (empty-joined (code.chunk_line bytes p q)
-    ∙ told-text bytes (b ∷ line) (drop q.index bytes) p q is.whole is.stands is.end))
+    ∙ recorded-text bytes (b ∷ line) (drop q.index bytes) p q is.whole is.valid is.end))
 
 pub chunk-inside : (bytes : List ℕ) (b : ℕ) (line markers : List ℕ) (lines : List Line) (p q : Point) →
     HasText bytes (b ∷ line) p q →
-    InsideFacts bytes p q in_line behind_chunk (front_leaf markers (lines ++ empty_line ∷ []) false)
+    InsideFacts bytes p q in_line after_chunk (front_leaf markers (lines ++ empty_line ∷ []) false)
     (front_leaf markers (lines ++ text_line (b ∷ line) ∷ []) false) (AtLine OfFrontmatter) (AtEnding OfFrontmatter)
     (pair n.FrontmatterChunk p q) (pair n.FrontmatterChunk p q)
 chunk-inside bytes b line markers lines p q is =
@@ -171,22 +172,22 @@ has-fence bytes line m p q is marks fence =
 
 -- Where its markers are.
 record HasMarks (bytes line : List ℕ) (m : ℕ) (p q : Point) : Type 0 where
-  pub stands : drop p.index bytes ≡ take 3 line ++ (drop 3 line ++ drop q.index bytes)
+  pub valid : drop p.index bytes ≡ take 3 line ++ (drop 3 line ++ drop q.index bytes)
   pub left : drop (marks_end line p).index bytes ≡ drop 3 line ++ drop q.index bytes
   pub ends : q ≡ past_text (drop 3 line) (marks_end line p)
   pub size : (marks_end line p).index ≡ p.index + 3
-  pub over : stands_over n.FrontmatterSequence (take 3 line) ≡ true
+  pub over : may_cover n.FrontmatterSequence (take 3 line) ≡ true
   pub low : is_between bytes (marks_end line p).index ≡ true
 
-marker-over : (m : ℕ) → is_marker m ≡ true → stands_over n.FrontmatterSequence (m ∷ m ∷ m ∷ []) ≡ true
+marker-over : (m : ℕ) → is_marker m ≡ true → may_cover n.FrontmatterSequence (m ∷ m ∷ m ∷ []) ≡ true
 marker-over m e = go (m == 45) (m == 43) refl refl e
   where
     go : (x y : Bool) → (m == 45) ≡ x → (m == 43) ≡ y → (x || y) ≡ true →
-        stands_over n.FrontmatterSequence (m ∷ m ∷ m ∷ []) ≡ true
+        may_cover n.FrontmatterSequence (m ∷ m ∷ m ∷ []) ≡ true
     go true y f g t =
-        subst (λ (c : ℕ). stands_over n.FrontmatterSequence (c ∷ c ∷ c ∷ []) ≡ true) (sym (eqb-true m 45 f)) refl
+        subst (λ (c : ℕ). may_cover n.FrontmatterSequence (c ∷ c ∷ c ∷ []) ≡ true) (sym (eqb-true m 45 f)) refl
     go false true f g t =
-        subst (λ (c : ℕ). stands_over n.FrontmatterSequence (c ∷ c ∷ c ∷ []) ≡ true) (sym (eqb-true m 43 g)) refl
+        subst (λ (c : ℕ). may_cover n.FrontmatterSequence (c ∷ c ∷ c ∷ []) ≡ true) (sym (eqb-true m 43 g)) refl
     go false false f g t = cc
 
 marker-some : (m : ℕ) → is_marker m ≡ true → (m == 0) ≡ false
@@ -202,26 +203,26 @@ has-marks bytes line m p q h =
     let index : end.index ≡ p.index + length (take 3 line) = past-index (take 3 line) p in
     let size : end.index ≡ p.index + 3 = omega (arith, index, three) in
     let cut = take-append-drop 3 line in
-    let stands : drop p.index bytes ≡ take 3 line ++ (drop 3 line ++ drop q.index bytes) =
-    h.is.stands ∙ ap (λ (l : List ℕ). l ++ drop q.index bytes) (sym cut)
+    let valid : drop p.index bytes ≡ take 3 line ++ (drop 3 line ++ drop q.index bytes) =
+    h.is.valid ∙ ap (λ (l : List ℕ). l ++ drop q.index bytes) (sym cut)
     ∙ append_assoc (take 3 line) (drop 3 line) (drop q.index bytes) in
     let slice : slice_range bytes p.index end.index ≡ take 3 line =
-    slice-front bytes p.index end.index (take 3 line) (drop 3 line ++ drop q.index bytes) stands index in
+    slice-front bytes p.index end.index (take 3 line) (drop 3 line ++ drop q.index bytes) valid index in
     let low : list_all is_low (take 3 line) ≡ true =
     ap (list_all is_low) h.markers
     ∙ and_from (is_low m) (is_low m && (is_low m && true)) (marker-low m h.marks)
     (and_from (is_low m) (is_low m && true) (marker-low m h.marks)
     (and_from (is_low m) true (marker-low m h.marks) refl)) in
     record {
-      stands = stands;
+      valid = valid;
       left =
           ap (λ (i : ℕ). drop i bytes) index
-          ∙ drop-past bytes p.index (take 3 line) (drop 3 line ++ drop q.index bytes) stands;
+          ∙ drop-past bytes p.index (take 3 line) (drop 3 line ++ drop q.index bytes) valid;
       ends = h.is.end ∙ ap (λ (l : List ℕ). past_text l p) (sym cut) ∙ past_text-append (take 3 line) (drop 3 line) p;
       size = size;
-      over = ap (stands_over n.FrontmatterSequence) h.markers ∙ marker-over m h.marks;
+      over = ap (may_cover n.FrontmatterSequence) h.markers ∙ marker-over m h.marks;
       low =
-          between-behind bytes end.index
+          between-following bytes end.index
           (low-at bytes (take 3 line) p.index end.index (end.index - 1) slice index low (omega (arith, size))
           (omega (arith, size)));
     }
@@ -244,25 +245,25 @@ fence-stretch bytes line m p q h =
     (stretch-append
     (stretch-pair IsPart bytes n.FrontmatterSequence p end
     (record { role_is = tt; no_part = refl; parted = λ x y ys k. k }) (over-onward (take 3 line) p end some refl)
-    (over-stands bytes n.FrontmatterSequence p end (take 3 line)
-    (over-front bytes p end (take 3 line) (drop 3 line ++ drop q.index bytes) marks.stands some refl)
+    (over-valid bytes n.FrontmatterSequence p end (take 3 line)
+    (over-front bytes p end (take 3 line) (drop 3 line ++ drop q.index bytes) marks.valid some refl)
     (begins-whole n.FrontmatterSequence p h.is.whole) marks.over))
     (over-stretch IsPart bytes n.SpaceOrTab (drop 3 line) (drop q.index bytes) end q (white-piece IsPart bytes tt)
     marks.left marks.ends (begins-cut n.SpaceOrTab end refl) h.blank) (λ first last. marks.low))
 
 -- whitespace after the markers, or none
 white-leads : (text : Expression) (line : List ℕ) (p q : Point) →
-    (left : Expression) × Leads text (behind n.FrontmatterSequence (inside text n.FrontmatterFence) ∷ []) (left ∷ [])
+    (left : Expression) × Leads text (following n.FrontmatterSequence (inside text n.FrontmatterFence) ∷ []) (left ∷ [])
     (part_over n.SpaceOrTab line p q) × (may_end left ≡ true)
-white-leads text [] p q = (behind n.FrontmatterSequence (inside text n.FrontmatterFence), λ outer. refl, refl)
+white-leads text [] p q = (following n.FrontmatterSequence (inside text n.FrontmatterFence), λ outer. refl, refl)
 white-leads text (b ∷ bs) p q = (
   Nothing,
-  leads-pair text (behind n.FrontmatterSequence (inside text n.FrontmatterFence)) n.SpaceOrTab p q refl,
+  leads-pair text (following n.FrontmatterSequence (inside text n.FrontmatterFence)) n.SpaceOrTab p q refl,
   refl,
 )
 
 fence-word : (text x : Expression) (line : List ℕ) (p q : Point) →
-    Leads text (x ∷ []) (behind n.FrontmatterFence x ∷ []) (fence_over line p q)
+    Leads text (x ∷ []) (following n.FrontmatterFence x ∷ []) (fence_over line p q)
 fence-word text x line p q =
     let end = marks_end line p in
     let white = white-leads text (drop 3 line) end q in
@@ -271,7 +272,7 @@ fence-word text x line p q =
       left = white.0;
       leads =
           leads-append text (inside text n.FrontmatterFence ∷ [])
-          (behind n.FrontmatterSequence (inside text n.FrontmatterFence) ∷ []) (white.0 ∷ [])
+          (following n.FrontmatterSequence (inside text n.FrontmatterFence) ∷ []) (white.0 ∷ [])
           (pair n.FrontmatterSequence p end) (part_over n.SpaceOrTab (drop 3 line) end q)
           (leads-pair text (inside text n.FrontmatterFence) n.FrontmatterSequence p end refl) white.1;
       ends = white.2;
@@ -312,32 +313,32 @@ fence-known bytes line m p q h =
 
 -- How it is read.
 
-fence-told : (bytes line : List ℕ) (m : ℕ) (p q : Point) (leaf : OpenLeaf) → HasFence bytes line m p q →
+fence-recorded : (bytes line : List ℕ) (m : ℕ) (p q : Point) (leaf : OpenLeaf) → HasFence bytes line m p q →
     ReadsLeaf bytes leaf (noted AsMarkers (text_line (take 3 line)) (at_fence leaf)) (fence_over line p q)
-fence-told bytes line m p q leaf h r none opened =
+fence-recorded bytes line m p q leaf h r none opened =
     let marks = has-marks bytes line m p q h in
     let end = marks_end line p in
     let white = part_over n.SpaceOrTab (drop 3 line) end q in
-    let told = code.chunk_line bytes p end in
+    let recorded = code.chunk_line bytes p end in
     let begun : Reading = record r { leaf = Some (at_fence leaf) } in
-    let done : Reading = record r { leaf = Some (noted AsMarkers told (at_fence leaf)) } in
+    let done : Reading = record r { leaf = Some (noted AsMarkers recorded (at_fence leaf)) } in
     ap
     (λ (x : Reading). read bytes x (white ++ exit n.FrontmatterFence q ∷ []))
     (ap
     (λ (l : Option OpenLeaf).
-    on_leaf (noted AsMarkers told) (record r { leaf = option_map at_fence l; text = None })) opened
-    ∙ leaf-told begun (noted AsMarkers told) (at_fence leaf) none refl)
+    on_leaf (noted AsMarkers recorded) (record r { leaf = option_map at_fence l; text = None })) opened
+    ∙ leaf-recorded begun (noted AsMarkers recorded) (at_fence leaf) none refl)
     ∙ read-from bytes done done white (exit n.FrontmatterFence q ∷ [])
     (read-quiet bytes done white (white-quiet (drop 3 line) end q))
     ∙ ap
     (λ (l : Line).
     let x : Reading = record r { leaf = Some (noted AsMarkers l (at_fence leaf)) } in x)
-    (told-text bytes (take 3 line) (drop 3 line ++ drop q.index bytes) p end h.is.whole marks.stands refl)
+    (recorded-text bytes (take 3 line) (drop 3 line ++ drop q.index bytes) p end h.is.whole marks.valid refl)
 
 -- what is known of either fence, which is read so
 fence-facts : (bytes line : List ℕ) (m : ℕ) (p q : Point) (x : Expression) (from to : OpenLeaf) →
     HasFence bytes line m p q → ReadsLeaf bytes from to (fence_over line p q) →
-    PartsFacts bytes p q x (behind n.FrontmatterFence x) from to (fence_over line p q) (fence_over line p q)
+    PartsFacts bytes p q x (following n.FrontmatterFence x) from to (fence_over line p q) (fence_over line p q)
 fence-facts bytes line m p q x from to h reads =
     let es = fence_over line p q in
     record {
@@ -361,7 +362,7 @@ marks-some bytes line m p q h =
     let at : byte_at p ≡ p.index = rw h.is.whole refl in
     let slice : slice_range bytes (byte_at p) end.index ≡ m ∷ m ∷ m ∷ [] =
     ap (λ (i : ℕ). slice_range bytes i end.index) at
-    ∙ slice-front bytes p.index end.index (take 3 line) (drop 3 line ++ drop q.index bytes) marks.stands size
+    ∙ slice-front bytes p.index end.index (take 3 line) (drop 3 line ++ drop q.index bytes) marks.valid size
     ∙ h.markers in
     ap (λ (l : List ℕ). first_byte l == 0) slice ∙ marker-some m h.marks
 
@@ -373,14 +374,14 @@ open-passes bytes line m p q h =
     (marks-some bytes line m p q h)
 
 pub open-inside : (bytes line : List ℕ) (m : ℕ) (p q : Point) → HasFence bytes line m p q →
-    InsideFacts bytes p q (inside plain_text n.Frontmatter) behind_open (fresh OfFrontmatter)
+    InsideFacts bytes p q (inside plain_text n.Frontmatter) after_open (fresh OfFrontmatter)
     (front_leaf (take 3 line) [] false) (AtMarkers OfFrontmatter) (AtEnding OfFrontmatter) (fence_over line p q)
     (fence_over line p q)
 open-inside bytes line m p q h = record {
   parts =
       fence-facts bytes line m p q (inside plain_text n.Frontmatter) (fresh OfFrontmatter)
       (front_leaf (take 3 line) [] false) h
-      (fence-told bytes line m p q (fresh OfFrontmatter) h);
+      (fence-recorded bytes line m p q (fresh OfFrontmatter) h);
   plain = λ first. record {
     known = fence-known bytes line m p q h;
     lines = open-passes bytes line m p q h;
@@ -394,9 +395,9 @@ without-last [] x = refl
 without-last (y ∷ []) x = refl
 without-last (y ∷ z ∷ ys) x = ap (λ (l : List Line). y ∷ l) (without-last (z ∷ ys) x)
 
-markers-stand : (markers now : List ℕ) → (length markers == 0) ≡ false → first_told markers now ≡ markers
-markers-stand [] now e = cc
-markers-stand (b ∷ bs) now e = refl
+markers-are_valid : (markers now : List ℕ) → (length markers == 0) ≡ false → first_recorded markers now ≡ markers
+markers-are_valid [] now e = cc
+markers-are_valid (b ∷ bs) now e = refl
 
 closing-noted : (markers : List ℕ) (lines : List Line) (line : Line) → (length markers == 0) ≡ false →
     noted AsMarkers line (at_fence (front_leaf markers (lines ++ empty_line ∷ []) false)) ≡
@@ -409,7 +410,7 @@ closing-noted markers lines line some =
     (FrontmatterLeaf
     (cond (x || false) fences (record fences { lines = without_last fences.lines; closed = true })))) some
     ∙ ap (λ (ls : List Line). noted AsMarkers line (front_leaf markers ls true)) (without-last lines empty_line)
-    ∙ ap (λ (ms : List ℕ). front_leaf ms lines true) (markers-stand markers line.text some)
+    ∙ ap (λ (ms : List ℕ). front_leaf ms lines true) (markers-are_valid markers line.text some)
 
 close-passes : (bytes line : List ℕ) (p q : Point) →
     Passes bytes (AtLine OfFrontmatter) (AtEnd OfFrontmatter) (fence_over line p q)
@@ -427,7 +428,7 @@ close-inside bytes line m markers lines p q h some = record {
       fence-facts bytes line m p q in_line (front_leaf markers (lines ++ empty_line ∷ []) false)
       (front_leaf markers lines true) h
       (λ r none opened.
-      fence-told bytes line m p q (front_leaf markers (lines ++ empty_line ∷ []) false) h r none opened
+      fence-recorded bytes line m p q (front_leaf markers (lines ++ empty_line ∷ []) false) h r none opened
       ∙ ap (λ (l : OpenLeaf). let x : Reading = record r { leaf = Some l } in x)
       (closing-noted markers lines (text_line (take 3 line)) some));
   plain = λ first. record {

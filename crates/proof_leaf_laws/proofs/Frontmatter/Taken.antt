@@ -15,14 +15,14 @@ use Rattle.md_engine.specs.declared.tokenizer.Scratch.{Scratch}
 use Rattle.md_engine.specs.Meaning.{Accepts, Cell, Here, Outcome, Refuses}
 use Rattle.md_engine.specs.World.{Flags}
 use Rattle.md_containers.specs.Frontmatter.{is_marker}
-use Rattle.md_containers.specs.FrontmatterRule.{at_line, behind_line, close_at, close_end, closed_or, fence_begun}
+use Rattle.md_containers.specs.FrontmatterRule.{at_line, following_line, close_at, close_end, closed_or, fence_begun}
 use Rattle.md_containers.specs.FrontmatterRule.{in_close, in_lines, in_sequence, shuts}
-use Rattle.md_containers.proofs.FrontmatterMeaning.{close-done, close-goes, lines-end, lines-more}
+use Rattle.md_containers.proofs.FrontmatterMeaning.{close-done, close-proceeds, lines-end, lines-more}
 use Rattle.md_meaning.specs.Preamble.{is_front_fence}
 use Rattle.md_meaning.specs.Rest.{is_blank, is_white, run_len}
 use Rattle.md_meaning.proofs.TextsLemmas.{NoEnding, no_ending-drop}
 use Rattle.md_leaves.specs.Heading.{without_size}
-use Rattle.md_code.specs.FenceRule.{behind_white_of, is_end, run_end, run_rest, run_size, with_event}
+use Rattle.md_code.specs.FenceRule.{after_white_of, is_end, run_end, run_rest, run_size, with_event}
 use Rattle.md_code.proofs.FenceCells.{RunOf, end-blank, first-spread, run-length, run-walk}
 use Rattle.md_code.proofs.FenceWhole.{white-joined}
 use Rattle.md_events.specs.Ahead.{begins_white, point_after, white_end, white_rest}
@@ -97,31 +97,31 @@ fence_done line h =
     }
 
 -- where the line ends, whitespace may be in front
-white-over : (said : Line) (behind : List Cell → Here → Outcome) (line : List ℕ) (stop : List Cell) (h : Here) →
+white-over : (said : Line) (following : List Cell → Here → Outcome) (line : List ℕ) (stop : List Cell) (h : Here) →
     is_blank line ≡ true → NoEnding line → Stops stop → 1 ≤ h.point.column → calmed h.scratch ≡ h.scratch →
     length (spread said line h.point ++ stop) < 2 ^ 63 →
-    behind_white_of any_size behind (spread said line h.point ++ stop) h ≡
-    behind stop
+    after_white_of any_size following (spread said line h.point ++ stop) h ≡
+    following stop
     (record h {
       events = h.events ++ part_over n.SpaceOrTab line h.point (past_text line h.point);
       point = past_text line h.point;
     })
-white-over said behind line stop h blank bare k one calm short =
+white-over said following line stop h blank bare k one calm short =
     let cells = spread said line h.point in
     let sum = length-append cells stop in
     let all = white-all any_size cells stop h.point (all-spread is_white refl said line h.point ∙ blank)
     (omega (arith, short, sum)) (stops-white stop k) in
-    white-joined any_size behind (cells ++ stop) h calm (omega arith)
+    white-joined any_size following (cells ++ stop) h calm (omega arith)
     ∙ ap₂
     (λ (l : List Cell) (q : Point).
-    behind l
+    following l
     (record h {
       events = h.events ++ cond (nat_lt 0 any_size && begins_white (cells ++ stop)) (pair n.SpaceOrTab h.point q) [];
       point = q;
     }))
     all.rest (all.end ∙ spread-end said line h.point one)
     ∙ ap
-    (λ (es : List Event). behind stop (record h { events = h.events ++ es; point = past_text line h.point }))
+    (λ (es : List Event). following stop (record h { events = h.events ++ es; point = past_text line h.point }))
     (go line blank)
   where
     go : (line : List ℕ) → is_blank line ≡ true →
@@ -136,31 +136,32 @@ white-over said behind line stop h blank bare k one calm short =
         rw white refl
 
 -- where it does not, something else than an ending follows it
-white-stops : (said : Line) (behind : List Cell → Here → Outcome) (o : Outcome) (line : List ℕ) (stop : List Cell)
+white-stops : (said : Line) (following : List Cell → Here → Outcome) (o : Outcome) (line : List ℕ) (stop : List Cell)
     (h : Here) →
     is_blank line ≡ false → NoEnding line → Stops stop → calmed h.scratch ≡ h.scratch →
     length (spread said line h.point ++ stop) < 2 ^ 63 →
     ((cells : List Cell) (k : Here) → is_end cells ≡ false → k.scratch ≡ h.scratch → k.flags ≡ h.flags →
-    behind cells k ≡ o) →
-    behind_white_of any_size behind (spread said line h.point ++ stop) h ≡ o
-white-stops said behind o line stop h black bare k calm short refused =
+    following cells k ≡ o) →
+    after_white_of any_size following (spread said line h.point ++ stop) h ≡ o
+white-stops said following o line stop h black bare k calm short refused =
     let cells = spread said line h.point in
-    white-joined any_size behind (cells ++ stop) h calm (omega arith)
+    white-joined any_size following (cells ++ stop) h calm (omega arith)
     ∙ refused _ _
     (end-blank any_size (cells ++ stop) (omega (arith, short))
     ∙ blank-spread said line h.point stop bare k ∙ black) refl
     refl
 
-pub fence-is : (said : Line) (behind : List Cell → Here → Outcome) (left : Scratch) (line : List ℕ) (stop : List Cell)
+pub fence-is : (said : Line) (following : List Cell → Here → Outcome) (left : Scratch) (line : List ℕ)
+    (stop : List Cell)
     (h : Here) →
     is_marker h.scratch.marker ≡ true → h.scratch.size ≡ 0 → calmed h.scratch ≡ h.scratch → NoEnding line → Stops stop →
     1 ≤ h.point.column → length (spread said line h.point ++ stop) < 2 ^ 63 →
     ((cells : List Cell) (k : Here) → is_end cells ≡ false → k.scratch ≡ without_size h.scratch → k.flags ≡ h.flags →
-    behind cells k ≡ Refuses left h.flags) →
-    in_sequence behind left (spread said line h.point ++ stop) h ≡
-    cond (is_front_fence h.scratch.marker line) (behind stop (fence_done line h)) (Refuses left h.flags)
+    following cells k ≡ Refuses left h.flags) →
+    in_sequence following left (spread said line h.point ++ stop) h ≡
+    cond (is_front_fence h.scratch.marker line) (following stop (fence_done line h)) (Refuses left h.flags)
 unfolding in_sequence
-fence-is said behind left line stop h marks none calm bare k one short refused = go (nat_eq (run_len m line) 3) refl
+fence-is said following left line stop h marks none calm bare k one short refused = go (nat_eq (run_len m line) 3) refl
   where
     m : ℕ
     m = h.scratch.marker
@@ -175,8 +176,8 @@ fence-is said behind left line stop h marks none calm bare k one short refused =
     sum = omega (arith, none, run.size)
 
     go : (x : Bool) → nat_eq (run_len m line) 3 ≡ x →
-        in_sequence behind left cells h ≡
-        cond (is_front_fence m line) (behind stop (fence_done line h)) (Refuses left h.flags)
+        in_sequence following left cells h ≡
+        cond (is_front_fence m line) (following stop (fence_done line h)) (Refuses left h.flags)
     go false e = rw (sum, e) refl
     go true e = rw (sum, e) (by (is_blank (drop 3 line)) refl)
       where
@@ -193,20 +194,20 @@ fence-is said behind left line stop h marks none calm bare k one short refused =
           scratch = without_size h.scratch;
         }
 
-        stands : behind_white_of any_size behind (run_rest (λ b. b == m) cells)
+        valid : after_white_of any_size following (run_rest (λ b. b == m) cells)
             (record h {
               events = h.events ++ exit n.FrontmatterSequence (run_end (λ b. b == m) cells h.point) ∷ [];
               point = run_end (λ b. b == m) cells h.point;
               scratch = without_size h.scratch;
             }) ≡
-            behind_white_of any_size behind (spread said (drop 3 line) q ++ stop) at
-        stands =
+            after_white_of any_size following (spread said (drop 3 line) q ++ stop) at
+        valid =
             let end = run.end ∙ ap (λ (i : ℕ). past_text (take i line) h.point) three in
             let rest = run.rest
             ∙ ap (λ (i : ℕ). spread said (drop i line) (past_text (take i line) h.point) ++ stop) three in
             ap₂
             (λ (l : List Cell) (r : Point).
-            behind_white_of any_size behind l
+            after_white_of any_size following l
             (record h {
               events = h.events ++ exit n.FrontmatterSequence r ∷ [];
               point = r;
@@ -229,25 +230,25 @@ fence-is said behind left line stop h marks none calm bare k one short refused =
             ∙ ap (λ (l : List ℕ). past_text l h.point) (take-append-drop 3 line)
 
         by : (y : Bool) → is_blank (drop 3 line) ≡ y →
-            behind_white_of any_size behind (run_rest (λ b. b == m) cells)
+            after_white_of any_size following (run_rest (λ b. b == m) cells)
             (record h {
               events = h.events ++ exit n.FrontmatterSequence (run_end (λ b. b == m) cells h.point) ∷ [];
               point = run_end (λ b. b == m) cells h.point;
               scratch = without_size h.scratch;
             }) ≡
-            cond (is_blank (drop 3 line)) (behind stop (fence_done line h)) (Refuses left h.flags)
+            cond (is_blank (drop 3 line)) (following stop (fence_done line h)) (Refuses left h.flags)
         by true f =
-            stands
-            ∙ white-over said behind (drop 3 line) stop at f (no_ending-drop 3 line bare) k
+            valid
+            ∙ white-over said following (drop 3 line) stop at f (no_ending-drop 3 line bare) k
             (past_text-column (take 3 line) h.point one) (ap without_size calm) within
             ∙ ap
             (λ (r : Point).
-            behind stop
+            following stop
             (record at { events = at.events ++ part_over n.SpaceOrTab (drop 3 line) q r; point = r })) whole
             ∙ rw f refl
         by false f =
-            stands
-            ∙ white-stops said behind (Refuses left h.flags) (drop 3 line) stop at f (no_ending-drop 3 line bare) k
+            valid
+            ∙ white-stops said following (Refuses left h.flags) (drop 3 line) stop at f (no_ending-drop 3 line bare) k
             (ap without_size calm) within refused
             ∙ rw f refl
 
@@ -255,7 +256,7 @@ fence-is said behind left line stop h marks none calm bare k one short refused =
 
 close-refuses : (h : Here) (cells : List Cell) (k : Here) → is_end cells ≡ false → k.scratch ≡ without_size h.scratch →
     k.flags ≡ h.flags → close_end cells k ≡ Refuses (without_size h.scratch) h.flags
-close-refuses h cells k e s g = close-goes cells k e ∙ ap₂ (λ (t : Scratch) (f : Flags). Refuses t f) s g
+close-refuses h cells k e s g = close-proceeds cells k e ∙ ap₂ (λ (t : Scratch) (f : Flags). Refuses t f) s g
 
 pub not-fence : (m : ℕ) (line : List ℕ) → nat_eq (run_len m line) 0 ≡ true → is_front_fence m line ≡ false
 not-fence m line e =
@@ -331,7 +332,7 @@ close-line said line stop h marks none calm bare k one short =
 
 chunk-on : (cells stop : List Cell) (h : Here) → NoFeed cells → Stops stop →
     in_lines true (cells ++ stop) h ≡
-    behind_line stop
+    following_line stop
     (with_event (record h { point = point_after cells h.point })
     (exit n.FrontmatterChunk (point_after cells h.point)))
 chunk-on [] stop h bare k = lines-end true stop h (stops-end stop k)
@@ -340,21 +341,21 @@ chunk-on (c ∷ cs) stop h bare k =
 
 content-cells : (cells stop : List Cell) (h : Here) → NoFeed cells → Stops stop →
     in_lines false (cells ++ stop) h ≡
-    behind_line stop
+    following_line stop
     (record h {
       events = h.events ++ over cells h.point (point_after cells h.point);
       point = point_after cells h.point;
     })
 content-cells [] stop h bare k =
     lines-end false stop h (stops-end stop k)
-    ∙ ap (λ (es : List Event). behind_line stop (record h { events = es })) (sym (append-nil h.events))
+    ∙ ap (λ (es : List Event). following_line stop (record h { events = es })) (sym (append-nil h.events))
 content-cells (c ∷ cs) stop h bare k =
     let p = h.point in
     let q = point_after (c ∷ cs) p in
     let k' : Here = record h { events = h.events ++ enter n.FrontmatterChunk p ∷ []; point = c.after } in
     lines-more false c (cs ++ stop) h bare.0
     ∙ chunk-on cs stop k' bare.1 k
-    ∙ ap (λ (es : List Event). behind_line stop (record h { events = es; point = q })) (simp append_assoc)
+    ∙ ap (λ (es : List Event). following_line stop (record h { events = es; point = q })) (simp append_assoc)
 
 over-line : (said : Line) (line : List ℕ) (p q : Point) →
     over (spread said line p) p q ≡ part_over n.FrontmatterChunk line p q
@@ -372,7 +373,7 @@ over-line said (b ∷ bs) p q = go (spread said (b ∷ bs) p) refl
 content-line : (said : Line) (line : List ℕ) (stop : List Cell) (h : Here) → NoEnding line → Stops stop →
     1 ≤ h.point.column →
     in_lines false (spread said line h.point ++ stop) h ≡
-    behind_line stop
+    following_line stop
     (record h { events = h.events ++ line_part line h.point; point = past_text line h.point })
 content-line said line stop h bare k one =
     let cells = spread said line h.point in
@@ -380,9 +381,9 @@ content-line said line stop h bare k one =
     content-cells cells stop h (no_feed-spread said line h.point bare) k
     ∙ ap
     (λ (r : Point).
-    behind_line stop (record h { events = h.events ++ over cells h.point r; point = r }))
+    following_line stop (record h { events = h.events ++ over cells h.point r; point = r }))
     (spread-end said line h.point one)
-    ∙ ap (λ (es : List Event). behind_line stop (record h { events = h.events ++ es; point = q }))
+    ∙ ap (λ (es : List Event). following_line stop (record h { events = h.events ++ es; point = q }))
     (over-line said line h.point q)
 
 -- A line before which one is: the closing fence, or one between.
@@ -391,7 +392,7 @@ pub one-line : (said : Line) (line : List ℕ) (stop : List Cell) (h : Here) →
     1 ≤ h.point.column → length (spread said line h.point ++ stop) < 2 ^ 63 →
     at_line (spread said line h.point ++ stop) h ≡
     cond (is_front_fence h.scratch.marker line) (shuts stop (around_fence line h))
-    (behind_line stop
+    (following_line stop
     (record h { events = h.events ++ line_part line h.point; point = past_text line h.point }))
 one-line said line stop h marks none calm bare k one short =
     ap (closed_or content) (close-line said line stop h marks none calm bare k one short)
@@ -406,7 +407,7 @@ one-line said line stop h marks none calm bare k one short =
     go : (x : Bool) →
         closed_or content (cond x (Accepts (around_fence line h) stop) (Refuses (without_size h.scratch) h.flags)) ≡
         cond x (shuts stop (around_fence line h))
-        (behind_line stop
+        (following_line stop
         (record h { events = h.events ++ line_part line h.point; point = past_text line h.point }))
     go true = refl
     go false =

@@ -11,7 +11,7 @@ use Rattle.md_engine.specs.declared.event.Name.TheVariants as n
 use Rattle.md_engine.specs.declared.event.Point.{Point}
 use Rattle.md_engine.specs.Place.{first_point}
 use Rattle.md_containers.specs.Unlisted.{keeps_unlisted, unlisted_left}
-use Rattle.md_containers.proofs.UnlistedLemmas.{StandsTo, Unlists, among, stands-append, unlists-append}
+use Rattle.md_containers.proofs.UnlistedLemmas.{ItemsLead, Unlists, among, valid-append, unlists-append}
 use Rattle.md_containers.proofs.UnlistedLemmas.{unlists-rest, unlists-same}
 use Rattle.md_meaning.specs.Preamble.{has_mark}
 use Rattle.md_meaning.specs.Texts.{first_byte}
@@ -19,26 +19,26 @@ use Rattle.md_meaning.specs.Tree.{Block, Blocks, End, Frontmatter, Line, More}
 use Rattle.md_meaning.proofs.PreambleLemmas.{mark-bytes}
 use Rattle.md_outline.specs.Between.{is_between}
 use Rattle.md_outline.proofs.FrontPass.{passes-front}
-use Rattle.md_events.specs.Events.Endings.{endings_stand, endings_stand_from, line_start}
-use Rattle.md_events.specs.Events.Grammar.{Expression, Never, Nothing, Then, behind, behind_block, blocks, is_whole, one}
-use Rattle.md_events.specs.Events.Grammar.{or_else, plain_text, unread_text}
+use Rattle.md_events.specs.Events.Endings.{endings_are_right, endings_are_right_from, line_start}
+use Rattle.md_events.specs.Events.Grammar.{Expression, Never, Nothing, Then, following, after_block, blocks, is_whole}
+use Rattle.md_events.specs.Events.Grammar.{one, or_else, plain_text, unread_text}
 use Rattle.md_events.specs.Events.Nested.{around, exit, pair}
-use Rattle.md_events.specs.Events.Spelled.{OfFrontmatter, OpenLeaf, Reading, Text, add_block, at_ending, block_of, fresh}
-use Rattle.md_events.specs.Events.Spelled.{next_line, on_leaf, read, unread}
-use Rattle.md_events.proofs.EndingsLemmas.{Leads, behind_leaf, leads-append, leaf-leads}
+use Rattle.md_events.specs.Events.Spelled.{OfFrontmatter, OpenLeaf, Reading, Text, add_block, at_ending, block_of}
+use Rattle.md_events.specs.Events.Spelled.{fresh, next_line, on_leaf, read, unread}
+use Rattle.md_events.proofs.EndingsLemmas.{Leads, following_leaf, leads-append, leaf-leads}
 use Rattle.md_events.proofs.GrammarLemmas as grammar
 use Rattle.md_events.proofs.GrammarLemmas.{leads-around}
 use Rattle.md_events.proofs.SpelledLemmas.{read-from, read-quiet}
 use Rattle.proof_leaf_laws.specs.Front.{mark_end, mark_events, mark_point}
-use Rattle.proof_frame.proofs.BetweenFacts.{AreBetween, between-end, ending-before, ending-behind}
+use Rattle.proof_frame.proofs.BetweenFacts.{AreBetween, between-end, ending-before, ending-following}
 use Rattle.proof_leaf_laws.proofs.Frontmatter.Found.{AtEnd, Ended, Tail}
 use Rattle.proof_leaf_laws.proofs.Frontmatter.Lines.{IsFront, front-fills, front-inside}
 use Rattle.proof_leaf_laws.proofs.Frontmatter.Parts.{front_leaf, text_line}
-use Rattle.proof_frame.proofs.LeafStands.{around-unlisted, between-stand, leaf-stands}
+use Rattle.proof_frame.proofs.LeafAllowed.{around-unlisted, between-are_valid, leaf-valid}
 use Rattle.proof_frame.proofs.IndentRemoved.Shown.{whole-clear}
 use Rattle.proof_leaf_laws.proofs.MarkLemmas.{between-mark, body-between, body-vs}
 use Rattle.proof_frame.proofs.PartedFacts.{clear}
-use Rattle.proof_frame.proofs.PieceFacts.{Starts, over-stands}
+use Rattle.proof_frame.proofs.PieceFacts.{Starts, over-valid}
 use Rattle.proof_frame.proofs.PlainFacts.{ArePlain, known-around, plain-append, plain-nil, plain-quiet, plain-untold}
 use Rattle.md_events.proofs.FeedLines.{IsEnding}
 use Rattle.proof_frame.proofs.EndingFacts.{stretch-ended}
@@ -50,7 +50,7 @@ pub record FrontPart (bytes : List ℕ) (p q : Point) (es : List Event) : Type 0
   pub stretch : Stretch NoContainer bytes p q es es
   pub first : is_between bytes p.index ≡ true
   pub last : is_between bytes q.index ≡ true
-  pub stands : StandsTo bytes (among []) (among []) es
+  pub valid : ItemsLead bytes (among []) (among []) es
   pub plain : ArePlain bytes es
 
 -- it is between characters
@@ -62,7 +62,7 @@ part-none bytes p first = record {
   stretch = stretch-none NoContainer bytes p;
   first = first;
   last = first;
-  stands = record { stand = tt; behind = refl };
+  valid = record { are_valid = tt; following = refl };
   plain = plain-nil bytes;
 }
 
@@ -72,7 +72,7 @@ part-append bytes p q r xs ys h k = record {
   stretch = stretch-append h.stretch k.stretch (λ first last. h.last);
   first = h.first;
   last = k.last;
-  stands = stands-append bytes (among []) (among []) (among []) xs ys h.stands k.stands;
+  valid = valid-append bytes (among []) (among []) (among []) xs ys h.valid k.valid;
   plain = plain-append bytes xs ys h.plain k.plain;
 }
 
@@ -83,7 +83,7 @@ ending-part bytes p q whole first last is = record {
   stretch = stretch-ended NoContainer bytes false p q tt tt whole is;
   first = first;
   last = last;
-  stands = between-stand bytes [] (pair n.LineEnding p q) (tt, (tt, tt));
+  valid = between-are_valid bytes [] (pair n.LineEnding p q) (tt, (tt, tt));
   plain = plain-untold bytes (pair n.LineEnding p q) ((refl, refl), ((refl, refl), tt));
 }
 
@@ -100,7 +100,7 @@ front-part bytes p texts es z free first last is =
           (stretch-as part-no_container h.parts.stretch);
       first = first;
       last = last;
-      stands = leaf-stands bytes [] n.Frontmatter OfFrontmatter p z es refl h.parts.stretch.roles;
+      valid = leaf-valid bytes [] n.Frontmatter OfFrontmatter p z es refl h.parts.stretch.roles;
       plain = record {
         known = known-around bytes n.Frontmatter p z es refl refl refl (h.plain free).known;
         lines = passes-front bytes p z es (h.plain free).lines;
@@ -126,7 +126,7 @@ front-reads bytes p texts es z is r none shut =
 
 -- its last line is filled
 front-ends : (bytes : List ℕ) (p : Point) (texts : List (List ℕ)) (es : List Event) (z : Point) →
-    IsFront bytes p texts es z → Leads line_start behind_leaf (around n.Frontmatter p z es)
+    IsFront bytes p texts es z → Leads line_start following_leaf (around n.Frontmatter p z es)
 front-ends bytes p texts es z is = leaf-leads n.Frontmatter p z es refl (front-fills bytes p texts es z is true)
 
 -- In the grammar, before text parts are read and once they are.
@@ -136,7 +136,7 @@ pub data IsText : Expression → Type 0 where
 
 front-word : (bytes : List ℕ) (text x : Expression) (p : Point) (texts : List (List ℕ)) (es : List Event) (z : Point) →
     IsText text → IsFront bytes p texts es z →
-    grammar.Leads text (x ∷ []) (behind n.Frontmatter x ∷ []) (around n.Frontmatter p z es)
+    grammar.Leads text (x ∷ []) (following n.Frontmatter x ∷ []) (around n.Frontmatter p z es)
 front-word bytes _ x p texts es z Unread is =
     leads-around unread_text x n.Frontmatter p z es
     (record { left = Nothing; leads = (front-inside bytes p texts es z is).parts.unread_word; ends = refl })
@@ -161,7 +161,7 @@ mark-part bytes = go (has_mark bytes) refl
           stretch =
               stretch-pair NoContainer bytes n.ByteOrderMark first_point mark_end
               (record { role_is = tt; no_part = refl; parted = λ p q ys h. h }) refl
-              (over-stands bytes n.ByteOrderMark first_point mark_end (239 ∷ 187 ∷ 191 ∷ [])
+              (over-valid bytes n.ByteOrderMark first_point mark_end (239 ∷ 187 ∷ 191 ∷ [])
               (record {
                 slice = slice;
                 some = omega arith;
@@ -169,7 +169,7 @@ mark-part bytes = go (has_mark bytes) refl
               }) refl refl);
           first = refl;
           last = between-mark bytes e;
-          stands = between-stand bytes [] mark (tt, (tt, tt));
+          valid = between-are_valid bytes [] mark (tt, (tt, tt));
           plain = plain-quiet bytes mark (tt, (tt, tt));
         }
 
@@ -186,7 +186,7 @@ pub data Leaves (bytes : List ℕ) (p : Point) (es : List Event) : Type 0 where
       ((text : Expression) → IsText text → (more : List Event) →
       is_whole (unlisted_left text (blocks ∷ []) more) ≡ true → keeps_unlisted text (es ++ more) ≡ true) →
       Leaves bytes p es
-  ToEnd : length bytes ≤ p.index → endings_stand es ≡ true →
+  ToEnd : length bytes ≤ p.index → endings_are_right es ≡ true →
       ((text : Expression) → IsText text → keeps_unlisted text es ≡ true) → Leaves bytes p es
 
 pub record IsFronted (bytes : List ℕ) (block : Option Block) (p : Point) (es : List Event) : Type 0 where
@@ -202,15 +202,15 @@ unfolding keeps_unlisted
 form-of text events false h = rw h refl
 form-of text events true h =
     let whole : Expression → Bool = λ x. is_whole (unlisted_left text (x ∷ []) events) in
-    let others : List Expression = Then (one n.Frontmatter) behind_block
-    ∷ Then (one n.ByteOrderMark) (Then (one n.Frontmatter) behind_block) ∷ [] in
+    let others : List Expression = Then (one n.Frontmatter) after_block
+    ∷ Then (one n.ByteOrderMark) (Then (one n.Frontmatter) after_block) ∷ [] in
     or_right (whole blocks) (list_any whole (Then (one n.ByteOrderMark) blocks ∷ others))
     (or_left (whole (Then (one n.ByteOrderMark) blocks)) (list_any whole others) h)
 
 front-form : (text : Expression) (events : List Event) → (x : Bool) →
     is_whole
     (unlisted_left text
-    (cond x (Then (one n.ByteOrderMark) (Then (one n.Frontmatter) behind_block)) (Then (one n.Frontmatter) behind_block)
+    (cond x (Then (one n.ByteOrderMark) (Then (one n.Frontmatter) after_block)) (Then (one n.Frontmatter) after_block)
     ∷ []) events) ≡
     true →
     keeps_unlisted text events ≡ true
@@ -221,10 +221,10 @@ front-form text events x h = go x h
     whole x = is_whole (unlisted_left text (x ∷ []) events)
 
     two : Expression
-    two = Then (one n.Frontmatter) behind_block
+    two = Then (one n.Frontmatter) after_block
 
     three : Expression
-    three = Then (one n.ByteOrderMark) (Then (one n.Frontmatter) behind_block)
+    three = Then (one n.ByteOrderMark) (Then (one n.Frontmatter) after_block)
 
     marked : Expression
     marked = Then (one n.ByteOrderMark) blocks
@@ -284,24 +284,24 @@ mark-fronted bytes = record {
 front-unlists : (bytes : List ℕ) (text : Expression) (texts : List (List ℕ)) (es : List Event) (z : Point) →
     IsText text → IsFront bytes (mark_point bytes) texts es z →
     Unlists text
-    (cond (has_mark bytes) (Then (one n.ByteOrderMark) (Then (one n.Frontmatter) behind_block))
-    (Then (one n.Frontmatter) behind_block)
+    (cond (has_mark bytes) (Then (one n.ByteOrderMark) (Then (one n.Frontmatter) after_block))
+    (Then (one n.Frontmatter) after_block)
     ∷ [])
-    (behind_block ∷ []) (mark_events bytes ++ around n.Frontmatter (mark_point bytes) z es)
+    (after_block ∷ []) (mark_events bytes ++ around n.Frontmatter (mark_point bytes) z es)
 front-unlists bytes text texts es z kind is =
     let p = mark_point bytes in
-    let form = Then (one n.Frontmatter) behind_block in
+    let form = Then (one n.Frontmatter) after_block in
     let h = front-inside bytes p texts es z is in
     unlists-append text (cond (has_mark bytes) (Then (one n.ByteOrderMark) form) form ∷ []) (form ∷ [])
-    (behind_block ∷ []) (mark_events bytes) (around n.Frontmatter p z es) (mark-unlists text form bytes refl)
-    (unlists-same text (form ∷ []) (behind_block ∷ []) (around n.Frontmatter p z es)
+    (after_block ∷ []) (mark_events bytes) (around n.Frontmatter p z es) (mark-unlists text form bytes refl)
+    (unlists-same text (form ∷ []) (after_block ∷ []) (around n.Frontmatter p z es)
     (around-unlisted n.Frontmatter p z es refl h.parts.stretch.roles) (front-word bytes text form p texts es z kind is))
 
 ending-unlists : (text : Expression) (z r : Point) →
-    Unlists text (behind_block ∷ []) (blocks ∷ []) (pair n.LineEnding z r)
+    Unlists text (after_block ∷ []) (blocks ∷ []) (pair n.LineEnding z r)
 ending-unlists text z r = λ outer. refl
 
-ending-leads : (z r : Point) → Leads behind_leaf line_start (pair n.LineEnding z r)
+ending-leads : (z r : Point) → Leads following_leaf line_start (pair n.LineEnding z r)
 ending-leads z r = λ ys. refl
 
 -- where it begins no tab is cut
@@ -331,8 +331,8 @@ front-fronted bytes texts es z _ _ is whole within (AtEnd left) =
           ∙ front-reads bytes p texts es z is unread refl refl;
       leaves =
           ToEnd over
-          (ap (endings_stand_from line_start) (sym (append-nil (mark_events bytes ++ front)))
-          ∙ leads-append line_start line_start behind_leaf (mark_events bytes) front (mark-leads bytes)
+          (ap (endings_are_right_from line_start) (sym (append-nil (mark_events bytes ++ front)))
+          ∙ leads-append line_start line_start following_leaf (mark_events bytes) front (mark-leads bytes)
           (front-ends bytes p texts es z is) [])
           (λ text kind.
           front-form text (mark_events bytes ++ front) (has_mark bytes)
@@ -345,7 +345,7 @@ front-fronted bytes texts es z _ _ is whole within (Ended r ending) =
     let last = ending-before bytes z r ending in
     let part = part-append bytes p z r front tail
     (front-part bytes p texts es z (body-clear bytes) (body-between bytes) last is)
-    (ending-part bytes z r whole last (ending-behind bytes z r ending) ending) in
+    (ending-part bytes z r whole last (ending-following bytes z r ending) ending) in
     record {
       part = part-append bytes first_point p r (mark_events bytes) (front ++ tail) (mark-part bytes) part;
       reads =
@@ -356,8 +356,8 @@ front-fronted bytes texts es z _ _ is whole within (Ended r ending) =
       leaves =
           ToLine
           (subst (Leads line_start line_start) (append_assoc (mark_events bytes) front tail)
-          (leads-append line_start behind_leaf line_start (mark_events bytes ++ front) tail
-          (leads-append line_start line_start behind_leaf (mark_events bytes) front (mark-leads bytes)
+          (leads-append line_start following_leaf line_start (mark_events bytes ++ front) tail
+          (leads-append line_start line_start following_leaf (mark_events bytes) front (mark-leads bytes)
           (front-ends bytes p texts es z is)) (ending-leads z r)))
           (λ text kind more h.
           front-form text ((mark_events bytes ++ (front ++ tail)) ++ more) (has_mark bytes)
@@ -365,15 +365,15 @@ front-fronted bytes texts es z _ _ is whole within (Ended r ending) =
           (sym (append_assoc (mark_events bytes) front tail))
           ∙ ap is_whole
           (unlists-rest text (form (has_mark bytes) ∷ []) (blocks ∷ []) [] ((mark_events bytes ++ front) ++ tail) more
-          (unlists-append text (form (has_mark bytes) ∷ []) (behind_block ∷ []) (blocks ∷ [])
+          (unlists-append text (form (has_mark bytes) ∷ []) (after_block ∷ []) (blocks ∷ [])
           (mark_events bytes ++ front) tail (front-unlists bytes text texts es z kind is) (ending-unlists text z r)))
           ∙ h));
     }
   where
     form : Bool → Expression
     form x =
-        cond x (Then (one n.ByteOrderMark) (Then (one n.Frontmatter) behind_block))
-        (Then (one n.Frontmatter) behind_block)
+        cond x (Then (one n.ByteOrderMark) (Then (one n.Frontmatter) after_block))
+        (Then (one n.Frontmatter) after_block)
 
     ending-read : (bytes : List ℕ) (p q : Point) (r : Reading) → r.text ≡ None → r.leaf ≡ None →
         read bytes r (pair n.LineEnding p q) ≡ r

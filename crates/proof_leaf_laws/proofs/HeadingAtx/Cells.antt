@@ -38,9 +38,9 @@ use Rattle.md_events.proofs.RestCells.{RestAt, rest_cells}
 use Rattle.proof_frame.specs.RestLine.{rest_line}
 use Rattle.proof_leaf_laws.specs.Leaf.HeadingAtx.{heading_leaf}
 use Rattle.proof_frame.proofs.LineTexts.{no_ending-parts, past-whole, without-none}
-use Rattle.proof_frame.proofs.MarkRuns.Fits.{Tells, line-fits}
+use Rattle.proof_frame.proofs.MarkRuns.Fits.{Reports, line-fits}
 use Rattle.proof_frame.proofs.RestFacts.{Indented, rest-line_end, rest-no_ending, rest-same, rest-trim, small-indented}
-use Rattle.proof_frame.proofs.TextBehind.{whole-rest}
+use Rattle.proof_frame.proofs.TextAfter.{whole-rest}
 
 -- Where it is.
 
@@ -131,8 +131,8 @@ heading-spread line (b ∷ bs) p = go (b == 9) refl (b == 35) refl
         ∙ sym (heading-other b bs k)
 
 -- whitespace begins none
-heading-tells : Tells is_heading
-heading-tells = record {
+heading-records : Reports is_heading
+heading-records = record {
   spread_same = heading-spread;
   dark = λ b bs white. heading-other b bs (other b white);
 }
@@ -141,12 +141,13 @@ heading-tells = record {
     other b e = grind (arith, nat_tests)
 
 -- A heading is on the cells of the rest of a line where the line definition has one.
-pub heading-fits : (options : ParseOptions) (said : Line) (text behind : List ℕ) (r : Rest) (p : Point)
+pub heading-fits : (options : ParseOptions) (said : Line) (text following : List ℕ) (r : Rest) (p : Point)
     (stop : List Cell) →
-    RestAt text behind r p → NoEnding r.bytes → Stops stop → length (rest_cells said r p ++ stop) < 2 ^ 63 →
+    RestAt text following r p → NoEnding r.bytes → Stops stop → length (rest_cells said r p ++ stop) < 2 ^ 63 →
     is_heading_line options (rest_cells said r p ++ stop) ≡ heading_leaf.starts options held_leaf.None r
-heading-fits options said text behind r p stop is h k short =
-    line-fits is_heading heading-tells options.constructs.heading_atx options said text behind r p stop is h k short
+heading-fits options said text following r p stop is h k short =
+    line-fits is_heading heading-records options.constructs.heading_atx options said text following r p
+    stop is h k short
 
 -- What it adds.
 
@@ -407,10 +408,10 @@ front-inside room said line p stop none k one room_is short heading =
     (ap (λ (l : List Cell). enter HeadingAtxSequence p1 ∷ hashes_inside l p1)
     (spread-both said x.hashes (x.gap ++ text) p1 stop)
     ∙ sequence-inside said x.hashes (x.gap ++ text) p1 stop (hashes-some line x.hashes x.depth heading)
-    x.hashes_are x.behind_hashes k
+    x.hashes_are x.after_hashes k
     ∙ ap (λ (es : List Event). line_runs Apart x.hashes p1 ++ es)
     (ap (λ (l : List Cell). gap_inside l p2) (spread-both said x.gap text p2 stop)
-    ∙ gap-inside said x.gap text p2 stop x.gap_is x.behind_gap text_none k (past-whole x.hashes p1 some)
+    ∙ gap-inside said x.gap text p2 stop x.gap_is x.following_gap text_none k (past-whole x.hashes p1 some)
     (past_text-column x.hashes p1 (past_text-column x.indent p one)) fits))
     ∙ sym (title-whole line x p)
   where
@@ -447,12 +448,12 @@ front-inside room said line p stop none k one room_is short heading =
 
     taken : (white_rest room cells ≡ left) × (white_end room cells p ≡ p1)
     taken =
-        spread-taken room said x.indent (x.hashes ++ (x.gap ++ text)) p stop x.indent_is x.behind_indent k one
+        spread-taken room said x.indent (x.hashes ++ (x.gap ++ text)) p stop x.indent_is x.after_indent k one
         (sym (ap (λ (l : List Cell). begins_white (white_rest room l)) cut) ∙ room_is)
 
     indent : cond (begins_white cells) (pair SpaceOrTab p p1) [] ≡ line_runs Apart x.indent p
     indent =
-        white-events said x.indent (x.hashes ++ (x.gap ++ text)) p stop [] [] x.indent_is x.behind_indent k
+        white-events said x.indent (x.hashes ++ (x.gap ++ text)) p stop [] [] x.indent_is x.after_indent k
         (λ e. refl)
         ∙ append-nil (line_runs Apart x.indent p)
 
@@ -471,23 +472,23 @@ front-inside room said line p stop none k one room_is short heading =
 
     fits : length (spread said x.gap p2 ++ (spread said text p3 ++ stop)) ≤ any_size
     fits =
-        let behind : List Cell = spread said x.gap p2 ++ (spread said text p3 ++ stop) in
+        let following : List Cell = spread said x.gap p2 ++ (spread said text p3 ++ stop) in
         let whole : length (spread said line p ++ stop) ≡
         length (spread said x.indent p) + length left = ap length cut ∙ length-append (spread said x.indent p) left in
-        let hashes : length left ≡ length (spread said x.hashes p1) + length behind = ap length
+        let hashes : length left ≡ length (spread said x.hashes p1) + length following = ap length
         (spread-both said x.hashes (x.gap ++ text) p1 stop
         ∙ ap (λ (l : List Cell). spread said x.hashes p1 ++ l) (spread-both said x.gap text p2 stop))
-        ∙ length-append (spread said x.hashes p1) behind in
+        ∙ length-append (spread said x.hashes p1) following in
         omega (arith, whole, hashes, short)
 
 -- What it adds for the cells of the rest of a line are the parts of its bytes.
-pub heading-adds : (options : ParseOptions) (said : Line) (text behind : List ℕ) (r : Rest) (p : Point)
+pub heading-adds : (options : ParseOptions) (said : Line) (text following : List ℕ) (r : Rest) (p : Point)
     (stop : List Cell) →
-    RestAt text behind r p → NoEnding r.bytes → Stops stop → length (rest_cells said r p ++ stop) < 2 ^ 63 →
+    RestAt text following r p → NoEnding r.bytes → Stops stop → length (rest_cells said r p ++ stop) < 2 ^ 63 →
     heading_leaf.starts options held_leaf.None r ≡ true →
     heading_leaf.adds options held_leaf.None (rest_cells said r p ++ stop) p ≡
     heading_leaf.added options held_leaf.None (rest_line r) p
-heading-adds options said text behind r p stop is h k short starts =
+heading-adds options said text following r p stop is h k short starts =
     ap (λ (q : Point). around HeadingAtx p q (heading_inside options cells p))
     (rest-line_end said r p stop h k one is.cut)
     ∙ ap (around HeadingAtx p (past_text (rest_line r) p)) inside
@@ -511,7 +512,7 @@ heading-adds options said text behind r p stop is h k short starts =
     small = (and_parts options.constructs.heading_atx (has_small_indent options r) parts.0).1
 
     indented : Indented options said r p stop
-    indented = small-indented options said text behind r p stop is h k short small
+    indented = small-indented options said text following r p stop is h k short small
 
     size : length cells ≡ length (spread said (rest_line r) p ++ stop)
     size = rest-same ℕ length said (λ at cs. refl) r p stop one is.cut

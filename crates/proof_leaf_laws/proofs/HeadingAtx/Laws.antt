@@ -26,7 +26,8 @@ use Rattle.proof_leaf_laws.proofs.HeadingAtx.Spelled.{heading-reads}
 use Rattle.proof_leaf_laws.proofs.HeadingAtx.Texts.{heading-resolved}
 use Rattle.proof_leaf_laws.proofs.HeadingAtx.Title.{TitleFacts, title-facts}
 use Rattle.proof_leaf_laws.proofs.HeadingAtx.Trial.{trial-looked, trial-refused, trial-shrinks, trial-took}
-use Rattle.proof_leaf_laws.proofs.HeadingAtx.Names.{heading-alone, heading-unjoined, heading-unspanned, heading-unturned}
+use Rattle.proof_leaf_laws.proofs.HeadingAtx.Names.{heading-alone, heading-unjoined, heading-unspanned}
+use Rattle.proof_leaf_laws.proofs.HeadingAtx.Names.{heading-unturned}
 use Rattle.proof_leaf_laws.proofs.HeadingAtx.Words.{read-word, unread-word}
 use Rattle.proof_frame.proofs.LeafFacts.{LeafFacts, LineAt}
 use Rattle.proof_frame.proofs.LeafLaws.{LeafLaws}
@@ -91,7 +92,7 @@ heading-laws = record {
   shrinks = trial-shrinks;
   fits = λ options on. heading-fits options;
   adds_is = λ options on. heading-adds options;
-  keeps_is = λ options on said text behind r p stop at none ends short starts. refl;
+  keeps_is = λ options on said text following r p stop at none ends short starts. refl;
   shut = λ ends options on. (λ cells p. refl, λ r. refl);
   finishes = λ ends options leaf r. refl;
   holds_is = λ options leaf r starts. refl;

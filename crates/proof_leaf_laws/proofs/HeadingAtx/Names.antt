@@ -6,7 +6,7 @@ use Rattle.md_engine.specs.declared.event.Event.{Event}
 use Rattle.md_engine.specs.declared.event.Name.{Name}
 use Rattle.md_engine.specs.declared.event.Name.TheVariants as n
 use Rattle.md_engine.specs.declared.event.Point.{Point}
-use Rattle.md_leaves.specs.HeadingRuns.{Apart, Hashes, Run, White, begun, closes, goes_on, line_runs, linked_data}
+use Rattle.md_leaves.specs.HeadingRuns.{Apart, Hashes, Run, White, begun, closes, is_continued, line_runs, linked_data}
 use Rattle.md_leaves.specs.HeadingRuns.{opens}
 use Rattle.md_leaves.specs.HeadingText.{linked_text}
 use Rattle.md_leaves.specs.HeadingTitle.{Title, flow_title, front_len, text_of, title_of, unread_title}
@@ -41,7 +41,7 @@ opens-each P of Hashes p = (of.hashes _ refl, tt)
 runs-each : (P : Event → Type 0) → OfNames P → (run : Run) (bs : List ℕ) (p : Point) → Each P (line_runs run bs p)
 runs-each P of run [] p = closes-each P of run p
 runs-each P of run (b ∷ bs) p =
-    go (goes_on run b) (runs-each P of run bs (past_byte b p)) (runs-each P of (begun b) bs (past_byte b p))
+    go (is_continued run b) (runs-each P of run bs (past_byte b p)) (runs-each P of (begun b) bs (past_byte b p))
   where
     next : List Event
     next = line_runs (begun b) bs (past_byte b p)
@@ -130,9 +130,9 @@ heading-block : IsBlock n.HeadingAtx
 heading-block = record {
   inside = InHeading;
   opens = refl;
-  stands = λ e h goes. h;
+  valid = λ e h proceeds. h;
   stays = λ e h. stays-open InHeading e (unset-heading e.name h);
-  ends = λ q goes. cc;
+  ends = λ q proceeds. cc;
   shuts = λ q. refl;
 }
 

@@ -89,11 +89,11 @@ gap-no_content wants w cells p =
     q : Point
     q = white_end any_size cells p
 
-    behind : List Event
-    behind = heading.text_inside (white_rest any_size cells) q
+    following : List Event
+    following = heading.text_inside (white_rest any_size cells) q
 
-    go : (x : Bool) → NoContent wants behind → NoContent wants (heading.text_inside cells p) →
-        NoContent wants (cond x (pair n.SpaceOrTab p q ++ behind) (heading.text_inside cells p))
+    go : (x : Bool) → NoContent wants following → NoContent wants (heading.text_inside cells p) →
+        NoContent wants (cond x (pair n.SpaceOrTab p q ++ following) (heading.text_inside cells p))
     go true h k = (refl, refl, (refl, refl, h))
     go false h k = k
 

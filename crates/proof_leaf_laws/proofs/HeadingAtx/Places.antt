@@ -63,12 +63,12 @@ title-is bytes r line p q is =
     let sum : p.index + (first + size) ≡ p.index + first + size = omega arith in
     let parts : drop first line ≡ text ++ drop size (drop first line) = sym (take-append-drop size (drop first line))
     ∙ ap (λ (l : List ℕ). l ++ drop size (drop first line)) (title-text line) in
-    let behind : NoEnding (drop first line) = no_ending-drop first line is.no_ending in
+    let following : NoEnding (drop first line) = no_ending-drop first line is.no_ending in
     record {
       slice =
           ap (λ (k : ℕ). slice_range bytes k (text_end line p).index) from
           ∙ ap (slice_range bytes (p.index + first)) (to ∙ sum)
           ∙ slice-inside bytes line p.index q.index first size is.text is.size fits
           ∙ title-text line;
-      no_ending = (no_ending-parts text (drop size (drop first line)) (subst NoEnding parts behind)).0;
+      no_ending = (no_ending-parts text (drop size (drop first line)) (subst NoEnding parts following)).0;
     }

@@ -2,7 +2,7 @@
 use Rattle.std.proofs.Common.{ℕ, Bool, true, false, cond, List, [], ◌∷◌, ◌++◌}
 use Rattle.md_engine.specs.declared.event.Event.{Event}
 use Rattle.md_engine.specs.declared.event.Point.{Point}
-use Rattle.md_leaves.specs.HeadingRuns.{Run, begun, closes, goes_on, line_runs, opens}
+use Rattle.md_leaves.specs.HeadingRuns.{Run, begun, closes, is_continued, line_runs, opens}
 use Rattle.md_events.specs.Events.Places.{past_byte}
 
 -- a fact of events that holds where runs begin and end at points of this kind, which all points after a byte are
@@ -18,7 +18,7 @@ pub runs-each : (At : Point → Type 0) (P : List Event → Type 0) → OfRuns A
 runs-each At P of run [] p h = of.closes run p h
 runs-each At P of run (b ∷ xs) p h =
     let more = of.next b p h in
-    go (goes_on run b) (runs-each At P of run xs (past_byte b p) more)
+    go (is_continued run b) (runs-each At P of run xs (past_byte b p) more)
     (runs-each At P of (begun b) xs (past_byte b p) more)
   where
     go : (same : Bool) → P (line_runs run xs (past_byte b p)) → P (line_runs (begun b) xs (past_byte b p)) →

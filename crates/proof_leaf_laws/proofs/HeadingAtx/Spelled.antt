@@ -12,7 +12,7 @@ use Rattle.md_engine.specs.declared.event.Name.TheVariants as n
 use Rattle.md_engine.specs.declared.event.Point.{Point}
 use Rattle.md_leaves.specs.HeadingRule.{is_heading}
 use Rattle.md_leaves.specs.HeadingRuns as runs
-use Rattle.md_leaves.specs.HeadingRuns.{Apart, Hashes, Run, White, chunk_unless_empty, closes, goes_on, line_runs}
+use Rattle.md_leaves.specs.HeadingRuns.{Apart, Hashes, Run, White, chunk_unless_empty, closes, is_continued, line_runs}
 use Rattle.md_leaves.specs.HeadingRuns.{opens}
 use Rattle.md_leaves.specs.HeadingTitle.{Title, front_len, text_of, title_of}
 use Rattle.md_leaves.proofs.TitleLemmas.{title-fits}
@@ -22,13 +22,13 @@ use Rattle.md_events.specs.Events.Inline.{plain_chunks, together}
 use Rattle.md_events.specs.Events.Nested.{around}
 use Rattle.md_events.specs.Events.Places.{past_byte, past_text}
 use Rattle.md_events.specs.Events.Spelled.{AsHeading, AsMarkers, HeadingAtxLeaf, HeadingSoFar, OfHeadingAtx, OpenLeaf}
-use Rattle.md_events.specs.Events.Spelled.{Reading, TextRole, Text, add_block, begun, byte_at, columns_left, first_told}
-use Rattle.md_events.specs.Events.Spelled.{fresh, noted, read, read_exit, text_to, told_at}
+use Rattle.md_events.specs.Events.Spelled.{Reading, TextRole, Text, add_block, begun, byte_at, columns_left}
+use Rattle.md_events.specs.Events.Spelled.{first_recorded, fresh, noted, read, read_exit, text_to, recorded_at}
 use Rattle.md_meaning.specs.Leaves.{heading_lines, heading_text, without_closing}
 use Rattle.md_meaning.specs.Rest.{Rest, is_parted, is_white, run_len, trim, trim_end, trim_start}
 use Rattle.md_meaning.specs.Texts.{split_lines, trim_each}
 use Rattle.md_meaning.specs.Tree.{Block, Heading}
-use Rattle.md_events.proofs.BlocksLemmas.{read-leaf, read-told}
+use Rattle.md_events.proofs.BlocksLemmas.{read-leaf, read-recorded}
 use Rattle.md_events.proofs.FeedLines.{past_text-whole, slice-inside}
 use Rattle.md_events.proofs.InlineLemmas.{past-index}
 use Rattle.md_events.proofs.SpelledLemmas.{Between, Quiet, QuietOrEnding, Roles, read-from, read-quiet, text-inline}
@@ -84,15 +84,15 @@ front-other b bs e =
 -- Runs.
 
 -- a run continues with a byte, or another one begins with it
-run-goes : (run : Run) (b : ℕ) (bs : List ℕ) (p : Point) → goes_on run b ≡ true →
+run-proceeds : (run : Run) (b : ℕ) (bs : List ℕ) (p : Point) → is_continued run b ≡ true →
     line_runs run (b ∷ bs) p ≡ line_runs run bs (past_byte b p)
-run-goes run b bs p e =
+run-proceeds run b bs p e =
     ap
     (λ (t : Bool).
     cond t (line_runs run bs (past_byte b p))
     (closes run p ++ opens (runs.begun b) p ++ line_runs (runs.begun b) bs (past_byte b p))) e
 
-run-turns : (run into : Run) (b : ℕ) (bs : List ℕ) (p : Point) → goes_on run b ≡ false → runs.begun b ≡ into →
+run-turns : (run into : Run) (b : ℕ) (bs : List ℕ) (p : Point) → is_continued run b ≡ false → runs.begun b ≡ into →
     line_runs run (b ∷ bs) p ≡ closes run p ++ opens into p ++ line_runs into bs (past_byte b p)
 run-turns run into b bs p e f =
     ap
@@ -102,8 +102,8 @@ run-turns run into b bs p e f =
     ∙ ap (λ (x : Run). closes run p ++ opens x p ++ line_runs x bs (past_byte b p)) f
 
 -- a run of `#` continues with `#`
-hash-goes : (b : ℕ) → (b == 35) ≡ true → goes_on Hashes b ≡ true
-hash-goes b e = ap (goes_on Hashes) (eqb-true b 35 e)
+hash-proceeds : (b : ℕ) → (b == 35) ≡ true → is_continued Hashes b ≡ true
+hash-proceeds b e = ap (is_continued Hashes) (eqb-true b 35 e)
 
 -- The opening sequence.
 
@@ -117,7 +117,7 @@ white-quiet (b ∷ bs) p = go (is_white b) refl (white-quiet bs (past_byte b p))
         Roles Quiet (line_runs White (take (prefix_len is_white (b ∷ bs)) (b ∷ bs)) p)
     go true e more =
         subst (λ (k : ℕ). Roles Quiet (line_runs White (take k (b ∷ bs)) p)) (sym (count-one is_white b bs e))
-        (subst (Roles Quiet) (sym (run-goes White b (take (prefix_len is_white bs) bs) p e)) more)
+        (subst (Roles Quiet) (sym (run-proceeds White b (take (prefix_len is_white bs) bs) p e)) more)
     go false e more =
         subst (λ (k : ℕ). Roles Quiet (line_runs White (take k (b ∷ bs)) p)) (sym (count-none is_white b bs e)) (tt, tt)
 
@@ -130,7 +130,7 @@ read-markers : (bytes : List ℕ) (r : Reading) (first p : Point) → r.text ≡
     r.leaf ≡ Some (fresh OfHeadingAtx) →
     read_exit bytes (TextRole AsMarkers) p r ≡ marked r (slice_range bytes (byte_at first) p.index)
 read-markers bytes r first p t l =
-    ap (λ (x : Option Text). told_at bytes AsMarkers p x r) t
+    ap (λ (x : Option Text). recorded_at bytes AsMarkers p x r) t
     ∙ ap
     (λ (x : Option OpenLeaf).
     record r {
@@ -167,7 +167,8 @@ read-opening bytes r first (b ∷ bs) p t l =
     go true e y f more =
         let size = count-one (λ (c : ℕ). c == 35) b bs e in
         let end : p.index + 1 + run_len 35 bs ≡ p.index + run_len 35 (b ∷ bs) = omega (arith, size) in
-        ap by (opening-hash b bs e) ∙ ap (read bytes r) (run-goes Hashes b (take (opening_len bs) bs) p (hash-goes b e)) ∙ more
+        ap by (opening-hash b bs e) ∙ ap (read bytes r)
+        (run-proceeds Hashes b (take (opening_len bs) bs) p (hash-proceeds b e)) ∙ more
         ∙ ap to end
     go false e true f more =
         let left = take (prefix_len is_white bs) bs in
@@ -192,7 +193,7 @@ Gap _ = ⊥
 gap-white : (bytes : List ℕ) (r : Reading) (run : Run) (b : ℕ) (bs : List ℕ) (p : Point) → Gap run → is_white b ≡ true →
     read bytes r (line_runs run (b ∷ bs) p) ≡ read bytes r (line_runs White bs (past_byte b p))
 gap-white bytes r Apart b bs p gap e = ap (read bytes r) (run-turns Apart White b bs p refl (begun-white b e))
-gap-white bytes r White b bs p gap e = ap (read bytes r) (run-goes White b bs p e)
+gap-white bytes r White b bs p gap e = ap (read bytes r) (run-proceeds White b bs p e)
 gap-white bytes r run b bs p gap e = absurd gap
 
 gap-hash : (bytes : List ℕ) (r : Reading) (run : Run) (b : ℕ) (bs : List ℕ) (p : Point) → Gap run → is_white b ≡ false →
@@ -218,15 +219,16 @@ heading-first b bs h = go (b == 35) refl
         cc
 
 -- where a line has no whitespace any more
-abbrev behind_white : List ℕ → Point → Point
-behind_white line p = past_text (take (prefix_len is_white line) line) p
+abbrev following_white : List ℕ → Point → Point
+following_white line p = past_text (take (prefix_len is_white line) line) p
 
 -- the markers of a heading, and what is around them
 read-front : (bytes : List ℕ) (r : Reading) (run : Run) (line : List ℕ) (p : Point) → Gap run →
     is_heading (trim_start line) ≡ true → r.leaf ≡ Some (fresh OfHeadingAtx) →
     read bytes r (line_runs run (take (front_len line) line) p) ≡
     marked r
-    (slice_range bytes (byte_at (behind_white line p)) ((behind_white line p).index + run_len 35 (trim_start line)))
+    (slice_range bytes (byte_at (following_white line p))
+    ((following_white line p).index + run_len 35 (trim_start line)))
 read-front bytes r run [] p gap h l = cc
 read-front bytes r run (b ∷ bs) p gap h l = go (is_white b) refl (read-front bytes r White bs (past_byte b p) tt)
   where
@@ -296,14 +298,14 @@ read-closes bytes r heading m ms Hashes p l e t =
       text = None;
       leaf = Some (HeadingAtxLeaf (record heading { markers = markers }));
     } in
-    ap (λ (x : Option Text). told_at bytes AsMarkers p x r) t.1
+    ap (λ (x : Option Text). recorded_at bytes AsMarkers p x r) t.1
     ∙ ap
     (λ (x : Option OpenLeaf).
     record r {
       text = None;
       leaf = option_map (noted AsMarkers (record { spaces = columns_left t.0; text = further })) x;
     }) l
-    ∙ ap (λ (x : List ℕ). with_markers (first_told x further)) e
+    ∙ ap (λ (x : List ℕ). with_markers (first_recorded x further)) e
     ∙ ap with_markers (sym e)
     ∙ ap (λ (x : Option OpenLeaf). record r { text = None; leaf = x }) (sym l)
 read-closes bytes r heading m ms Apart p l e t = ap (λ (x : Option Text). record r { text = x }) t
@@ -316,7 +318,7 @@ read-runs : (bytes : List ℕ) (r : Reading) (heading : HeadingSoFar) (m : ℕ) 
     read bytes r (line_runs run line p) ≡ record r { text = None }
 read-runs bytes r heading m ms run [] p l e t = read-closes bytes r heading m ms run p l e t
 read-runs bytes r heading m ms run (b ∷ bs) p l e t =
-    go (goes_on run b) refl (read-runs bytes r heading m ms run bs (past_byte b p) l e t)
+    go (is_continued run b) refl (read-runs bytes r heading m ms run bs (past_byte b p) l e t)
     (read-runs bytes (record r { text = text_in (runs.begun b) p }) heading m ms (runs.begun b) bs
     (past_byte b p) l e (in-run (runs.begun b) p))
   where
@@ -326,10 +328,11 @@ read-runs bytes r heading m ms run (b ∷ bs) p l e t =
     mid : Reading
     mid = record r { text = text_in into p }
 
-    go : (x : Bool) → goes_on run b ≡ x → read bytes r (line_runs run bs (past_byte b p)) ≡ record r { text = None } →
+    go : (x : Bool) → is_continued run b ≡ x → read bytes r (line_runs run bs (past_byte b p)) ≡
+        record r { text = None } →
         read bytes mid (line_runs into bs (past_byte b p)) ≡ record r { text = None } →
         read bytes r (line_runs run (b ∷ bs) p) ≡ record r { text = None }
-    go true k same turned = ap (read bytes r) (run-goes run b bs p k) ∙ same
+    go true k same turned = ap (read bytes r) (run-proceeds run b bs p k) ∙ same
     go false k same turned =
         ap (read bytes r) (run-turns run into b bs p k refl)
         ∙ read-from bytes r mid (closes run p ++ opens into p) (line_runs into bs (past_byte b p))
@@ -403,7 +406,7 @@ read-part bytes r markers begin end (b ∷ bs) whole is none bare =
     ∙ ap (λ (vs : ℕ). slice_range bytes (cond (vs == 0) begin.index (begin.index + 1)) end.index) whole
     ∙ is in
     ap (λ (x : Bool). read bytes (marked r markers) (read_text bytes (cond x None (Some chunk)))) some
-    ∙ read-told bytes (marked r markers) n.HeadingAtxText AsHeading begin end inside refl refl
+    ∙ read-recorded bytes (marked r markers) n.HeadingAtxText AsHeading begin end inside refl refl
     (plain-roles Between bytes (chunk ∷ []) tt tt)
     ∙ ap (λ (x : List ℕ). titled r markers (trim_each (split_lines x))) text
     ∙ ap (titled r markers) (text-lines (b ∷ bs) none bare)
@@ -428,7 +431,7 @@ record IsAt (bytes line : List ℕ) (p : Point) (end : ℕ) : Type 0 where
   text : slice_range bytes p.index end ≡ line
   size : end ≡ p.index + length line
   -- no tab is cut where its markers and where its text begin
-  whole : (behind_white line p).vs ≡ 0
+  whole : (following_white line p).vs ≡ 0
   text_whole : (past_text (take (front_len line) line) p).vs ≡ 0
   no_ending : NoEnding line
   heading : is_heading (trim_start line) ≡ true
@@ -438,7 +441,7 @@ record IsAt (bytes line : List ℕ) (p : Point) (end : ℕ) : Type 0 where
 
 abbrev markers_of : List ℕ → List ℕ → Point → List ℕ
 markers_of bytes line p =
-    let q = behind_white line p in slice_range bytes (byte_at q) (q.index + run_len 35 (trim_start line))
+    let q = following_white line p in slice_range bytes (byte_at q) (q.index + run_len 35 (trim_start line))
 
 -- they are as many as the run of `#`
 markers-are : (bytes line : List ℕ) (p : Point) (end : ℕ) → IsAt bytes line p end →
@@ -446,7 +449,7 @@ markers-are : (bytes line : List ℕ) (p : Point) (end : ℕ) → IsAt bytes lin
 markers-are bytes line p end is =
     let indent = prefix_len is_white line in
     let depth = run_len 35 (trim_start line) in
-    let q = behind_white line p in
+    let q = following_white line p in
     let fits = is.fits in
     let place : q.index ≡ p.index + indent = past-index (take indent line) p
     ∙ ap (λ (k : ℕ). p.index + k) (length-prefix_len is_white line) in
@@ -521,7 +524,7 @@ heading-some line h =
 
 -- where the markers begin no tab is cut: one that is cut is whitespace in front
 markers-whole : (line : List ℕ) (p : Point) → CutsFirst p line → is_heading (trim_start line) ≡ true →
-    (behind_white line p).vs ≡ 0
+    (following_white line p).vs ≡ 0
 markers-whole [] p cut h = cc
 markers-whole (b ∷ bs) p cut h = go (p.vs == 0) refl (b == 9) refl cut
   where
@@ -531,7 +534,8 @@ markers-whole (b ∷ bs) p cut h = go (p.vs == 0) refl (b == 9) refl cut
     tab : (b == 9) ≡ true → is_white b ≡ true
     tab e = grind (arith, nat_tests)
 
-    go : (x : Bool) → (p.vs == 0) ≡ x → (y : Bool) → (b == 9) ≡ y → (x || y) ≡ true → (behind_white (b ∷ bs) p).vs ≡ 0
+    go : (x : Bool) → (p.vs == 0) ≡ x → (y : Bool) → (b == 9) ≡ y → (x || y) ≡ true →
+        (following_white (b ∷ bs) p).vs ≡ 0
     go true e y f k = past_text-whole (take (prefix_len is_white (b ∷ bs)) (b ∷ bs)) p (whole e)
     go false e true f k =
         let size = count-one is_white b bs (tab f) in

@@ -9,12 +9,12 @@ use Rattle.std.proofs.lemmas.List.{length-take-le, take-append-drop}
 use Rattle.md_engine.specs.declared.event.Event.{Event}
 use Rattle.md_engine.specs.declared.event.Name.TheVariants as n
 use Rattle.md_engine.specs.declared.event.Point.{Point}
-use Rattle.md_containers.specs.ItemsStand.{IsPart}
+use Rattle.md_containers.specs.ItemsAllowed.{IsPart}
 use Rattle.md_leaves.specs.HeadingRule.{is_heading, is_opening}
 use Rattle.md_leaves.specs.HeadingRuns.{chunk_unless_empty, heading_link}
 use Rattle.md_leaves.specs.HeadingText.{linked_text}
 use Rattle.md_leaves.specs.HeadingTitle.{Title, front_len, text_of, title_of, unread_title}
-use Rattle.md_leaves.proofs.TitleLemmas.{behind-marks, front-marks, is_mark, title-fits, title-text}
+use Rattle.md_leaves.proofs.TitleLemmas.{following-marks, front-marks, is_mark, title-fits, title-text}
 use Rattle.md_leaves.proofs.TitleRuns.{pass-first, pass-rest}
 use Rattle.md_meaning.specs.Rest.{Rest, run_len, trim_start}
 use Rattle.md_meaning.proofs.TextsLemmas.{NoEnding, no_ending-drop}
@@ -26,11 +26,11 @@ use Rattle.md_events.proofs.EndingsLemmas.{AreOthers}
 use Rattle.md_events.proofs.FeedLines.{past-next}
 use Rattle.md_events.proofs.InlineLemmas.{past-index}
 use Rattle.md_events.proofs.PlacesLemmas.{at-next}
-use Rattle.proof_frame.proofs.BetweenFacts.{between-before, between-behind, is_low}
+use Rattle.proof_frame.proofs.BetweenFacts.{between-before, between-following, is_low}
 use Rattle.proof_frame.proofs.ChunkFacts.{starts-tiled}
 use Rattle.proof_frame.proofs.LeafFacts.{LineAt}
-use Rattle.proof_frame.proofs.LineTexts.{line-stands, no_ending-parts, past-whole}
-use Rattle.proof_frame.proofs.LineWalk.{At, past-stands}
+use Rattle.proof_frame.proofs.LineTexts.{line-valid, no_ending-parts, past-whole}
+use Rattle.proof_frame.proofs.LineWalk.{At, past-valid}
 use Rattle.proof_frame.proofs.OneText.{chunk-is, stretch-text}
 use Rattle.proof_frame.proofs.PieceFacts.{CutsFirst, Starts, starts-append, whole-first}
 use Rattle.proof_frame.proofs.Stretch.{Stretch, stretch-append, stretch-none}
@@ -74,7 +74,7 @@ between-past_marks bytes (b ∷ xs) rest p text marks h =
     let same : p.index + 1 - 1 ≡ p.index = omega arith in
     between-past_marks bytes xs rest (past_byte b p) (past-next p.index bytes b (xs ++ rest) text)
     (pass-rest is_mark b xs marks)
-    (between-behind bytes (p.index + 1)
+    (between-following bytes (p.index + 1)
     (subst (λ (c : ℕ). is_low c ≡ true)
     (sym (ap (slice_index bytes) same ∙ at-next p.index bytes b (xs ++ rest) text))
     (mark-low b (pass-first is_mark b xs marks))))
@@ -131,8 +131,8 @@ title-facts bytes r line p q is heading = record {
       (λ first last. between-past_marks bytes front (drop (front_len line) line ++ left) p front-parts
       (front-marks line) first))
       (subst (λ (e : Point). Stretch IsPart bytes end e title.back title.back) (sym (line-end-is line p))
-      (hashes-stretch bytes back left end (behind-marks line) back-parts (whole-first end back end-whole)))
-      (λ first last. between-at_marks bytes back left end back-parts (behind-marks line)
+      (hashes-stretch bytes back left end (following-marks line) back-parts (whole-first end back end-whole)))
+      (λ first last. between-at_marks bytes back left end back-parts (following-marks line)
       (subst (λ (e : Point). is_between bytes e.index ≡ true) (line-end-is line p) last));
   others =
       subst (λ (e : Point). AreOthers (read_text bytes (chunk_unless_empty size begin e))) (sym end-is)
@@ -171,15 +171,15 @@ title-facts bytes r line p q is heading = record {
         omega (arith, long, begins)
 
     -- the text and what follows it
-    behind : drop (front_len line) line ≡ text ++ back
-    behind =
+    following : drop (front_len line) line ≡ text ++ back
+    following =
         sym (take-append-drop size (drop (front_len line) line))
         ∙ ap (λ (l : List ℕ). take size (drop (front_len line) line) ++ l) (drop-drop size (front_len line) line)
         ∙ ap (λ (l : List ℕ). l ++ back) (title-text line)
 
     front-parts : drop p.index bytes ≡ front ++ (drop (front_len line) line ++ left)
     front-parts =
-        line-stands bytes r line p q is
+        line-valid bytes r line p q is
         ∙ ap (λ (l : List ℕ). l ++ left) (sym (take-append-drop (front_len line) line))
         ∙ append_assoc front (drop (front_len line) line) left
 
@@ -188,16 +188,17 @@ title-facts bytes r line p q is heading = record {
 
     at : At bytes text begin (back ++ left)
     at = record {
-      stands =
-          past-stands bytes front (drop (front_len line) line ++ left) p front-parts
-          ∙ ap (λ (l : List ℕ). l ++ left) behind ∙ append_assoc text back left;
-      none = (no_ending-parts text back (subst NoEnding behind (no_ending-drop (front_len line) line is.no_ending))).0;
+      valid =
+          past-valid bytes front (drop (front_len line) line ++ left) p front-parts
+          ∙ ap (λ (l : List ℕ). l ++ left) following ∙ append_assoc text back left;
+      none =
+          (no_ending-parts text back (subst NoEnding following (no_ending-drop (front_len line) line is.no_ending))).0;
       whole = past-whole front p some;
     }
 
     back-parts : drop end.index bytes ≡ back ++ left
     back-parts =
-        ap (λ (e : Point). drop e.index bytes) end-is ∙ past-stands bytes text (back ++ left) begin at.stands
+        ap (λ (e : Point). drop e.index bytes) end-is ∙ past-valid bytes text (back ++ left) begin at.valid
 
     end-whole : end.vs ≡ 0
     end-whole =

@@ -7,12 +7,12 @@ use Rattle.md_engine.specs.declared.configuration.ParseOptions.{ParseOptions}
 use Rattle.md_engine.specs.declared.event.Name.TheVariants.{HeadingAtx}
 use Rattle.md_engine.specs.Meaning.{Cell, Here, Refuses}
 use Rattle.md_leaves.specs.Heading.{may_begin}
-use Rattle.md_leaves.specs.HeadingRule.{at_break, before_opening, behind_opening, heading_at, in_hashes, in_text}
+use Rattle.md_leaves.specs.HeadingRule.{at_break, before_opening, after_opening, heading_at, in_hashes, in_text}
 use Rattle.md_leaves.specs.HeadingRule.{is_heading, is_heading_line}
 use Rattle.md_leaves.proofs.HeadingWhole.{heading-refused, heading-taken}
 use Rattle.md_leaves.proofs.LeafStart.{rule-refused}
 use Rattle.md_events.specs.Ahead.{begins_white, line_bytes, white_rest}
-use Rattle.md_events.specs.Look.{seen_behind}
+use Rattle.md_events.specs.Look.{seen_after}
 use Rattle.md_events.specs.Spaces.{IsRest, any_size, small_indent}
 use Rattle.md_events.proofs.RestCells.{white-length}
 use Rattle.md_events.proofs.SpacesTermination.{rest-calm}
@@ -23,7 +23,7 @@ use Rattle.proof_frame.proofs.LeafStarts.{start-shrinks}
 use Rattle.md_containers.proofs.QuoteCells.{ending-shorter}
 
 -- a line where another byte than `#` is first after whitespace holds no heading
-pub trial-looked : (options : ParseOptions) (cells : List Cell) (b : ℕ) → seen_behind cells ≡ Some b →
+pub trial-looked : (options : ParseOptions) (cells : List Cell) (b : ℕ) → seen_after cells ≡ Some b →
     may_begin b ≡ false → is_heading_line options cells ≡ false
 trial-looked options cells b seen e =
     rule-refused may_begin options.constructs.heading_atx is_heading (small_indent options) cells b refl
@@ -54,19 +54,19 @@ at_break-shrinks : (n : ℕ) (cells : List Cell) (h : Here) → length cells ≤
 unfolding at_break
 at_break-shrinks n cells h le = cond-shrinks n (begins_white cells) _ _ tt (in_text-shrinks n [] cells _ le)
 
-behind_opening-shrinks : (n : ℕ) (cells : List Cell) (h : Here) → length cells ≤ n → Shrinks n (behind_opening cells h)
-unfolding behind_opening
-behind_opening-shrinks n cells h le =
+after_opening-shrinks : (n : ℕ) (cells : List Cell) (h : Here) → length cells ≤ n → Shrinks n (after_opening cells h)
+unfolding after_opening
+after_opening-shrinks n cells h le =
     let shorter = white-length any_size cells in
     cond-shrinks n (begins_white cells) _ _ (at_break-shrinks n (white_rest any_size cells) _ (omega arith))
     (at_break-shrinks n cells h le)
 
 -- in the opening sequence,
 in_hashes-shrinks : (n : ℕ) (cells : List Cell) (h : Here) → length cells ≤ n → Shrinks n (in_hashes cells h)
-in_hashes-shrinks n [] h le = behind_opening-shrinks n [] _ le
+in_hashes-shrinks n [] h le = after_opening-shrinks n [] _ le
 in_hashes-shrinks n (c ∷ cs) h le =
     cond-shrinks n (c.byte == 35) _ _ (in_hashes-shrinks n cs _ (omega (arith, le)))
-    (behind_opening-shrinks n (c ∷ cs) _ le)
+    (after_opening-shrinks n (c ∷ cs) _ le)
 
 -- and before that
 before_opening-shrinks : (n : ℕ) (cells : List Cell) (h : Here) → length cells ≤ n → Shrinks n (before_opening cells h)

@@ -61,8 +61,8 @@ run-here m bs e =
     }
 
 -- with more whitespace in front
-run-behind : (m b : ℕ) (bs : List ℕ) → is_white b ≡ true → HasRun m bs → HasRun m (b ∷ bs)
-run-behind m b bs white is = record {
+run-following : (m b : ℕ) (bs : List ℕ) → is_white b ≡ true → HasRun m bs → HasRun m (b ∷ bs)
+run-following m b bs white is = record {
   front = b ∷ is.front;
   marks = is.marks;
   back = is.back;
@@ -87,7 +87,7 @@ underline-run (b ∷ bs) is = go (is_white b) refl (underline-run bs)
         HasRun (first_byte (trim_start (b ∷ bs))) (b ∷ bs)
     go true e more =
         subst Runs (sym (trim-white b bs e))
-        (λ k. run-behind (first_byte (trim_start bs)) b bs e (more k)) is
+        (λ k. run-following (first_byte (trim_start bs)) b bs e (more k)) is
     go false e more =
         subst Runs (sym (ap (λ (i : ℕ). drop i (b ∷ bs)) (count-none is_white b bs e))) (run-here b bs) is
 

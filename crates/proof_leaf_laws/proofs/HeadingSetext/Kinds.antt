@@ -23,7 +23,7 @@ use Rattle.md_events.proofs.RestCells.{RestAt, rest_cells}
 use Rattle.md_events.proofs.RestLines.{count-none, count-one}
 use Rattle.proof_leaf_laws.specs.Leaf.HeadingSetext.{setext_leaf}
 use Rattle.proof_leaf_laws.proofs.MarkRuns.Cells.{IsMark, spread-first}
-use Rattle.proof_frame.proofs.MarkRuns.Fits.{Tells, line-fits}
+use Rattle.proof_frame.proofs.MarkRuns.Fits.{Reports, line-fits}
 use Rattle.md_engine.specs.declared.tokenizer.held_leaf.HeldLeaf.TheVariants as held_leaf
 
 -- The marker.
@@ -92,8 +92,8 @@ underline-none [] e = refl
 underline-none (b ∷ bs) e = rw e refl
 
 -- by its bytes it is said as the lines of leaves are
-pub underline-tells : Tells is_underline
-underline-tells = record {
+pub underline-records : Reports is_underline
+underline-records = record {
   spread_same = λ line bytes p. go line bytes p (is_marker (first_byte bytes)) refl;
   dark = λ b bs white. underline-none (b ∷ bs) (no_marker b white);
 }
@@ -116,16 +116,17 @@ underline-tells = record {
         ∙ sym (run-one m m bytes (eq-eqb m m refl)))
 
 -- It is on a line by its cells if it does by its rest.
-pub setext-fits : (options : ParseOptions) (on : HeldLeaf) (said : Line) (text behind : List ℕ) (r : Rest) (p : Point)
+pub setext-fits : (options : ParseOptions) (on : HeldLeaf) (said : Line) (text following : List ℕ)
+    (r : Rest) (p : Point)
     (stop : List Cell) →
-    RestAt text behind r p → NoEnding r.bytes → Stops stop → length (rest_cells said r p ++ stop) < 2 ^ 63 →
+    RestAt text following r p → NoEnding r.bytes → Stops stop → length (rest_cells said r p ++ stop) < 2 ^ 63 →
     setext_leaf.takes options on (rest_cells said r p ++ stop) ≡ setext_leaf.starts options on r
-setext-fits options on said text behind r p stop at h k short =
+setext-fits options on said text following r p stop at h k short =
     sym
     (and_assoc (may_turn options on) options.constructs.heading_setext
     (is_underline (line_bytes (white_rest (small_indent options) (rest_cells said r p ++ stop)))))
-    ∙ line-fits is_underline underline-tells (may_turn options on && options.constructs.heading_setext) options said
-    text behind r p stop at h k short
+    ∙ line-fits is_underline underline-records (may_turn options on && options.constructs.heading_setext) options said
+    text following r p stop at h k short
 
 -- What is known where it starts.
 

@@ -3,7 +3,7 @@ use Rattle.std.proofs.Common.{◌≡◌, true, false, refl}
 use Rattle.md_engine.specs.declared.tokenizer.held_leaf.HeldLeaf.{HeldLeaf}
 use Rattle.md_engine.specs.declared.tokenizer.held_leaf.HeldLeaf.TheVariants as held_leaf
 use Rattle.md_leaves.specs.HeadingSetext.{is_text}
-use Rattle.proof_frame.specs.HeldLeaf.{has_lines, may_go_on}
+use Rattle.proof_frame.specs.HeldLeaf.{has_lines, may_continue}
 use Rattle.proof_leaf_laws.specs.Leaf.HeadingSetext.{setext_leaf}
 use Rattle.proof_leaf_laws.proofs.HeadingSetext.Kinds.{setext-fits, setext-starts}
 use Rattle.proof_leaf_laws.proofs.HeadingSetext.Runs.{setext-adds, setext-no_content}
@@ -12,9 +12,9 @@ use Rattle.proof_frame.proofs.LeafLaws.{LeafLaws}
 use Rattle.proof_frame.proofs.OutsideFacts.{LineResolver}
 
 -- a line may continue a text
-text-goes_on : (on : HeldLeaf) → is_text on ≡ true → may_go_on on ≡ true
-text-goes_on (held_leaf.Text at) e = refl
-text-goes_on _ e = cc
+text-is_continued : (on : HeldLeaf) → is_text on ≡ true → may_continue on ≡ true
+text-is_continued (held_leaf.Text at) e = refl
+text-is_continued _ e = cc
 
 -- and text is no leaf of several lines
 text-alone : (on : HeldLeaf) → is_text on ≡ true → (is_text on ≡ true → has_lines on ≡ true) → ⊥
@@ -25,13 +25,13 @@ text-alone _ e lines = cc
 pub setext-laws : (resolver : LineResolver) → LeafLaws resolver setext_leaf
 setext-laws resolver = record {
   looked = setext-looked;
-  meets = λ options on r starts further. text-goes_on on further;
+  meets = λ options on r starts further. text-is_continued on further;
   took = λ options cells h is few. setext-took options cells h is;
   refused = λ options cells h asked. setext-refused options cells h;
   shrinks = setext-shrinks;
   fits = setext-fits;
   adds_is = setext-adds;
-  keeps_is = λ options on said text behind r p stop at none ends short starts. refl;
+  keeps_is = λ options on said text following r p stop at none ends short starts. refl;
   shut = λ ends options on. absurd (cc);
   finishes = λ ends options leaf r. cc;
   holds_is = λ options leaf r starts. refl;

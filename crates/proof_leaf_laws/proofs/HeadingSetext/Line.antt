@@ -21,14 +21,14 @@ use Rattle.md_leaves.proofs.TurnedLemmas.{AreUnturned}
 use Rattle.md_events.specs.Events.Endings.{on_line}
 use Rattle.md_events.specs.Events.Grammar.{Expression, inside}
 use Rattle.md_events.specs.Events.Nested.{enter, exit, pair}
-use Rattle.md_events.specs.Events.Pieces.{is_run, stands_over}
+use Rattle.md_events.specs.Events.Pieces.{is_run, may_cover}
 use Rattle.md_events.specs.Events.Places.{past_text}
-use Rattle.md_events.specs.Events.Spelled.{AsMarkers, Reading, byte_at, columns_left, read, told}
-use Rattle.md_events.proofs.BlocksLemmas.{read-around, read-told}
+use Rattle.md_events.specs.Events.Spelled.{AsMarkers, Reading, byte_at, columns_left, read, recorded}
+use Rattle.md_events.proofs.BlocksLemmas.{read-around, read-recorded}
 use Rattle.md_events.proofs.EndingsLemmas.{AreOthers, is_other}
 use Rattle.md_events.proofs.GrammarLemmas.{IsWord}
 use Rattle.md_events.proofs.SpelledLemmas.{Quiet, Roles, read-append, read-quiet}
-use Rattle.md_outline.specs.LinesStand.{BehindTitle, BehindUnderline}
+use Rattle.md_outline.specs.LinesAllowed.{AfterTitle, AfterUnderline}
 use Rattle.md_outline.proofs.LinesPass.{passes-underline}
 use Rattle.proof_frame.specs.RestLine.{rest_line}
 use Rattle.proof_leaf_laws.specs.Leaf.HeadingSetext.{setext_leaf, underline_line}
@@ -41,7 +41,7 @@ use Rattle.proof_frame.proofs.EachEvent.{Each}
 use Rattle.proof_leaf_laws.proofs.HeadingSetext.Bytes.{underline-dark, underline-run}
 use Rattle.proof_leaf_laws.proofs.HeadingSetext.Kinds.{setext-starts, underline-first}
 use Rattle.proof_frame.proofs.LeafFacts.{LineAt}
-use Rattle.proof_frame.proofs.LineTexts.{line-stands}
+use Rattle.proof_frame.proofs.LineTexts.{line-valid}
 use Rattle.proof_frame.proofs.MarkRuns.Each.{Holds, each-others, line-holds, runs-hold}
 use Rattle.proof_leaf_laws.proofs.MarkRuns.Line.{HasRun, run-first, run-marks, run-text, run-whole, run_parts, runs-are}
 use Rattle.proof_frame.proofs.OutsideFacts.{AreOutside, IsOutside}
@@ -49,7 +49,7 @@ use Rattle.proof_frame.proofs.PartedFacts.{clear}
 use Rattle.proof_frame.proofs.PieceFacts.{Starts}
 use Rattle.proof_frame.proofs.PieceRuns.{IsMarker, marker-run, runs-start, runs-stretch}
 use Rattle.proof_frame.proofs.Stretch.{Stretch, stretch-around}
-use Rattle.md_containers.specs.ItemsStand.{IsPart}
+use Rattle.md_containers.specs.ItemsAllowed.{IsPart}
 use Rattle.proof_frame.proofs.PlainFacts.{ArePlainFrom, known-around, known-none, past-clear, plain-through, quiet-from}
 use Rattle.proof_frame.proofs.RestFacts.{rest-trim}
 use Rattle.proof_frame.proofs.SpannedFacts.{AreUnspanned, IsUnspanned}
@@ -108,9 +108,9 @@ underline-block : IsBlock n.HeadingSetextUnderline
 underline-block = record {
   inside = InUnderline;
   opens = refl;
-  stands = λ e h goes. h;
+  valid = λ e h proceeds. h;
   stays = λ e h. stays-open InUnderline e (unset-underline e.name h);
-  ends = λ q goes. cc;
+  ends = λ q proceeds. cc;
   shuts = λ q. refl;
 }
 
@@ -141,7 +141,7 @@ run-marker m e ys some all = go (m == 61) refl (m == 45) refl e
     run c f = marker-run m c ys some all f
 
     go : (x : Bool) → (m == 61) ≡ x → (y : Bool) → (m == 45) ≡ y → (x || y) ≡ true →
-        stands_over n.HeadingSetextUnderlineSequence ys ≡ true
+        may_cover n.HeadingSetextUnderlineSequence ys ≡ true
     go true f y g e = or_left (is_run 1 61 ys) (is_run 1 45 ys) (run 61 f)
     go false f true g e = or_right (is_run 1 61 ys) (is_run 1 45 ys) (run 45 g)
     go false f false g e = cc
@@ -165,7 +165,7 @@ underline-stretch bytes r line p q at is =
       low = marker-low m mark;
       marks = record { role_is = tt; no_part = refl; parted = λ a b ys h. h };
       white = tt;
-    }) (run-marks m line (underline-run line is)) (line-stands bytes r line p q at) at.cut_first))
+    }) (run-marks m line (underline-run line is)) (line-valid bytes r line p q at) at.cut_first))
   where
     m : ℕ
     m = first_byte (trim_start line)
@@ -206,17 +206,17 @@ blank-quiet (b ∷ bs) p = (tt, (tt, tt))
 
 -- all of it may be outlined
 pub underline-plain : (bytes line : List ℕ) (p : Point) → is_underline (trim_start line) ≡ true →
-    clear bytes p ≡ true → ArePlainFrom bytes BehindTitle BehindUnderline (underline_line line p)
+    clear bytes p ≡ true → ArePlainFrom bytes AfterTitle AfterUnderline (underline_line line p)
 underline-plain bytes line p is whole =
-    plain-through bytes BehindTitle BehindTitle BehindUnderline (enter n.HeadingSetextUnderline p ∷ [])
-    (underline_parts line p ++ end) (quiet-from bytes BehindTitle (enter n.HeadingSetextUnderline p ∷ []) (tt, tt))
-    (plain-through bytes BehindTitle BehindUnderline BehindUnderline (underline_parts line p) end
-    (subst (ArePlainFrom bytes BehindTitle BehindUnderline) (sym (parts-are line p is))
-    (plain-through bytes BehindTitle BehindTitle BehindUnderline (blank_line run.front p)
-    (marks ++ blank_line run.back b) (quiet-from bytes BehindTitle (blank_line run.front p) (blank-quiet run.front p))
-    (plain-through bytes BehindTitle BehindUnderline BehindUnderline marks (blank_line run.back b) marks-told
-    (quiet-from bytes BehindUnderline (blank_line run.back b) (blank-quiet run.back b)))))
-    (quiet-from bytes BehindUnderline end (tt, tt)))
+    plain-through bytes AfterTitle AfterTitle AfterUnderline (enter n.HeadingSetextUnderline p ∷ [])
+    (underline_parts line p ++ end) (quiet-from bytes AfterTitle (enter n.HeadingSetextUnderline p ∷ []) (tt, tt))
+    (plain-through bytes AfterTitle AfterUnderline AfterUnderline (underline_parts line p) end
+    (subst (ArePlainFrom bytes AfterTitle AfterUnderline) (sym (parts-are line p is))
+    (plain-through bytes AfterTitle AfterTitle AfterUnderline (blank_line run.front p)
+    (marks ++ blank_line run.back b) (quiet-from bytes AfterTitle (blank_line run.front p) (blank-quiet run.front p))
+    (plain-through bytes AfterTitle AfterUnderline AfterUnderline marks (blank_line run.back b) marks-recorded
+    (quiet-from bytes AfterUnderline (blank_line run.back b) (blank-quiet run.back b)))))
+    (quiet-from bytes AfterUnderline end (tt, tt)))
   where
     end : List Event
     end = exit n.HeadingSetextUnderline (past_text line p) ∷ []
@@ -236,8 +236,8 @@ underline-plain bytes line p is whole =
     begins : clear bytes (past_text run.front p) ≡ true
     begins = past-clear bytes run.front p whole
 
-    marks-told : ArePlainFrom bytes BehindTitle BehindUnderline (pair n.HeadingSetextUnderlineSequence a b)
-    marks-told = record {
+    marks-recorded : ArePlainFrom bytes AfterTitle AfterUnderline (pair n.HeadingSetextUnderlineSequence a b)
+    marks-recorded = record {
       known =
           known-around bytes n.HeadingSetextUnderlineSequence a b [] refl begins (past-clear bytes run.marks a begins)
           (known-none bytes);
@@ -258,7 +258,7 @@ underline-first_mark line is = run-first (first_byte (trim_start line)) line (un
 -- all of it
 pub underline-reads : (bytes : List ℕ) (r : Rest) (line : List ℕ) (p q : Point) (o : Reading) →
     LineAt bytes r line p q → (is : is_underline (trim_start line) ≡ true) → o.text ≡ None →
-    read bytes o (underline_line line p) ≡ told AsMarkers (record { spaces = 0; text = underline_marks line is }) o
+    read bytes o (underline_line line p) ≡ recorded AsMarkers (record { spaces = 0; text = underline_marks line is }) o
 underline-reads bytes r line p q o at is none =
     read-around bytes o n.HeadingSetextUnderline p (past_text line p) (underline_parts line p)
     ∙ ap (read bytes o) (parts-are line p is)
@@ -267,10 +267,10 @@ underline-reads bytes r line p q o at is none =
     (read-quiet bytes o (blank_line run.front p) (blank-quiet run.front p))
     ∙ read-append bytes o marks (blank_line run.back b)
     ∙ read-quiet bytes (read bytes o marks) (blank_line run.back b) (blank-quiet run.back b)
-    ∙ read-told bytes o n.HeadingSetextUnderlineSequence AsMarkers a b [] refl none tt
-    ∙ ap₂ (λ (k i : ℕ). told AsMarkers (record { spaces = k; text = slice_range bytes i b.index }) o) spaces from
-    ∙ ap (λ (text : List ℕ). told AsMarkers (record { spaces = 0; text = text }) o)
-    (run-text bytes m line p (drop q.index bytes) run (line-stands bytes r line p q at))
+    ∙ read-recorded bytes o n.HeadingSetextUnderlineSequence AsMarkers a b [] refl none tt
+    ∙ ap₂ (λ (k i : ℕ). recorded AsMarkers (record { spaces = k; text = slice_range bytes i b.index }) o) spaces from
+    ∙ ap (λ (text : List ℕ). recorded AsMarkers (record { spaces = 0; text = text }) o)
+    (run-text bytes m line p (drop q.index bytes) run (line-valid bytes r line p q at))
   where
     m : ℕ
     m = first_byte (trim_start line)

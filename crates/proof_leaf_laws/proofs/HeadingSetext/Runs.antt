@@ -25,14 +25,16 @@ use Rattle.proof_leaf_laws.proofs.MarkRuns.Cells.{line-adds}
 use Rattle.proof_frame.proofs.MarkRuns.Each.{Holds, IsNoContent, cell_line-holds, each-no_content}
 
 -- the whole underline
-pub setext-adds : (options : ParseOptions) (on : HeldLeaf) (said : Line) (text behind : List ℕ) (r : Rest) (p : Point)
+pub setext-adds : (options : ParseOptions) (on : HeldLeaf) (said : Line) (text following : List ℕ)
+    (r : Rest) (p : Point)
     (stop : List Cell) →
-    RestAt text behind r p → NoEnding r.bytes → Stops stop → length (rest_cells said r p ++ stop) < 2 ^ 63 →
+    RestAt text following r p → NoEnding r.bytes → Stops stop → length (rest_cells said r p ++ stop) < 2 ^ 63 →
     setext_leaf.starts options on r ≡ true →
     setext_leaf.adds options on (rest_cells said r p ++ stop) p ≡ setext_leaf.added options on (rest_line r) p
-setext-adds options on said text behind r p stop at h k short starts =
+setext-adds options on said text following r p stop at h k short starts =
     let is : Underlines options on r = setext-starts options on r starts in
-    line-adds n.HeadingSetextUnderline n.HeadingSetextUnderlineSequence options said text behind r p stop at h k short
+    line-adds n.HeadingSetextUnderline n.HeadingSetextUnderlineSequence options said text following r p
+    stop at h k short
     is.small (underline-mark (first_byte (trim_start r.bytes)) is.mark)
 
 -- what holds of its names holds of each of its events, by its cells

@@ -11,7 +11,7 @@ use Rattle.md_leaves.specs.HeadingSetext.{may_begin, may_turn}
 use Rattle.md_leaves.specs.HeadingSetextRule.{before_run, is_underline, is_underline_line, setext_at}
 use Rattle.md_leaves.proofs.SetextWhole as whole
 use Rattle.md_events.specs.Ahead.{line_bytes}
-use Rattle.md_events.specs.Look.{seen_behind}
+use Rattle.md_events.specs.Look.{seen_after}
 use Rattle.md_events.specs.Spaces.{IsRest}
 use Rattle.proof_leaf_laws.specs.Leaf.HeadingSetext.{setext_leaf}
 use Rattle.proof_frame.proofs.FromEnding.{from_ending-again}
@@ -20,7 +20,7 @@ use Rattle.proof_frame.proofs.LeafStarts.{start-shrinks}
 use Rattle.md_containers.proofs.QuoteCells.{ending-shorter}
 
 -- No underline is where another byte than a marker is first after whitespace.
-pub setext-looked : (options : ParseOptions) (on : HeldLeaf) (cells : List Cell) (b : ℕ) → seen_behind cells ≡ Some b →
+pub setext-looked : (options : ParseOptions) (on : HeldLeaf) (cells : List Cell) (b : ℕ) → seen_after cells ≡ Some b →
     may_begin b ≡ false → setext_leaf.takes options on cells ≡ false
 setext-looked options on cells b seen e =
     and_right (may_turn options on) (is_underline_line options cells) (whole.setext-looked options cells b seen e)

@@ -237,9 +237,10 @@ spread-first line (b ∷ bs) p = go (b == 9) refl
         ++ spread line bs (past_byte b p)))) e
 
 -- A whole line, after a small indent: by its cells the runs are those by its bytes.
-pub line-adds : (name marks : Name) (options : ParseOptions) (said : Line) (text behind : List ℕ) (r : Rest) (p : Point)
+pub line-adds : (name marks : Name) (options : ParseOptions) (said : Line) (text following : List ℕ)
+    (r : Rest) (p : Point)
     (stop : List Cell) →
-    RestAt text behind r p → NoEnding r.bytes → Stops stop → length (rest_cells said r p ++ stop) < 2 ^ 63 →
+    RestAt text following r p → NoEnding r.bytes → Stops stop → length (rest_cells said r p ++ stop) < 2 ^ 63 →
     has_small_indent options r ≡ true → IsMark (first_byte (trim_start r.bytes)) →
     around name p (line_end (rest_cells said r p ++ stop) p)
     (cond (begins_white (rest_cells said r p ++ stop))
@@ -250,7 +251,7 @@ pub line-adds : (name marks : Name) (options : ParseOptions) (said : Line) (text
     (white_end (small_indent options) (rest_cells said r p ++ stop) p)) ≡
     around name p (past_text (rest_line r) p)
     (mark_runs marks Apart (first_byte (trim_start (rest_line r))) (rest_line r) p)
-line-adds name marks options said text behind r p stop is h k short small mark =
+line-adds name marks options said text following r p stop is h k short small mark =
     ap₂ (λ (q : Point) (es : List Event). around name p q es) (rest-line_end said r p stop h k one is.cut) inside
   where
     line : List Cell
@@ -274,7 +275,7 @@ line-adds name marks options said text behind r p stop is h k short small mark =
     begins : (first_cell left ≡ m) × Marked m left
     begins =
         cells-marked left m mark.some
-        (ap first_byte (small-indented options said text behind r p stop is h k short small).bytes
+        (ap first_byte (small-indented options said text following r p stop is h k short small).bytes
         ∙ spread-first said (trim_start r.bytes) q)
 
     inside :

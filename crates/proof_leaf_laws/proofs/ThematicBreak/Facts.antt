@@ -9,10 +9,10 @@ use Rattle.md_engine.specs.declared.configuration.ParseOptions.{ParseOptions}
 use Rattle.md_engine.specs.declared.event.Event.{Event}
 use Rattle.md_engine.specs.declared.event.Name.TheVariants as n
 use Rattle.md_engine.specs.declared.event.Point.{Point}
-use Rattle.md_containers.specs.ItemsStand.{IsPart}
+use Rattle.md_containers.specs.ItemsAllowed.{IsPart}
 use Rattle.md_events.specs.Events.Endings.{on_line}
-use Rattle.md_events.specs.Events.Grammar.{Expression, Nothing, behind, inside, plain_text, unread_text}
-use Rattle.md_events.specs.Events.Pieces.{is_run, stands_over}
+use Rattle.md_events.specs.Events.Grammar.{Expression, Nothing, following, inside, plain_text, unread_text}
+use Rattle.md_events.specs.Events.Pieces.{is_run, may_cover}
 use Rattle.md_events.specs.Events.Places.{past_byte, past_text}
 use Rattle.md_events.specs.Events.Spelled.{OfBreak, role}
 use Rattle.md_meaning.specs.Leaves.{is_rule, is_rule_marker}
@@ -28,7 +28,7 @@ use Rattle.proof_frame.specs.MarkRuns.{Apart, Marks, Run, White, mark_runs}
 use Rattle.proof_frame.proofs.BetweenFacts.{is_low}
 use Rattle.proof_frame.proofs.LeafFacts.{LeafFacts, LineAt}
 use Rattle.proof_frame.proofs.LeafLines.Leaf.{leaf-around}
-use Rattle.proof_frame.proofs.LineTexts.{line-stands}
+use Rattle.proof_frame.proofs.LineTexts.{line-valid}
 use Rattle.proof_frame.proofs.MarkRuns.Each.{Holds, each-others, each-roles, line-holds, runs-hold}
 use Rattle.proof_frame.proofs.OutsideFacts.{IsOutside, LineResolver}
 use Rattle.proof_frame.proofs.PieceFacts.{Starts}
@@ -37,7 +37,7 @@ use Rattle.proof_frame.proofs.PlainFacts.{plain-around, plain-quiet}
 use Rattle.proof_frame.proofs.RestFacts.{rest-trim}
 use Rattle.proof_frame.proofs.SpanLemmas.{either}
 use Rattle.proof_frame.proofs.SpannedFacts.{AreUnspanned, IsUnspanned}
-use Rattle.proof_leaf_laws.proofs.ThematicBreak.Kinds.{break-mark, first-behind, rule-first}
+use Rattle.proof_leaf_laws.proofs.ThematicBreak.Kinds.{break-mark, first-following, rule-first}
 use Rattle.md_events.proofs.BreakReads.{read-break}
 
 -- its runs
@@ -92,7 +92,7 @@ rule-marker m e ys some all = go (m == 42) refl (m == 45) refl (m == 95) refl e
     run c f = marker-run m c ys some all f
 
     go : (x : Bool) → (m == 42) ≡ x → (y : Bool) → (m == 45) ≡ y → (z : Bool) → (m == 95) ≡ z → (x || y || z) ≡ true →
-        stands_over n.ThematicBreakSequence ys ≡ true
+        may_cover n.ThematicBreakSequence ys ≡ true
     go true f y g z h e =
         or_left (is_run 1 42 ys || is_run 1 45 ys) (is_run 1 95 ys)
         (or_left (is_run 1 42 ys) (is_run 1 45 ys) (run 42 f))
@@ -150,27 +150,27 @@ abbrev run_of : Bool → Run
 run_of true = Marks
 run_of false = White
 
-abbrev behind_run : Bool → Expression
-behind_run true = behind n.ThematicBreakSequence (inside Nothing n.ThematicBreak)
-behind_run false = behind n.SpaceOrTab (behind n.ThematicBreakSequence (inside Nothing n.ThematicBreak))
+abbrev after_run : Bool → Expression
+after_run true = following n.ThematicBreakSequence (inside Nothing n.ThematicBreak)
+after_run false = following n.SpaceOrTab (following n.ThematicBreakSequence (inside Nothing n.ThematicBreak))
 
 runs-word : (text : Expression) (m : ℕ) (marks : Bool) (bs : List ℕ) (p : Point) →
-    IsWord text (Nothing ∷ behind_run marks ∷ []) (marks_of (run_of marks) m bs p)
-runs-word text m true [] p = record { left = behind_run true; leads = λ outer. refl; ends = refl }
-runs-word text m false [] p = record { left = behind_run false; leads = λ outer. refl; ends = refl }
+    IsWord text (Nothing ∷ after_run marks ∷ []) (marks_of (run_of marks) m bs p)
+runs-word text m true [] p = record { left = after_run true; leads = λ outer. refl; ends = refl }
+runs-word text m false [] p = record { left = after_run false; leads = λ outer. refl; ends = refl }
 runs-word text m true (b ∷ bs) p =
     let on = runs-word text m false bs (past_byte b p) in
-    either (IsWord text (Nothing ∷ behind_run true ∷ [])) (b == m) _ _ (runs-word text m true bs (past_byte b p))
+    either (IsWord text (Nothing ∷ after_run true ∷ [])) (b == m) _ _ (runs-word text m true bs (past_byte b p))
     (record { left = on.left; leads = on.leads; ends = on.ends })
 runs-word text m false (b ∷ bs) p =
     let on = runs-word text m true bs (past_byte b p) in
-    either (IsWord text (Nothing ∷ behind_run false ∷ [])) (b == m) _ _
+    either (IsWord text (Nothing ∷ after_run false ∷ [])) (b == m) _ _
     (record { left = on.left; leads = on.leads; ends = on.ends }) (runs-word text m false bs (past_byte b p))
 
 -- in its indent
 indent-word : (text : Expression) (m : ℕ) (bs : List ℕ) (p : Point) → is_rule_marker m ≡ true →
     first_byte (trim_start bs) ≡ m →
-    IsWord text (Nothing ∷ behind n.SpaceOrTab (inside text n.ThematicBreak) ∷ []) (marks_of White m bs p)
+    IsWord text (Nothing ∷ following n.SpaceOrTab (inside text n.ThematicBreak) ∷ []) (marks_of White m bs p)
 indent-word text m [] p mark first = absurd (none m mark first)
   where
     none : (m : ℕ) → is_rule_marker m ≡ true → 0 ≡ m → ⊥
@@ -178,7 +178,7 @@ indent-word text m [] p mark first = absurd (none m mark first)
 indent-word text m (b ∷ bs) p mark first = go (b == m) refl (indent-word text m bs (past_byte b p) mark)
   where
     stack : List Expression
-    stack = Nothing ∷ behind n.SpaceOrTab (inside text n.ThematicBreak) ∷ []
+    stack = Nothing ∷ following n.SpaceOrTab (inside text n.ThematicBreak) ∷ []
 
     go : (x : Bool) → (b == m) ≡ x →
         (first_byte (trim_start bs) ≡ m → IsWord text stack (marks_of White m bs (past_byte b p))) →
@@ -186,7 +186,7 @@ indent-word text m (b ∷ bs) p mark first = go (b == m) refl (indent-word text 
     go true e more =
         let on = runs-word text m true bs (past_byte b p) in
         rw e (record { left = on.left; leads = on.leads; ends = on.ends })
-    go false e more = rw e (more (first-behind b bs m first e))
+    go false e more = rw e (more (first-following b bs m first e))
 
 -- all of it
 break-word : (text : Expression) (m : ℕ) (bs : List ℕ) (p : Point) → is_rule_marker m ≡ true →
@@ -202,7 +202,7 @@ break-word text m (b ∷ bs) p mark first = go (b == m) refl
         let on = runs-word text m true bs (past_byte b p) in
         rw e (record { left = on.left; leads = on.leads; ends = on.ends })
     go false e =
-        let on = indent-word text m bs (past_byte b p) mark (first-behind b bs m first e) in
+        let on = indent-word text m bs (past_byte b p) mark (first-following b bs m first e) in
         rw e (record { left = on.left; leads = on.leads; ends = on.ends })
 
 -- The whole break.
@@ -218,7 +218,7 @@ break-facts options bytes r p q starts at =
       starts = first line rule m;
       stretch =
           runs-stretch IsPart bytes n.ThematicBreakSequence m line (drop q.index bytes) p (rule-runs bytes m mark)
-          (indent-marks m line (rule-marks (trim_start line) rule)) (line-stands bytes r line p q at) at.cut_first;
+          (indent-marks m line (rule-marks (trim_start line) rule)) (line-valid bytes r line p q at) at.cut_first;
       unread_word = word unread_text;
       word = word plain_text;
       unread_ending = ends;

@@ -16,10 +16,10 @@ use Rattle.md_events.proofs.RestCells.{RestAt, rest_cells}
 use Rattle.md_meaning.proofs.TextsLemmas.{NoEnding}
 use Rattle.md_engine.specs.declared.configuration.ParseOptions.{ParseOptions}
 use Rattle.md_engine.specs.declared.tokenizer.held_leaf.HeldLeaf.{HeldLeaf}
-use Rattle.proof_leaf_laws.proofs.HeadingSetext.Kinds.{underline-tells}
+use Rattle.proof_leaf_laws.proofs.HeadingSetext.Kinds.{underline-records}
 use Rattle.proof_leaf_laws.specs.Leaf.ThematicBreak.{break_leaf, first_byte}
 use Rattle.proof_leaf_laws.proofs.MarkRuns.Cells.{IsMark}
-use Rattle.proof_frame.proofs.MarkRuns.Fits.{Tells, line-fits}
+use Rattle.proof_frame.proofs.MarkRuns.Fits.{Reports, line-fits}
 use Rattle.md_leaves.specs.HeadingSetext.{turns_nothing}
 use Rattle.md_leaves.specs.HeadingSetextRule.{is_underline}
 
@@ -42,9 +42,9 @@ rule-first (m ∷ bytes) e =
     (and_parts (is_rule_marker m) (list_all (λ b. (b == m) || is_white b) bytes) both).0
 
 -- before it is whitespace
-pub first-behind : (b : ℕ) (bs : List ℕ) (m : ℕ) → first_byte (trim_start (b ∷ bs)) ≡ m → (b == m) ≡ false →
+pub first-following : (b : ℕ) (bs : List ℕ) (m : ℕ) → first_byte (trim_start (b ∷ bs)) ≡ m → (b == m) ≡ false →
     first_byte (trim_start bs) ≡ m
-first-behind b bs m first other = go (is_white b) first
+first-following b bs m first other = go (is_white b) first
   where
     go : (x : Bool) → first_byte (drop (cond x (1 + prefix_len is_white bs) 0) (b ∷ bs)) ≡ m →
         first_byte (trim_start bs) ≡ m
@@ -110,8 +110,8 @@ rule-spread line (b ∷ bs) p = go (b == 9) refl (is_rule_marker b) refl
         (count-spread (λ c. c == b) (marker-apart b k) line bs (past_byte b p))
 
 -- whitespace begins none
-pub rule-tells : Tells is_rule
-rule-tells = record {
+pub rule-records : Reports is_rule
+rule-records = record {
   spread_same = rule-spread;
   dark = λ b bs white. rule-none b bs (unmarked b white);
 }
@@ -120,14 +120,15 @@ rule-tells = record {
     unmarked b e = grind (arith, nat_tests)
 
 -- A break is on a line by its cells if it does by its rest.
-pub break-fits : (options : ParseOptions) (on : HeldLeaf) (said : Line) (text behind : List ℕ) (r : Rest) (p : Point)
+pub break-fits : (options : ParseOptions) (on : HeldLeaf) (said : Line) (text following : List ℕ) (r : Rest) (p : Point)
     (stop : List Cell) →
-    RestAt text behind r p → NoEnding r.bytes → Stops stop → length (rest_cells said r p ++ stop) < 2 ^ 63 →
+    RestAt text following r p → NoEnding r.bytes → Stops stop → length (rest_cells said r p ++ stop) < 2 ^ 63 →
     break_leaf.takes options on (rest_cells said r p ++ stop) ≡ break_leaf.starts options on r
-break-fits options on said text behind r p stop is h k short =
+break-fits options on said text following r p stop is h k short =
     ap₂ (λ (x y : Bool). x && not y)
-    (line-fits is_rule rule-tells options.constructs.thematic_break options said text behind r p stop is h k short)
-    (line-fits is_underline underline-tells (turns_nothing options on) options said text behind r p stop is h k short)
+    (line-fits is_rule rule-records options.constructs.thematic_break options said text following r p stop is h k short)
+    (line-fits is_underline underline-records (turns_nothing options on) options said text following r p
+    stop is h k short)
     ∙ go options.constructs.thematic_break (has_small_indent options r) (is_rule (trim_start r.bytes))
     (turns_nothing options on) (is_underline (trim_start r.bytes))
   where

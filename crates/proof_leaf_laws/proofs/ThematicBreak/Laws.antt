@@ -31,9 +31,9 @@ break-laws resolver = record {
   meets = λ options on r starts further. cc;
   shrinks = break-shrinks;
   fits = break-fits;
-  adds_is = λ options on said text behind r p stop at none ends short starts.
-      break-adds options said text behind r p stop at none ends short (ruled options on r starts);
-  keeps_is = λ options on said text behind r p stop at none ends short starts. refl;
+  adds_is = λ options on said text following r p stop at none ends short starts.
+      break-adds options said text following r p stop at none ends short (ruled options on r starts);
+  keeps_is = λ options on said text following r p stop at none ends short starts. refl;
   shut = λ ends options on. (λ cells p. refl, λ r. refl);
   finishes = λ ends options leaf r. refl;
   holds_is = λ options leaf r starts. refl;

@@ -26,13 +26,13 @@ use Rattle.proof_leaf_laws.proofs.ThematicBreak.Kinds.{break-mark, rule-first}
 
 -- the whole break
 pub break-adds :
-    (options : ParseOptions) (said : Line) (text behind : List ℕ) (r : Rest) (p : Point) (stop : List Cell) →
-    RestAt text behind r p → NoEnding r.bytes → Stops stop → length (rest_cells said r p ++ stop) < 2 ^ 63 →
+    (options : ParseOptions) (said : Line) (text following : List ℕ) (r : Rest) (p : Point) (stop : List Cell) →
+    RestAt text following r p → NoEnding r.bytes → Stops stop → length (rest_cells said r p ++ stop) < 2 ^ 63 →
     is_ruled options r ≡ true →
     break_leaf.adds options held_leaf.None (rest_cells said r p ++ stop) p ≡
     break_leaf.added options held_leaf.None (rest_line r) p
-break-adds options said text behind r p stop is h k short starts =
-    line-adds n.ThematicBreak n.ThematicBreakSequence options said text behind r p stop is h k short small
+break-adds options said text following r p stop is h k short starts =
+    line-adds n.ThematicBreak n.ThematicBreakSequence options said text following r p stop is h k short small
     (break-mark (first_byte (trim_start r.bytes)) (rule-first (trim_start r.bytes) parts.1))
   where
     parts : (options.constructs.thematic_break && has_small_indent options r ≡ true)

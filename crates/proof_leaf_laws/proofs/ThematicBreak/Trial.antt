@@ -19,12 +19,12 @@ use Rattle.md_leaves.specs.LeafStart.{entered_here}
 use Rattle.md_leaves.proofs.LeafStart.{at-none, at-off, at-white, indented-none, indented-white, rule-refused}
 use Rattle.md_leaves.proofs.BreakTermination.{rest-marker, rest-white}
 use Rattle.md_events.specs.Ahead.{begins_white, from_ending, line_bytes, line_cells, line_end, white_end, white_rest}
-use Rattle.md_events.specs.Look.{seen_behind}
+use Rattle.md_events.specs.Look.{seen_after}
 use Rattle.md_meaning.specs.Leaves.{is_rule}
 use Rattle.md_events.specs.Events.Nested.{around, enter, exit}
 use Rattle.md_events.specs.Spaces.{IsRest, small_indent}
 use Rattle.md_events.proofs.AheadLemmas.{none-rest, white-ending, white-line_end}
-use Rattle.md_events.proofs.WhiteMeaning.{behind_white}
+use Rattle.md_events.proofs.WhiteMeaning.{following_white}
 use Rattle.proof_leaf_laws.specs.Leaf.ThematicBreak.{break_inside, first_cell, is_break, break_leaf, is_lost}
 use Rattle.proof_frame.proofs.FromEnding.{from_ending-again}
 use Rattle.proof_frame.proofs.LeafStarts.{start-shrinks}
@@ -32,8 +32,8 @@ use Rattle.proof_frame.proofs.LeafLaws.{Shrinks, cond-shrinks, whole_line}
 use Rattle.md_containers.proofs.QuoteCells.{ending-shorter}
 
 -- what is in it after its indent
-abbrev behind_indent : List Cell → Point → List Event
-behind_indent cells p = runs Apart (first_cell cells) (line_cells cells) p
+abbrev after_indent : List Cell → Point → List Event
+after_indent cells p = runs Apart (first_cell cells) (line_cells cells) p
 
 -- whether a rule is on these cells that is no underline with nothing to turn
 abbrev breaks : ParseOptions → HeldLeaf → List Cell → Bool
@@ -67,7 +67,7 @@ regroup-white es rs a b c d =
 
 -- A line where another byte than a marker is first after whitespace is no break.
 pub break-looked : (options : ParseOptions) (on : HeldLeaf) (cells : List Cell) (b : ℕ) →
-    seen_behind cells ≡ Some b → may_begin b ≡ false → break_leaf.takes options on cells ≡ false
+    seen_after cells ≡ Some b → may_begin b ≡ false → break_leaf.takes options on cells ≡ false
 break-looked options on cells b seen e =
     and_left (is_break options cells) (not (is_lost options on cells))
     (rule-refused may_begin options.constructs.thematic_break is_rule (small_indent options) cells b refl
@@ -121,7 +121,7 @@ break-took options cells h is e = go (begins_white cells) refl
         h.flags.leaf false
         cells h
     go true s =
-        let at : Here = behind_white room cells (entered_here n.ThematicBreak h) in
+        let at : Here = following_white room cells (entered_here n.ThematicBreak h) in
         let end : line_end left q ≡ p = white-line_end room cells h.point in
         let es : List Event = at.events ++ runs Apart (first_cell left) (line_cells left) q
         ++ exit n.ThematicBreak (line_end left q) ∷ [] in
@@ -131,7 +131,7 @@ break-took options cells h is e = go (begins_white cells) refl
         ∙ ap₂
         (λ (x : Point) (es : List Event).
         h.events ++ (enter n.ThematicBreak h.point ∷ es ++ exit n.ThematicBreak x ∷ [])) end
-        (sym (indented-white behind_indent room cells h.point s)) in
+        (sym (indented-white after_indent room cells h.point s)) in
         at-white n.ThematicBreak _ (before_marker options) options cells h on s ∙ marked options left at rule
         ∙ ap₂ (λ (x : Point) (t : Scratch). new es x t (from_ending left)) end (rest-white h.scratch is)
         ∙ ap₂ (λ (xs : List Event) (rest : List Cell). new xs p h.scratch rest) same (white-ending room cells)
@@ -146,7 +146,7 @@ break-took options cells h is e = go (begins_white cells) refl
         regroup h.events (runs Apart (first_cell cells) (line_cells cells) h.point) (enter n.ThematicBreak h.point)
         (exit n.ThematicBreak p)
         ∙ ap (λ (es : List Event). h.events ++ (enter n.ThematicBreak h.point ∷ es ++ exit n.ThematicBreak p ∷ []))
-        (sym (indented-none behind_indent room cells h.point s)) in
+        (sym (indented-none after_indent room cells h.point s)) in
         at-none n.ThematicBreak _ (before_marker options) options cells h on s ∙ marked options cells at here'
         ∙ ap₂ (λ (xs : List Event) (t : Scratch). new xs p t (from_ending cells)) same (rest-marker h.scratch is)
 
@@ -165,7 +165,7 @@ break-refused options cells h is e = by options.constructs.thematic_break refl
         begins_white cells ≡ x → break_at options cells h ≡ Refuses h.scratch h.flags
     go on rule true s =
         at-white n.ThematicBreak _ (before_marker options) options cells h on s
-        ∙ unmarked options left (behind_white room cells (entered_here n.ThematicBreak h)) rule
+        ∙ unmarked options left (following_white room cells (entered_here n.ThematicBreak h)) rule
         ∙ ap (λ (t : Scratch). Refuses t h.flags) (rest-white h.scratch is)
     go on rule false s =
         let here' : breaks options h.flags.leaf cells ≡

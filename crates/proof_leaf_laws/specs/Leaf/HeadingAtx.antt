@@ -59,7 +59,7 @@ heading_leaf = record {
   starts =
       λ options on r. options.constructs.heading_atx && has_small_indent options r && is_heading (trim_start r.bytes);
   holds = λ options on r. held_leaf.None;
-  comes = λ options open_leaf r. Finished (heading_block r);
+  becomes = λ options open_leaf r. Finished (heading_block r);
   block = heading_block;
   added = λ options on line p. heading_around line p (flow_title (title_of line p));
   unread = λ line p. heading_around line p (unread_title (title_of line p));

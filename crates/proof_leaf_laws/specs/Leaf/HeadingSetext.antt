@@ -59,7 +59,7 @@ setext_leaf = record {
       may_turn options on && options.constructs.heading_setext && has_small_indent options r
       && is_underline (trim_start r.bytes);
   holds = λ options on r. held_leaf.None;
-  comes = λ options open_leaf r. Finished (heading_of (left_of options open_leaf) r);
+  becomes = λ options open_leaf r. Finished (heading_of (left_of options open_leaf) r);
   block = λ r. heading_of [] r;
   added = λ options on line p. underline_line line p;
   unread = underline_line;

@@ -38,8 +38,8 @@ abbrev line_by : Name → Bool → List ℕ → Point → Point → Point → Li
 line_by name white line p at q = cond white (pair n.SpaceOrTab p at) [] ++ part_over name line at q
 
 -- After the code this is whitespace.
-abbrev pub blank_behind : Rest → Point → Point → List Event
-blank_behind r p q = lost_line n.SpaceOrTab 4 r p q
+abbrev pub blank_after : Rest → Point → Point → List Event
+blank_after r p q = lost_line n.SpaceOrTab 4 r p q
 
 -- It has the name that its place gives it: between two lines of code it stays as it is, and after them it is
 -- whitespace.
@@ -73,7 +73,7 @@ blank-placed place r p q =
 -- nothing, a piece of it, or two
 white-shape : (P : List Event → Type 0) → P [] → ((p q : Point) → P (pair n.SpaceOrTab p q)) →
     ((p q r s : Point) → P (pair n.SpaceOrTab p q ++ pair n.SpaceOrTab r s)) → (r : Rest) (p q : Point) →
-    P (blank_behind r p q)
+    P (blank_after r p q)
 white-shape P none one two r p q = go (nat_lt 0 (indent r)) (rest_line (lose 4 r))
   where
     go : (white : Bool) (line : List ℕ) → P (line_by n.SpaceOrTab white line p (past_columns 4 r p) q)
@@ -83,9 +83,9 @@ white-shape P none one two r p q = go (nat_lt 0 (indent r)) (rest_line (lose 4 r
     go false (b ∷ bs) = one (past_columns 4 r p) q
 
 -- All that the frame asks of it there.
-pub behind-facts : (bytes : List ℕ) (r : Rest) (p q : Point) → is_blank r.bytes ≡ true → FurtherAt bytes r p q →
-    LeafFacts bytes None false p q (blank_behind r p q) (blank_behind r p q)
-behind-facts bytes r p q blank is =
+pub following-facts : (bytes : List ℕ) (r : Rest) (p q : Point) → is_blank r.bytes ≡ true → FurtherAt bytes r p q →
+    LeafFacts bytes None false p q (blank_after r p q) (blank_after r p q)
+following-facts bytes r p q blank is =
     quiet-facts bytes p q white
     (lost-stretch Quiet bytes n.SpaceOrTab 4 r p q tt (white-piece Quiet bytes tt) refl
     (λ none. line-blank (lose 4 r) ∙ blank-line r ∙ blank) is)
@@ -95,7 +95,7 @@ behind-facts bytes r p q blank is =
     (λ a b c d outer. refl) r p q)
   where
     white : List Event
-    white = blank_behind r p q
+    white = blank_after r p q
 
-    all : AreInside (blank_behind r p q)
+    all : AreInside (blank_after r p q)
     all = lost-inside n.SpaceOrTab 4 r p q refl

@@ -19,7 +19,7 @@ use Rattle.md_meaning.specs.Bytes.{is_end}
 use Rattle.md_meaning.specs.Rest.{Rest, cut_tab, indent, is_blank, lose}
 use Rattle.md_meaning.proofs.TextsLemmas.{NoEnding}
 use Rattle.md_code.specs.Code.{may_open}
-use Rattle.md_code.specs.CodeRule.{blank_adds, code_goes, is_indented, line_adds}
+use Rattle.md_code.specs.CodeRule.{blank_adds, code_continues, is_indented, line_adds}
 use Rattle.md_leaves.specs.Further.{further_link}
 use Rattle.md_code.proofs.CodeLines.{blank-line, indented-same}
 use Rattle.md_events.specs.Ahead.{line_bytes, line_end, white_end}
@@ -30,8 +30,8 @@ use Rattle.md_events.proofs.LostColumns.{HasLost, lose-walk}
 use Rattle.md_events.proofs.RestCells.{RestAt, lose-no_ending, rest_cells}
 use Rattle.md_events.proofs.RestLines.{blank-cells, end-cells}
 use Rattle.proof_frame.specs.RestLine.{rest_line}
-use Rattle.proof_literal_laws.specs.Leaf.CodeIndented.{code_further, code_leaf, code_parts, further_parts, goes_on_code}
-use Rattle.proof_literal_laws.specs.Leaf.CodeIndented.{is_code, line_parts, starts_code}
+use Rattle.proof_literal_laws.specs.Leaf.CodeIndented.{code_further, code_leaf, code_parts, further_parts}
+use Rattle.proof_literal_laws.specs.Leaf.CodeIndented.{continues_code, is_code, line_parts, starts_code}
 use Rattle.proof_frame.specs.LineColumns.{part_over, past_columns}
 use Rattle.proof_literal_laws.proofs.CodeIndented.Trial.{is_code_line, kept-some}
 use Rattle.proof_frame.proofs.IndentRemoved.Columns.{columns-end, first-white, rest-again}
@@ -39,18 +39,18 @@ use Rattle.proof_frame.proofs.LineEnds.{line-ends}
 
 -- They take the lines that the line definition says.
 
-pub code-fits : (options : ParseOptions) (on : HeldLeaf) (said : Line) (text behind : List ℕ) (r : Rest) (p : Point)
+pub code-fits : (options : ParseOptions) (on : HeldLeaf) (said : Line) (text following : List ℕ) (r : Rest) (p : Point)
     (stop : List Cell) →
-    RestAt text behind r p → NoEnding r.bytes → Stops stop → length (rest_cells said r p ++ stop) < 2 ^ 63 →
+    RestAt text following r p → NoEnding r.bytes → Stops stop → length (rest_cells said r p ++ stop) < 2 ^ 63 →
     code_leaf.takes options on (rest_cells said r p ++ stop) ≡ code_leaf.starts options on r
-code-fits options on said text behind r p stop is h k short =
+code-fits options on said text following r p stop is h k short =
     kept-some (is_code_line options on (rest_cells said r p ++ stop))
     ∙ ap₂ (λ (some blank : Bool). options.constructs.code_indented && may_open on && some && not blank)
-    (indented-same said text behind r p stop is k) (blank-cells said r p stop h k)
+    (indented-same said text following r p stop is k) (blank-cells said r p stop h k)
 
-goes-some : (leaf : HeldLeaf) (cells : List Cell) →
-    is_some (code_goes leaf cells) ≡ (is_blank (line_bytes cells) || is_indented cells)
-goes-some leaf cells = go (is_blank (line_bytes cells)) (is_indented cells)
+proceeds-some : (leaf : HeldLeaf) (cells : List Cell) →
+    is_some (code_continues leaf cells) ≡ (is_blank (line_bytes cells) || is_indented cells)
+proceeds-some leaf cells = go (is_blank (line_bytes cells)) (is_indented cells)
   where
     go : (blank indented : Bool) →
         is_some (cond blank (Some leaf) (cond indented (Some held_leaf.Code) None)) ≡ (blank || indented)
@@ -58,14 +58,14 @@ goes-some leaf cells = go (is_blank (line_bytes cells)) (is_indented cells)
     go false true = refl
     go false false = refl
 
-pub code_further-fits : (options : ParseOptions) (on : HeldLeaf) (said : Line) (text behind : List ℕ) (r : Rest)
+pub code_further-fits : (options : ParseOptions) (on : HeldLeaf) (said : Line) (text following : List ℕ) (r : Rest)
     (p : Point) (stop : List Cell) →
-    RestAt text behind r p → NoEnding r.bytes → Stops stop → length (rest_cells said r p ++ stop) < 2 ^ 63 →
+    RestAt text following r p → NoEnding r.bytes → Stops stop → length (rest_cells said r p ++ stop) < 2 ^ 63 →
     code_further.takes options on (rest_cells said r p ++ stop) ≡ code_further.starts options on r
-code_further-fits options on said text behind r p stop is h k short =
-    ap (λ (x : Bool). is_code on && x) (goes-some on (rest_cells said r p ++ stop))
+code_further-fits options on said text following r p stop is h k short =
+    ap (λ (x : Bool). is_code on && x) (proceeds-some on (rest_cells said r p ++ stop))
     ∙ ap₂ (λ (blank some : Bool). is_code on && (blank || some)) (blank-cells said r p stop h k)
-    (indented-same said text behind r p stop is k)
+    (indented-same said text following r p stop is k)
 
 -- What is known of the rest of a first line: an indent, and text after it.
 pub record IsCodeRest (options : ParseOptions) (on : HeldLeaf) (r : Rest) : Type 0 where
@@ -91,7 +91,7 @@ code-rest options on r e =
     no true h = cc
 
 -- And the rest of a further line has an indent if it has text.
-further-indented : (on : HeldLeaf) (r : Rest) → goes_on_code on r ≡ true → is_blank r.bytes ≡ false →
+further-indented : (on : HeldLeaf) (r : Rest) → continues_code on r ≡ true → is_blank r.bytes ≡ false →
     nat_le 4 (indent r) ≡ true
 further-indented on r e dark =
     ap (λ (x : Bool). x || nat_le 4 (indent r)) (sym dark)
@@ -122,26 +122,26 @@ code-parts r p q indented dark =
     (over-some n.CodeFlowChunk (lose 4 r) at q (blank-line r ∙ dark))
 
 -- A line with text adds what the line definition says of its bytes, whatever its begin.
-line-adds : (begin : Event) (said : Line) (text behind : List ℕ) (r : Rest) (p : Point) (stop : List Cell) →
-    RestAt text behind r p → NoEnding r.bytes → Stops stop → nat_le 4 (indent r) ≡ true → is_blank r.bytes ≡ false →
+line-adds : (begin : Event) (said : Line) (text following : List ℕ) (r : Rest) (p : Point) (stop : List Cell) →
+    RestAt text following r p → NoEnding r.bytes → Stops stop → nat_le 4 (indent r) ≡ true → is_blank r.bytes ≡ false →
     line_adds begin (rest_cells said r p ++ stop) p ≡ line_parts begin r p (past_text (rest_line r) p)
-line-adds begin said text behind r p stop is h k indented dark =
+line-adds begin said text following r p stop is h k indented dark =
     ap₂ (λ (x y : Point). begin ∷ pair n.SpaceOrTab p x ++ pair n.CodeFlowChunk x y ++ exit n.CodeIndented y ∷ [])
-    (columns-end said text behind 4 r p stop is k) (line-ends said text behind r p stop is h k)
+    (columns-end said text following 4 r p stop is k) (line-ends said text following r p stop is h k)
     ∙ ap (λ (es : List Event). begin ∷ es ++ exit n.CodeIndented (past_text (rest_line r) p) ∷ [])
     (sym (code-parts r p (past_text (rest_line r) p) indented dark))
 
-pub code-adds : (options : ParseOptions) (on : HeldLeaf) (said : Line) (text behind : List ℕ) (r : Rest) (p : Point)
+pub code-adds : (options : ParseOptions) (on : HeldLeaf) (said : Line) (text following : List ℕ) (r : Rest) (p : Point)
     (stop : List Cell) →
-    RestAt text behind r p → NoEnding r.bytes → Stops stop → length (rest_cells said r p ++ stop) < 2 ^ 63 →
+    RestAt text following r p → NoEnding r.bytes → Stops stop → length (rest_cells said r p ++ stop) < 2 ^ 63 →
     code_leaf.starts options on r ≡ true →
     code_leaf.adds options on (rest_cells said r p ++ stop) p ≡ code_leaf.added options on (rest_line r) p
-code-adds options on said text behind r p stop is h k short e =
+code-adds options on said text following r p stop is h k short e =
     let rest = code-rest options on r e in
-    line-adds (enter n.CodeIndented p) said text behind r p stop is h k rest.indented rest.dark
+    line-adds (enter n.CodeIndented p) said text following r p stop is h k rest.indented rest.dark
     ∙ sym
     (ap (λ (s : Rest). line_parts (enter n.CodeIndented p) s p (past_text (rest_line r) p))
-    (rest-again text behind r p is))
+    (rest-again text following r p is))
 
 -- A blank line.
 
@@ -151,22 +151,22 @@ over-by name [] p q = refl
 over-by name (b ∷ bs) p q = refl
 
 -- It adds what is said of its bytes; so would any other line.
-blank-adds : (said : Line) (text behind : List ℕ) (r : Rest) (p : Point) (stop : List Cell) →
-    RestAt text behind r p → NoEnding r.bytes → Stops stop →
+blank-adds : (said : Line) (text following : List ℕ) (r : Rest) (p : Point) (stop : List Cell) →
+    RestAt text following r p → NoEnding r.bytes → Stops stop →
     blank_adds (rest_cells said r p ++ stop) p ≡ code_parts r p (past_text (rest_line r) p)
-blank-adds said text behind r p stop is h k =
+blank-adds said text following r p stop is h k =
     ap₂
     (λ (white empty : Bool).
     cond white (pair n.SpaceOrTab p (white_end 4 cells p)) []
     ++ cond empty [] (pair n.CodeFlowChunk (white_end 4 cells p) (line_end cells p)))
-    (first-white said text behind r p stop is k)
+    (first-white said text following r p stop is k)
     (ap (λ (l : List Cell). is_end (line_bytes l)) lost.left
     ∙ end-cells said (lose 4 r) (white_end 4 cells p) stop (lose-no_ending 4 r h) k)
     ∙ ap₂
     (λ (x y : Point).
     cond (nat_lt 0 (indent r)) (pair n.SpaceOrTab p x) []
     ++ cond (is_end (rest_line (lose 4 r))) [] (pair n.CodeFlowChunk x y))
-    (columns-end said text behind 4 r p stop is k) (line-ends said text behind r p stop is h k)
+    (columns-end said text following 4 r p stop is k) (line-ends said text following r p stop is h k)
     ∙ ap (λ (es : List Event). cond (nat_lt 0 (indent r)) (pair n.SpaceOrTab p (past_columns 4 r p)) [] ++ es)
     (over-by n.CodeFlowChunk (rest_line (lose 4 r)) (past_columns 4 r p) q)
   where
@@ -176,19 +176,19 @@ blank-adds said text behind r p stop is h k =
     q : Point
     q = past_text (rest_line r) p
 
-    lost : HasLost said text behind 4 r p stop cells (white_end 4 cells p)
-    lost = lose-walk said text behind 4 r p stop is k
+    lost : HasLost said text following 4 r p stop cells (white_end 4 cells p)
+    lost = lose-walk said text following 4 r p stop is k
 
 -- So a further line adds what is said of its bytes, blank or not.
-pub code_further-adds : (options : ParseOptions) (on : HeldLeaf) (said : Line) (text behind : List ℕ) (r : Rest)
+pub code_further-adds : (options : ParseOptions) (on : HeldLeaf) (said : Line) (text following : List ℕ) (r : Rest)
     (p : Point) (stop : List Cell) →
-    RestAt text behind r p → NoEnding r.bytes → Stops stop → length (rest_cells said r p ++ stop) < 2 ^ 63 →
+    RestAt text following r p → NoEnding r.bytes → Stops stop → length (rest_cells said r p ++ stop) < 2 ^ 63 →
     code_further.starts options on r ≡ true →
     code_further.adds options on (rest_cells said r p ++ stop) p ≡ code_further.added options on (rest_line r) p
-code_further-adds options on said text behind r p stop is h k short e =
+code_further-adds options on said text following r p stop is h k short e =
     ap (λ (x : Bool). cond x (blank_adds cells p) (line_adds begin cells p)) (blank-cells said r p stop h k)
     ∙ go (is_blank r.bytes) refl
-    ∙ sym (ap (λ (s : Rest). further_parts s p q) (rest-again text behind r p is))
+    ∙ sym (ap (λ (s : Rest). further_parts s p q) (rest-again text following r p is))
   where
     cells : List Cell
     cells = rest_cells said r p ++ stop
@@ -201,5 +201,5 @@ code_further-adds options on said text behind r p stop is h k short e =
 
     go : (x : Bool) → is_blank r.bytes ≡ x →
         cond x (blank_adds cells p) (line_adds begin cells p) ≡ cond x (code_parts r p q) (line_parts begin r p q)
-    go true blank = blank-adds said text behind r p stop is h k
-    go false dark = line-adds begin said text behind r p stop is h k (further-indented on r e dark) dark
+    go true blank = blank-adds said text following r p stop is h k
+    go false dark = line-adds begin said text following r p stop is h k (further-indented on r e dark) dark

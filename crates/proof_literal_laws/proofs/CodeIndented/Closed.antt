@@ -10,7 +10,7 @@ use Rattle.md_meaning.specs.State.{without_trailing_blank}
 use Rattle.md_meaning.specs.Tree.{Line}
 use Rattle.md_code.proofs.CodeLines.{blank-line}
 use Rattle.proof_frame.specs.Row.{Row}
-use Rattle.proof_literal_laws.proofs.CodeIndented.Rows.{AreInCode, lines_behind}
+use Rattle.proof_literal_laws.proofs.CodeIndented.Rows.{AreInCode, lines_after}
 
 -- lines without text
 abbrev pub AreBlank : List Line → Type 0
@@ -60,11 +60,11 @@ trailing-last lines l dark =
 
 pub lines-trailing : (bytes : List ℕ) (r : Rest) (row : Row) (rows : List Row) → (are : AreInCode bytes r row rows) →
     (before : List Line) →
-    without_trailing_blank (before ++ code_line r ∷ lines_behind bytes r row rows are) ≡
-    before ++ code_line r ∷ lines_behind bytes r row rows are
+    without_trailing_blank (before ++ code_line r ∷ lines_after bytes r row rows are) ≡
+    before ++ code_line r ∷ lines_after bytes r row rows are
 lines-trailing bytes r row [] are before = trailing-last before (code_line r) (blank-line r ∙ are)
 lines-trailing bytes r row (next ∷ rows) are before =
     let s = are.4.rest in
     subst (λ (l : List Line). without_trailing_blank l ≡ l)
-    (append_assoc before (code_line r ∷ []) (code_line s ∷ lines_behind bytes s next rows are.5))
+    (append_assoc before (code_line r ∷ []) (code_line s ∷ lines_after bytes s next rows are.5))
     (lines-trailing bytes s next rows are.5 (before ++ code_line r ∷ []))

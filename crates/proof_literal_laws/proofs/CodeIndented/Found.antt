@@ -4,7 +4,7 @@ use Rattle.std.specs.Prelude.{nat_le}
 use Rattle.md_engine.specs.declared.configuration.ParseOptions.{ParseOptions}
 use Rattle.md_engine.specs.declared.tokenizer.held_leaf.HeldLeaf.{HeldLeaf}
 use Rattle.md_engine.specs.declared.tokenizer.held_leaf.HeldLeaf.TheVariants as held_leaf
-use Rattle.md_meaning.specs.Leaves.{LeafResult, ParagraphContext, code_at, code_goes_on, goes_on, is_free}
+use Rattle.md_meaning.specs.Leaves.{LeafResult, ParagraphContext, code_at, code_continued, is_continued, is_free}
 use Rattle.md_meaning.specs.Rest.{Rest, indent, is_blank}
 use Rattle.md_meaning.specs.State.{NoLeaf, OpenCode}
 use Rattle.md_meaning.specs.Tree.{Line}
@@ -21,16 +21,16 @@ with-text false c = refl
 pub code-found : (options : ParseOptions) (on : HeldLeaf) (against : ParagraphContext) (r : Rest) →
     may_open on ≡ is_free against → is_blank r.bytes ≡ false →
     code_at options against r ≡
-    cond (code_leaf.starts options on r) (Some (code_leaf.comes options NoLeaf r)) None
+    cond (code_leaf.starts options on r) (Some (code_leaf.becomes options NoLeaf r)) None
 unfolding code_at
 code-found options on against r free dark =
     rw (free, dark)
     (with-text (options.constructs.code_indented && is_free against && nat_le 4 (indent r))
-    (code_leaf.comes options NoLeaf r))
+    (code_leaf.becomes options NoLeaf r))
 
 -- Code that is open continues where a further line of it does.
-pub code-goes : (options : ParseOptions) (lines : List Line) (r : Rest) →
-    goes_on options (OpenCode lines) r ≡
-    cond (code_further.starts options held_leaf.Code r) (Some (code_further.comes options (OpenCode lines) r)) None
-unfolding code_goes_on
-code-goes options lines r = refl
+pub code-proceeds : (options : ParseOptions) (lines : List Line) (r : Rest) →
+    is_continued options (OpenCode lines) r ≡
+    cond (code_further.starts options held_leaf.Code r) (Some (code_further.becomes options (OpenCode lines) r)) None
+unfolding code_continued
+code-proceeds options lines r = refl

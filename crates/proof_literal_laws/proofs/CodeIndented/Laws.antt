@@ -2,7 +2,7 @@
 use Rattle.std.proofs.Common.{◌≡◌, true, refl}
 use Rattle.md_engine.specs.declared.tokenizer.held_leaf.HeldLeaf.{HeldLeaf}
 use Rattle.md_engine.specs.declared.tokenizer.held_leaf.HeldLeaf.TheVariants as held_leaf
-use Rattle.proof_frame.specs.HeldLeaf.{may_go_on}
+use Rattle.proof_frame.specs.HeldLeaf.{may_continue}
 use Rattle.proof_frame.specs.RestLine.{rest_line}
 use Rattle.proof_literal_laws.specs.Leaf.CodeIndented.{code_further, code_leaf, is_code}
 use Rattle.proof_literal_laws.proofs.CodeIndented.Cells.{code-adds, code-fits, code_further-adds, code_further-fits}
@@ -24,7 +24,7 @@ code-laws resolver = record {
   shrinks = code-shrinks;
   fits = code-fits;
   adds_is = code-adds;
-  keeps_is = λ options on said text behind r p stop at none ends short starts. refl;
+  keeps_is = λ options on said text following r p stop at none ends short starts. refl;
   shut = λ ends options on. absurd (cc);
   finishes = λ ends options leaf r. cc;
   holds_is = λ options leaf r starts. refl;
@@ -40,7 +40,7 @@ code-laws resolver = record {
 }
 
 -- a line may continue open code
-code-lines : (on : HeldLeaf) → is_code on ≡ true → may_go_on on ≡ true
+code-lines : (on : HeldLeaf) → is_code on ≡ true → may_continue on ≡ true
 code-lines held_leaf.Code e = refl
 code-lines _ e = cc
 
@@ -54,7 +54,7 @@ code_further-laws resolver = record {
   shrinks = code_further-shrinks;
   fits = code_further-fits;
   adds_is = code_further-adds;
-  keeps_is = λ options on said text behind r p stop at none ends short starts. refl;
+  keeps_is = λ options on said text following r p stop at none ends short starts. refl;
   shut = λ ends options on. absurd (cc);
   finishes = λ ends options leaf r. cc;
   holds_is = λ options leaf r starts. refl;

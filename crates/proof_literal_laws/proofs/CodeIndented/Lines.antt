@@ -7,7 +7,7 @@ use Rattle.md_engine.specs.declared.event.Name.TheVariants as n
 use Rattle.md_meaning.specs.Leaves.{code_line}
 use Rattle.md_meaning.specs.Rest.{Rest, lose}
 use Rattle.md_meaning.specs.Tree.{Code}
-use Rattle.md_outline.specs.LinesStand.{begun_site}
+use Rattle.md_outline.specs.LinesAllowed.{begun_site}
 use Rattle.md_events.specs.Events.Nested.{around, enter, exit}
 use Rattle.md_events.specs.Events.Spelled.{CodeLeaf, OfCode, OpenLeaf, fresh}
 use Rattle.md_events.proofs.EndingsLemmas.{Leads, in_leaf, leads-append, others-lead}
@@ -16,12 +16,12 @@ use Rattle.proof_literal_laws.specs.Leaf.CodeIndented.{code_leaf}
 use Rattle.proof_frame.specs.Row.{Row, but_end, is_framed, last_row}
 use Rattle.proof_literal_laws.proofs.CodeIndented.Cells.{IsCodeRest, code-parts, code-rest}
 use Rattle.proof_literal_laws.proofs.CodeIndented.Facts.{code_site, first-facts, first_parts}
-use Rattle.proof_literal_laws.proofs.CodeIndented.Grammar.{behind_line, code_begun}
+use Rattle.proof_literal_laws.proofs.CodeIndented.Grammar.{following_line, code_begun}
 use Rattle.proof_literal_laws.proofs.CodeIndented.Parts.{code-is}
-use Rattle.proof_literal_laws.proofs.CodeIndented.Rows.{AreInCode, as_line, begins, ends, lines_behind}
+use Rattle.proof_literal_laws.proofs.CodeIndented.Rows.{AreInCode, as_line, begins, ends, lines_after}
 use Rattle.proof_literal_laws.proofs.CodeIndented.Walk.{lines-fill, lines-further}
 use Rattle.proof_frame.proofs.LeafLines.Rest.{row_unread}
-use Rattle.proof_literal_laws.proofs.IndentRemoved.Sites.{is_told_of}
+use Rattle.proof_literal_laws.proofs.IndentRemoved.Sites.{records_rest}
 use Rattle.proof_frame.proofs.LeafFacts.{LeafFacts}
 use Rattle.proof_frame.proofs.IndentRemoved.Places.{FurtherAt, further-at}
 use Rattle.proof_frame.proofs.LeafLines.Bare.{paired-is}
@@ -72,7 +72,7 @@ first-begins options bytes row is =
 -- All that the frame asks of it: it shows the block of all its lines, and on the last of them something is.
 pub lines-facts : (options : ParseOptions) (bytes : List ℕ) (row : Row) (rows : List Row) →
     (is : IsLineOf options bytes code_leaf row) → (are : AreInCode bytes is.rest row rows) →
-    LeafFacts bytes (Some (Code (code_line is.rest ∷ lines_behind bytes is.rest row rows are))) true row.first
+    LeafFacts bytes (Some (Code (code_line is.rest ∷ lines_after bytes is.rest row rows are))) true row.first
     (last_row row rows).end (framed_by as_line row rows) (framed_by as_line row rows)
 lines-facts options bytes row rows is are =
     span-facts bytes as_line as_line n.CodeIndented OfCode to row rows true code_name tt line further ends ends
@@ -90,7 +90,7 @@ lines-facts options bytes row rows is are =
     es = first_parts is.rest row.first row.end
 
     to : OpenLeaf
-    to = CodeLeaf (code_line is.rest ∷ lines_behind bytes is.rest row rows are)
+    to = CodeLeaf (code_line is.rest ∷ lines_after bytes is.rest row rows are)
 
     same : as_line row ≡ ((enter n.CodeIndented row.first ∷ es) ++ exit n.CodeIndented row.end ∷ [])
     same = first-is options bytes row is
@@ -109,17 +109,18 @@ lines-facts options bytes row rows is are =
       is = first-begins options bytes row is;
       unread_starts = refl;
       starts = refl;
-      left = behind_line;
+      left = following_line;
       leaf = CodeLeaf (code_line is.rest ∷ []);
       site = code_site is.rest;
       facts = first-facts bytes r row.first row.end at of.indented of.dark;
     }
 
     further :
-        AreFurther bytes as_line as_line n.CodeIndented behind_line (CodeLeaf (code_line is.rest ∷ [])) to
+        AreFurther bytes as_line as_line n.CodeIndented following_line (CodeLeaf (code_line is.rest ∷ [])) to
         (code_site is.rest) row rows
     further =
-        lines-further bytes r row rows are (code_line r ∷ []) behind_line (is_told_of (rest_line (lose 4 r))) refl refl
+        lines-further bytes r row rows are (code_line r ∷ []) following_line
+        (records_rest (rest_line (lose 4 r))) refl refl
 
     -- something is on the last line, also in what is read of it
     ends : Leads (in_leaf true) (in_leaf true) (es ++ framed_rest as_line row rows)

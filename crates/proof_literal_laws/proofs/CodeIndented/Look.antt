@@ -10,13 +10,13 @@ use Rattle.md_engine.specs.World.{World}
 use Rattle.md_meaning.specs.Rest.{is_blank, is_white}
 use Rattle.md_code.specs.Code.{may_open}
 use Rattle.md_events.specs.Ahead.{begins_white, line_bytes}
-use Rattle.md_events.specs.Look.{behind_code, first_behind, looks_behind, may_with, seen_behind}
+use Rattle.md_events.specs.Look.{following_code, first_following, looks_after, may_with, seen_after}
 use Rattle.md_events.specs.Spaces.{sees_white}
 use Rattle.md_events.proofs.AheadLemmas.{none-size}
 use Rattle.proof_literal_laws.specs.Leaf.CodeIndented.{code_further, code_leaf}
 
 -- A line without whitespace in front has no indent.
-pub code-looked : (options : ParseOptions) (on : HeldLeaf) (cells : List Cell) (b : ℕ) → seen_behind cells ≡ Some b →
+pub code-looked : (options : ParseOptions) (on : HeldLeaf) (cells : List Cell) (b : ℕ) → seen_after cells ≡ Some b →
     code_leaf.may_begin on (begins_white cells) b ≡ false → code_leaf.takes options on cells ≡ false
 code-looked options on cells b seen e =
     let text : Bool = not (is_blank (line_bytes cells)) in
@@ -31,19 +31,19 @@ code-looked options on cells b seen e =
 
 -- Any byte may be first on a further line.
 pub code_further-looked : (options : ParseOptions) (on : HeldLeaf) (cells : List Cell) (b : ℕ) →
-    seen_behind cells ≡ Some b → code_further.may_begin on (begins_white cells) b ≡ false →
+    seen_after cells ≡ Some b → code_further.may_begin on (begins_white cells) b ≡ false →
     code_further.takes options on cells ≡ false
 code_further-looked options on cells b seen e = cc
 
 -- What is first after whitespace does not count, and where nothing is that may be read, it is tried: so it is known
 -- from what is here alone.
 pub code-may : (w : World) →
-    may_with (code_leaf.may_begin w.flags.leaf (sees_white w.current)) (looks_behind w) ≡ may_with is_white w.current
-unfolding looks_behind
+    may_with (code_leaf.may_begin w.flags.leaf (sees_white w.current)) (looks_after w) ≡ may_with is_white w.current
+unfolding looks_after
 code-may w = go w.current
   where
     found : Option ℕ
-    found = first_behind (slice_range w.setting.bytes w.point.index w.setting.limit)
+    found = first_following (slice_range w.setting.bytes w.point.index w.setting.limit)
 
     any : (o : Option ℕ) → may_with (λ (b : ℕ). true) o ≡ true
     any None = refl
@@ -54,6 +54,6 @@ code-may w = go w.current
     by b false = refl
 
     go : (o : Option ℕ) →
-        may_with (code_leaf.may_begin w.flags.leaf (sees_white o)) (behind_code o found) ≡ may_with is_white o
+        may_with (code_leaf.may_begin w.flags.leaf (sees_white o)) (following_code o found) ≡ may_with is_white o
     go None = refl
     go (Some b) = by b (is_white b)

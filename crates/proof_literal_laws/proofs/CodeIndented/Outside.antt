@@ -22,7 +22,7 @@ use Rattle.proof_literal_laws.specs.Leaf.CodeIndented.{code_further, code_leaf, 
 use Rattle.proof_frame.specs.LineColumns.{rest_of}
 use Rattle.proof_literal_laws.proofs.CodeIndented.Parts.{code-inside}
 use Rattle.proof_frame.proofs.ContentFacts.{NoContent}
-use Rattle.proof_frame.proofs.EventNames.{is_told}
+use Rattle.proof_frame.proofs.EventNames.{is_recorded}
 use Rattle.proof_frame.proofs.EachEvent.{each-append}
 use Rattle.proof_literal_laws.proofs.IndentRemoved.Names.{AreInside, More, either-part, inside-lined, inside-no_content}
 use Rattle.proof_frame.proofs.LinedFacts.{AreLined, IsLined}
@@ -68,7 +68,7 @@ code_further-lined options on line p =
 -- No content is in it, and its link is to none that is read later.
 
 line-no_content : (wants : Content → Bool) (begin : Event) (cells : List Cell) (p : Point) →
-    wanted wants begin ≡ None → is_told begin.name ≡ false → NoContent wants (line_adds begin cells p)
+    wanted wants begin ≡ None → is_recorded begin.name ≡ false → NoContent wants (line_adds begin cells p)
 line-no_content wants begin cells p unwanted none =
     (unwanted, none, (refl, refl, (refl, refl, (refl, refl, (refl, refl, (refl, refl, tt))))))
 

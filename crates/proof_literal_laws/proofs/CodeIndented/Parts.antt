@@ -7,7 +7,8 @@ use Rattle.md_meaning.specs.Rest.{Rest}
 use Rattle.md_events.specs.Events.Nested.{enter}
 use Rattle.md_events.specs.Events.Places.{past_text}
 use Rattle.proof_frame.specs.RestLine.{rest_line}
-use Rattle.proof_literal_laws.specs.Leaf.CodeIndented.{code_events, code_parts, further_events, further_parts, line_parts}
+use Rattle.proof_literal_laws.specs.Leaf.CodeIndented.{code_events, code_parts, further_events, further_parts}
+use Rattle.proof_literal_laws.specs.Leaf.CodeIndented.{line_parts}
 use Rattle.proof_frame.specs.LineColumns.{rest_of}
 use Rattle.proof_frame.proofs.IndentRemoved.Columns.{rest-again}
 use Rattle.proof_literal_laws.proofs.IndentRemoved.Names.{AreInside, lost-inside}

@@ -20,19 +20,19 @@ use Rattle.md_leaves.specs.Further.{further_link}
 use Rattle.md_events.specs.Events.Nested.{enter_link, exit}
 use Rattle.proof_literal_laws.specs.Leaf.CodeIndented.{code_further, code_parts, further_parts, line_parts}
 use Rattle.proof_frame.specs.Row.{Row, is_blank_row, is_empty_row, is_framed, last_row}
-use Rattle.proof_literal_laws.proofs.CodeIndented.Blank.{behind-facts, blank-placed, blank_behind}
+use Rattle.proof_literal_laws.proofs.CodeIndented.Blank.{following-facts, blank-placed, blank_after}
 use Rattle.proof_literal_laws.proofs.CodeIndented.Parts.{code-inside, further-is}
 use Rattle.proof_frame.proofs.LeafLines.Rest.{row_unread}
 use Rattle.proof_frame.proofs.FrontFacts.{LinePrefix}
 use Rattle.proof_frame.proofs.FrontPlaces.{fronts-grow}
 use Rattle.proof_frame.proofs.LeafFacts.{LeafFacts}
-use Rattle.proof_frame.proofs.LineTexts.{some-text, text-behind}
+use Rattle.proof_frame.proofs.LineTexts.{some-text, text-following}
 use Rattle.proof_literal_laws.proofs.IndentRemoved.Parts.{inside-lines}
 use Rattle.proof_frame.proofs.IndentRemoved.Places.{FurtherAt, further-at, further-rest}
 use Rattle.proof_frame.proofs.IndentRemoved.Shown.{left-clear}
 use Rattle.md_events.proofs.FeedLines.{IsEnding}
 use Rattle.proof_frame.proofs.LeafLines.Bare.{paired}
-use Rattle.proof_frame.proofs.LeafLines.Behind.{IsOutside}
+use Rattle.proof_frame.proofs.LeafLines.Following.{IsOutside}
 use Rattle.proof_frame.proofs.LeafLines.Framed.{plain-unframed}
 use Rattle.proof_frame.proofs.SpanLaws.{IsLineOf}
 
@@ -102,19 +102,19 @@ AreInCode bytes r row (next ∷ rows) =
     × (is : InCode bytes next) × AreInCode bytes is.rest next rows
 
 -- the lines of the line definition that they are
-abbrev pub lines_behind : (bytes : List ℕ) (r : Rest) (row : Row) (rows : List Row) → AreInCode bytes r row rows →
+abbrev pub lines_after : (bytes : List ℕ) (r : Rest) (row : Row) (rows : List Row) → AreInCode bytes r row rows →
     List Line
-lines_behind bytes r row [] are = []
-lines_behind bytes r row (next ∷ rows) are =
-    code_line are.4.rest ∷ lines_behind bytes are.4.rest next rows are.5
+lines_after bytes r row [] are = []
+lines_after bytes r row (next ∷ rows) are =
+    code_line are.4.rest ∷ lines_after bytes are.4.rest next rows are.5
 
 -- The text continues with them: after a line with text is no end of it, nor before one.
-pub goes-on : (bytes : List ℕ) (r : Rest) (row : Row) (rows : List Row) → FurtherAt bytes r row.first row.end →
+pub proceeds-on : (bytes : List ℕ) (r : Rest) (row : Row) (rows : List Row) → FurtherAt bytes r row.first row.end →
     AreInCode bytes r row rows → row.first.index < length bytes
-goes-on bytes r row [] is dark = text-behind bytes r row.first row.end is.at (some-text r dark)
-goes-on bytes r row (next ∷ rows) is are =
+proceeds-on bytes r row [] is dark = text-following bytes r row.first row.end is.at (some-text r dark)
+proceeds-on bytes r row (next ∷ rows) is are =
     let q = are.0 in
-    let further = goes-on bytes are.4.rest next rows are.4.at are.5 in
+    let further = proceeds-on bytes are.4.rest next rows are.4.at are.5 in
     let grow = fronts-grow bytes [] q next.first next.front are.3 in
     let size = is.at.size in
     let ending = are.2.size in
@@ -146,7 +146,7 @@ row-outside bytes row is blank = record {
   whole = is.at.at.end_whole;
   facts =
       subst₂ (λ (full : Bool) (es : List Event). LeafFacts bytes None full row.first row.end es es)
-      (sym (ap not (is.ending ∙ blank))) (sym same) (behind-facts bytes r row.first row.end blank is.at);
+      (sym (ap not (is.ending ∙ blank))) (sym same) (following-facts bytes r row.first row.end blank is.at);
 }
   where
     r : Rest
@@ -155,7 +155,7 @@ row-outside bytes row is blank = record {
     parts : List Event
     parts = code_parts is.rest row.first row.end
 
-    same : map (renamed Outside) row.inside ≡ blank_behind is.rest row.first row.end
+    same : map (renamed Outside) row.inside ≡ blank_after is.rest row.first row.end
     same =
         ap (map (renamed Outside))
         (is.inside ∙ ap (λ (x : Bool). cond x parts (line_in is.rest row.first row.end)) blank)

@@ -14,11 +14,11 @@ use Rattle.md_leaves.proofs.SpannedLines.{IsBegin, IsFurther}
 use Rattle.md_leaves.specs.Further.{further_link}
 use Rattle.md_events.specs.Events.Nested.{enter, enter_link}
 use Rattle.proof_literal_laws.specs.Leaf.CodeIndented.{code_further, code_leaf, code_parts, line_parts}
-use Rattle.proof_frame.specs.Row.{Row, any_framed, is_blank_row, last_row, span_behind, span_by}
+use Rattle.proof_frame.specs.Row.{Row, any_framed, is_blank_row, last_row, span_after, span_by}
 use Rattle.proof_literal_laws.proofs.CodeIndented.Blank.{blank-blocks, blank-placed}
 use Rattle.proof_literal_laws.proofs.CodeIndented.Cells.{code-rest}
 use Rattle.proof_literal_laws.proofs.CodeIndented.Parts.{code-inside, code-is}
-use Rattle.proof_literal_laws.proofs.CodeIndented.Rows.{InCode, as_line, begins, ends, last-in, line_in, lines_behind}
+use Rattle.proof_literal_laws.proofs.CodeIndented.Rows.{InCode, as_line, begins, ends, last-in, line_in, lines_after}
 use Rattle.proof_literal_laws.proofs.CodeIndented.Rows.{row-in, text-some}
 use Rattle.proof_literal_laws.proofs.CodeIndented.Lines.{first-framed, lines-facts}
 use Rattle.proof_literal_laws.proofs.CodeIndented.Split.{AreSplit, rows-split, split-shuts}
@@ -28,9 +28,9 @@ use Rattle.proof_frame.proofs.LeafFacts.{LeafFacts}
 use Rattle.proof_literal_laws.proofs.IndentRemoved.Parts.{inside-lines}
 use Rattle.proof_frame.proofs.IndentRemoved.Places.{further-at}
 use Rattle.proof_frame.proofs.LeafLines.Bare.{inner, outer, outer-last, span-split}
-use Rattle.proof_frame.proofs.LeafLines.Behind.{rows-behind}
+use Rattle.proof_frame.proofs.LeafLines.Following.{rows-following}
 use Rattle.proof_frame.proofs.LeafLines.Framed.{framed_by, line-spanned}
-use Rattle.proof_frame.proofs.SpanLaws.{AreBehind, IsBare, IsLineOf, IsNone, IsSpanned, SpanLaws}
+use Rattle.proof_frame.proofs.SpanLaws.{AreAfter, IsBare, IsLineOf, IsNone, IsSpanned, SpanLaws}
 use Rattle.proof_frame.proofs.SpannedFacts.{AreUnspanned}
 
 -- Each line of code is a block by itself at first, from this begin to its end.
@@ -82,17 +82,17 @@ outs rows = outer row_unread rows
 
 -- the first has text, so they are in the code and after it
 abbrev all-split : (options : ParseOptions) (bytes : List ℕ) (row : Row) (rows : List Row) →
-    (is : IsLineOf options bytes code_leaf row) → (are : AreBehind options bytes code_further row rows) →
+    (is : IsLineOf options bytes code_leaf row) → (are : AreAfter options bytes code_further row rows) →
     AreSplit options bytes is.rest row rows (ins rows) (outs rows) are
 all-split options bytes row rows is are =
     rows-split options bytes is.rest row rows are
     (ap (λ (x : Bool). not x || any_framed row_unread rows) (code-rest options row.on is.rest is.starts).dark)
 
 abbrev all-block : (options : ParseOptions) (bytes : List ℕ) (row : Row) (rows : List Row) →
-    IsLineOf options bytes code_leaf row → AreBehind options bytes code_further row rows → Block
+    IsLineOf options bytes code_leaf row → AreAfter options bytes code_further row rows → Block
 all-block options bytes row rows is are =
     Code
-    (code_line is.rest ∷ lines_behind bytes is.rest row (ins rows) (all-split options bytes row rows is are).within)
+    (code_line is.rest ∷ lines_after bytes is.rest row (ins rows) (all-split options bytes row rows is are).within)
 
 -- the ending of the first is that of a line with text
 first-ending : (options : ParseOptions) (bytes : List ℕ) (row : Row) → (is : IsLineOf options bytes code_leaf row) →
@@ -106,7 +106,7 @@ first-ending options bytes row is =
 
 -- the ending of the last has the name that it shows
 last-ending : (options : ParseOptions) (bytes : List ℕ) (row : Row) (rows : List Row) →
-    is_blank_row row ≡ row.empty → AreBehind options bytes code_further row rows →
+    is_blank_row row ≡ row.empty → AreAfter options bytes code_further row rows →
     is_blank_row (last_row row rows) ≡ (last_row row rows).empty
 last-ending options bytes row [] is are = is
 last-ending options bytes row (next ∷ rows) is are = last-ending options bytes next rows are.6.ending are.7
@@ -115,12 +115,12 @@ last-ending options bytes row (next ∷ rows) is are = last-ending options bytes
 all-joined : (options : ParseOptions) (bytes : List ℕ) (row : Row) (rows : List Row) →
     IsLineOf options bytes code_leaf row →
     span_by row_unread row rows ≡
-    framed_by as_line row (ins rows) ++ span_behind row_unread (last_row row (ins rows)) (outs rows)
+    framed_by as_line row (ins rows) ++ span_after row_unread (last_row row (ins rows)) (outs rows)
 all-joined options bytes row rows is =
     span-split begins ends row_unread row rows (first-framed options bytes row is)
 
 all-facts : (options : ParseOptions) (bytes : List ℕ) (row : Row) (rows : List Row) →
-    (is : IsLineOf options bytes code_leaf row) → (are : AreBehind options bytes code_further row rows) →
+    (is : IsLineOf options bytes code_leaf row) → (are : AreAfter options bytes code_further row rows) →
     LeafFacts bytes (Some (all-block options bytes row rows is are)) (not (last_row row rows).empty) row.first
     (last_row row rows).end (span_by row_unread row rows) (span_by row_unread row rows)
 all-facts options bytes row rows is are =
@@ -128,7 +128,8 @@ all-facts options bytes row rows is are =
     (sym (all-joined options bytes row rows is))
     (subst₂ (λ (blank : Bool) (end : Point). Facts (not blank) end both)
     (ap is_blank_row last ∙ last-ending options bytes row rows is.ending are) (ap (λ (r : Row). r.end) last)
-    (rows-behind bytes (Some (all-block options bytes row rows is are)) row_unread row.first last_in (outs rows) lines
+    (rows-following bytes (Some (all-block options bytes row rows is are)) row_unread row.first last_in
+    (outs rows) lines
     lines at.0
     (subst (λ (blank : Bool). Facts (not blank) last_in.end lines) (sym at.1)
     (lines-facts options bytes row (ins rows) is split.within)) split.outside))
@@ -146,7 +147,7 @@ all-facts options bytes row rows is are =
     lines = framed_by as_line row (ins rows)
 
     both : List Event
-    both = framed_by as_line row (ins rows) ++ span_behind row_unread (last_row row (ins rows)) (outs rows)
+    both = framed_by as_line row (ins rows) ++ span_after row_unread (last_row row (ins rows)) (outs rows)
 
     last : last_row (last_row row (ins rows)) (outs rows) ≡ last_row row rows
     last = outer-last row_unread row rows

@@ -9,39 +9,39 @@ use Rattle.md_engine.specs.declared.configuration.ParseOptions.{ParseOptions}
 use Rattle.md_meaning.specs.Leaves.{LeafResult, Opened, code_line}
 use Rattle.md_meaning.specs.Rest.{Rest, is_blank}
 use Rattle.md_meaning.specs.State.{OpenCode, shut, then_block}
-use Rattle.md_meaning.specs.Step.{came}
+use Rattle.md_meaning.specs.Step.{became}
 use Rattle.md_meaning.specs.Tree.{Blocks, Code, Line}
 use Rattle.md_code.proofs.CodeLines.{blank-line}
-use Rattle.proof_literal_laws.specs.Leaf.CodeIndented.{code_comes, code_further}
+use Rattle.proof_literal_laws.specs.Leaf.CodeIndented.{code_becomes, code_further}
 use Rattle.proof_frame.specs.Row.{Row, any_framed, is_framed, last_row}
 use Rattle.proof_literal_laws.proofs.CodeIndented.Closed.{AreBlank, lines-trailing, trailing-blank}
-use Rattle.proof_literal_laws.proofs.CodeIndented.Rows.{AreInCode, InCode, goes-on, in-framed, lines_behind, row-in}
+use Rattle.proof_literal_laws.proofs.CodeIndented.Rows.{AreInCode, InCode, proceeds-on, in-framed, lines_after, row-in}
 use Rattle.proof_literal_laws.proofs.CodeIndented.Rows.{row-outside}
 use Rattle.proof_frame.proofs.LeafLines.Rest.{row_unread}
 use Rattle.proof_frame.proofs.FrontPlaces.{fronts-grow}
 use Rattle.proof_frame.proofs.LeafLines.Bare.{inner, outer}
-use Rattle.proof_frame.proofs.LeafLines.Behind.{AreOutside}
-use Rattle.proof_frame.proofs.SpanLaws.{AreBehind, come_behind}
+use Rattle.proof_frame.proofs.LeafLines.Following.{AreOutside}
+use Rattle.proof_frame.proofs.SpanLaws.{AreAfter, becomes_after}
 
 -- Such rows after a line with this rest, of which these are in the code and those after it.
 pub record AreSplit (options : ParseOptions) (bytes : List ℕ) (r : Rest) (row : Row) (rows ins outs : List Row)
-    (are : AreBehind options bytes code_further row rows) : Type 0 where
+    (are : AreAfter options bytes code_further row rows) : Type 0 where
   pub within : AreInCode bytes r row ins
   pub outside : AreOutside bytes row_unread (last_row row ins) outs
   -- the line definition becomes the lines of the code, and some blank ones
-  pub comes : (lines : List Line) →
+  pub becomes : (lines : List Line) →
       (blanks : List Line) × (all : AreBlank blanks) ×
-      (come_behind options bytes code_further row rows are (Opened (OpenCode lines)) ≡
-      Opened (OpenCode (lines ++ (lines_behind bytes r row ins within ++ blanks))))
+      (becomes_after options bytes code_further row rows are (Opened (OpenCode lines)) ≡
+      Opened (OpenCode (lines ++ (lines_after bytes r row ins within ++ blanks))))
 
 -- blank rows alone
 blank-split : (options : ParseOptions) (bytes : List ℕ) (r : Rest) (row : Row) (rows : List Row) →
-    (are : AreBehind options bytes code_further row rows) → is_blank r.bytes ≡ false →
+    (are : AreAfter options bytes code_further row rows) → is_blank r.bytes ≡ false →
     any_framed row_unread rows ≡ false → AreSplit options bytes r row rows [] rows are
 blank-split options bytes r row rows are dark none = record {
   within = dark;
-  outside = behind row rows are none;
-  comes = come row rows are none;
+  outside = following row rows are none;
+  becomes = become row rows are none;
 }
   where
     -- a row that is no pair is blank
@@ -53,10 +53,10 @@ blank-split options bytes r row rows are dark none = record {
         go true h = refl
         go false h = cc
 
-    behind : (row : Row) (rows : List Row) → AreBehind options bytes code_further row rows →
+    following : (row : Row) (rows : List Row) → AreAfter options bytes code_further row rows →
         any_framed row_unread rows ≡ false → AreOutside bytes row_unread row rows
-    behind row [] are none = tt
-    behind row (next ∷ rows) are none =
+    following row [] are none = tt
+    following row (next ∷ rows) are none =
         let both = or_parts (is_framed next.inside) (any_framed row_unread rows) none in
         let is = row-in options bytes next are.6 in (
           are.0,
@@ -64,31 +64,31 @@ blank-split options bytes r row rows are dark none = record {
           are.2,
           are.3,
           row-outside bytes next is (blank-row next is both.0),
-          behind next rows are.7 both.1,
+          following next rows are.7 both.1,
         )
 
-    come : (row : Row) (rows : List Row) → (are : AreBehind options bytes code_further row rows) →
+    become : (row : Row) (rows : List Row) → (are : AreAfter options bytes code_further row rows) →
         any_framed row_unread rows ≡ false → (lines : List Line) →
         (blanks : List Line) × (all : AreBlank blanks) ×
-        (come_behind options bytes code_further row rows are (Opened (OpenCode lines)) ≡
+        (becomes_after options bytes code_further row rows are (Opened (OpenCode lines)) ≡
         Opened (OpenCode (lines ++ blanks)))
-    come row [] are none lines = ([], refl, ap (λ (l : List Line). Opened (OpenCode l)) (sym (append-nil lines)))
-    come row (next ∷ rows) are none lines =
+    become row [] are none lines = ([], refl, ap (λ (l : List Line). Opened (OpenCode l)) (sym (append-nil lines)))
+    become row (next ∷ rows) are none lines =
         let both = or_parts (is_framed next.inside) (any_framed row_unread rows) none in
-        go (nat_lt are.0.index (length bytes)) (come next rows are.7 both.1 (lines ++ code_line are.6.rest ∷ []))
-        (come next rows are.7 both.1 lines)
+        go (nat_lt are.0.index (length bytes)) (become next rows are.7 both.1 (lines ++ code_line are.6.rest ∷ []))
+        (become next rows are.7 both.1 lines)
         (blank-line are.6.rest ∙ blank-row next (row-in options bytes next are.6) both.0)
       where
         All : List Line → LeafResult → Type 0
         All before c =
             (blanks : List Line) × (all : AreBlank blanks) ×
-            (come_behind options bytes code_further next rows are.7 c ≡ Opened (OpenCode (before ++ blanks)))
+            (becomes_after options bytes code_further next rows are.7 c ≡ Opened (OpenCode (before ++ blanks)))
 
         -- an empty line after the ending that the text ends with is none
         go : (x : Bool) →
             All (lines ++ code_line are.6.rest ∷ []) (Opened (OpenCode (lines ++ code_line are.6.rest ∷ []))) →
             All lines (Opened (OpenCode lines)) → is_blank (code_line are.6.rest).text ≡ true →
-            All lines (cond x (code_comes (OpenCode lines) are.6.rest) (Opened (OpenCode lines)))
+            All lines (cond x (code_becomes (OpenCode lines) are.6.rest) (Opened (OpenCode lines)))
         go false more same blank = same
         go true more same blank = (
           code_line are.6.rest ∷ more.0,
@@ -103,7 +103,7 @@ dark false h = refl
 
 -- Further rows, after a line with text or where some is on one of them.
 pub rows-split : (options : ParseOptions) (bytes : List ℕ) (r : Rest) (row : Row) (rows : List Row) →
-    (are : AreBehind options bytes code_further row rows) →
+    (are : AreAfter options bytes code_further row rows) →
     (not (is_blank r.bytes) || any_framed row_unread rows) ≡ true →
     AreSplit options bytes r row rows (inner row_unread rows) (outer row_unread rows) are
 rows-split options bytes r row [] are some = blank-split options bytes r row [] are (dark (is_blank r.bytes) some) refl
@@ -124,26 +124,26 @@ rows-split options bytes r row (next ∷ rows) are some =
     in-front more = record {
       within = (are.0, are.1, are.2, are.3, is, more.within);
       outside = more.outside;
-      comes = λ lines.
-          let rest = more.comes (lines ++ code_line s ∷ []) in
-          let behind = lines_behind bytes s next (inner row_unread rows) more.within in (
+      becomes = λ lines.
+          let rest = more.becomes (lines ++ code_line s ∷ []) in
+          let following = lines_after bytes s next (inner row_unread rows) more.within in (
             rest.0,
             rest.1,
             ap
                 (λ (x : Bool).
-                come_behind options bytes code_further next rows are.7
-                (cond x (code_comes (OpenCode lines) s) (Opened (OpenCode lines))))
+                becomes_after options bytes code_further next rows are.7
+                (cond x (code_becomes (OpenCode lines) s) (Opened (OpenCode lines))))
                 some_text
                 ∙ rest.2
                 ∙ ap (λ (l : List Line). Opened (OpenCode l))
-                (append_assoc lines (code_line s ∷ []) (behind ++ rest.0)),
+                (append_assoc lines (code_line s ∷ []) (following ++ rest.0)),
           );
     }
       where
         -- the text continues after the ending
         some_text : nat_lt are.0.index (length bytes) ≡ true
         some_text =
-            let further = goes-on bytes s next (inner row_unread rows) is.at more.within in
+            let further = proceeds-on bytes s next (inner row_unread rows) is.at more.within in
             let grow = fronts-grow bytes [] are.0 next.first next.front are.3 in
             grind (arith, nat_tests)
 
@@ -157,14 +157,14 @@ rows-split options bytes r row (next ∷ rows) are some =
 
 -- The block of the code: it is shut with the lines in it.
 pub split-shuts : (options : ParseOptions) (bytes : List ℕ) (r : Rest) (row : Row) (rows ins outs : List Row) →
-    (are : AreBehind options bytes code_further row rows) →
+    (are : AreAfter options bytes code_further row rows) →
     (split : AreSplit options bytes r row rows ins outs are) → (bs : Blocks) →
     shut options
-    (came bs (come_behind options bytes code_further row rows are (Opened (OpenCode (code_line r ∷ []))))) ≡
-    then_block bs (Code (code_line r ∷ lines_behind bytes r row ins split.within))
+    (became bs (becomes_after options bytes code_further row rows are (Opened (OpenCode (code_line r ∷ []))))) ≡
+    then_block bs (Code (code_line r ∷ lines_after bytes r row ins split.within))
 split-shuts options bytes r row rows ins outs are split bs =
-    let comes = split.comes (code_line r ∷ []) in
-    let lines = code_line r ∷ lines_behind bytes r row ins split.within in
-    ap (λ (c : LeafResult). shut options (came bs c)) comes.2
+    let becomes = split.becomes (code_line r ∷ []) in
+    let lines = code_line r ∷ lines_after bytes r row ins split.within in
+    ap (λ (c : LeafResult). shut options (became bs c)) becomes.2
     ∙ ap (λ (l : List Line). then_block bs (Code l))
-    (trailing-blank lines comes.0 comes.1 ∙ lines-trailing bytes r row ins split.within [])
+    (trailing-blank lines becomes.0 becomes.1 ∙ lines-trailing bytes r row ins split.within [])

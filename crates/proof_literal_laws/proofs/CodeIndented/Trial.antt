@@ -13,7 +13,7 @@ use Rattle.md_meaning.specs.Bytes.{is_end}
 use Rattle.md_meaning.specs.Rest.{is_blank}
 use Rattle.md_leaves.proofs.LeafSteps.{ended}
 use Rattle.md_code.specs.Code.{may_open}
-use Rattle.md_code.specs.CodeRule.{at_break, code_goes, further_after, further_begin, further_inside}
+use Rattle.md_code.specs.CodeRule.{at_break, code_continues, further_after, further_begin, further_inside}
 use Rattle.md_code.specs.CodeRule.{further_line, in_blank, in_text, is_indented, line_at, line_by, or_blank}
 use Rattle.md_code.proofs.CodeWhole.{code-line, code-on}
 use Rattle.md_events.specs.Ahead.{begins_white, line_bytes, white_rest}
@@ -65,9 +65,10 @@ code-refused options cells h is e =
     (kept-is (is_code_line options h.flags.leaf cells) false e)
 
 -- Where code is open a line continues it, which leaves it open,
-goes-by : (leaf : HeldLeaf) (cells : List Cell) (x : Bool) → is_code leaf ≡ true → is_some (code_goes leaf cells) ≡ x →
-    code_goes leaf cells ≡ kept_by x
-goes-by held_leaf.Code cells x on e = go (is_blank (line_bytes cells)) (is_indented cells) e
+proceeds-by : (leaf : HeldLeaf) (cells : List Cell) (x : Bool) → is_code leaf ≡ true →
+    is_some (code_continues leaf cells) ≡ x →
+    code_continues leaf cells ≡ kept_by x
+proceeds-by held_leaf.Code cells x on e = go (is_blank (line_bytes cells)) (is_indented cells) e
   where
     go : (blank indented : Bool) →
         is_some (cond blank (Some held_leaf.Code) (cond indented (Some held_leaf.Code) None)) ≡ x →
@@ -75,7 +76,7 @@ goes-by held_leaf.Code cells x on e = go (is_blank (line_bytes cells)) (is_inden
     go true indented e = ap kept_by e
     go false true e = ap kept_by e
     go false false e = ap kept_by e
-goes-by _ cells x on e = cc
+proceeds-by _ cells x on e = cc
 
 -- and is noted as blank if it is,
 pub code_further-took : (options : ParseOptions) (cells : List Cell) (h : Here) → IsRest h.scratch →
@@ -86,10 +87,10 @@ pub code_further-took : (options : ParseOptions) (cells : List Cell) (h : Here) 
     (is_blank (line_bytes cells)) cells h
 code_further-took options cells h is e =
     let leaf = h.flags.leaf in
-    let both = and_parts (is_code leaf) (is_some (code_goes leaf cells)) e in
+    let both = and_parts (is_code leaf) (is_some (code_continues leaf cells)) e in
     code-on cells h (calm h.scratch is)
     ∙ ap (line_by (is_blank (line_bytes cells)) (code_further.adds options leaf cells h.point) cells h)
-    (goes-by leaf cells true both.0 both.1)
+    (proceeds-by leaf cells true both.0 both.1)
 
 -- or it is refused.
 pub code_further-refused : (options : ParseOptions) (cells : List Cell) (h : Here) → is_code h.flags.leaf ≡ true →
@@ -97,11 +98,11 @@ pub code_further-refused : (options : ParseOptions) (cells : List Cell) (h : Her
     code_further.trial options cells h ≡ Refuses h.scratch h.flags
 code_further-refused options cells h on is e =
     let leaf = h.flags.leaf in
-    let none : is_some (code_goes leaf cells) ≡ false =
-    ap (λ (x : Bool). x && is_some (code_goes leaf cells)) (sym on) ∙ e in
+    let none : is_some (code_continues leaf cells) ≡ false =
+    ap (λ (x : Bool). x && is_some (code_continues leaf cells)) (sym on) ∙ e in
     code-on cells h (calm h.scratch is)
     ∙ ap (line_by (is_blank (line_bytes cells)) (code_further.adds options leaf cells h.point) cells h)
-    (goes-by leaf cells false on none)
+    (proceeds-by leaf cells false on none)
 
 -- What is left of a line.
 

@@ -11,9 +11,9 @@ use Rattle.md_meaning.specs.Rest.{Rest, indent, is_blank, lose}
 use Rattle.md_meaning.specs.Tree.{Line}
 use Rattle.md_leaves.specs.Further.{further_link}
 use Rattle.md_code.proofs.CodeLines.{blank-line}
-use Rattle.md_outline.specs.LinesStand.{Site}
+use Rattle.md_outline.specs.LinesAllowed.{Site}
 use Rattle.md_outline.proofs.LinesPass.{ended_site}
-use Rattle.md_events.specs.Events.Grammar.{Expression, behind, may_end}
+use Rattle.md_events.specs.Events.Grammar.{Expression, following, may_end}
 use Rattle.md_events.specs.Events.Nested.{enter_link, exit, pair}
 use Rattle.md_events.specs.Events.Spelled.{CodeLeaf, OfCode, OpenLeaf, empty_line, next_line}
 use Rattle.md_events.proofs.EndingsLemmas.{Leads, in_leaf, leads-append}
@@ -25,14 +25,14 @@ use Rattle.proof_literal_laws.proofs.CodeIndented.Cells.{over-some}
 use Rattle.proof_literal_laws.proofs.CodeIndented.Facts.{code_site, line-facts, parts-stretch}
 use Rattle.proof_literal_laws.proofs.CodeIndented.Grammar.{in_line, line-ending, line-ends, line-takes, line_left}
 use Rattle.proof_literal_laws.proofs.CodeIndented.Parts.{code-inside}
-use Rattle.proof_literal_laws.proofs.CodeIndented.Rows.{AreInCode, InCode, as-line, as_line, goes-on, line_in}
-use Rattle.proof_literal_laws.proofs.CodeIndented.Rows.{lines_behind}
+use Rattle.proof_literal_laws.proofs.CodeIndented.Rows.{AreInCode, InCode, as-line, as_line, proceeds-on, line_in}
+use Rattle.proof_literal_laws.proofs.CodeIndented.Rows.{lines_after}
 use Rattle.proof_frame.proofs.ContainerNames.{TakesPrefixes}
 use Rattle.proof_frame.proofs.LeafLines.Rest.{others-fill}
-use Rattle.proof_literal_laws.proofs.IndentRemoved.Sites.{ended-goes, is_told_of, line-leaves, line-on, line_site}
+use Rattle.proof_literal_laws.proofs.IndentRemoved.Sites.{ended-proceeds, records_rest, line-leaves, line-on, line_site}
 use Rattle.proof_frame.proofs.FrontLemmas.{fronts-balanced}
 use Rattle.proof_frame.proofs.FrontPlaces.{fronts-grow}
-use Rattle.proof_frame.proofs.FrontStands.{fronts-others}
+use Rattle.proof_frame.proofs.FrontValid.{fronts-others}
 use Rattle.proof_literal_laws.proofs.IndentRemoved.Parts.{inside-others}
 use Rattle.proof_frame.proofs.IndentRemoved.Places.{FurtherAt, further-rest}
 use Rattle.proof_frame.proofs.IndentRemoved.Shown.{left-clear}
@@ -40,7 +40,7 @@ use Rattle.proof_frame.proofs.PrefixFacts.{is_bare}
 use Rattle.proof_frame.proofs.LeafLines.Cuts.{but_ends-is, ending-is}
 use Rattle.proof_frame.proofs.LeafLines.Framed.{framed_rest}
 use Rattle.proof_frame.proofs.LeafLines.Inside.{InsideFacts}
-use Rattle.proof_frame.proofs.PartsFacts.{behind_ending}
+use Rattle.proof_frame.proofs.PartsFacts.{following_ending}
 use Rattle.proof_frame.proofs.LeafLines.Lines.{AreFurther, SpanLine, ends-by}
 
 -- what is inside of a row of the code
@@ -53,14 +53,15 @@ in-parts bytes row is =
 
 -- one more line
 line-next : (bytes : List ℕ) (r : Rest) (row next : Row) (rows : List Row) →
-    (are : AreInCode bytes r row (next ∷ rows)) → (lines : List Line) (left : Expression) (told : Bool)
+    (are : AreInCode bytes r row (next ∷ rows)) → (lines : List Line) (left : Expression) (recorded : Bool)
     (to : OpenLeaf) →
-    behind n.LineEnding left ≡ in_line →
+    following n.LineEnding left ≡ in_line →
     AreFurther bytes as_line as_line n.CodeIndented (line_left are.4.rest)
     (CodeLeaf (lines ++ code_line are.4.rest ∷ [])) to (code_site are.4.rest) next rows →
-    AreFurther bytes as_line as_line n.CodeIndented left (CodeLeaf lines) to (line_site OfCode told) row (next ∷ rows)
-line-next bytes r row next rows are lines left told to line rest =
-    (q, are.1, are.2, are.3, subst TakesPrefixes (sym line) line-takes, line-on OfCode told, one, rest)
+    AreFurther bytes as_line as_line n.CodeIndented left (CodeLeaf lines) to (line_site OfCode recorded)
+    row (next ∷ rows)
+line-next bytes r row next rows are lines left recorded to line rest =
+    (q, are.1, are.2, are.3, subst TakesPrefixes (sym line) line-takes, line-on OfCode recorded, one, rest)
   where
     q : Point
     q = are.0
@@ -80,36 +81,37 @@ line-next bytes r row next rows are lines left told to line rest =
     -- the text continues after the ending
     some : nat_lt q.index (length bytes) ≡ true
     some =
-        let further = goes-on bytes s next rows at are.5 in
+        let further = proceeds-on bytes s next rows at are.5 in
         let grow = fronts-grow bytes [] q next.first next.front are.3 in
         grind (arith, nat_tests)
 
-    more : CodeLeaf (lines ++ empty_line ∷ []) ≡ behind_ending bytes q (CodeLeaf lines)
+    more : CodeLeaf (lines ++ empty_line ∷ []) ≡ following_ending bytes q (CodeLeaf lines)
     more = sym (ap (λ (x : Bool). cond x (next_line (CodeLeaf lines)) (CodeLeaf lines)) some)
 
     facts :
-        InsideFacts bytes next.first next.end (behind n.LineEnding left) (line_left are.4.rest)
-        (behind_ending bytes are.0 (CodeLeaf lines)) (CodeLeaf (lines ++ code_line are.4.rest ∷ []))
-        (ended_site bytes are.0 (line_site OfCode told)) (code_site are.4.rest) parts parts
+        InsideFacts bytes next.first next.end (following n.LineEnding left) (line_left are.4.rest)
+        (following_ending bytes are.0 (CodeLeaf lines)) (CodeLeaf (lines ++ code_line are.4.rest ∷ []))
+        (ended_site bytes are.0 (line_site OfCode recorded)) (code_site are.4.rest) parts parts
     facts =
         subst
         (λ (x : Expression).
-        InsideFacts bytes next.first next.end x (line_left s) (behind_ending bytes q (CodeLeaf lines))
-        (CodeLeaf (lines ++ code_line s ∷ [])) (ended_site bytes q (line_site OfCode told)) (code_site s) parts parts)
+        InsideFacts bytes next.first next.end x (line_left s) (following_ending bytes q (CodeLeaf lines))
+        (CodeLeaf (lines ++ code_line s ∷ [])) (ended_site bytes q (line_site OfCode recorded))
+        (code_site s) parts parts)
         (sym line)
         (subst
         (λ (from : OpenLeaf).
         InsideFacts bytes next.first next.end in_line (line_left s) from (CodeLeaf (lines ++ code_line s ∷ []))
-        (ended_site bytes q (line_site OfCode told)) (code_site s) parts parts) more
+        (ended_site bytes q (line_site OfCode recorded)) (code_site s) parts parts) more
         (subst
         (λ (start : Site).
         InsideFacts bytes next.first next.end in_line (line_left s) (CodeLeaf (lines ++ empty_line ∷ []))
         (CodeLeaf (lines ++ code_line s ∷ [])) start (code_site s) parts parts)
-        (sym (ended-goes bytes q OfCode told some)) (line-facts bytes s next.first next.end lines at)))
+        (sym (ended-proceeds bytes q OfCode recorded some)) (line-facts bytes s next.first next.end lines at)))
 
     one :
-        SpanLine bytes as_line as_line n.CodeIndented (behind n.LineEnding left)
-        (behind_ending bytes are.0 (CodeLeaf lines)) (ended_site bytes are.0 (line_site OfCode told)) next
+        SpanLine bytes as_line as_line n.CodeIndented (following n.LineEnding left)
+        (following_ending bytes are.0 (CodeLeaf lines)) (ended_site bytes are.0 (line_site OfCode recorded)) next
     one = record {
       ends =
           ends-by as_line as_line n.CodeIndented next (enter_link n.CodeIndented next.first further_link ∷ parts)
@@ -122,31 +124,32 @@ line-next bytes r row next rows are lines left told to line rest =
       facts =
           subst
           (λ (es : List Event).
-          InsideFacts bytes next.first next.end (behind n.LineEnding left) (line_left s)
-          (behind_ending bytes q (CodeLeaf lines)) (CodeLeaf (lines ++ code_line s ∷ []))
-          (ended_site bytes q (line_site OfCode told)) (code_site s) es es)
+          InsideFacts bytes next.first next.end (following n.LineEnding left) (line_left s)
+          (following_ending bytes q (CodeLeaf lines)) (CodeLeaf (lines ++ code_line s ∷ []))
+          (ended_site bytes q (line_site OfCode recorded)) (code_site s) es es)
           (sym (in-parts bytes next are.4)) facts;
     }
 
 -- all of them, after these lines, whether the last of those said anything or not
 pub lines-further : (bytes : List ℕ) (r : Rest) (row : Row) (rows : List Row) →
-    (are : AreInCode bytes r row rows) → (lines : List Line) (left : Expression) (told : Bool) → may_end left ≡ true →
-    behind n.LineEnding left ≡ in_line →
+    (are : AreInCode bytes r row rows) → (lines : List Line) (left : Expression) (recorded : Bool) →
+    may_end left ≡ true →
+    following n.LineEnding left ≡ in_line →
     AreFurther bytes as_line as_line n.CodeIndented left (CodeLeaf lines)
-    (CodeLeaf (lines ++ lines_behind bytes r row rows are)) (line_site OfCode told) row rows
-lines-further bytes r row [] are lines left told ends line =
-    (ends, ap CodeLeaf (sym (append-nil lines)), line-leaves OfCode told)
-lines-further bytes r row (next ∷ rows) are lines left told ends line =
+    (CodeLeaf (lines ++ lines_after bytes r row rows are)) (line_site OfCode recorded) row rows
+lines-further bytes r row [] are lines left recorded ends line =
+    (ends, ap CodeLeaf (sym (append-nil lines)), line-leaves OfCode recorded)
+lines-further bytes r row (next ∷ rows) are lines left recorded ends line =
     let s = are.4.rest in
     let more = lines ++ code_line s ∷ [] in
-    let behind_it = lines_behind bytes s next rows are.5 in
-    line-next bytes r row next rows are lines left told
-    (CodeLeaf (lines ++ lines_behind bytes r row (next ∷ rows) are)) line
+    let after_it = lines_after bytes s next rows are.5 in
+    line-next bytes r row next rows are lines left recorded
+    (CodeLeaf (lines ++ lines_after bytes r row (next ∷ rows) are)) line
     (subst
     (λ (l : List Line).
     AreFurther bytes as_line as_line n.CodeIndented (line_left s) (CodeLeaf more) (CodeLeaf l) (code_site s) next rows)
-    (append_assoc lines (code_line s ∷ []) behind_it)
-    (lines-further bytes s next rows are.5 more (line_left s) (is_told_of (rest_line (lose 4 s)))
+    (append_assoc lines (code_line s ∷ []) after_it)
+    (lines-further bytes s next rows are.5 more (line_left s) (records_rest (rest_line (lose 4 s)))
     (line-ends (rest_line (lose 4 s))) (line-ending (rest_line (lose 4 s)))))
 
 -- Something is on the last line.

@@ -18,20 +18,20 @@ use Rattle.proof_literal_laws.specs.Leaf.Fence.{fence_keeps, held_of, is_fence, 
 use Rattle.proof_literal_laws.proofs.Fence.Opened.{fence-starts}
 use Rattle.proof_literal_laws.proofs.Fence.Trial.{begins-some}
 
-held-some : (held : Option HeldLeaf) (came : Option LeafResult) → HeldAs held came → is_some held ≡ is_some came
+held-some : (held : Option HeldLeaf) (became : Option LeafResult) → HeldAs held became → is_some held ≡ is_some became
 held-some None None h = refl
 held-some None (Some c) h = absurd h
 held-some (Some leaf) None h = absurd h
 held-some (Some leaf) (Some c) h = refl
 
-pub fence-fits : (options : ParseOptions) (said : Line) (text behind : List ℕ) (r : Rest) (p : Point)
+pub fence-fits : (options : ParseOptions) (said : Line) (text following : List ℕ) (r : Rest) (p : Point)
     (stop : List Cell) →
-    RestAt text behind r p → NoEnding r.bytes → Stops stop → length (rest_cells said r p ++ stop) < 2 ^ 63 →
+    RestAt text following r p → NoEnding r.bytes → Stops stop → length (rest_cells said r p ++ stop) < 2 ^ 63 →
     is_fence options (rest_cells said r p ++ stop) ≡ is_some (fence_at options r)
-fence-fits options said text behind r p stop is h k short =
+fence-fits options said text following r p stop is h k short =
     sym (begins-some options (rest_cells said r p ++ stop) p)
     ∙ held-some (fence_begins options (rest_cells said r p ++ stop) p) (fence_at options r)
-    (opens-agrees options said text behind r p stop is h k short)
+    (opens-agrees options said text following r p stop is h k short)
 
 -- What is held of the block is what the line definition has of it.
 
@@ -40,12 +40,12 @@ held-is : (held : Option HeldLeaf) (o : Opening) → HeldAs held (Some (Opened (
 held-is None o h = absurd h
 held-is (Some leaf) o h = h.0
 
-pub fence-keeps : (options : ParseOptions) (said : Line) (text behind : List ℕ) (r : Rest) (p : Point)
+pub fence-keeps : (options : ParseOptions) (said : Line) (text following : List ℕ) (r : Rest) (p : Point)
     (stop : List Cell) →
-    RestAt text behind r p → NoEnding r.bytes → Stops stop → length (rest_cells said r p ++ stop) < 2 ^ 63 →
+    RestAt text following r p → NoEnding r.bytes → Stops stop → length (rest_cells said r p ++ stop) < 2 ^ 63 →
     is_some (fence_at options r) ≡ true →
     fence_keeps options (rest_cells said r p ++ stop) p ≡ held_of (opening_at r)
-fence-keeps options said text behind r p stop is h k short starts =
+fence-keeps options said text following r p stop is h k short starts =
     held-is (fence_begins options (rest_cells said r p ++ stop) p) (opening_at r)
     (subst (HeldAs (fence_begins options (rest_cells said r p ++ stop) p)) (fence-starts options r starts).opens
-    (opens-agrees options said text behind r p stop is h k short))
+    (opens-agrees options said text following r p stop is h k short))

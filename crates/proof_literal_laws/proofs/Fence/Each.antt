@@ -13,14 +13,14 @@ use Rattle.md_meaning.specs.Leaves.{first_word}
 use Rattle.md_meaning.specs.Rest.{is_white, run_len, trim_start}
 use Rattle.md_meaning.specs.Texts.{first_byte}
 use Rattle.md_code.specs.Fence.{block_name, fence_name, held_marker, meta_name, sequence_name, string_link}
-use Rattle.md_code.specs.FenceLine.{behind_events, fence_adds, info_events, later_part, meta_events, open_events}
+use Rattle.md_code.specs.FenceLine.{after_events, fence_adds, info_events, later_part, meta_events, open_events}
 use Rattle.md_code.specs.FenceLine.{spaces}
 use Rattle.md_code.specs.FenceRule.{is_end, is_line, is_word, run_end, run_rest}
 use Rattle.md_events.specs.Ahead.{begins_white, line_end, white_end, white_rest}
 use Rattle.md_events.specs.Events.Nested.{around, enter, enter_link, exit, pair}
 use Rattle.md_events.specs.Events.Places.{past_text}
 use Rattle.md_events.specs.Spaces.{any_size, small_indent}
-use Rattle.proof_literal_laws.specs.Leaf.Fence.{Inner, behind_parts, fence_around, fence_line, fence_parts, past_white}
+use Rattle.proof_literal_laws.specs.Leaf.Fence.{Inner, after_parts, fence_around, fence_line, fence_parts, past_white}
 use Rattle.proof_literal_laws.specs.Leaf.Fence.{text_part, text_parts, white_part, word_parts}
 use Rattle.proof_frame.proofs.EachEvent.{Each, each-append}
 use Rattle.proof_frame.proofs.SpanLemmas.{either}
@@ -105,9 +105,9 @@ words-each P of inner h m text p =
     (part-each P of inner h n.CodeFencedFenceInfo word p refl) (white-each P of left q))
     (part-each P of inner h (meta_name m) (trim_start left) (past_white left q) (meta-named m)))
 
-behind-each : (P : Event → Type 0) → OfNames P → (inner : Inner) → ((p q : Point) → Each P (inner p q)) → (m : ℕ)
-    (bytes : List ℕ) (p : Point) → Each P (behind_parts inner m bytes p)
-behind-each P of inner h m bytes p =
+following-each : (P : Event → Type 0) → OfNames P → (inner : Inner) → ((p q : Point) → Each P (inner p q)) → (m : ℕ)
+    (bytes : List ℕ) (p : Point) → Each P (after_parts inner m bytes p)
+following-each P of inner h m bytes p =
     each-append P (white_part bytes p) (text_parts inner m (trim_start bytes) (past_white bytes p))
     (white-each P of bytes p) (words-each P of inner h m (trim_start bytes) (past_white bytes p))
 
@@ -116,8 +116,8 @@ pub parts-each : (P : Event → Type 0) → OfNames P → (inner : Inner) → ((
 parts-each P of inner h m text p =
     let size = run_len m text in
     let q = past_text (take size text) p in
-    each-append P (pair (sequence_name m) p q) (behind_parts inner m (drop size text) q)
-    (each-pair P of (sequence_name m) p q (sequence-named m)) (behind-each P of inner h m (drop size text) q)
+    each-append P (pair (sequence_name m) p q) (after_parts inner m (drop size text) q)
+    (each-pair P of (sequence_name m) p q (sequence-named m)) (following-each P of inner h m (drop size text) q)
 
 -- all of the block
 pub inside-each : (P : Event → Type 0) → OfNames P → (inner : Inner) → ((p q : Point) → Each P (inner p q)) → (m : ℕ)
@@ -174,9 +174,9 @@ info-each P of chunk m cells p =
     (later-each P of chunk n.CodeFencedFenceInfo p q refl) (spaces-each P of any_size rest q))
     (meta-each P of chunk m (white_rest any_size rest) (white_end any_size rest q)))
 
-cells-behind : (P : Event → Type 0) → OfNames P → OfChunk P → (m : ℕ) (cells : List Cell) (p : Point) →
-    Each P (behind_events m cells p)
-cells-behind P of chunk m cells p =
+cells-following : (P : Event → Type 0) → OfNames P → OfChunk P → (m : ℕ) (cells : List Cell) (p : Point) →
+    Each P (after_events m cells p)
+cells-following P of chunk m cells p =
     let q = white_end any_size cells p in
     let rest = white_rest any_size cells in
     each-append P (spaces any_size cells p) (cond (m == 36) (meta_events m rest q) (info_events m rest q))
@@ -189,7 +189,7 @@ open-each : (P : Event → Type 0) → OfNames P → OfBlocks P → OfChunk P �
 open-each P of blocks chunk m cells p =
     let q = run_end (λ b. b == m) cells p in
     let e = line_end cells p in
-    let behind = behind_events m (run_rest (λ b. b == m) cells) q in (
+    let following = after_events m (run_rest (λ b. b == m) cells) q in (
       (blocks (block_name m) (block-named m) p).0,
       (
         (of (fence_name m) (fence-named m) p).0,
@@ -197,8 +197,8 @@ open-each P of blocks chunk m cells p =
           (of (sequence_name m) (sequence-named m) p).0,
           (
             (of (sequence_name m) (sequence-named m) q).1,
-            each-append P behind (exit (fence_name m) e ∷ exit (block_name m) e ∷ [])
-                (cells-behind P of chunk m (run_rest (λ b. b == m) cells) q)
+            each-append P following (exit (fence_name m) e ∷ exit (block_name m) e ∷ [])
+                (cells-following P of chunk m (run_rest (λ b. b == m) cells) q)
                 ((of (fence_name m) (fence-named m) e).1, ((blocks (block_name m) (block-named m) e).1, tt)),
           ),
         ),

@@ -11,15 +11,15 @@ use Rattle.md_engine.specs.declared.event.Event.{Event}
 use Rattle.md_engine.specs.declared.event.Name.{Name}
 use Rattle.md_engine.specs.declared.event.Name.TheVariants as n
 use Rattle.md_engine.specs.declared.event.Point.{Point}
-use Rattle.md_containers.specs.ItemsStand.{IsPart}
+use Rattle.md_containers.specs.ItemsAllowed.{IsPart}
 use Rattle.md_meaning.specs.Rest.{trim_start}
 use Rattle.md_meaning.specs.Texts.{first_byte}
 use Rattle.md_code.specs.Fence.{sequence_name, string_link}
-use Rattle.md_outline.specs.Roles.{is_told, is_unlisted}
+use Rattle.md_outline.specs.Roles.{is_recorded, is_unlisted}
 use Rattle.md_events.specs.declared.inline.PartKind.TheVariants.{String}
 use Rattle.md_events.specs.Events.Inline.{plain_chunk}
 use Rattle.md_events.specs.Events.Nested.{around, pair}
-use Rattle.md_events.specs.Events.Pieces.{is_run, stands_over}
+use Rattle.md_events.specs.Events.Pieces.{is_run, may_cover}
 use Rattle.md_events.specs.Events.Places.{past_text}
 use Rattle.md_events.specs.Events.Spelled.{role}
 use Rattle.md_events.specs.Events.Tiles.{part_kind}
@@ -40,10 +40,11 @@ use Rattle.proof_frame.proofs.LineTexts.{past-whole}
 use Rattle.proof_frame.proofs.OneText.{chunk-is, stretch-text}
 use Rattle.proof_frame.proofs.OtherNames.{Other, others-around}
 use Rattle.proof_frame.proofs.PartedFacts.{PrefixesAtLineStart, clear, low-clear, sits-append}
-use Rattle.proof_frame.proofs.PartsStand.{PartsWhole, stands-append}
-use Rattle.proof_frame.proofs.PieceFacts.{PiecesValid, begins-cut, begins-whole, over-front, over-stands, stood-append}
+use Rattle.proof_frame.proofs.PartsValid.{PartsWhole, valid-append}
+use Rattle.proof_frame.proofs.PieceFacts.{PiecesValid, begins-cut, begins-whole, over-front, over-valid}
+use Rattle.proof_frame.proofs.PieceFacts.{is_valid-append}
 use Rattle.proof_frame.proofs.PiecesLemmas.{Covered, tiled-append}
-use Rattle.proof_frame.proofs.PlaceBetween.{IsPlace, low-behind}
+use Rattle.proof_frame.proofs.PlaceBetween.{IsPlace, low-following}
 use Rattle.proof_frame.proofs.PlainFacts.{AreKnown, chunk-plain, known-append, known-around, known-none}
 use Rattle.proof_frame.proofs.SpanLemmas.{Nested_in, nested_in-append}
 use Rattle.proof_frame.proofs.Stretch.{Stretch, stretch-none, stretch-pair, white-piece}
@@ -60,8 +61,8 @@ record FencePart (bytes : List ℕ) (a e p q : Point) (unread done : List Event)
   unread_nested : Nested_in p q unread
   nested : Nested_in p q done
   tiled : Covered p q unread
-  unread_stood : PiecesValid bytes unread
-  stood : PiecesValid bytes done
+  unread_valid : PiecesValid bytes unread
+  is_valid : PiecesValid bytes done
   parts : PartsWhole bytes unread
   filled : PartsRead bytes unread done
   between : IsPlace bytes a → IsPlace bytes e → AreBetween bytes done
@@ -80,8 +81,8 @@ part-of bytes a e p q us es h between us_others others known = record {
   unread_nested = h.unread_nested;
   nested = h.nested;
   tiled = h.tiled;
-  unread_stood = h.unread_stood;
-  stood = h.stood;
+  unread_valid = h.unread_valid;
+  is_valid = h.is_valid;
   parts = h.parts;
   filled = h.filled;
   between = between;
@@ -100,9 +101,9 @@ part-append bytes a e p q r us vs es fs h k = record {
   unread_nested = nested_in-append p q r us vs h.unread_nested k.unread_nested;
   nested = nested_in-append p q r es fs h.nested k.nested;
   tiled = tiled-append p q r us vs h.tiled k.tiled;
-  unread_stood = stood-append bytes us vs h.unread_stood k.unread_stood;
-  stood = stood-append bytes es fs h.stood k.stood;
-  parts = stands-append bytes us vs h.parts k.parts;
+  unread_valid = is_valid-append bytes us vs h.unread_valid k.unread_valid;
+  is_valid = is_valid-append bytes es fs h.is_valid k.is_valid;
+  parts = valid-append bytes us vs h.parts k.parts;
   filled = fill-append bytes us es vs fs h.filled k.filled;
   between = λ first last. between-append bytes es fs (h.between first last) (k.between first last);
   parted = sits-append bytes es fs h.parted k.parted;
@@ -122,14 +123,14 @@ run-low least c ys low h =
     same : (b c : ℕ) → is_low c ≡ true → (b == c) ≡ true → is_low b ≡ true
     same b c low e = grind (arith, nat_tests)
 
-marks-low : (m : ℕ) (ys : List ℕ) → stands_over (sequence_name m) ys ≡ true → list_all is_low ys ≡ true
+marks-low : (m : ℕ) (ys : List ℕ) → may_cover (sequence_name m) ys ≡ true → list_all is_low ys ≡ true
 marks-low m ys h = go (m == 36) h
   where
     by : (x : Bool) → is_run 3 96 ys ≡ x → x || is_run 3 126 ys ≡ true → list_all is_low ys ≡ true
     by true e k = run-low 3 96 ys refl e
     by false e k = run-low 3 126 ys refl k
 
-    go : (x : Bool) → stands_over (cond x n.MathFlowFenceSequence n.CodeFencedFenceSequence) ys ≡ true →
+    go : (x : Bool) → may_cover (cond x n.MathFlowFenceSequence n.CodeFencedFenceSequence) ys ≡ true →
         list_all is_low ys ≡ true
     go true h = run-low 2 36 ys refl h
     go false h = by (is_run 3 96 ys) refl h
@@ -152,20 +153,20 @@ text-by P info meta math _ e = cc
 past-clear : (bytes : List ℕ) (b : ℕ) (bs : List ℕ) (p : Point) → clear bytes (past_text (b ∷ bs) p) ≡ true
 past-clear bytes b bs p = whole-clear bytes (past_text (b ∷ bs) p) (past-whole (b ∷ bs) p (omega arith))
 
-told : (bytes : List ℕ) (name : Name) (p : Point) → clear bytes p ≡ true →
-    (not (is_told (role name)) || clear bytes p) ≡ true
-told bytes name p h = or_right (not (is_told (role name))) (clear bytes p) h
+recorded : (bytes : List ℕ) (name : Name) (p : Point) → clear bytes p ≡ true →
+    (not (is_recorded (role name)) || clear bytes p) ≡ true
+recorded bytes name p h = or_right (not (is_recorded (role name))) (clear bytes p) h
 
 fence-walks : (bytes : List ℕ) (a e : Point) →
     Walks bytes linked (read_inner bytes) (IsInFence bytes a e) (FencePart bytes a e)
 fence-walks bytes a e = record {
-  behind_white = λ b bs rest p is blank.
-      (λ first last. low-behind bytes b bs rest p is (blank-low (b ∷ bs) blank), λ first. past-clear bytes b bs p);
+  following_white = λ b bs rest p is blank.
+      (λ first last. low-following bytes b bs rest p is (blank-low (b ∷ bs) blank), λ first. past-clear bytes b bs p);
   before_white = λ b rest p is white.
       let low = subst (λ (c : ℕ). is_low c ≡ true) (sym (at-next p.index bytes b rest is)) (white-low b white) in
       (λ first last. between-before bytes p.index low, λ first. low-clear bytes p (λ some. low));
-  behind_marks = λ m b bs rest p is over.
-      (λ first last. low-behind bytes b bs rest p is (marks-low m (b ∷ bs) over), λ first. past-clear bytes b bs p);
+  after_marks = λ m b bs rest p is over.
+      (λ first last. low-following bytes b bs rest p is (marks-low m (b ∷ bs) over), λ first. past-clear bytes b bs p);
   none = λ p.
       part-of bytes a e p p [] [] (stretch-none IsPart bytes p) (λ first last. refl) refl refl
       (λ first. known-none bytes);
@@ -175,7 +176,7 @@ fence-walks bytes a e = record {
       let es = pair n.SpaceOrTab p q in
       let h = stretch-pair IsPart bytes n.SpaceOrTab p q
       (white-piece IsPart bytes tt) (before-text (b ∷ bs) p)
-      (over-stands bytes n.SpaceOrTab p q (b ∷ bs) (over-front bytes p q (b ∷ bs) rest is (omega arith) refl)
+      (over-valid bytes n.SpaceOrTab p q (b ∷ bs) (over-front bytes p q (b ∷ bs) rest is (omega arith) refl)
       (begins-cut n.SpaceOrTab p refl) blank) in
       part-of bytes a e p q es es h (λ first last. h.between (mid.0 first last) (end.0 first last)) refl refl
       (λ first. known-around bytes n.SpaceOrTab p q [] refl refl refl (known-none bytes));
@@ -190,11 +191,11 @@ fence-walks bytes a e = record {
         no_part = marks-by (λ x. part_kind x ≡ None) refl refl m;
         parted = λ x y. marks-by (λ z. PrefixesAtLineStart bytes (pair z x y)) (λ ys k. k) (λ ys k. k) m;
       }) (before-text (b ∷ bs) p)
-      (over-stands bytes name p q (b ∷ bs) (over-front bytes p q (b ∷ bs) rest at.stands (omega arith) refl)
+      (over-valid bytes name p q (b ∷ bs) (over-front bytes p q (b ∷ bs) rest at.valid (omega arith) refl)
       (begins-whole name p at.whole) over) in
       part-of bytes a e p q es es h (λ first last. h.between (mid.0 first last) (end.0 first last)) other other
       (λ first. known-around bytes name p q [] (marks-by (λ x. is_unlisted (role x) ≡ true) refl refl m)
-      (told bytes name p (mid.1 first)) (told bytes name q (end.1 first)) (known-none bytes));
+      (recorded bytes name p (mid.1 first)) (recorded bytes name q (end.1 first)) (known-none bytes));
   text = λ name b bs rest p is mid end at.
       let q = past_text (b ∷ bs) p in
       let es = plain_chunk bytes (record { first = p; after = q }) ++ [] in
@@ -213,7 +214,7 @@ fence-walks bytes a e = record {
       (others-around name p q es other
       (subst (λ (l : List Event). AreOthers (l ++ [])) (sym (chunk-is bytes b bs rest p at)) refl))
       (λ first. known-around bytes name p q es (text-by (λ x. is_unlisted (role x) ≡ true) refl refl refl name is)
-      (told bytes name p (mid.1 first)) (told bytes name q (end.1 first))
+      (recorded bytes name p (mid.1 first)) (recorded bytes name q (end.1 first))
       (known-append bytes (plain_chunk bytes (record { first = p; after = q })) []
       (chunk-plain bytes (record { first = p; after = q })).known (known-none bytes)));
 }
@@ -242,8 +243,8 @@ fence-inside options bytes line rest p is =
         unread_nested = all.unread_nested;
         nested = all.nested;
         tiled = all.tiled;
-        unread_stood = all.unread_stood;
-        stood = all.stood;
+        unread_valid = all.unread_valid;
+        is_valid = all.is_valid;
         parts = all.parts;
         filled = all.filled;
         between = all.between;

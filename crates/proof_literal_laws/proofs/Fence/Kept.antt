@@ -4,7 +4,7 @@ use Rattle.md_engine.specs.declared.event.Event.{Event}
 use Rattle.md_engine.specs.declared.event.Name.{Name}
 use Rattle.md_engine.specs.declared.event.Name.TheVariants as n
 use Rattle.md_engine.specs.declared.event.Point.{Point}
-use Rattle.md_containers.specs.ItemsStand.{IsPart}
+use Rattle.md_containers.specs.ItemsAllowed.{IsPart}
 use Rattle.md_meaning.specs.Lines.{without_ending}
 use Rattle.md_meaning.specs.Rest.{is_white}
 use Rattle.md_code.specs.Fence.{fence_name}
@@ -76,6 +76,6 @@ pub text-end : (bytes : List ℕ) (b : ℕ) (bs rest : List ℕ) (p : Point) →
     line_end bytes (record { first = p; after = past_text (b ∷ bs) p }) ≡ past_text (b ∷ bs) p
 text-end bytes b bs rest p at =
     let q = past_text (b ∷ bs) p in
-    let over = over-front bytes p q (b ∷ bs) rest at.stands (omega arith) refl in
+    let over = over-front bytes p q (b ∷ bs) rest at.valid (omega arith) refl in
     ap (λ (l : List ℕ). past_text (without_ending l) p) over.slice
     ∙ ap (λ (l : List ℕ). past_text l p) (without-none (b ∷ bs) at.none)

@@ -21,15 +21,15 @@ use Rattle.md_events.proofs.InlineLemmas.{past_text-append}
 use Rattle.proof_frame.specs.RestLine.{rest_line}
 use Rattle.proof_literal_laws.specs.Leaf.Fence.{past_white}
 use Rattle.proof_literal_laws.proofs.Fence.Opened.{IsFence, fence-starts}
-use Rattle.proof_frame.proofs.LineWalk.{At, past-stands}
+use Rattle.proof_frame.proofs.LineWalk.{At, past-valid}
 use Rattle.proof_frame.proofs.LeafFacts.{LineAt}
-use Rattle.proof_frame.proofs.LineTexts.{line-stands}
+use Rattle.proof_frame.proofs.LineTexts.{line-valid}
 use Rattle.proof_frame.proofs.PieceFacts.{CutsFirst}
 use Rattle.proof_frame.proofs.RestFacts.{rest-trim}
 
 -- a line in a text, and the fence after its whitespace
 pub record Laid (options : ParseOptions) (bytes line : List ℕ) (p : Point) (rest : List ℕ) : Type 0 where
-  pub stands : drop p.index bytes ≡ line ++ rest
+  pub valid : drop p.index bytes ≡ line ++ rest
   pub cut : CutsFirst p line
   pub fence : IsFence options (trim_start line)
   pub at : At bytes (trim_start line) (past_white line p) rest
@@ -58,13 +58,13 @@ pub laid : (options : ParseOptions) (bytes : List ℕ) (r : Rest) (p q : Point) 
     is_some (fence_at options r) ≡ true → LineAt bytes r (rest_line r) p q →
     Laid options bytes (rest_line r) p (drop q.index bytes)
 laid options bytes r p q starts is = record {
-  stands = stands;
+  valid = valid;
   cut = is.cut_first;
   fence = fence;
   at = record {
-    stands =
-        past-stands bytes (take size line) (drop size line ++ drop q.index bytes) p
-        (stands ∙ ap (λ (l : List ℕ). l ++ drop q.index bytes) (sym (take-append-drop size line))
+    valid =
+        past-valid bytes (take size line) (drop size line ++ drop q.index bytes) p
+        (valid ∙ ap (λ (l : List ℕ). l ++ drop q.index bytes) (sym (take-append-drop size line))
         ∙ append_assoc (take size line) (drop size line) (drop q.index bytes));
     none = no_ending-drop size line is.no_ending;
     whole = white-whole line p is.cut_first (marker-may options (first_byte (trim_start line)) fence.marker);
@@ -80,8 +80,8 @@ laid options bytes r p q starts is = record {
     size : ℕ
     size = prefix_len is_white (rest_line r)
 
-    stands : drop p.index bytes ≡ line ++ drop q.index bytes
-    stands = line-stands bytes r line p q is
+    valid : drop p.index bytes ≡ line ++ drop q.index bytes
+    valid = line-valid bytes r line p q is
 
     fence : IsFence options (trim_start (rest_line r))
     fence = subst (IsFence options) (sym (rest-trim r)) (fence-starts options r starts).fence

@@ -33,12 +33,12 @@ from-starts options columns (m ∷ bs) e = go (is_fence_marker options m) refl (
     size : ℕ
     size = run_len m (m ∷ bs)
 
-    came : LeafResult
-    came = Opened (OpenFence (opening_of columns (m ∷ bs)) [])
+    became : LeafResult
+    became = Opened (OpenFence (opening_of columns (m ∷ bs)) [])
 
     go : (x : Bool) → is_fence_marker options m ≡ x → (y : Bool) → nat_le (least_size m) size ≡ y → (z : Bool) →
-        allows m (drop size (m ∷ bs)) ≡ z → is_some (cond (x && y && z) (Some came) None) ≡ true →
-        IsFence options (m ∷ bs) × (cond (x && y && z) (Some came) None ≡ Some came)
+        allows m (drop size (m ∷ bs)) ≡ z → is_some (cond (x && y && z) (Some became) None) ≡ true →
+        IsFence options (m ∷ bs) × (cond (x && y && z) (Some became) None ≡ Some became)
     go true f true g true h e = (record { marker = f; size = g }, refl)
     go true f true g false h e = absurd (cc)
     go true f false g z h e = absurd (cc)

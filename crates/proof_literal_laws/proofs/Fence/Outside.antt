@@ -18,19 +18,19 @@ use Rattle.md_events.specs.Spaces.{small_indent}
 use Rattle.proof_frame.specs.HeldLeaf.{takes_lazy}
 use Rattle.proof_literal_laws.specs.Leaf.Fence.{fence_keeps, fence_line, linked, or_none}
 use Rattle.proof_frame.proofs.ContentFacts.{NoContent}
-use Rattle.proof_frame.proofs.EventNames.{is_told, is_lined}
+use Rattle.proof_frame.proofs.EventNames.{is_recorded, is_lined}
 use Rattle.proof_frame.proofs.MarkRuns.Each.{IsNoContent, each-no_content}
 use Rattle.proof_literal_laws.proofs.Fence.Each.{adds-each, is_block_name, is_fence_name, line-each}
 use Rattle.proof_frame.proofs.LinedFacts.{AreLined, IsLined}
 
 -- Its names.
 
-block-content : (name : Name) → is_block_name name ≡ true → is_told name ≡ false
+block-content : (name : Name) → is_block_name name ≡ true → is_recorded name ≡ false
 block-content n.Content e = cc
 block-content n.DefinitionLabelString e = cc
 block-content _ e = refl
 
-name-content : (name : Name) → is_fence_name name ≡ true → is_told name ≡ false
+name-content : (name : Name) → is_fence_name name ≡ true → is_recorded name ≡ false
 name-content n.Content e = cc
 name-content n.DefinitionLabelString e = cc
 name-content _ e = refl

@@ -14,7 +14,7 @@ use Rattle.md_meaning.specs.Leaves.{is_fence_marker, least_size}
 use Rattle.md_meaning.specs.Rest.{is_white}
 use Rattle.md_code.specs.Fence.{is_on, is_refused, may_begin, meta_name, sequence_name}
 use Rattle.md_code.specs.FenceLine.{fence_begins, fence_by, fence_opened, is_opening, marker_at}
-use Rattle.md_code.specs.FenceRule.{before_info, before_meta, before_sequence, behind_sequence, behind_white_of}
+use Rattle.md_code.specs.FenceRule.{before_info, before_meta, before_sequence, after_sequence, after_white_of}
 use Rattle.md_code.specs.FenceRule.{fence_at, in_info, in_meta, in_sequence, is_end, is_line, is_word, opens}
 use Rattle.md_code.specs.FenceRule.{part_begun, part_ended, refuses, run_end, run_has, run_rest, run_size}
 use Rattle.md_code.proofs.FenceCells.{line-all, line-done, run-length}
@@ -23,7 +23,7 @@ use Rattle.md_code.proofs.FenceOpens.{marker-no}
 use Rattle.md_code.proofs.FenceRefused.{fence-refused}
 use Rattle.md_events.specs.Ahead.{begins_white, from_ending, white_end, white_rest}
 use Rattle.md_events.specs.Events.Nested.{exit}
-use Rattle.md_events.specs.Look.{first_seen, seen_behind}
+use Rattle.md_events.specs.Look.{first_seen, seen_after}
 use Rattle.md_events.specs.Spaces.{IsRest, any_size, small_indent}
 use Rattle.md_events.proofs.LookLemmas.{rest-begins}
 use Rattle.md_events.proofs.RestCells.{white-length}
@@ -36,7 +36,7 @@ use Rattle.proof_frame.proofs.LeafLaws.{Shrinks, cond-shrinks, whole_line}
 white-begins : (c : ℕ) → is_white c ≡ true → may_begin c ≡ false
 white-begins c e = grind (arith, nat_tests)
 
-pub fence-looked : (options : ParseOptions) (cells : List Cell) (b : ℕ) → seen_behind cells ≡ Some b →
+pub fence-looked : (options : ParseOptions) (cells : List Cell) (b : ℕ) → seen_after cells ≡ Some b →
     may_begin b ≡ false → is_fence options cells ≡ false
 fence-looked options cells b seen e =
     ap (λ (x : Bool). is_on options && x) (ends rest first.0 first.1 (no first.0 first.2)) ∙ over (is_on options)
@@ -125,10 +125,11 @@ opens-shrinks : (n : ℕ) (cells : List Cell) (h : Here) → length cells ≤ n 
     Shrinks n (opens cells h)
 opens-shrinks n cells h le e = (le, (line-done cells h.point e).1)
 
-white-shrinks : (n room : ℕ) (behind : List Cell → Here → Outcome) (cells : List Cell) (h : Here) → length cells ≤ n →
-    ((cs : List Cell) (k : Here) → length cs ≤ n → Shrinks n (behind cs k)) →
-    Shrinks n (behind_white_of room behind cells h)
-white-shrinks n room behind cells h le more =
+white-shrinks : (n room : ℕ) (following : List Cell → Here → Outcome) (cells : List Cell) (h : Here) →
+    length cells ≤ n →
+    ((cs : List Cell) (k : Here) → length cs ≤ n → Shrinks n (following cs k)) →
+    Shrinks n (after_white_of room following cells h)
+white-shrinks n room following cells h le more =
     let less = white-length room cells in
     cond-shrinks n (begins_white cells) _ _ (more (white_rest room cells) _ (omega (arith, le, less))) (more cells h le)
 
@@ -166,7 +167,7 @@ in_info-shrinks n cells h le =
     let left = run_rest is_word cells in
     let k = part_ended part.CodeFencedFenceInfo (run_end is_word cells h.point) h in
     cond-shrinks n (run_has (is_refused h.scratch.marker) is_word cells) (refuses h)
-    (behind_white_of any_size before_meta left k) tt
+    (after_white_of any_size before_meta left k) tt
     (white-shrinks n any_size before_meta left k (let less = run-length is_word cells in omega (arith, le, less))
     (meta-shrinks n))
 
@@ -190,8 +191,8 @@ sequence-shrinks n cells h le =
       point = p;
       scratch = record h.scratch { size = size };
     } in
-    cond-shrinks n (nat_lt size (least_size m)) (refuses h) (behind_white_of any_size (behind_sequence m) left k) tt
-    (white-shrinks n any_size (behind_sequence m) left k
+    cond-shrinks n (nat_lt size (least_size m)) (refuses h) (after_white_of any_size (after_sequence m) left k) tt
+    (white-shrinks n any_size (after_sequence m) left k
     (let less = run-length (λ b. b == m) cells in omega (arith, le, less))
     (λ cs k few.
     cond-shrinks n (m == 36) (before_meta cs k) (before_info cs k) (meta-shrinks n cs k few) (info-shrinks n cs k few)))

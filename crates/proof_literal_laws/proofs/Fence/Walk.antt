@@ -18,16 +18,16 @@ use Rattle.md_code.specs.Fence.{meta_name, sequence_name}
 use Rattle.md_events.proofs.RestLines.{count-none, count-one}
 use Rattle.md_code.proofs.FenceParts.{prefix-take}
 use Rattle.md_events.specs.Events.Nested.{around, pair}
-use Rattle.md_events.specs.Events.Pieces.{is_run, stands_over}
+use Rattle.md_events.specs.Events.Pieces.{is_run, may_cover}
 use Rattle.md_events.specs.Events.Places.{past_text}
 use Rattle.md_events.proofs.FeedLines.{past_text-whole}
 use Rattle.md_events.proofs.InlineLemmas.{past_text-append}
-use Rattle.proof_literal_laws.specs.Leaf.Fence.{Inner, behind_parts, fence_parts, past_white, text_part, text_parts}
+use Rattle.proof_literal_laws.specs.Leaf.Fence.{Inner, after_parts, fence_parts, past_white, text_part, text_parts}
 use Rattle.proof_literal_laws.specs.Leaf.Fence.{white_part, word_parts}
 use Rattle.proof_literal_laws.proofs.Fence.Opened.{IsFence}
 use Rattle.proof_frame.proofs.LineTexts.{no_ending-parts}
 use Rattle.proof_frame.proofs.PieceFacts.{CutsFirst, whole-first}
-use Rattle.proof_frame.proofs.LineWalk.{At, past-stands}
+use Rattle.proof_frame.proofs.LineWalk.{At, past-valid}
 
 -- so many of them, and those after
 pub at-take : (bytes xs rest : List ℕ) (p : Point) (k : ℕ) → At bytes xs p rest →
@@ -35,7 +35,7 @@ pub at-take : (bytes xs rest : List ℕ) (p : Point) (k : ℕ) → At bytes xs p
 at-take bytes xs rest p k is =
     let cut = take-append-drop k xs in
     record {
-      stands = is.stands ∙ ap (λ (l : List ℕ). l ++ rest) (sym cut) ∙ append_assoc (take k xs) (drop k xs) rest;
+      valid = is.valid ∙ ap (λ (l : List ℕ). l ++ rest) (sym cut) ∙ append_assoc (take k xs) (drop k xs) rest;
       none = (no_ending-parts (take k xs) (drop k xs) (subst NoEnding (sym cut) is.none)).0;
       whole = is.whole;
     }
@@ -45,7 +45,7 @@ pub at-drop : (bytes xs rest : List ℕ) (p : Point) (k : ℕ) → At bytes xs p
 at-drop bytes xs rest p k is =
     let front = at-take bytes xs rest p k is in
     record {
-      stands = past-stands bytes (take k xs) (drop k xs ++ rest) p front.stands;
+      valid = past-valid bytes (take k xs) (drop k xs ++ rest) p front.valid;
       none = no_ending-drop k xs is.none;
       whole = past_text-whole (take k xs) p is.whole;
     }
@@ -74,11 +74,11 @@ meta-text m = go (m == 36)
 pub record Walks (bytes : List ℕ) (inner read : Inner) (M : Point → Type 0) (Q : Point → Point → List Event →
     List Event → Type 0) : Type 0
   where
-    pub behind_white : (b : ℕ) (bs rest : List ℕ) (p : Point) → drop p.index bytes ≡ (b ∷ bs) ++ rest →
+    pub following_white : (b : ℕ) (bs rest : List ℕ) (p : Point) → drop p.index bytes ≡ (b ∷ bs) ++ rest →
         is_blank (b ∷ bs) ≡ true → M (past_text (b ∷ bs) p)
     pub before_white : (b : ℕ) (rest : List ℕ) (p : Point) → drop p.index bytes ≡ b ∷ rest → is_white b ≡ true → M p
-    pub behind_marks : (m b : ℕ) (bs rest : List ℕ) (p : Point) → drop p.index bytes ≡ (b ∷ bs) ++ rest →
-        stands_over (sequence_name m) (b ∷ bs) ≡ true → M (past_text (b ∷ bs) p)
+    pub after_marks : (m b : ℕ) (bs rest : List ℕ) (p : Point) → drop p.index bytes ≡ (b ∷ bs) ++ rest →
+        may_cover (sequence_name m) (b ∷ bs) ≡ true → M (past_text (b ∷ bs) p)
     pub none : (p : Point) → Q p p [] []
     pub append : (p q r : Point) (xs ys zs ws : List Event) → M q → Q p q xs zs → Q q r ys ws →
         Q p r (xs ++ ys) (zs ++ ws)
@@ -87,7 +87,7 @@ pub record Walks (bytes : List ℕ) (inner read : Inner) (M : Point → Type 0) 
         Q p (past_text (b ∷ bs) p) (pair n.SpaceOrTab p (past_text (b ∷ bs) p))
         (pair n.SpaceOrTab p (past_text (b ∷ bs) p))
     pub marks : (m b : ℕ) (bs rest : List ℕ) (p : Point) → M p → M (past_text (b ∷ bs) p) → At bytes (b ∷ bs) p rest →
-        stands_over (sequence_name m) (b ∷ bs) ≡ true →
+        may_cover (sequence_name m) (b ∷ bs) ≡ true →
         Q p (past_text (b ∷ bs) p) (pair (sequence_name m) p (past_text (b ∷ bs) p))
         (pair (sequence_name m) p (past_text (b ∷ bs) p))
     pub text : (name : Name) (b : ℕ) (bs rest : List ℕ) (p : Point) → is_text_name name ≡ true → M p →
@@ -123,7 +123,7 @@ white-mid bytes inner read M Q walks xs rest p is mid =
     go : (front : List ℕ) → is_blank front ≡ true → drop p.index bytes ≡ front ++ (drop k xs ++ rest) →
         M (past_text front p)
     go [] blank is = mid
-    go (b ∷ bs) blank is = walks.behind_white b bs (drop k xs ++ rest) p is blank
+    go (b ∷ bs) blank is = walks.following_white b bs (drop k xs ++ rest) p is blank
 
 pub white-walks : (bytes : List ℕ) (inner read : Inner) (M : Point → Type 0) (Q : Point → Point → List Event →
     List Event → Type 0) →
@@ -136,11 +136,11 @@ white-walks bytes inner read M Q walks (b ∷ bs) rest p is cut mid = go (is_whi
     left : List ℕ
     left = take (prefix_len is_white bs) bs
 
-    behind : List ℕ
-    behind = drop (prefix_len is_white bs) bs ++ rest
+    following : List ℕ
+    following = drop (prefix_len is_white bs) bs ++ rest
 
-    stands : drop p.index bytes ≡ (b ∷ left) ++ behind
-    stands =
+    valid : drop p.index bytes ≡ (b ∷ left) ++ following
+    valid =
         is
         ∙ ap (λ (l : List ℕ). b ∷ (l ++ rest)) (sym (take-append-drop (prefix_len is_white bs) bs))
         ∙ ap (λ (l : List ℕ). b ∷ l) (append_assoc left (drop (prefix_len is_white bs) bs) rest)
@@ -154,7 +154,7 @@ white-walks bytes inner read M Q walks (b ∷ bs) rest p is cut mid = go (is_whi
         (λ (k : ℕ).
         let q = past_text (take k (b ∷ bs)) p in Q p q (pair n.SpaceOrTab p q) (pair n.SpaceOrTab p q))
         (sym (count-one is_white b bs e))
-        (walks.white b left behind p mid (walks.behind_white b left behind p stands blank) stands cut blank)
+        (walks.white b left following p mid (walks.following_white b left following p valid blank) valid cut blank)
     go false e =
         subst (λ (k : ℕ). Q p (past_text (take k (b ∷ bs)) p) [] []) (sym (count-none is_white b bs e)) (walks.none p)
 
@@ -168,14 +168,14 @@ part-walks bytes inner read M Q walks name [] rest p is mid end at = walks.none 
 part-walks bytes inner read M Q walks name (b ∷ bs) rest p is mid end at = walks.text name b bs rest p is mid end at
 
 -- where bytes end, after so many of them
-ends-behind : (xs : List ℕ) (p : Point) (k : ℕ) → past_text (drop k xs) (past_text (take k xs) p) ≡ past_text xs p
-ends-behind xs p k =
+ends-following : (xs : List ℕ) (p : Point) (k : ℕ) → past_text (drop k xs) (past_text (take k xs) p) ≡ past_text xs p
+ends-following xs p k =
     sym (past_text-append (take k xs) (drop k xs) p) ∙ ap (λ (l : List ℕ). past_text l p) (take-append-drop k xs)
 
 -- what is left after a word begins with whitespace, or is nothing
-pub behind-first : (xs : List ℕ) → CutsWord (drop (prefix_len (λ b. not (is_white b)) xs) xs)
-behind-first [] = tt
-behind-first (b ∷ bs) = go (is_white b) refl (behind-first bs)
+pub following-first : (xs : List ℕ) → CutsWord (drop (prefix_len (λ b. not (is_white b)) xs) xs)
+following-first [] = tt
+following-first (b ∷ bs) = go (is_white b) refl (following-first bs)
   where
     t : ℕ → Bool
     t c = not (is_white c)
@@ -214,31 +214,31 @@ texts-walk bytes inner read M Q walks m xs rest p mid end at = go (m == 36)
 
     -- the word ends with the line, or before whitespace
     left_first : CutsWord left
-    left_first = subst (λ (k : ℕ). CutsWord (drop k xs)) (sym long) (behind-first xs)
+    left_first = subst (λ (k : ℕ). CutsWord (drop k xs)) (sym long) (following-first xs)
 
     left_end : past_text left q ≡ past_text xs p
     left_end =
-        ap (λ (k : ℕ). past_text (drop k xs) (past_text word p)) long ∙ ends-behind xs p size
+        ap (λ (k : ℕ). past_text (drop k xs) (past_text word p)) long ∙ ends-following xs p size
 
     mid_left : M q
-    mid_left = by left left_first at_left.stands left_end
+    mid_left = by left left_first at_left.valid left_end
       where
         by : (l : List ℕ) → CutsWord l → drop q.index bytes ≡ l ++ rest → past_text l q ≡ past_text xs p → M q
-        by [] first stands e = subst M (sym e) end
-        by (b ∷ bs) first stands e = walks.before_white b (bs ++ rest) q stands first
+        by [] first valid e = subst M (sym e) end
+        by (b ∷ bs) first valid e = walks.before_white b (bs ++ rest) q valid first
 
     v : Point
     v = past_white left q
 
     mid_meta : M v
-    mid_meta = white-mid bytes inner read M Q walks left rest q at_left.stands mid_left
+    mid_meta = white-mid bytes inner read M Q walks left rest q at_left.valid mid_left
 
     meta_end : past_text (trim_start left) v ≡ past_text xs p
-    meta_end = ends-behind left q (prefix_len is_white left) ∙ left_end
+    meta_end = ends-following left q (prefix_len is_white left) ∙ left_end
 
     white : Q q v (white_part left q) (white_part left q)
     white =
-        white-walks bytes inner read M Q walks left rest q at_left.stands (whole-first q left at_left.whole) mid_left
+        white-walks bytes inner read M Q walks left rest q at_left.valid (whole-first q left at_left.whole) mid_left
 
     info : Q p q (text_part inner n.CodeFencedFenceInfo word p) (text_part read n.CodeFencedFenceInfo word p)
     info =
@@ -271,19 +271,19 @@ texts-walk bytes inner read M Q walks m xs rest p mid end at = go (m == 36)
         meta
 
 -- What follows the sequence.
-behind-walks : (bytes : List ℕ) (inner read : Inner) (M : Point → Type 0) (Q : Point → Point → List Event →
+following-walks : (bytes : List ℕ) (inner read : Inner) (M : Point → Type 0) (Q : Point → Point → List Event →
     List Event → Type 0) →
     Walks bytes inner read M Q → (m : ℕ) (xs rest : List ℕ) (p : Point) → M p → M (past_text xs p) →
     At bytes xs p rest →
-    Q p (past_text xs p) (behind_parts inner m xs p) (behind_parts read m xs p)
-behind-walks bytes inner read M Q walks m xs rest p mid end at =
+    Q p (past_text xs p) (after_parts inner m xs p) (after_parts read m xs p)
+following-walks bytes inner read M Q walks m xs rest p mid end at =
     let k = prefix_len is_white xs in
     let q = past_white xs p in
-    let mid_text = white-mid bytes inner read M Q walks xs rest p at.stands mid in
-    let e = ends-behind xs p k in
+    let mid_text = white-mid bytes inner read M Q walks xs rest p at.valid mid in
+    let e = ends-following xs p k in
     walks.append p q (past_text xs p) (white_part xs p) (text_parts inner m (trim_start xs) q) (white_part xs p)
     (text_parts read m (trim_start xs) q) mid_text
-    (white-walks bytes inner read M Q walks xs rest p at.stands (whole-first p xs at.whole) mid)
+    (white-walks bytes inner read M Q walks xs rest p at.valid (whole-first p xs at.whole) mid)
     (subst (λ (x : Point). Q q x (text_parts inner m (trim_start xs) q) (text_parts read m (trim_start xs) q)) e
     (texts-walk bytes inner read M Q walks m (trim_start xs) rest q mid_text (subst M (sym e) end)
     (at-drop bytes xs rest p k at)))
@@ -304,7 +304,7 @@ run-all m (b ∷ bs) = go (b == m) refl (run-all m bs)
 
 -- the sequence of a fence is over its markers
 pub sequence-over : (options : ParseOptions) (xs : List ℕ) → IsFence options xs →
-    stands_over (sequence_name (first_byte xs)) (take (run_len (first_byte xs) xs) xs) ≡ true
+    may_cover (sequence_name (first_byte xs)) (take (run_len (first_byte xs) xs) xs) ≡ true
 sequence-over options xs is =
     go (m == 36) refl (m == 96) refl (m == 126) refl is.marker is.size (run-all m xs) (prefix-take (λ b. b == m) xs)
   where
@@ -323,7 +323,7 @@ sequence-over options xs is =
     go : (x : Bool) → (m == 36) ≡ x → (y : Bool) → (m == 96) ≡ y → (z : Bool) → (m == 126) ≡ z →
         cond x options.constructs.math_flow (options.constructs.code_fenced && (y || z)) ≡ true →
         nat_le (cond x 2 3) (run_len m xs) ≡ true → list_all (λ b. b == m) ys ≡ true → length ys ≡ run_len m xs →
-        stands_over (cond x n.MathFlowFenceSequence n.CodeFencedFenceSequence) ys ≡ true
+        may_cover (cond x n.MathFlowFenceSequence n.CodeFencedFenceSequence) ys ≡ true
     go true f y g z h on size all long = run 36 2 f size all long
     go false f true g z h on size all long = or_left (is_run 3 96 ys) (is_run 3 126 ys) (run 96 3 g size all long)
     go false f false g true h on size all long = or_right (is_run 3 96 ys) (is_run 3 126 ys) (run 126 3 h size all long)
@@ -341,7 +341,7 @@ pub parts-walk : (options : ParseOptions) (bytes : List ℕ) (inner read : Inner
     At bytes xs p rest →
     Q p (past_text xs p) (fence_parts inner (first_byte xs) xs p) (fence_parts read (first_byte xs) xs p)
 parts-walk options bytes inner read M Q walks xs rest p is mid end at =
-    let e = ends-behind xs p size in
+    let e = ends-following xs p size in
     by (take size xs) (at-take bytes xs rest p size at) (sequence-over options xs is)
     (at-drop bytes xs rest p size at) e
   where
@@ -351,22 +351,22 @@ parts-walk options bytes inner read M Q walks xs rest p is mid end at =
     size : ℕ
     size = run_len (first_byte xs) xs
 
-    by : (ys : List ℕ) → At bytes ys p (drop size xs ++ rest) → stands_over (sequence_name m) ys ≡ true →
+    by : (ys : List ℕ) → At bytes ys p (drop size xs ++ rest) → may_cover (sequence_name m) ys ≡ true →
         At bytes (drop size xs) (past_text ys p) rest →
         past_text (drop size xs) (past_text ys p) ≡ past_text xs p →
         Q p (past_text xs p)
-        (pair (sequence_name m) p (past_text ys p) ++ behind_parts inner m (drop size xs) (past_text ys p))
-        (pair (sequence_name m) p (past_text ys p) ++ behind_parts read m (drop size xs) (past_text ys p))
-    by [] here over behind e = absurd (none (m == 36) over)
+        (pair (sequence_name m) p (past_text ys p) ++ after_parts inner m (drop size xs) (past_text ys p))
+        (pair (sequence_name m) p (past_text ys p) ++ after_parts read m (drop size xs) (past_text ys p))
+    by [] here over following e = absurd (none (m == 36) over)
       where
-        none : (x : Bool) → stands_over (cond x n.MathFlowFenceSequence n.CodeFencedFenceSequence) [] ≡ true → ⊥
+        none : (x : Bool) → may_cover (cond x n.MathFlowFenceSequence n.CodeFencedFenceSequence) [] ≡ true → ⊥
         none true k = cc
         none false k = cc
-    by (b ∷ bs) here over behind e =
+    by (b ∷ bs) here over following e =
         let q = past_text (b ∷ bs) p in
-        let next = walks.behind_marks m b bs (drop size xs ++ rest) p here.stands over in
-        walks.append p q (past_text xs p) (pair (sequence_name m) p q) (behind_parts inner m (drop size xs) q)
-        (pair (sequence_name m) p q) (behind_parts read m (drop size xs) q) next
+        let next = walks.after_marks m b bs (drop size xs ++ rest) p here.valid over in
+        walks.append p q (past_text xs p) (pair (sequence_name m) p q) (after_parts inner m (drop size xs) q)
+        (pair (sequence_name m) p q) (after_parts read m (drop size xs) q) next
         (walks.marks m b bs (drop size xs ++ rest) p mid next here over)
-        (subst (λ (x : Point). Q q x (behind_parts inner m (drop size xs) q) (behind_parts read m (drop size xs) q)) e
-        (behind-walks bytes inner read M Q walks m (drop size xs) rest q next (subst M (sym e) end) behind))
+        (subst (λ (x : Point). Q q x (after_parts inner m (drop size xs) q) (after_parts read m (drop size xs) q)) e
+        (following-walks bytes inner read M Q walks m (drop size xs) rest q next (subst M (sym e) end) following))

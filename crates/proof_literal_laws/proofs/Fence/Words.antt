@@ -12,21 +12,21 @@ use Rattle.md_meaning.specs.Rest.{is_white, trim_start}
 use Rattle.md_events.proofs.RestLines.{count-none, count-one}
 use Rattle.md_code.proofs.FenceParts.{prefix-take}
 use Rattle.md_events.specs.declared.inline.Chunk.{Chunk}
-use Rattle.md_events.specs.Events.Grammar.{Expression, behind, inside, may_end, plain_text, unread_text}
+use Rattle.md_events.specs.Events.Grammar.{Expression, following, inside, may_end, plain_text, unread_text}
 use Rattle.md_events.specs.Events.Inline.{plain_chunk}
 use Rattle.md_events.specs.Events.Nested.{around, pair}
 use Rattle.md_events.specs.Events.Places.{past_text}
-use Rattle.md_events.proofs.GrammarLemmas.{IsWord, Leads, leads-around, leads-pair, maybe, word-behind}
+use Rattle.md_events.proofs.GrammarLemmas.{IsWord, Leads, leads-around, leads-pair, maybe, word-following}
 use Rattle.proof_literal_laws.specs.Leaf.Fence.{Inner, linked, past_white, read_inner, text_part, white_part}
 use Rattle.proof_frame.proofs.ChunkFacts.{chunk-word}
-use Rattle.proof_literal_laws.proofs.Fence.Walk.{CutsWord, behind-first}
+use Rattle.proof_literal_laws.proofs.Fence.Walk.{CutsWord, following-first}
 
 -- What is in info and in meta is a text.
 abbrev pub Word : Expression → Inner → Type 0
 Word text inner = (p q : Point) → IsWord text (text ∷ []) (inner p q)
 
 pub linked-word : Word unread_text linked
-linked-word p q = record { left = behind n.Data unread_text; leads = λ outer. refl; ends = refl }
+linked-word p q = record { left = following n.Data unread_text; leads = λ outer. refl; ends = refl }
 
 pub read-word : (bytes : List ℕ) → Word plain_text (read_inner bytes)
 read-word bytes p q =
@@ -49,15 +49,15 @@ white-leads text x (b ∷ bs) p = go (is_white b)
 
 -- after the sequence of math
 abbrev math_marked : Expression → Bool → Expression
-math_marked text some = maybe some n.SpaceOrTab (behind n.MathFlowFenceSequence (inside text n.MathFlowFence))
+math_marked text some = maybe some n.SpaceOrTab (following n.MathFlowFenceSequence (inside text n.MathFlowFence))
 
 -- a part of text after which nothing has to be
-part-word : (text x : Expression) (inner : Inner) (name : Name) → may_end (behind name x) ≡ true → (b : ℕ)
+part-word : (text x : Expression) (inner : Inner) (name : Name) → may_end (following name x) ≡ true → (b : ℕ)
     (bs : List ℕ) (p : Point) → IsWord text (inside text name ∷ []) (inner p (past_text (b ∷ bs) p)) →
     IsWord text (x ∷ []) (text_part inner name (b ∷ bs) p)
 part-word text x inner name ends b bs p word =
     let q = past_text (b ∷ bs) p in
-    record { left = behind name x; leads = leads-around text x name p q (inner p q) word; ends = ends }
+    record { left = following name x; leads = leads-around text x name p q (inner p q) word; ends = ends }
 
 math-word : (text : Expression) (inner : Inner) → Word text inner → (xs : List ℕ) (p : Point) (some : Bool) →
     IsWord text (math_marked text some ∷ []) (text_part inner n.MathFlowFenceMeta xs p)
@@ -70,29 +70,29 @@ math-word text inner word (b ∷ bs) p false =
 
 -- after the sequence of code, and after info
 abbrev marked : Expression → Bool → Expression
-marked text some = maybe some n.SpaceOrTab (behind n.CodeFencedFenceSequence (inside text n.CodeFencedFence))
+marked text some = maybe some n.SpaceOrTab (following n.CodeFencedFenceSequence (inside text n.CodeFencedFence))
 
-abbrev told : Expression → Expression
-told text = behind n.CodeFencedFenceInfo (marked text true)
+abbrev recorded : Expression → Expression
+recorded text = following n.CodeFencedFenceInfo (marked text true)
 
 meta-word : (text : Expression) (inner : Inner) → Word text inner → (xs : List ℕ) (p : Point) →
-    IsWord text (behind n.SpaceOrTab (told text) ∷ []) (text_part inner n.CodeFencedFenceMeta xs p)
+    IsWord text (following n.SpaceOrTab (recorded text) ∷ []) (text_part inner n.CodeFencedFenceMeta xs p)
 meta-word text inner word [] p =
-    record { left = behind n.SpaceOrTab (told text); leads = λ outer. refl; ends = refl }
+    record { left = following n.SpaceOrTab (recorded text); leads = λ outer. refl; ends = refl }
 meta-word text inner word (b ∷ bs) p =
-    part-word text (behind n.SpaceOrTab (told text)) inner n.CodeFencedFenceMeta refl b bs p
+    part-word text (following n.SpaceOrTab (recorded text)) inner n.CodeFencedFenceMeta refl b bs p
     (word p (past_text (b ∷ bs) p))
 
-told-word : (text : Expression) (inner : Inner) → Word text inner → (left : List ℕ) (q : Point) → CutsWord left →
-    IsWord text (told text ∷ [])
+recorded-word : (text : Expression) (inner : Inner) → Word text inner → (left : List ℕ) (q : Point) → CutsWord left →
+    IsWord text (recorded text ∷ [])
     (white_part left q ++ text_part inner n.CodeFencedFenceMeta (trim_start left) (past_white left q))
-told-word text inner word [] q cut = record { left = told text; leads = λ outer. refl; ends = refl }
-told-word text inner word (c ∷ cs) q cut =
+recorded-word text inner word [] q cut = record { left = recorded text; leads = λ outer. refl; ends = refl }
+recorded-word text inner word (c ∷ cs) q cut =
     let v = past_white (c ∷ cs) q in
     let meta = text_part inner n.CodeFencedFenceMeta (trim_start (c ∷ cs)) v in
-    subst (λ (x : Bool). IsWord text (told text ∷ []) (cond x (pair n.SpaceOrTab q v) [] ++ meta)) (sym cut)
-    (word-behind text (told text ∷ []) (behind n.SpaceOrTab (told text) ∷ []) (pair n.SpaceOrTab q v) meta
-    (leads-pair text (told text) n.SpaceOrTab q v refl) (meta-word text inner word (trim_start (c ∷ cs)) v))
+    subst (λ (x : Bool). IsWord text (recorded text ∷ []) (cond x (pair n.SpaceOrTab q v) [] ++ meta)) (sym cut)
+    (word-following text (recorded text ∷ []) (following n.SpaceOrTab (recorded text) ∷ []) (pair n.SpaceOrTab q v) meta
+    (leads-pair text (recorded text) n.SpaceOrTab q v refl) (meta-word text inner word (trim_start (c ∷ cs)) v))
 
 -- whether bytes begin with no whitespace
 abbrev pub Dark : List ℕ → Type 0
@@ -109,12 +109,12 @@ trim-dark (b ∷ bs) = go (is_white b) refl (trim-dark bs)
 
 info-leads : (text : Expression) (inner : Inner) → Word text inner → (b : ℕ) (bs : List ℕ) (p : Point) (some : Bool) →
     is_white b ≡ false →
-    Leads text (marked text some ∷ []) (told text ∷ [])
+    Leads text (marked text some ∷ []) (recorded text ∷ [])
     (text_part inner n.CodeFencedFenceInfo (first_word (b ∷ bs)) p)
 info-leads text inner word b bs p some dark =
     subst
     (λ (xs : List ℕ).
-    Leads text (marked text some ∷ []) (told text ∷ []) (text_part inner n.CodeFencedFenceInfo xs p))
+    Leads text (marked text some ∷ []) (recorded text ∷ []) (text_part inner n.CodeFencedFenceInfo xs p))
     (sym
     (take_while-cons (λ c. not (is_white c)) b bs
     ∙ ap (λ (x : Bool). cond (not x) (b ∷ first_word bs) []) dark))
@@ -124,7 +124,7 @@ info-leads text inner word b bs p some dark =
     q = past_text (b ∷ first_word bs) p
 
     go : (some : Bool) →
-        Leads text (marked text some ∷ []) (told text ∷ []) (around n.CodeFencedFenceInfo p q (inner p q))
+        Leads text (marked text some ∷ []) (recorded text ∷ []) (around n.CodeFencedFenceInfo p q (inner p q))
     go true = leads-around text (marked text true) n.CodeFencedFenceInfo p q (inner p q) (word p q)
     go false = leads-around text (marked text false) n.CodeFencedFenceInfo p q (inner p q) (word p q)
 
@@ -147,11 +147,11 @@ code-word text inner word (b ∷ bs) p some dark =
     let info = text_part inner n.CodeFencedFenceInfo xs p in
     let meta = text_part inner n.CodeFencedFenceMeta (trim_start left) (past_white left q) in
     subst (IsWord text (marked text some ∷ [])) (sym (append_assoc info (white_part left q) meta))
-    (word-behind text (marked text some ∷ []) (told text ∷ []) info (white_part left q ++ meta)
+    (word-following text (marked text some ∷ []) (recorded text ∷ []) info (white_part left q ++ meta)
     (info-leads text inner word b bs p some dark)
-    (told-word text inner word left q
+    (recorded-word text inner word left q
     (subst (λ (k : ℕ). CutsWord (drop k (b ∷ bs))) (sym (prefix-take (λ c. not (is_white c)) (b ∷ bs)))
-    (behind-first (b ∷ bs)))))
+    (following-first (b ∷ bs)))))
 
 -- What is in a fence is a word of it.
 
@@ -170,20 +170,20 @@ pub fence-word : (text : Expression) (inner : Inner) → Word text inner → (ma
     (pair (cond math n.MathFlowFenceSequence n.CodeFencedFenceSequence) p q
     ++ (white_part xs q ++ parts_by math inner (trim_start xs) (past_white xs q)))
 fence-word text inner word true xs p q =
-    let x = behind n.MathFlowFenceSequence (inside text n.MathFlowFence) in
+    let x = following n.MathFlowFenceSequence (inside text n.MathFlowFence) in
     let white = white-leads text x xs q in
     let meta = text_part inner n.MathFlowFenceMeta (trim_start xs) (past_white xs q) in
-    word-behind text (inside text n.MathFlowFence ∷ []) (x ∷ []) (pair n.MathFlowFenceSequence p q)
+    word-following text (inside text n.MathFlowFence ∷ []) (x ∷ []) (pair n.MathFlowFenceSequence p q)
     (white_part xs q ++ meta)
     (leads-pair text (inside text n.MathFlowFence) n.MathFlowFenceSequence p q refl)
-    (word-behind text (x ∷ []) (maybe white.0 n.SpaceOrTab x ∷ []) (white_part xs q) meta white.1
+    (word-following text (x ∷ []) (maybe white.0 n.SpaceOrTab x ∷ []) (white_part xs q) meta white.1
     (math-word text inner word (trim_start xs) (past_white xs q) white.0))
 fence-word text inner word false xs p q =
-    let x = behind n.CodeFencedFenceSequence (inside text n.CodeFencedFence) in
+    let x = following n.CodeFencedFenceSequence (inside text n.CodeFencedFence) in
     let white = white-leads text x xs q in
     let parts = code_parts inner (trim_start xs) (past_white xs q) in
-    word-behind text (inside text n.CodeFencedFence ∷ []) (x ∷ []) (pair n.CodeFencedFenceSequence p q)
+    word-following text (inside text n.CodeFencedFence ∷ []) (x ∷ []) (pair n.CodeFencedFenceSequence p q)
     (white_part xs q ++ parts)
     (leads-pair text (inside text n.CodeFencedFence) n.CodeFencedFenceSequence p q refl)
-    (word-behind text (x ∷ []) (maybe white.0 n.SpaceOrTab x ∷ []) (white_part xs q) parts white.1
+    (word-following text (x ∷ []) (maybe white.0 n.SpaceOrTab x ∷ []) (white_part xs q) parts white.1
     (code-word text inner word (trim_start xs) (past_white xs q) white.0 (trim-dark xs)))

@@ -28,7 +28,7 @@ use Rattle.md_code.proofs.FenceCells.{RunOf, first-spread, marker-dark, marker-t
 use Rattle.md_code.proofs.FenceFurther.{chunk-agrees, closes-agrees, further-agrees, is_nothing, left_part}
 use Rattle.md_events.proofs.LostColumns.{lose-walk}
 use Rattle.md_events.proofs.RestLines.{small-room}
-use Rattle.md_code.proofs.FenceFurther.{small-behind}
+use Rattle.md_code.proofs.FenceFurther.{small-following}
 use Rattle.md_events.specs.Ahead.{begins_white, white_end, white_rest}
 use Rattle.md_events.specs.Events.Nested.{enter, enter_link, exit, pair}
 use Rattle.md_events.specs.Events.Places.{past_text}
@@ -57,21 +57,21 @@ fence-some on e = by (held_marker on == 36) (fence-size on e)
 -- Columns.
 
 -- more of them than there are
-past-all : (said : Line) (text behind : List ℕ) (m room : ℕ) (r : Rest) (p : Point) → RestAt text behind r p →
+past-all : (said : Line) (text following : List ℕ) (m room : ℕ) (r : Rest) (p : Point) → RestAt text following r p →
     indent r ≡ m → m ≤ room → past_columns room r p ≡ past_columns m r p
-past-all said text behind zero zero r p is e le = refl
-past-all said text behind zero (suc room) r p is e le =
+past-all said text following zero zero r p is e le = refl
+past-all said text following zero (suc room) r p is e le =
     let none : (indent r == 0) ≡ true = grind (arith, nat_tests) in
     ap (λ (x : Bool). cond x p (past_columns room (without_first r) (next_point (without_first r) p))) none
-past-all said text behind (suc m) zero r p is e le = absurd (omega (arith, le))
-past-all said text behind (suc m) (suc room) r p is e le =
-    let first = column-first said text behind r p is (omega (arith, e)) in
-    let next = first-next said text behind r p is (omega (arith, e)) first in
+past-all said text following (suc m) zero r p is e le = absurd (omega (arith, le))
+past-all said text following (suc m) (suc room) r p is e le =
+    let first = column-first said text following r p is (omega (arith, e)) in
+    let next = first-next said text following r p is (omega (arith, e)) first in
     let left = without_first r in
     let columns = first.columns in
     ap (λ (x : Point). cond (indent r == 0) p (past_columns room left x)) (sym next)
     ∙ ap (λ (x : Point). cond (indent r == 0) p x)
-    (past-all said text behind m room left first.at first.stands (omega (arith, e, columns)) (omega (arith, le)))
+    (past-all said text following m room left first.at first.valid (omega (arith, e, columns)) (omega (arith, le)))
     ∙ ap (λ (x : Point). cond (indent r == 0) p (past_columns m left x)) next
 
 all-part : (room : ℕ) (r : Rest) (p : Point) → indent r ≤ room → past_columns room r p ≡ past_columns (indent r) r p →
@@ -143,13 +143,14 @@ closing-same m said bytes at q stop is blank k ends =
         ∙ (and_parts (is_white b) (is_blank bs) h).0 in
         ap (λ (x : Bool). parts end x q) white
 
-pub inside-same : (options : ParseOptions) (on : HeldLeaf) (said : Line) (text behind : List ℕ) (r : Rest) (p : Point)
+pub inside-same : (options : ParseOptions) (on : HeldLeaf) (said : Line) (text following : List ℕ)
+    (r : Rest) (p : Point)
     (stop : List Cell) →
-    is_fence on ≡ true → RestAt text behind r p → NoEnding r.bytes → Stops stop →
+    is_fence on ≡ true → RestAt text following r p → NoEnding r.bytes → Stops stop →
     length (rest_cells said r p ++ stop) < 2 ^ 63 →
     further_inside options on (rest_cells said r p ++ stop) p ≡
     further_parts options on r p (past_text (rest_line r) p)
-inside-same options on said text behind r p stop e is h k short =
+inside-same options on said text following r p stop e is h k short =
     ap (λ (x : Bool). cond x closing chunk) closed ∙ go (closes options (opening_of on) r) refl
   where
     m : ℕ
@@ -178,12 +179,12 @@ inside-same options on said text behind r p stop e is h k short =
 
     closed : closes_here options on cells ≡ closes options (opening_of on) r
     closed =
-        closes-agrees options (opening_of on) said text behind r p stop marker (fence-some on e) is h k short
+        closes-agrees options (opening_of on) said text following r p stop marker (fence-some on e) is h k short
 
     ends : further_end options on cells p ≡ q
     ends =
-        (further-agrees options (opening_of on) said text behind r p stop marker (fence-some on e) is h k short).ends
-        ∙ past-line text behind r p is
+        (further-agrees options (opening_of on) said text following r p stop marker (fence-some on e) is h k short).ends
+        ∙ past-line text following r p is
 
     go : (x : Bool) → closes options (opening_of on) r ≡ x →
         cond x closing chunk ≡ cond x (closing_line m r p q) (chunk_line m lost r p q)
@@ -192,13 +193,13 @@ inside-same options on said text behind r p stop e is h k short =
         (is_blank (drop (run_len m (trim_start r.bytes)) (trim_start r.bytes))) f in
         let indented = and_parts (has_small_indent options r)
         (nat_le (held_size on) (run_len m (trim_start r.bytes))) small.0 in
-        let taken = small-behind options said text behind r p stop is k short indented.0 in
+        let taken = small-following options said text following r p stop is k short indented.0 in
         let at = white_end room cells p in
-        let columns = indent-length said text behind r p is in
+        let columns = indent-length said text following r p is in
         let sum = length-append (rest_cells said r p) stop in
         let fits : indent r ≤ room =
         small-room options r (length cells) indented.0 (omega (arith, columns, sum)) short in
-        let all = past-all said text behind (indent r) room r p is refl fits in
+        let all = past-all said text following (indent r) room r p is refl fits in
         let end : closing_end m (white_rest room cells) at ≡ q =
         sym
         (ap
@@ -212,54 +213,58 @@ inside-same options on said text behind r p stop e is h k short =
         (closing-same m said (trim_start r.bytes) at q stop marker small.1 k
         (ap (λ (l : List Cell). closing_end m l at) (sym taken.cells) ∙ end))
         ∙ ap₂ (λ (es : List Event) (x : Point). es ++ closing_part m (trim_start r.bytes) x q)
-        (columns-part said text behind room r p stop is k ∙ all-part room r p fits all)
-        (columns-end said text behind room r p stop is k ∙ all)
+        (columns-part said text following room r p stop is k ∙ all-part room r p fits all)
+        (columns-end said text following room r p stop is k ∙ all)
     go false f =
-        let walk = lose-walk said text behind lost r p stop is k in
+        let walk = lose-walk said text following lost r p stop is k in
         let at = white_end lost cells p in
         ap (λ (l : List Cell). spaces lost cells p ++ chunk_events m l at) walk.left
         ∙ ap (λ (es : List Event). spaces lost cells p ++ es)
-        (chunk-agrees m said text behind (lose lost r) at stop walk.stands (lose-no_ending lost r h) k
-        ∙ left-part m (lose lost r) at q (walk.ends ∙ past-line text behind r p is))
+        (chunk-agrees m said text following (lose lost r) at stop walk.valid (lose-no_ending lost r h) k
+        ∙ left-part m (lose lost r) at q (walk.ends ∙ past-line text following r p is))
         ∙ ap₂ (λ (es : List Event) (x : Point). es ++ part_over (chunk_name m) (rest_line (lose lost r)) x q)
-        (columns-part said text behind lost r p stop is k) (columns-end said text behind lost r p stop is k)
+        (columns-part said text following lost r p stop is k) (columns-end said text following lost r p stop is k)
 
 -- The laws.
 
 -- It takes the lines that the line definition says,
-pub further-fits : (options : ParseOptions) (on : HeldLeaf) (said : Line) (text behind : List ℕ) (r : Rest) (p : Point)
+pub further-fits : (options : ParseOptions) (on : HeldLeaf) (said : Line) (text following : List ℕ)
+    (r : Rest) (p : Point)
     (stop : List Cell) →
-    RestAt text behind r p → NoEnding r.bytes → Stops stop → length (rest_cells said r p ++ stop) < 2 ^ 63 →
+    RestAt text following r p → NoEnding r.bytes → Stops stop → length (rest_cells said r p ++ stop) < 2 ^ 63 →
     fence_further.takes options on (rest_cells said r p ++ stop) ≡ fence_further.starts options on r
-further-fits options on said text behind r p stop is h k short = refl
+further-fits options on said text following r p stop is h k short = refl
 
 -- adds what it says of their bytes,
-pub further-adds : (options : ParseOptions) (on : HeldLeaf) (said : Line) (text behind : List ℕ) (r : Rest) (p : Point)
+pub further-adds : (options : ParseOptions) (on : HeldLeaf) (said : Line) (text following : List ℕ)
+    (r : Rest) (p : Point)
     (stop : List Cell) →
-    RestAt text behind r p → NoEnding r.bytes → Stops stop → length (rest_cells said r p ++ stop) < 2 ^ 63 →
+    RestAt text following r p → NoEnding r.bytes → Stops stop → length (rest_cells said r p ++ stop) < 2 ^ 63 →
     fence_further.starts options on r ≡ true →
     fence_further.adds options on (rest_cells said r p ++ stop) p ≡ fence_further.added options on (rest_line r) p
-further-adds options on said text behind r p stop is h k short e =
+further-adds options on said text following r p stop is h k short e =
     let m = held_marker on in
     let q = past_text (rest_line r) p in
-    (further-agrees options (opening_of on) said text behind r p stop (fence-marker on e) (fence-some on e) is h k
+    (further-agrees options (opening_of on) said text following r p stop (fence-marker on e) (fence-some on e) is h k
     short).adds
     ∙ ap₂
     (λ (es : List Event) (x : Point).
     enter_link (block_name m) p further_link ∷ es ++ exit (block_name m) x ∷ [])
-    (inside-same options on said text behind r p stop e is h k short) (past-line text behind r p is)
+    (inside-same options on said text following r p stop e is h k short) (past-line text following r p is)
     ∙ sym
     (ap
     (λ (s : Rest).
     enter_link (block_name m) p further_link ∷ further_parts options on s p q ++ exit (block_name m) q ∷ [])
-    (rest-again text behind r p is))
+    (rest-again text following r p is))
 
 -- and holds after it what the line definition has there.
-pub further-keeps : (options : ParseOptions) (on : HeldLeaf) (said : Line) (text behind : List ℕ) (r : Rest) (p : Point)
+pub further-keeps : (options : ParseOptions) (on : HeldLeaf) (said : Line) (text following : List ℕ)
+    (r : Rest) (p : Point)
     (stop : List Cell) →
-    RestAt text behind r p → NoEnding r.bytes → Stops stop → length (rest_cells said r p ++ stop) < 2 ^ 63 →
+    RestAt text following r p → NoEnding r.bytes → Stops stop → length (rest_cells said r p ++ stop) < 2 ^ 63 →
     fence_further.starts options on r ≡ true →
     fence_further.keeps options on (rest_cells said r p ++ stop) p ≡ fence_further.holds options on r
-further-keeps options on said text behind r p stop is h k short e =
+further-keeps options on said text following r p stop is h k short e =
     ap (λ (x : Bool). cond (is_fence on) (cond x held_leaf.None on) held_leaf.None)
-    (closes-agrees options (opening_of on) said text behind r p stop (fence-marker on e) (fence-some on e) is h k short)
+    (closes-agrees options (opening_of on) said text following r p stop (fence-marker on e)
+    (fence-some on e) is h k short)

@@ -7,7 +7,7 @@ use Rattle.std.proofs.lemmas.Bool.{and_from, and_parts}
 use Rattle.md_engine.specs.declared.configuration.ParseOptions.{ParseOptions}
 use Rattle.md_engine.specs.declared.tokenizer.held_leaf.HeldLeaf.{HeldLeaf}
 use Rattle.md_engine.specs.declared.tokenizer.held_leaf.HeldLeaf.TheVariants as held_leaf
-use Rattle.md_meaning.specs.Leaves.{LeafResult, Finished, Opened, allows, closes, fence_at, fence_from, fence_goes_on}
+use Rattle.md_meaning.specs.Leaves.{LeafResult, Finished, Opened, allows, closes, fence_at, fence_from, fence_continued}
 use Rattle.md_meaning.specs.Leaves.{is_fence_marker, least_size, opening}
 use Rattle.md_meaning.specs.Rest.{Rest, has_small_indent, indent, line_of, lose, run_len, trim_start}
 use Rattle.md_meaning.specs.State.{Leaf, OpenFence, Opening, fence_block}
@@ -15,7 +15,7 @@ use Rattle.md_meaning.specs.Tree.{Line}
 use Rattle.md_code.specs.Fence.{held_indent, may_begin, is_open as is_fence}
 use Rattle.md_code.proofs.FenceOpened.{marker-may}
 use Rattle.proof_frame.specs.HeldLeaf.{kind_of_leaf, left_by}
-use Rattle.proof_literal_laws.specs.Leaf.FenceFurther.{fence_comes, further_holds, opening_of}
+use Rattle.proof_literal_laws.specs.Leaf.FenceFurther.{fence_becomes, further_holds, opening_of}
 
 -- what is held of a block after its opening
 abbrev pub held_of : Opening → HeldLeaf
@@ -38,11 +38,11 @@ from-fence options columns (m ∷ bytes) o lines e =
     after : List ℕ
     after = drop (run_len m (m ∷ bytes)) (m ∷ bytes)
 
-    came : Option LeafResult
-    came = Some (Opened (OpenFence (opening m size columns (trim_start after)) []))
+    became : Option LeafResult
+    became = Some (Opened (OpenFence (opening m size columns (trim_start after)) []))
 
     go : (x : Bool) → (is_fence_marker options m && nat_le (least_size m) size && allows m after) ≡ x →
-        cond x came None ≡ Some (Opened (OpenFence o lines)) → is_fence (held_of o) ≡ true
+        cond x became None ≡ Some (Opened (OpenFence o lines)) → is_fence (held_of o) ≡ true
     go false f e = cc
     go true f e =
         let both = (and_parts (is_fence_marker options m && nat_le (least_size m) size) (allows m after) f).0 in
@@ -63,17 +63,17 @@ opening-fence options r o lines e = go (has_small_indent options r) e
     go false e = cc
 
 -- The line definition closes it where a closing fence is, and else it has one line more.
-pub further-goes : (options : ParseOptions) (o : Opening) (lines : List Line) (r : Rest) →
-    fence_goes_on options o lines r ≡
+pub further-proceeds : (options : ParseOptions) (o : Opening) (lines : List Line) (r : Rest) →
+    fence_continued options o lines r ≡
     cond (closes options (opening_of (held_of o)) r) (Finished (fence_block o lines true))
     (Opened (OpenFence o (lines ++ line_of (lose (held_indent (held_of o)) r) ∷ [])))
-unfolding fence_goes_on
-further-goes options o lines r = refl
+unfolding fence_continued
+further-proceeds options o lines r = refl
 
 -- So what is held after the line is the leaf that the open one reaches with it.
 pub further-held : (options : ParseOptions) (leaf : Leaf) (r : Rest) → is_fence (kind_of_leaf leaf) ≡ true →
-    kind_of_leaf (left_by (fence_comes options leaf r)) ≡ further_holds options (kind_of_leaf leaf) r
-unfolding fence_goes_on
+    kind_of_leaf (left_by (fence_becomes options leaf r)) ≡ further_holds options (kind_of_leaf leaf) r
+unfolding fence_continued
 further-held options (OpenFence o lines) r e = rw e (go (closes options (opening_of (held_of o)) r))
   where
     more : List Line

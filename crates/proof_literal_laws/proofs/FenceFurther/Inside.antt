@@ -13,12 +13,13 @@ use Rattle.md_meaning.specs.Leaves.{closes, least_size}
 use Rattle.md_meaning.specs.Rest.{Rest, indent, lose, run_len, trim_start}
 use Rattle.md_meaning.proofs.TextsLemmas.{NoEnding}
 use Rattle.md_code.specs.Fence.{chunk_name, fence_name, held_indent, held_marker, may_begin, sequence_name}
-use Rattle.md_events.specs.Events.Pieces.{begins_in_tab, stands_over}
+use Rattle.md_events.specs.Events.Pieces.{begins_in_tab, may_cover}
 use Rattle.md_events.specs.Events.Places.{at_or_before, past_text}
 use Rattle.md_events.proofs.FeedLines.{drop-past}
 use Rattle.md_events.proofs.InlineLemmas.{past-index, past_text-append}
 use Rattle.proof_frame.specs.RestLine.{rest_line}
-use Rattle.proof_literal_laws.specs.Leaf.FenceFurther.{chunk_line, closing_line, closing_part, further_parts, opening_of}
+use Rattle.proof_literal_laws.specs.Leaf.FenceFurther.{chunk_line, closing_line, closing_part, further_parts}
+use Rattle.proof_literal_laws.specs.Leaf.FenceFurther.{opening_of}
 use Rattle.md_code.specs.Fence.{is_open as is_fence}
 use Rattle.proof_frame.specs.LineColumns.{past_columns}
 use Rattle.proof_frame.proofs.IndentRemoved.Placed.{columns-stretch, lost-stretch, over-onward, over-stretch}
@@ -26,20 +27,20 @@ use Rattle.proof_frame.proofs.IndentRemoved.Places.{FurtherAt, has-left}
 use Rattle.proof_literal_laws.proofs.FenceFurther.Places.{HasClosing, has-closing}
 use Rattle.proof_literal_laws.proofs.FenceFurther.Trial.{fence-marker, fence-size}
 use Rattle.proof_literal_laws.proofs.Fence.Each.{by-math}
-use Rattle.proof_frame.proofs.PieceFacts.{Over, begins-cut, begins-whole, over-front, over-stands}
+use Rattle.proof_frame.proofs.PieceFacts.{Over, begins-cut, begins-whole, over-front, over-valid}
 use Rattle.md_engine.specs.declared.event.Event.{Event}
 use Rattle.md_outline.specs.Between.{is_between}
-use Rattle.proof_frame.proofs.BetweenFacts.{all-more, between-behind, is_low, low-at, white-between}
-use Rattle.md_containers.specs.ItemsStand.{IsPart}
+use Rattle.proof_frame.proofs.BetweenFacts.{all-more, between-following, is_low, low-at, white-between}
+use Rattle.md_containers.specs.ItemsAllowed.{IsPart}
 use Rattle.proof_frame.proofs.Stretch.{IsGroup, IsPiece, Stretch, stretch-append, stretch-around, stretch-pair}
 use Rattle.proof_frame.proofs.Stretch.{white-piece}
 use Rattle.proof_frame.proofs.ChunkFacts.{in-line}
 
 -- What is left of a line.
 
-chunk-over : (m : ℕ) (line : List ℕ) → NoEnding line → stands_over (chunk_name m) line ≡ true
+chunk-over : (m : ℕ) (line : List ℕ) → NoEnding line → may_cover (chunk_name m) line ≡ true
 chunk-over m line h =
-    by-math (λ name. stands_over name line ≡ true) (m == 36) _ _ (in-line line h) (in-line line h)
+    by-math (λ name. may_cover name line ≡ true) (m == 36) _ _ (in-line line h) (in-line line h)
 
 chunk-begins : (m : ℕ) → begins_in_tab (chunk_name m) ≡ true
 chunk-begins m = by-math (λ name. begins_in_tab name ≡ true) (m == 36) _ _ refl refl
@@ -57,7 +58,7 @@ chunk-stretch bytes m lost r p q is =
 
 -- enough of its marker is a sequence
 sequence-over : (m : ℕ) (ys : List ℕ) → may_begin m ≡ true → nat_le (least_size m) (length ys) ≡ true →
-    list_all (λ b. b == m) ys ≡ true → stands_over (sequence_name m) ys ≡ true
+    list_all (λ b. b == m) ys ≡ true → may_cover (sequence_name m) ys ≡ true
 sequence-over m ys may some all = go (m == 36) refl (m == 96) refl (m == 126) refl may some
   where
     same : (c : ℕ) → (m == c) ≡ true → list_all (λ b. b == c) ys ≡ true
@@ -65,7 +66,7 @@ sequence-over m ys may some all = go (m == 36) refl (m == 96) refl (m == 126) re
 
     go : (x : Bool) → (m == 36) ≡ x → (y : Bool) → (m == 96) ≡ y → (z : Bool) → (m == 126) ≡ z →
         ((m == 96) || (m == 126) || (m == 36)) ≡ true → nat_le (cond x 2 3) (length ys) ≡ true →
-        stands_over (cond x n.MathFlowFenceSequence n.CodeFencedFenceSequence) ys ≡ true
+        may_cover (cond x n.MathFlowFenceSequence n.CodeFencedFenceSequence) ys ≡ true
     go true e y f z g may some = and_from (nat_le 2 (length ys)) (list_all (λ b. b == 36) ys) some (same 36 e)
     go false e true f z g may some =
         or_left (nat_le 3 (length ys) && list_all (λ b. b == 96) ys) _
@@ -93,7 +94,7 @@ sequence_to on text at = past_text (sequence_of on text) at
 pub record HasSequence (bytes : List ℕ) (on : HeldLeaf) (text : List ℕ) (at q : Point) : Type 0 where
   pub over : Over bytes at (sequence_to on text at) (sequence_of on text)
   pub onward : IsTrue (at_or_before at (sequence_to on text at))
-  pub is : stands_over (sequence_name (held_marker on)) (sequence_of on text) ≡ true
+  pub is : may_cover (sequence_name (held_marker on)) (sequence_of on text) ≡ true
   pub left : drop (sequence_to on text at).index bytes ≡ drop (run_len (held_marker on) text) text ++ drop q.index bytes
   pub ends : q ≡ past_text (drop (run_len (held_marker on) text) text) (sequence_to on text at)
 
@@ -105,20 +106,20 @@ has-sequence bytes on r p q e closing =
     let at = past_columns (indent r) r p in
     let seq = take (run_len m text) text in
     let left = drop (run_len m text) text in
-    let behind = drop q.index bytes in
+    let following = drop q.index bytes in
     let end = past_text seq at in
     let least = fence-size on e in
     let more = closing.least in
     let size = closing.size in
     let enough : nat_le (least_size m) (length seq) ≡ true = grind (arith, nat_tests) in
     let some = least-some m seq enough in
-    let stands : drop at.index bytes ≡ seq ++ (left ++ behind) =
-    closing.text ∙ ap (λ (l : List ℕ). l ++ behind) closing.cut ∙ append_assoc seq left behind in
+    let valid : drop at.index bytes ≡ seq ++ (left ++ following) =
+    closing.text ∙ ap (λ (l : List ℕ). l ++ following) closing.cut ∙ append_assoc seq left following in
     record {
-      over = over-front bytes at end seq (left ++ behind) stands some refl;
+      over = over-front bytes at end seq (left ++ following) valid some refl;
       onward = over-onward seq at end some refl;
       is = sequence-over m seq (fence-marker on e) enough closing.all;
-      left = ap (λ (i : ℕ). drop i bytes) (past-index seq at) ∙ drop-past bytes at.index seq (left ++ behind) stands;
+      left = ap (λ (i : ℕ). drop i bytes) (past-index seq at) ∙ drop-past bytes at.index seq (left ++ following) valid;
       ends = closing.ends ∙ ap (λ (l : List ℕ). past_text l at) closing.cut ∙ past_text-append seq left at;
     }
 
@@ -144,7 +145,7 @@ sequence-between bytes on r p q e closing =
     let some = over.some in
     let low : list_all is_low seq ≡ true =
     all-more (λ (b : ℕ). b == m) is_low seq (λ b k. marker-low m b (fence-marker on e) k) closing.all in
-    between-behind bytes end.index
+    between-following bytes end.index
     (low-at bytes seq at.index end.index (end.index - 1) over.slice size low (omega (arith, some))
     (omega (arith, some)))
 
@@ -169,7 +170,7 @@ closing-stretch bytes on r p q e closing =
     (by-math (IsPiece IsPart bytes) (m == 36) _ _
     (record { role_is = tt; no_part = refl; parted = λ x y ys h. h })
     (record { role_is = tt; no_part = refl; parted = λ x y ys h. h })) sequence.onward
-    (over-stands bytes (sequence_name m) at end seq sequence.over (begins-whole (sequence_name m) at closing.whole)
+    (over-valid bytes (sequence_name m) at end seq sequence.over (begins-whole (sequence_name m) at closing.whole)
     sequence.is))
     (over-stretch IsPart bytes n.SpaceOrTab left (drop q.index bytes) end q (white-piece IsPart bytes tt) sequence.left
     sequence.ends (begins-cut n.SpaceOrTab end refl) closing.blank)

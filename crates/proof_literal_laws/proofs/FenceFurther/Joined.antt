@@ -17,7 +17,8 @@ use Rattle.md_leaves.specs.Further.{further_link}
 use Rattle.md_events.specs.Events.Nested.{enter_link, exit, pair}
 use Rattle.md_events.specs.Events.Spelled.{role}
 use Rattle.proof_frame.specs.RestLine.{rest_line}
-use Rattle.proof_literal_laws.specs.Leaf.FenceFurther.{chunk_line, closing_line, fence_further, further_parts, opening_of}
+use Rattle.proof_literal_laws.specs.Leaf.FenceFurther.{chunk_line, closing_line, fence_further, further_parts}
+use Rattle.proof_literal_laws.specs.Leaf.FenceFurther.{opening_of}
 use Rattle.proof_frame.specs.LineColumns.{part_over, past_columns}
 use Rattle.proof_literal_laws.proofs.FenceFurther.Cells.{fence-some}
 use Rattle.proof_literal_laws.proofs.Fence.Each.{by-math}

@@ -3,7 +3,7 @@ use Rattle.std.proofs.Common.{◌≡◌, true, refl}
 use Rattle.md_engine.specs.declared.tokenizer.held_leaf.HeldLeaf.{HeldLeaf}
 use Rattle.md_engine.specs.declared.tokenizer.held_leaf.HeldLeaf.TheVariants as held_leaf
 use Rattle.proof_frame.specs.RestLine.{rest_line}
-use Rattle.proof_frame.specs.HeldLeaf.{may_go_on}
+use Rattle.proof_frame.specs.HeldLeaf.{may_continue}
 use Rattle.md_code.specs.Fence.{is_open as is_fence}
 use Rattle.proof_literal_laws.specs.Leaf.FenceFurther.{fence_further}
 use Rattle.proof_literal_laws.proofs.FenceFurther.Cells.{further-adds, further-fits, further-keeps}
@@ -15,7 +15,7 @@ use Rattle.proof_frame.proofs.LeafLaws.{LeafLaws}
 use Rattle.proof_frame.proofs.OutsideFacts.{LineResolver}
 
 -- a line may continue a block with a fence
-fence-lines : (on : HeldLeaf) → is_fence on ≡ true → may_go_on on ≡ true
+fence-lines : (on : HeldLeaf) → is_fence on ≡ true → may_continue on ≡ true
 fence-lines held_leaf.None e = absurd (cc)
 fence-lines (held_leaf.Text at) e = absurd (cc)
 fence-lines (held_leaf.LazyText at) e = absurd (cc)

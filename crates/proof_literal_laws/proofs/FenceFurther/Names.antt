@@ -23,7 +23,7 @@ use Rattle.proof_literal_laws.specs.Leaf.FenceFurther.{closing_line, closing_par
 use Rattle.proof_literal_laws.specs.Leaf.FenceFurther.{chunk_line, further_parts, opening_of}
 use Rattle.proof_frame.specs.LineColumns.{past_columns, rest_of}
 use Rattle.proof_frame.proofs.ContentFacts.{NoContent}
-use Rattle.proof_frame.proofs.EventNames.{is_told, is_lined}
+use Rattle.proof_frame.proofs.EventNames.{is_recorded, is_lined}
 use Rattle.proof_literal_laws.proofs.IndentRemoved.Names.{is_inside, AreInside, More, either-part, inside-lined}
 use Rattle.proof_literal_laws.proofs.IndentRemoved.Names.{lost-each, more-no_content, over-each}
 use Rattle.proof_literal_laws.proofs.Fence.Each.{by-math}
@@ -128,8 +128,8 @@ inside-each P more options on cells p es h = go (closes_here options on cells)
 
 -- What is in the line has no name of a resolver's, and no content.
 
-block-content : (m : ℕ) → is_told (block_name m) ≡ false
-block-content m = by-math (λ a. is_told a ≡ false) (m == 36) _ _ refl refl
+block-content : (m : ℕ) → is_recorded (block_name m) ≡ false
+block-content m = by-math (λ a. is_recorded a ≡ false) (m == 36) _ _ refl refl
 
 -- Its names may be in a leaf of several lines.
 

@@ -10,7 +10,7 @@ use Rattle.md_engine.specs.declared.configuration.ParseOptions.{ParseOptions}
 use Rattle.md_engine.specs.declared.event.Point.{Point}
 use Rattle.md_engine.specs.declared.tokenizer.held_leaf.HeldLeaf.{HeldLeaf}
 use Rattle.md_meaning.specs.Leaves.{closes}
-use Rattle.md_meaning.specs.Rest.{Rest, behind_indent, cut_tab, has_small_indent, indent, is_blank, run_len, trim_start}
+use Rattle.md_meaning.specs.Rest.{Rest, after_indent, cut_tab, has_small_indent, indent, is_blank, run_len, trim_start}
 use Rattle.md_code.specs.Fence.{held_marker, held_size}
 use Rattle.md_events.proofs.RestLines.{count-none, count-one, indent-trims}
 use Rattle.md_events.specs.Events.Places.{past_text}
@@ -59,10 +59,10 @@ pub has-closing : (options : ParseOptions) (bytes : List ℕ) (on : HeldLeaf) (r
     FurtherAt bytes r p q → closes options (opening_of on) r ≡ true → HasClosing bytes on r p q
 has-closing options bytes on r p q is e =
     record {
-      whole = vs left.spaces (bare left taken.none) stands.stands.cut;
-      text = stands.stands.text_is ∙ lines left.spaces (bare left taken.none)
+      whole = vs left.spaces (bare left taken.none) valid.valid.cut;
+      text = valid.valid.text_is ∙ lines left.spaces (bare left taken.none)
           ∙ ap (λ (l : List ℕ). l ++ drop q.index bytes) trims;
-      ends = stands.ends
+      ends = valid.ends
           ∙ ap (λ (l : List ℕ). past_text l (past_columns (indent r) r p))
           (line left.spaces (bare left taken.none) ∙ trims);
       cut = sym (take-append-drop (run_len m text) text);
@@ -87,18 +87,18 @@ has-closing options bytes on r p q is e =
     inner : (has_small_indent options r ≡ true) × (nat_le (held_size on) (run_len m text) ≡ true)
     inner = and_parts (has_small_indent options r) (nat_le (held_size on) (run_len m text)) outer.0
 
-    stands : HasLeft bytes (indent r) r p q
-    stands = has-left bytes (indent r) r p q is
+    valid : HasLeft bytes (indent r) r p q
+    valid = has-left bytes (indent r) r p q is
 
     left : Rest
-    left = behind_indent r
+    left = after_indent r
 
-    taken : HasIndent unsaid bytes (drop q.index bytes) (indent r) r p [] (behind_indent r)
+    taken : HasIndent unsaid bytes (drop q.index bytes) (indent r) r p [] (after_indent r)
     taken =
         indent-taken unsaid bytes (drop q.index bytes) (indent r) r p [] (further-rest bytes r p q is) tt
         (omega arith)
 
-    trims : (behind_indent r).bytes ≡ trim_start r.bytes
+    trims : (after_indent r).bytes ≡ trim_start r.bytes
     trims = indent-trims r taken.none
 
     run : (length (take (run_len m text) text) ≡ run_len m text)

@@ -16,12 +16,13 @@ use Rattle.md_code.specs.Fence.{chunk_name, fence_name, held_indent, held_marker
 use Rattle.md_events.specs.Events.Nested.{enter, exit}
 use Rattle.md_events.specs.Events.Places.{past_text}
 use Rattle.md_events.specs.Events.Spelled.{AsLine, AsMarkers, FenceLeaf, Fenced, MathLeaf, OpenLeaf, Reading, TextRole}
-use Rattle.md_events.specs.Events.Spelled.{at_fence, empty_line, first_told, joined, noted, on_fences, on_last, on_leaf}
-use Rattle.md_events.specs.Events.Spelled.{read, role, with_fence, without_last}
+use Rattle.md_events.specs.Events.Spelled.{at_fence, empty_line, first_recorded, joined, noted, on_fences, on_last}
+use Rattle.md_events.specs.Events.Spelled.{on_leaf, read, role, with_fence, without_last}
 use Rattle.md_events.proofs.SpelledLemmas.{read-from, read-quiet}
-use Rattle.proof_literal_laws.specs.Leaf.FenceFurther.{chunk_line, closing_line, closing_part, further_parts, opening_of}
+use Rattle.proof_literal_laws.specs.Leaf.FenceFurther.{chunk_line, closing_line, closing_part, further_parts}
+use Rattle.proof_literal_laws.specs.Leaf.FenceFurther.{opening_of}
 use Rattle.proof_frame.specs.LineColumns.{columns_part, part_over, past_columns}
-use Rattle.proof_frame.proofs.IndentRemoved.Reads.{columns-quiet, empty-joined, leaf-told, on-last}
+use Rattle.proof_frame.proofs.IndentRemoved.Reads.{columns-quiet, empty-joined, leaf-recorded, on-last}
 use Rattle.proof_literal_laws.proofs.IndentRemoved.Reads.{lost-read}
 use Rattle.proof_literal_laws.proofs.Fence.Each.{by-math}
 use Rattle.proof_frame.proofs.IndentRemoved.Places.{FurtherAt}
@@ -56,18 +57,18 @@ without-last (y ∷ []) x = refl
 without-last (y ∷ z ∷ ys) x = ap (λ (l : List Line). y ∷ l) (without-last (z ∷ ys) x)
 
 -- it becomes what is said of it
-line-told : (before : List Line) (line : Line) (fences : Fenced) → IsFenced before fences →
+line-recorded : (before : List Line) (line : Line) (fences : Fenced) → IsFenced before fences →
     on_last (λ l. joined l line) fences.lines ≡ before ++ line ∷ []
-line-told before line fences h =
+line-recorded before line fences h =
     ap (on_last (λ l. joined l line)) h.lines ∙ on-last (λ l. joined l line) before empty_line
     ∙ ap (λ (l : Line). before ++ l ∷ []) (empty-joined line)
 
 line-noted : (before : List Line) (line : Line) (leaf : OpenLeaf) → IsOpen before leaf →
     noted AsLine line leaf ≡ with_lines (before ++ line ∷ []) leaf
 line-noted before line (FenceLeaf fences info meta) h =
-    ap (λ (l : List Line). FenceLeaf (record fences { lines = l }) info meta) (line-told before line fences h)
+    ap (λ (l : List Line). FenceLeaf (record fences { lines = l }) info meta) (line-recorded before line fences h)
 line-noted before line (MathLeaf fences meta) h =
-    ap (λ (l : List Line). MathLeaf (record fences { lines = l }) meta) (line-told before line fences h)
+    ap (λ (l : List Line). MathLeaf (record fences { lines = l }) meta) (line-recorded before line fences h)
 line-noted before line _ h = absurd h
 
 -- or stays empty
@@ -89,20 +90,20 @@ fence-closed before fences h =
     ∙ ap (λ (l : List Line). let f : Fenced = record fences { lines = l; closed = true } in f)
     (ap without_last h.lines ∙ without-last before empty_line)
 
-markers-stand : (markers now : List ℕ) → (length markers == 0) ≡ false → first_told markers now ≡ markers
-markers-stand [] now e = cc
-markers-stand (b ∷ bs) now e = refl
+markers-are_valid : (markers now : List ℕ) → (length markers == 0) ≡ false → first_recorded markers now ≡ markers
+markers-are_valid [] now e = cc
+markers-are_valid (b ∷ bs) now e = refl
 
 closing-noted : (before : List Line) (line : Line) (leaf : OpenLeaf) → IsOpen before leaf →
     noted AsMarkers line (at_fence leaf) ≡ with_closing before leaf
 closing-noted before line (FenceLeaf fences info meta) h =
     ap (λ (f : Fenced). noted AsMarkers line (FenceLeaf f info meta)) (fence-closed before fences h)
     ∙ ap (λ (ms : List ℕ). FenceLeaf (record fences { markers = ms; lines = before; closed = true }) info meta)
-    (markers-stand fences.markers line.text h.some)
+    (markers-are_valid fences.markers line.text h.some)
 closing-noted before line (MathLeaf fences meta) h =
     ap (λ (f : Fenced). noted AsMarkers line (MathLeaf f meta)) (fence-closed before fences h)
     ∙ ap (λ (ms : List ℕ). MathLeaf (record fences { markers = ms; lines = before; closed = true }) meta)
-    (markers-stand fences.markers line.text h.some)
+    (markers-are_valid fences.markers line.text h.some)
 closing-noted before line _ h = absurd h
 
 -- Events.
@@ -112,11 +113,11 @@ pub chunk-role : (m : ℕ) → role (chunk_name m) ≡ TextRole AsLine
 chunk-role m = by-math (λ name. role name ≡ TextRole AsLine) (m == 36) _ _ refl refl
 
 -- a closing fence
-closing-told : (bytes : List ℕ) (m : ℕ) (p q end : Point) (rd : Reading) (more : List Event) →
+closing-recorded : (bytes : List ℕ) (m : ℕ) (p q end : Point) (rd : Reading) (more : List Event) →
     read bytes rd (enter (fence_name m) p ∷ enter (sequence_name m) p ∷ exit (sequence_name m) end ∷ more) ≡
     read bytes
     (on_leaf (noted AsMarkers (code.chunk_line bytes p end)) (record (on_leaf at_fence rd) { text = None })) more
-closing-told bytes m p q end rd more =
+closing-recorded bytes m p q end rd more =
     by-math
     (λ name.
     read bytes rd (enter name p ∷ enter (sequence_name m) p ∷ exit (sequence_name m) end ∷ more) ≡
@@ -149,11 +150,11 @@ closing-read bytes m text at q rd leaf before none is shape =
     let line = code.chunk_line bytes at end in
     let opened : Reading = record rd { leaf = Some (at_fence leaf) } in
     let closed : Reading = record rd { leaf = Some (with_closing before leaf) } in
-    closing-told bytes m at q end rd (white ++ exit (fence_name m) q ∷ [])
+    closing-recorded bytes m at q end rd (white ++ exit (fence_name m) q ∷ [])
     ∙ ap (λ (x : Reading). read bytes x (white ++ exit (fence_name m) q ∷ []))
     (ap (λ (l : Option OpenLeaf).
     on_leaf (noted AsMarkers line) (record rd { leaf = option_map at_fence l; text = None })) is
-    ∙ leaf-told opened (noted AsMarkers line) (at_fence leaf) none refl
+    ∙ leaf-recorded opened (noted AsMarkers line) (at_fence leaf) none refl
     ∙ ap (λ (l : OpenLeaf). let x : Reading = record rd { leaf = Some l } in x) (closing-noted before line leaf shape))
     ∙ read-from bytes closed closed white (exit (fence_name m) q ∷ [])
     (read-quiet bytes closed white (white-quiet (drop (run_len m text) text) end q))

@@ -15,7 +15,8 @@ use Rattle.md_outline.specs.Outlined.{has_unlisted_name}
 use Rattle.md_outline.specs.Roles.{is_unlisted}
 use Rattle.md_events.specs.Events.Nested.{exit}
 use Rattle.md_events.specs.Events.Spelled.{role}
-use Rattle.proof_literal_laws.specs.Leaf.FenceFurther.{chunk_line, closing_line, closing_part, further_parts, opening_of}
+use Rattle.proof_literal_laws.specs.Leaf.FenceFurther.{chunk_line, closing_line, closing_part, further_parts}
+use Rattle.proof_literal_laws.specs.Leaf.FenceFurther.{opening_of}
 use Rattle.proof_frame.specs.LineColumns.{columns_part, part_over, past_columns}
 use Rattle.proof_frame.proofs.EachEvent.{each-append}
 use Rattle.proof_frame.proofs.IndentRemoved.Shown.{left-clear, whole-clear, OfPoints, columns-points, lost-points}
@@ -70,7 +71,7 @@ further-clear options bytes on r p q e is begin =
     (points-each (λ x. clear bytes x ≡ true) options on r p q begin (whole-clear bytes q is.at.end_whole)
     (λ room.
     left-clear bytes (drop q.index bytes) (lose room r) (past_columns room r p)
-    (has-left bytes room r p q is).stands)
+    (has-left bytes room r p q is).valid)
     (λ f.
     whole-clear bytes (sequence_end on r p)
     (has-sequence bytes on r p q e (has-closing options bytes on r p q is f)).over.whole))

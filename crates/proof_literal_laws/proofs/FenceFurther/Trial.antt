@@ -12,13 +12,13 @@ use Rattle.md_meaning.specs.Leaves.{closes, least_size}
 use Rattle.md_meaning.specs.Rest.{Rest}
 use Rattle.md_code.specs.Fence.{held_indent, held_marker, held_size, may_begin, is_open as is_fence}
 use Rattle.md_code.specs.FenceLine.{closes_here, further_events}
-use Rattle.md_code.specs.FenceRule.{before_chunk, before_close, behind_white_of, close_at, close_end, closed_or_content}
+use Rattle.md_code.specs.FenceRule.{before_chunk, before_close, after_white_of, close_at, close_end, closed_or_content}
 use Rattle.md_code.specs.FenceRule.{content_at, further_at, in_chunk, in_close, is_end, is_line, run_rest, run_size}
 use Rattle.md_code.proofs.FenceCells.{line-all, line-done, run-length}
 use Rattle.md_code.proofs.FenceFurther.{further-end}
 use Rattle.md_code.proofs.FenceWhole.{further-whole}
 use Rattle.md_events.specs.Ahead.{begins_white, from_ending, line_end, white_rest}
-use Rattle.md_events.specs.Look.{seen_behind}
+use Rattle.md_events.specs.Look.{seen_after}
 use Rattle.md_events.specs.Spaces.{IsRest, small_indent}
 use Rattle.md_events.proofs.RestCells.{white-length}
 use Rattle.proof_frame.specs.HeldLeaf.{takes_lazy}
@@ -34,7 +34,7 @@ pub fence-size : (on : HeldLeaf) → is_fence on ≡ true → nat_le (least_size
 fence-size on e = (and_parts (may_begin (held_marker on)) (nat_le (least_size (held_marker on)) (held_size on)) e).1
 
 -- Any byte may be first.
-pub further-looked : (options : ParseOptions) (on : HeldLeaf) (cells : List Cell) (b : ℕ) → seen_behind cells ≡ Some b →
+pub further-looked : (options : ParseOptions) (on : HeldLeaf) (cells : List Cell) (b : ℕ) → seen_after cells ≡ Some b →
     fence_further.may_begin on (begins_white cells) b ≡ false → fence_further.takes options on cells ≡ false
 further-looked options on cells b seen e = cc
 
@@ -77,11 +77,11 @@ further-refused options cells h on is e = let bad : true ≡ false = sym on ∙ 
 
 -- What is left of a line.
 
-white-shrinks : (n room : ℕ) (behind : List Cell → Here → Outcome) (cells : List Cell) (h : Here) →
+white-shrinks : (n room : ℕ) (following : List Cell → Here → Outcome) (cells : List Cell) (h : Here) →
     length cells ≤ n →
-    ((cells : List Cell) (h : Here) → length cells ≤ n → Shrinks n (behind cells h)) →
-    Shrinks n (behind_white_of room behind cells h)
-white-shrinks n room behind cells h le shrinks =
+    ((cells : List Cell) (h : Here) → length cells ≤ n → Shrinks n (following cells h)) →
+    Shrinks n (after_white_of room following cells h)
+white-shrinks n room following cells h le shrinks =
     cond-shrinks n (begins_white cells) _ _
     (let less = white-length room cells in shrinks (white_rest room cells) _ (omega (arith, le, less)))
     (shrinks cells h le)

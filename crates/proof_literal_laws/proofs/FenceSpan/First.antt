@@ -9,20 +9,20 @@ use Rattle.md_engine.specs.declared.event.Event.{Event}
 use Rattle.md_engine.specs.declared.event.Name.{Name}
 use Rattle.md_engine.specs.declared.event.Name.TheVariants as n
 use Rattle.md_engine.specs.declared.event.Point.{Point}
-use Rattle.md_meaning.specs.Leaves.{behind_word, first_word, nonempty, opening}
+use Rattle.md_meaning.specs.Leaves.{after_word, first_word, nonempty, opening}
 use Rattle.md_meaning.specs.Rest.{run_len, trim_start}
 use Rattle.md_meaning.specs.State.{Opening}
 use Rattle.md_meaning.specs.Texts.{first_byte}
 use Rattle.md_code.specs.Fence.{fence_name, sequence_name, block_name}
 use Rattle.md_events.specs.Events.Grammar.{Expression, plain_text, unread_text}
 use Rattle.md_events.specs.Events.Nested.{around}
-use Rattle.md_events.specs.Events.Pieces.{stands_over}
+use Rattle.md_events.specs.Events.Pieces.{may_cover}
 use Rattle.md_events.specs.Events.Places.{past_text}
 use Rattle.md_events.specs.Events.Spelled.{OpenLeaf, Reading, fresh, read, role}
 use Rattle.md_events.proofs.EndingsLemmas.{AreOthers, stays-others}
 use Rattle.md_events.proofs.GrammarLemmas.{Leads, leads-around}
-use Rattle.md_outline.specs.LinesStand.{AtEnding, begun_site}
-use Rattle.md_outline.specs.Roles.{is_told, is_unlisted}
+use Rattle.md_outline.specs.LinesAllowed.{AtEnding, begun_site}
+use Rattle.md_outline.specs.Roles.{is_recorded, is_unlisted}
 use Rattle.proof_literal_laws.specs.Leaf.Fence.{Inner, fence_parts, linked, past_white, read_inner}
 use Rattle.proof_literal_laws.proofs.Fence.Each.{by-math}
 use Rattle.proof_frame.proofs.OtherNames as other_names
@@ -30,14 +30,14 @@ use Rattle.proof_literal_laws.proofs.Fence.Laid.{Laid}
 use Rattle.proof_literal_laws.proofs.Fence.Reads as reading
 use Rattle.proof_literal_laws.proofs.Fence.Walk.{sequence-over}
 use Rattle.proof_literal_laws.proofs.Fence.Words.{Word, fence-word, linked-word, read-word}
-use Rattle.proof_literal_laws.proofs.FenceFurther.Grammar.{behind_line}
+use Rattle.proof_literal_laws.proofs.FenceFurther.Grammar.{following_line}
 use Rattle.proof_literal_laws.proofs.FenceSpan.Open.{AreMarks, begin_of, kind_of, leaf_by, leaf_of}
 use Rattle.proof_literal_laws.proofs.FenceSpan.OutlineSites.{first-passes}
 use Rattle.proof_frame.proofs.FillFacts.{PartsRead, fill-append, fill-around}
 use Rattle.proof_frame.proofs.PartedFacts.{Still, clear}
 use Rattle.proof_frame.proofs.PlainFacts.{known-around}
 use Rattle.proof_frame.proofs.LeafLines.Inside.{InsideFacts}
-use Rattle.md_containers.specs.ItemsStand.{IsPart}
+use Rattle.md_containers.specs.ItemsAllowed.{IsPart}
 use Rattle.proof_frame.proofs.Stretch.{stretch-around}
 use Rattle.proof_literal_laws.specs.Leaf.Fence.{fence_line, white_part}
 use Rattle.proof_literal_laws.proofs.Fence.Facts.{FenceInside, fence-inside}
@@ -66,7 +66,7 @@ marks-are options bytes line rest p columns is =
     positive : (k : ℕ) → (suc k == 0) ≡ false
     positive k = grind (arith, nat_tests)
 
-    go : (ys : List ℕ) → stands_over (sequence_name (first_byte text)) ys ≡ true →
+    go : (ys : List ℕ) → may_cover (sequence_name (first_byte text)) ys ≡ true →
         reading.FirstIs ys (first_byte text) → AreMarks (opened_by columns text) ys
     go [] over first = absurd (reading.sequence-some (first_byte text) over)
     go (c ∷ cs) over first = record { some = positive (length cs); first = first }
@@ -83,7 +83,7 @@ leaf-same columns text = go (first_byte text == 36)
     go : (x : Bool) →
         reading.leaf_by x (marks_of text) xs ≡
         leaf_by x (record { markers = marks_of text; lines = []; closed = false })
-        (cond x None (nonempty (first_word xs))) (nonempty (cond x xs (behind_word xs)))
+        (cond x None (nonempty (first_word xs))) (nonempty (cond x xs (after_word xs)))
     go true = refl
     go false = refl
 
@@ -97,7 +97,7 @@ first_inside inner line p e =
 
 first-leads : (text : Expression) (inner : Inner) → Word text inner → (line : List ℕ) (p e : Point) →
     let m = first_byte (trim_start line) in
-    Leads text (begin_of m ∷ []) (behind_line plain_text m ∷ []) (first_inside inner line p e)
+    Leads text (begin_of m ∷ []) (following_line plain_text m ∷ []) (first_inside inner line p e)
 first-leads text inner word line p e =
     let xs = trim_start line in
     let m = first_byte xs in
@@ -113,15 +113,15 @@ fence-known : (m : ℕ) → is_unlisted (role (fence_name m)) ≡ true
 fence-known m =
     by-math (λ x. is_unlisted (role x) ≡ true) (m == 36) n.MathFlowFence n.CodeFencedFence refl refl
 
-fence-untold : (m : ℕ) → is_told (role (fence_name m)) ≡ false
-fence-untold m = by-math (λ x. is_told (role x) ≡ false) (m == 36) n.MathFlowFence n.CodeFencedFence refl refl
+fence-untold : (m : ℕ) → is_recorded (role (fence_name m)) ≡ false
+fence-untold m = by-math (λ x. is_recorded (role x) ≡ false) (m == 36) n.MathFlowFence n.CodeFencedFence refl refl
 
 pub first-facts : (options : ParseOptions) (bytes line rest : List ℕ) (p : Point) (columns : ℕ) →
     Laid options bytes line p rest →
     let text = trim_start line in
     let m = first_byte text in
     let e = past_text line p in
-    InsideFacts bytes (past_white line p) e (begin_of m) (behind_line plain_text m) (fresh (kind_of m))
+    InsideFacts bytes (past_white line p) e (begin_of m) (following_line plain_text m) (fresh (kind_of m))
     (leaf_of (opened_by columns text) (marks_of text) [] false) (begun_site (kind_of m)) (AtEnding (kind_of m))
     (first_inside linked line p e) (first_inside (read_inner bytes) line p e)
 first-facts options bytes line rest p columns is = record {
@@ -178,7 +178,8 @@ first-facts options bytes line rest p columns is = record {
     h : FenceInside bytes q e unread done
     h = fence-inside options bytes line rest p is
 
-    untold : (x : Point) → (not (is_told (role (fence_name (first_byte (trim_start line))))) || clear bytes x) ≡ true
+    untold : (x : Point) → (not (is_recorded (role (fence_name (first_byte (trim_start line)))))
+        || clear bytes x) ≡ true
     untold x = ap (λ (b : Bool). not b || clear bytes x) (fence-untold (first_byte (trim_start line)))
 
 -- No ending is there, and no begin or end of a leaf.
@@ -209,7 +210,7 @@ fence-filled options bytes line rest p is =
     fill-append bytes (white_part line p) (white_part line p)
     (around (block_name m) q e (around (fence_name m) q e us))
     (around (block_name m) q e (around (fence_name m) q e es))
-    (white-lead bytes line rest p is.stands is.cut).stretch.filled
+    (white-lead bytes line rest p is.valid is.cut).stretch.filled
     (fill-around bytes (block_name m) q e (around (fence_name m) q e us) (around (fence_name m) q e es) block
     (fill-around bytes (fence_name m) q e us es (fence-kind m)
     (fence-inside options bytes line rest p is).stretch.filled))

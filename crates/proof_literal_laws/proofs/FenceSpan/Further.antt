@@ -12,7 +12,7 @@ use Rattle.md_meaning.specs.Rest.{Rest, cut_tab, line_of, lose}
 use Rattle.md_meaning.specs.State.{Opening}
 use Rattle.md_meaning.specs.Tree.{Line}
 use Rattle.md_code.specs.Fence.{held_indent, held_marker, is_open as is_fence}
-use Rattle.md_outline.specs.LinesStand.{AtLine, Site}
+use Rattle.md_outline.specs.LinesAllowed.{AtLine, Site}
 use Rattle.md_events.specs.Events.Grammar.{Expression, Nothing, plain_text, unread_text}
 use Rattle.md_events.specs.Events.Places.{past_text}
 use Rattle.md_events.specs.Events.Spelled.{OpenLeaf, Reading, next_line}
@@ -26,8 +26,8 @@ use Rattle.proof_literal_laws.proofs.FenceFurther.Joined.{further-empty, nothing
 use Rattle.proof_frame.proofs.IndentRemoved.Places.{FurtherAt, line-over}
 use Rattle.proof_literal_laws.proofs.FenceFurther.Reads.{further-closing-read, further-line-read}
 use Rattle.proof_literal_laws.proofs.FenceFurther.Shown.{further-known}
-use Rattle.proof_literal_laws.proofs.FenceSpan.Open.{AreMarks, behind-same, closing-told, kind_of, leaf_of, line-same}
-use Rattle.proof_literal_laws.proofs.FenceSpan.Open.{lines-told, opened-line}
+use Rattle.proof_literal_laws.proofs.FenceSpan.Open.{AreMarks, following-same, closing-recorded, kind_of, leaf_of}
+use Rattle.proof_literal_laws.proofs.FenceSpan.Open.{line-same, lines-recorded, opened-line}
 use Rattle.proof_literal_laws.proofs.FenceSpan.OutlineSites.{further-passes, further_site}
 use Rattle.proof_frame.proofs.PiecesLemmas.{Covered}
 use Rattle.proof_frame.proofs.LeafLines.Inside.{InsideFacts, inside-none}
@@ -40,7 +40,7 @@ left-same text options on r = go (closes options (opening_of on) r)
   where
     by : (line : List ℕ) → left_by text (held_marker on) line ≡ left_by plain_text (held_marker on) line
     by [] = line-same text (held_marker on)
-    by (b ∷ bs) = behind-same text (held_marker on)
+    by (b ∷ bs) = following-same text (held_marker on)
 
     go : (x : Bool) →
         cond x Nothing (left_by text (held_marker on) (rest_line (lose (held_indent on) r))) ≡
@@ -96,7 +96,7 @@ line-reads options bytes o marks lines r p q are is other rd none at =
     at
     (opened-line o marks lines are)
     ∙ ap (λ (l : OpenLeaf). let x : Reading = record rd { leaf = Some l } in x)
-    (lines-told o marks lines (lines ++ line_of (lose o.indent r) ∷ []))
+    (lines-recorded o marks lines (lines ++ line_of (lose o.indent r) ∷ []))
 
 pub closing-reads : (options : ParseOptions) (bytes : List ℕ) (o : Opening) (marks : List ℕ) (lines : List Line)
     (r : Rest) (p q : Point) →
@@ -106,7 +106,7 @@ pub closing-reads : (options : ParseOptions) (bytes : List ℕ) (o : Opening) (m
 closing-reads options bytes o marks lines r p q are closed rd none at =
     further-closing-read options bytes (held_of o) r p q closed rd (next_line (leaf_of o marks lines false)) lines none
     at (opened-line o marks lines are)
-    ∙ ap (λ (l : OpenLeaf). let x : Reading = record rd { leaf = Some l } in x) (closing-told o marks lines)
+    ∙ ap (λ (l : OpenLeaf). let x : Reading = record rd { leaf = Some l } in x) (closing-recorded o marks lines)
 
 -- A line on which nothing is.
 pub record IsBare (options : ParseOptions) (on : HeldLeaf) (r : Rest) (p q : Point) : Type 0 where

@@ -7,7 +7,7 @@ use Rattle.md_engine.specs.declared.event.Event.{Event}
 use Rattle.md_engine.specs.declared.event.Name.{Name}
 use Rattle.md_engine.specs.declared.event.Name.TheVariants as n
 use Rattle.md_engine.specs.declared.event.Point.{Point}
-use Rattle.md_containers.specs.ItemsStand.{IsPart}
+use Rattle.md_containers.specs.ItemsAllowed.{IsPart}
 use Rattle.md_meaning.specs.Leaves.{Opened}
 use Rattle.md_meaning.specs.Rest.{Rest, is_white}
 use Rattle.md_meaning.specs.State.{OpenFence, Opening}
@@ -16,7 +16,7 @@ use Rattle.md_leaves.specs.Spanned.{has_lines}
 use Rattle.md_leaves.proofs.SpannedLines.{IsBegin, IsFurther, NoLines}
 use Rattle.md_code.specs.Fence.{block_name, held_marker}
 use Rattle.md_leaves.specs.Further.{further_link}
-use Rattle.md_outline.specs.LinesStand.{AtEnding, begun_site}
+use Rattle.md_outline.specs.LinesAllowed.{AtEnding, begun_site}
 use Rattle.md_events.specs.Events.Grammar.{Expression, plain_text}
 use Rattle.md_events.specs.Events.Nested.{enter, enter_link, exit, pair}
 use Rattle.md_events.specs.Events.Spelled.{OpenLeaf, LeafRole, Role, block_of, fresh, role}
@@ -27,7 +27,7 @@ use Rattle.proof_literal_laws.specs.Leaf.Fence.{fence_leaf, linked, opening_at, 
 use Rattle.proof_literal_laws.specs.Leaf.FenceFurther.{fence_further, further_parts}
 use Rattle.proof_frame.specs.Row.{Row, last_row, span_by}
 use Rattle.proof_literal_laws.proofs.Fence.Kept as kept
-use Rattle.proof_literal_laws.proofs.FenceFurther.Grammar.{behind-line-ends, behind_line}
+use Rattle.proof_literal_laws.proofs.FenceFurther.Grammar.{following-line-ends, following_line}
 use Rattle.proof_literal_laws.proofs.FenceFurther.Joined.{block-lines, further-begins, further-ends, further-is}
 use Rattle.proof_literal_laws.proofs.FenceFurther.Parts.{further-lines}
 use Rattle.proof_frame.proofs.IndentRemoved.Places.{further-at}
@@ -45,7 +45,7 @@ use Rattle.proof_frame.proofs.LeafLines.Framed.{framed_by}
 use Rattle.proof_frame.proofs.LeafLines.Inside.{InsideFacts}
 use Rattle.proof_frame.proofs.LeafLines.Leaf.{IsLeafName}
 use Rattle.proof_frame.proofs.LeafLines.Lines.{SpanFirst}
-use Rattle.proof_frame.proofs.SpanLaws.{AreBehind, IsLineOf, IsNone, IsSpanned, SpanLaws, come_behind}
+use Rattle.proof_frame.proofs.SpanLaws.{AreAfter, IsLineOf, IsNone, IsSpanned, SpanLaws, becomes_after}
 use Rattle.proof_frame.proofs.SpannedFacts.{AreUnspanned}
 
 -- Each line by itself.
@@ -114,19 +114,19 @@ further-spanned options bytes row is =
 
 -- what follows the first
 rest-of : (options : ParseOptions) (bytes : List ℕ) (row : Row) (rows : List Row) →
-    (is : IsLineOf options bytes fence_leaf row) → (are : AreBehind options bytes fence_further row rows) →
-    HasRest bytes (name_of is.rest) (behind_line plain_text (first_byte (text_of is.rest)))
+    (is : IsLineOf options bytes fence_leaf row) → (are : AreAfter options bytes fence_further row rows) →
+    HasRest bytes (name_of is.rest) (following_line plain_text (first_byte (text_of is.rest)))
     (leaf_of (opening_of is.rest) (marks_of (text_of is.rest)) [] false)
     (AtEnding (kind_of (first_byte (text_of is.rest)))) row rows
-    (come_behind options bytes fence_further row rows are (Opened (OpenFence (opening_at is.rest) [])))
+    (becomes_after options bytes fence_further row rows are (Opened (OpenFence (opening_at is.rest) [])))
 rest-of options bytes row rows is are =
     subst
     (λ (o : Opening).
-    HasRest bytes (name_of is.rest) (behind_line plain_text m) leaf (AtEnding (kind_of m)) row rows
-    (come_behind options bytes fence_further row rows are (Opened (OpenFence o [])))) (sym (opening-same is.rest))
+    HasRest bytes (name_of is.rest) (following_line plain_text m) leaf (AtEnding (kind_of m)) row rows
+    (becomes_after options bytes fence_further row rows are (Opened (OpenFence o [])))) (sym (opening-same is.rest))
     (rest-open options bytes (opening_of is.rest) (marks_of (text_of is.rest)) row rows
-    (line-marks options bytes row is) (line-fence options bytes row is) [] (behind_line plain_text m) true
-    (behind-line-ends plain_text m) refl (line-held options bytes row is) are)
+    (line-marks options bytes row is) (line-fence options bytes row is) [] (following_line plain_text m) true
+    (following-line-ends plain_text m) refl (line-held options bytes row is) are)
   where
     m : ℕ
     m = first_byte (text_of is.rest)
@@ -137,12 +137,12 @@ rest-of options bytes row rows is are =
 -- The facts.
 
 span-of : (options : ParseOptions) (bytes : List ℕ) (row : Row) (rows : List Row) →
-    (is : IsLineOf options bytes fence_leaf row) → (are : AreBehind options bytes fence_further row rows) →
+    (is : IsLineOf options bytes fence_leaf row) → (are : AreAfter options bytes fence_further row rows) →
     LeafFacts bytes (Some (block_of (rest-of options bytes row rows is are).to)) (not (last_row row rows).empty)
     row.first (last_row row rows).end (span_by row_unread row rows) (framed_by (row_done bytes) row rows)
 span-of options bytes row rows is are =
     rest-facts bytes (name_of is.rest) (kind_of m) row rows
-    (come_behind options bytes fence_further row rows are (Opened (OpenFence (opening_at is.rest) []))) named
+    (becomes_after options bytes fence_further row rows are (Opened (OpenFence (opening_at is.rest) []))) named
     (fence-lined m) first
     (rest-of options bytes row rows is are) others.0 others.1 (line-full options bytes row is)
   where
@@ -187,13 +187,13 @@ span-of options bytes row rows is are =
           (done-is options bytes row is);
       unread_starts = refl;
       starts = refl;
-      left = behind_line plain_text m;
+      left = following_line plain_text m;
       leaf = leaf;
       site = AtEnding (kind_of m);
       facts =
           subst
           (λ (x : Expression).
-          InsideFacts bytes at row.end x (behind_line plain_text m) (fresh (kind_of m)) leaf (begun_site (kind_of m))
+          InsideFacts bytes at row.end x (following_line plain_text m) (fresh (kind_of m)) leaf (begun_site (kind_of m))
           (AtEnding (kind_of m)) us es) (sym (fence-begin m)) (line-inside options bytes row is);
     }
 

@@ -7,13 +7,13 @@ use Rattle.md_meaning.specs.Texts.{first_byte}
 use Rattle.md_meaning.specs.Tree as t
 use Rattle.md_meaning.specs.Tree.{Line}
 use Rattle.md_code.specs.Fence.{block_name}
-use Rattle.md_outline.specs.LinesStand.{HasLines}
+use Rattle.md_outline.specs.LinesAllowed.{HasLines}
 use Rattle.md_events.specs.Events.Endings.{IsLeaf, on_line}
-use Rattle.md_events.specs.Events.Grammar.{Expression, behind, behind_block, blocks, inside, plain_text}
+use Rattle.md_events.specs.Events.Grammar.{Expression, following, after_block, blocks, inside, plain_text}
 use Rattle.md_events.specs.Events.Spelled.{FenceLeaf, Fenced, LeafKind, MathLeaf, OfFence}
 use Rattle.md_events.specs.Events.Spelled.{OfMath, OpenLeaf, LeafRole, block_of, next_line, role}
 use Rattle.md_events.specs.Events.Tiles.{part_kind}
-use Rattle.proof_literal_laws.proofs.FenceFurther.Grammar.{behind_line, by-marker, in_line}
+use Rattle.proof_literal_laws.proofs.FenceFurther.Grammar.{following_line, by-marker, in_line}
 use Rattle.proof_literal_laws.proofs.FenceFurther.Reads.{IsOpen, with_closing, with_lines}
 use Rattle.proof_frame.proofs.LeafLines.Leaf.{IsLeafName}
 
@@ -32,7 +32,7 @@ fence-name m = record {
     is = by-marker (λ x. role (cond x n.MathFlow n.CodeFenced) ≡ LeafRole (cond x OfMath OfFence)) m refl refl;
     leaf = by-marker (λ x. on_line (cond x n.MathFlow n.CodeFenced) ≡ IsLeaf) m refl refl;
     no_part = by-marker (λ x. part_kind (cond x n.MathFlow n.CodeFenced) ≡ None) m refl refl;
-    block = by-marker (λ x. behind (cond x n.MathFlow n.CodeFenced) blocks ≡ behind_block) m refl refl;
+    block = by-marker (λ x. following (cond x n.MathFlow n.CodeFenced) blocks ≡ after_block) m refl refl;
   };
   begin = begin_of m;
   begins = λ text. begin-same text m;
@@ -53,15 +53,16 @@ unfolding fence-name
 fence-begin m = refl
 
 -- The same after its opening fence, and in a further line.
-pub behind-same : (text : Expression) (m : ℕ) → behind_line text m ≡ behind_line plain_text m
-behind-same text m =
+pub following-same : (text : Expression) (m : ℕ) → following_line text m ≡ following_line plain_text m
+following-same text m =
     by-marker
     (λ x.
-    behind (cond x n.MathFlowFence n.CodeFencedFence) (inside text (cond x n.MathFlow n.CodeFenced)) ≡
-    behind (cond x n.MathFlowFence n.CodeFencedFence) (inside plain_text (cond x n.MathFlow n.CodeFenced))) m refl refl
+    following (cond x n.MathFlowFence n.CodeFencedFence) (inside text (cond x n.MathFlow n.CodeFenced)) ≡
+    following (cond x n.MathFlowFence n.CodeFencedFence) (inside plain_text (cond x n.MathFlow n.CodeFenced))) m refl
+    refl
 
 pub line-same : (text : Expression) (m : ℕ) → in_line text m ≡ in_line plain_text m
-line-same text m = ap (λ (x : Expression). behind n.LineEnding x) (behind-same text m)
+line-same text m = ap (λ (x : Expression). following n.LineEnding x) (following-same text m)
 
 -- The leaf.
 
@@ -91,9 +92,9 @@ opened-line o marks lines is = go (o.marker == 36)
     go true = record { lines = refl; some = is.some; unclosed = refl }
     go false = record { lines = refl; some = is.some; unclosed = refl }
 
-pub lines-told : (o : Opening) (marks : List ℕ) (lines more : List Line) →
+pub lines-recorded : (o : Opening) (marks : List ℕ) (lines more : List Line) →
     with_lines more (next_line (leaf_of o marks lines false)) ≡ leaf_of o marks more false
-lines-told o marks lines more = go (o.marker == 36)
+lines-recorded o marks lines more = go (o.marker == 36)
   where
     go : (x : Bool) →
         with_lines more
@@ -102,9 +103,9 @@ lines-told o marks lines more = go (o.marker == 36)
     go true = refl
     go false = refl
 
-pub closing-told : (o : Opening) (marks : List ℕ) (lines : List Line) →
+pub closing-recorded : (o : Opening) (marks : List ℕ) (lines : List Line) →
     with_closing lines (next_line (leaf_of o marks lines false)) ≡ leaf_of o marks lines true
-closing-told o marks lines = go (o.marker == 36)
+closing-recorded o marks lines = go (o.marker == 36)
   where
     go : (x : Bool) →
         with_closing lines

@@ -13,7 +13,7 @@ use Rattle.md_meaning.specs.Rest.{Rest, indent, is_white, trim_start}
 use Rattle.md_meaning.specs.State.{Opening}
 use Rattle.md_meaning.specs.Texts.{first_byte}
 use Rattle.md_code.specs.Fence.{block_name, is_open as is_fence}
-use Rattle.md_outline.specs.LinesStand.{AtEnding, begun_site}
+use Rattle.md_outline.specs.LinesAllowed.{AtEnding, begun_site}
 use Rattle.md_events.specs.Events.Grammar.{plain_text}
 use Rattle.md_events.specs.Events.Nested.{around, enter, exit, pair}
 use Rattle.md_events.specs.Events.Places.{past_text}
@@ -26,11 +26,11 @@ use Rattle.proof_frame.specs.Row.{Row, but_end}
 use Rattle.proof_literal_laws.proofs.Fence.Laid.{Laid, laid}
 use Rattle.proof_literal_laws.proofs.Fence.Opened.{fence-starts}
 use Rattle.proof_literal_laws.proofs.FenceFurther.Definition.{held_of, opening-fence}
-use Rattle.proof_literal_laws.proofs.FenceFurther.Grammar.{behind_line}
+use Rattle.proof_literal_laws.proofs.FenceFurther.Grammar.{following_line}
 use Rattle.proof_literal_laws.proofs.FenceSpan.First.{fence-filled, first-facts, first_inside, marks-are, marks_of}
 use Rattle.proof_literal_laws.proofs.FenceSpan.First.{opened_by}
 use Rattle.proof_literal_laws.proofs.FenceSpan.Open.{AreMarks, begin_of, kind_of, leaf_of}
-use Rattle.proof_frame.proofs.LeafLines.Rest.{goes_back, row_done, row_unread}
+use Rattle.proof_frame.proofs.LeafLines.Rest.{leads_back, row_done, row_unread}
 use Rattle.proof_literal_laws.proofs.FenceSpan.White.{white-lead}
 use Rattle.proof_frame.proofs.FillFacts.{filled-read}
 use Rattle.proof_frame.proofs.RestFacts.{rest-trim}
@@ -74,8 +74,8 @@ line-fence options bytes row is =
     (opening-fence options is.rest (opening_at is.rest) [] (fence-starts options is.rest is.starts).opens)
 
 pub line-held : (options : ParseOptions) (bytes : List ℕ) (row : Row) → (is : IsLineOf options bytes fence_leaf row) →
-    row.behind ≡ held_of (opening_of is.rest)
-line-held options bytes row is = is.behind ∙ ap held_of (opening-same is.rest)
+    row.following ≡ held_of (opening_of is.rest)
+line-held options bytes row is = is.following ∙ ap held_of (opening-same is.rest)
 
 -- something is on it
 pub line-full : (options : ParseOptions) (bytes : List ℕ) (row : Row) → (is : IsLineOf options bytes fence_leaf row) →
@@ -110,12 +110,12 @@ unread-is options bytes row is =
     (first_inside linked (rest_line is.rest) row.first e)) (sym is.at.end)
 
 -- and once their text parts are read
-line-first : (line : List ℕ) (p : Point) → goes_back (fence_line linked line p) ≡ false
+line-first : (line : List ℕ) (p : Point) → leads_back (fence_line linked line p) ≡ false
 line-first [] p = refl
 line-first (b ∷ bs) p = go (is_white b)
   where
     go : (x : Bool) →
-        goes_back
+        leads_back
         (cond x (pair n.SpaceOrTab p (past_white (b ∷ bs) p)) []
         ++ around (block_name (first_byte (trim_start (b ∷ bs)))) (past_white (b ∷ bs) p) (past_text (b ∷ bs) p)
         (first_inside linked (b ∷ bs) p (past_text (b ∷ bs) p))) ≡
@@ -129,7 +129,7 @@ pub done-is : (options : ParseOptions) (bytes : List ℕ) (row : Row) → (is : 
     ++ around (name_of is.rest) (past_white (rest_line is.rest) row.first) row.end
     (first_inside (read_inner bytes) (rest_line is.rest) row.first row.end)
 done-is options bytes row is =
-    ap (λ (es : List Event). cond (goes_back es) es (plain_read bytes es)) is.inside
+    ap (λ (es : List Event). cond (leads_back es) es (plain_read bytes es)) is.inside
     ∙ ap
     (λ (x : Bool).
     cond x (fence_line linked line row.first) (plain_read bytes (fence_line linked line row.first)))
@@ -184,12 +184,12 @@ pub line-lead : (options : ParseOptions) (bytes : List ℕ) (row : Row) → (is 
     LeadFacts bytes row.first (past_white (rest_line is.rest) row.first) (white_part (rest_line is.rest) row.first)
 line-lead options bytes row is =
     let lies = line-laid options bytes row is in
-    white-lead bytes (rest_line is.rest) (drop row.end.index bytes) row.first lies.stands lies.cut
+    white-lead bytes (rest_line is.rest) (drop row.end.index bytes) row.first lies.valid lies.cut
 
 pub line-inside : (options : ParseOptions) (bytes : List ℕ) (row : Row) →
     (is : IsLineOf options bytes fence_leaf row) →
     let m = first_byte (text_of is.rest) in
-    InsideFacts bytes (past_white (rest_line is.rest) row.first) row.end (begin_of m) (behind_line plain_text m)
+    InsideFacts bytes (past_white (rest_line is.rest) row.first) row.end (begin_of m) (following_line plain_text m)
     (fresh (kind_of m)) (leaf_of (opening_of is.rest) (marks_of (text_of is.rest)) [] false) (begun_site (kind_of m))
     (AtEnding (kind_of m)) (first_inside linked (rest_line is.rest) row.first row.end)
     (first_inside (read_inner bytes) (rest_line is.rest) row.first row.end)
@@ -197,7 +197,7 @@ line-inside options bytes row is =
     subst
     (λ (e : Point).
     let m = first_byte (text_of is.rest) in
-    InsideFacts bytes (past_white (rest_line is.rest) row.first) e (begin_of m) (behind_line plain_text m)
+    InsideFacts bytes (past_white (rest_line is.rest) row.first) e (begin_of m) (following_line plain_text m)
     (fresh (kind_of m)) (leaf_of (opening_of is.rest) (marks_of (text_of is.rest)) [] false) (begun_site (kind_of m))
     (AtEnding (kind_of m)) (first_inside linked (rest_line is.rest) row.first e)
     (first_inside (read_inner bytes) (rest_line is.rest) row.first e)) (sym is.at.end)

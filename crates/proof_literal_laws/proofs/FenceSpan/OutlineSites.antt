@@ -16,18 +16,20 @@ use Rattle.md_meaning.specs.Texts.{first_byte}
 use Rattle.md_code.specs.Fence.{chunk_name, fence_name, held_indent, held_marker, may_begin, sequence_name}
 use Rattle.md_code.proofs.FenceOpened.{marker-may}
 use Rattle.md_code.proofs.FenceParts.{prefix-take}
-use Rattle.md_outline.specs.LinesStand.{AtEnd, AtEnding, AtInfo, AtLine, AtMeta, InText, LinesStand, Site, begun_site}
-use Rattle.md_outline.proofs.LinesPass.{Passes, passes-append, passes-quiet, stand-both}
+use Rattle.md_outline.specs.LinesAllowed.{AtEnd, AtEnding, AtInfo, AtLine, AtMeta, InText, LinesAllowed, Site}
+use Rattle.md_outline.specs.LinesAllowed.{begun_site}
+use Rattle.md_outline.proofs.LinesPass.{Passes, passes-append, passes-quiet, are_valid-both}
 use Rattle.md_events.specs.Events.Inline.{pair_unless_empty}
 use Rattle.md_events.specs.Events.Nested.{around, exit, pair}
-use Rattle.md_events.specs.Events.Pieces.{stands_over}
+use Rattle.md_events.specs.Events.Pieces.{may_cover}
 use Rattle.md_events.specs.Events.Places.{past_text, same_place}
 use Rattle.md_events.specs.Events.Spelled.{AsInfo, AsMeta, LeafKind, OfFence, OfMath, Purpose, byte_at}
 use Rattle.md_events.proofs.InlineLemmas.{same-refl}
 use Rattle.md_events.proofs.SpelledLemmas.{Quiet, Roles}
 use Rattle.proof_frame.specs.RestLine.{rest_line}
-use Rattle.proof_literal_laws.specs.Leaf.Fence.{behind_parts, fence_parts, past_white, read_inner, text_part, white_part}
-use Rattle.proof_literal_laws.specs.Leaf.FenceFurther.{chunk_line, closing_line, closing_part, further_parts, opening_of}
+use Rattle.proof_literal_laws.specs.Leaf.Fence.{after_parts, fence_parts, past_white, read_inner, text_part, white_part}
+use Rattle.proof_literal_laws.specs.Leaf.FenceFurther.{chunk_line, closing_line, closing_part, further_parts}
+use Rattle.proof_literal_laws.specs.Leaf.FenceFurther.{opening_of}
 use Rattle.proof_frame.specs.LineColumns.{columns_part, part_over, past_columns}
 use Rattle.proof_literal_laws.proofs.Fence.Kept.{text-end, white-roles}
 use Rattle.proof_literal_laws.proofs.Fence.Laid.{Laid}
@@ -40,7 +42,7 @@ use Rattle.proof_literal_laws.proofs.FenceFurther.Reads.{chunk-role}
 use Rattle.proof_literal_laws.proofs.FenceSpan.Open.{kind_of}
 use Rattle.proof_frame.proofs.IndentRemoved.Reads.{columns-quiet}
 use Rattle.proof_frame.proofs.PieceFacts.{over-front}
-use Rattle.proof_literal_laws.proofs.IndentRemoved.Sites.{is_told_of, line_site, lost-passes}
+use Rattle.proof_literal_laws.proofs.IndentRemoved.Sites.{records_rest, line_site, lost-passes}
 
 -- The opening fence: its markers, and what follows them.
 
@@ -61,56 +63,56 @@ inner-quiet bytes b bs rest p at =
     pairs false true h = (tt, (tt, tt))
     pairs x false h = cc
 
-inner-stands : (bytes : List ℕ) (kind : LeafKind) (purpose : Purpose) (name : Name) (b : ℕ) (bs rest : List ℕ)
+inner-valid : (bytes : List ℕ) (kind : LeafKind) (purpose : Purpose) (name : Name) (b : ℕ) (bs rest : List ℕ)
     (p : Point) (zs : List Event) → At bytes (b ∷ bs) p rest →
     let q = past_text (b ∷ bs) p in
-    LinesStand bytes (InText kind purpose) (exit name q ∷ zs) →
-    LinesStand bytes (InText kind purpose) ((read_inner bytes p q ++ exit name q ∷ []) ++ zs)
-inner-stands bytes kind purpose name b bs rest p zs at h =
+    LinesAllowed bytes (InText kind purpose) (exit name q ∷ zs) →
+    LinesAllowed bytes (InText kind purpose) ((read_inner bytes p q ++ exit name q ∷ []) ++ zs)
+inner-valid bytes kind purpose name b bs rest p zs at h =
     let q = past_text (b ∷ bs) p in
-    stand-both bytes (InText kind purpose) (read_inner bytes p q) (exit name q ∷ []) zs
+    are_valid-both bytes (InText kind purpose) (read_inner bytes p q) (exit name q ∷ []) zs
     (passes-quiet bytes (InText kind purpose) (read_inner bytes p q) (inner-quiet bytes b bs rest p at)
     (exit name q ∷ zs) h)
 
 -- info, if there is any
-info-stands : (bytes xs rest : List ℕ) (p : Point) (zs : List Event) → At bytes xs p rest →
-    LinesStand bytes (AtInfo OfFence) zs → LinesStand bytes (AtMeta OfFence) zs →
-    LinesStand bytes (AtInfo OfFence) (text_part (read_inner bytes) n.CodeFencedFenceInfo xs p ++ zs)
-info-stands bytes [] rest p zs at none some = none
-info-stands bytes (b ∷ bs) rest p zs at none some =
-    (tt, inner-stands bytes OfFence AsInfo n.CodeFencedFenceInfo b bs rest p zs at (tt, some))
+info-valid : (bytes xs rest : List ℕ) (p : Point) (zs : List Event) → At bytes xs p rest →
+    LinesAllowed bytes (AtInfo OfFence) zs → LinesAllowed bytes (AtMeta OfFence) zs →
+    LinesAllowed bytes (AtInfo OfFence) (text_part (read_inner bytes) n.CodeFencedFenceInfo xs p ++ zs)
+info-valid bytes [] rest p zs at none some = none
+info-valid bytes (b ∷ bs) rest p zs at none some =
+    (tt, inner-valid bytes OfFence AsInfo n.CodeFencedFenceInfo b bs rest p zs at (tt, some))
 
 -- meta, after an info or none
 abbrev before_meta : Bool → Site
 before_meta info = cond info (AtMeta OfFence) (AtInfo OfFence)
 
-meta-stands : (bytes xs rest : List ℕ) (p : Point) (zs : List Event) (info : Bool) → At bytes xs p rest →
-    LinesStand bytes (before_meta info) zs → LinesStand bytes (AtEnding OfFence) zs →
-    LinesStand bytes (before_meta info) (text_part (read_inner bytes) n.CodeFencedFenceMeta xs p ++ zs)
-meta-stands bytes [] rest p zs info at none some = none
-meta-stands bytes (b ∷ bs) rest p zs true at none some =
-    (tt, inner-stands bytes OfFence AsMeta n.CodeFencedFenceMeta b bs rest p zs at (tt, some))
-meta-stands bytes (b ∷ bs) rest p zs false at none some =
-    (tt, inner-stands bytes OfFence AsMeta n.CodeFencedFenceMeta b bs rest p zs at (tt, some))
+meta-valid : (bytes xs rest : List ℕ) (p : Point) (zs : List Event) (info : Bool) → At bytes xs p rest →
+    LinesAllowed bytes (before_meta info) zs → LinesAllowed bytes (AtEnding OfFence) zs →
+    LinesAllowed bytes (before_meta info) (text_part (read_inner bytes) n.CodeFencedFenceMeta xs p ++ zs)
+meta-valid bytes [] rest p zs info at none some = none
+meta-valid bytes (b ∷ bs) rest p zs true at none some =
+    (tt, inner-valid bytes OfFence AsMeta n.CodeFencedFenceMeta b bs rest p zs at (tt, some))
+meta-valid bytes (b ∷ bs) rest p zs false at none some =
+    (tt, inner-valid bytes OfFence AsMeta n.CodeFencedFenceMeta b bs rest p zs at (tt, some))
 
 -- which math has alone
-math-stands : (bytes xs rest : List ℕ) (p : Point) (zs : List Event) → At bytes xs p rest →
-    LinesStand bytes (AtInfo OfMath) zs → LinesStand bytes (AtEnding OfMath) zs →
-    LinesStand bytes (AtInfo OfMath) (text_part (read_inner bytes) n.MathFlowFenceMeta xs p ++ zs)
-math-stands bytes [] rest p zs at none some = none
-math-stands bytes (b ∷ bs) rest p zs at none some =
-    (tt, inner-stands bytes OfMath AsMeta n.MathFlowFenceMeta b bs rest p zs at (tt, some))
+math-valid : (bytes xs rest : List ℕ) (p : Point) (zs : List Event) → At bytes xs p rest →
+    LinesAllowed bytes (AtInfo OfMath) zs → LinesAllowed bytes (AtEnding OfMath) zs →
+    LinesAllowed bytes (AtInfo OfMath) (text_part (read_inner bytes) n.MathFlowFenceMeta xs p ++ zs)
+math-valid bytes [] rest p zs at none some = none
+math-valid bytes (b ∷ bs) rest p zs at none some =
+    (tt, inner-valid bytes OfMath AsMeta n.MathFlowFenceMeta b bs rest p zs at (tt, some))
 
 -- both, with whitespace between them
-code-stands : (bytes xs rest : List ℕ) (p : Point) (zs : List Event) → At bytes xs p rest →
-    LinesStand bytes (AtInfo OfFence) zs → LinesStand bytes (AtMeta OfFence) zs →
-    LinesStand bytes (AtEnding OfFence) zs →
-    LinesStand bytes (AtInfo OfFence) (code_parts (read_inner bytes) xs p ++ zs)
-code-stands bytes xs rest p zs at none told end =
-    stand-both bytes (AtInfo OfFence) (info ++ white) meta zs
-    (stand-both bytes (AtInfo OfFence) info white (meta ++ zs)
-    (info-stands bytes word (drop size xs ++ rest) p (white ++ (meta ++ zs)) (at-take bytes xs rest p size at)
-    (behind false none) (behind true told)))
+code-valid : (bytes xs rest : List ℕ) (p : Point) (zs : List Event) → At bytes xs p rest →
+    LinesAllowed bytes (AtInfo OfFence) zs → LinesAllowed bytes (AtMeta OfFence) zs →
+    LinesAllowed bytes (AtEnding OfFence) zs →
+    LinesAllowed bytes (AtInfo OfFence) (code_parts (read_inner bytes) xs p ++ zs)
+code-valid bytes xs rest p zs at none recorded end =
+    are_valid-both bytes (AtInfo OfFence) (info ++ white) meta zs
+    (are_valid-both bytes (AtInfo OfFence) info white (meta ++ zs)
+    (info-valid bytes word (drop size xs ++ rest) p (white ++ (meta ++ zs)) (at-take bytes xs rest p size at)
+    (following false none) (following true recorded)))
   where
     size : ℕ
     size = prefix_len (λ b. not (is_white b)) xs
@@ -140,11 +142,11 @@ code-stands bytes xs rest p zs at none told end =
     at_left = subst (λ (k : ℕ). At bytes (drop k xs) (past_text word p) rest)
         (sym (prefix-take (λ b. not (is_white b)) xs)) (at-drop bytes xs rest p size at)
 
-    behind : (info : Bool) → LinesStand bytes (before_meta info) zs →
-        LinesStand bytes (before_meta info) (white ++ (meta ++ zs))
-    behind info h =
+    following : (info : Bool) → LinesAllowed bytes (before_meta info) zs →
+        LinesAllowed bytes (before_meta info) (white ++ (meta ++ zs))
+    following info h =
         passes-quiet bytes (before_meta info) white (white-roles Quiet tt left q) (meta ++ zs)
-        (meta-stands bytes (trim_start left) rest v zs info
+        (meta-valid bytes (trim_start left) rest v zs info
         (at-drop bytes left rest q (prefix_len is_white left) at_left) h end)
 
 -- the markers are no bytes of value 0
@@ -155,41 +157,41 @@ marks-some : (bytes : List ℕ) (c : ℕ) (cs more : List ℕ) (p : Point) → A
     (first_byte (slice_range bytes (byte_at p) (past_text (c ∷ cs) p).index) == 0) ≡ false
 marks-some bytes c cs more p here some =
     let q = past_text (c ∷ cs) p in
-    let over = over-front bytes p q (c ∷ cs) more here.stands (omega arith) refl in
+    let over = over-front bytes p q (c ∷ cs) more here.valid (omega arith) refl in
     ap (λ (vs : ℕ). first_byte (slice_range bytes (cond (vs == 0) p.index (p.index + 1)) q.index) == 0) here.whole
     ∙ ap (λ (l : List ℕ). first_byte l == 0) over.slice ∙ some
 
-fence-stands : (bytes : List ℕ) (math : Bool) (c : ℕ) (cs zs rest more : List ℕ) (p e : Point) (ys : List Event) →
+fence-valid : (bytes : List ℕ) (math : Bool) (c : ℕ) (cs zs rest more : List ℕ) (p e : Point) (ys : List Event) →
     At bytes (c ∷ cs) p more → At bytes zs (past_text (c ∷ cs) p) rest → (c == 0) ≡ false →
-    LinesStand bytes (AtEnding (cond math OfMath OfFence)) ys →
+    LinesAllowed bytes (AtEnding (cond math OfMath OfFence)) ys →
     let q = past_text (c ∷ cs) p in
-    LinesStand bytes (begun_site (cond math OfMath OfFence))
+    LinesAllowed bytes (begun_site (cond math OfMath OfFence))
     (around (cond math n.MathFlowFence n.CodeFencedFence) p e
     (pair (cond math n.MathFlowFenceSequence n.CodeFencedFenceSequence) p q
     ++ (white_part zs q ++ parts_by math (read_inner bytes) (trim_start zs) (past_white zs q))) ++ ys)
-fence-stands bytes true c cs zs rest more p e ys here behind some h =
+fence-valid bytes true c cs zs rest more p e ys here following some h =
     let q = past_text (c ∷ cs) p in
     let white = white_part zs q in
     let meta = text_part (read_inner bytes) n.MathFlowFenceMeta (trim_start zs) (past_white zs q) in
     let end = exit n.MathFlowFence e in
     let left =
-    stand-both bytes (AtInfo OfMath) (white ++ meta) (end ∷ []) ys
-    (stand-both bytes (AtInfo OfMath) white meta (end ∷ ys)
+    are_valid-both bytes (AtInfo OfMath) (white ++ meta) (end ∷ []) ys
+    (are_valid-both bytes (AtInfo OfMath) white meta (end ∷ ys)
     (passes-quiet bytes (AtInfo OfMath) white (white-roles Quiet tt zs q) (meta ++ end ∷ ys)
-    (math-stands bytes (trim_start zs) rest (past_white zs q) (end ∷ ys)
-    (at-drop bytes zs rest q (prefix_len is_white zs) behind) (tt, h) (tt, h)))) in
+    (math-valid bytes (trim_start zs) rest (past_white zs q) (end ∷ ys)
+    (at-drop bytes zs rest q (prefix_len is_white zs) following) (tt, h) (tt, h)))) in
     (tt, (tt, (marks-some bytes c cs more p here some, left)))
-fence-stands bytes false c cs zs rest more p e ys here behind some h =
+fence-valid bytes false c cs zs rest more p e ys here following some h =
     let q = past_text (c ∷ cs) p in
     let white = white_part zs q in
     let parts = code_parts (read_inner bytes) (trim_start zs) (past_white zs q) in
     let end = exit n.CodeFencedFence e in
     let left =
-    stand-both bytes (AtInfo OfFence) (white ++ parts) (end ∷ []) ys
-    (stand-both bytes (AtInfo OfFence) white parts (end ∷ ys)
+    are_valid-both bytes (AtInfo OfFence) (white ++ parts) (end ∷ []) ys
+    (are_valid-both bytes (AtInfo OfFence) white parts (end ∷ ys)
     (passes-quiet bytes (AtInfo OfFence) white (white-roles Quiet tt zs q) (parts ++ end ∷ ys)
-    (code-stands bytes (trim_start zs) rest (past_white zs q) (end ∷ ys)
-    (at-drop bytes zs rest q (prefix_len is_white zs) behind) (tt, h) (tt, h) (tt, h)))) in
+    (code-valid bytes (trim_start zs) rest (past_white zs q) (end ∷ ys)
+    (at-drop bytes zs rest q (prefix_len is_white zs) following) (tt, h) (tt, h) (tt, h)))) in
     (tt, (tt, (marks-some bytes c cs more p here some, left)))
 
 pub first-passes : (options : ParseOptions) (bytes line rest : List ℕ) (p e : Point) → Laid options bytes line p rest →
@@ -213,22 +215,22 @@ first-passes options bytes line rest p e lies ys h =
     q : Point
     q = past_white line p
 
-    by : (zs : List ℕ) → At bytes zs q (drop size text ++ rest) → stands_over (sequence_name m) zs ≡ true →
+    by : (zs : List ℕ) → At bytes zs q (drop size text ++ rest) → may_cover (sequence_name m) zs ≡ true →
         At bytes (drop size text) (past_text zs q) rest → FirstIs zs m →
-        LinesStand bytes (begun_site (kind_of m))
+        LinesAllowed bytes (begun_site (kind_of m))
         (around (fence_name m) q e
         (pair (sequence_name m) q (past_text zs q)
-        ++ behind_parts (read_inner bytes) m (drop size text) (past_text zs q)) ++ ys)
-    by [] here over behind first = absurd (sequence-some m over)
-    by (c ∷ cs) here over behind first =
-        fence-stands bytes (m == 36) c cs (drop size text) rest (drop size text ++ rest) q e ys here behind
+        ++ after_parts (read_inner bytes) m (drop size text) (past_text zs q)) ++ ys)
+    by [] here over following first = absurd (sequence-some m over)
+    by (c ∷ cs) here over following first =
+        fence-valid bytes (m == 36) c cs (drop size text) rest (drop size text ++ rest) q e ys here following
         (ap (λ (x : ℕ). x == 0) first ∙ marker-some m (marker-may options m lies.fence.marker)) h
 
 abbrev pub further_site : ParseOptions → HeldLeaf → Rest → Site
 further_site options on r =
     let kind = kind_of (held_marker on) in
     cond (closes options (opening_of on) r) (AtEnd kind)
-    (line_site kind (is_told_of (rest_line (lose (held_indent on) r))))
+    (line_site kind (records_rest (rest_line (lose (held_indent on) r))))
 
 -- by whether it is math
 closing-passes : (bytes : List ℕ) (math : Bool) (p end q : Point) (white : List Event) → Roles Quiet white →
@@ -237,12 +239,12 @@ closing-passes : (bytes : List ℕ) (math : Bool) (p end q : Point) (white : Lis
     (pair (cond math n.MathFlowFenceSequence n.CodeFencedFenceSequence) p end ++ white))
 closing-passes bytes true p end q white quiet ys h =
     let left =
-    stand-both bytes (AtEnd OfMath) white (exit n.MathFlowFence q ∷ []) ys
+    are_valid-both bytes (AtEnd OfMath) white (exit n.MathFlowFence q ∷ []) ys
     (passes-quiet bytes (AtEnd OfMath) white quiet (exit n.MathFlowFence q ∷ ys) (tt, h)) in
     (tt, (tt, (tt, left)))
 closing-passes bytes false p end q white quiet ys h =
     let left =
-    stand-both bytes (AtEnd OfFence) white (exit n.CodeFencedFence q ∷ []) ys
+    are_valid-both bytes (AtEnd OfFence) white (exit n.CodeFencedFence q ∷ []) ys
     (passes-quiet bytes (AtEnd OfFence) white quiet (exit n.CodeFencedFence q ∷ ys) (tt, h)) in
     (tt, (tt, (tt, left)))
 
@@ -258,7 +260,7 @@ further-passes options bytes on r p q = go (closes options (opening_of on) r)
 
     go : (x : Bool) →
         Passes bytes (AtLine kind)
-        (cond x (AtEnd kind) (line_site kind (is_told_of (rest_line (lose (held_indent on) r)))))
+        (cond x (AtEnd kind) (line_site kind (records_rest (rest_line (lose (held_indent on) r)))))
         (cond x (closing_line (held_marker on) r p q) (chunk_line (held_marker on) (held_indent on) r p q))
     go true =
         let text = trim_start r.bytes in

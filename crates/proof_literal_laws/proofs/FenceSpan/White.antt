@@ -13,11 +13,11 @@ use Rattle.md_events.specs.Events.Places.{past_text}
 use Rattle.md_events.proofs.InlineLemmas.{before-text}
 use Rattle.proof_literal_laws.specs.Leaf.Fence.{past_white, white_part}
 use Rattle.proof_frame.proofs.BetweenFacts.{blank-low}
-use Rattle.proof_frame.proofs.PlaceBetween.{low-behind}
+use Rattle.proof_frame.proofs.PlaceBetween.{low-following}
 use Rattle.proof_literal_laws.proofs.Fence.Walk.{front-blank}
 use Rattle.proof_frame.proofs.IndentRemoved.Shown.{whole-clear}
 use Rattle.proof_frame.proofs.LineTexts.{past-whole}
-use Rattle.proof_frame.proofs.PieceFacts.{CutsFirst, begins-cut, over-front, over-stands}
+use Rattle.proof_frame.proofs.PieceFacts.{CutsFirst, begins-cut, over-front, over-valid}
 use Rattle.proof_frame.proofs.LeafLines.Lead.{LeadFacts, lead-none, lead-white}
 
 -- it is spaces and tabs,
@@ -27,9 +27,9 @@ some-lead : (bytes : List ℕ) (b : ℕ) (bs rest : List ℕ) (p : Point) → dr
 some-lead bytes b bs rest p is cut blank =
     let q = past_text (b ∷ bs) p in
     lead-white bytes p q (before-text (b ∷ bs) p)
-    (over-stands bytes n.SpaceOrTab p q (b ∷ bs) (over-front bytes p q (b ∷ bs) rest is (omega arith) refl)
+    (over-valid bytes n.SpaceOrTab p q (b ∷ bs) (over-front bytes p q (b ∷ bs) rest is (omega arith) refl)
     (begins-cut n.SpaceOrTab p refl) blank)
-    (λ first. low-behind bytes b bs rest p is (blank-low (b ∷ bs) blank))
+    (λ first. low-following bytes b bs rest p is (blank-low (b ∷ bs) blank))
     (λ first. whole-clear bytes q (past-whole (b ∷ bs) p (omega arith)))
 
 -- or nothing
@@ -41,11 +41,11 @@ white-lead bytes (b ∷ bs) rest p is cut = go (is_white b) refl
     left : List ℕ
     left = take (prefix_len is_white bs) bs
 
-    behind : List ℕ
-    behind = drop (prefix_len is_white bs) bs ++ rest
+    following : List ℕ
+    following = drop (prefix_len is_white bs) bs ++ rest
 
-    stands : drop p.index bytes ≡ (b ∷ left) ++ behind
-    stands =
+    valid : drop p.index bytes ≡ (b ∷ left) ++ following
+    valid =
         is
         ∙ ap (λ (l : List ℕ). b ∷ (l ++ rest)) (sym (take-append-drop (prefix_len is_white bs) bs))
         ∙ ap (λ (l : List ℕ). b ∷ l) (append_assoc left (drop (prefix_len is_white bs) bs) rest)
@@ -56,7 +56,7 @@ white-lead bytes (b ∷ bs) rest p is cut = go (is_white b) refl
         subst
         (λ (k : ℕ). let q = past_text (take k (b ∷ bs)) p in LeadFacts bytes p q (pair n.SpaceOrTab p q))
         (sym (count-one is_white b bs e))
-        (some-lead bytes b left behind p stands cut (and_from (is_white b) (is_blank left) e (front-blank bs)))
+        (some-lead bytes b left following p valid cut (and_from (is_white b) (is_blank left) e (front-blank bs)))
     go false e =
         subst (λ (k : ℕ). LeadFacts bytes p (past_text (take k (b ∷ bs)) p) []) (sym (count-none is_white b bs e))
         (lead-none bytes p)

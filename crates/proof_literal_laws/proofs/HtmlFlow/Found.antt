@@ -12,7 +12,7 @@ use Rattle.md_engine.specs.Meaning.{Cell}
 use Rattle.md_meaning.specs.Html.{HtmlKind, Basic, Cdata, Comment, Complete, Declaration, Instruction, Raw}
 use Rattle.md_meaning.specs.Html.{html_ends, html_kind, kind_after}
 use Rattle.md_meaning.specs.Leaves.{LeafResult, Finished, LazyText, NoText, Opened, ParagraphContext, ends_at_blank}
-use Rattle.md_meaning.specs.Leaves.{goes_on, html_at, html_by, html_goes_on, html_line, may_start}
+use Rattle.md_meaning.specs.Leaves.{is_continued, html_at, html_by, html_continued, html_line, may_start}
 use Rattle.md_meaning.specs.Rest.{Rest, has_small_indent, is_blank, line_of, trim_start}
 use Rattle.md_meaning.specs.State.{Leaf, NoLeaf, OpenCode, OpenFence, OpenHtml, OpenParagraph, OpenTable}
 use Rattle.md_meaning.specs.Texts.{first_byte}
@@ -21,39 +21,39 @@ use Rattle.md_html.specs.Html.{is_html}
 use Rattle.md_html.specs.HtmlLine as rule
 use Rattle.md_html.specs.HtmlRule.{left}
 use Rattle.proof_frame.specs.Context.{context_of}
-use Rattle.proof_frame.specs.HeldLeaf.{kind_of_leaf, left_by, may_go_on, takes_lazy}
+use Rattle.proof_frame.specs.HeldLeaf.{kind_of_leaf, left_by, may_continue, takes_lazy}
 use Rattle.proof_literal_laws.specs.Leaf.HtmlFlow.{begins_as, html_further, html_leaf, kind_begun}
 
 -- It begins where its leaf says, and becomes what that says: where this leaf is open, by what the line is against.
 pub html-found : (options : ParseOptions) (on : HeldLeaf) (against : ParagraphContext) (r : Rest) →
     against ≡ context_of on →
     html_at options against r ≡
-    cond (html_leaf.starts options on r) (Some (html_leaf.comes options NoLeaf r)) None
+    cond (html_leaf.starts options on r) (Some (html_leaf.becomes options NoLeaf r)) None
 unfolding html_at
 html-found options on against r same =
     rw same (go (options.constructs.html_flow && has_small_indent options r) (kind_begun r))
   where
-    come : Option HtmlKind → Option LeafResult → Option LeafResult
-    come kind o = cond (is_some o) (Some (begins_as kind r)) None
+    become : Option HtmlKind → Option LeafResult → Option LeafResult
+    become kind o = cond (is_some o) (Some (begins_as kind r)) None
 
     go : (x : Bool) (kind : Option HtmlKind) →
-        cond x (html_by (context_of on) r kind) None ≡ come kind (cond x (html_by (context_of on) r kind) None)
+        cond x (html_by (context_of on) r kind) None ≡ become kind (cond x (html_by (context_of on) r kind) None)
     go false kind = refl
     go true None = refl
     go true (Some kind) = by (may_start (context_of on) kind)
       where
         by : (x : Bool) →
-            cond x (Some (html_line kind [] r)) None ≡ come (Some kind) (cond x (Some (html_line kind [] r)) None)
+            cond x (Some (html_line kind [] r)) None ≡ become (Some kind) (cond x (Some (html_line kind [] r)) None)
         by true = refl
         by false = refl
 
 -- HTML that is open continues where a further line of it does.
-pub html-goes : (options : ParseOptions) (kind : HtmlKind) (lines : List Line) (r : Rest) →
-    goes_on options (OpenHtml kind lines) r ≡
+pub html-proceeds : (options : ParseOptions) (kind : HtmlKind) (lines : List Line) (r : Rest) →
+    is_continued options (OpenHtml kind lines) r ≡
     cond (html_further.starts options (held_leaf.Html kind) r)
-    (Some (html_further.comes options (OpenHtml kind lines) r)) None
-unfolding html_goes_on
-html-goes options kind lines r = go (ends_at_blank kind && is_blank r.bytes)
+    (Some (html_further.becomes options (OpenHtml kind lines) r)) None
+unfolding html_continued
+html-proceeds options kind lines r = go (ends_at_blank kind && is_blank r.bytes)
   where
     go : (x : Bool) →
         cond x None (Some (html_line kind lines r)) ≡ cond (not x) (Some (html_line kind lines r)) None
@@ -119,7 +119,7 @@ html-first options on r e =
     go true (b ∷ bytes) e = by b bytes (b == 60) refl e
 
 -- a line may continue open HTML
-pub html-lines : (on : HeldLeaf) → is_html on ≡ true → may_go_on on ≡ true
+pub html-lines : (on : HeldLeaf) → is_html on ≡ true → may_continue on ≡ true
 html-lines (held_leaf.Html kind) e = refl
 html-lines _ e = cc
 
@@ -139,7 +139,7 @@ line-held kind lines r = go (html_ends kind r.bytes)
     go false = refl
 
 pub html-held : (options : ParseOptions) (on : HeldLeaf) (leaf : Leaf) (r : Rest) →
-    kind_of_leaf (left_by (html_leaf.comes options leaf r)) ≡ html_leaf.holds options on r
+    kind_of_leaf (left_by (html_leaf.becomes options leaf r)) ≡ html_leaf.holds options on r
 html-held options on leaf r = go (kind_begun r)
   where
     go : (kind : Option HtmlKind) → kind_of_leaf (left_by (begins_as kind r)) ≡ rule.left_by kind r.bytes
@@ -147,7 +147,7 @@ html-held options on leaf r = go (kind_begun r)
     go (Some kind) = line-held kind [] r
 
 pub further-held : (options : ParseOptions) (leaf : Leaf) (r : Rest) →
-    kind_of_leaf (left_by (html_further.comes options leaf r)) ≡ html_further.holds options (kind_of_leaf leaf) r
+    kind_of_leaf (left_by (html_further.becomes options leaf r)) ≡ html_further.holds options (kind_of_leaf leaf) r
 further-held options (OpenHtml kind lines) r = line-held kind lines r
 further-held options NoLeaf r = refl
 further-held options (OpenParagraph lines) r = refl

@@ -4,7 +4,8 @@ use Rattle.proof_frame.specs.HeldLeaf.{kind_of_leaf}
 use Rattle.proof_literal_laws.specs.Leaf.HtmlFlow.{html_further, html_leaf}
 use Rattle.proof_literal_laws.proofs.HtmlFlow.Cells.{further-adds, further-fits, further-keeps, html-adds, html-fits}
 use Rattle.proof_literal_laws.proofs.HtmlFlow.Cells.{html-keeps}
-use Rattle.proof_literal_laws.proofs.HtmlFlow.Found.{further-held, further-not_lazy, html-held, html-lines, html-not_lazy}
+use Rattle.proof_literal_laws.proofs.HtmlFlow.Found.{further-held, further-not_lazy, html-held, html-lines}
+use Rattle.proof_literal_laws.proofs.HtmlFlow.Found.{html-not_lazy}
 use Rattle.proof_literal_laws.proofs.HtmlFlow.Outside.{further-lined, further-no_content, html-lined, html-no_content}
 use Rattle.proof_literal_laws.proofs.HtmlFlow.Trial.{further-looked, further-refused, further-shrinks, further-took}
 use Rattle.proof_literal_laws.proofs.HtmlFlow.Trial.{html-looked, html-refused, html-shrinks, html-took}

@@ -12,10 +12,10 @@ use Rattle.md_leaves.proofs.LeafStart.{rule-refused}
 use Rattle.md_html.specs.Html.{is_html, may_begin}
 use Rattle.md_html.proofs.HtmlWhole as whole
 use Rattle.md_html.proofs.HtmlWhole.{LeavesEnding}
-use Rattle.md_html.specs.HtmlLine.{html_goes, kind_at}
+use Rattle.md_html.specs.HtmlLine.{html_continues, kind_at}
 use Rattle.md_html.specs.HtmlRule.{allowed}
 use Rattle.md_events.specs.Ahead.{begins_white, line_bytes, white_rest}
-use Rattle.md_events.specs.Look.{seen_behind}
+use Rattle.md_events.specs.Look.{seen_after}
 use Rattle.md_events.specs.Spaces.{IsRest, small_indent}
 use Rattle.proof_literal_laws.specs.Leaf.HtmlFlow.{html_further, html_leaf}
 use Rattle.proof_frame.proofs.FromEnding.{from_ending-again}
@@ -37,7 +37,7 @@ other-kind : (on : HeldLeaf) (b : ℕ) (bytes : List ℕ) → may_begin b ≡ fa
 unfolding html_kind
 other-kind on b bytes e = rw e refl
 
-pub html-looked : (options : ParseOptions) (on : HeldLeaf) (cells : List Cell) (b : ℕ) → seen_behind cells ≡ Some b →
+pub html-looked : (options : ParseOptions) (on : HeldLeaf) (cells : List Cell) (b : ℕ) → seen_after cells ≡ Some b →
     may_begin b ≡ false → is_some (kind_at options on cells) ≡ false
 html-looked options on cells b seen e =
     let room = small_indent options in
@@ -47,7 +47,7 @@ html-looked options on cells b seen e =
 
 -- Any byte may be first on a further line.
 pub further-looked : (options : ParseOptions) (on : HeldLeaf) (cells : List Cell) (b : ℕ) →
-    seen_behind cells ≡ Some b → html_further.may_begin on (begins_white cells) b ≡ false →
+    seen_after cells ≡ Some b → html_further.may_begin on (begins_white cells) b ≡ false →
     html_further.takes options on cells ≡ false
 further-looked options on cells b seen e = cc
 
@@ -84,14 +84,14 @@ pub further-took : (options : ParseOptions) (cells : List Cell) (h : Here) → I
     whole_line (html_further.adds options h.flags.leaf cells h.point)
     (left_open html_further.ends (html_further.keeps options h.flags.leaf cells h.point) h.flags.leaf) false cells h
 further-took options cells h is e =
-    let both = and_parts (is_html h.flags.leaf) (html_goes h.flags.leaf cells) e in
+    let both = and_parts (is_html h.flags.leaf) (html_continues h.flags.leaf cells) e in
     whole.further-took cells h both.0 is both.1
 
 pub further-refused : (options : ParseOptions) (cells : List Cell) (h : Here) → is_html h.flags.leaf ≡ true →
     IsRest h.scratch → html_further.takes options h.flags.leaf cells ≡ false →
     html_further.trial options cells h ≡ Refuses h.scratch h.flags
 further-refused options cells h on is e =
-    whole.further-refused cells h is (ap (λ (x : Bool). x && html_goes h.flags.leaf cells) (sym on) ∙ e)
+    whole.further-refused cells h is (ap (λ (x : Bool). x && html_continues h.flags.leaf cells) (sym on) ∙ e)
 
 -- What is left of a line is no longer than it was, and begins with its ending.
 

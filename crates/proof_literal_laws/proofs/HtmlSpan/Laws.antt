@@ -10,16 +10,16 @@ use Rattle.md_meaning.specs.Leaves.{LeafResult}
 use Rattle.md_meaning.specs.Rest.{Rest, line_of}
 use Rattle.md_leaves.specs.Further.{further_link}
 use Rattle.md_leaves.proofs.SpannedLines.{IsFurther, IsBegin}
-use Rattle.md_outline.specs.LinesStand.{begun_site}
+use Rattle.md_outline.specs.LinesAllowed.{begun_site}
 use Rattle.md_html.specs.HtmlLine.{left_by}
 use Rattle.md_events.specs.Events.Nested.{enter, enter_link, exit}
 use Rattle.md_events.specs.Events.Spelled.{HtmlLeaf, OfHtml, block_of, fresh}
 use Rattle.proof_frame.specs.RestLine.{rest_line}
 use Rattle.proof_literal_laws.specs.Leaf.HtmlFlow.{begins_as, html_further, html_leaf, kind_begun}
 use Rattle.proof_frame.specs.Row.{Row, but_end, last_row, span_by}
-use Rattle.proof_literal_laws.proofs.IndentRemoved.Sites.{is_told_of}
+use Rattle.proof_literal_laws.proofs.IndentRemoved.Sites.{records_rest}
 use Rattle.proof_literal_laws.proofs.LeafRead.{facts-read}
-use Rattle.proof_literal_laws.proofs.HtmlSpan.Lines.{behind_first, first-facts, html-inside, html_name, html_parts}
+use Rattle.proof_literal_laws.proofs.HtmlSpan.Lines.{following_first, first-facts, html-inside, html_name, html_parts}
 use Rattle.proof_literal_laws.proofs.HtmlSpan.Lines.{html_site}
 use Rattle.proof_literal_laws.proofs.HtmlSpan.Rows.{first-done, first-full, first-inside, first-parts, further-inside}
 use Rattle.proof_literal_laws.proofs.HtmlSpan.Rows.{html-begun}
@@ -34,7 +34,7 @@ use Rattle.proof_frame.proofs.LeafLines.Lead.{lead-none}
 use Rattle.proof_frame.proofs.LeafLines.Lines.{EndsLeaf, SpanFirst, ends-by}
 use Rattle.proof_frame.proofs.LeafLines.Rest.{HasRest, row_done, row_unread}
 use Rattle.proof_frame.proofs.LeafLines.Whole.{rest-facts}
-use Rattle.proof_frame.proofs.SpanLaws.{AreBehind, IsLineOf, IsNone, IsSpanned, SpanLaws, come_behind}
+use Rattle.proof_frame.proofs.SpanLaws.{AreAfter, IsLineOf, IsNone, IsSpanned, SpanLaws, becomes_after}
 use Rattle.proof_frame.proofs.SpannedFacts.{AreUnspanned}
 
 -- Each line by itself.
@@ -88,7 +88,7 @@ first-line options bytes row is = record {
   is = ap but_end (first-done options bytes row is) ∙ first-begins options bytes row is;
   unread_starts = subst Starts (sym (first-parts options bytes row is)) refl;
   starts = subst Starts (sym (first-parts options bytes row is)) refl;
-  left = behind_first;
+  left = following_first;
   leaf = HtmlLeaf (line_of is.rest ∷ []);
   site = html_site is.rest;
   facts =
@@ -99,34 +99,34 @@ first-line options bytes row is = record {
 -- All lines.
 
 -- what the line definition has with the first, and with all
-abbrev first_came : Rest → LeafResult
-first_came r = begins_as (kind_begun r) r
+abbrev first_result : Rest → LeafResult
+first_result r = begins_as (kind_begun r) r
 
-abbrev all_came : (options : ParseOptions) (bytes : List ℕ) (row : Row) (rows : List Row) →
-    IsLineOf options bytes html_leaf row → AreBehind options bytes html_further row rows → LeafResult
-all_came options bytes row rows is are = come_behind options bytes html_further row rows are (first_came is.rest)
+abbrev all_results : (options : ParseOptions) (bytes : List ℕ) (row : Row) (rows : List Row) →
+    IsLineOf options bytes html_leaf row → AreAfter options bytes html_further row rows → LeafResult
+all_results options bytes row rows is are = becomes_after options bytes html_further row rows are (first_result is.rest)
 
 -- what follows the first
 rest-of : (options : ParseOptions) (bytes : List ℕ) (row : Row) (rows : List Row) →
-    (is : IsLineOf options bytes html_leaf row) → (are : AreBehind options bytes html_further row rows) →
-    HasRest bytes n.HtmlFlow behind_first (HtmlLeaf (line_of is.rest ∷ [])) (html_site is.rest) row rows
-    (all_came options bytes row rows is are)
+    (is : IsLineOf options bytes html_leaf row) → (are : AreAfter options bytes html_further row rows) →
+    HasRest bytes n.HtmlFlow following_first (HtmlLeaf (line_of is.rest ∷ [])) (html_site is.rest) row rows
+    (all_results options bytes row rows is are)
 rest-of options bytes row rows is are =
     let begun = html-begun options row.on is.rest is.starts in
     subst
     (λ (k : Option HtmlKind).
-    HasRest bytes n.HtmlFlow behind_first (HtmlLeaf (line_of is.rest ∷ [])) (html_site is.rest) row rows
-    (come_behind options bytes html_further row rows are (begins_as k is.rest))) (sym begun.1)
-    (rest-line options bytes begun.0 [] is.rest behind_first (is_told_of (rest_line is.rest)) row rows refl refl
-    (is.behind ∙ ap (λ (k : Option HtmlKind). left_by k is.rest.bytes) begun.1) are)
+    HasRest bytes n.HtmlFlow following_first (HtmlLeaf (line_of is.rest ∷ [])) (html_site is.rest) row rows
+    (becomes_after options bytes html_further row rows are (begins_as k is.rest))) (sym begun.1)
+    (rest-line options bytes begun.0 [] is.rest following_first (records_rest (rest_line is.rest)) row rows refl refl
+    (is.following ∙ ap (λ (k : Option HtmlKind). left_by k is.rest.bytes) begun.1) are)
 
 all-facts : (options : ParseOptions) (bytes : List ℕ) (row : Row) (rows : List Row) →
-    (is : IsLineOf options bytes html_leaf row) → (are : AreBehind options bytes html_further row rows) →
+    (is : IsLineOf options bytes html_leaf row) → (are : AreAfter options bytes html_further row rows) →
     LeafFacts bytes (Some (block_of (rest-of options bytes row rows is are).to)) (not (last_row row rows).empty)
     row.first (last_row row rows).end (span_by row_unread row rows) (framed_by (row_done bytes) row rows)
 all-facts options bytes row rows is are =
     let others = inside-others (html_parts is.rest row.first row.end) (html-inside is.rest row.first row.end) in
-    rest-facts bytes n.HtmlFlow OfHtml row rows (all_came options bytes row rows is are) html_name tt
+    rest-facts bytes n.HtmlFlow OfHtml row rows (all_results options bytes row rows is are) html_name tt
     (first-line options bytes row is) (rest-of options bytes row rows is are) others others
     (first-full options bytes row is)
 

@@ -6,15 +6,16 @@ use Rattle.md_engine.specs.declared.event.Name.TheVariants as n
 use Rattle.md_engine.specs.declared.event.Point.{Point}
 use Rattle.md_meaning.specs.Rest.{Rest, line_of}
 use Rattle.md_meaning.specs.Tree.{Line}
-use Rattle.md_outline.specs.LinesStand.{AtLine, Site}
-use Rattle.md_events.specs.Events.Grammar.{Expression, behind, inside, may_end, plain_text}
+use Rattle.md_outline.specs.LinesAllowed.{AtLine, Site}
+use Rattle.md_events.specs.Events.Grammar.{Expression, following, inside, may_end, plain_text}
 use Rattle.md_events.specs.Events.Nested.{pair}
-use Rattle.md_events.specs.Events.Spelled.{AsLine, HtmlLeaf, OfHtml, OpenLeaf, Reading, empty_line, fresh, joined, noted}
+use Rattle.md_events.specs.Events.Spelled.{AsLine, HtmlLeaf, OfHtml, OpenLeaf, Reading, empty_line, fresh, joined}
+use Rattle.md_events.specs.Events.Spelled.{noted}
 use Rattle.md_events.proofs.GrammarLemmas.{Leads}
 use Rattle.proof_frame.specs.RestLine.{rest_line}
 use Rattle.proof_frame.specs.LineColumns.{lost_line}
 use Rattle.proof_frame.proofs.ContainerNames.{TakesPrefixes}
-use Rattle.proof_literal_laws.proofs.IndentRemoved.Sites.{is_told_of, line_site}
+use Rattle.proof_literal_laws.proofs.IndentRemoved.Sites.{records_rest, line_site}
 use Rattle.proof_literal_laws.proofs.IndentRemoved.Facts.{IsLineName, lost-facts}
 use Rattle.proof_literal_laws.proofs.IndentRemoved.Grammar.{left_over, lost-leads}
 use Rattle.proof_literal_laws.proofs.IndentRemoved.Names.{AreInside, lost-inside}
@@ -31,7 +32,7 @@ abbrev pub html_parts : Rest → Point → Point → List Event
 html_parts r p q = lost_line n.HtmlFlowData 0 r p q
 
 abbrev pub html_data : IsLineName n.HtmlFlowData
-html_data = record { inside = refl; told = refl; cut = refl; over = in-line; sits = λ bytes p q ys h. h }
+html_data = record { inside = refl; recorded = refl; cut = refl; over = in-line; sits = λ bytes p q ys h. h }
 
 pub html-inside : (r : Rest) (p q : Point) → AreInside (html_parts r p q)
 html-inside r p q = lost-inside n.HtmlFlowData 0 r p q refl
@@ -43,25 +44,25 @@ html-inside r p q = lost-inside n.HtmlFlowData 0 r p q refl
 abbrev pub html_begun : Expression
 html_begun = inside plain_text n.HtmlFlow
 
-abbrev pub behind_first : Expression
-behind_first = behind n.HtmlFlowData html_begun
+abbrev pub following_first : Expression
+following_first = following n.HtmlFlowData html_begun
 
 abbrev pub in_line : Expression
-in_line = behind n.LineEnding behind_first
+in_line = following n.LineEnding following_first
 
-abbrev pub behind_line : Expression
-behind_line = behind n.HtmlFlowData in_line
+abbrev pub following_line : Expression
+following_line = following n.HtmlFlowData in_line
 
 -- after a further line
 abbrev pub line_left : Rest → Expression
-line_left r = left_over in_line behind_line (rest_line r)
+line_left r = left_over in_line following_line (rest_line r)
 
 -- An ending begins a further line, also after an empty one; prefixes may be before it, and HTML may end after any line.
-pub line-ending : (line : List ℕ) → behind n.LineEnding (left_over in_line behind_line line) ≡ in_line
+pub line-ending : (line : List ℕ) → following n.LineEnding (left_over in_line following_line line) ≡ in_line
 line-ending [] = refl
 line-ending (b ∷ bs) = refl
 
-pub line-ends : (line : List ℕ) → may_end (left_over in_line behind_line line) ≡ true
+pub line-ends : (line : List ℕ) → may_end (left_over in_line following_line line) ≡ true
 line-ends [] = refl
 line-ends (b ∷ bs) = refl
 
@@ -97,7 +98,7 @@ parts-read bytes r p q before is = λ rd none at.
 
 -- where an outline is after it
 abbrev pub html_site : Rest → Site
-html_site r = line_site OfHtml (is_told_of (rest_line r))
+html_site r = line_site OfHtml (records_rest (rest_line r))
 
 -- A further line is one line more.
 pub line-facts : (bytes : List ℕ) (r : Rest) (p q : Point) (before : List Line) → FurtherAt bytes r p q →
@@ -106,18 +107,18 @@ pub line-facts : (bytes : List ℕ) (r : Rest) (p q : Point) (before : List Line
 line-facts bytes r p q before is =
     lost-facts bytes n.HtmlFlowData OfHtml 0 r p q in_line (line_left r) (HtmlLeaf (before ++ empty_line ∷ []))
     (HtmlLeaf (before ++ line_of r ∷ [])) html_data is
-    (λ text. lost-leads text in_line behind_line n.HtmlFlowData 0 r p q refl refl refl)
+    (λ text. lost-leads text in_line following_line n.HtmlFlowData 0 r p q refl refl refl)
     (parts-read bytes r p q before is)
 
 -- The first line has text.
 pub first-facts : (bytes : List ℕ) (r : Rest) (p q : Point) → FurtherAt bytes r p q →
     html_parts r p q ≡ pair n.HtmlFlowData p q →
-    InsideFacts bytes p q html_begun behind_first (fresh OfHtml) (HtmlLeaf (line_of r ∷ [])) (AtLine OfHtml)
+    InsideFacts bytes p q html_begun following_first (fresh OfHtml) (HtmlLeaf (line_of r ∷ [])) (AtLine OfHtml)
     (html_site r) (html_parts r p q) (html_parts r p q)
 first-facts bytes r p q is same =
-    lost-facts bytes n.HtmlFlowData OfHtml 0 r p q html_begun behind_first (fresh OfHtml)
+    lost-facts bytes n.HtmlFlowData OfHtml 0 r p q html_begun following_first (fresh OfHtml)
     (HtmlLeaf (line_of r ∷ [])) html_data is
     (λ text. rw same (first text)) (parts-read bytes r p q [] is)
   where
-    first : (text : Expression) → Leads text (html_begun ∷ []) (behind_first ∷ []) (pair n.HtmlFlowData p q)
+    first : (text : Expression) → Leads text (html_begun ∷ []) (following_first ∷ []) (pair n.HtmlFlowData p q)
     first text = λ outer. refl

@@ -15,7 +15,7 @@ use Rattle.md_meaning.specs.Html.{Basic, Cdata, Comment, Complete, Declaration, 
 use Rattle.md_meaning.specs.Leaves.{html_at, html_by}
 use Rattle.md_meaning.specs.Rest.{Rest, cut_tab, has_small_indent, trim_start}
 use Rattle.md_leaves.specs.Further.{further_link}
-use Rattle.md_outline.specs.LinesStand.{Site}
+use Rattle.md_outline.specs.LinesAllowed.{Site}
 use Rattle.md_events.specs.Events.Grammar.{Expression}
 use Rattle.md_events.specs.Events.Nested.{around, enter_link, exit, pair}
 use Rattle.md_events.specs.Events.Places.{past_text}
@@ -34,7 +34,7 @@ use Rattle.proof_frame.proofs.IndentRemoved.Places.{FurtherAt, further-at, furth
 use Rattle.proof_frame.proofs.IndentRemoved.Shown.{left-clear}
 use Rattle.proof_frame.proofs.PrefixFacts.{is_bare}
 use Rattle.proof_frame.proofs.LeafLines.Inside.{InsideFacts}
-use Rattle.proof_frame.proofs.LeafLines.Rest.{FurtherLine, goes_back, row_done}
+use Rattle.proof_frame.proofs.LeafLines.Rest.{FurtherLine, leads_back, row_done}
 use Rattle.proof_frame.proofs.SpanLaws.{IsLineOf}
 
 -- The line that begins it.
@@ -108,7 +108,7 @@ first-inside options bytes row is =
 pub first-done : (options : ParseOptions) (bytes : List ℕ) (row : Row) → (is : IsLineOf options bytes html_leaf row) →
     row_done bytes row ≡ row.inside
 first-done options bytes row is =
-    ap (λ (es : List Event). cond (goes_back es) es (plain_read bytes es)) is.inside
+    ap (λ (es : List Event). cond (leads_back es) es (plain_read bytes es)) is.inside
     ∙ filled-read bytes line line
     (fill-same bytes line (refl, (refl, (refl, (refl, tt)))) (refl, (refl, (refl, (refl, tt)))))
     ∙ sym is.inside

@@ -14,8 +14,8 @@ use Rattle.proof_frame.specs.LineColumns.{columns_part}
 use Rattle.proof_frame.proofs.IndentRemoved.Columns.{columns-end, first-white}
 
 -- their part is over them
-pub columns-part : (said : Line) (text behind : List ℕ) (room : ℕ) (r : Rest) (p : Point) (stop : List Cell) →
-    RestAt text behind r p → Stops stop → spaces room (rest_cells said r p ++ stop) p ≡ columns_part room r p
-columns-part said text behind room r p stop is k =
+pub columns-part : (said : Line) (text following : List ℕ) (room : ℕ) (r : Rest) (p : Point) (stop : List Cell) →
+    RestAt text following r p → Stops stop → spaces room (rest_cells said r p ++ stop) p ≡ columns_part room r p
+columns-part said text following room r p stop is k =
     ap₂ (λ (x : Bool) (q : Point). cond (nat_lt 0 room && x) (pair n.SpaceOrTab p q) [])
-    (first-white said text behind r p stop is k) (columns-end said text behind room r p stop is k)
+    (first-white said text following r p stop is k) (columns-end said text following room r p stop is k)

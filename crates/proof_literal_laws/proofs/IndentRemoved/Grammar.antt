@@ -5,7 +5,7 @@ use Rattle.md_engine.specs.declared.event.Name.{Name}
 use Rattle.md_engine.specs.declared.event.Name.TheVariants as n
 use Rattle.md_engine.specs.declared.event.Point.{Point}
 use Rattle.md_meaning.specs.Rest.{Rest, indent, lose}
-use Rattle.md_events.specs.Events.Grammar.{Expression, behind, inside, may_end}
+use Rattle.md_events.specs.Events.Grammar.{Expression, following, inside, may_end}
 use Rattle.md_events.specs.Events.Nested.{pair}
 use Rattle.md_events.proofs.GrammarLemmas.{Leads, leads-append, leads-pair}
 use Rattle.proof_frame.specs.RestLine.{rest_line}
@@ -17,7 +17,7 @@ left_over x after [] = x
 left_over x after (b ∷ bs) = after
 
 -- whitespace may be before it
-pub columns-lead : (text x : Expression) (room : ℕ) (r : Rest) (p : Point) → behind n.SpaceOrTab x ≡ x →
+pub columns-lead : (text x : Expression) (room : ℕ) (r : Rest) (p : Point) → following n.SpaceOrTab x ≡ x →
     Leads text (x ∷ []) (x ∷ []) (columns_part room r p)
 columns-lead text x room r p white = go (nat_lt 0 room && nat_lt 0 (indent r))
   where
@@ -27,7 +27,7 @@ columns-lead text x room r p white = go (nat_lt 0 room && nat_lt 0 (indent r))
         (leads-pair text x n.SpaceOrTab p (past_columns room r p) refl)
     go false = λ outer. refl
 
-over-leads : (text x after : Expression) (name : Name) (line : List ℕ) (p q : Point) → behind name x ≡ after →
+over-leads : (text x after : Expression) (name : Name) (line : List ℕ) (p q : Point) → following name x ≡ after →
     may_end (inside text name) ≡ true → Leads text (x ∷ []) (left_over x after line ∷ []) (part_over name line p q)
 over-leads text x after name [] p q next ends = λ outer. refl
 over-leads text x after name (b ∷ bs) p q next ends =
@@ -35,7 +35,7 @@ over-leads text x after name (b ∷ bs) p q next ends =
 
 -- the line
 pub lost-leads : (text x after : Expression) (name : Name) (lost : ℕ) (r : Rest) (p q : Point) →
-    behind n.SpaceOrTab x ≡ x → behind name x ≡ after → may_end (inside text name) ≡ true →
+    following n.SpaceOrTab x ≡ x → following name x ≡ after → may_end (inside text name) ≡ true →
     Leads text (x ∷ []) (left_over x after (rest_line (lose lost r)) ∷ []) (lost_line name lost r p q)
 lost-leads text x after name lost r p q white next ends =
     let line = rest_line (lose lost r) in

@@ -14,7 +14,7 @@ use Rattle.md_events.specs.Substituted.{wanted}
 use Rattle.proof_frame.specs.RestLine.{rest_line}
 use Rattle.proof_frame.specs.LineColumns.{lost_line, part_over, past_columns}
 use Rattle.proof_frame.proofs.ContentFacts.{NoContent}
-use Rattle.proof_frame.proofs.EventNames.{is_told, is_lined}
+use Rattle.proof_frame.proofs.EventNames.{is_recorded, is_lined}
 use Rattle.proof_frame.proofs.LinedFacts.{AreLined}
 
 -- An event of a part.
@@ -96,7 +96,7 @@ inside-lined es all = all AreLined tt (λ kind name x es e k. (name-lined name e
 
 -- No content is among them.
 
-inside-content : (name : Name) → is_inside name ≡ true → is_told name ≡ false
+inside-content : (name : Name) → is_inside name ≡ true → is_recorded name ≡ false
 inside-content n.Content e = absurd (cc)
 inside-content n.DefinitionLabelString e = absurd (cc)
 inside-content _ e = refl

@@ -5,7 +5,7 @@ use Rattle.std.specs.Prelude.{None}
 use Rattle.std.proofs.lemmas.Bool.{and_from}
 use Rattle.md_engine.specs.declared.event.Event.{Event}
 use Rattle.md_engine.specs.declared.event.Name.{Name}
-use Rattle.md_containers.specs.ItemsStand.{IsPart}
+use Rattle.md_containers.specs.ItemsAllowed.{IsPart}
 use Rattle.md_leaves.proofs.SpannedLines.{NoBlocks, NoLines, blocks-lines}
 use Rattle.md_events.specs.Events.Blocks.{is_block}
 use Rattle.md_events.specs.Events.Endings.{on_line}

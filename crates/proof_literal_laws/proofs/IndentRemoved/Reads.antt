@@ -17,32 +17,32 @@ use Rattle.proof_frame.specs.RestLine.{rest_line}
 use Rattle.proof_frame.specs.LineColumns.{columns_part, lost_line, part_over, past_columns}
 use Rattle.proof_frame.proofs.IndentRemoved.Columns.{past-line}
 use Rattle.proof_frame.proofs.IndentRemoved.Places.{FurtherAt, has-left}
-use Rattle.proof_frame.proofs.IndentRemoved.Reads.{columns-quiet, leaf-told}
+use Rattle.proof_frame.proofs.IndentRemoved.Reads.{columns-quiet, leaf-recorded}
 
 -- a part over a line
-chunk-told : (bytes : List ℕ) (name : Name) (p q : Point) (rd : Reading) → role name ≡ TextRole AsLine →
+chunk-recorded : (bytes : List ℕ) (name : Name) (p q : Point) (rd : Reading) → role name ≡ TextRole AsLine →
     read bytes rd (pair name p q) ≡
     on_leaf (noted AsLine (code.chunk_line bytes p q)) (record rd { text = None })
-chunk-told bytes name p q rd is = ap (λ (x : Role). read_exit bytes x q (read_enter bytes x p rd)) is
+chunk-recorded bytes name p q rd is = ap (λ (x : Role). read_exit bytes x q (read_enter bytes x p rd)) is
 
 -- what is left of a line, if anything is: an empty line leaves the last one as it is
-over-read : (bytes behind : List ℕ) (name : Name) (left : Rest) (at q : Point) (rd : Reading) (leaf : OpenLeaf) →
-    role name ≡ TextRole AsLine → RestAt bytes behind left at → q ≡ past_text (rest_line left) at → rd.text ≡ None →
+over-read : (bytes following : List ℕ) (name : Name) (left : Rest) (at q : Point) (rd : Reading) (leaf : OpenLeaf) →
+    role name ≡ TextRole AsLine → RestAt bytes following left at → q ≡ past_text (rest_line left) at → rd.text ≡ None →
     rd.leaf ≡ Some leaf → noted AsLine empty_line leaf ≡ leaf →
     read bytes rd (part_over name (rest_line left) at q) ≡
     record rd { leaf = Some (noted AsLine (line_of left) leaf) }
-over-read bytes behind name left at q rd leaf named stands ends none is still = go left.spaces left.bytes told
+over-read bytes following name left at q rd leaf named valid ends none is still = go left.spaces left.bytes recorded
   where
     with_line : Line → Reading
     with_line line = record rd { leaf = Some (noted AsLine line leaf) }
 
-    told : read bytes rd (pair name at q) ≡ with_line (line_of left)
-    told =
-        chunk-told bytes name at q rd named
-        ∙ leaf-told rd (noted AsLine (code.chunk_line bytes at q)) leaf none is
+    recorded : read bytes rd (pair name at q) ≡ with_line (line_of left)
+    recorded =
+        chunk-recorded bytes name at q rd named
+        ∙ leaf-recorded rd (noted AsLine (code.chunk_line bytes at q)) leaf none is
         ∙ ap with_line
-        (ap (code.chunk_line bytes at) (ends ∙ sym (past-line bytes behind left at stands))
-        ∙ chunk-reads bytes behind left at stands)
+        (ap (code.chunk_line bytes at) (ends ∙ sym (past-line bytes following left at valid))
+        ∙ chunk-reads bytes following left at valid)
 
     empty : rd ≡ with_line empty_line
     empty =
@@ -67,5 +67,5 @@ lost-read bytes name lost r p q named is rd leaf none at still =
     let left = has-left bytes lost r p q is in
     read-from bytes rd rd (columns_part lost r p) (part_over name (rest_line (lose lost r)) (past_columns lost r p) q)
     (read-quiet bytes rd (columns_part lost r p) (columns-quiet lost r p))
-    ∙ over-read bytes (drop q.index bytes) name (lose lost r) (past_columns lost r p) q rd leaf named left.stands
+    ∙ over-read bytes (drop q.index bytes) name (lose lost r) (past_columns lost r p) q rd leaf named left.valid
     left.ends none at still

@@ -36,8 +36,8 @@ starts_code options on r =
     options.constructs.code_indented && may_open on && nat_le 4 (indent r) && not (is_blank r.bytes)
 
 -- whether it continues open code: it is blank, or has such an indent
-abbrev pub goes_on_code : HeldLeaf → Rest → Bool
-goes_on_code on r = is_code on && (is_blank r.bytes || nat_le 4 (indent r))
+abbrev pub continues_code : HeldLeaf → Rest → Bool
+continues_code on r = is_code on && (is_blank r.bytes || nat_le 4 (indent r))
 
 -- the lines that code has before it
 abbrev pub lines_of : Leaf → List Line
@@ -45,8 +45,8 @@ lines_of (OpenCode lines) = lines
 lines_of leaf = []
 
 -- what code becomes with one line more
-abbrev pub code_comes : Leaf → Rest → LeafResult
-code_comes leaf r = Opened (OpenCode (lines_of leaf ++ code_line r ∷ []))
+abbrev pub code_becomes : Leaf → Rest → LeafResult
+code_becomes leaf r = Opened (OpenCode (lines_of leaf ++ code_line r ∷ []))
 
 -- By the bytes of a line.
 
@@ -90,7 +90,7 @@ code_leaf = record {
   keeps = λ options on cells p. held_leaf.Code;
   starts = starts_code;
   holds = λ options on r. held_leaf.Code;
-  comes = λ options open_leaf r. Opened (OpenCode (code_line r ∷ []));
+  becomes = λ options open_leaf r. Opened (OpenCode (code_line r ∷ []));
   block = λ r. Code (code_line r ∷ []);
   added = λ options on line p. code_events line p;
   unread = λ line p. [];
@@ -109,12 +109,12 @@ code_further = record {
   heads = false;
   may_begin = λ on white b. true;
   trial = λ options cells h. rule.code_further cells h;
-  takes = λ options on cells. is_code on && is_some (rule.code_goes on cells);
+  takes = λ options on cells. is_code on && is_some (rule.code_continues on cells);
   adds = λ options on cells p. rule.code_adds_on cells p;
   keeps = λ options on cells p. held_leaf.Code;
-  starts = λ options on r. goes_on_code on r;
+  starts = λ options on r. continues_code on r;
   holds = λ options on r. held_leaf.Code;
-  comes = λ options open_leaf r. code_comes open_leaf r;
+  becomes = λ options open_leaf r. code_becomes open_leaf r;
   block = λ r. Code (code_line r ∷ []);
   added = λ options on line p. further_events line p;
   unread = λ line p. [];

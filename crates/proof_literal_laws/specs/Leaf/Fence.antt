@@ -103,15 +103,15 @@ abbrev pub text_parts : Inner → ℕ → List ℕ → Point → List Event
 text_parts inner m text p = if m == 36 then text_part inner (meta_name m) text p else word_parts inner m text p
 
 -- what follows the sequence
-abbrev pub behind_parts : Inner → ℕ → List ℕ → Point → List Event
-behind_parts inner m bytes p = white_part bytes p ++ text_parts inner m (trim_start bytes) (past_white bytes p)
+abbrev pub after_parts : Inner → ℕ → List ℕ → Point → List Event
+after_parts inner m bytes p = white_part bytes p ++ text_parts inner m (trim_start bytes) (past_white bytes p)
 
 -- what is in the fence: its sequence, and what is after it
 abbrev pub fence_parts : Inner → ℕ → List ℕ → Point → List Event
 fence_parts inner m text p =
     let size = run_len m text in
     let q = past_text (take size text) p in
-    pair (sequence_name m) p q ++ behind_parts inner m (drop size text) q
+    pair (sequence_name m) p q ++ after_parts inner m (drop size text) q
 
 -- a block with a fence of a marker, which begins here and ends there
 abbrev pub fence_around : Inner → ℕ → List ℕ → Point → Point → List Event
@@ -140,7 +140,7 @@ fence_leaf = record {
   keeps = λ options on cells p. fence_keeps options cells p;
   starts = λ options on r. is_some (definition.fence_at options r);
   holds = λ options on r. held_of (opening_at r);
-  comes = λ options open_leaf r. Opened (OpenFence (opening_at r) []);
+  becomes = λ options open_leaf r. Opened (OpenFence (opening_at r) []);
   block = λ r. fence_block (opening_at r) [] false;
   added = λ options on line p. fence_line linked line p;
   unread = λ line p. fence_line linked line p;

@@ -12,12 +12,12 @@ use Rattle.md_engine.specs.declared.tokenizer.held_leaf.HeldLeaf.{HeldLeaf}
 use Rattle.md_engine.specs.declared.tokenizer.held_leaf.HeldLeaf.TheVariants as held_leaf
 use Rattle.md_engine.specs.Meaning.{Cell}
 use Rattle.md_code.specs.Fence.{block_name, chunk_name, fence_name, held_indent, held_marker, held_size, sequence_name}
-use Rattle.md_code.specs.FenceLine.{fence_goes, further_events}
+use Rattle.md_code.specs.FenceLine.{fence_continues, further_events}
 use Rattle.md_code.specs.FenceRule.{further_at}
 use Rattle.md_leaves.specs.Further.{further_link}
 use Rattle.md_events.specs.Events.Nested.{around, enter_link, exit, pair}
 use Rattle.md_events.specs.Events.Places.{past_text}
-use Rattle.md_meaning.specs.Leaves.{LeafResult, Opened, closes, fence_goes_on}
+use Rattle.md_meaning.specs.Leaves.{LeafResult, Opened, closes, fence_continued}
 use Rattle.md_meaning.specs.Rest.{Rest, indent, run_len, trim_start}
 use Rattle.md_meaning.specs.State.{Leaf, OpenFence, Opening, fence_block}
 use Rattle.proof_frame.specs.LineColumns.{columns_part, lost_line, part_over, past_columns, rest_of}
@@ -38,7 +38,7 @@ opening_of on = record {
 
 -- what is held of it after the line, by the cells of the line, and by its rest: nothing after a closing fence
 abbrev pub further_keeps : ParseOptions → HeldLeaf → List Cell → HeldLeaf
-further_keeps options on cells = if is_fence on then fence_goes options on cells else held_leaf.None
+further_keeps options on cells = if is_fence on then fence_continues options on cells else held_leaf.None
 
 abbrev pub further_holds : ParseOptions → HeldLeaf → Rest → HeldLeaf
 further_holds options on r =
@@ -74,9 +74,9 @@ further_line options on line p =
     enter_link name p further_link ∷ further_parts options on (rest_of p line) p q ++ exit name q ∷ []
 
 -- what an open block becomes with the line
-abbrev pub fence_comes : ParseOptions → Leaf → Rest → LeafResult
-fence_comes options (OpenFence o lines) r = fence_goes_on options o lines r
-fence_comes options leaf r = Opened leaf
+abbrev pub fence_becomes : ParseOptions → Leaf → Rest → LeafResult
+fence_becomes options (OpenFence o lines) r = fence_continued options o lines r
+fence_becomes options leaf r = Opened leaf
 
 -- By itself it is no block, and it has no text parts: what it is with the lines before it shows when they are joined,
 -- so its block and its events after that are not asked.
@@ -96,7 +96,7 @@ fence_further = record {
   keeps = λ options on cells p. further_keeps options on cells;
   starts = λ options on r. is_fence on;
   holds = λ options on r. further_holds options on r;
-  comes = λ options open_leaf r. fence_comes options open_leaf r;
+  becomes = λ options open_leaf r. fence_becomes options open_leaf r;
   block = λ r. fence_block (opening_of held_leaf.None) [] false;
   added = λ options on line p. further_line options on line p;
   unread = λ line p. [];

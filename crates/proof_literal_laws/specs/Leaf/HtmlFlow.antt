@@ -42,13 +42,13 @@ begins_as None r = Finished (Html [])
 begins_as (Some kind) r = html_line kind [] r
 
 -- whether it continues open HTML: some kinds end before a blank line
-abbrev pub goes_on_html : HeldLeaf → Rest → Bool
-goes_on_html on r = is_html on && not (ends_in_front on && is_blank r.bytes)
+abbrev pub continues_html : HeldLeaf → Rest → Bool
+continues_html on r = is_html on && not (ends_in_front on && is_blank r.bytes)
 
 -- what open HTML becomes with it
-abbrev pub html_comes : Leaf → Rest → LeafResult
-html_comes (OpenHtml kind lines) r = html_line kind lines r
-html_comes leaf r = Finished (Html [])
+abbrev pub html_becomes : Leaf → Rest → LeafResult
+html_becomes (OpenHtml kind lines) r = html_line kind lines r
+html_becomes leaf r = Finished (Html [])
 
 -- By the bytes of a line.
 
@@ -84,7 +84,7 @@ html_leaf = record {
   keeps = λ options on cells p. rule.html_keeps options on cells;
   starts = starts_html;
   holds = λ options on r. left_by (kind_begun r) r.bytes;
-  comes = λ options open_leaf r. begins_as (kind_begun r) r;
+  becomes = λ options open_leaf r. begins_as (kind_begun r) r;
   block = λ r. Html (line_of r ∷ []);
   added = λ options on line p. html_events line p;
   unread = λ line p. [];
@@ -103,12 +103,12 @@ html_further = record {
   heads = false;
   may_begin = λ on white b. true;
   trial = λ options cells h. further_at cells h;
-  takes = λ options on cells. is_html on && rule.html_goes on cells;
+  takes = λ options on cells. is_html on && rule.html_continues on cells;
   adds = λ options on cells p. rule.html_adds_on cells p;
   keeps = λ options on cells p. rule.html_keeps_on on cells;
-  starts = λ options on r. goes_on_html on r;
+  starts = λ options on r. continues_html on r;
   holds = λ options on r. left_of on r.bytes;
-  comes = λ options open_leaf r. html_comes open_leaf r;
+  becomes = λ options open_leaf r. html_becomes open_leaf r;
   block = λ r. Html (line_of r ∷ []);
   added = λ options on line p. further_events line p;
   unread = λ line p. [];

@@ -28,15 +28,15 @@ use Rattle.md_events.proofs.RestCells.{Cut, cells_by, past_cut, rest-end, rest_c
 use Rattle.proof_frame.specs.RestLine.{rest_line}
 use Rattle.proof_frame.specs.LeafName.{first_of as first_leaf}
 use Rattle.md_registry.specs.Registry.{leaf, trials}
-use Rattle.proof_frame.specs.Row.{BlankRow, Row, TextRow, behind_row, chunks_of, last_row}
+use Rattle.proof_frame.specs.Row.{BlankRow, Row, TextRow, after_row, chunks_of, last_row}
 use Rattle.proof_rows.specs.Rows.{kind_of, lines_cells}
-use Rattle.proof_content_laws.proofs.Defined.Along.{GoesOn, IsTurn, Stands, Steps, Turn, Walks, cells-white, goes-on}
-use Rattle.proof_content_laws.proofs.Defined.Along.{no_line}
+use Rattle.proof_content_laws.proofs.Defined.Along.{IsContinued, IsTurn, Valid, Steps, Turn, Walks, cells-white}
+use Rattle.proof_content_laws.proofs.Defined.Along.{proceeds-on, no_line}
 use Rattle.proof_content_laws.proofs.Defined.Form.{IsBreak}
 use Rattle.proof_content_laws.proofs.Defined.Takes.{Walk}
 use Rattle.proof_rows.proofs.GroupLines.{first-text, AreLines}
 use Rattle.proof_rows.proofs.GroupLemmas.{row-line}
-use Rattle.proof_rows.proofs.JoinedLemmas.{behind-is}
+use Rattle.proof_rows.proofs.JoinedLemmas.{following-is}
 use Rattle.proof_rows.proofs.KindLemmas.{kind-text}
 use Rattle.proof_rows.proofs.ParagraphReads.{AreRead, leads, first-is, last-within, part-read, row-within, skips-here}
 use Rattle.proof_rows.proofs.RowFacts.{IsRow}
@@ -54,16 +54,16 @@ lines_are options bytes row (next ∷ rows) h =
 seen-more : (bytes : List ℕ) (p : Point) → slice_index bytes p.index ≡ 9 → 0 < p.vs → seen_at bytes p ≡ 32
 seen-more bytes p is lt = let more : nat_lt 0 p.vs ≡ true = grind (arith, nat_tests) in rw (is, more) refl
 
-rest-feed : (x : Setting) (behind : List ℕ) (spaces : ℕ) (text : List ℕ) (p : Point) → x.limit < 2 ^ 61 →
-    x.line ≡ no_line → drop p.index x.bytes ≡ (cut_tab spaces ++ text) ++ behind → NoEnding text →
+rest-feed : (x : Setting) (following : List ℕ) (spaces : ℕ) (text : List ℕ) (p : Point) → x.limit < 2 ^ 61 →
+    x.line ≡ no_line → drop p.index x.bytes ≡ (cut_tab spaces ++ text) ++ following → NoEnding text →
     p.index + length (cut_tab spaces ++ text) ≤ x.limit → Cut spaces p → 1 ≤ p.column →
     text_feed x p ≡ cells_by no_line spaces text p ++ text_feed x (past_text (cut_tab spaces ++ text) p)
-rest-feed x behind zero text p small said e none le cut one =
-    line-feed x text behind p
+rest-feed x following zero text p small said e none le cut one =
+    line-feed x text following p
     (record { small = small; text = e; no_ending = none; within = le; whole = cut; column = one })
     ∙ ap (λ (l : Line). spread l text p ++ text_feed x (past_text text p)) said
-rest-feed x behind (suc n) text p small said e none le cut one =
-    let is : slice_index x.bytes p.index ≡ 9 = at-next p.index x.bytes 9 (text ++ behind) e in
+rest-feed x following (suc n) text p small said e none le cut one =
+    let is : slice_index x.bytes p.index ≡ 9 = at-next p.index x.bytes 9 (text ++ following) e in
     let columns = cut.1 in
     let room : p.index + suc (length text) ≤ x.limit = le in
     let q = tab_end n p in
@@ -72,10 +72,10 @@ rest-feed x behind (suc n) text p small said e none le cut one =
     ∙ ap (λ (b : ℕ). tab_cells x.line n b p ++ text_feed x q) (seen-more x.bytes p is cut.0)
     ∙ ap (λ (l : Line). tab_cells l n 32 p ++ text_feed x q) said
     ∙ ap (λ (l : List Cell). tab_cells no_line n 32 p ++ l)
-    (line-feed x text behind q
+    (line-feed x text following q
     (record {
       small = small;
-      text = past-next p.index x.bytes 9 (text ++ behind) e;
+      text = past-next p.index x.bytes 9 (text ++ following) e;
       no_ending = none;
       within = omega (arith, room);
       whole = refl;
@@ -171,11 +171,11 @@ feed-steps x bytes (c ∷ cs) ys p small same within said none e =
         let next : c ∷ (cs ++ ys) ≡ cell (seen_at x.bytes p) (after x p) x.line ∷ text_feed x (after x p) =
         sym e ∙ feed-next x p small lt in
         let first : c ≡ cell (seen_at x.bytes p) (after x p) x.line = cc in
-        let behind : cs ++ ys ≡ text_feed x (after x p) = cc in
+        let following : cs ++ ys ≡ text_feed x (after x p) = cc in
         let byte : c.byte ≡ seen_at bytes p =
         ap (λ (d : Cell). d.byte) first ∙ ap (λ (l : List ℕ). seen_at l p) same in
         let at : c.after ≡ after x p = ap (λ (d : Cell). d.after) first in
-        on y k byte at (ap (λ (d : Cell). d.line) first ∙ said) (ap (text_feed x) at ∙ sym behind)
+        on y k byte at (ap (λ (d : Cell). d.line) first ∙ said) (ap (text_feed x) at ∙ sym following)
       where
         on : (y : Bool) → is_ending (slice_index bytes p.index) ≡ y → c.byte ≡ seen_at bytes p →
             c.after ≡ after x p → c.line ≡ no_line → text_feed x c.after ≡ cs ++ ys → Steps bytes p (c ∷ cs)
@@ -230,16 +230,16 @@ turns_of options bytes row [] = []
 turns_of options bytes row (next ∷ rows) =
     (record {
       end = row.end;
-      break = record { after = behind_row row; front = next.front };
+      break = record { after = after_row row; front = next.front };
       first = next.first;
       cells = lines_cells options bytes next rows;
     })
     ∷ turns_of options bytes next rows
 
 -- a line begins at a point of the text
-row-stands : (options : ParseOptions) (bytes line : List ℕ) (row : Row) → IsRow options bytes line row →
-    row.kind ≡ TextRow → Stands bytes row.first
-row-stands options bytes line row is text = record {
+row-valid : (options : ParseOptions) (bytes line : List ℕ) (row : Row) → IsRow options bytes line row →
+    row.kind ≡ TextRow → Valid bytes row.first
+row-valid options bytes line row is text = record {
   column = is.first_column;
   within = let end = row-within options bytes line row is text in let size = is.size in omega (arith, end, size);
   tab = go is.rest.spaces is.line_is is.cut;
@@ -269,20 +269,21 @@ row-dark options bytes line row is text =
     dark true e = cc
     dark false e = refl
 
-row-goes : (options : ParseOptions) (bytes line : List ℕ) (row : Row) → (is : IsRow options bytes line row) →
-    row.kind ≡ TextRow → (more : List Cell) → GoesOn (rest_cells no_line is.rest row.first ++ more)
-row-goes options bytes line row is text more =
-    goes-on (rest_cells no_line is.rest row.first) more
+row-proceeds : (options : ParseOptions) (bytes line : List ℕ) (row : Row) → (is : IsRow options bytes line row) →
+    row.kind ≡ TextRow → (more : List Cell) → IsContinued (rest_cells no_line is.rest row.first ++ more)
+row-proceeds options bytes line row is text more =
+    proceeds-on (rest_cells no_line is.rest row.first) more
     (no_feed-rest is.rest.spaces is.rest.bytes row.first
     (uncut-no_ending is.rest.spaces is.rest.bytes (subst NoEnding is.line_is is.no_ending)))
     (row-dark options bytes line row is text)
 
 lines-go : (options : ParseOptions) (bytes : List ℕ) (row : Row) (rows : List Row) →
-    (h : AreLines options bytes row rows) → GoesOn (lines_are options bytes row rows h)
+    (h : AreLines options bytes row rows) → IsContinued (lines_are options bytes row rows h)
 lines-go options bytes row [] h =
-    subst GoesOn (append-nil (rest_cells no_line h.1.rest row.first)) (row-goes options bytes h.0 row h.1 h.2 [])
+    subst IsContinued (append-nil (rest_cells no_line h.1.rest row.first))
+    (row-proceeds options bytes h.0 row h.1 h.2 [])
 lines-go options bytes row (next ∷ rows) h =
-    row-goes options bytes h.0 row h.1 h.2 (cell 10 next.first no_line ∷ lines_are options bytes next rows h.7)
+    row-proceeds options bytes h.0 row h.1 h.2 (cell 10 next.first no_line ∷ lines_are options bytes next rows h.7)
 
 -- cells of a line before others
 steps-walk : (bytes : List ℕ) (last p : Point) (xs ys : List Cell) (turns : List Turn) → Steps bytes p xs →
@@ -328,20 +329,20 @@ lines-walks options bytes sized x k row [] h r said within =
     (rest-ends options bytes h.0 row h.1, refl))
 lines-walks options bytes sized x k row (next ∷ rows) h r said within =
     let cells = rest_cells no_line h.1.rest row.first in
-    let behind = lines_are options bytes next rows h.7 in
+    let following = lines_are options bytes next rows h.7 in
     let c = cell 10 next.first no_line in
     let last = (last_row next rows).end in
     let turns = turns_of options bytes row (next ∷ rows) in
     let left = turns_of options bytes next rows in
     let on = leads options bytes x k row next rows h r in
     let below = first-text options bytes next rows h.7 in
-    let broken : IsBreak bytes row.end (behind_row row) next.first next.front =
-    subst (λ (q : Point). IsBreak bytes row.end q next.first next.front) (sym (behind-is row h.3 h.4))
+    let broken : IsBreak bytes row.end (after_row row) next.first next.front =
+    subst (λ (q : Point). IsBreak bytes row.end q next.first next.front) (sym (following-is row h.3 h.4))
     (record { whole = h.1.end_whole; ending = h.5; front_is = h.6; column = below.1.first_column }) in
-    let turn : IsTurn bytes row.end c behind turns left = record {
+    let turn : IsTurn bytes row.end c following turns left = record {
       turn = record {
         end = row.end;
-        break = record { after = behind_row row; front = next.front };
+        break = record { after = after_row row; front = next.front };
         first = next.first;
         cells = lines_cells options bytes next rows;
       };
@@ -352,18 +353,18 @@ lines-walks options bytes sized x k row (next ∷ rows) h r said within =
       said = refl;
       cells = sym (lines-are options bytes sized next rows h.7);
       break = broken;
-      stands = next-stands next rows h.7;
+      valid = next-valid next rows h.7;
       filled = lines-go options bytes next rows h.7;
     } in
-    steps-walk bytes last row.first cells (c ∷ behind) turns
-    (row-steps options bytes h.0 x row (c ∷ behind) h.1 r.small r.bytes_are within said
+    steps-walk bytes last row.first cells (c ∷ following) turns
+    (row-steps options bytes h.0 x row (c ∷ following) h.1 r.small r.bytes_are within said
     (lines-feed options bytes x k row (next ∷ rows) h r said))
-    (subst (λ (q : Point). Walks bytes last q (c ∷ behind) turns) (sym (rest-ends options bytes h.0 row h.1))
+    (subst (λ (q : Point). Walks bytes last q (c ∷ following) turns) (sym (rest-ends options bytes h.0 row h.1))
     (left, inr turn, lines-walks options bytes sized x (k + 1) next rows h.7 on.below said within))
   where
-    next-stands : (row : Row) (rows : List Row) → AreLines options bytes row rows → Stands bytes row.first
-    next-stands row [] h = row-stands options bytes h.0 row h.1 h.2
-    next-stands row (next ∷ rows) h = row-stands options bytes h.0 row h.1 h.2
+    next-valid : (row : Row) (rows : List Row) → AreLines options bytes row rows → Valid bytes row.first
+    next-valid row [] h = row-valid options bytes h.0 row h.1 h.2
+    next-valid row (next ∷ rows) h = row-valid options bytes h.0 row h.1 h.2
 
 -- The cells of lines are in the text, one after another.
 pub lines-walk : (options : ParseOptions) (bytes : List ℕ) → length bytes < 2 ^ 61 → (row : Row) (rows : List Row) →
@@ -375,7 +376,7 @@ lines-walk options bytes small row rows h =
     let within = last-within options bytes row rows h in
     let limit = r.limit in
     record {
-      stands = first-stands row rows h;
+      valid = first-valid row rows h;
       walks =
           subst
           (λ (l : List Cell). Walks bytes (last_row row rows).end row.first l (turns_of options bytes row rows))
@@ -386,9 +387,9 @@ lines-walk options bytes small row rows h =
       whole = last-whole row rows h;
     }
   where
-    first-stands : (row : Row) (rows : List Row) → AreLines options bytes row rows → Stands bytes row.first
-    first-stands row [] h = row-stands options bytes h.0 row h.1 h.2
-    first-stands row (next ∷ rows) h = row-stands options bytes h.0 row h.1 h.2
+    first-valid : (row : Row) (rows : List Row) → AreLines options bytes row rows → Valid bytes row.first
+    first-valid row [] h = row-valid options bytes h.0 row h.1 h.2
+    first-valid row (next ∷ rows) h = row-valid options bytes h.0 row h.1 h.2
 
     last-whole : (row : Row) (rows : List Row) → AreLines options bytes row rows → (last_row row rows).end.vs ≡ 0
     last-whole row [] h = h.1.end_whole

@@ -14,7 +14,7 @@ use Rattle.md_events.specs.Look.{first_seen}
 use Rattle.md_events.specs.Spaces.{ends_line}
 use Rattle.md_events.proofs.FeedLines.{cell}
 use Rattle.proof_frame.specs.Laid.{LineBreak, laid}
-use Rattle.proof_frame.specs.Row.{Row, behind_row, last_row, breaks_of}
+use Rattle.proof_frame.specs.Row.{Row, after_row, last_row, breaks_of}
 use Rattle.proof_content_laws.proofs.Defined.Along.{IsCell, IsTurn, Turn, Walks, breaks}
 use Rattle.proof_rows.proofs.Defined.Cells.{lines-walk, turns_of}
 use Rattle.proof_content_laws.proofs.Defined.Form.{form_unread}
@@ -27,9 +27,9 @@ use Rattle.proof_content_laws.proofs.Defined.Takes.{EndIn, Walk, step-plain}
 use Rattle.proof_rows.proofs.GroupLines.{AreLines}
 
 -- what follows it: nothing, or the ending of its last line and the cells of the others
-abbrev pub IsBehind : ParseOptions → List ℕ → DefinitionParts → List Row → Type 0
-IsBehind options bytes d [] = definition_rest d ≡ []
-IsBehind options bytes d (next ∷ more) =
+abbrev pub IsAfter : ParseOptions → List ℕ → DefinitionParts → List Row → Type 0
+IsAfter options bytes d [] = definition_rest d ≡ []
+IsAfter options bytes d (next ∷ more) =
     (said : Line) × (definition_rest d ≡ cell 10 next.first said ∷ lines_cells options bytes next more)
 
 -- its events over lines that end all at a point: without what is before these lines they are others, which belong to
@@ -47,7 +47,7 @@ pub record IsCut (options : ParseOptions) (bytes : List ℕ) (row : Row) (rows :
     Type 0 where
   pub many : further_lines d row ≤ length rows
   pub defined : IsDefined bytes d row (take (further_lines d row) rows)
-  pub rest : IsBehind options bytes d (drop (further_lines d row) rows)
+  pub rest : IsAfter options bytes d (drop (further_lines d row) rows)
   pub end : definition_end d ≡ (last_row row (take (further_lines d row) rows)).end
   pub set : IsSet (last_row row rows).end d row (take (further_lines d row) rows)
 
@@ -68,56 +68,56 @@ taken options bytes row [] (t ∷ took) left e = cc
 taken options bytes row (next ∷ rows) (t ∷ took) left e =
     let turn : Turn = record {
       end = row.end;
-      break = record { after = behind_row row; front = next.front };
+      break = record { after = after_row row; front = next.front };
       first = next.first;
       cells = lines_cells options bytes next rows;
     } in
     let first : turn ≡ t = cc in
-    let behind : turns_of options bytes next rows ≡ took ++ left = cc in
-    let more = taken options bytes next rows took left behind in
+    let following : turns_of options bytes next rows ≡ took ++ left = cc in
+    let more = taken options bytes next rows took left following in
     let many = more.many in
     record {
       many = omega (arith, many);
       breaks_are =
           ap (λ (x : Turn). x.break ∷ breaks took) (sym first)
-          ∙ ap (λ (l : List LineBreak). (record { after = behind_row row; front = next.front }) ∷ l) more.breaks_are;
+          ∙ ap (λ (l : List LineBreak). (record { after = after_row row; front = next.front }) ∷ l) more.breaks_are;
       left_are = more.left_are;
       last = more.last;
     }
 
 -- What follows a definition.
 
-record Behind (options : ParseOptions) (bytes : List ℕ) (d : DefinitionParts) (row : Row) (rows : List Row) :
+record Following (options : ParseOptions) (bytes : List ℕ) (d : DefinitionParts) (row : Row) (rows : List Row) :
     Type 0 where
-  rest : IsBehind options bytes d rows
+  rest : IsAfter options bytes d rows
   end : definition_end d ≡ row.end
 
-behind : (options : ParseOptions) (bytes : List ℕ) (last : Point) (d : DefinitionParts) (row : Row) (rows : List Row)
+following : (options : ParseOptions) (bytes : List ℕ) (last : Point) (d : DefinitionParts) (row : Row) (rows : List Row)
     (left : List Turn) → Walk bytes last (definition_end d) (definition_rest d) left →
     ends_line (first_seen (definition_rest d)) ≡ true → left ≡ turns_of options bytes row rows →
-    last ≡ (last_row row rows).end → Behind options bytes d row rows
-behind options bytes last d row rows left walk ends are end =
+    last ≡ (last_row row rows).end → Following options bytes d row rows
+following options bytes last d row rows left walk ends are end =
     go (definition_rest d) refl walk.walks ends rows are end
   where
     none : (rows : List Row) → [] ≡ turns_of options bytes row rows → last ≡ (last_row row rows).end →
-        definition_rest d ≡ [] → definition_end d ≡ last → Behind options bytes d row rows
+        definition_rest d ≡ [] → definition_end d ≡ last → Following options bytes d row rows
     none [] are end e k = record { rest = e; end = k ∙ end }
     none (next ∷ rows) are end e k = cc
 
-    some : (c : Cell) (cs : List Cell) (behind : List Turn) → definition_rest d ≡ c ∷ cs →
-        IsTurn bytes (definition_end d) c cs left behind → (rows : List Row) →
-        left ≡ turns_of options bytes row rows → Behind options bytes d row rows
-    some c cs behind e turn [] are =
-        let bad : turn.turn ∷ behind ≡ [] = sym turn.turns_are ∙ are in
+    some : (c : Cell) (cs : List Cell) (following : List Turn) → definition_rest d ≡ c ∷ cs →
+        IsTurn bytes (definition_end d) c cs left following → (rows : List Row) →
+        left ≡ turns_of options bytes row rows → Following options bytes d row rows
+    some c cs following e turn [] are =
+        let bad : turn.turn ∷ following ≡ [] = sym turn.turns_are ∙ are in
         cc
-    some c cs behind e turn (next ∷ more) are =
+    some c cs following e turn (next ∷ more) are =
         let t : Turn = record {
           end = row.end;
-          break = record { after = behind_row row; front = next.front };
+          break = record { after = after_row row; front = next.front };
           first = next.first;
           cells = lines_cells options bytes next more;
         } in
-        let both : turn.turn ∷ behind ≡ t ∷ turns_of options bytes next more = sym turn.turns_are ∙ are in
+        let both : turn.turn ∷ following ≡ t ∷ turns_of options bytes next more = sym turn.turns_are ∙ are in
         let same : turn.turn ≡ t = cc in
         let first : c.after ≡ next.first = turn.after ∙ ap (λ (x : Turn). x.first) same in
         let cells : cs ≡ lines_cells options bytes next more = turn.cells ∙ ap (λ (x : Turn). x.cells) same in
@@ -136,7 +136,7 @@ behind options bytes last d row rows left walk ends are end =
     go : (cells : List Cell) → definition_rest d ≡ cells →
         Walks bytes last (definition_end d) (definition_rest d) left →
         ends_line (first_seen (definition_rest d)) ≡ true → (rows : List Row) →
-        left ≡ turns_of options bytes row rows → last ≡ (last_row row rows).end → Behind options bytes d row rows
+        left ≡ turns_of options bytes row rows → last ≡ (last_row row rows).end → Following options bytes d row rows
     go [] e walks ends rows are end =
         let here : Walks bytes last (definition_end d) [] left =
         subst (λ (l : List Cell). Walks bytes last (definition_end d) l left) e walks in
@@ -147,11 +147,11 @@ behind options bytes last d row rows left walk ends are end =
         let ten : nat_eq c.byte 10 ≡ true = ap (λ (l : List Cell). ends_line (first_seen l)) (sym e) ∙ ends in
         by here.0 here.1 ten
       where
-        by : (behind : List Turn) → IsCell bytes (definition_end d) c cs left behind → nat_eq c.byte 10 ≡ true →
-            Behind options bytes d row rows
-        by behind (inl (step, same)) ten =
-            let bad : nat_eq c.byte 10 ≡ false = step-plain bytes (definition_end d) c walk.stands step in cc
-        by behind (inr turn) ten = some c cs behind e turn rows are
+        by : (following : List Turn) → IsCell bytes (definition_end d) c cs left following → nat_eq c.byte 10 ≡ true →
+            Following options bytes d row rows
+        by following (inl (step, same)) ten =
+            let bad : nat_eq c.byte 10 ≡ false = step-plain bytes (definition_end d) c walk.valid step in cc
+        by following (inr turn) ten = some c cs following e turn rows are
 
 -- Lines that begin with a definition.
 pub lines-cut : (options : ParseOptions) (bytes : List ℕ) → length bytes < 2 ^ 61 → (row : Row) (rows : List Row) →
@@ -174,7 +174,7 @@ lines-cut options bytes small row rows h d e =
     cut of = record {
       many = subst (λ (n : ℕ). n ≤ length rows) (sym same) known.many;
       defined = subst (λ (n : ℕ). IsDefined bytes d row (take n rows)) (sym same) defined;
-      rest = subst (λ (n : ℕ). IsBehind options bytes d (drop n rows)) (sym same) beyond.rest;
+      rest = subst (λ (n : ℕ). IsAfter options bytes d (drop n rows)) (sym same) beyond.rest;
       end = subst (λ (n : ℕ). definition_end d ≡ (last_row row (take n rows)).end) (sym same) beyond.end;
       set = subst (λ (n : ℕ). IsSet (last_row row rows).end d row (take n rows)) (sym same) set;
     }
@@ -185,9 +185,9 @@ lines-cut options bytes small row rows h d e =
         known : Taken options bytes row rows took of.left
         known = taken options bytes row rows took of.left of.takes.turns_are
 
-        beyond : Behind options bytes d (last_row row (take (length took) rows)) (drop (length took) rows)
+        beyond : Following options bytes d (last_row row (take (length took) rows)) (drop (length took) rows)
         beyond =
-            behind options bytes (last_row row rows).end d (last_row row (take (length took) rows))
+            following options bytes (last_row row rows).end d (last_row row (take (length took) rows))
             (drop (length took) rows) of.left of.takes.walk are.ends known.left_are (ap (λ (r : Row). r.end) known.last)
 
         same : further_lines d row ≡ length took
@@ -226,8 +226,8 @@ lines-cut options bytes small row rows h d e =
         defined : IsDefined bytes d row some
         defined = record {
           form = of.form;
-          behind_gap = destination_begin d;
-          behind_target = destination_end d;
+          following_gap = destination_begin d;
+          after_target = destination_end d;
           is = of.is;
           first = of.first;
           last = of.end ∙ beyond.end;

@@ -4,11 +4,11 @@ use Rattle.std.specs.Prelude.{◌==◌, nat_lt, length, Option, Some, None}
 use Rattle.md_engine.specs.declared.configuration.ParseOptions.{ParseOptions}
 use Rattle.md_meaning.specs.Html.{HtmlKind, html_ends}
 use Rattle.md_meaning.specs.Ascii.{dollar}
-use Rattle.md_meaning.specs.Leaves.{LeafResult, Finished, Opened, closes, fence_goes_on, html_line}
+use Rattle.md_meaning.specs.Leaves.{LeafResult, Finished, Opened, closes, fence_continued, html_line}
 use Rattle.md_meaning.specs.Rest.{Rest, line_of, lose}
 use Rattle.md_meaning.specs.State.{Leaf, NoLeaf, OpenCode, OpenFence, OpenHtml, OpenParagraph, OpenTable, Opening}
 use Rattle.md_meaning.specs.State.{fence_block, shut, without_trailing_blank}
-use Rattle.md_meaning.specs.Step.{came}
+use Rattle.md_meaning.specs.Step.{became}
 use Rattle.md_meaning.specs.Tree.{Blocks, Code, Fence, Html, Line, Math, Table}
 use Rattle.proof_frame.specs.HeldLeaf.{left_by}
 use Rattle.md_engine.specs.declared.tokenizer.held_leaf.HeldLeaf.TheVariants as held_leaf
@@ -22,7 +22,7 @@ use Rattle.proof_frame.specs.Row.{BlankRow, LeafRow, Row, RowKind, TextRow}
 use Rattle.proof_content_laws.proofs.Labels.Reading.{shown_labels}
 use Rattle.proof_content_laws.proofs.Labels.Trees.{defined-then, defined_by, defined_in}
 use Rattle.proof_rows.proofs.RowLeaf.{block_of}
-use Rattle.proof_frame.proofs.SpanLaws.{AreBehind, come_behind}
+use Rattle.proof_frame.proofs.SpanLaws.{AreAfter, becomes_after}
 
 -- an open leaf that is no text
 abbrev pub IsNoText : Leaf → Type 0
@@ -44,7 +44,7 @@ fence-unlabelled o lines closed = go (o.marker == dollar)
 
 -- so it shows none
 pub shut-unlabelled : (options : ParseOptions) (bs : Blocks) (c : LeafResult) → IsUnlabelled c →
-    defined_in (shut options (came bs c)) ≡ defined_in bs
+    defined_in (shut options (became bs c)) ≡ defined_in bs
 shut-unlabelled options bs (Finished block) h =
     defined-then bs block ∙ ap (λ (l : List (List ℕ)). defined_in bs ++ l) h ∙ append-nil (defined_in bs)
 shut-unlabelled options bs (Opened NoLeaf) h = refl
@@ -75,10 +75,10 @@ html-begun-unlabelled : (o : Option HtmlKind) (r : Rest) → IsUnlabelled (begin
 html-begun-unlabelled None r = refl
 html-begun-unlabelled (Some kind) r = html-line-unlabelled kind [] r
 
-fence-goes-unlabelled : (options : ParseOptions) (o : Opening) (lines : List Line) (r : Rest) →
-    IsUnlabelled (fence_goes_on options o lines r)
-unfolding fence_goes_on
-fence-goes-unlabelled options o lines r = go (closes options o r)
+fence-proceeds-unlabelled : (options : ParseOptions) (o : Opening) (lines : List Line) (r : Rest) →
+    IsUnlabelled (fence_continued options o lines r)
+unfolding fence_continued
+fence-proceeds-unlabelled options o lines r = go (closes options o r)
   where
     go : (x : Bool) →
         IsUnlabelled
@@ -86,43 +86,43 @@ fence-goes-unlabelled options o lines r = go (closes options o r)
     go true = fence-unlabelled o lines true
     go false = tt
 
-comes-unlabelled : (l : LeafName) (options : ParseOptions) (open_leaf : Leaf) (r : Rest) → IsNoText open_leaf →
-    IsUnlabelled ((leaf l).comes options open_leaf r)
-comes-unlabelled registry.FenceFurther options (OpenFence o lines) r h = fence-goes-unlabelled options o lines r
-comes-unlabelled registry.FenceFurther options open_leaf r h = h
-comes-unlabelled registry.HtmlFlow options open_leaf r h = html-begun-unlabelled (kind_begun r) r
-comes-unlabelled registry.HtmlFurther options (OpenHtml kind lines) r h = html-line-unlabelled kind lines r
-comes-unlabelled registry.CodeIndented options open_leaf r h = tt
-comes-unlabelled registry.CodeFurther options open_leaf r h = tt
-comes-unlabelled registry.Fence options open_leaf r h = tt
-comes-unlabelled registry.GfmTable options (OpenParagraph lines) r h = tt
-comes-unlabelled registry.GfmTable options (OpenTable delimiter rows) r h = tt
-comes-unlabelled _ options open_leaf r h = refl
+becomes-unlabelled : (l : LeafName) (options : ParseOptions) (open_leaf : Leaf) (r : Rest) → IsNoText open_leaf →
+    IsUnlabelled ((leaf l).becomes options open_leaf r)
+becomes-unlabelled registry.FenceFurther options (OpenFence o lines) r h = fence-proceeds-unlabelled options o lines r
+becomes-unlabelled registry.FenceFurther options open_leaf r h = h
+becomes-unlabelled registry.HtmlFlow options open_leaf r h = html-begun-unlabelled (kind_begun r) r
+becomes-unlabelled registry.HtmlFurther options (OpenHtml kind lines) r h = html-line-unlabelled kind lines r
+becomes-unlabelled registry.CodeIndented options open_leaf r h = tt
+becomes-unlabelled registry.CodeFurther options open_leaf r h = tt
+becomes-unlabelled registry.Fence options open_leaf r h = tt
+becomes-unlabelled registry.GfmTable options (OpenParagraph lines) r h = tt
+becomes-unlabelled registry.GfmTable options (OpenTable delimiter rows) r h = tt
+becomes-unlabelled _ options open_leaf r h = refl
 
 left-no-text : (c : LeafResult) → IsUnlabelled c → IsNoText (left_by c)
 left-no-text (Opened open_leaf) h = h
 left-no-text (Finished block) h = tt
 
-behind-unlabelled : (options : ParseOptions) (bytes : List ℕ) (l : LeafName) (row : Row) (rows : List Row)
-    (are : AreBehind options bytes (leaf l) row rows) (c : LeafResult) →
-    IsUnlabelled c → IsUnlabelled (come_behind options bytes (leaf l) row rows are c)
-behind-unlabelled options bytes l row [] are c h = h
-behind-unlabelled options bytes l row (next ∷ rows) are c h =
-    behind-unlabelled options bytes l next rows are.7
-    (cond (nat_lt are.0.index (length bytes)) ((leaf l).comes options (left_by c) are.6.rest) c)
+following-unlabelled : (options : ParseOptions) (bytes : List ℕ) (l : LeafName) (row : Row) (rows : List Row)
+    (are : AreAfter options bytes (leaf l) row rows) (c : LeafResult) →
+    IsUnlabelled c → IsUnlabelled (becomes_after options bytes (leaf l) row rows are c)
+following-unlabelled options bytes l row [] are c h = h
+following-unlabelled options bytes l row (next ∷ rows) are c h =
+    following-unlabelled options bytes l next rows are.7
+    (cond (nat_lt are.0.index (length bytes)) ((leaf l).becomes options (left_by c) are.6.rest) c)
     (go (nat_lt are.0.index (length bytes)))
   where
-    go : (x : Bool) → IsUnlabelled (cond x ((leaf l).comes options (left_by c) are.6.rest) c)
-    go true = comes-unlabelled l options (left_by c) are.6.rest (left-no-text c h)
+    go : (x : Bool) → IsUnlabelled (cond x ((leaf l).becomes options (left_by c) are.6.rest) c)
+    go true = becomes-unlabelled l options (left_by c) are.6.rest (left-no-text c h)
     go false = h
 
 -- the lines of a leaf of several, from the first on
 pub lines-unlabelled : (options : ParseOptions) (bytes : List ℕ) (first further : LeafName) (row : Row)
-    (rows : List Row) (are : AreBehind options bytes (leaf further) row rows) (r : Rest) →
-    IsUnlabelled (come_behind options bytes (leaf further) row rows are ((leaf first).comes options NoLeaf r))
+    (rows : List Row) (are : AreAfter options bytes (leaf further) row rows) (r : Rest) →
+    IsUnlabelled (becomes_after options bytes (leaf further) row rows are ((leaf first).becomes options NoLeaf r))
 lines-unlabelled options bytes first further row rows are r =
-    behind-unlabelled options bytes further row rows are ((leaf first).comes options NoLeaf r)
-    (comes-unlabelled first options NoLeaf r tt)
+    following-unlabelled options bytes further row rows are ((leaf first).becomes options NoLeaf r)
+    (becomes-unlabelled first options NoLeaf r tt)
 
 -- a line that is no text
 leaf-unlabelled : (l : LeafName) (r : Rest) → defined_by ((leaf l).block r) ≡ []

@@ -10,10 +10,10 @@ use Rattle.md_link_definitions.specs.DefinitionRule.{DefinitionParts, definition
 use Rattle.proof_rows.specs.BlockList.{lines_unread, text_unread}
 use Rattle.proof_frame.specs.Row.{Row, ending_events, last_row}
 use Rattle.proof_content_laws.specs.Defined.{defined_unread}
-use Rattle.proof_rows.specs.Rows.{behind_cut, cut_at_most, cut_by, defined_done, further_lines, lines_cells, lines_done}
+use Rattle.proof_rows.specs.Rows.{after_cut, cut_at_most, cut_by, defined_done, further_lines, lines_cells, lines_done}
 use Rattle.proof_rows.specs.Rows.{text_done}
 use Rattle.proof_rows.proofs.ContentCut.{lines-split}
-use Rattle.proof_rows.proofs.Defined.Cut.{IsBehind, lines-cut}
+use Rattle.proof_rows.proofs.Defined.Cut.{IsAfter, lines-cut}
 use Rattle.proof_frame.proofs.FrontFacts.{LinePrefix}
 use Rattle.md_events.proofs.FeedLines.{IsEnding}
 use Rattle.md_engine.specs.declared.event.Point.{Point}
@@ -48,7 +48,7 @@ pub record OfCuts (options : ParseOptions) (bytes : List ℕ)
   pub rest : (row : Row) (rows : List Row) (are : AreLines options bytes row rows) → C row rows are →
       (d : DefinitionParts) → options.constructs.definition ≡ true →
       definition_parts (lines_cells options bytes row rows) ≡ Some d → (own left : List Row) → own ++ left ≡ rows →
-      IsBehind options bytes d left →
+      IsAfter options bytes d left →
       IsRest options bytes C
       (AreLines options bytes row own → IsDefined bytes d row own →
       R row own (defined_unread d row own) (defined_unread d row own) (defined_done bytes d row own)) left
@@ -76,23 +76,23 @@ module _ (options : ParseOptions) (bytes : List ℕ)
   cut_done k = cut_at_most (defined_done bytes) done options bytes k
 
   -- by the lines after a definition
-  behind-cut : (k : ℕ) (row : Row) (own left : List Row) (d : DefinitionParts) →
+  following-cut : (k : ℕ) (row : Row) (own left : List Row) (d : DefinitionParts) →
       AreLines options bytes row (own ++ left) → IsDefined bytes d row own →
       IsRest options bytes C
       (AreLines options bytes row own → IsDefined bytes d row own →
       R row own (defined_unread d row own) (defined_unread d row own) (defined_done bytes d row own)) left →
       ((next : Row) (below : List Row) → length below < length left → (are : AreLines options bytes next below) →
       C next below are → R next below (cut_before k next below) (cut_unread k next below) (cut_done k next below)) →
-      R row (own ++ left) (defined_unread d row own ++ behind_cut (cut_before k) (last_row row own) left)
-      (defined_unread d row own ++ behind_cut (cut_unread k) (last_row row own) left)
-      (defined_done bytes d row own ++ behind_cut (cut_done k) (last_row row own) left)
-  behind-cut k row own [] d are is rest more =
+      R row (own ++ left) (defined_unread d row own ++ after_cut (cut_before k) (last_row row own) left)
+      (defined_unread d row own ++ after_cut (cut_unread k) (last_row row own) left)
+      (defined_done bytes d row own ++ after_cut (cut_done k) (last_row row own) left)
+  following-cut k row own [] d are is rest more =
       let unread = defined_unread d row own in
       let done = defined_done bytes d row own in
       subst (λ (l : List Row). R row l (unread ++ []) (unread ++ []) (done ++ [])) (sym (append-nil own))
       (subst₂ (λ (es fs : List Event). R row own es es fs) (sym (append-nil unread)) (sym (append-nil done))
       (rest (lines-front options bytes row own [] are) is))
-  behind-cut k row own (next ∷ below) d are is rest more =
+  following-cut k row own (next ∷ below) d are is rest more =
       let two = lines-split options bytes row own next below are in
       let q = two.3 in
       let end : Row = last_row row own in
@@ -103,8 +103,8 @@ module _ (options : ParseOptions) (bytes : List ℕ)
       ∙ ap (λ (l : List Event). front ++ ((l ++ next.front) ++ es)) (sym (ending-is n.LineEnding end q two.4)) in
       subst
       (λ (ts : List Event).
-      R row (own ++ next ∷ below) ts (defined_unread d row own ++ behind_cut (cut_unread k) end (next ∷ below))
-      (defined_done bytes d row own ++ behind_cut (cut_done k) end (next ∷ below)))
+      R row (own ++ next ∷ below) ts (defined_unread d row own ++ after_cut (cut_unread k) end (next ∷ below))
+      (defined_done bytes d row own ++ after_cut (cut_done k) end (next ∷ below)))
       (gap (defined_unread d row own) (cut_before k next below))
       (subst₂
       (R row (own ++ next ∷ below)
@@ -139,14 +139,14 @@ module _ (options : ParseOptions) (bytes : List ℕ)
           let all : take few rows ++ drop few rows ≡ rows = take-append-drop few rows in
           subst
           (λ (l : List Row).
-          R row l (defined_unread d row (take few rows) ++ behind_cut (cut_before k) (last_row row (take few rows))
+          R row l (defined_unread d row (take few rows) ++ after_cut (cut_before k) (last_row row (take few rows))
           (drop few rows))
-          (defined_unread d row (take few rows) ++ behind_cut (cut_unread k) (last_row row (take few rows))
+          (defined_unread d row (take few rows) ++ after_cut (cut_unread k) (last_row row (take few rows))
           (drop few rows))
-          (defined_done bytes d row (take few rows) ++ behind_cut (cut_done k) (last_row row (take few rows))
+          (defined_done bytes d row (take few rows) ++ after_cut (cut_done k) (last_row row (take few rows))
           (drop few rows)))
           all
-          (behind-cut k row (take few rows) (drop few rows) d (subst (AreLines options bytes row) (sym all) are)
+          (following-cut k row (take few rows) (drop few rows) d (subst (AreLines options bytes row) (sym all) are)
           cut.defined
           (of.rest row rows are holds d on e (take few rows) (drop few rows) all cut.rest)
           (λ next below shorter.
@@ -160,7 +160,7 @@ cut-is options bytes row rows are =
     (λ row rows ts es fs. IsCutText options bytes row rows es fs)
     (record {
       remains = λ row rows are holds. Remains row rows are;
-      rest = λ row rows are holds d on e own left all behind. rest d row own left;
+      rest = λ row rows are holds d on e own left all following. rest d row own left;
       follows = λ d row own next more q ts es fs are is after ending front cut.
           Follows d row own next more q es fs are is after ending front cut;
     }) (first-text options bytes row rows are).1.small (suc (length rows)) row rows are tt (omega arith)

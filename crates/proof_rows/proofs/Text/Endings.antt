@@ -1,5 +1,5 @@
 -- The lines of a text fill their leaf, before they are read and once they are.
-use Rattle.proof_frame.proofs.FrontStands.{fronts-others}
+use Rattle.proof_frame.proofs.FrontValid.{fronts-others}
 use Rattle.std.proofs.Common.{◌≡◌, ℕ, ◌+◌, ◌<◌, Bool, true, false, cond, List, [], ◌∷◌, ◌++◌, length, refl, sym, subst}
 use Rattle.std.proofs.Common.{arith}
 use Rattle.std.proofs.lemmas.Bool.Decides.{nat_tests}
@@ -13,7 +13,7 @@ use Rattle.md_events.specs.Events.Nested.{pair}
 use Rattle.md_events.specs.Events.Places.{same_place}
 use Rattle.md_events.proofs.EndingsLemmas.{Filling, Stays, filling-append, stays-append, stays-others}
 use Rattle.md_events.proofs.InlineLemmas.{same-refl}
-use Rattle.proof_frame.specs.Row.{Row, TextRow, behind_row, read_lines}
+use Rattle.proof_frame.specs.Row.{Row, TextRow, after_row, read_lines}
 use Rattle.proof_rows.specs.BlockList.{unread_lines}
 use Rattle.proof_frame.proofs.FrontFacts.{LinePrefix}
 use Rattle.proof_rows.proofs.GroupLines.{AreLines}
@@ -33,7 +33,7 @@ pub linked-filling : (options : ParseOptions) (bytes : List ℕ) (row : Row) (ro
     AreLines options bytes row rows → Filling (unread_lines row rows)
 linked-filling options bytes row [] is = λ from ys. refl
 linked-filling options bytes row (next ∷ rows) is =
-    filling-next bytes is.3 next.first (unread_lines (record row { end = behind_row row }) []) next.front
+    filling-next bytes is.3 next.first (unread_lines (record row { end = after_row row }) []) next.front
     (unread_lines next rows) (λ from. (true, λ ys. refl)) is.6 (linked-filling options bytes next rows is.7)
 
 -- and once they are: the last is not empty, and has no ending there
@@ -62,6 +62,6 @@ pub read-filling : (options : ParseOptions) (bytes : List ℕ) (row : Row) (rows
     AreLines options bytes row rows → Filling (read_lines bytes row rows)
 read-filling options bytes row [] is = last-filling options bytes is.0 row is.1 is.2
 read-filling options bytes row (next ∷ rows) is =
-    let chunk : Chunk = record { first = row.first; after = behind_row row } in
+    let chunk : Chunk = record { first = row.first; after = after_row row } in
     filling-next bytes is.3 next.first (plain_chunk bytes chunk) next.front (read_lines bytes next rows)
     (chunk-stays bytes chunk) is.6 (read-filling options bytes next rows is.7)

@@ -34,7 +34,7 @@ use Rattle.md_engine.specs.declared.event.Name.{Name}
 use Rattle.md_events.specs.Events.Nested.{around}
 use Rattle.md_events.specs.Events.Tiles.{part_kind}
 use Rattle.proof_frame.proofs.EventNames.{NoContainer, part-no_container}
-use Rattle.proof_frame.proofs.LeafStands.{between-part}
+use Rattle.proof_frame.proofs.LeafAllowed.{between-part}
 use Rattle.proof_frame.proofs.Stretch.{Stretch}
 use Rattle.proof_frame.proofs.TextInside.{stretch-part}
 
@@ -72,12 +72,12 @@ pub text-facts : (options : ParseOptions) (bytes : List ℕ) (row : Row) (rows :
     LeafFacts bytes (Some (text_leaf.block (texts (kept-of options bytes row rows h)))) true row.first
     (last_row row rows).end (lines_unread row rows) (lines_done bytes row rows)
 text-facts options bytes row rows h = record {
-  stand = record {
+  are_valid = record {
     stretch =
         lines-stretch NoContainer options bytes text_leaf.name row rows tt
         (λ x between. part-no_container x (between-part x between)) refl
         (text-sits options bytes text_leaf.name AsParagraph row rows refl (λ p span. refl) h) h;
-    behind = true;
+    following = true;
     unread_word =
         leads-around unread_text blocks text_leaf.name row.first end unread
         (linked-word options bytes unread_text row rows refl h);
@@ -86,7 +86,7 @@ text-facts options bytes row rows h = record {
     unread_ending =
         leaf-leads text_leaf.name row.first end unread refl (linked-filling options bytes row rows h true);
     ending = leaf-leads text_leaf.name row.first end done refl (read-filling options bytes row rows h true);
-    stands = λ held. text-laws.stands bytes held row.first end done (lines-read options bytes row rows h).between;
+    valid = λ held. text-laws.valid bytes held row.first end done (lines-read options bytes row rows h).between;
     plain =
         λ first. plain-around bytes text_leaf.name row.first end done refl first
         (end-clear options bytes row rows h) (lines-inside options bytes row rows h).plain;

@@ -20,10 +20,10 @@ use Rattle.md_events.specs.Events.Spelled.{role}
 use Rattle.proof_rows.specs.BlockList.{lines_unread}
 use Rattle.proof_frame.specs.Row.{Row, last_row}
 use Rattle.proof_content_laws.specs.Defined.{defined_unread}
-use Rattle.proof_content_laws.proofs.Defined.Form.{Form, Gap, IsForm, IsGap, IsStrand, IsText, IsTitle, LastLine, Literal}
-use Rattle.proof_content_laws.proofs.Defined.Form.{NoLine, OneLine, OnLine, OverLine, Raw, Strand, Target, Titled}
-use Rattle.proof_content_laws.proofs.Defined.Form.{form_unread, gap_events, inside_by, label_by, strand_unread, string_of}
-use Rattle.proof_content_laws.proofs.Defined.Form.{string_unread, target_by, title_by, unless_empty}
+use Rattle.proof_content_laws.proofs.Defined.Form.{Form, Gap, IsForm, IsGap, IsStrand, IsText, IsTitle, LastLine}
+use Rattle.proof_content_laws.proofs.Defined.Form.{Literal, NoLine, OneLine, OnLine, OverLine, Raw, Strand, Target}
+use Rattle.proof_content_laws.proofs.Defined.Form.{Titled, form_unread, gap_events, inside_by, label_by, strand_unread}
+use Rattle.proof_content_laws.proofs.Defined.Form.{string_of, string_unread, target_by, title_by, unless_empty}
 use Rattle.proof_content_laws.proofs.Defined.Is.{IsDefined}
 use Rattle.proof_content_laws.proofs.Defined.Names.{IsOfDefinition, is_of_definition}
 use Rattle.proof_frame.proofs.ClosedFacts.{IsClosed, OpensNothing, closed-append, closed-each, closed-ending}
@@ -184,9 +184,10 @@ title-of L of bytes p q (Some t) is =
     (marked-of L of n.DefinitionTitleMarker t.p t.a t.b t.q string refl (text-of L of bytes t.a t.b t.text is.inside)))
 
 -- All of it.
-form-of : (L : List Event → Type 0) → OfDefinitions L → (bytes : List ℕ) (x : Form) (behind_gap behind_target : Point) →
-    IsForm bytes x behind_gap behind_target → L (form_unread x)
-form-of L of bytes x behind_gap behind_target is =
+form-of : (L : List Event → Type 0) → OfDefinitions L →
+    (bytes : List ℕ) (x : Form) (following_gap after_target : Point) →
+    IsForm bytes x following_gap after_target → L (form_unread x)
+form-of L of bytes x following_gap after_target is =
     of.append (pair_unless_empty n.SpaceOrTab x.first x.p)
     (around n.Definition x.p x.last (inside_by strand_unread string_unread x)) (white-of L of x.first x.p)
     (around-of L of n.Definition x.p x.last (inside_by strand_unread string_unread x) refl
@@ -194,8 +195,8 @@ form-of L of bytes x behind_gap behind_target is =
     (of.append (((label ++ colon) ++ gap) ++ target) title
     (of.append ((label ++ colon) ++ gap) target
     (of.append (label ++ colon) gap (of.append label colon label-is (of.all colon (refl, (refl, tt))))
-    (gap-of L of bytes x.d behind_gap x.gap is.gap))
-    (target-of L of x.target)) (title-of L of bytes behind_target x.e x.title is.title)) (white-of L of x.e x.last)))
+    (gap-of L of bytes x.d following_gap x.gap is.gap))
+    (target-of L of x.target)) (title-of L of bytes after_target x.e x.title is.title)) (white-of L of x.e x.last)))
   where
     label : List Event
     label = label_by strand_unread x
@@ -226,7 +227,7 @@ form-of L of bytes x behind_gap behind_target is =
 pub defined-of : (L : List Event → Type 0) → OfDefinitions L → (bytes : List ℕ) (d : DefinitionParts) (row : Row)
     (rows : List Row) → IsDefined bytes d row rows → L (defined_unread d row rows)
 defined-of L of bytes d row rows is =
-    subst L (sym is.unread) (form-of L of bytes is.form is.behind_gap is.behind_target is.is)
+    subst L (sym is.unread) (form-of L of bytes is.form is.following_gap is.after_target is.is)
 
 -- between two blocks of a text
 pub between-of : (L : List Event → Type 0) → OfDefinitions L → (bytes : List ℕ) (p q r : Point) (front : List Event) →

@@ -1,5 +1,5 @@
 -- Prefixes part a text at the begins of its lines.
-use Rattle.proof_frame.proofs.FrontStands.{fronts-parted}
+use Rattle.proof_frame.proofs.FrontValid.{fronts-parted}
 use Rattle.proof_frame.proofs.Reached.{Fine, Reaches, begins-fine, cut-white, reaches-ended, reaches-fine}
 use Rattle.proof_rows.proofs.GroupLines.{first-text}
 use Rattle.std.proofs.Common.{◌≡◌, ℕ, zero, suc, ◌+◌, ◌<◌, ◌≤◌, Bool, true, false, cond, ◌&&◌, List, [], ◌∷◌, ◌++◌}
@@ -22,13 +22,13 @@ use Rattle.md_events.specs.Events.Spelled.{Purpose, Role, TextRole, byte_at, rol
 use Rattle.md_events.proofs.RestCells.{Cut}
 use Rattle.md_meaning.proofs.TextsLemmas.{NoEnding}
 use Rattle.md_outline.specs.Outlined.{OpenTextSpan, are_parted, parts_by, parts_exit, span_by}
-use Rattle.proof_frame.specs.Row.{BlankRow, Row, TextRow, behind_row, last_row, read_lines}
+use Rattle.proof_frame.specs.Row.{BlankRow, Row, TextRow, after_row, last_row, read_lines}
 use Rattle.proof_rows.specs.Rows.{line_kind, kind_of}
 use Rattle.proof_frame.specs.LeafName.{first_of}
 use Rattle.md_registry.specs.Registry.{leaf, trials}
 use Rattle.proof_rows.proofs.RowFacts.{IsRow}
 use Rattle.proof_frame.proofs.PartedFacts.{PrefixesAtLineStart, clear, passes-chunk}
-use Rattle.proof_frame.proofs.BetweenFacts.{ending-behind}
+use Rattle.proof_frame.proofs.BetweenFacts.{ending-following}
 use Rattle.proof_rows.proofs.GroupLines.{AreLines}
 use Rattle.proof_content_laws.proofs.Text.MayPart.{MayPart, feed-none, line-at, line-clear, line-tab}
 
@@ -110,11 +110,11 @@ text-begins options bytes line row is e =
 core-alone : (bytes : List ℕ) (name : Name) (purpose : Purpose) (row : Row) (ys : List Event) →
     role name ≡ TextRole purpose → MayPart bytes purpose → are_parted bytes None ys ≡ true →
     Core bytes row (read_lines bytes row [] ++ exit name row.end ∷ ys)
-core-alone bytes name purpose row ys tells may h span fine within =
+core-alone bytes name purpose row ys records may h span fine within =
     passes-chunk bytes (Some span) (record { first = row.first; after = row.end }) (exit name row.end ∷ ys)
     ∙ ap
     (λ (x : Role).
-    parts_by bytes Exit x row.end (Some span) && are_parted bytes (span_by Exit x row.end (Some span)) ys) tells
+    parts_by bytes Exit x row.end (Some span) && are_parted bytes (span_by Exit x row.end (Some span)) ys) records
     ∙ and_from (parts_exit bytes (TextRole purpose) row.end span) (are_parted bytes None ys)
     (may row.end span ∙ begins-fine bytes span row.end.index fine) h
 
@@ -124,19 +124,19 @@ pub read-parted : (options : ParseOptions) (bytes : List ℕ) (name : Name) (pur
     role name ≡ TextRole purpose → MayPart bytes purpose → AreLines options bytes row rows →
     are_parted bytes None ys ≡ true →
     Core bytes row (read_lines bytes row rows ++ exit name (last_row row rows).end ∷ ys)
-read-parted options bytes name purpose row [] ys tells may h more span fine within =
-    core-alone bytes name purpose row ys tells may more span fine within
-read-parted options bytes name purpose row (next ∷ rows) ys tells may h more span fine within =
+read-parted options bytes name purpose row [] ys records may h more span fine within =
+    core-alone bytes name purpose row ys records may more span fine within
+read-parted options bytes name purpose row (next ∷ rows) ys records may h more span fine within =
     let q : Point = h.3 in
-    let chunk : Chunk = record { first = row.first; after = behind_row row } in
+    let chunk : Chunk = record { first = row.first; after = after_row row } in
     let events : List Event = plain_chunk bytes chunk in
     let apart : ((events ++ next.front) ++ text) ++ rest ≡
     events ++ (next.front ++ (text ++ rest)) = simp append_assoc in
     ap (are_parted bytes (Some span)) apart
     ∙ passes-chunk bytes (Some span) chunk (next.front ++ (text ++ rest))
-    ∙ fronts-parted bytes [] q next.first next.front span (text ++ rest) h.6 refl (ending-behind bytes row.end q h.5)
+    ∙ fronts-parted bytes [] q next.first next.front span (text ++ rest) h.6 refl (ending-following bytes row.end q h.5)
     (rest-clear options bytes line.0 next line.1) (reaches-ended bytes row.end q span h.5 fine within)
-    (further (read-parted options bytes name purpose next rows ys tells may h.7 more))
+    (further (read-parted options bytes name purpose next rows ys records may h.7 more))
   where
     line : (line : List ℕ) × IsRow options bytes line next × (next.kind ≡ TextRow)
     line = first-text options bytes next rows h.7
@@ -161,7 +161,7 @@ pub text-sits : (options : ParseOptions) (bytes : List ℕ) (name : Name) (purpo
     (rows : List Row) →
     role name ≡ TextRole purpose → MayPart bytes purpose → AreLines options bytes row rows →
     PrefixesAtLineStart bytes (around name row.first (last_row row rows).end (read_lines bytes row rows))
-text-sits options bytes name purpose row rows tells may h ys more =
+text-sits options bytes name purpose row rows records may h ys more =
     let line : (line : List ℕ) × IsRow options bytes line row ×
     (row.kind ≡ TextRow) = first-text options bytes row rows h in
     let begins : BeginsText bytes row = text-begins options bytes line.0 row line.1 line.2 in
@@ -170,5 +170,5 @@ text-sits options bytes name purpose row rows tells may h ys more =
     let span : OpenTextSpan = record { from = byte_at row.first; is_parted = false } in
     ap (λ (es : List Event). are_parted bytes None (enter name row.first ∷ es))
     (append_assoc events (exit name (last_row row rows).end ∷ []) ys)
-    ∙ ap (λ (x : Role). are_parted bytes (span_by Enter x row.first None) rest) tells
-    ∙ read-parted options bytes name purpose row rows ys tells may h more span refl begins.within
+    ∙ ap (λ (x : Role). are_parted bytes (span_by Enter x row.first None) rest) records
+    ∙ read-parted options bytes name purpose row rows ys records may h more span refl begins.within

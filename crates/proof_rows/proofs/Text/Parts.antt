@@ -5,16 +5,16 @@ use Rattle.md_engine.specs.declared.event.Point.{Point}
 use Rattle.md_events.specs.Events.Tiles.{begins_at}
 use Rattle.md_events.proofs.InlineLemmas.{same-refl}
 use Rattle.proof_frame.specs.TextLines.{text_leaf}
-use Rattle.proof_frame.specs.Row.{Row, behind_row, chunks_of, read_lines, last_row}
+use Rattle.proof_frame.specs.Row.{Row, after_row, chunks_of, read_lines, last_row}
 use Rattle.proof_rows.specs.BlockList.{unread_lines}
 use Rattle.proof_rows.proofs.GroupLines.{AreLines}
 use Rattle.md_events.specs.declared.inline.PartKind.TheVariants.{Text}
 use Rattle.md_events.specs.Events.Inline.{line_end}
-use Rattle.proof_rows.proofs.JoinedLemmas.{behind-is}
+use Rattle.proof_rows.proofs.JoinedLemmas.{following-is}
 use Rattle.proof_rows.proofs.Text.Order.{line-order, line-before, next-front}
 use Rattle.proof_rows.proofs.GroupLemmas.{line_end-alone, line_end-ended}
 use Rattle.md_outline.specs.Between.{is_between}
-use Rattle.proof_frame.proofs.BetweenFacts.{ending-before, ending-behind}
+use Rattle.proof_frame.proofs.BetweenFacts.{ending-before, ending-following}
 use Rattle.proof_frame.proofs.TextInside.{TextInside, text-line, text-more}
 use Rattle.proof_rows.proofs.Text.Pieces.{line-alone, line-ended}
 
@@ -26,16 +26,16 @@ lines-inside options bytes row [] h =
     text-line bytes Text text_leaf.link row.first row.end row.end refl (line-alone options bytes h.0 row h.1 h.2)
     (line-order options bytes h.0 row h.1) (line_end-alone options bytes h.0 row h.1) (λ first last. last)
 lines-inside options bytes row (next ∷ rows) h =
-    let q : Point = behind_row row in
-    let behind : q ≡ h.3 = behind-is row h.3 h.4 in
+    let q : Point = after_row row in
+    let following : q ≡ h.3 = following-is row h.3 h.4 in
     let ends : line_end bytes (record { first = row.first; after = q }) ≡
-    row.end = subst (λ (x : Point). line_end bytes (record { first = row.first; after = x }) ≡ row.end) (sym behind)
+    row.end = subst (λ (x : Point). line_end bytes (record { first = row.first; after = x }) ≡ row.end) (sym following)
     (line_end-ended options bytes h.0 row h.3 h.1 h.5) in
     text-more
     (text-line bytes Text text_leaf.link row.first row.end q refl (line-ended options bytes row next rows h)
     (line-before options bytes row next rows h) ends (λ first last. ending-before bytes row.end h.3 h.5))
     (next-front options bytes row next rows h)
-    (subst (λ (x : Point). is_between bytes x.index ≡ true) (sym behind) (ending-behind bytes row.end h.3 h.5))
+    (subst (λ (x : Point). is_between bytes x.index ≡ true) (sym following) (ending-following bytes row.end h.3 h.5))
     (lines-inside options bytes next rows h.7)
 
 -- a text begins with its first chunk

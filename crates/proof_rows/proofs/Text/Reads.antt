@@ -21,7 +21,7 @@ use Rattle.md_link_definitions.specs.DefinitionRule.{definition_rest, destinatio
 use Rattle.md_link_definitions.specs.GapRule.{gap_rest}
 use Rattle.md_link_definitions.specs.TitleRule.{TitleParts}
 use Rattle.md_link_definitions.specs.WholeCells.{AreWhole, whole_cells}
-use Rattle.md_link_definitions.proofs.DefinitionLines.{cut_of, definition-lines, text_bytes, title_told}
+use Rattle.md_link_definitions.proofs.DefinitionLines.{cut_of, definition-lines, text_bytes, title_recorded}
 use Rattle.md_link_definitions.proofs.LineCells.{further}
 use Rattle.md_link_definitions.proofs.SpreadLines.{rest-last, rest-next, rest-whole, whole-append}
 use Rattle.md_events.specs.Ahead.{point_after}
@@ -30,18 +30,19 @@ use Rattle.md_events.specs.Events.Tiles.{plain_read}
 use Rattle.md_events.specs.Spaces.{any_size}
 use Rattle.md_events.proofs.FeedLines.{cell, past_text-whole}
 use Rattle.md_events.proofs.RestCells.{Cut, past_cut, past_rest, rest-end, rest_cells}
-use Rattle.md_events.proofs.SpelledLemmas.{Between, QuietOrEnding, read-between, read-from, roles-append, unmarked-append}
+use Rattle.md_events.proofs.SpelledLemmas.{Between, QuietOrEnding, read-between, read-from, roles-append}
+use Rattle.md_events.proofs.SpelledLemmas.{unmarked-append}
 use Rattle.proof_frame.specs.Row.{Row, ending_events, last_row}
-use Rattle.proof_rows.specs.Rows.{behind_cut, cut_at_most, cut_by, defined_done, further_lines}
+use Rattle.proof_rows.specs.Rows.{after_cut, cut_at_most, cut_by, defined_done, further_lines}
 use Rattle.proof_rows.specs.Rows.{lines_cells, lines_done, text_done}
 use Rattle.proof_rows.proofs.Defined.Cells.{lines-are, lines-small, lines_are}
-use Rattle.proof_rows.proofs.Defined.Cut.{IsBehind, IsCut, lines-cut}
+use Rattle.proof_rows.proofs.Defined.Cut.{IsAfter, IsCut, lines-cut}
 use Rattle.proof_content_laws.proofs.Defined.Facts.{defined-done, defined-facts}
 use Rattle.proof_content_laws.proofs.Defined.Form.{Titled, form_block, target_text, text_lines}
 use Rattle.proof_content_laws.proofs.Defined.Is.{IsDefined}
 use Rattle.proof_frame.proofs.FrontFacts.{LinePrefix}
 use Rattle.proof_rows.proofs.GroupLines.{first-text, AreLines, kept-of}
-use Rattle.proof_frame.proofs.LeafStands.{ending-roles}
+use Rattle.proof_frame.proofs.LeafAllowed.{ending-roles}
 use Rattle.proof_frame.proofs.FrontNames.{fronts-unmarked}
 use Rattle.proof_frame.proofs.ParagraphLines.{fronts-between}
 use Rattle.proof_frame.proofs.Unmarked.{inline-unmarked}
@@ -106,7 +107,7 @@ abbrev pub defined_of : DefinitionParts → Defined
 defined_of d = record {
   label = cell_lines false (whole_cells d.label.opener.after d.label.text);
   destination = text_bytes d.destination (gap_rest d.more) (destination_begin d);
-  title = title_told d.title;
+  title = title_recorded d.title;
 }
 
 abbrev pub defined_block : Defined → Block
@@ -118,17 +119,17 @@ pub defined-reads : (bytes : List ℕ) (d : DefinitionParts) (row : Row) (rows :
     read bytes r (defined_done bytes d row rows) ≡ add_block (defined_block (defined_of d)) r
 defined-reads bytes d row rows r is none shut =
     ap (λ (es : List Event). read bytes r (plain_read bytes es)) is.unread
-    ∙ ap (read bytes r) (defined-done bytes is.form is.behind_gap is.behind_target is.is)
-    ∙ (defined-facts bytes is.form is.behind_gap is.behind_target is.is).reads r none shut
-    ∙ ap (λ (block : Block). add_block block r) told
+    ∙ ap (read bytes r) (defined-done bytes is.form is.following_gap is.after_target is.is)
+    ∙ (defined-facts bytes is.form is.following_gap is.after_target is.is).reads r none shut
+    ∙ ap (λ (block : Block). add_block block r) recorded
   where
     titles : (o : Option TitleParts) →
-        option_map (λ (t : TitleParts). cell_lines false (whole_cells t.opener.after t.text)) o ≡ title_told o
+        option_map (λ (t : TitleParts). cell_lines false (whole_cells t.opener.after t.text)) o ≡ title_recorded o
     titles None = refl
     titles (Some t) = refl
 
-    told : form_block is.form ≡ defined_block (defined_of d)
-    told =
+    recorded : form_block is.form ≡ defined_block (defined_of d)
+    recorded =
         ap
         (λ (label : List (List ℕ)).
         Definition label (target_text is.form.target) (option_map (λ (t : Titled). text_lines t.text) is.form.title))
@@ -170,28 +171,29 @@ IsMore options bytes [] = Unit {0}
 IsMore options bytes (next ∷ more) =
     (q : Point) × (front : LinePrefix bytes [] q next.first next.front) × AreLines options bytes next more
 
-pub lines-behind : (options : ParseOptions) (bytes : List ℕ) (k : ℕ) (row : Row) (rows : List Row) →
+pub lines-following : (options : ParseOptions) (bytes : List ℕ) (k : ℕ) (row : Row) (rows : List Row) →
     AreLines options bytes row rows → IsMore options bytes (drop k rows)
-lines-behind options bytes zero row [] are = tt
-lines-behind options bytes zero row (next ∷ rows) are = (are.3, are.6, are.7)
-lines-behind options bytes (suc k) row [] are = tt
-lines-behind options bytes (suc k) row (next ∷ rows) are = lines-behind options bytes k next rows are.7
+lines-following options bytes zero row [] are = tt
+lines-following options bytes zero row (next ∷ rows) are = (are.3, are.6, are.7)
+lines-following options bytes (suc k) row [] are = tt
+lines-following options bytes (suc k) row (next ∷ rows) are = lines-following options bytes k next rows are.7
 
 -- what follows a definition are these lines
-pub further-behind : (options : ParseOptions) (bytes : List ℕ) (d : DefinitionParts) (next : Row) (below : List Row) →
-    (are : AreLines options bytes next below) → IsBehind options bytes d (next ∷ below) →
+pub further-following : (options : ParseOptions) (bytes : List ℕ) (d : DefinitionParts) (next : Row)
+    (below : List Row) →
+    (are : AreLines options bytes next below) → IsAfter options bytes d (next ∷ below) →
     further (definition_rest d) ≡ texts (kept-of options bytes next below are)
-further-behind options bytes d next below are behind =
-    ap further behind.1
+further-following options bytes d next below are following =
+    ap further following.1
     ∙ ap (λ (cells : List Cell). cell_lines true (whole_cells next.first cells))
     (lines-are options bytes (first-text options bytes next below are).1.small next below are)
     ∙ cells-texts options bytes next below are
 
 -- and nothing does where none is there
-pub none-behind : (options : ParseOptions) (bytes : List ℕ) (d : DefinitionParts) → IsBehind options bytes d [] →
+pub none-following : (options : ParseOptions) (bytes : List ℕ) (d : DefinitionParts) → IsAfter options bytes d [] →
     cut_definitions (further (definition_rest d)) ≡ ([], [])
-none-behind options bytes d behind =
-    ap (λ (cells : List Cell). cut_definitions (further cells)) behind ∙ cut_definitions-none [] none-found
+none-following options bytes d following =
+    ap (λ (cells : List Cell). cut_definitions (further cells)) following ∙ cut_definitions-none [] none-found
 
 -- what is between it and the next line is not read
 pub read-gap : (options : ParseOptions) (bytes : List ℕ) (last next : Row) (left : List Row) (r : Reading) →
@@ -221,10 +223,10 @@ pub record ReadsRest (options : ParseOptions) (bytes : List ℕ)
   pub alone : (row : Row) (rows : List Row) (are : AreLines options bytes row rows) → C row rows are → (r : Reading) →
       r.text ≡ None → r.leaf ≡ None →
       read bytes r (done row rows) ≡ record r { here = last r.here (texts (kept-of options bytes row rows are)) }
-  pub behind : (row : Row) (rows : List Row) (are : AreLines options bytes row rows) → C row rows are →
+  pub following : (row : Row) (rows : List Row) (are : AreLines options bytes row rows) → C row rows are →
       options.constructs.definition ≡ true → (d : DefinitionParts) →
       definition_parts (lines_cells options bytes row rows) ≡ Some d →
-      IsBehind options bytes d (drop (further_lines d row) rows) →
+      IsAfter options bytes d (drop (further_lines d row) rows) →
       IsLeft options bytes C last (drop (further_lines d row) rows)
 
 module _ (options : ParseOptions) (bytes : List ℕ)
@@ -246,22 +248,22 @@ module _ (options : ParseOptions) (bytes : List ℕ)
       record r { here = then_cut r.here (cut options (texts (kept-of options bytes row rows are))) }
 
   -- after one definition
-  cut-behind : (k : ℕ) (d : DefinitionParts) (end : Row) (left : List Row) (r : Reading) →
+  cut-following : (k : ℕ) (d : DefinitionParts) (end : Row) (left : List Row) (r : Reading) →
       options.constructs.definition ≡ true → ReadsBy k → length left ≤ k → IsMore options bytes left →
-      IsBehind options bytes d left → IsLeft options bytes C last left → r.text ≡ None → r.leaf ≡ None →
-      read bytes r (behind_cut (cut_done k) end left) ≡
+      IsAfter options bytes d left → IsLeft options bytes C last left → r.text ≡ None → r.leaf ≡ None →
+      read bytes r (after_cut (cut_done k) end left) ≡
       record r { here = then_cut r.here (cut_definitions (further (definition_rest d))) }
-  cut-behind k d end [] r on fewer some more behind is none shut =
+  cut-following k d end [] r on fewer some more following is none shut =
       ap (λ (bs : Blocks). record r { here = bs }) (sym (is r.here))
       ∙ ap (λ (c : List Defined × List (List ℕ)). record r { here = then_cut r.here c })
-      (sym (none-behind options bytes d behind))
-  cut-behind k d end (next ∷ left) r on fewer some more behind is none shut =
+      (sym (none-following options bytes d following))
+  cut-following k d end (next ∷ left) r on fewer some more following is none shut =
       read-from bytes r r (ending_events n.LineEnding end ++ next.front) (cut_done k next left)
       (read-gap options bytes end next left r more none shut)
       ∙ fewer next left (omega arith) more.2 (is more.2) r none shut
       ∙ ap (λ (c : List Defined × List (List ℕ)). record r { here = then_cut r.here c })
       (cut-as options (texts (kept-of options bytes next left more.2)) true on
-      ∙ ap cut_definitions (sym (further-behind options bytes d next left more.2 behind)))
+      ∙ ap cut_definitions (sym (further-following options bytes d next left more.2 following)))
 
   -- with one more
   reads-more : (k : ℕ) (row : Row) (rows : List Row) → length rows < suc k → (are : AreLines options bytes row rows) →
@@ -297,11 +299,11 @@ module _ (options : ParseOptions) (bytes : List ℕ)
           let left : List Row = drop (further_lines d row) rows in
           let next : Reading = add_block (defined_block (defined_of d)) r in
           let size = length-drop (further_lines d row) rows in
-          read-from bytes r next (defined_done bytes d row own) (behind_cut (cut_done k) (last_row row own) left)
+          read-from bytes r next (defined_done bytes d row own) (after_cut (cut_done k) (last_row row own) left)
           (defined-reads bytes d row own r is.defined none shut)
-          ∙ cut-behind k d (last_row row own) left next on fewer (omega (arith, size, few))
-          (lines-behind options bytes (further_lines d row) row rows are) is.rest
-          (of.behind row rows are holds on d e is.rest) none shut
+          ∙ cut-following k d (last_row row own) left next on fewer (omega (arith, size, few))
+          (lines-following options bytes (further_lines d row) row rows are) is.rest
+          (of.following row rows are holds on d e is.rest) none shut
           ∙ ap to
           (sym
           (cut-as options lines true on
@@ -324,7 +326,7 @@ text-read options bytes row rows are r none shut =
     reads-by options bytes (λ row rows are. Unit {0}) (lines_done bytes) then_paragraph
     (record {
       alone = λ row rows are holds. lines-alone options bytes row rows are;
-      behind = λ row rows are holds on d e is. left (drop (further_lines d row) rows);
+      following = λ row rows are holds on d e is. left (drop (further_lines d row) rows);
     }) (suc (length rows)) row rows (omega arith) are tt r none shut
   where
     left : (rows : List Row) → IsLeft options bytes (λ row rows are. Unit {0}) then_paragraph rows

@@ -17,14 +17,14 @@ use Rattle.proof_rows.specs.BlockList.{heading_unread, lines_unread, text_unread
 use Rattle.proof_frame.specs.Row.{Row, last_row}
 use Rattle.proof_content_laws.specs.Defined.{defined_unread}
 use Rattle.proof_rows.specs.Rows.{defined_done, heading_done, lines_cells, turned_done}
-use Rattle.proof_rows.proofs.Defined.Cut.{IsBehind}
+use Rattle.proof_rows.proofs.Defined.Cut.{IsAfter}
 use Rattle.proof_content_laws.proofs.Defined.Is.{IsDefined}
 use Rattle.proof_frame.proofs.FrontFacts.{LinePrefix}
 use Rattle.proof_rows.proofs.GroupLines.{first-text, AreLines, IsLeft, IsUnder, kept-of}
 use Rattle.md_events.proofs.FeedLines.{IsEnding}
 use Rattle.proof_rows.proofs.Text.Cut.{between}
 use Rattle.proof_rows.proofs.Text.Cuts.{IsRest, cuts}
-use Rattle.proof_rows.proofs.Text.Reads.{defined_of, further-behind, lines-definition, none-behind}
+use Rattle.proof_rows.proofs.Text.Reads.{defined_of, further-following, lines-definition, none-following}
 use Rattle.proof_rows.proofs.ContentCut.{last-split}
 
 -- where definitions are on, something is left of these lines after the definitions at their front
@@ -69,9 +69,9 @@ AreTurned options bytes under row rows are =
 rest-turned : (options : ParseOptions) (bytes : List ℕ) (under row : Row) (rows : List Row)
     (are : AreLines options bytes row rows) → AreTurned options bytes under row rows are → (d : DefinitionParts) →
     options.constructs.definition ≡ true → definition_parts (lines_cells options bytes row rows) ≡ Some d →
-    (own left : List Row) → own ++ left ≡ rows → IsBehind options bytes d left → (All : Type 0) →
+    (own left : List Row) → own ++ left ≡ rows → IsAfter options bytes d left → (All : Type 0) →
     IsRest options bytes (AreTurned options bytes under) All left
-rest-turned options bytes under row rows are holds d on e own left all behind All = go left all behind
+rest-turned options bytes under row rows are holds d on e own left all following All = go left all following
   where
     some : is_none_left (cut_definitions (further (definition_rest d))).1 ≡ false
     some =
@@ -82,18 +82,18 @@ rest-turned options bytes under row rows are holds d on e own left all behind Al
         (lines-definition options bytes row rows are ∙ ap cut_of e)))
         ∙ holds.1 on
 
-    go : (left : List Row) → own ++ left ≡ rows → IsBehind options bytes d left →
+    go : (left : List Row) → own ++ left ≡ rows → IsAfter options bytes d left →
         IsRest options bytes (AreTurned options bytes under) All left
-    go [] all behind =
+    go [] all following =
         let none : is_none_left (cut_definitions (further (definition_rest d))).1 ≡ true =
-        ap (λ (cut : List Defined × List (List ℕ)). is_none_left cut.1) (none-behind options bytes d behind) in
+        ap (λ (cut : List Defined × List (List ℕ)). is_none_left cut.1) (none-following options bytes d following) in
         let bad : true ≡ false = sym none ∙ some in
         absurd (cc)
-    go (next ∷ below) all behind = λ lines. (
+    go (next ∷ below) all following = λ lines. (
       subst (λ (last : Row). IsUnder options bytes last under)
           (sym (ap (last_row row) all) ∙ last-split row own next below) holds.0,
       λ on. ap (λ (l : List (List ℕ)). is_none_left (cut_definitions l).1)
-          (sym (further-behind options bytes d next below lines behind)) ∙ some,
+          (sym (further-following options bytes d next below lines following)) ∙ some,
     )
 
 -- What is in their place is such.
@@ -107,7 +107,7 @@ heading-cut options bytes row rows under are is left =
     (IsCutHeading options bytes under)
     (record {
       remains = λ row rows are holds. Turned row rows are holds.0;
-      rest = λ row rows are holds d on e own left all behind.
-          rest-turned options bytes under row rows are holds d on e own left all behind _;
+      rest = λ row rows are holds d on e own left all following.
+          rest-turned options bytes under row rows are holds d on e own left all following _;
       follows = Follows;
     }) (first-text options bytes row rows are).1.small (suc (length rows)) row rows are (is, left) (omega arith)

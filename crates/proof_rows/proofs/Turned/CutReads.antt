@@ -17,12 +17,12 @@ use Rattle.md_events.specs.Events.Spelled.{Reading, add_block, read}
 use Rattle.md_registry.specs.Registry.{turn_leaf}
 use Rattle.proof_frame.specs.Row.{Row, last_row}
 use Rattle.proof_rows.specs.Rows.{further_lines, heading_done, lines_cells, turned_done}
-use Rattle.proof_rows.proofs.Defined.Cut.{IsBehind}
+use Rattle.proof_rows.proofs.Defined.Cut.{IsAfter}
 use Rattle.proof_rows.proofs.GroupLines.{AreLines, IsLeft, IsUnder, kept-of}
 use Rattle.md_events.proofs.FeedLines.{IsEnding}
 use Rattle.proof_rows.proofs.Text.Facts.{lines-read}
 use Rattle.proof_rows.proofs.Text.Reads as reads
-use Rattle.proof_rows.proofs.Text.Reads.{defined_of, further-behind, lines-definition, none-behind}
+use Rattle.proof_rows.proofs.Text.Reads.{defined_of, further-following, lines-definition, none-following}
 use Rattle.proof_rows.proofs.Turned.Cut.{Remains, left-remains}
 use Rattle.proof_rows.proofs.Turned.Reads.{read-turned}
 use Rattle.proof_rows.proofs.Turned.Turns.{Turns}
@@ -45,11 +45,11 @@ abbrev IsLast : Row → List Row → Type 0
 IsLast last [] = Unit {0}
 IsLast last (next ∷ more) = last ≡ last_row next more
 
-last-behind : (k : ℕ) (row : Row) (rows : List Row) → IsLast (last_row row rows) (drop k rows)
-last-behind zero row [] = tt
-last-behind zero row (next ∷ rows) = refl
-last-behind (suc k) row [] = tt
-last-behind (suc k) row (next ∷ rows) = last-behind k next rows
+last-following : (k : ℕ) (row : Row) (rows : List Row) → IsLast (last_row row rows) (drop k rows)
+last-following zero row [] = tt
+last-following zero row (next ∷ rows) = refl
+last-following (suc k) row [] = tt
+last-following (suc k) row (next ∷ rows) = last-following k next rows
 
 -- a line that turns the text after one turns it after the same
 abbrev turns-at : (options : ParseOptions) (bytes : List ℕ) (last same under : Row) → last ≡ same →
@@ -77,9 +77,9 @@ left-turned : (options : ParseOptions) (bytes : List ℕ) (under : Row) (rest : 
     (are : AreLines options bytes row rows) → AreTurned options bytes under rest row rows are →
     options.constructs.definition ≡ true → (d : DefinitionParts) →
     definition_parts (lines_cells options bytes row rows) ≡ Some d → (left : List Row) →
-    IsLast (last_row row rows) left → IsBehind options bytes d left →
+    IsLast (last_row row rows) left → IsAfter options bytes d left →
     reads.IsLeft options bytes (AreTurned options bytes under rest) (last_turned rest) left
-left-turned options bytes under rest row rows are holds on d e left same behind = go left same behind
+left-turned options bytes under rest row rows are holds on d e left same following = go left same following
   where
     some : is_none_left (cut_definitions (further (definition_rest d))).1 ≡ false
     some =
@@ -90,17 +90,18 @@ left-turned options bytes under rest row rows are holds on d e left same behind 
         (lines-definition options bytes row rows are ∙ ap cut_of e)))
         ∙ holds.2 on
 
-    go : (left : List Row) → IsLast (last_row row rows) left → IsBehind options bytes d left →
+    go : (left : List Row) → IsLast (last_row row rows) left → IsAfter options bytes d left →
         reads.IsLeft options bytes (AreTurned options bytes under rest) (last_turned rest) left
-    go [] same behind = λ bs.
+    go [] same following = λ bs.
         let bad : true ≡ false =
-        sym (ap (λ (c : List Defined × List (List ℕ)). is_none_left c.1) (none-behind options bytes d behind)) ∙ some in
+        sym (ap (λ (c : List Defined × List (List ℕ)). is_none_left c.1) (none-following options bytes d following))
+        ∙ some in
         cc
-    go (next ∷ more) same behind = λ lines. (
+    go (next ∷ more) same following = λ lines. (
       turns-at options bytes (last_row row rows) (last_row next more) under same holds.0,
       holds.1,
       λ on. ap (λ (l : List (List ℕ)). is_none_left (cut_definitions l).1)
-          (sym (further-behind options bytes d next more lines behind)) ∙ some,
+          (sym (further-following options bytes d next more lines following)) ∙ some,
     )
 
 -- A text and the line that turns it are read as what they become.
@@ -118,8 +119,8 @@ turned-read options bytes row rows under are is left r none shut =
           (lines-read options bytes row rows are) holds.0 none shut
           ∙ ap
           (λ (x : Rest). add_block (turn_leaf.block (texts (kept-of options bytes row rows are)) x) r) holds.1;
-      behind = λ row rows are holds on d e.
+      following = λ row rows are holds on d e.
           left-turned options bytes under is.is.rest row rows are holds on d e (drop (further_lines d row) rows)
-          (last-behind (further_lines d row) row rows);
+          (last-following (further_lines d row) row rows);
     }) (suc (length rows)) row rows (omega arith) are
     (under-turns options bytes row rows under are is, refl, left-remains options bytes row rows are left) r none shut

@@ -52,7 +52,7 @@ abbrev pub under_left : Expression
 under_left = Then next_line (one n.HeadingSetextUnderline)
 
 abbrev pub line_left : Expression
-line_left = grammar.behind n.LineEnding under_left
+line_left = grammar.following n.LineEnding under_left
 
 -- As it is read: a heading with these markers, and these lines.
 abbrev pub so_far : List ℕ → List (List ℕ) → OpenLeaf

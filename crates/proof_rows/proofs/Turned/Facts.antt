@@ -5,7 +5,7 @@ use Rattle.md_engine.specs.declared.configuration.ParseOptions.{ParseOptions}
 use Rattle.md_engine.specs.declared.event.Event.{Event}
 use Rattle.md_meaning.specs.State.{texts}
 use Rattle.md_meaning.specs.Tree.{Block}
-use Rattle.md_outline.specs.LinesStand.{AtTitle, BehindTitle, BehindUnderline}
+use Rattle.md_outline.specs.LinesAllowed.{AtTitle, AfterTitle, AfterUnderline}
 use Rattle.md_outline.proofs.LinesPass.{passes-heading}
 use Rattle.md_events.specs.Events.Grammar.{Nothing}
 use Rattle.md_events.specs.Events.Nested.{around}
@@ -15,8 +15,8 @@ use Rattle.proof_rows.specs.BlockList.{heading_unread, unread_lines}
 use Rattle.md_registry.specs.Registry.{turn_leaf}
 use Rattle.proof_frame.specs.Row.{Row, last_row, read_lines}
 use Rattle.proof_rows.specs.Rows.{heading_done}
-use Rattle.proof_frame.proofs.BetweenFacts.{ending-before, ending-behind}
-use Rattle.proof_frame.proofs.FrontStands.{fronts-between}
+use Rattle.proof_frame.proofs.BetweenFacts.{ending-before, ending-following}
+use Rattle.proof_frame.proofs.FrontValid.{fronts-between}
 use Rattle.proof_rows.proofs.GroupLines.{AreLines, IsUnder, kept-of}
 use Rattle.proof_frame.proofs.LeafFacts.{LeafFacts}
 use Rattle.proof_frame.proofs.PlainFacts.{known-around}
@@ -77,7 +77,7 @@ turns-facts options bytes row rows under h turns =
 
     front :
         InsideFacts bytes row.first under.first heading_left line_left (fresh OfHeadingSetext) (so_far [] kept) AtTitle
-        BehindTitle (unread_title ++ gap) (title ++ gap)
+        AfterTitle (unread_title ++ gap) (title ++ gap)
     front =
         inside-append (text-inside options bytes row rows h)
         (gap-inside bytes last.end turns.after under.first under.front [] kept (text-whole options bytes row rows h)
@@ -89,12 +89,12 @@ turns-facts options bytes row rows under h turns =
 
     inside :
         InsideFacts bytes row.first under.end heading_left Nothing (fresh OfHeadingSetext) (so_far line.markers kept)
-        AtTitle BehindUnderline unread done
+        AtTitle AfterUnderline unread done
     inside =
         inside-append front (line.facts kept)
         (record {
           between = λ end. (fronts-between bytes [] turns.after under.first under.front
-              (ending-behind bytes last.end turns.after turns.ending) turns.front).1;
+              (ending-following bytes last.end turns.after turns.ending) turns.front).1;
           clear = line-clear options bytes under turns.is;
         })
 

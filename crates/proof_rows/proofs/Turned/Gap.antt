@@ -11,17 +11,17 @@ use Rattle.md_events.proofs.EndingsLemmas.{Stays, stays-append, stays-others}
 use Rattle.md_events.proofs.GrammarLemmas.{Leads, leads-append, leads-pair}
 use Rattle.md_events.proofs.SetextReads.{read-setext_gap}
 use Rattle.md_events.proofs.SpelledLemmas.{QuietOrPrefix, Roles}
-use Rattle.md_outline.specs.LinesStand.{BehindTitle}
+use Rattle.md_outline.specs.LinesAllowed.{AfterTitle}
 use Rattle.md_outline.proofs.LinesPass.{passes-gap}
 use Rattle.proof_frame.proofs.FrontFacts.{LinePrefix}
 use Rattle.proof_frame.proofs.FrontNames.{fronts-prefixes}
-use Rattle.proof_frame.proofs.FrontStands.{fronts-others}
+use Rattle.proof_frame.proofs.FrontValid.{fronts-others}
 use Rattle.proof_frame.proofs.GrammarFronts.{front-stays}
-use Rattle.proof_frame.proofs.LeafStands.{between-part}
+use Rattle.proof_frame.proofs.LeafAllowed.{between-part}
 use Rattle.proof_frame.proofs.Stretch.{stretch-as}
 use Rattle.proof_frame.proofs.PrefixNames.{prefixes-roles}
 use Rattle.md_events.proofs.FeedLines.{IsEnding}
-use Rattle.proof_frame.proofs.LeafLines.Behind.{GapFacts, gap-facts, gap-plain}
+use Rattle.proof_frame.proofs.LeafLines.Following.{GapFacts, gap-facts, gap-plain}
 use Rattle.proof_frame.proofs.LeafLines.Inside.{InsideFacts}
 use Rattle.proof_rows.proofs.Turned.Events.{gap_events, line_left, so_far, under_left}
 
@@ -33,8 +33,8 @@ front-quiet bytes p q front is =
 
 pub gap-inside : (bytes : List ℕ) (p at q : Point) (front : List Event) (markers : List ℕ) (text : List (List ℕ)) →
     p.vs ≡ 0 → IsEnding bytes p at → LinePrefix bytes [] at q front →
-    InsideFacts bytes p q under_left line_left (so_far markers text) (so_far markers text) BehindTitle
-    BehindTitle (gap_events p at front) (gap_events p at front)
+    InsideFacts bytes p q under_left line_left (so_far markers text) (so_far markers text) AfterTitle
+    AfterTitle (gap_events p at front) (gap_events p at front)
 gap-inside bytes p at q front markers text whole is fronts = record {
   parts = record {
     stretch = stretch-as between-part gap.stretch;

@@ -8,7 +8,7 @@ use Rattle.md_engine.specs.declared.event.Point.{Point}
 use Rattle.md_meaning.specs.Rest.{Rest, trim_start}
 use Rattle.md_meaning.specs.Texts.{first_byte}
 use Rattle.md_leaves.specs.HeadingSetextRule.{is_underline}
-use Rattle.md_outline.specs.LinesStand.{BehindTitle, BehindUnderline}
+use Rattle.md_outline.specs.LinesAllowed.{AfterTitle, AfterUnderline}
 use Rattle.md_events.specs.Events.Grammar.{Expression, Nothing, plain_text, unread_text}
 use Rattle.md_events.specs.Events.Nested.{exit}
 use Rattle.md_events.specs.Events.Places.{past_text}
@@ -19,8 +19,8 @@ use Rattle.proof_frame.specs.RestLine.{rest_line}
 use Rattle.proof_leaf_laws.specs.Leaf.HeadingSetext.{setext_leaf, underline_line}
 use Rattle.proof_frame.specs.Row.{Row}
 use Rattle.proof_leaf_laws.proofs.HeadingSetext.Line.{underline-begins, underline-first_mark, underline-others}
-use Rattle.proof_leaf_laws.proofs.HeadingSetext.Line.{underline-plain, underline-reads, underline-stretch, underline-word}
-use Rattle.proof_leaf_laws.proofs.HeadingSetext.Line.{underline_marks, underline_parts}
+use Rattle.proof_leaf_laws.proofs.HeadingSetext.Line.{underline-plain, underline-reads, underline-stretch}
+use Rattle.proof_leaf_laws.proofs.HeadingSetext.Line.{underline-word, underline_marks, underline_parts}
 use Rattle.proof_frame.proofs.PartedFacts.{clear}
 use Rattle.proof_frame.proofs.RestFacts.{rest-trim}
 use Rattle.proof_frame.proofs.LeafLines.Inside.{InsideFacts}
@@ -33,7 +33,7 @@ pub record LineInside (bytes : List ℕ) (p q : Point) (r : Rest) (es : List Eve
   pub markers : List ℕ
   pub marker : first_byte markers ≡ first_byte (trim_start r.bytes)
   pub facts : (lines : List (List ℕ)) →
-      InsideFacts bytes p q line_left Nothing (so_far [] lines) (so_far markers lines) BehindTitle BehindUnderline es es
+      InsideFacts bytes p q line_left Nothing (so_far [] lines) (so_far markers lines) AfterTitle AfterUnderline es es
   -- something is on their line
   pub fills : Filling es
 
@@ -57,7 +57,7 @@ line-inside options bytes under is = record {
   facts = λ lines.
       subst
       (λ (es : List Event).
-      InsideFacts bytes p q line_left Nothing (so_far [] lines) (so_far marks lines) BehindTitle BehindUnderline es es)
+      InsideFacts bytes p q line_left Nothing (so_far [] lines) (so_far marks lines) AfterTitle AfterUnderline es es)
       (sym is.inside) (facts lines);
   fills = subst Filling (sym is.inside) (line-fills line p);
 }
@@ -86,7 +86,7 @@ line-inside options bytes under is = record {
         (underline-word text line p begins)
 
     facts : (lines : List (List ℕ)) →
-        InsideFacts bytes p q line_left Nothing (so_far [] lines) (so_far marks lines) BehindTitle BehindUnderline
+        InsideFacts bytes p q line_left Nothing (so_far [] lines) (so_far marks lines) AfterTitle AfterUnderline
         events events
     facts lines = record {
       parts = record {

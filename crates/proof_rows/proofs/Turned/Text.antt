@@ -3,9 +3,9 @@ use Rattle.std.proofs.Common.{ℕ, true, List, [], ◌∷◌, ◌++◌, refl}
 use Rattle.md_engine.specs.declared.configuration.ParseOptions.{ParseOptions}
 use Rattle.md_engine.specs.declared.event.Event.{Event}
 use Rattle.md_engine.specs.declared.event.Point.{Point}
-use Rattle.md_containers.specs.ItemsStand.{IsPart}
+use Rattle.md_containers.specs.ItemsAllowed.{IsPart}
 use Rattle.md_meaning.specs.State.{texts}
-use Rattle.md_outline.specs.LinesStand.{AtTitle, BehindTitle}
+use Rattle.md_outline.specs.LinesAllowed.{AtTitle, AfterTitle}
 use Rattle.md_outline.proofs.LinesPass.{passes-title}
 use Rattle.md_events.specs.Events.Grammar.{plain_text, unread_text}
 use Rattle.md_events.specs.Events.Nested.{enter, exit}
@@ -26,7 +26,7 @@ use Rattle.proof_rows.proofs.Text.Parts.{lines-inside}
 use Rattle.proof_rows.proofs.Text.Words.{linked-word, read-word}
 use Rattle.proof_rows.proofs.Turned.Events.{heading_left, so_far, text_events, under_left}
 use Rattle.proof_rows.proofs.Turned.TextReads.{text-reads}
-use Rattle.proof_frame.proofs.LeafStands.{between-part}
+use Rattle.proof_frame.proofs.LeafAllowed.{between-part}
 
 -- it fills the line on which it ends
 text-stays : (p q : Point) (text : List Event) → Filling text → Stays (text_events p q text)
@@ -39,7 +39,7 @@ text-stays p q text h =
 pub text-inside : (options : ParseOptions) (bytes : List ℕ) (row : Row) (rows : List Row) →
     (h : AreLines options bytes row rows) →
     InsideFacts bytes row.first (last_row row rows).end heading_left under_left (fresh OfHeadingSetext)
-    (so_far [] (texts (kept-of options bytes row rows h))) AtTitle BehindTitle
+    (so_far [] (texts (kept-of options bytes row rows h))) AtTitle AfterTitle
     (text_events row.first (last_row row rows).end (unread_lines row rows))
     (text_events row.first (last_row row rows).end (read_lines bytes row rows))
 text-inside options bytes row rows h = record {

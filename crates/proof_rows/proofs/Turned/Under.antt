@@ -10,7 +10,7 @@ use Rattle.md_link_definitions.specs.Progress.{progress_of, step}
 use Rattle.proof_frame.specs.LeafName.{HeadingSetext}
 use Rattle.md_registry.specs.Registry.{leaf}
 use Rattle.proof_frame.specs.Row.{LeafRow, Row, RowKind, last_row}
-use Rattle.proof_rows.specs.Rows.{is_further, line_behind, takes_head}
+use Rattle.proof_rows.specs.Rows.{is_further, line_following, takes_head}
 use Rattle.proof_rows.proofs.GroupLines.{AreLines, IsUnder}
 use Rattle.proof_rows.proofs.RowLeaf.{row-as}
 use Rattle.md_registry.proofs.UnderNames.{further-text}
@@ -18,10 +18,10 @@ use Rattle.proof_rows.proofs.Turned.Turns.{Turns}
 
 -- after a line of text, text is open
 pub text-open : (options : ParseOptions) (bytes : List ℕ) (row : Row) (rows : List Row) →
-    AreLines options bytes row rows → (at : OpenText) × ((last_row row rows).behind ≡ held_leaf.Text at)
+    AreLines options bytes row rows → (at : OpenText) × ((last_row row rows).following ≡ held_leaf.Text at)
 text-open options bytes row [] h = (
   open_text (step (progress_of row.on) (trim_start h.1.rest.bytes)) (kept h.1.rest),
-  h.1.behind ∙ ap (line_behind options row.on h.1.rest) h.2,
+  h.1.following ∙ ap (line_following options row.on h.1.rest) h.2,
 )
 text-open options bytes row (next ∷ rows) h = text-open options bytes next rows h.7
 

@@ -56,8 +56,8 @@ delimiter-unset line p = (
 gap-unset : (bytes : List ℕ) (row next : Row) → IsGap bytes row next → Each IsUnset (gap_events row next)
 gap-unset bytes row next gap =
     each-append IsUnset (ending_events n.LineEnding row) next.front
-    (subst (Each IsUnset) (sym (ending-is n.LineEnding row gap.behind gap.after)) (refl, (refl, tt)))
-    (prefixes-unset next.front (fronts-prefixes bytes [] gap.behind next.first next.front refl gap.front))
+    (subst (Each IsUnset) (sym (ending-is n.LineEnding row gap.following gap.after)) (refl, (refl, tt)))
+    (prefixes-unset next.front (fronts-prefixes bytes [] gap.following next.first next.front refl gap.front))
 
 lines-unset : (bytes : List ℕ) (row : Row) (rows : List Row) → AreBodyRows bytes row rows →
     Each IsUnset (lines_read (body_lines bytes row rows))
@@ -78,9 +78,9 @@ table-block : IsBlock n.GfmTable
 table-block = record {
   inside = InTable;
   opens = refl;
-  stands = λ e h goes. h;
+  valid = λ e h proceeds. h;
   stays = λ e h. stays-open InTable e (unset-table e.name h);
-  ends = λ q goes. cc;
+  ends = λ q proceeds. cc;
   shuts = λ q. refl;
 }
 

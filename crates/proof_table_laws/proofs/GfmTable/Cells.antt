@@ -31,7 +31,7 @@ use Rattle.md_tables.proofs.DelimiterSpread as by_delimiter
 use Rattle.md_tables.proofs.RowSpread as by_row
 use Rattle.proof_frame.specs.RestLine.{rest_line}
 use Rattle.proof_table_laws.specs.Leaf.GfmTable.{table_leaf}
-use Rattle.proof_frame.proofs.MarkRuns.Fits.{Tells, line-fits}
+use Rattle.proof_frame.proofs.MarkRuns.Fits.{Reports, line-fits}
 use Rattle.proof_frame.proofs.RestFacts.{rest-line_end, rest-no_ending, rest-same, small-indented}
 
 -- Where it is.
@@ -44,15 +44,16 @@ head-some options at e =
     (and_parts (options.constructs.gfm_table && nat_lt 0 at.columns) (is_small options at.indent) e).0).1 in
     grind (arith, nat_tests)
 
-row-tells : (columns : ℕ) → Tells (is_row_of columns)
-row-tells columns = record { spread_same = row_of-spread columns; dark = row_of-white columns }
+row-records : (columns : ℕ) → Reports (is_row_of columns)
+row-records columns = record { spread_same = row_of-spread columns; dark = row_of-white columns }
 
-pub table-fits : (options : ParseOptions) (on : HeldLeaf) (said : Line) (text behind : List ℕ) (r : Rest) (p : Point)
+pub table-fits : (options : ParseOptions) (on : HeldLeaf) (said : Line) (text following : List ℕ) (r : Rest) (p : Point)
     (stop : List Cell) →
-    RestAt text behind r p → NoEnding r.bytes → Stops stop → length (rest_cells said r p ++ stop) < 2 ^ 63 →
+    RestAt text following r p → NoEnding r.bytes → Stops stop → length (rest_cells said r p ++ stop) < 2 ^ 63 →
     table_leaf.takes options on (rest_cells said r p ++ stop) ≡ table_leaf.starts options on r
-table-fits options (held_leaf.Text at) said text behind r p stop is h k short =
-    line-fits (is_row_of at.columns) (row-tells at.columns) (may_head options at) options said text behind r p stop is h
+table-fits options (held_leaf.Text at) said text following r p stop is h k short =
+    line-fits (is_row_of at.columns) (row-records at.columns) (may_head options at) options said text
+    following r p stop is h
     k short
     ∙ go (may_head options at) refl
   where
@@ -63,21 +64,21 @@ table-fits options (held_leaf.Text at) said text behind r p stop is h k short =
         ap (λ (y : Bool). true && has_small_indent options r && y)
         (row_of-columns at.columns r.bytes (head-some options at e))
     go false e = refl
-table-fits options held_leaf.Table said text behind r p stop is h k short = refl
-table-fits options _ said text behind r p stop is h k short = refl
+table-fits options held_leaf.Table said text following r p stop is h k short = refl
+table-fits options _ said text following r p stop is h k short = refl
 
 -- What it adds.
 
 -- a delimiter row after its indent
-delimiter-adds : (options : ParseOptions) (said : Line) (text behind : List ℕ) (r : Rest) (p : Point)
+delimiter-adds : (options : ParseOptions) (said : Line) (text following : List ℕ) (r : Rest) (p : Point)
     (stop : List Cell) →
-    RestAt text behind r p → NoEnding r.bytes → Stops stop → length (rest_cells said r p ++ stop) < 2 ^ 63 →
+    RestAt text following r p → NoEnding r.bytes → Stops stop → length (rest_cells said r p ++ stop) < 2 ^ 63 →
     has_small_indent options r ≡ true →
     delimiter_adds options (rest_cells said r p ++ stop) p ≡ delimiter_line (rest_line r) p
-delimiter-adds options said text behind r p stop is h k short small =
+delimiter-adds options said text following r p stop is h k short small =
     ap₂ (λ (es : List Event) (q : Point). delimiter.row_opens p ++ es ++ delimiter.row_closes q)
     (indent-runs (small_indent options) (rest_cells said r p ++ stop) p
-    (small-indented options said text behind r p stop is h k short small).none
+    (small-indented options said text following r p stop is h k short small).none
     ∙ rest-same (List Event) (λ (l : List Cell). delimiter.runs delimiter.Apart (line_cells l) p) said
     (λ at cs. refl) r p stop one is.cut
     ∙ ap (λ (l : List Cell). delimiter.runs delimiter.Apart l p)
@@ -89,9 +90,10 @@ delimiter-adds options said text behind r p stop is h k short small =
     one = omega (arith, is.column)
 
 -- a further row
-row-adds : (said : Line) (text behind : List ℕ) (r : Rest) (p : Point) (stop : List Cell) → RestAt text behind r p →
+row-adds : (said : Line) (text following : List ℕ) (r : Rest) (p : Point) (stop : List Cell) →
+    RestAt text following r p →
     NoEnding r.bytes → Stops stop → row_adds (rest_cells said r p ++ stop) p ≡ row_line (rest_line r) p
-row-adds said text behind r p stop is h k =
+row-adds said text following r p stop is h k =
     ap₂ (λ (es : List Event) (q : Point). row.row_opens Body p ++ es ++ row.row_closes Body q)
     (rest-same (List Event) (λ (l : List Cell). row.runs row.Apart (line_cells l) p) said (λ at cs. refl) r p stop one
     is.cut
@@ -103,16 +105,16 @@ row-adds said text behind r p stop is h k =
     one = omega (arith, is.column)
 
 -- any line of it
-pub table-adds : (options : ParseOptions) (on : HeldLeaf) (said : Line) (text behind : List ℕ) (r : Rest) (p : Point)
+pub table-adds : (options : ParseOptions) (on : HeldLeaf) (said : Line) (text following : List ℕ) (r : Rest) (p : Point)
     (stop : List Cell) →
-    RestAt text behind r p → NoEnding r.bytes → Stops stop → length (rest_cells said r p ++ stop) < 2 ^ 63 →
+    RestAt text following r p → NoEnding r.bytes → Stops stop → length (rest_cells said r p ++ stop) < 2 ^ 63 →
     table_leaf.starts options on r ≡ true →
     table_leaf.adds options on (rest_cells said r p ++ stop) p ≡ table_leaf.added options on (rest_line r) p
-table-adds options (held_leaf.Text at) said text behind r p stop is h k short starts =
-    delimiter-adds options said text behind r p stop is h k short
+table-adds options (held_leaf.Text at) said text following r p stop is h k short starts =
+    delimiter-adds options said text following r p stop is h k short
     (and_parts (may_head options at) (has_small_indent options r)
     (and_parts (may_head options at && has_small_indent options r)
     (are_columns (delimiter_columns (trim r.bytes)) at.columns) starts).0).1
-table-adds options held_leaf.Table said text behind r p stop is h k short starts =
-    row-adds said text behind r p stop is h k
-table-adds options _ said text behind r p stop is h k short starts = cc
+table-adds options held_leaf.Table said text following r p stop is h k short starts =
+    row-adds said text following r p stop is h k
+table-adds options _ said text following r p stop is h k short starts = cc

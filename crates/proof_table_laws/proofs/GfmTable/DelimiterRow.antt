@@ -5,11 +5,11 @@ use Rattle.md_engine.specs.declared.event.Event.{Event}
 use Rattle.md_engine.specs.declared.event.Name.TheVariants as n
 use Rattle.md_engine.specs.declared.event.Point.{Point}
 use Rattle.md_meaning.specs.Rest.{trim}
-use Rattle.md_outline.specs.LinesStand.{InTable}
+use Rattle.md_outline.specs.LinesAllowed.{InTable}
 use Rattle.md_outline.specs.Outlined.{OpenTextSpan, are_parted}
-use Rattle.md_outline.specs.TablePlaces.{BehindHead, BehindRow}
+use Rattle.md_outline.specs.TablePlaces.{AfterHead, AfterRow}
 use Rattle.md_outline.proofs.TablesPass.{passes-delimiter}
-use Rattle.md_events.specs.Events.Grammar.{Expression, behind, plain_text, unread_text}
+use Rattle.md_events.specs.Events.Grammar.{Expression, following, plain_text, unread_text}
 use Rattle.md_events.specs.Events.Nested.{around, exit}
 use Rattle.md_events.specs.Events.Places.{past_text}
 use Rattle.md_events.specs.Events.Spelled.{IsQuiet, OpenLeaf, Role, TableLeaf, Text as OpenText, byte_at, role}
@@ -57,7 +57,7 @@ delimiter-sits bytes p q es quiet ys h =
     unended (e ∷ es) h = (one (role e.name) h.0, unended es h.1)
 
 delimiter-leads : (text x : Expression) (line : List ℕ) (p q : Point) → AreDelimiters line →
-    Leads text (x ∷ []) (behind n.GfmTableDelimiterRow x ∷ [])
+    Leads text (x ∷ []) (following n.GfmTableDelimiterRow x ∷ [])
     (around n.GfmTableDelimiterRow p q (delimiter_events line p))
 delimiter-leads text x line p q are =
     leads-around text x n.GfmTableDelimiterRow p q (delimiter_events line p)
@@ -67,14 +67,14 @@ delimiter-leads text x line p q are =
 -- It shows the open table its line, and nothing in it is read later.
 pub delimiter-inside : (bytes line rest : List ℕ) (p q : Point) (x : Expression) (rows : List (List (List ℕ))) →
     RowAt bytes line rest p → AreDelimiters line → q ≡ past_text line p →
-    InsideFacts bytes p q x (behind n.GfmTableDelimiterRow x) (TableLeaf (record { delimiter = []; rows = rows }))
-    (TableLeaf (record { delimiter = trim line; rows = rows })) (InTable BehindHead) (InTable BehindRow)
+    InsideFacts bytes p q x (following n.GfmTableDelimiterRow x) (TableLeaf (record { delimiter = []; rows = rows }))
+    (TableLeaf (record { delimiter = trim line; rows = rows })) (InTable AfterHead) (InTable AfterRow)
     (around n.GfmTableDelimiterRow p q (delimiter_events line p))
     (around n.GfmTableDelimiterRow p q (delimiter_events line p))
 delimiter-inside bytes line rest p q x rows at are end =
     subst
     (λ (e : Point).
-    InsideFacts bytes p e x (behind n.GfmTableDelimiterRow x) from to (InTable BehindHead) (InTable BehindRow)
+    InsideFacts bytes p e x (following n.GfmTableDelimiterRow x) from to (InTable AfterHead) (InTable AfterRow)
     (around n.GfmTableDelimiterRow p e es) (around n.GfmTableDelimiterRow p e es)) (sym end)
     (record {
       parts = record {
@@ -117,7 +117,7 @@ delimiter-inside bytes line rest p q x rows at are end =
 
     reads : ReadsLeaf bytes from to (around n.GfmTableDelimiterRow p (past_text line p) es)
     reads s none opened =
-        delimiter-read bytes s rows line rest p at.stands (row-whole line p at.cut at.some) opened
+        delimiter-read bytes s rows line rest p at.valid (row-whole line p at.cut at.some) opened
         ∙ ap (λ (t : Option OpenText). record s { leaf = Some to; text = t }) (sym none)
 
 -- no ending is in it, and no begin or end of a leaf

@@ -16,7 +16,7 @@ use Rattle.md_meaning.specs.Lines.{begins_with}
 use Rattle.md_meaning.specs.Rest.{trim, trim_end, trim_start}
 use Rattle.md_meaning.specs.Table.{delimiter_columns, is_delimiter, pieces, row_cells}
 use Rattle.md_leaves.proofs.TitleTexts.{front-passes}
-use Rattle.md_events.specs.Events.Grammar.{Expression, behind, inside, may_end, plain_text}
+use Rattle.md_events.specs.Events.Grammar.{Expression, following, inside, may_end, plain_text}
 use Rattle.md_events.specs.Events.Nested.{enter, exit, pair}
 use Rattle.md_events.specs.Events.Pieces.{is_run}
 use Rattle.md_events.specs.Events.Places.{past_byte, past_text}
@@ -33,14 +33,14 @@ use Rattle.md_tables.proofs.DelimiterColumns.{start-same}
 use Rattle.md_tables.proofs.RowTexts.{held-cells, held_in}
 use Rattle.md_tables.proofs.WhiteEnds.{end-is}
 use Rattle.proof_frame.proofs.BetweenFacts.{all-more, is_low}
-use Rattle.proof_frame.proofs.PlaceBetween.{low-behind}
+use Rattle.proof_frame.proofs.PlaceBetween.{low-following}
 use Rattle.proof_frame.proofs.LineWalk.{At}
-use Rattle.proof_table_laws.proofs.GfmTable.RowAt.{at-behind, at-first}
+use Rattle.proof_table_laws.proofs.GfmTable.RowAt.{at-following, at-first}
 use Rattle.proof_table_laws.proofs.GfmTable.RowCells.{EachFits, IsCellKind, low-front}
 use Rattle.proof_table_laws.proofs.GfmTable.RowParts.{RowFacts, row-append, row-around, row-none, row-piece}
 use Rattle.proof_table_laws.proofs.GfmTable.RowWords.{CellWords, IsCellName, cells_left, has, pipe-leads, row_left}
 use Rattle.proof_table_laws.proofs.GfmTable.RowWords.{white-leads}
-use Rattle.proof_frame.proofs.PieceFacts.{begins-whole, over-front, over-stands}
+use Rattle.proof_frame.proofs.PieceFacts.{begins-whole, over-front, over-valid}
 
 -- The bytes of a cell.
 
@@ -122,12 +122,12 @@ filler-runs [] true p h = refl
 filler-runs [] false p h = refl
 filler-runs (b ∷ bs) right p h =
     let both = and_parts (b == 45) (list_all (λ (b : ℕ). b == 45) bs) h in
-    goes both.0 ∙ filler-runs bs right (past_byte b p) both.1
+    proceeds both.0 ∙ filler-runs bs right (past_byte b p) both.1
   where
-    goes : (b == 45) ≡ true →
+    proceeds : (b == 45) ≡ true →
         delimiter_runs Filler ((b ∷ bs) ++ colons right) p ≡
         delimiter_runs Filler (bs ++ colons right) (past_byte b p)
-    goes e = rw e refl
+    proceeds e = rw e refl
 
 pub value-runs : (left : Bool) (dashes : List ℕ) (right : Bool) (p : Point) →
     list_all (λ (b : ℕ). b == 45) dashes ≡ true →
@@ -149,8 +149,8 @@ marker-facts bytes true rest p at =
     let q = past_byte 58 p in
     row-piece bytes n.GfmTableDelimiterMarker p q (record { quiet = tt; part = tt; other = refl; no_part = refl })
     (before-text (58 ∷ []) p)
-    (over-stands bytes n.GfmTableDelimiterMarker p q (58 ∷ [])
-    (over-front bytes p q (58 ∷ []) rest at.stands (omega arith) refl)
+    (over-valid bytes n.GfmTableDelimiterMarker p q (58 ∷ [])
+    (over-front bytes p q (58 ∷ []) rest at.valid (omega arith) refl)
     (begins-whole n.GfmTableDelimiterMarker p at.whole) refl)
 marker-facts bytes false rest p at = row-none bytes p
 
@@ -168,8 +168,8 @@ filler-facts bytes dashes rest p at h =
     let q = past_text (45 ∷ dashes) p in
     row-piece bytes n.GfmTableDelimiterFiller p q (record { quiet = tt; part = tt; other = refl; no_part = refl })
     (before-text (45 ∷ dashes) p)
-    (over-stands bytes n.GfmTableDelimiterFiller p q (45 ∷ dashes)
-    (over-front bytes p q (45 ∷ dashes) rest at.stands (omega arith) refl)
+    (over-valid bytes n.GfmTableDelimiterFiller p q (45 ∷ dashes)
+    (over-front bytes p q (45 ∷ dashes) rest at.valid (omega arith) refl)
     (begins-whole n.GfmTableDelimiterFiller p at.whole) (run dashes h))
   where
     run : (dashes : List ℕ) → list_all (λ (b : ℕ). b == 45) dashes ≡ true → is_run 1 45 (45 ∷ dashes) ≡ true
@@ -188,11 +188,11 @@ value-facts bytes left dashes right rest p h at =
     (row-append
     (filler-facts bytes dashes (colons right ++ rest) q (at-first bytes (45 ∷ dashes) (colons right) rest q at-dashes)
     h)
-    (marker-facts bytes right rest r (at-behind bytes (45 ∷ dashes) (colons right) rest q at-dashes))
+    (marker-facts bytes right rest r (at-following bytes (45 ∷ dashes) (colons right) rest q at-dashes))
     (λ first end.
-    low-behind bytes 45 dashes (colons right ++ rest) q
-    (at-first bytes (45 ∷ dashes) (colons right) rest q at-dashes).stands (dashes-low dashes h)))
-    (λ first end. low-front bytes 45 ((dashes ++ colons right) ++ rest) q at-dashes.stands refl))
+    low-following bytes 45 dashes (colons right ++ rest) q
+    (at-first bytes (45 ∷ dashes) (colons right) rest q at-dashes).valid (dashes-low dashes h)))
+    (λ first end. low-front bytes 45 ((dashes ++ colons right) ++ rest) q at-dashes.valid refl))
   where
     q : Point
     q = past_text (colons left) p
@@ -201,7 +201,7 @@ value-facts bytes left dashes right rest p h at =
     r = past_text (45 ∷ dashes) (past_text (colons left) p)
 
     at-dashes : At bytes ((45 ∷ dashes) ++ colons right) (past_text (colons left) p) rest
-    at-dashes = at-behind bytes (colons left) (45 ∷ (dashes ++ colons right)) rest p at
+    at-dashes = at-following bytes (colons left) (45 ∷ (dashes ++ colons right)) rest p at
 
     end : past_text (colons left ++ (45 ∷ (dashes ++ colons right))) p ≡ past_text (colons right) r
     end =
@@ -246,31 +246,34 @@ value-word : (text : Expression) (left : Bool) (dashes : List ℕ) (right : Bool
     IsWord text (inside text n.GfmTableDelimiterCellValue ∷ []) (value_events left dashes right p)
 value-word text true dashes true p = record {
   left =
-      behind n.GfmTableDelimiterMarker
-      (behind n.GfmTableDelimiterFiller (behind n.GfmTableDelimiterMarker (inside text n.GfmTableDelimiterCellValue)));
+      following n.GfmTableDelimiterMarker
+      (following n.GfmTableDelimiterFiller (following n.GfmTableDelimiterMarker
+      (inside text n.GfmTableDelimiterCellValue)));
   leads = λ outer. refl;
   ends = refl;
 }
 value-word text true dashes false p = record {
   left =
-      behind n.GfmTableDelimiterFiller (behind n.GfmTableDelimiterMarker (inside text n.GfmTableDelimiterCellValue));
+      following n.GfmTableDelimiterFiller (following n.GfmTableDelimiterMarker
+      (inside text n.GfmTableDelimiterCellValue));
   leads = λ outer. refl;
   ends = refl;
 }
 value-word text false dashes true p = record {
   left =
-      behind n.GfmTableDelimiterMarker (behind n.GfmTableDelimiterFiller (inside text n.GfmTableDelimiterCellValue));
+      following n.GfmTableDelimiterMarker (following n.GfmTableDelimiterFiller
+      (inside text n.GfmTableDelimiterCellValue));
   leads = λ outer. refl;
   ends = refl;
 }
 value-word text false dashes false p = record {
-  left = behind n.GfmTableDelimiterFiller (inside text n.GfmTableDelimiterCellValue);
+  left = following n.GfmTableDelimiterFiller (inside text n.GfmTableDelimiterCellValue);
   leads = λ outer. refl;
   ends = refl;
 }
 
 value-leads : (text x : Expression) (xs : List ℕ) (p : Point) → IsValue xs →
-    Leads text (x ∷ []) (behind n.GfmTableDelimiterCellValue x ∷ []) (value_part xs p)
+    Leads text (x ∷ []) (following n.GfmTableDelimiterCellValue x ∷ []) (value_part xs p)
 value-leads text x [] p is = cc
 value-leads text x (b ∷ bs) p is =
     let a = aligned (b ∷ bs) is in
@@ -288,7 +291,7 @@ cell_start = inside plain_text n.GfmTableDelimiterCell
 abbrev value_left : Bool → Bool → Bool → Expression
 value_left piped front back =
     maybe back n.SpaceOrTab
-    (behind n.GfmTableDelimiterCellValue
+    (following n.GfmTableDelimiterCellValue
     (maybe front n.SpaceOrTab (maybe piped n.GfmTableCellDivider cell_start)))
 
 value-ends : (piped front back shut : Bool) →
@@ -318,10 +321,10 @@ delimiter-words text piped cell p fits = record {
       (first_pipe piped p) (cell_by value_part cell q) (pipe-leads text cell_start piped p)
       (leads-append text (start ∷ []) (mid ∷ []) (value_left piped (has front) (has back) ∷ []) (white_part front q)
       (value_part (trim cell) r ++ white_part back (past_text (trim cell) r)) (white-leads text start front q)
-      (leads-append text (mid ∷ []) (behind n.GfmTableDelimiterCellValue mid ∷ [])
+      (leads-append text (mid ∷ []) (following n.GfmTableDelimiterCellValue mid ∷ [])
       (value_left piped (has front) (has back) ∷ []) (value_part (trim cell) r)
       (white_part back (past_text (trim cell) r)) (value-leads text mid (trim cell) r fits)
-      (white-leads text (behind n.GfmTableDelimiterCellValue mid) back (past_text (trim cell) r))));
+      (white-leads text (following n.GfmTableDelimiterCellValue mid) back (past_text (trim cell) r))));
   ends = λ shut. value-ends piped (has front) (has back) shut;
 }
   where
@@ -347,7 +350,7 @@ pub delimiter-name : IsCellName n.GfmTableDelimiterCell
 delimiter-name = record { first = spaced; more = refl; ends = ends }
   where
     spaced : (x : Bool) →
-        behind n.GfmTableDelimiterCell (maybe x n.SpaceOrTab (row_left n.GfmTableDelimiterCell)) ≡
+        following n.GfmTableDelimiterCell (maybe x n.SpaceOrTab (row_left n.GfmTableDelimiterCell)) ≡
         cells_left n.GfmTableDelimiterCell
     spaced true = refl
     spaced false = refl

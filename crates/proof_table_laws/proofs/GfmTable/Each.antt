@@ -74,14 +74,14 @@ delimiter-cells : (P : Event → Type 0) → OfRow P → (run : delimiter.Run) (
     Each P (delimiter.runs run cells p)
 delimiter-cells P of run [] p = delimiter-closes P of run p
 delimiter-cells P of run (c ∷ cs) p =
-    either (Each P) (delimiter.goes_on run c.byte) _ _ (delimiter-cells P of run cs c.after)
+    either (Each P) (delimiter.is_continued run c.byte) _ _ (delimiter-cells P of run cs c.after)
     (delimiter-turns P of run (delimiter.begun c.byte) p _ (delimiter-cells P of (delimiter.begun c.byte) cs c.after))
 
 pub delimiter-bytes : (P : Event → Type 0) → OfRow P → (run : delimiter.Run) (bs : List ℕ) (p : Point) →
     Each P (delimiter_runs run bs p)
 delimiter-bytes P of run [] p = delimiter-closes P of run p
 delimiter-bytes P of run (b ∷ bs) p =
-    either (Each P) (delimiter.goes_on run b) _ _ (delimiter-bytes P of run bs (past_byte b p))
+    either (Each P) (delimiter.is_continued run b) _ _ (delimiter-bytes P of run bs (past_byte b p))
     (delimiter-turns P of run (delimiter.begun b) p _ (delimiter-bytes P of (delimiter.begun b) bs (past_byte b p)))
 
 -- and of any other row.
@@ -109,13 +109,13 @@ pub row-cells : (P : Event → Type 0) → OfRow P → (run : row.Run) (cells : 
     Each P (row.runs run cells p)
 row-cells P of run [] p = row-closes P of run p
 row-cells P of run (c ∷ cs) p =
-    either (Each P) (row.goes_on run c.byte) _ _ (row-cells P of (row.next run c.byte) cs c.after)
+    either (Each P) (row.is_continued run c.byte) _ _ (row-cells P of (row.next run c.byte) cs c.after)
     (row-turns P of run (row.begun c.byte) p _ (row-cells P of (row.begun c.byte) cs c.after))
 
 pub row-bytes : (P : Event → Type 0) → OfRow P → (run : row.Run) (bs : List ℕ) (p : Point) → Each P (row_runs run bs p)
 row-bytes P of run [] p = row-closes P of run p
 row-bytes P of run (b ∷ bs) p =
-    either (Each P) (row.goes_on run b) _ _ (row-bytes P of (row.next run b) bs (past_byte b p))
+    either (Each P) (row.is_continued run b) _ _ (row-bytes P of (row.next run b) bs (past_byte b p))
     (row-turns P of run (row.begun b) p _ (row-bytes P of (row.begun b) bs (past_byte b p)))
 
 -- A line, with what is in it.

@@ -9,17 +9,17 @@ use Rattle.md_engine.specs.declared.configuration.ParseOptions.{ParseOptions}
 use Rattle.md_engine.specs.declared.tokenizer.held_leaf.HeldLeaf.{HeldLeaf}
 use Rattle.md_engine.specs.declared.tokenizer.held_leaf.HeldLeaf.TheVariants as held_leaf
 use Rattle.md_engine.specs.declared.tokenizer.held_leaf.OpenText.{OpenText}
-use Rattle.md_meaning.specs.Leaves.{NoText, Opened, starts, table_at, table_by, table_goes_on}
+use Rattle.md_meaning.specs.Leaves.{NoText, Opened, starts, table_at, table_by, table_continued}
 use Rattle.md_meaning.specs.Rest.{Rest, has_small_indent, is_blank, is_small, trim}
 use Rattle.md_meaning.specs.State.{ParagraphLine, Leaf, NoLeaf, OpenCode, OpenFence, OpenHtml, OpenParagraph}
 use Rattle.md_meaning.specs.State.{OpenTable, Innermost, shut_paragraph, texts}
-use Rattle.md_meaning.specs.Step.{came}
+use Rattle.md_meaning.specs.Step.{became}
 use Rattle.md_meaning.specs.Table.{delimiter_columns, is_head, pieces, row_cells}
 use Rattle.md_meaning.specs.Bytes.{after_optional}
 use Rattle.md_meaning.specs.Tree.{Blocks}
 use Rattle.md_tables.specs.GfmTableLine.{are_columns}
 use Rattle.md_link_definitions.proofs.Pieces.{Parted, pieces-parted}
-use Rattle.proof_frame.specs.HeldLeaf.{kind_of_leaf, left_by, may_go_on}
+use Rattle.proof_frame.specs.HeldLeaf.{kind_of_leaf, left_by, may_continue}
 use Rattle.proof_table_laws.specs.Leaf.GfmTable.{first_cells, may_be_table, table_leaf}
 
 -- It begins where its leaf says.
@@ -50,17 +50,17 @@ pub record KnowsHead (text : OpenText) (k : ParagraphLine) : Type 0 where
   pub indent : text.indent ≡ k.indent
 
 -- So it is by the lines of the text, the last one first.
-found-behind : (options : ParseOptions) (bs : Blocks) (lines : List ParagraphLine) (k : ParagraphLine)
+found-following : (options : ParseOptions) (bs : Blocks) (lines : List ParagraphLine) (k : ParagraphLine)
     (before : List ParagraphLine)
     (text : OpenText) (r : Rest) →
     reverse lines ≡ k ∷ before → KnowsHead text k →
     table_at options bs lines r ≡
     cond (table_leaf.starts options (held_leaf.Text text) r)
     (Some
-    (came (shut_paragraph options bs (texts (reverse before)))
-    (table_leaf.comes options (OpenParagraph lines) r))) None
+    (became (shut_paragraph options bs (texts (reverse before)))
+    (table_leaf.becomes options (OpenParagraph lines) r))) None
 unfolding table_at
-found-behind options bs lines k before text r last knows =
+found-following options bs lines k before text r last knows =
     subst Found (sym last)
     (ap (λ (o : Option Innermost). cond (on && small) o None) (as-head (delimiter_columns row))
     ∙ go on small (is_small options k.indent) (is_head k.text) (delimiter_columns row)
@@ -82,7 +82,7 @@ found-behind options bs lines k before text r last knows =
     Found ks =
         cond (on && small) (table_by options bs ks row (delimiter_columns row)) None ≡
         cond (table_leaf.starts options (held_leaf.Text text) r)
-        (Some (came shut_lines (Opened (OpenTable row (first_cells ks ∷ []))))) None
+        (Some (became shut_lines (Opened (OpenTable row (first_cells ks ∷ []))))) None
 
     here : Option Innermost
     here = Some (record { here = shut_lines; leaf = OpenTable row (row_cells k.text ∷ []) })
@@ -127,15 +127,15 @@ pub table-found : (options : ParseOptions) (bs : Blocks) (before : List Paragrap
     table_at options bs (before ++ k ∷ []) r ≡
     cond (table_leaf.starts options (held_leaf.Text text) r)
     (Some
-    (came (shut_paragraph options bs (texts before))
-    (table_leaf.comes options (OpenParagraph (before ++ k ∷ [])) r))) None
+    (became (shut_paragraph options bs (texts before))
+    (table_leaf.becomes options (OpenParagraph (before ++ k ∷ [])) r))) None
 table-found options bs before k text r knows =
-    found-behind options bs (before ++ k ∷ []) k (reverse before) text r (reverse-append before (k ∷ [])) knows
+    found-following options bs (before ++ k ∷ []) k (reverse before) text r (reverse-append before (k ∷ [])) knows
     ∙ ap
     (λ (ks : List ParagraphLine).
     cond (table_leaf.starts options (held_leaf.Text text) r)
     (Some
-    (came (shut_paragraph options bs (texts ks)) (table_leaf.comes options (OpenParagraph (before ++ k ∷ [])) r)))
+    (became (shut_paragraph options bs (texts ks)) (table_leaf.becomes options (OpenParagraph (before ++ k ∷ [])) r)))
     None) (reverse-reverse before)
 
 -- It starts on text only where tables are on.
@@ -150,19 +150,19 @@ table-enabled options text r e =
     go false a b c d e = cc
 
 -- A table continues, up to a blank line and to one that starts another leaf.
-pub table-goes : (options : ParseOptions) (delimiter : List ℕ) (rows : List (List (List ℕ))) (r : Rest) →
-    table_goes_on options delimiter rows r ≡
+pub table-proceeds : (options : ParseOptions) (delimiter : List ℕ) (rows : List (List (List ℕ))) (r : Rest) →
+    table_continued options delimiter rows r ≡
     cond (is_blank r.bytes || is_some (starts options NoText r)) None
-    (Some (table_leaf.comes options (OpenTable delimiter rows) r))
-unfolding table_goes_on
-table-goes options delimiter rows r = refl
+    (Some (table_leaf.becomes options (OpenTable delimiter rows) r))
+unfolding table_continued
+table-proceeds options delimiter rows r = refl
 
 -- What is known of a line of it.
 
 -- a table is open after it
 pub table-held : (options : ParseOptions) (leaf : Leaf) (r : Rest) →
     table_leaf.starts options (kind_of_leaf leaf) r ≡ true →
-    kind_of_leaf (left_by (table_leaf.comes options leaf r)) ≡ held_leaf.Table
+    kind_of_leaf (left_by (table_leaf.becomes options leaf r)) ≡ held_leaf.Table
 table-held options NoLeaf r e = cc
 table-held options (OpenParagraph lines) r e = refl
 table-held options (OpenCode lines) r e = cc
@@ -171,7 +171,7 @@ table-held options (OpenHtml kind lines) r e = cc
 table-held options (OpenTable delimiter rows) r e = refl
 
 -- it continues what a line may continue
-pub table-lines : (on : HeldLeaf) → may_be_table on ≡ true → may_go_on on ≡ true
+pub table-lines : (on : HeldLeaf) → may_be_table on ≡ true → may_continue on ≡ true
 table-lines (held_leaf.Text text) e = refl
 table-lines held_leaf.Table e = refl
 table-lines _ e = cc

@@ -6,10 +6,10 @@ use Rattle.md_engine.specs.declared.event.Name.TheVariants as n
 use Rattle.md_engine.specs.declared.event.Point.{Point}
 use Rattle.md_meaning.specs.Rest.{trim_start}
 use Rattle.md_meaning.specs.Table.{row_cells}
-use Rattle.md_outline.specs.LinesStand.{InTable}
-use Rattle.md_outline.specs.TablePlaces.{AtHead, BehindRow, BodyRow, HeadRow, Row, TablePlace, behind_row}
+use Rattle.md_outline.specs.LinesAllowed.{InTable}
+use Rattle.md_outline.specs.TablePlaces.{AtHead, AfterRow, BodyRow, HeadRow, Row, TablePlace, after_row}
 use Rattle.md_outline.proofs.TablesPass.{PassesIn, passes-body_row, passes-head}
-use Rattle.md_events.specs.Events.Grammar.{Expression, behind, plain_text, unread_text}
+use Rattle.md_events.specs.Events.Grammar.{Expression, following, plain_text, unread_text}
 use Rattle.md_events.specs.Events.Nested.{around}
 use Rattle.md_events.specs.Events.Places.{past_text}
 use Rattle.md_events.specs.Events.Spelled.{OpenLeaf, TableLeaf, Text as OpenText}
@@ -30,7 +30,7 @@ use Rattle.proof_frame.proofs.PartsFacts.{ReadsLeaf}
 -- where in a table its head row may begin, and where a further row
 abbrev pub front_of : Row → TablePlace
 front_of HeadRow = AtHead
-front_of BodyRow = BehindRow
+front_of BodyRow = AfterRow
 
 -- What is asked of the bytes of a cell: nothing.
 abbrev AnyText : List ℕ → Type 0
@@ -67,7 +67,7 @@ whole-row bytes line rest p at =
     line rest p at (any-fits (line_cells (trim_start line))))
 
 row-lines : (bytes line rest : List ℕ) (p q : Point) (row : Row) → RowAt bytes line rest p →
-    PassesIn bytes (front_of row) (behind_row row) (around n.GfmTableRow p q (row_events (read_text bytes) line p))
+    PassesIn bytes (front_of row) (after_row row) (around n.GfmTableRow p q (row_events (read_text bytes) line p))
 row-lines bytes line rest p q HeadRow at =
     passes-head bytes n.GfmTableRow p q (row_events (read_text bytes) line p) refl
     (row-passes bytes line rest p HeadRow at)
@@ -79,14 +79,14 @@ row-lines bytes line rest p q BodyRow at =
 pub row-inside : (bytes line rest : List ℕ) (p q : Point) (row : Row) (x : Expression) (delimiter : List ℕ)
     (rows : List (List (List ℕ))) →
     RowAt bytes line rest p → q ≡ past_text line p →
-    InsideFacts bytes p q x (behind n.GfmTableRow x) (TableLeaf (record { delimiter = delimiter; rows = rows }))
+    InsideFacts bytes p q x (following n.GfmTableRow x) (TableLeaf (record { delimiter = delimiter; rows = rows }))
     (TableLeaf (record { delimiter = delimiter; rows = rows ++ row_cells line ∷ [] })) (InTable (front_of row))
-    (InTable (behind_row row)) (around n.GfmTableRow p q (row_events cells.unread_text line p))
+    (InTable (after_row row)) (around n.GfmTableRow p q (row_events cells.unread_text line p))
     (around n.GfmTableRow p q (row_events (read_text bytes) line p))
 row-inside bytes line rest p q row x delimiter rows at end =
     subst
     (λ (e : Point).
-    InsideFacts bytes p e x (behind n.GfmTableRow x) from to (InTable (front_of row)) (InTable (behind_row row))
+    InsideFacts bytes p e x (following n.GfmTableRow x) from to (InTable (front_of row)) (InTable (after_row row))
     (around n.GfmTableRow p e unread) (around n.GfmTableRow p e done)) (sym end)
     (record {
       parts = record {
@@ -127,7 +127,7 @@ row-inside bytes line rest p q row x delimiter rows at end =
 
     reads : ReadsLeaf bytes from to (around n.GfmTableRow p (past_text line p) done)
     reads s none opened =
-        row-read bytes s delimiter rows line rest p (past_text line p) at.stands (row-whole line p at.cut at.some) none
+        row-read bytes s delimiter rows line rest p (past_text line p) at.valid (row-whole line p at.cut at.some) none
         opened
         ∙ ap (λ (t : Option OpenText). record s { leaf = Some to; text = t }) (sym none)
 

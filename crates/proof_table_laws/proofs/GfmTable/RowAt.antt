@@ -11,16 +11,16 @@ use Rattle.md_events.specs.Events.Places.{past_text}
 use Rattle.md_events.proofs.FeedLines.{past_text-whole}
 use Rattle.md_events.proofs.InlineLemmas.{past-index}
 use Rattle.md_tables.specs.RowCells.{white_front}
-use Rattle.md_tables.proofs.RowBytes.{front-whole, stands-line}
+use Rattle.md_tables.proofs.RowBytes.{front-whole, valid-line}
 use Rattle.proof_frame.specs.RestLine.{rest_line}
-use Rattle.proof_frame.proofs.LineWalk.{At, past-stands}
+use Rattle.proof_frame.proofs.LineWalk.{At, past-valid}
 use Rattle.proof_frame.proofs.LeafFacts.{LineAt}
-use Rattle.proof_frame.proofs.LineTexts.{line-stands, no_ending-parts}
+use Rattle.proof_frame.proofs.LineTexts.{line-valid, no_ending-parts}
 use Rattle.proof_frame.proofs.PieceFacts.{CutsFirst}
 
 -- A line that is not blank is at a point of a text, with this after it; a tab that is cut is its first byte.
 pub record RowAt (bytes line rest : List ℕ) (p : Point) : Type 0 where
-  pub stands : drop p.index bytes ≡ line ++ rest
+  pub valid : drop p.index bytes ≡ line ++ rest
   pub none : NoEnding line
   pub cut : CutsFirst p line
   pub some : is_blank line ≡ false
@@ -29,7 +29,7 @@ pub record RowAt (bytes line rest : List ℕ) (p : Point) : Type 0 where
 pub row-at : (bytes : List ℕ) (r : Rest) (p q : Point) → LineAt bytes r (rest_line r) p q → is_blank r.bytes ≡ false →
     RowAt bytes (rest_line r) (drop q.index bytes) p
 row-at bytes r p q is some = record {
-  stands = line-stands bytes r (rest_line r) p q is;
+  valid = line-valid bytes r (rest_line r) p q is;
   none = is.no_ending;
   cut = is.cut_first;
   some = filled r.spaces r.bytes some;
@@ -58,14 +58,15 @@ row-later (b ∷ bs) p some =
 
 pub at-first : (bytes xs ys rest : List ℕ) (p : Point) → At bytes (xs ++ ys) p rest → At bytes xs p (ys ++ rest)
 at-first bytes xs ys rest p is = record {
-  stands = is.stands ∙ append_assoc xs ys rest;
+  valid = is.valid ∙ append_assoc xs ys rest;
   none = (no_ending-parts xs ys is.none).0;
   whole = is.whole;
 }
 
-pub at-behind : (bytes xs ys rest : List ℕ) (p : Point) → At bytes (xs ++ ys) p rest → At bytes ys (past_text xs p) rest
-at-behind bytes xs ys rest p is = record {
-  stands = past-stands bytes xs (ys ++ rest) p (is.stands ∙ append_assoc xs ys rest);
+pub at-following : (bytes xs ys rest : List ℕ) (p : Point) → At bytes (xs ++ ys) p rest →
+    At bytes ys (past_text xs p) rest
+at-following bytes xs ys rest p is = record {
+  valid = past-valid bytes xs (ys ++ rest) p (is.valid ∙ append_assoc xs ys rest);
   none = (no_ending-parts xs ys is.none).1;
   whole = past_text-whole xs p is.whole;
 }
@@ -74,10 +75,10 @@ at-behind bytes xs ys rest p is = record {
 pub row-start : (bytes line rest : List ℕ) (p : Point) → RowAt bytes line rest p →
     At bytes (trim_start line) (past_text (white_front line) p) rest
 row-start bytes line rest p is = record {
-  stands =
-      past-stands bytes (white_front line) (trim_start line ++ rest) p
-      (is.stands ∙ ap (λ (xs : List ℕ). xs ++ rest) (front-whole line)
+  valid =
+      past-valid bytes (white_front line) (trim_start line ++ rest) p
+      (is.valid ∙ ap (λ (xs : List ℕ). xs ++ rest) (front-whole line)
       ∙ append_assoc (white_front line) (trim_start line) rest);
   none = (no_ending-parts (white_front line) (trim_start line) (subst NoEnding (front-whole line) is.none)).1;
-  whole = (stands-line bytes line rest p is.stands (row-whole line p is.cut is.some)).whole;
+  whole = (valid-line bytes line rest p is.valid (row-whole line p is.cut is.some)).whole;
 }

@@ -14,15 +14,15 @@ use Rattle.md_meaning.specs.Rest.{is_blank, is_white, trim, trim_start}
 use Rattle.md_events.specs.Events.Places.{past_byte, past_text}
 use Rattle.md_events.proofs.InlineLemmas.{past-index, past_text-append}
 use Rattle.md_events.proofs.PlacesLemmas.{at-next}
-use Rattle.md_tables.specs.RowCells.{Cells, Divides, Ends, Shut, behind_pipe, cell_by, cells_by, cells_of, first_pipe}
+use Rattle.md_tables.specs.RowCells.{Cells, Divides, Ends, Shut, after_pipe, cell_by, cells_by, cells_of, first_pipe}
 use Rattle.md_tables.specs.RowCells.{line_cells, onto, past_pipe, pipe_part, row_by, white_back, white_front}
 use Rattle.md_tables.proofs.RowBytes.{cell-whole, cells_bytes, front-blank, front-whole, line-bytes, pipe_bytes}
 use Rattle.md_events.proofs.RestLines.{trim-white}
 use Rattle.md_tables.proofs.WhiteEnds.{back-blank, blank-first, front-none, front-one, start-none}
 use Rattle.proof_frame.proofs.BetweenFacts.{between-before, blank-low, is_low}
-use Rattle.proof_frame.proofs.PlaceBetween.{IsPlace, low-behind}
+use Rattle.proof_frame.proofs.PlaceBetween.{IsPlace, low-following}
 use Rattle.proof_frame.proofs.LineWalk.{At}
-use Rattle.proof_table_laws.proofs.GfmTable.RowAt.{RowAt, at-behind, at-first, row-start}
+use Rattle.proof_table_laws.proofs.GfmTable.RowAt.{RowAt, at-following, at-first, row-start}
 use Rattle.proof_table_laws.proofs.GfmTable.RowParts.{IsRowGroup, RowFacts, row-append, row-around, row-none}
 use Rattle.proof_table_laws.proofs.GfmTable.RowParts.{row-pipe, row-white}
 use Rattle.proof_frame.proofs.PieceFacts.{CutsFirst, whole-first}
@@ -56,10 +56,10 @@ place-front bytes [] rest p is blank last = last
 place-front bytes (b ∷ w) rest p is blank last =
     low-front bytes b (w ++ rest) p is (and_parts (is_low b) (list_all is_low w) (blank-low (b ∷ w) blank)).0
 
-place-behind : (bytes w rest : List ℕ) (p : Point) → drop p.index bytes ≡ w ++ rest → is_blank w ≡ true →
+place-following : (bytes w rest : List ℕ) (p : Point) → drop p.index bytes ≡ w ++ rest → is_blank w ≡ true →
     IsPlace bytes p → IsPlace bytes (past_text w p)
-place-behind bytes [] rest p is blank first = first
-place-behind bytes (b ∷ w) rest p is blank first = low-behind bytes b w rest p is (blank-low (b ∷ w) blank)
+place-following bytes [] rest p is blank first = first
+place-following bytes (b ∷ w) rest p is blank first = low-following bytes b w rest p is (blank-low (b ∷ w) blank)
 
 -- A pipe before a cell, if there is one.
 
@@ -70,18 +70,18 @@ past-pipe false xs p = refl
 
 pub at-pipe : (bytes : List ℕ) (piped : Bool) (xs rest : List ℕ) (p : Point) →
     At bytes (pipe_bytes piped ++ xs) p rest → At bytes xs (past_pipe piped p) rest
-at-pipe bytes true xs rest p at = at-behind bytes (124 ∷ []) xs rest p at
+at-pipe bytes true xs rest p at = at-following bytes (124 ∷ []) xs rest p at
 at-pipe bytes false xs rest p at = at
 
 pipe-front : (bytes : List ℕ) (piped : Bool) (xs rest : List ℕ) (p : Point) → At bytes (pipe_bytes piped ++ xs) p rest →
     RowFacts bytes p (past_pipe piped p) (first_pipe piped p) (first_pipe piped p)
-pipe-front bytes true xs rest p at = row-pipe bytes (xs ++ rest) p at.stands at.whole
+pipe-front bytes true xs rest p at = row-pipe bytes (xs ++ rest) p at.valid at.whole
 pipe-front bytes false xs rest p at = row-none bytes p
 
-pipe-behind : (bytes : List ℕ) (piped : Bool) (xs rest : List ℕ) (p : Point) →
+pipe-following : (bytes : List ℕ) (piped : Bool) (xs rest : List ℕ) (p : Point) →
     At bytes (pipe_bytes piped ++ xs) p rest → IsPlace bytes p → IsPlace bytes (past_pipe piped p)
-pipe-behind bytes true xs rest p at first = low-behind bytes 124 [] (xs ++ rest) p at.stands refl
-pipe-behind bytes false xs rest p at first = first
+pipe-following bytes true xs rest p at first = low-following bytes 124 [] (xs ++ rest) p at.valid refl
+pipe-following bytes false xs rest p at first = first
 
 -- What a cell holds, with whitespace around it.
 inside-facts : (bytes : List ℕ) (name : Name) (u d : List ℕ → Point → List Event) (Fits : List ℕ → Type 0) →
@@ -90,12 +90,12 @@ inside-facts : (bytes : List ℕ) (name : Name) (u d : List ℕ → Point → Li
 inside-facts bytes name u d Fits is cell rest p at fits =
     subst (λ (e : Point). RowFacts bytes p e (cell_by u cell p) (cell_by d cell p)) (sym end)
     (row-append
-    (row-white bytes front ((trim cell ++ back) ++ rest) p at-front.stands (whole-first p front at.whole)
+    (row-white bytes front ((trim cell ++ back) ++ rest) p at-front.valid (whole-first p front at.whole)
     (front-blank cell))
     (row-append (is.held (trim cell) (back ++ rest) q (at-first bytes (trim cell) back rest q at-text) fits)
-    (row-white bytes back rest r at-back.stands (whole-first r back at-back.whole) (back-blank (trim_start cell)))
-    (λ first last. place-front bytes back rest r at-back.stands (back-blank (trim_start cell)) last))
-    (λ first last. place-behind bytes front ((trim cell ++ back) ++ rest) p at-front.stands (front-blank cell) first))
+    (row-white bytes back rest r at-back.valid (whole-first r back at-back.whole) (back-blank (trim_start cell)))
+    (λ first last. place-front bytes back rest r at-back.valid (back-blank (trim_start cell)) last))
+    (λ first last. place-following bytes front ((trim cell ++ back) ++ rest) p at-front.valid (front-blank cell) first))
   where
     front : List ℕ
     front = white_front cell
@@ -116,10 +116,10 @@ inside-facts bytes name u d Fits is cell rest p at fits =
     at-front = at-first bytes front (trim cell ++ back) rest p whole
 
     at-text : At bytes (trim cell ++ white_back (trim_start cell)) (past_text (white_front cell) p) rest
-    at-text = at-behind bytes front (trim cell ++ back) rest p whole
+    at-text = at-following bytes front (trim cell ++ back) rest p whole
 
     at-back : At bytes (white_back (trim_start cell)) (past_text (trim cell) (past_text (white_front cell) p)) rest
-    at-back = at-behind bytes (trim cell) back rest q at-text
+    at-back = at-following bytes (trim cell) back rest q at-text
 
     end : past_text cell p ≡
         past_text (white_back (trim_start cell)) (past_text (trim cell) (past_text (white_front cell) p))
@@ -138,7 +138,7 @@ piped-facts bytes name u d Fits is piped cell rest p at fits =
     let q = past_pipe piped p in
     row-append (pipe-front bytes piped cell rest p at)
     (inside-facts bytes name u d Fits is cell rest q (at-pipe bytes piped cell rest p at) fits)
-    (λ first last. pipe-behind bytes piped cell rest p at first)
+    (λ first last. pipe-following bytes piped cell rest p at first)
 
 -- it has some bytes, if there is one or it is not empty
 end-later : (piped : Bool) (cell : List ℕ) (p : Point) → 0 < length (pipe_bytes piped ++ cell) →
@@ -165,8 +165,8 @@ cut-onto piped b (Shut cell white) h = h
 cut-onto true b (Divides cell cells) h = (omega arith, h.1)
 cut-onto false b (Divides cell cells) h = (omega arith, h.1)
 
-cut-behind : (bs : List ℕ) (cells : Cells) → AreCut true cells → AreCut true (behind_pipe bs cells)
-cut-behind bs cells h = go (is_blank bs) refl
+cut-following : (bs : List ℕ) (cells : Cells) → AreCut true cells → AreCut true (after_pipe bs cells)
+cut-following bs cells h = go (is_blank bs) refl
   where
     go : (x : Bool) → is_blank bs ≡ x → AreCut true (cond x (Shut [] bs) (Divides [] cells))
     go true e = e
@@ -180,8 +180,8 @@ cut-of true (b ∷ bs) = cut-onto true b (cells_of false bs) (cut-of false bs)
 cut-of false (b ∷ bs) = go (nat_eq b 124) (λ x. cut-of x bs)
   where
     go : (y : Bool) → ((x : Bool) → AreCut true (cells_of x bs)) →
-        AreCut true (cond y (behind_pipe bs (cells_of false bs)) (onto b (cells_of (nat_eq b 92) bs)))
-    go true more = cut-behind bs (cells_of false bs) (more false)
+        AreCut true (cond y (after_pipe bs (cells_of false bs)) (onto b (cells_of (nat_eq b 92) bs)))
+    go true more = cut-following bs (cells_of false bs) (more false)
     go false more = cut-onto true b (cells_of (nat_eq b 92) bs) (more (nat_eq b 92))
 
 -- and with those of a line that is not blank
@@ -194,7 +194,7 @@ line-cut (b ∷ bs) h = go (nat_eq b 124) refl
     plain k =
         subst
         (λ (x : Bool).
-        AreCut false (cond x (behind_pipe bs (cells_of false bs)) (onto b (cells_of (nat_eq b 92) bs)))) (sym k)
+        AreCut false (cond x (after_pipe bs (cells_of false bs)) (onto b (cells_of (nat_eq b 92) bs)))) (sym k)
         (cut-onto false b (cells_of (nat_eq b 92) bs) (cut-of (nat_eq b 92) bs))
 
     go : (y : Bool) → nat_eq b 124 ≡ y → AreCut y (cells_of false (cond y bs (b ∷ bs)))
@@ -204,10 +204,10 @@ line-cut (b ∷ bs) h = go (nat_eq b 124) refl
 -- a pipe that divides is between characters
 piped-place : (bytes : List ℕ) (cells : Cells) (rest : List ℕ) (p : Point) → At bytes (cells_bytes true cells) p rest →
     IsPlace bytes p
-piped-place bytes (Ends cell) rest p at = low-front bytes 124 (cell ++ rest) p at.stands refl
-piped-place bytes (Shut cell white) rest p at = low-front bytes 124 ((cell ++ 124 ∷ white) ++ rest) p at.stands refl
+piped-place bytes (Ends cell) rest p at = low-front bytes 124 (cell ++ rest) p at.valid refl
+piped-place bytes (Shut cell white) rest p at = low-front bytes 124 ((cell ++ 124 ∷ white) ++ rest) p at.valid refl
 piped-place bytes (Divides cell cells) rest p at =
-    low-front bytes 124 ((cell ++ cells_bytes true cells) ++ rest) p at.stands refl
+    low-front bytes 124 ((cell ++ cells_bytes true cells) ++ rest) p at.valid refl
 
 cells-facts : (bytes : List ℕ) (name : Name) (u d : List ℕ → Point → List Event) (Fits : List ℕ → Type 0) →
     IsCellKind bytes name u d Fits → (piped : Bool) (cells : Cells) (rest : List ℕ) (p : Point) →
@@ -234,10 +234,10 @@ cells-facts bytes name u d Fits is piped (Shut cell white) rest p at cut fits =
     (subst₂ (RowFacts bytes p over) (append_assoc (first_pipe piped p) (cell_by u cell q) (pipe_part mid))
     (append_assoc (first_pipe piped p) (cell_by d cell q) (pipe_part mid))
     (row-append (piped-facts bytes name u d Fits is piped cell ((124 ∷ white) ++ rest) p at-cell fits)
-    (row-pipe bytes (white ++ rest) mid at-pipes.stands at-pipes.whole)
-    (λ first last. low-front bytes 124 (white ++ rest) mid at-pipes.stands refl))))
-    (row-white bytes white rest over at-white.stands (whole-first over white refl) cut)
-    (λ first last. low-behind bytes 124 [] (white ++ rest) mid at-pipes.stands refl))
+    (row-pipe bytes (white ++ rest) mid at-pipes.valid at-pipes.whole)
+    (λ first last. low-front bytes 124 (white ++ rest) mid at-pipes.valid refl))))
+    (row-white bytes white rest over at-white.valid (whole-first over white refl) cut)
+    (λ first last. low-following bytes 124 [] (white ++ rest) mid at-pipes.valid refl))
   where
     q : Point
     q = past_pipe piped p
@@ -258,10 +258,10 @@ cells-facts bytes name u d Fits is piped (Shut cell white) rest p at cut fits =
     at-pipes : At bytes (124 ∷ white) (past_text cell (past_pipe piped p)) rest
     at-pipes =
         subst (λ (r : Point). At bytes (124 ∷ white) r rest) (past-pipe piped cell p)
-        (at-behind bytes (pipe_bytes piped ++ cell) (124 ∷ white) rest p at-all)
+        (at-following bytes (pipe_bytes piped ++ cell) (124 ∷ white) rest p at-all)
 
     at-white : At bytes white (past_byte 124 (past_text cell (past_pipe piped p))) rest
-    at-white = at-behind bytes (124 ∷ []) white rest mid at-pipes
+    at-white = at-following bytes (124 ∷ []) white rest mid at-pipes
 
     end : past_text (cells_bytes piped (Shut cell white)) p ≡ past_text white over
     end = past-pipe piped (cell ++ 124 ∷ white) p ∙ past_text-append cell (124 ∷ white) q
@@ -300,7 +300,7 @@ cells-facts bytes name u d Fits is piped (Divides cell cells) rest p at cut fits
     at-next-cells : At bytes (cells_bytes true cells) (past_text cell (past_pipe piped p)) rest
     at-next-cells =
         subst (λ (r : Point). At bytes (cells_bytes true cells) r rest) (past-pipe piped cell p)
-        (at-behind bytes (pipe_bytes piped ++ cell) (cells_bytes true cells) rest p at-all)
+        (at-following bytes (pipe_bytes piped ++ cell) (cells_bytes true cells) rest p at-all)
 
     end : past_text (cells_bytes piped (Divides cell cells)) p ≡ past_text (cells_bytes true cells) mid
     end =
@@ -333,14 +333,14 @@ pub row-facts : (bytes : List ℕ) (name : Name) (u d : List ℕ → Point → L
     RowFacts bytes p (past_text line p) (row_by name u line p) (row_by name d line p)
 row-facts bytes name u d Fits is line rest p at fits =
     subst (λ (e : Point). RowFacts bytes p e (row_by name u line p) (row_by name d line p)) (sym end)
-    (row-append (row-white bytes front (start ++ rest) p stands (cut-front line p at.cut) (front-blank line))
+    (row-append (row-white bytes front (start ++ rest) p valid (cut-front line p at.cut) (front-blank line))
     (subst
     (λ (xs : List ℕ). RowFacts bytes q (past_text xs q) (cells_by name u piped cells q) (cells_by name d piped cells q))
     (line-bytes start)
     (cells-facts bytes name u d Fits is piped cells rest q
     (subst (λ (xs : List ℕ). At bytes xs q rest) (sym (line-bytes start)) (row-start bytes line rest p at))
     (line-cut start (start-some line at.some)) fits))
-    (λ first last. place-behind bytes front (start ++ rest) p stands (front-blank line) first))
+    (λ first last. place-following bytes front (start ++ rest) p valid (front-blank line) first))
   where
     front : List ℕ
     front = white_front line
@@ -357,9 +357,9 @@ row-facts bytes name u d Fits is line rest p at fits =
     cells : Cells
     cells = line_cells (trim_start line)
 
-    stands : drop p.index bytes ≡ white_front line ++ (trim_start line ++ rest)
-    stands =
-        at.stands ∙ ap (λ (xs : List ℕ). xs ++ rest) (front-whole line) ∙ append_assoc front start rest
+    valid : drop p.index bytes ≡ white_front line ++ (trim_start line ++ rest)
+    valid =
+        at.valid ∙ ap (λ (xs : List ℕ). xs ++ rest) (front-whole line) ∙ append_assoc front start rest
 
     end : past_text line p ≡ past_text (trim_start line) (past_text (white_front line) p)
     end = ap (λ (xs : List ℕ). past_text xs p) (front-whole line) ∙ past_text-append front start p

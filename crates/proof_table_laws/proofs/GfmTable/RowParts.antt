@@ -9,13 +9,13 @@ use Rattle.md_engine.specs.declared.event.Event.{Event}
 use Rattle.md_engine.specs.declared.event.Name.{Name}
 use Rattle.md_engine.specs.declared.event.Name.TheVariants as n
 use Rattle.md_engine.specs.declared.event.Point.{Point}
-use Rattle.md_containers.specs.ItemsStand.{IsPart}
+use Rattle.md_containers.specs.ItemsAllowed.{IsPart}
 use Rattle.md_meaning.specs.Rest.{is_blank}
-use Rattle.md_outline.specs.Roles.{is_told, is_unlisted}
+use Rattle.md_outline.specs.Roles.{is_recorded, is_unlisted}
 use Rattle.md_events.specs.declared.inline.PartKind.TheVariants.{Text}
 use Rattle.md_events.specs.Events.Endings.{on_line}
 use Rattle.md_events.specs.Events.Nested.{around, pair}
-use Rattle.md_events.specs.Events.Pieces.{piece_stands}
+use Rattle.md_events.specs.Events.Pieces.{is_valid_piece}
 use Rattle.md_events.specs.Events.Places.{at_or_before, past_byte, past_text}
 use Rattle.md_events.specs.Events.Spelled.{role}
 use Rattle.md_events.specs.Events.Tiles.{part_kind}
@@ -31,7 +31,7 @@ use Rattle.proof_frame.proofs.LineTexts.{past-whole}
 use Rattle.proof_frame.proofs.LineWalk.{At}
 use Rattle.proof_frame.proofs.IndentRemoved.Shown.{whole-clear}
 use Rattle.proof_frame.proofs.PartedFacts.{Still, clear, quiets-still, sits-still}
-use Rattle.proof_frame.proofs.PieceFacts.{CutsFirst, begins-cut, begins-whole, over-front, over-stands, span}
+use Rattle.proof_frame.proofs.PieceFacts.{CutsFirst, begins-cut, begins-whole, over-front, over-valid, span}
 use Rattle.proof_frame.proofs.PiecesLemmas.{Covered, tiled-append, tiled-around, tiled-none, tiled-pair}
 use Rattle.proof_frame.proofs.PlainFacts.{AreKnown, known-append, known-around, known-none, plain-quiet}
 use Rattle.proof_frame.proofs.Stretch.{IsMiddle, Stretch, stretch-append, stretch-around, stretch-none, stretch-pair}
@@ -78,15 +78,15 @@ pub record IsRowPiece (name : Name) : Type 0 where
   pub no_part : part_kind name ≡ None
 
 pub row-piece : (bytes : List ℕ) (name : Name) (p q : Point) → IsRowPiece name → IsTrue (at_or_before p q) →
-    piece_stands bytes (span name p q) ≡ true → RowFacts bytes p q (pair name p q) (pair name p q)
-row-piece bytes name p q is order stands = record {
+    is_valid_piece bytes (span name p q) ≡ true → RowFacts bytes p q (pair name p q) (pair name p q)
+row-piece bytes name p q is order valid = record {
   stretch =
       stretch-pair IsPart bytes name p q
       (record {
         role_is = is.part;
         no_part = is.no_part;
         parted = λ a b. sits-still bytes (pair name a b) (quiets-still (pair name a b) (is.quiet, (is.quiet, tt)));
-      }) order stands;
+      }) order valid;
   covers = tiled-pair name p q;
   unread_others = others-around name p q [] is.other refl;
   others = others-around name p q [] is.other refl;
@@ -101,7 +101,7 @@ row-white bytes (b ∷ w) rest p is cut blank =
     let q = past_text (b ∷ w) p in
     row-piece bytes n.SpaceOrTab p q (record { quiet = tt; part = tt; other = refl; no_part = refl })
     (before-text (b ∷ w) p)
-    (over-stands bytes n.SpaceOrTab p q (b ∷ w) (over-front bytes p q (b ∷ w) rest is (omega arith) refl)
+    (over-valid bytes n.SpaceOrTab p q (b ∷ w) (over-front bytes p q (b ∷ w) rest is (omega arith) refl)
     (begins-cut n.SpaceOrTab p refl) blank)
 
 -- a pipe
@@ -111,7 +111,7 @@ row-pipe bytes rest p is whole =
     let q = past_byte 124 p in
     row-piece bytes n.GfmTableCellDivider p q (record { quiet = tt; part = tt; other = refl; no_part = refl })
     (before-text (124 ∷ []) p)
-    (over-stands bytes n.GfmTableCellDivider p q (124 ∷ [])
+    (over-valid bytes n.GfmTableCellDivider p q (124 ∷ [])
     (over-front bytes p q (124 ∷ []) rest is (omega arith) refl) (begins-whole n.GfmTableCellDivider p whole) refl)
 
 -- What is around others, and is no text.
@@ -123,7 +123,7 @@ pub record IsRowGroup (name : Name) : Type 0 where
   pub no_part : part_kind name ≡ None
   pub still : Still (role name)
   pub known : is_unlisted (role name) ≡ true
-  pub untold : is_told (role name) ≡ false
+  pub untold : is_recorded (role name) ≡ false
 
 pub row-around : {bytes : List ℕ} {p q : Point} {us es : List Event} (name : Name) → IsRowGroup name →
     p.index < q.index → RowFacts bytes p q us es → RowFacts bytes p q (around name p q us) (around name p q es)
@@ -137,7 +137,7 @@ row-around {bytes = bytes} {p = p} {q = q} {us = us} {es = es} name is some h = 
   known = known-around bytes name p q es is.known (untold p) (untold q) h.known;
 }
   where
-    untold : (x : Point) → (not (is_told (role name)) || clear bytes x) ≡ true
+    untold : (x : Point) → (not (is_recorded (role name)) || clear bytes x) ≡ true
     untold x = ap (λ (t : Bool). not t || clear bytes x) is.untold
 
 -- The text of a cell.

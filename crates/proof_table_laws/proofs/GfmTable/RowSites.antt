@@ -5,8 +5,8 @@ use Rattle.md_engine.specs.declared.event.Name.TheVariants as n
 use Rattle.md_engine.specs.declared.event.Point.{Point}
 use Rattle.md_meaning.specs.Lines.{begins_with}
 use Rattle.md_meaning.specs.Rest.{trim, trim_start}
-use Rattle.md_outline.specs.LinesStand.{InTable}
-use Rattle.md_outline.specs.TablePlaces.{AtCell, BehindCell, InRow, Row}
+use Rattle.md_outline.specs.LinesAllowed.{InTable}
+use Rattle.md_outline.specs.TablePlaces.{AtCell, AfterCell, InRow, Row}
 use Rattle.md_outline.proofs.LinesPass.{passes-append}
 use Rattle.md_outline.proofs.TablesPass.{PassesIn, passes-cell, passes-cell_text, passes-empty_cell, passes-unshown}
 use Rattle.md_events.specs.Events.Nested.{around}
@@ -19,7 +19,7 @@ use Rattle.md_tables.proofs.CellData.{data-read}
 use Rattle.md_tables.proofs.RowBytes.{cell-whole, cells_bytes, line-bytes, pipe_bytes}
 use Rattle.md_tables.proofs.RowRead.{pipe-quiet, white-quiet}
 use Rattle.proof_frame.proofs.LineWalk.{At}
-use Rattle.proof_table_laws.proofs.GfmTable.RowAt.{RowAt, at-behind, at-first, row-start}
+use Rattle.proof_table_laws.proofs.GfmTable.RowAt.{RowAt, at-following, at-first, row-start}
 use Rattle.proof_table_laws.proofs.GfmTable.RowCells.{at-pipe, past-pipe}
 
 -- A cell, with what the tree does not show after what it holds.
@@ -40,7 +40,7 @@ cell-passes bytes row piped cell rest p end more at quiet = go (trim cell) at-te
         (white_back (trim_start cell) ++ rest)
     at-text =
         at-first bytes (trim cell) back rest q
-        (at-behind bytes (white_front cell) (trim cell ++ back) rest (past_pipe piped p)
+        (at-following bytes (white_front cell) (trim cell ++ back) rest (past_pipe piped p)
         (subst (λ (xs : List ℕ). At bytes xs (past_pipe piped p) rest) (cell-whole cell) at))
 
     front-quiet : Roles Quiet (white_part (white_front cell) (past_pipe piped p))
@@ -65,25 +65,25 @@ cell-passes bytes row piped cell rest p end more at quiet = go (trim cell) at-te
         (white-quiet back q)) quiet))
     go (b ∷ bs) at =
         passes-cell bytes row n.GfmTableCell p end (held (b ∷ bs)) refl
-        (passes-append bytes (InTable (AtCell row)) (InTable (AtCell row)) (InTable (BehindCell row))
+        (passes-append bytes (InTable (AtCell row)) (InTable (AtCell row)) (InTable (AfterCell row))
         (first_pipe piped p) _
         (passes-unshown bytes (AtCell row) (first_pipe piped p) (pipe-quiet piped p))
-        (passes-append bytes (InTable (AtCell row)) (InTable (BehindCell row)) (InTable (BehindCell row))
+        (passes-append bytes (InTable (AtCell row)) (InTable (AfterCell row)) (InTable (AfterCell row))
         (white_part (white_front cell) (past_pipe piped p)
         ++ (text_part (read_text bytes) (b ∷ bs) q ++ last (b ∷ bs))) more
-        (passes-append bytes (InTable (AtCell row)) (InTable (AtCell row)) (InTable (BehindCell row))
+        (passes-append bytes (InTable (AtCell row)) (InTable (AtCell row)) (InTable (AfterCell row))
         (white_part (white_front cell) (past_pipe piped p))
         (text_part (read_text bytes) (b ∷ bs) q ++ last (b ∷ bs))
         (passes-unshown bytes (AtCell row) (white_part (white_front cell) (past_pipe piped p)) front-quiet)
-        (passes-append bytes (InTable (AtCell row)) (InTable (BehindCell row)) (InTable (BehindCell row))
+        (passes-append bytes (InTable (AtCell row)) (InTable (AfterCell row)) (InTable (AfterCell row))
         (text_part (read_text bytes) (b ∷ bs) q) (last (b ∷ bs))
         (passes-cell_text bytes row n.GfmTableCellText q (past_text (b ∷ bs) q)
         (read_text bytes q (past_text (b ∷ bs) q)) refl
         (subst (Roles Quiet)
-        (sym (data-read bytes b bs q (record { behind = back ++ rest; text = at.stands; whole = at.whole }) at.none))
+        (sym (data-read bytes b bs q (record { following = back ++ rest; text = at.valid; whole = at.whole }) at.none))
         (tt, (tt, tt))))
-        (passes-unshown bytes (BehindCell row) (last (b ∷ bs)) (white-quiet back (past_text (b ∷ bs) q)))))
-        (passes-unshown bytes (BehindCell row) more quiet)))
+        (passes-unshown bytes (AfterCell row) (last (b ∷ bs)) (white-quiet back (past_text (b ∷ bs) q)))))
+        (passes-unshown bytes (AfterCell row) more quiet)))
 
 -- with nothing more after that
 plain-passes : (bytes : List ℕ) (row : Row) (piped : Bool) (cell rest : List ℕ) (p : Point) →
@@ -128,7 +128,7 @@ cells-pass bytes row piped (Divides cell cells) rest p at =
     (at-first bytes (pipe_bytes piped ++ cell) (cells_bytes true cells) rest p all))
     (cells-pass bytes row true cells rest mid
     (subst (λ (r : Point). At bytes (cells_bytes true cells) r rest) (past-pipe piped cell p)
-    (at-behind bytes (pipe_bytes piped ++ cell) (cells_bytes true cells) rest p all)))
+    (at-following bytes (pipe_bytes piped ++ cell) (cells_bytes true cells) rest p all)))
   where
     mid : Point
     mid = past_text cell (past_pipe piped p)

@@ -11,12 +11,12 @@ use Rattle.md_meaning.specs.Lines.{begins_with}
 use Rattle.md_meaning.specs.Rest.{is_blank, is_white, trim, trim_start}
 use Rattle.md_leaves.proofs.TitleTexts.{front-stops}
 use Rattle.md_events.specs.declared.inline.Chunk.{Chunk}
-use Rattle.md_events.specs.Events.Grammar.{Expression, Many, One, Then, behind, inside, may_end, one, plain_text, some}
-use Rattle.md_events.specs.Events.Grammar.{unread_text, white}
+use Rattle.md_events.specs.Events.Grammar.{Expression, Many, One, Then, following, inside, may_end, one, plain_text}
+use Rattle.md_events.specs.Events.Grammar.{some, unread_text, white}
 use Rattle.md_events.specs.Events.Inline.{plain_chunk}
 use Rattle.md_events.specs.Events.Nested.{around}
 use Rattle.md_events.specs.Events.Places.{past_byte, past_text}
-use Rattle.md_events.proofs.GrammarLemmas.{IsWord, Leads, leads-append, leads-around, leads-pair, maybe, word-behind}
+use Rattle.md_events.proofs.GrammarLemmas.{IsWord, Leads, leads-append, leads-around, leads-pair, maybe, word-following}
 use Rattle.md_tables.specs.RowCells as row
 use Rattle.md_tables.specs.RowCells.{Cells, Divides, Ends, Shut, cell_by, cells_by, first_pipe, line_cells, past_pipe}
 use Rattle.md_tables.specs.RowCells.{pipe_part, read_text, row_by, text_part, white_back, white_front, white_part}
@@ -50,8 +50,8 @@ cells_left name = Then (Many (One (name ∷ []))) white
 
 -- what is asked of their name, all of which `refl` proves
 pub record IsCellName (name : Name) : Type 0 where
-  pub first : (spaced : Bool) → behind name (maybe spaced n.SpaceOrTab (row_left name)) ≡ cells_left name
-  pub more : behind name (cells_left name) ≡ cells_left name
+  pub first : (spaced : Bool) → following name (maybe spaced n.SpaceOrTab (row_left name)) ≡ cells_left name
+  pub more : following name (cells_left name) ≡ cells_left name
   pub ends : (spaced : Bool) → may_end (maybe spaced n.SpaceOrTab (cells_left name)) ≡ true
 
 -- a cell whose bytes are so leads to what may end, with a pipe after it or not
@@ -68,9 +68,9 @@ CellWords text name part Fits =
 -- so the cells do
 cells-word : (text x : Expression) (name : Name) (part : List ℕ → Point → List Event) (Fits : List ℕ → Type 0) →
     IsCellName name → CellWords text name part Fits → (piped : Bool) (cells : Cells) (p : Point) →
-    EachFits Fits cells → behind name x ≡ cells_left name → IsWord text (x ∷ []) (cells_by name part piped cells p)
+    EachFits Fits cells → following name x ≡ cells_left name → IsWord text (x ∷ []) (cells_by name part piped cells p)
 cells-word text x name part Fits is words piped (Ends cell) p fits same = record {
-  left = behind name x;
+  left = following name x;
   leads =
       leads-around text x name p (past_text cell (past_pipe piped p))
       (first_pipe piped p ++ cell_by part cell (past_pipe piped p))
@@ -81,9 +81,9 @@ cells-word text x name part Fits is words piped (Ends cell) p fits same = record
     word : CellWord text name (first_pipe piped p ++ cell_by part cell (past_pipe piped p))
     word = words piped cell p fits
 cells-word text x name part Fits is words piped (Shut cell w) p fits same = record {
-  left = maybe (has w) n.SpaceOrTab (behind name x);
+  left = maybe (has w) n.SpaceOrTab (following name x);
   leads =
-      leads-append text (x ∷ []) (behind name x ∷ []) (maybe (has w) n.SpaceOrTab (behind name x) ∷ [])
+      leads-append text (x ∷ []) (following name x ∷ []) (maybe (has w) n.SpaceOrTab (following name x) ∷ [])
       (around name p over held) (white_part w over)
       (leads-around text x name p over held
       (record {
@@ -98,7 +98,7 @@ cells-word text x name part Fits is words piped (Shut cell w) p fits same = reco
             (first_pipe piped p ++ cell_by part cell (past_pipe piped p)) (pipe_part mid) word.leads
             (pipe-leads text word.left true mid));
         ends = word.ends true;
-      })) (white-leads text (behind name x) w over);
+      })) (white-leads text (following name x) w over);
   ends = ap (λ (y : Expression). may_end (maybe (has w) n.SpaceOrTab y)) same ∙ is.ends (has w);
 }
   where
@@ -114,12 +114,13 @@ cells-word text x name part Fits is words piped (Shut cell w) p fits same = reco
     word : CellWord text name (first_pipe piped p ++ cell_by part cell (past_pipe piped p))
     word = words piped cell p fits
 cells-word text x name part Fits is words piped (Divides cell cells) p fits same =
-    word-behind text (x ∷ []) (behind name x ∷ [])
+    word-following text (x ∷ []) (following name x ∷ [])
     (around name p mid (first_pipe piped p ++ cell_by part cell (past_pipe piped p)))
     (cells_by name part true cells mid)
     (leads-around text x name p mid (first_pipe piped p ++ cell_by part cell (past_pipe piped p))
     (record { left = word.left; leads = word.leads; ends = word.ends false }))
-    (cells-word text (behind name x) name part Fits is words true cells mid fits.1 (ap (behind name) same ∙ is.more))
+    (cells-word text (following name x) name part Fits is words true cells mid fits.1
+    (ap (following name) same ∙ is.more))
   where
     mid : Point
     mid = past_text cell (past_pipe piped p)
@@ -137,7 +138,7 @@ row-word text name part Fits is words line p fits =
     let left = maybe (has (white_front line)) n.SpaceOrTab (row_left name) in
     let piped = begins_with 124 (trim_start line) in
     let cells = line_cells (trim_start line) in
-    word-behind text (row_left name ∷ []) (left ∷ []) (white_part w p) (cells_by name part piped cells q)
+    word-following text (row_left name ∷ []) (left ∷ []) (white_part w p) (cells_by name part piped cells q)
     (white-leads text (row_left name) w p)
     (cells-word text left name part Fits is words piped cells q fits (is.first (has w)))
 
@@ -157,24 +158,24 @@ text-ends : (piped front text back shut : Bool) → (text ≡ false → back ≡
     may_end (maybe shut n.GfmTableCellDivider (text_left piped front text back)) ≡ true
 text-ends piped front text back shut h = go text back h
   where
-    behind_text : (piped front back shut : Bool) →
+    after_text : (piped front back shut : Bool) →
         may_end (maybe shut n.GfmTableCellDivider (text_left piped front true back)) ≡ true
-    behind_text true true true true = refl
-    behind_text true true true false = refl
-    behind_text true true false true = refl
-    behind_text true true false false = refl
-    behind_text true false true true = refl
-    behind_text true false true false = refl
-    behind_text true false false true = refl
-    behind_text true false false false = refl
-    behind_text false true true true = refl
-    behind_text false true true false = refl
-    behind_text false true false true = refl
-    behind_text false true false false = refl
-    behind_text false false true true = refl
-    behind_text false false true false = refl
-    behind_text false false false true = refl
-    behind_text false false false false = refl
+    after_text true true true true = refl
+    after_text true true true false = refl
+    after_text true true false true = refl
+    after_text true true false false = refl
+    after_text true false true true = refl
+    after_text true false true false = refl
+    after_text true false false true = refl
+    after_text true false false false = refl
+    after_text false true true true = refl
+    after_text false true true false = refl
+    after_text false true false true = refl
+    after_text false true false false = refl
+    after_text false false true true = refl
+    after_text false false true false = refl
+    after_text false false false true = refl
+    after_text false false false false = refl
 
     alone : (piped front shut : Bool) →
         may_end (maybe shut n.GfmTableCellDivider (text_left piped front false false)) ≡ true
@@ -189,7 +190,7 @@ text-ends piped front text back shut h = go text back h
 
     go : (text back : Bool) → (text ≡ false → back ≡ false) →
         may_end (maybe shut n.GfmTableCellDivider (text_left piped front text back)) ≡ true
-    go true back h = behind_text piped front back shut
+    go true back h = after_text piped front back shut
     go false back h =
         subst (λ (x : Bool). may_end (maybe shut n.GfmTableCellDivider (text_left piped front false x)) ≡ true)
         (sym (h refl)) (alone piped front shut)
@@ -261,7 +262,7 @@ text-word text said says piped cell p fits = record {
 -- A text, as it is read later and as the plain layer reads it.
 
 pub unread-says : SaysWord unread_text row.unread_text
-unread-says p q = record { left = behind n.Data unread_text; leads = λ outer. refl; ends = refl }
+unread-says p q = record { left = following n.Data unread_text; leads = λ outer. refl; ends = refl }
 
 pub read-says : (bytes : List ℕ) → SaysWord plain_text (read_text bytes)
 read-says bytes p q =
@@ -273,7 +274,7 @@ pub cell-name : IsCellName n.GfmTableCell
 cell-name = record { first = spaced; more = refl; ends = ends }
   where
     spaced : (x : Bool) →
-        behind n.GfmTableCell (maybe x n.SpaceOrTab (row_left n.GfmTableCell)) ≡ cells_left n.GfmTableCell
+        following n.GfmTableCell (maybe x n.SpaceOrTab (row_left n.GfmTableCell)) ≡ cells_left n.GfmTableCell
     spaced true = refl
     spaced false = refl
 

@@ -11,10 +11,10 @@ use Rattle.md_events.specs.Events.Grammar.{may_end}
 use Rattle.md_events.specs.Events.Nested.{around, exit}
 use Rattle.md_events.specs.Events.Spelled.{OfTable}
 use Rattle.md_events.specs.Events.Tiles.{plain_read}
-use Rattle.md_events.proofs.EndingsLemmas.{AreOthers, Filling, Stays, filling-append, in_leaf, others-lead, stays-append}
-use Rattle.md_events.proofs.EndingsLemmas.{stays-others}
-use Rattle.md_outline.specs.LinesStand.{InTable}
-use Rattle.md_outline.specs.TablePlaces.{AtHead, BehindRow}
+use Rattle.md_events.proofs.EndingsLemmas.{AreOthers, Filling, Stays, filling-append, in_leaf, others-lead}
+use Rattle.md_events.proofs.EndingsLemmas.{stays-append, stays-others}
+use Rattle.md_outline.specs.LinesAllowed.{InTable}
+use Rattle.md_outline.specs.TablePlaces.{AtHead, AfterRow}
 use Rattle.md_outline.proofs.TablesPass.{passes-table}
 use Rattle.md_tables.specs.DelimiterCells.{delimiter_events}
 use Rattle.md_tables.specs.RowCells.{read_text, row_events, unread_text}
@@ -22,12 +22,12 @@ use Rattle.proof_frame.specs.Row.{Row, ending_events, last_row, row_line}
 use Rattle.proof_table_laws.specs.Headed.{headed_done, headed_unread}
 use Rattle.proof_frame.proofs.FilledAround.{around-fills}
 use Rattle.proof_frame.proofs.FillFacts.{filled-read}
-use Rattle.proof_frame.proofs.FrontStands.{fronts-others}
+use Rattle.proof_frame.proofs.FrontValid.{fronts-others}
 use Rattle.proof_table_laws.proofs.GfmTable.DelimiterRowCells.{columns-cells}
 use Rattle.proof_table_laws.proofs.GfmTable.DelimiterRow.{delimiter-others}
 use Rattle.proof_table_laws.proofs.GfmTable.Row.{row-others}
-use Rattle.proof_table_laws.proofs.GfmTable.TableForm.{AreBodyRows, IsFilledLine, IsGap, IsTable, body_behind}
-use Rattle.proof_table_laws.proofs.GfmTable.TableForm.{delimiter_part, gap_events, head_events, row_part, rows_behind}
+use Rattle.proof_table_laws.proofs.GfmTable.TableForm.{AreBodyRows, IsFilledLine, IsGap, IsTable, body_after}
+use Rattle.proof_table_laws.proofs.GfmTable.TableForm.{delimiter_part, gap_events, head_events, row_part, rows_after}
 use Rattle.proof_table_laws.proofs.GfmTable.TableForm.{rows_cells, table_block, table_events, table_inside}
 use Rattle.proof_table_laws.proofs.GfmTable.TableParts.{line-at, so_far, table-inside, table_begun, table_left}
 use Rattle.proof_table_laws.proofs.GfmTable.TableUnread.{line-end, table-unread}
@@ -52,8 +52,8 @@ delimiter-fills p q es h = λ from. others-lead (in_leaf true) (es ++ exit n.Gfm
 gap-stays : (bytes : List ℕ) (row next : Row) → IsGap bytes row next → Stays (gap_events row next)
 gap-stays bytes row next gap =
     stays-append (ending_events n.LineEnding row) next.front
-    (subst Stays (sym (ending-is n.LineEnding row gap.behind gap.after)) (λ from. (false, λ ys. refl)))
-    (stays-others next.front (fronts-others bytes [] gap.behind next.first next.front gap.front))
+    (subst Stays (sym (ending-is n.LineEnding row gap.following gap.after)) (λ from. (false, λ ys. refl)))
+    (stays-others next.front (fronts-others bytes [] gap.following next.first next.front gap.front))
 
 filling-stays : (es : List Event) → Filling es → Stays es
 filling-stays es h = λ from. (true, h from)
@@ -69,13 +69,13 @@ part-fills said bytes row each is =
 
 rows-fill : (said : Point → Point → List Event) (bytes : List ℕ) (row : Row) (rows : List Row) →
     EachOthers said bytes → IsFilledLine bytes row → AreBodyRows bytes row rows →
-    Filling (row_part said bytes row ++ rows_behind said bytes row rows)
+    Filling (row_part said bytes row ++ rows_after said bytes row rows)
 rows-fill said bytes row [] each is are =
     subst Filling (sym (append-nil (row_part said bytes row))) (part-fills said bytes row each is)
 rows-fill said bytes row (next ∷ rows) each is are =
-    filling-append (row_part said bytes row) (rows_behind said bytes row (next ∷ rows))
+    filling-append (row_part said bytes row) (rows_after said bytes row (next ∷ rows))
     (filling-stays (row_part said bytes row) (part-fills said bytes row each is))
-    (filling-append (gap_events row next) (row_part said bytes next ++ rows_behind said bytes next rows)
+    (filling-append (gap_events row next) (row_part said bytes next ++ rows_after said bytes next rows)
     (gap-stays bytes row next are.0.gap) (rows-fill said bytes next rows each are.0.line are.1))
 
 head-fills : (said : Point → Point → List Event) (bytes : List ℕ) (row next : Row) (rows : List Row) →
@@ -101,11 +101,11 @@ table-fills said bytes row next rows each is = go rows is.body
         around-fills n.GfmTableHead row.first next.end (head_events said bytes row next) refl refl
         (head-fills said bytes row next rows each is)
 
-    go : (rows : List Row) → AreBodyRows bytes next rows → Filling (head ++ body_behind said bytes next rows)
+    go : (rows : List Row) → AreBodyRows bytes next rows → Filling (head ++ body_after said bytes next rows)
     go [] are = subst Filling (sym (append-nil head)) fills
     go (first ∷ rows) are =
-        let body : List Event = row_part said bytes first ++ rows_behind said bytes first rows in
-        filling-append head (body_behind said bytes next (first ∷ rows)) (filling-stays head fills)
+        let body : List Event = row_part said bytes first ++ rows_after said bytes first rows in
+        filling-append head (body_after said bytes next (first ∷ rows)) (filling-stays head fills)
         (filling-append (gap_events next first)
         (around n.GfmTableBody first.first (last_row first rows).end body) (gap-stays bytes next first are.0.gap)
         (around-fills n.GfmTableBody first.first (last_row first rows).end body refl refl
@@ -126,7 +126,7 @@ table-ends (row ∷ rows) = refl
 
 -- an outline shows it
 table-plain : (bytes : List ℕ) (p q : Point) (es : List Event) →
-    ArePlainFrom bytes (InTable AtHead) (InTable BehindRow) es → ArePlain bytes (around n.GfmTable p q es)
+    ArePlainFrom bytes (InTable AtHead) (InTable AfterRow) es → ArePlain bytes (around n.GfmTable p q es)
 table-plain bytes p q es h = record {
   known = known-around bytes n.GfmTable p q es refl refl refl h.known;
   lines = passes-table bytes n.GfmTable p q es refl h.lines;
@@ -158,7 +158,7 @@ table-known bytes row next rows is =
     h :
         InsideFacts bytes row.first (last_row next rows).end table_begun (table_left rows) (so_far [] [])
         (so_far (trim (row_line bytes next)) (row_cells (row_line bytes row) ∷ rows_cells bytes rows)) (InTable AtHead)
-        (InTable BehindRow) (table_inside unread_text bytes row next rows) done
+        (InTable AfterRow) (table_inside unread_text bytes row next rows) done
     h = table-inside bytes row next rows is
 
 -- With its texts read, it is the table with what is read in its cells.
@@ -167,7 +167,7 @@ pub table-done : (bytes : List ℕ) (row next : Row) (rows : List Row) → IsTab
 table-done bytes row next rows is =
     ap (plain_read bytes) (table-unread bytes row next rows is)
     ∙ filled-read bytes (table_events unread_text bytes row next rows)
-    (table_events (read_text bytes) bytes row next rows) (table-known bytes row next rows is).stand.stretch.filled
+    (table_events (read_text bytes) bytes row next rows) (table-known bytes row next rows is).are_valid.stretch.filled
 
 -- All that the frame asks of it.
 pub table-leaf : (bytes : List ℕ) (row next : Row) (rows : List Row) → IsTable bytes row next rows →

@@ -40,23 +40,23 @@ abbrev pub head_events : (Point → Point → List Event) → List ℕ → Row �
 head_events said bytes row next = row_part said bytes row ++ (gap_events row next ++ delimiter_part bytes next)
 
 -- rows after a line
-abbrev pub rows_behind : (Point → Point → List Event) → List ℕ → Row → List Row → List Event
-rows_behind said bytes row [] = []
-rows_behind said bytes row (next ∷ rows) =
-    gap_events row next ++ (row_part said bytes next ++ rows_behind said bytes next rows)
+abbrev pub rows_after : (Point → Point → List Event) → List ℕ → Row → List Row → List Event
+rows_after said bytes row [] = []
+rows_after said bytes row (next ∷ rows) =
+    gap_events row next ++ (row_part said bytes next ++ rows_after said bytes next rows)
 
 -- the body, if there is one
-abbrev pub body_behind : (Point → Point → List Event) → List ℕ → Row → List Row → List Event
-body_behind said bytes row [] = []
-body_behind said bytes row (next ∷ rows) =
+abbrev pub body_after : (Point → Point → List Event) → List ℕ → Row → List Row → List Event
+body_after said bytes row [] = []
+body_after said bytes row (next ∷ rows) =
     gap_events row next
     ++ around n.GfmTableBody next.first (last_row next rows).end
-    (row_part said bytes next ++ rows_behind said bytes next rows)
+    (row_part said bytes next ++ rows_after said bytes next rows)
 
 -- what is in the table
 abbrev pub table_inside : (Point → Point → List Event) → List ℕ → Row → Row → List Row → List Event
 table_inside said bytes row next rows =
-    around n.GfmTableHead row.first next.end (head_events said bytes row next) ++ body_behind said bytes next rows
+    around n.GfmTableHead row.first next.end (head_events said bytes row next) ++ body_after said bytes next rows
 
 abbrev pub table_events : (Point → Point → List Event) → List ℕ → Row → Row → List Row → List Event
 table_events said bytes row next rows =
@@ -73,10 +73,10 @@ pub record IsFilledLine (bytes : List ℕ) (row : Row) : Type 0 where
 
 -- between two lines are an ending, and prefixes of the containers that continue
 pub record IsGap (bytes : List ℕ) (row next : Row) : Type 0 where
-  pub behind : Point
-  pub after : row.after ≡ Some behind
-  pub ending : IsEnding bytes row.end behind
-  pub front : LinePrefix bytes [] behind next.first next.front
+  pub following : Point
+  pub after : row.after ≡ Some following
+  pub ending : IsEnding bytes row.end following
+  pub front : LinePrefix bytes [] following next.first next.front
 
 -- a row of the body, after a line
 pub record IsBodyRow (bytes : List ℕ) (row next : Row) : Type 0 where

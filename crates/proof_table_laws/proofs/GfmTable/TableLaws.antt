@@ -14,7 +14,7 @@ use Rattle.md_meaning.specs.Bytes.{after_optional}
 use Rattle.md_meaning.specs.Leaves.{LeafResult, Opened}
 use Rattle.md_meaning.specs.Rest.{has_small_indent, is_blank, is_white, trim, trim_end, trim_start}
 use Rattle.md_meaning.specs.State.{OpenTable, shut, then_block}
-use Rattle.md_meaning.specs.Step.{came}
+use Rattle.md_meaning.specs.Step.{became}
 use Rattle.md_meaning.specs.Table.{delimiter_columns, pieces, row_cells}
 use Rattle.md_meaning.specs.Tree.{Block, Blocks, Table}
 use Rattle.md_html.proofs.HtmlTags.{trim-none}
@@ -33,13 +33,13 @@ use Rattle.proof_table_laws.proofs.GfmTable.TableUnread.{line-dark}
 use Rattle.proof_frame.proofs.LeafFacts.{LeafFacts}
 use Rattle.proof_frame.proofs.IndentRemoved.Places.{further-at, line-over}
 use Rattle.proof_frame.proofs.RestFacts.{rest-trim}
-use Rattle.proof_frame.proofs.SpanLaws.{AreBehind, IsLineOf, come_behind}
+use Rattle.proof_frame.proofs.SpanLaws.{AreAfter, IsLineOf, becomes_after}
 
 -- Its lines.
 
 -- on each of them something is
 abbrev pub AreFilled : (options : ParseOptions) (bytes : List ℕ) (row : Row) (rows : List Row) →
-    AreBehind options bytes table_leaf row rows → Type 0
+    AreAfter options bytes table_leaf row rows → Type 0
 AreFilled options bytes row [] are = Unit {0}
 AreFilled options bytes row (next ∷ rows) are =
     (is_blank are.6.rest.bytes ≡ false) × AreFilled options bytes next rows are.7
@@ -59,16 +59,16 @@ line-adds options bytes row on is met =
 
 -- After a line of a table all are rows.
 rows-of : (options : ParseOptions) (bytes : List ℕ) (row : Row) (rows : List Row) →
-    (are : AreBehind options bytes table_leaf row rows) → AreFilled options bytes row rows are →
-    row.behind ≡ held_leaf.Table → AreBodyRows bytes row rows
+    (are : AreAfter options bytes table_leaf row rows) → AreFilled options bytes row rows are →
+    row.following ≡ held_leaf.Table → AreBodyRows bytes row rows
 rows-of options bytes row [] are filled open_table = tt
 rows-of options bytes row (next ∷ rows) are filled open_table = (
   record {
-    gap = record { behind = are.0; after = are.1; ending = are.2; front = are.3 };
+    gap = record { following = are.0; after = are.1; ending = are.2; front = are.3 };
     line = filled_line options bytes next are.6 filled.0;
     inside = line-adds options bytes next held_leaf.Table are.6 (are.4 ∙ open_table);
   },
-  rows-of options bytes next rows are.7 filled.1 are.6.behind,
+  rows-of options bytes next rows are.7 filled.1 are.6.following,
 )
 
 -- outer whitespace is dropped, and with it a tab that a prefix has cut
@@ -100,11 +100,11 @@ cells-trimmed bytes =
 -- A line on which something is, where a line after it takes it as the head of a table, and rows after that, are a
 -- table.
 pub table-of : (options : ParseOptions) (bytes : List ℕ) (row next : Row) (rows : List Row) (text : OpenText) →
-    IsFilledLine bytes row → (are : AreBehind options bytes table_leaf row (next ∷ rows)) →
+    IsFilledLine bytes row → (are : AreAfter options bytes table_leaf row (next ∷ rows)) →
     AreFilled options bytes row (next ∷ rows) are → next.on ≡ held_leaf.Text text → IsTable bytes row next rows
 table-of options bytes row next rows text is are filled met = record {
   head = is;
-  gap = record { behind = are.0; after = are.1; ending = are.2; front = are.3 };
+  gap = record { following = are.0; after = are.1; ending = are.2; front = are.3 };
   delimiter = own;
   columns = text.columns;
   some =
@@ -115,7 +115,7 @@ table-of options bytes row next rows text is are filled met = record {
       ap (λ (line : List ℕ). are_columns (delimiter_columns line) text.columns) (trim-line bytes next own)
       ∙ (and_parts (may_head options text && has_small_indent options are.6.rest) asked starts).1;
   inside = line-adds options bytes next (held_leaf.Text text) are.6 met;
-  body = rows-of options bytes next rows are.7 filled.1 are.6.behind;
+  body = rows-of options bytes next rows are.7 filled.1 are.6.following;
 }
   where
     own : IsFilledLine bytes next
@@ -131,21 +131,21 @@ table-of options bytes row next rows text is are filled met = record {
 -- The block.
 
 -- the cells of rows, by the rests of their lines
-abbrev pub cells_behind : (options : ParseOptions) (bytes : List ℕ) (row : Row) (rows : List Row) →
-    AreBehind options bytes table_leaf row rows → List (List (List ℕ))
-cells_behind options bytes row [] are = []
-cells_behind options bytes row (next ∷ rows) are =
-    row_cells are.6.rest.bytes ∷ cells_behind options bytes next rows are.7
+abbrev pub cells_after : (options : ParseOptions) (bytes : List ℕ) (row : Row) (rows : List Row) →
+    AreAfter options bytes table_leaf row rows → List (List (List ℕ))
+cells_after options bytes row [] are = []
+cells_after options bytes row (next ∷ rows) are =
+    row_cells are.6.rest.bytes ∷ cells_after options bytes next rows are.7
 
 -- the table, with the cells of this head
-abbrev pub table_behind : (options : ParseOptions) (bytes : List ℕ) (row next : Row) (rows : List Row) →
-    List (List ℕ) → AreBehind options bytes table_leaf row (next ∷ rows) → Block
-table_behind options bytes row next rows head are =
-    Table (trim are.6.rest.bytes) (head ∷ cells_behind options bytes next rows are.7)
+abbrev pub table_after : (options : ParseOptions) (bytes : List ℕ) (row next : Row) (rows : List Row) →
+    List (List ℕ) → AreAfter options bytes table_leaf row (next ∷ rows) → Block
+table_after options bytes row next rows head are =
+    Table (trim are.6.rest.bytes) (head ∷ cells_after options bytes next rows are.7)
 
 same-cells : (options : ParseOptions) (bytes : List ℕ) (row : Row) (rows : List Row) →
-    (are : AreBehind options bytes table_leaf row rows) → AreFilled options bytes row rows are →
-    rows_cells bytes rows ≡ cells_behind options bytes row rows are
+    (are : AreAfter options bytes table_leaf row rows) → AreFilled options bytes row rows are →
+    rows_cells bytes rows ≡ cells_after options bytes row rows are
 same-cells options bytes row [] are filled = refl
 same-cells options bytes row (next ∷ rows) are filled =
     ap₂ (λ (cells : List (List ℕ)) (more : List (List (List ℕ))). cells ∷ more)
@@ -153,9 +153,9 @@ same-cells options bytes row (next ∷ rows) are filled =
     (same-cells options bytes next rows are.7 filled.1)
 
 same-block : (options : ParseOptions) (bytes : List ℕ) (row next : Row) (rows : List Row) →
-    (is : IsFilledLine bytes row) → (are : AreBehind options bytes table_leaf row (next ∷ rows)) →
+    (is : IsFilledLine bytes row) → (are : AreAfter options bytes table_leaf row (next ∷ rows)) →
     AreFilled options bytes row (next ∷ rows) are →
-    table_block bytes row next rows ≡ table_behind options bytes row next rows (row_cells is.rest.bytes) are
+    table_block bytes row next rows ≡ table_after options bytes row next rows (row_cells is.rest.bytes) are
 same-block options bytes row next rows is are filled =
     ap₂ Table (trim-line bytes next (filled_line options bytes next are.6 filled.0))
     (ap₂ (λ (cells : List (List ℕ)) (more : List (List (List ℕ))). cells ∷ more) (line-cells bytes row is)
@@ -165,7 +165,7 @@ same-block options bytes row next rows is are filled =
 
 -- a line on which something is is in the text
 in-text : (options : ParseOptions) (bytes : List ℕ) (row next : Row) (rows : List Row) →
-    (are : AreBehind options bytes table_leaf row (next ∷ rows)) → is_blank are.6.rest.bytes ≡ false →
+    (are : AreAfter options bytes table_leaf row (next ∷ rows)) → is_blank are.6.rest.bytes ≡ false →
     nat_lt are.0.index (length bytes) ≡ true
 in-text options bytes row next rows are filled = go (nat_lt are.0.index (length bytes)) refl
   where
@@ -183,42 +183,42 @@ in-text options bytes row next rows are filled = go (nat_lt are.0.index (length 
     go true e = refl
     go false e = absurd (none (grind (arith, nat_tests)))
 
-rows-come : (options : ParseOptions) (bytes : List ℕ) (row : Row) (rows : List Row) (delimiter : List ℕ)
+rows-become : (options : ParseOptions) (bytes : List ℕ) (row : Row) (rows : List Row) (delimiter : List ℕ)
     (before : List (List (List ℕ))) →
-    (are : AreBehind options bytes table_leaf row rows) → AreFilled options bytes row rows are →
-    come_behind options bytes table_leaf row rows are (Opened (OpenTable delimiter before)) ≡
-    Opened (OpenTable delimiter (before ++ cells_behind options bytes row rows are))
-rows-come options bytes row [] delimiter before are filled =
+    (are : AreAfter options bytes table_leaf row rows) → AreFilled options bytes row rows are →
+    becomes_after options bytes table_leaf row rows are (Opened (OpenTable delimiter before)) ≡
+    Opened (OpenTable delimiter (before ++ cells_after options bytes row rows are))
+rows-become options bytes row [] delimiter before are filled =
     ap (λ (cells : List (List (List ℕ))). Opened (OpenTable delimiter cells)) (sym (append-nil before))
-rows-come options bytes row (next ∷ rows) delimiter before are filled =
+rows-become options bytes row (next ∷ rows) delimiter before are filled =
     let own : List (List ℕ) = row_cells are.6.rest.bytes in
     ap
     (λ (x : Bool).
-    come_behind options bytes table_leaf next rows are.7
+    becomes_after options bytes table_leaf next rows are.7
     (cond x (Opened (OpenTable delimiter (before ++ own ∷ []))) (Opened (OpenTable delimiter before))))
     (in-text options bytes row next rows are filled.0)
-    ∙ rows-come options bytes next rows delimiter (before ++ own ∷ []) are.7 filled.1
+    ∙ rows-become options bytes next rows delimiter (before ++ own ∷ []) are.7 filled.1
     ∙ ap (λ (cells : List (List (List ℕ))). Opened (OpenTable delimiter cells))
-    (append_assoc before (own ∷ []) (cells_behind options bytes next rows are.7))
+    (append_assoc before (own ∷ []) (cells_after options bytes next rows are.7))
 
 pub table-shuts : (options : ParseOptions) (bytes : List ℕ) (row next : Row) (rows : List Row)
     (head : List (List ℕ)) (bs : Blocks) →
-    (are : AreBehind options bytes table_leaf row (next ∷ rows)) → AreFilled options bytes row (next ∷ rows) are →
+    (are : AreAfter options bytes table_leaf row (next ∷ rows)) → AreFilled options bytes row (next ∷ rows) are →
     shut options
-    (came bs
-    (come_behind options bytes table_leaf next rows are.7
+    (became bs
+    (becomes_after options bytes table_leaf next rows are.7
     (Opened (OpenTable (trim are.6.rest.bytes) (head ∷ []))))) ≡
-    then_block bs (table_behind options bytes row next rows head are)
+    then_block bs (table_after options bytes row next rows head are)
 table-shuts options bytes row next rows head bs are filled =
-    ap (λ (c : LeafResult). shut options (came bs c))
-    (rows-come options bytes next rows (trim are.6.rest.bytes) (head ∷ []) are.7 filled.1)
+    ap (λ (c : LeafResult). shut options (became bs c))
+    (rows-become options bytes next rows (trim are.6.rest.bytes) (head ∷ []) are.7 filled.1)
 
 -- All that the frame asks of the lines of a table.
 
 pub table-facts : (options : ParseOptions) (bytes : List ℕ) (row next : Row) (rows : List Row) (text : OpenText) →
-    (is : IsFilledLine bytes row) → (are : AreBehind options bytes table_leaf row (next ∷ rows)) →
+    (is : IsFilledLine bytes row) → (are : AreAfter options bytes table_leaf row (next ∷ rows)) →
     AreFilled options bytes row (next ∷ rows) are → next.on ≡ held_leaf.Text text →
-    LeafFacts bytes (Some (table_behind options bytes row next rows (row_cells is.rest.bytes) are)) true row.first
+    LeafFacts bytes (Some (table_after options bytes row next rows (row_cells is.rest.bytes) are)) true row.first
     (last_row next rows).end (headed_unread bytes row next rows) (headed_done bytes row next rows)
 table-facts options bytes row next rows text is are filled met =
     subst

@@ -8,28 +8,29 @@ use Rattle.md_engine.specs.declared.event.Name.TheVariants as n
 use Rattle.md_engine.specs.declared.event.Point.{Point}
 use Rattle.md_meaning.specs.Rest.{trim}
 use Rattle.md_meaning.specs.Table.{row_cells}
-use Rattle.md_events.specs.Events.Grammar.{Expression, behind, inside, may_end, plain_text}
+use Rattle.md_events.specs.Events.Grammar.{Expression, following, inside, may_end, plain_text}
 use Rattle.md_events.specs.Events.Nested.{around, enter, exit}
 use Rattle.md_events.specs.Events.Spelled.{OpenLeaf, TableLeaf, TableSoFar, next_line, role}
 use Rattle.md_events.proofs.SpelledLemmas.{Between, Quiet, Roles, roles-append}
-use Rattle.md_outline.specs.LinesStand.{InTable, Site}
-use Rattle.md_outline.specs.TablePlaces.{AtHead, BehindHead, BehindRow, BodyRow, HeadRow, TablePlace, behind_row}
+use Rattle.md_outline.specs.LinesAllowed.{InTable, Site}
+use Rattle.md_outline.specs.TablePlaces.{AtHead, AfterHead, AfterRow, BodyRow, HeadRow, TablePlace, after_row}
 use Rattle.md_outline.specs.TablePlaces as spot
 use Rattle.md_outline.proofs.TablesPass.{IsBetweenRows, passes-between_rows}
 use Rattle.md_tables.specs.RowCells.{read_text, unread_text}
 use Rattle.proof_frame.specs.Row.{Row, ending_events, last_row, row_line}
-use Rattle.proof_frame.proofs.BetweenFacts.{ending-before, ending-behind}
+use Rattle.proof_frame.proofs.BetweenFacts.{ending-before, ending-following}
 use Rattle.proof_frame.proofs.ContainerNames.{TakesPrefixes}
-use Rattle.proof_frame.proofs.PartsFacts.{IsPartName, PartsFacts, around-reads, parts-around, behind_ending, parts-append}
-use Rattle.proof_frame.proofs.PartsFacts.{parts-ended, parts-front}
+use Rattle.proof_frame.proofs.PartsFacts.{IsPartName, PartsFacts, around-reads, parts-around, following_ending}
+use Rattle.proof_frame.proofs.PartsFacts.{parts-append, parts-ended, parts-front}
 use Rattle.proof_frame.proofs.FrontNames.{fronts-prefixes}
-use Rattle.proof_frame.proofs.FrontStands.{fronts-between}
+use Rattle.proof_frame.proofs.FrontValid.{fronts-between}
 use Rattle.proof_table_laws.proofs.GfmTable.DelimiterRowCells.{columns-cells}
 use Rattle.proof_table_laws.proofs.GfmTable.DelimiterRow.{delimiter-inside}
 use Rattle.proof_table_laws.proofs.GfmTable.Row.{front_of, row-inside}
 use Rattle.proof_table_laws.proofs.GfmTable.RowAt.{RowAt, row-at}
-use Rattle.proof_table_laws.proofs.GfmTable.TableForm.{AreBodyRows, IsFilledLine, IsGap, IsTable, body_behind, gap_events}
-use Rattle.proof_table_laws.proofs.GfmTable.TableForm.{head_events, row_part, rows_behind, rows_cells, table_inside}
+use Rattle.proof_table_laws.proofs.GfmTable.TableForm.{AreBodyRows, IsFilledLine, IsGap, IsTable, body_after}
+use Rattle.proof_table_laws.proofs.GfmTable.TableForm.{gap_events, head_events, row_part, rows_after, rows_cells}
+use Rattle.proof_table_laws.proofs.GfmTable.TableForm.{table_inside}
 use Rattle.proof_table_laws.proofs.GfmTable.TableUnread.{line-end}
 use Rattle.proof_frame.proofs.IndentRemoved.Places.{further-rest}
 use Rattle.proof_frame.proofs.IndentRemoved.Shown.{left-clear, whole-clear}
@@ -39,14 +40,14 @@ use Rattle.proof_frame.proofs.PlainFacts.{plain-through, quiet-from}
 use Rattle.proof_frame.proofs.PrefixNames.{prefixes-roles}
 use Rattle.proof_frame.proofs.LeafLines.Cuts.{ending-is}
 use Rattle.proof_frame.proofs.LeafLines.Inside.{InsideFacts, Meets, inside-append, inside-none}
-use Rattle.proof_frame.proofs.LeafLines.Behind.{gap-plain}
+use Rattle.proof_frame.proofs.LeafLines.Following.{gap-plain}
 
 -- A part around events inside of a leaf, with a name that the tree does not show.
 pub inside-around : (bytes : List ℕ) (name : Name) (p q : Point) (x begin left : Expression) (from to : OpenLeaf)
     (start end : Site) (unread done : List Event) →
     IsPartName name begin → Quiet (role name) → Starts unread → Starts done → may_end left ≡ true →
     InsideFacts bytes p q begin left from to start end unread done →
-    InsideFacts bytes p q x (behind name x) from to start end (around name p q unread) (around name p q done)
+    InsideFacts bytes p q x (following name x) from to start end (around name p q unread) (around name p q done)
 inside-around bytes name p q x begin left from to start end unread done named quiet us starts ends h =
     record {
       parts =
@@ -84,9 +85,9 @@ so_far delimiter rows = TableLeaf (record { delimiter = delimiter; rows = rows }
 row-known : (bytes : List ℕ) (row : Row) (place : spot.Row) (x : Expression) (delimiter : List ℕ)
     (rows : List (List (List ℕ))) →
     IsFilledLine bytes row →
-    InsideFacts bytes row.first row.end x (behind n.GfmTableRow x) (so_far delimiter rows)
+    InsideFacts bytes row.first row.end x (following n.GfmTableRow x) (so_far delimiter rows)
     (so_far delimiter (rows ++ row_cells (row_line bytes row) ∷ [])) (InTable (front_of place))
-    (InTable (behind_row place)) (row_part unread_text bytes row) (row_part (read_text bytes) bytes row)
+    (InTable (after_row place)) (row_part unread_text bytes row) (row_part (read_text bytes) bytes row)
 row-known bytes row place x delimiter rows is =
     row-inside bytes (row_line bytes row) (drop row.end.index bytes) row.first row.end place x delimiter rows
     (line-at bytes row is) (sym (line-end bytes row is))
@@ -95,7 +96,7 @@ row-known bytes row place x delimiter rows is =
 
 -- after an ending a table has no line more
 ended-table : (bytes : List ℕ) (q : Point) (table : TableSoFar) →
-    behind_ending bytes q (TableLeaf table) ≡ TableLeaf table
+    following_ending bytes q (TableLeaf table) ≡ TableLeaf table
 ended-table bytes q table = go (nat_lt q.index (length bytes))
   where
     go : (x : Bool) → cond x (next_line (TableLeaf table)) (TableLeaf table) ≡ TableLeaf table
@@ -105,25 +106,26 @@ ended-table bytes q table = go (nat_lt q.index (length bytes))
 gap-between : (bytes : List ℕ) (row next : Row) → IsGap bytes row next → Roles Between (gap_events row next)
 gap-between bytes row next gap =
     roles-append Between (ending_events n.LineEnding row) next.front
-    (subst (Roles Between) (sym (ending-is n.LineEnding row gap.behind gap.after)) (tt, (tt, tt)))
+    (subst (Roles Between) (sym (ending-is n.LineEnding row gap.following gap.after)) (tt, (tt, tt)))
     (prefixes-roles Between next.front tt tt tt
-    (fronts-prefixes bytes [] gap.behind next.first next.front refl gap.front))
+    (fronts-prefixes bytes [] gap.following next.first next.front refl gap.front))
 
 -- as between the lines of any leaf
 gap-inside : (bytes : List ℕ) (row next : Row) (x : Expression) (table : TableSoFar) (spot : TablePlace) →
-    IsFilledLine bytes row → IsFilledLine bytes next → IsGap bytes row next → TakesPrefixes (behind n.LineEnding x) →
+    IsFilledLine bytes row → IsFilledLine bytes next → IsGap bytes row next → TakesPrefixes (following n.LineEnding x) →
     IsBetweenRows spot →
-    InsideFacts bytes row.end next.first x (behind n.LineEnding x) (TableLeaf table) (TableLeaf table) (InTable spot)
+    InsideFacts bytes row.end next.first x (following n.LineEnding x) (TableLeaf table) (TableLeaf table) (InTable spot)
     (InTable spot) (gap_events row next) (gap_events row next)
 gap-inside bytes row next x table spot is more gap takes apart = record {
   parts =
       subst₂
       (λ (es : List Event) (leaf : OpenLeaf).
-      PartsFacts bytes row.end next.first x (behind n.LineEnding x) (TableLeaf table) leaf (es ++ next.front)
+      PartsFacts bytes row.end next.first x (following n.LineEnding x) (TableLeaf table) leaf (es ++ next.front)
       (es ++ next.front)) (sym (ending-is n.LineEnding row q gap.after)) (ended-table bytes q table)
       (parts-append (parts-ended bytes row.end q x (TableLeaf table) is.at.end_whole gap.ending)
-      (parts-front bytes q next.first (behind n.LineEnding x) (behind_ending bytes q (TableLeaf table)) next.front takes
-      gap.front) (λ first last. ending-behind bytes row.end q gap.ending));
+      (parts-front bytes q next.first (following n.LineEnding x) (following_ending bytes q (TableLeaf table))
+      next.front takes
+      gap.front) (λ first last. ending-following bytes row.end q gap.ending));
   plain = λ whole. record {
     known = (gap-plain bytes (gap_events row next) (gap-between bytes row next gap)).known;
     lines = passes-between_rows bytes spot (gap_events row next) apart (gap-between bytes row next gap);
@@ -131,13 +133,13 @@ gap-inside bytes row next x table spot is more gap takes apart = record {
 }
   where
     q : Point
-    q = gap.behind
+    q = gap.following
 
 -- where a line ends, and others are after it
 end-meets : (bytes : List ℕ) (row next : Row) (r : Point) → IsFilledLine bytes row → IsGap bytes row next →
     Meets bytes row.end r
 end-meets bytes row next r is gap = record {
-  between = λ last. ending-before bytes row.end gap.behind gap.ending;
+  between = λ last. ending-before bytes row.end gap.following gap.ending;
   clear = end-clear bytes row is;
 }
 
@@ -146,7 +148,8 @@ first-meets : (bytes : List ℕ) (row next : Row) (r : Point) → IsFilledLine b
     Meets bytes next.first r
 first-meets bytes row next r more gap = record {
   between = λ last.
-      (fronts-between bytes [] gap.behind next.first next.front (ending-behind bytes row.end gap.behind gap.ending)
+      (fronts-between bytes [] gap.following next.first next.front
+      (ending-following bytes row.end gap.following gap.ending)
       gap.front).1;
   clear = line-clear bytes next more;
 }
@@ -157,28 +160,28 @@ first-meets bytes row next r more gap = record {
 abbrev body_begun : Expression
 body_begun = inside plain_text n.GfmTableBody
 
-abbrev behind_body_row : Expression
-behind_body_row = behind n.GfmTableRow body_begun
+abbrev after_body_row : Expression
+after_body_row = following n.GfmTableRow body_begun
 
 abbrev in_body : Expression
-in_body = behind n.LineEnding behind_body_row
+in_body = following n.LineEnding after_body_row
 
 -- a row, and those after it
 rows-inside : (bytes : List ℕ) (row : Row) (rows : List Row) (x : Expression) (delimiter : List ℕ)
     (before : List (List (List ℕ))) →
-    behind n.GfmTableRow x ≡ behind_body_row → IsFilledLine bytes row → AreBodyRows bytes row rows →
-    InsideFacts bytes row.first (last_row row rows).end x behind_body_row (so_far delimiter before)
-    (so_far delimiter (before ++ rows_cells bytes (row ∷ rows))) (InTable BehindRow) (InTable BehindRow)
-    (row_part unread_text bytes row ++ rows_behind unread_text bytes row rows)
-    (row_part (read_text bytes) bytes row ++ rows_behind (read_text bytes) bytes row rows)
+    following n.GfmTableRow x ≡ after_body_row → IsFilledLine bytes row → AreBodyRows bytes row rows →
+    InsideFacts bytes row.first (last_row row rows).end x after_body_row (so_far delimiter before)
+    (so_far delimiter (before ++ rows_cells bytes (row ∷ rows))) (InTable AfterRow) (InTable AfterRow)
+    (row_part unread_text bytes row ++ rows_after unread_text bytes row rows)
+    (row_part (read_text bytes) bytes row ++ rows_after (read_text bytes) bytes row rows)
 rows-inside bytes row [] x delimiter before left is are =
     inside-append
     (subst
     (λ (y : Expression).
-    InsideFacts bytes row.first row.end x y (so_far delimiter before) to (InTable BehindRow) (InTable BehindRow)
+    InsideFacts bytes row.first row.end x y (so_far delimiter before) to (InTable AfterRow) (InTable AfterRow)
     (row_part unread_text bytes row) (row_part (read_text bytes) bytes row)) left
     (row-known bytes row BodyRow x delimiter before is))
-    (inside-none bytes row.end behind_body_row to (InTable BehindRow))
+    (inside-none bytes row.end after_body_row to (InTable AfterRow))
     (record { between = λ last. last; clear = end-clear bytes row is })
   where
     to : OpenLeaf
@@ -186,19 +189,19 @@ rows-inside bytes row [] x delimiter before left is are =
 rows-inside bytes row (next ∷ rows) x delimiter before left is are =
     subst
     (λ (cells : List (List (List ℕ))).
-    InsideFacts bytes row.first last x behind_body_row (so_far delimiter before) (so_far delimiter cells)
-    (InTable BehindRow) (InTable BehindRow)
-    (row_part unread_text bytes row ++ rows_behind unread_text bytes row (next ∷ rows))
-    (row_part (read_text bytes) bytes row ++ rows_behind (read_text bytes) bytes row (next ∷ rows)))
+    InsideFacts bytes row.first last x after_body_row (so_far delimiter before) (so_far delimiter cells)
+    (InTable AfterRow) (InTable AfterRow)
+    (row_part unread_text bytes row ++ rows_after unread_text bytes row (next ∷ rows))
+    (row_part (read_text bytes) bytes row ++ rows_after (read_text bytes) bytes row (next ∷ rows)))
     (append_assoc before (own ∷ []) (rows_cells bytes (next ∷ rows)))
     (inside-append
     (subst
     (λ (y : Expression).
-    InsideFacts bytes row.first row.end x y (so_far delimiter before) mid (InTable BehindRow) (InTable BehindRow)
+    InsideFacts bytes row.first row.end x y (so_far delimiter before) mid (InTable AfterRow) (InTable AfterRow)
     (row_part unread_text bytes row) (row_part (read_text bytes) bytes row)) left
     (row-known bytes row BodyRow x delimiter before is))
     (inside-append
-    (gap-inside bytes row next behind_body_row (record { delimiter = delimiter; rows = before ++ own ∷ [] }) BehindRow
+    (gap-inside bytes row next after_body_row (record { delimiter = delimiter; rows = before ++ own ∷ [] }) AfterRow
     is are.0.line are.0.gap (refl, refl) tt)
     (rows-inside bytes next rows in_body delimiter (before ++ own ∷ []) refl are.0.line are.1)
     (first-meets bytes row next last are.0.line are.0.gap)) (end-meets bytes row next last is are.0.gap))
@@ -218,20 +221,20 @@ rows-inside bytes row (next ∷ rows) x delimiter before left is are =
 abbrev head_begun : Expression
 head_begun = inside plain_text n.GfmTableHead
 
-abbrev behind_head_row : Expression
-behind_head_row = behind n.GfmTableRow head_begun
+abbrev after_head_row : Expression
+after_head_row = following n.GfmTableRow head_begun
 
 abbrev in_head : Expression
-in_head = behind n.LineEnding behind_head_row
+in_head = following n.LineEnding after_head_row
 
 head-inside : (bytes : List ℕ) (row next : Row) (rows : List Row) → IsTable bytes row next rows →
-    InsideFacts bytes row.first next.end head_begun (behind n.GfmTableDelimiterRow in_head) (so_far [] [])
-    (so_far (trim (row_line bytes next)) (row_cells (row_line bytes row) ∷ [])) (InTable AtHead) (InTable BehindRow)
+    InsideFacts bytes row.first next.end head_begun (following n.GfmTableDelimiterRow in_head) (so_far [] [])
+    (so_far (trim (row_line bytes next)) (row_cells (row_line bytes row) ∷ [])) (InTable AtHead) (InTable AfterRow)
     (head_events unread_text bytes row next) (head_events (read_text bytes) bytes row next)
 head-inside bytes row next rows is =
     inside-append (row-known bytes row HeadRow head_begun [] [] is.head)
     (inside-append
-    (gap-inside bytes row next behind_head_row (record { delimiter = []; rows = cells ∷ [] }) BehindHead is.head
+    (gap-inside bytes row next after_head_row (record { delimiter = []; rows = cells ∷ [] }) AfterHead is.head
     is.delimiter is.gap (refl, refl) tt)
     (delimiter-inside bytes (row_line bytes next) (drop next.end.index bytes) next.first next.end in_head (cells ∷ [])
     (line-at bytes next is.delimiter) (columns-cells (row_line bytes next) is.columns is.asked)
@@ -247,35 +250,35 @@ head-inside bytes row next rows is =
 abbrev pub table_begun : Expression
 table_begun = inside plain_text n.GfmTable
 
-abbrev behind_head : Expression
-behind_head = behind n.GfmTableHead table_begun
+abbrev after_head : Expression
+after_head = following n.GfmTableHead table_begun
 
 abbrev at_body : Expression
-at_body = behind n.LineEnding behind_head
+at_body = following n.LineEnding after_head
 
 -- and after all of it
 abbrev pub table_left : List Row → Expression
-table_left [] = behind_head
-table_left (row ∷ rows) = behind n.GfmTableBody at_body
+table_left [] = after_head
+table_left (row ∷ rows) = following n.GfmTableBody at_body
 
 body-inside : (bytes : List ℕ) (row : Row) (rows : List Row) (delimiter : List ℕ) (before : List (List (List ℕ))) →
     IsFilledLine bytes row → AreBodyRows bytes row rows →
-    InsideFacts bytes row.end (last_row row rows).end behind_head (table_left rows) (so_far delimiter before)
-    (so_far delimiter (before ++ rows_cells bytes rows)) (InTable BehindRow) (InTable BehindRow)
-    (body_behind unread_text bytes row rows) (body_behind (read_text bytes) bytes row rows)
+    InsideFacts bytes row.end (last_row row rows).end after_head (table_left rows) (so_far delimiter before)
+    (so_far delimiter (before ++ rows_cells bytes rows)) (InTable AfterRow) (InTable AfterRow)
+    (body_after unread_text bytes row rows) (body_after (read_text bytes) bytes row rows)
 body-inside bytes row [] delimiter before is are =
     subst
     (λ (cells : List (List (List ℕ))).
-    InsideFacts bytes row.end row.end behind_head behind_head (so_far delimiter before) (so_far delimiter cells)
-    (InTable BehindRow) (InTable BehindRow) [] []) (sym (append-nil before))
-    (inside-none bytes row.end behind_head (so_far delimiter before) (InTable BehindRow))
+    InsideFacts bytes row.end row.end after_head after_head (so_far delimiter before) (so_far delimiter cells)
+    (InTable AfterRow) (InTable AfterRow) [] []) (sym (append-nil before))
+    (inside-none bytes row.end after_head (so_far delimiter before) (InTable AfterRow))
 body-inside bytes row (next ∷ rows) delimiter before is are =
     inside-append
-    (gap-inside bytes row next behind_head (record { delimiter = delimiter; rows = before }) BehindRow is are.0.line
+    (gap-inside bytes row next after_head (record { delimiter = delimiter; rows = before }) AfterRow is are.0.line
     are.0.gap (refl, refl) tt)
-    (inside-around bytes n.GfmTableBody next.first last at_body body_begun behind_body_row from to (InTable BehindRow)
-    (InTable BehindRow) (row_part unread_text bytes next ++ rows_behind unread_text bytes next rows)
-    (row_part (read_text bytes) bytes next ++ rows_behind (read_text bytes) bytes next rows)
+    (inside-around bytes n.GfmTableBody next.first last at_body body_begun after_body_row from to (InTable AfterRow)
+    (InTable AfterRow) (row_part unread_text bytes next ++ rows_after unread_text bytes next rows)
+    (row_part (read_text bytes) bytes next ++ rows_after (read_text bytes) bytes next rows)
     (record {
       no_part = refl;
       part = tt;
@@ -305,12 +308,12 @@ body-meets bytes row (next ∷ rows) is are = end-meets bytes row next (last_row
 pub table-inside : (bytes : List ℕ) (row next : Row) (rows : List Row) → IsTable bytes row next rows →
     InsideFacts bytes row.first (last_row next rows).end table_begun (table_left rows) (so_far [] [])
     (so_far (trim (row_line bytes next)) (row_cells (row_line bytes row) ∷ rows_cells bytes rows)) (InTable AtHead)
-    (InTable BehindRow) (table_inside unread_text bytes row next rows)
+    (InTable AfterRow) (table_inside unread_text bytes row next rows)
     (table_inside (read_text bytes) bytes row next rows)
 table-inside bytes row next rows is =
     inside-append
     (inside-around bytes n.GfmTableHead row.first next.end table_begun head_begun
-    (behind n.GfmTableDelimiterRow in_head) (so_far [] []) mid (InTable AtHead) (InTable BehindRow)
+    (following n.GfmTableDelimiterRow in_head) (so_far [] []) mid (InTable AtHead) (InTable AfterRow)
     (head_events unread_text bytes row next) (head_events (read_text bytes) bytes row next)
     (record {
       no_part = refl;

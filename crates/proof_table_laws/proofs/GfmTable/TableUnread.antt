@@ -30,8 +30,8 @@ use Rattle.proof_frame.specs.Row.{Row, but_end, but_ends, end_of, last_row, row_
 use Rattle.proof_table_laws.specs.Headed.{headed_row, headed_unread}
 use Rattle.proof_frame.proofs.EventNames.{is_lined}
 use Rattle.proof_frame.proofs.FrontNames.{fronts-prefixes}
-use Rattle.proof_table_laws.proofs.GfmTable.TableForm.{AreBodyRows, IsBodyRow, IsFilledLine, IsGap, IsTable, body_behind}
-use Rattle.proof_table_laws.proofs.GfmTable.TableForm.{gap_events, head_events, row_part, rows_behind, table_events}
+use Rattle.proof_table_laws.proofs.GfmTable.TableForm.{AreBodyRows, IsBodyRow, IsFilledLine, IsGap, IsTable, body_after}
+use Rattle.proof_table_laws.proofs.GfmTable.TableForm.{gap_events, head_events, row_part, rows_after, table_events}
 use Rattle.proof_frame.proofs.PrefixNames.{ArePrefixes}
 use Rattle.proof_frame.proofs.LeafLines.Cuts.{but_end-is, but_ends-is, end-is, ending-is}
 use Rattle.proof_frame.proofs.LeafLines.Framed.{AreFramed, framed_rest, span-framed}
@@ -185,8 +185,8 @@ prefixes-free (e ∷ es) h = (prefix-free e.name h.0.0, prefixes-free es h.1)
 gap-free : (bytes : List ℕ) (row next : Row) → IsGap bytes row next → AreFree (gap_events row next)
 gap-free bytes row next gap =
     free-append (ending_events n.LineEnding row) next.front
-    (subst AreFree (sym (ending-is n.LineEnding row gap.behind gap.after)) (refl, (refl, tt)))
-    (prefixes-free next.front (fronts-prefixes bytes [] gap.behind next.first next.front refl gap.front))
+    (subst AreFree (sym (ending-is n.LineEnding row gap.following gap.after)) (refl, (refl, tt)))
+    (prefixes-free next.front (fronts-prefixes bytes [] gap.following next.first next.front refl gap.front))
 
 lines-free : (bytes : List ℕ) (row : Row) (rows : List Row) → AreBodyRows bytes row rows →
     AreFreeLines (body_lines bytes row rows)
@@ -224,14 +224,14 @@ row-celled bytes row is =
     (line-end bytes row is)
 
 rows-celled : (bytes : List ℕ) (row : Row) (rows : List Row) → AreBodyRows bytes row rows →
-    lines_celled (body_lines bytes row rows) ≡ rows_behind unread_text bytes row rows
+    lines_celled (body_lines bytes row rows) ≡ rows_after unread_text bytes row rows
 rows-celled bytes row [] are = refl
 rows-celled bytes row (next ∷ rows) are =
     ap₂ (λ (xs ys : List Event). gap_events row next ++ (xs ++ ys)) (row-celled bytes next are.0.line)
     (rows-celled bytes next rows are.1)
 
 body-given : (bytes : List ℕ) (row : Row) (rows : List Row) → AreBodyRows bytes row rows →
-    body_given (body_lines bytes row rows) (last_row row rows).end ≡ body_behind unread_text bytes row rows
+    body_given (body_lines bytes row rows) (last_row row rows).end ≡ body_after unread_text bytes row rows
 body-given bytes row [] are = refl
 body-given bytes row (next ∷ rows) are =
     ap₂
@@ -264,9 +264,9 @@ table-given bytes row next rows is =
     (λ (q : Point).
     enter n.GfmTable row.first
     ∷ around n.GfmTableHead row.first q (head_events unread_text bytes row next)
-    ++ (body_behind unread_text bytes next rows ++ end)) (line-end bytes next is.delimiter)
+    ++ (body_after unread_text bytes next rows ++ end)) (line-end bytes next is.delimiter)
     ∙ ap (λ (l : List Event). enter n.GfmTable row.first ∷ l)
-    (sym (append_assoc head (body_behind unread_text bytes next rows) end))
+    (sym (append_assoc head (body_after unread_text bytes next rows) end))
 
 -- What the last resolver makes of the lines of a table.
 

@@ -36,10 +36,10 @@ first_cells [] = []
 first_cells (k ∷ lines) = row_cells k.text
 
 -- what the open leaf becomes with it
-abbrev pub table_comes : Leaf → Rest → LeafResult
-table_comes (OpenParagraph lines) r = Opened (OpenTable (trim r.bytes) (first_cells (reverse lines) ∷ []))
-table_comes (OpenTable delimiter rows) r = Opened (OpenTable delimiter (rows ++ row_cells r.bytes ∷ []))
-table_comes leaf r = Finished (Table [] [])
+abbrev pub table_becomes : Leaf → Rest → LeafResult
+table_becomes (OpenParagraph lines) r = Opened (OpenTable (trim r.bytes) (first_cells (reverse lines) ∷ []))
+table_becomes (OpenTable delimiter rows) r = Opened (OpenTable delimiter (rows ++ row_cells r.bytes ∷ []))
+table_becomes leaf r = Finished (Table [] [])
 
 -- By itself it is no table: what it is with the lines around it shows when they are joined, so its block and its events
 -- after that are not asked.
@@ -59,7 +59,7 @@ table_leaf = record {
   keeps = λ options on cells p. held_leaf.Table;
   starts = starts_table;
   holds = λ options on r. held_leaf.Table;
-  comes = λ options open_leaf r. table_comes open_leaf r;
+  becomes = λ options open_leaf r. table_becomes open_leaf r;
   block = λ r. Table (trim r.bytes) [];
   added = λ options on line p. table_line on line p;
   unread = λ line p. [];

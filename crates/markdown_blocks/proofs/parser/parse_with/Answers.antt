@@ -83,6 +83,7 @@ returns g c =
     IsRead (g.I.Inline.reads c.args.inline.now) l c.args.options.now c.in_ok-events.events.items state)
     c.as_bytes-bytes.ensures.value
     (reads-with state c.in_ok-front.front.point (found_in c.in_ok-tokenizer.found) (world c.in_ok-tokenizer.tokenizer)
-    c.in_ok-front.front.events.items c.in_ok-tokenizer.tokenizer.events.items (is-ahead g before) (g.I.Inline.reads c.args.inline.now)
+    c.in_ok-front.front.events.items c.in_ok-tokenizer.tokenizer.events.items (is-ahead g before)
+    (g.I.Inline.reads c.args.inline.now)
     (g.met.I.Inline.keeps_frame c.args.inline.now (document_of state)) c.in_ok-body.body.items
     c.in_ok-events.events.items c.in_ok-body.ensures.substituted c.in_ok-events.ensures)

@@ -49,7 +49,8 @@ returns-in_default c =
     let is : construct_transition c.args.name w ≡ flow_transition c.args.name w =
     flow-constructs c.args.name w c.requires.construct in
     let once = λ (fine : c.call-in_default.result ≢ Error).
-    called-once c.args.name w c.call-in_default.result (world c.call-in_default.new.tokenizer) c.requires.current c.requires.stands
+    called-once c.args.name w c.call-in_default.result (world c.call-in_default.new.tokenizer) c.requires.current
+    c.requires.valid
     (within-world c.args.tokenizer.now) fine (c.call-in_default.ensures.to fine ∙ ap (λ (x : Transition). x.to) is)
     (c.call-in_default.ensures.world fine ∙ ap (λ (x : Transition). x.world) is) in
     record { runs = λ fine. (once fine).0; sees = λ fine. (once fine).1 }

@@ -57,6 +57,6 @@ pub returns-in_default : goal.returns-in_default
 returns-in_default c =
     let once = λ (fine : c.call.result ≢ Error).
     called-once (n.Flow c.args.state) (world c.args.tokenizer.now) c.call.result (world c.call.new.tokenizer)
-    c.requires.current c.requires.stands (within-world c.args.tokenizer.now) fine (c.call.ensures.to fine)
+    c.requires.current c.requires.valid (within-world c.args.tokenizer.now) fine (c.call.ensures.to fine)
     (c.call.ensures.world fine) in
     record { runs = λ fine. (once fine).0; sees = λ fine. (once fine).1 }

@@ -32,6 +32,6 @@ pub returns-in-None : goal.returns-in-None
 returns-in-None c =
     let once = λ (fine : c.call-in-None.result ≢ Error).
     called-once (n.GfmTable c.args.state) (world c.args.tokenizer.now) c.call-in-None.result
-    (world c.call-in-None.new.tokenizer) c.requires.current c.requires.stands (within-world c.args.tokenizer.now) fine
+    (world c.call-in-None.new.tokenizer) c.requires.current c.requires.valid (within-world c.args.tokenizer.now) fine
     (c.call-in-None.ensures.to fine) (c.call-in-None.ensures.world fine) in
     record { runs = λ fine. (once fine).0; sees = λ fine. (once fine).1 }

@@ -5,19 +5,19 @@ use Rattle.md_engine.specs.Going.{SeesOn}
 use Rattle.md_engine.specs.Run.{RunsHere}
 use Rattle.md_engine.specs.World.{World, world}
 use Rattle.md_registry.specs.States.{FlowStep}
-use Rattle.md_registry.proofs.GfmTable.Calls.{answers-fine, stood-first, stood-goes, stood-leaves}
+use Rattle.md_registry.proofs.GfmTable.Calls.{answers-fine, is_valid-first, is_valid-proceeds, is_valid-leaves}
 use Rattle.md_at_once.proofs.at_once.call_table.Goals as goal
 
 pub loop-next-init : goal.loop-next-init
 loop-next-init c =
-    stood-first (n.GfmTable c.args.first) (world c.args.tokenizer.now) c.requires.current c.requires.stands
+    is_valid-first (n.GfmTable c.args.first) (world c.args.tokenizer.now) c.requires.current c.requires.valid
 
 pub loop-next-preserved : goal.loop-next-preserved
 loop-next-preserved c =
     let to = c.call_in_table-to.result in
     let u = world c.call_in_table-to.new.tokenizer in
     let fine : to ≢ Error = answers-fine to _ u _ c.in-Some.ensures.some in
-    (stood-goes (n.GfmTable c.args.first) (world c.args.tokenizer.now) (n.GfmTable c.loop-next.state)
+    (is_valid-proceeds (n.GfmTable c.args.first) (world c.args.tokenizer.now) (n.GfmTable c.loop-next.state)
     (world c.loop-next.tokenizer) to u _ _ c.loop-next.invariant (c.call_in_table-to.ensures.runs fine)
     (c.call_in_table-to.ensures.sees fine) c.in-Some.ensures.some).0
 
@@ -26,7 +26,7 @@ loop-next-smaller c =
     let to = c.call_in_table-to.result in
     let u = world c.call_in_table-to.new.tokenizer in
     let fine : to ≢ Error = answers-fine to _ u _ c.in-Some.ensures.some in
-    (stood-goes (n.GfmTable c.args.first) (world c.args.tokenizer.now) (n.GfmTable c.loop-next.state)
+    (is_valid-proceeds (n.GfmTable c.args.first) (world c.args.tokenizer.now) (n.GfmTable c.loop-next.state)
     (world c.loop-next.tokenizer) to u _ _ c.loop-next.invariant (c.call_in_table-to.ensures.runs fine)
     (c.call_in_table-to.ensures.sees fine) c.in-Some.ensures.some).1
 
@@ -37,14 +37,14 @@ returns-in_default c = record {
       let old = world c.args.tokenizer.now in
       let to = c.call_in_table-to.result in
       subst (λ (x : World). RunsHere FlowStep first old to x) (sym (c.next.ensures.none c.in_default.is))
-      (stood-leaves first old (n.GfmTable c.loop-next.state) (world c.loop-next.tokenizer) to
+      (is_valid-leaves first old (n.GfmTable c.loop-next.state) (world c.loop-next.tokenizer) to
       (world c.call_in_table-to.new.tokenizer) c.loop-next.invariant (c.call_in_table-to.ensures.runs fine)
       (c.call_in_table-to.ensures.sees fine)).0;
   sees = λ fine.
       let old = world c.args.tokenizer.now in
       let to = c.call_in_table-to.result in
       subst (λ (x : World). SeesOn to old x) (sym (c.next.ensures.none c.in_default.is))
-      (stood-leaves (n.GfmTable c.args.first) old (n.GfmTable c.loop-next.state) (world c.loop-next.tokenizer) to
+      (is_valid-leaves (n.GfmTable c.args.first) old (n.GfmTable c.loop-next.state) (world c.loop-next.tokenizer) to
       (world c.call_in_table-to.new.tokenizer) c.loop-next.invariant (c.call_in_table-to.ensures.runs fine)
       (c.call_in_table-to.ensures.sees fine)).1;
   full = search rules;

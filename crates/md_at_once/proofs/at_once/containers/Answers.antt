@@ -9,7 +9,7 @@ use Rattle.md_engine.specs.declared.state.Name.TheVariants as n
 use Rattle.md_engine.specs.declared.state.State.{State}
 use Rattle.md_engine.specs.declared.state.State.TheVariants.{Next, Retry}
 use Rattle.md_engine.proofs.Keeps.{runs-setting}
-use Rattle.md_engine.proofs.Loops.{came-on, came-runs, not_error, plain_of, reading-same}
+use Rattle.md_engine.proofs.Loops.{arrived-on, arrived-runs, not_error, plain_of, reading-same}
 use Rattle.md_leaves.proofs.HeadingCalls.{sees-from}
 use Rattle.md_registry.specs.States.{FlowStep}
 use Rattle.md_registry.specs.Registry.{opener_front, openers}
@@ -24,13 +24,13 @@ abbrev next : StateName
 next = n.Document (opener_front openers)
 
 -- Where the next container has ended, what is here is seen already, and one continues with those that may open.
-goes : (old u new : World) (to : State) → RunsHere FlowStep line old (Next next) u → SeesAhead u →
+proceeds : (old u new : World) (to : State) → RunsHere FlowStep line old (Next next) u → SeesAhead u →
     RunsHere FlowStep next u to new → SeesOn to u new → RunsHere FlowStep line old to new × SeesOn to old new
-goes old u new to runs ahead more sees =
+proceeds old u new to runs ahead more sees =
     let is : reading u ≡ u = reading-same u ahead.0 in
     let same = runs-setting FlowStep true (Next next) u to new (more true (Next next) u refl is (inl refl)) in (
-      λ is_end. came-runs FlowStep is_end line next old u to new
-          (came-on FlowStep is_end line next old u u (runs is_end) (inr ahead.1) (sym is)) (more is_end),
+      λ is_end. arrived-runs FlowStep is_end line next old u to new
+          (arrived-on FlowStep is_end line next old u u (runs is_end) (inr ahead.1) (sym is)) (more is_end),
       sees-from to old u new sees same (inr ahead.1),
     )
 
@@ -49,10 +49,10 @@ returns-in-Next-Document-ContainerNewBefore-clause-runs c = λ fine.
     let u = world c.containers_existing.new.tokenizer in
     let is : c.containers_existing.result ≡ Next next =
     at.is ∙ ap Next at.field-0-is ∙ ap (λ (x : DocumentState). Next (n.Document x)) at.field-0-0-is in
-    let come = not_error c.containers_existing.result next (plain_of c.containers_existing.result next (inl is)) in
+    let become = not_error c.containers_existing.result next (plain_of c.containers_existing.result next (inl is)) in
     let runs : RunsHere FlowStep line old (Next next) u =
-    subst (λ (x : State). RunsHere FlowStep line old x u) is (c.containers_existing.ensures.run.runs come) in
-    (goes old u (world c.containers_new.new.tokenizer) c.containers_new.result runs
+    subst (λ (x : State). RunsHere FlowStep line old x u) is (c.containers_existing.ensures.run.runs become) in
+    (proceeds old u (world c.containers_new.new.tokenizer) c.containers_new.result runs
     (c.containers_existing.ensures.opens next is) (c.containers_new.ensures.runs fine)
     (c.containers_new.ensures.sees fine)).0
 
@@ -64,10 +64,10 @@ returns-in-Next-Document-ContainerNewBefore-clause-sees c = λ fine.
     let u = world c.containers_existing.new.tokenizer in
     let is : c.containers_existing.result ≡ Next next =
     at.is ∙ ap Next at.field-0-is ∙ ap (λ (x : DocumentState). Next (n.Document x)) at.field-0-0-is in
-    let come = not_error c.containers_existing.result next (plain_of c.containers_existing.result next (inl is)) in
+    let become = not_error c.containers_existing.result next (plain_of c.containers_existing.result next (inl is)) in
     let runs : RunsHere FlowStep line old (Next next) u =
-    subst (λ (x : State). RunsHere FlowStep line old x u) is (c.containers_existing.ensures.run.runs come) in
-    (goes old u (world c.containers_new.new.tokenizer) c.containers_new.result runs
+    subst (λ (x : State). RunsHere FlowStep line old x u) is (c.containers_existing.ensures.run.runs become) in
+    (proceeds old u (world c.containers_new.new.tokenizer) c.containers_new.result runs
     (c.containers_existing.ensures.opens next is) (c.containers_new.ensures.runs fine)
     (c.containers_new.ensures.sees fine)).1
 
@@ -77,11 +77,11 @@ returns-in-Retry-Document-ContainerNewBefore-clause-runs c = λ fine.
     let at = c.in-Retry-Document-ContainerNewBefore in
     let is : c.containers_existing.result ≡ Retry next =
     at.is ∙ ap Retry at.field-0-is ∙ ap (λ (x : DocumentState). Retry (n.Document x)) at.field-0-0-is in
-    let come = not_error c.containers_existing.result next (plain_of c.containers_existing.result next (inr is)) in
+    let become = not_error c.containers_existing.result next (plain_of c.containers_existing.result next (inr is)) in
     let new = world c.containers_new-in-Retry-Document-ContainerNewBefore.new.tokenizer in
     (stays-runs line next (world c.args.tokenizer.now) (world c.containers_existing.new.tokenizer)
     c.containers_existing.result c.containers_new-in-Retry-Document-ContainerNewBefore.result new c.requires.current is
-    (c.containers_existing.ensures.run.runs come) (c.containers_existing.ensures.run.sees come)
+    (c.containers_existing.ensures.run.runs become) (c.containers_existing.ensures.run.sees become)
     (c.containers_new-in-Retry-Document-ContainerNewBefore.ensures.runs fine)
     (c.containers_new-in-Retry-Document-ContainerNewBefore.ensures.sees fine)).0
 
@@ -91,11 +91,11 @@ returns-in-Retry-Document-ContainerNewBefore-clause-sees c = λ fine.
     let at = c.in-Retry-Document-ContainerNewBefore in
     let is : c.containers_existing.result ≡ Retry next =
     at.is ∙ ap Retry at.field-0-is ∙ ap (λ (x : DocumentState). Retry (n.Document x)) at.field-0-0-is in
-    let come = not_error c.containers_existing.result next (plain_of c.containers_existing.result next (inr is)) in
+    let become = not_error c.containers_existing.result next (plain_of c.containers_existing.result next (inr is)) in
     let new = world c.containers_new-in-Retry-Document-ContainerNewBefore.new.tokenizer in
     (stays-runs line next (world c.args.tokenizer.now) (world c.containers_existing.new.tokenizer)
     c.containers_existing.result c.containers_new-in-Retry-Document-ContainerNewBefore.result new c.requires.current is
-    (c.containers_existing.ensures.run.runs come) (c.containers_existing.ensures.run.sees come)
+    (c.containers_existing.ensures.run.runs become) (c.containers_existing.ensures.run.sees become)
     (c.containers_new-in-Retry-Document-ContainerNewBefore.ensures.runs fine)
     (c.containers_new-in-Retry-Document-ContainerNewBefore.ensures.sees fine)).1
 
@@ -107,11 +107,12 @@ returns-in-Retry-Document-ContainersAfter-clause-runs c = λ fine.
     let next = n.Document document.ContainersAfter in
     let is : c.containers_existing.result ≡ Retry next =
     at.is ∙ ap Retry at.field-0-is ∙ ap (λ (x : DocumentState). Retry (n.Document x)) at.field-0-0-is in
-    let come = not_error c.containers_existing.result next (plain_of c.containers_existing.result next (inr is)) in
+    let become = not_error c.containers_existing.result next (plain_of c.containers_existing.result next (inr is)) in
     (stays-runs first next (world c.args.tokenizer.now) (world c.containers_existing.new.tokenizer)
-    c.containers_existing.result c.behind_containers.result (world c.behind_containers.new.tokenizer) c.requires.current is
-    (c.containers_existing.ensures.run.runs come) (c.containers_existing.ensures.run.sees come)
-    (c.behind_containers.ensures.runs fine) (c.behind_containers.ensures.sees fine)).0
+    c.containers_existing.result c.after_containers.result (world c.after_containers.new.tokenizer)
+    c.requires.current is
+    (c.containers_existing.ensures.run.runs become) (c.containers_existing.ensures.run.sees become)
+    (c.after_containers.ensures.runs fine) (c.after_containers.ensures.sees fine)).0
 
 pub returns-in-Retry-Document-ContainersAfter-clause-sees :
     goal.returns-in-Retry-Document-ContainersAfter-clause-sees
@@ -121,8 +122,9 @@ returns-in-Retry-Document-ContainersAfter-clause-sees c = λ fine.
     let next = n.Document document.ContainersAfter in
     let is : c.containers_existing.result ≡ Retry next =
     at.is ∙ ap Retry at.field-0-is ∙ ap (λ (x : DocumentState). Retry (n.Document x)) at.field-0-0-is in
-    let come = not_error c.containers_existing.result next (plain_of c.containers_existing.result next (inr is)) in
+    let become = not_error c.containers_existing.result next (plain_of c.containers_existing.result next (inr is)) in
     (stays-runs first next (world c.args.tokenizer.now) (world c.containers_existing.new.tokenizer)
-    c.containers_existing.result c.behind_containers.result (world c.behind_containers.new.tokenizer) c.requires.current is
-    (c.containers_existing.ensures.run.runs come) (c.containers_existing.ensures.run.sees come)
-    (c.behind_containers.ensures.runs fine) (c.behind_containers.ensures.sees fine)).1
+    c.containers_existing.result c.after_containers.result (world c.after_containers.new.tokenizer)
+    c.requires.current is
+    (c.containers_existing.ensures.run.runs become) (c.containers_existing.ensures.run.sees become)
+    (c.after_containers.ensures.runs fine) (c.after_containers.ensures.sees fine)).1

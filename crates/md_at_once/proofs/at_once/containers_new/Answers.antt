@@ -11,7 +11,7 @@ use Rattle.md_engine.proofs.Walks.{Within}
 use Rattle.md_engine.specs.World.{World, looks, world}
 use Rattle.md_engine.specs.declared.state.Name.TheVariants as n
 use Rattle.md_engine.specs.declared.tokenizer.container.name.ContainerKind.{ContainerKind}
-use Rattle.md_engine.proofs.Loops.{CameHere, CameTo, came-first}
+use Rattle.md_engine.proofs.Loops.{ArrivedHere, ArrivedAt, arrived-first}
 use Rattle.md_engine.proofs.StayLemmas.{within-world}
 use Rattle.md_events.specs.Transition.{Transition}
 use Rattle.md_registry.specs.AtOnce.{openers_passed}
@@ -29,34 +29,36 @@ inside : (w u : World) → u ≡ openers_passed w → OpensNone w → w.current 
     RunsHere FlowStep (n.Document (opener_front openers)) w to new × SeesOn to w new
 inside w u passed none seen within to new asked runs sees =
     let first = n.Document (opener_front openers) in
-    let came : CameHere FlowStep first w (n.Document document.FlowInside) u = λ is_end s v named sees may.
-    subst (λ (x : Bool). CameTo FlowStep is_end s v (leaf_front x) u) asked
+    let arrived : ArrivedHere FlowStep first w (n.Document document.FlowInside) u = λ is_end s v named sees may.
+    subst (λ (x : Bool). ArrivedAt FlowStep is_end s v (leaf_front x) u) asked
     (subst
-    (λ (x : World). CameTo FlowStep is_end s v (leaf_front (is_some (asked_first x.flags.leaf))) x) (sym passed)
+    (λ (x : World). ArrivedAt FlowStep is_end s v (leaf_front (is_some (asked_first x.flags.leaf))) x) (sym passed)
     (passes-to-front is_end s v w none seen within
-    (came-first FlowStep first w is_end s v named sees may))) in
-    runs-on first (n.Document document.FlowInside) w u to new came runs sees
+    (arrived-first FlowStep first w is_end s v named sees may))) in
+    runs-on first (n.Document document.FlowInside) w u to new arrived runs sees
     (subst (λ (x : World). x.current ≡ looks x) (sym passed) seen) (inl (ap (λ (x : World). x.point) passed))
 
-pub returns-then-goes_inside : goal.returns-then-goes_inside
-returns-then-goes_inside c = record {
+pub returns-then-continues_inside : goal.returns-then-continues_inside
+returns-then-continues_inside c = record {
   runs = λ fine.
       let w = world c.args.tokenizer.now in
       let none : OpensNone w = c.opens_none.ensures c.if-opens_none.true in
       (inside w (world c.pass_openers.new.tokenizer) c.pass_openers.ensures none c.requires.current
       (within-world c.args.tokenizer.now) c.inside.result (world c.inside.new.tokenizer)
-      (sym c.goes_inside.ensures ∙ c.if-goes_inside.true) (c.inside.ensures.runs fine) (c.inside.ensures.sees fine)).0;
+      (sym c.continues_inside.ensures ∙ c.if-continues_inside.true) (c.inside.ensures.runs fine)
+      (c.inside.ensures.sees fine)).0;
   sees = λ fine.
       let w = world c.args.tokenizer.now in
       let none : OpensNone w = c.opens_none.ensures c.if-opens_none.true in
       (inside w (world c.pass_openers.new.tokenizer) c.pass_openers.ensures none c.requires.current
       (within-world c.args.tokenizer.now) c.inside.result (world c.inside.new.tokenizer)
-      (sym c.goes_inside.ensures ∙ c.if-goes_inside.true) (c.inside.ensures.runs fine) (c.inside.ensures.sees fine)).1;
+      (sym c.continues_inside.ensures ∙ c.if-continues_inside.true) (c.inside.ensures.runs fine)
+      (c.inside.ensures.sees fine)).1;
   full = search rules;
 }
 
-pub returns-else-goes_inside : goal.returns-else-goes_inside
-returns-else-goes_inside c = record {
+pub returns-else-continues_inside : goal.returns-else-continues_inside
+returns-else-continues_inside c = record {
   runs = λ fine.
       let first = n.Document (opener_front openers) in
       let w = world c.args.tokenizer.now in
@@ -65,13 +67,13 @@ returns-else-goes_inside c = record {
       let passed : u ≡ openers_passed w = c.pass_openers.ensures in
       let outside : is_some (asked_first (openers_passed w).flags.leaf) ≡ false =
       ap (λ (x : World). is_some (asked_first x.flags.leaf)) (sym passed)
-      ∙ sym c.goes_inside.ensures ∙ c.if-goes_inside.false in
-      let came : CameHere FlowStep first w (n.Flow flow.Start) u = λ is_end s v named sees may.
-      subst (λ (x : World). CameTo FlowStep is_end s v (n.Flow flow.Start) x) (sym passed)
-      (subst (λ (x : Bool). CameTo FlowStep is_end s v (leaf_front x) (openers_passed w)) outside
+      ∙ sym c.continues_inside.ensures ∙ c.if-continues_inside.false in
+      let arrived : ArrivedHere FlowStep first w (n.Flow flow.Start) u = λ is_end s v named sees may.
+      subst (λ (x : World). ArrivedAt FlowStep is_end s v (n.Flow flow.Start) x) (sym passed)
+      (subst (λ (x : Bool). ArrivedAt FlowStep is_end s v (leaf_front x) (openers_passed w)) outside
       (passes-to-front is_end s v w none c.requires.current (within-world c.args.tokenizer.now)
-      (came-first FlowStep first w is_end s v named sees may))) in
-      (runs-on first (n.Flow flow.Start) w u c.rest_begins.result (world c.rest_begins.new.tokenizer) came
+      (arrived-first FlowStep first w is_end s v named sees may))) in
+      (runs-on first (n.Flow flow.Start) w u c.rest_begins.result (world c.rest_begins.new.tokenizer) arrived
       (c.rest_begins.ensures.runs fine) (c.rest_begins.ensures.sees fine)
       (subst (λ (x : World). x.current ≡ looks x) (sym passed) c.requires.current)
       (inl (ap (λ (x : World). x.point) passed))).0;
@@ -87,7 +89,7 @@ returns-else-opens_plainly c =
     let is = ap (λ (o : Option ContainerKind). opener_transition o w) at in
     let all = λ (fine : c.before_opener.result ≢ Error).
     ends-with first first w w c.before_opener.result (world c.before_opener.new.tokenizer)
-    (came-first FlowStep first w) (tried-opener-leaves (opener_at (opener_front openers)) w)
+    (arrived-first FlowStep first w) (tried-opener-leaves (opener_at (opener_front openers)) w)
     (c.before_opener.ensures.to fine ∙ ap (λ (x : Transition). x.to) is)
     (c.before_opener.ensures.world fine ∙ ap (λ (x : Transition). x.world) is) fine c.requires.current
     (within-world c.args.tokenizer.now) refl in

@@ -47,7 +47,8 @@ returns-then-see_or_wait-2 c = record {
       let same : world c.see_or_wait.new.self ≡ u = c.if-see_or_wait.ensures.same refl in
       let has_tried : is_ok c.content_tried.result ≡ true = c.if-or_error.ensures.negation in
       let new : x ≡ line_tried w.point u =
-      on-ok c.content_tried.result (x ≡ line_tried w.point (world c.see_or_wait.new.self)) has_tried c.content_tried.ensures
+      on-ok c.content_tried.result (x ≡ line_tried w.point (world c.see_or_wait.new.self)) has_tried
+      c.content_tried.ensures
       ∙ ap (line_tried w.point) same in
       content-waits w u x c.requires.current (within-world c.args.tokenizer.now)
       (inside-line w c.requires.current (sym c.ends_line.ensures ∙ c.if-ends_line.false)) c.see_line.ensures
@@ -76,10 +77,11 @@ returns-2 c = record {
       let sees : world c.see_or_wait.new.self ≡ reading u = c.if-see_or_wait.ensures.sees refl in
       let has_added : is_ok c.content_added.result ≡ true = c.if-or_error-2.ensures.negation in
       let new : x ≡ line_added w.point (reading u) =
-      on-ok c.content_added.result (x ≡ line_added w.point (world c.see_or_wait.new.self)) has_added c.content_added.ensures
+      on-ok c.content_added.result (x ≡ line_added w.point (world c.see_or_wait.new.self)) has_added
+      c.content_added.ensures
       ∙ ap (line_added w.point) sees in
       content-ends w u x c.line_end.result (world c.line_end.new.tokenizer) c.requires.current
-      (within-world c.args.tokenizer.now) c.see_line.ensures (ahead (c.if-see_or_wait.ensures.goes_on refl)) new
+      (within-world c.args.tokenizer.now) c.see_line.ensures (ahead (c.if-see_or_wait.ensures.is_continued refl)) new
       (c.line_end.ensures.runs fine);
   sees = search rules;
   full = search rules;

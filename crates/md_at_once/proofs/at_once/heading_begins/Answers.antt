@@ -15,13 +15,13 @@ use Rattle.md_leaves.specs.LeafStart as leaf_start
 use Rattle.md_events.specs.Spaces.{sees_white}
 use Rattle.md_registry.specs.States.{FlowStep}
 use Rattle.md_registry.proofs.HeadingAtx.Calls.{heading-flows}
-use Rattle.md_registry.proofs.LinesAtOnce.{Goes, Leaves, goes-through, leaves-once}
+use Rattle.md_registry.proofs.LinesAtOnce.{Proceeds, Leaves, proceeds-through, leaves-once}
 use Rattle.md_at_once.proofs.at_once.heading_begins.Goals as goal
 
 -- Where a heading begins, before an indent or without one.
 starts : (w : World) (to : State) (new : World) → w.current ≡ looks w → Within w →
     (to ≢ Error → to ≡ (heading.start_transition w).to) → (to ≢ Error → new ≡ (heading.start_transition w).world) →
-    to ≢ Error → Goes (n.HeadingAtx its.Start) w to new
+    to ≢ Error → Proceeds (n.HeadingAtx its.Start) w to new
 starts w to new seen within to_is new_is fine =
     leaves-once (n.HeadingAtx its.Start) w to new
     (leaves w.setting.options.constructs.heading_atx (sees_white w.current)) (to_is fine) (new_is fine) fine seen within
@@ -44,7 +44,7 @@ returns-in-Retry-HeadingAtx-Before c =
     let u = world c.opening.new.tokenizer in
     let b = c.in-Retry-HeadingAtx-Before in
     let all = λ (fine : c.opening.result ≢ Error).
-    goes-through (n.HeadingAtx its.Start) (n.HeadingAtx its.Before) w v c.start.result c.opening.result u
+    proceeds-through (n.HeadingAtx its.Start) (n.HeadingAtx its.Before) w v c.start.result c.opening.result u
     c.requires.current (named _ _ _ _ b.is b.field-0-is b.field-0-0-is)
     (starts w _ v c.requires.current (within-world c.args.tokenizer.now) c.start.ensures.to c.start.ensures.world)
     (λ saw. (

@@ -8,7 +8,7 @@ use Rattle.md_engine.specs.Run.{RunsHere, plain, reading}
 use Rattle.md_engine.specs.World.{World, world}
 use Rattle.md_engine.proofs.Loops.{not_error}
 use Rattle.md_registry.specs.States.{FlowStep}
-use Rattle.md_registry.proofs.GfmTable.Calls.{stood-first, stood-goes, stood-leaves}
+use Rattle.md_registry.proofs.GfmTable.Calls.{is_valid-first, is_valid-proceeds, is_valid-leaves}
 use Rattle.md_tables.specs.GfmTable.{AnswersWith}
 use Rattle.md_tables.specs.GfmTable.AnswersWith.{ThatTook}
 use Rattle.md_at_once.proofs.at_once.lines.Goals as goal
@@ -22,12 +22,12 @@ may-read X (inl never) = cc
 may-read X (inr lt) = lt
 
 -- so one continues with it
-goes : (u u' : World) (to : State) → to ≡ Next line → u' ≡ reading u → u.point.index < u.setting.limit →
+proceeds : (u u' : World) (to : State) → to ≡ Next line → u' ≡ reading u → u.point.index < u.setting.limit →
     AnswersWith to line u u'
-goes u u' to is new lt = subst (λ (x : World). AnswersWith to line u x) (sym new) (ThatTook is lt)
+proceeds u u' to is new lt = subst (λ (x : World). AnswersWith to line u x) (sym new) (ThatTook is lt)
 
 pub loop-to-init : goal.loop-to-init
-loop-to-init c = stood-first line (world c.args.tokenizer.now) c.requires.current c.requires.stands
+loop-to-init c = is_valid-first line (world c.args.tokenizer.now) c.requires.current c.requires.valid
 
 pub loop-to-preserved : goal.loop-to-preserved
 loop-to-preserved c =
@@ -36,10 +36,11 @@ loop-to-preserved c =
     let u' = world c.see_or_wait.new.self in
     let is : to ≡ Next line = c.awaits_line.ensures (search rules) in
     let fine : to ≢ Error = not_error to line (ap plain is) in
-    let lt = may-read (u.point.index < u.setting.limit) (c.if-see_or_wait.ensures.goes_on refl) in
-    (stood-goes line (world c.args.tokenizer.now) line (world c.loop-to.tokenizer) to u line u' c.loop-to.invariant
+    let lt = may-read (u.point.index < u.setting.limit) (c.if-see_or_wait.ensures.is_continued refl) in
+    (is_valid-proceeds line (world c.args.tokenizer.now) line (world c.loop-to.tokenizer) to u line u'
+    c.loop-to.invariant
     (c.containers-to.ensures.runs fine) (c.containers-to.ensures.sees fine)
-    (goes u u' to is (c.if-see_or_wait.ensures.sees refl) lt)).0
+    (proceeds u u' to is (c.if-see_or_wait.ensures.sees refl) lt)).0
 
 pub loop-to-smaller : goal.loop-to-smaller
 loop-to-smaller c =
@@ -48,19 +49,20 @@ loop-to-smaller c =
     let u' = world c.see_or_wait.new.self in
     let is : to ≡ Next line = c.awaits_line.ensures (search rules) in
     let fine : to ≢ Error = not_error to line (ap plain is) in
-    let lt = may-read (u.point.index < u.setting.limit) (c.if-see_or_wait.ensures.goes_on refl) in
-    (stood-goes line (world c.args.tokenizer.now) line (world c.loop-to.tokenizer) to u line u' c.loop-to.invariant
+    let lt = may-read (u.point.index < u.setting.limit) (c.if-see_or_wait.ensures.is_continued refl) in
+    (is_valid-proceeds line (world c.args.tokenizer.now) line (world c.loop-to.tokenizer) to u line u'
+    c.loop-to.invariant
     (c.containers-to.ensures.runs fine) (c.containers-to.ensures.sees fine)
-    (goes u u' to is (c.if-see_or_wait.ensures.sees refl) lt)).1
+    (proceeds u u' to is (c.if-see_or_wait.ensures.sees refl) lt)).1
 
 pub returns-then-not-awaits_line : goal.returns-then-not-awaits_line
 returns-then-not-awaits_line c = record {
   runs = λ fine.
-      (stood-leaves line (world c.args.tokenizer.now) line (world c.loop-to.tokenizer) c.containers-to.result
+      (is_valid-leaves line (world c.args.tokenizer.now) line (world c.loop-to.tokenizer) c.containers-to.result
       (world c.containers-to.new.tokenizer) c.loop-to.invariant (c.containers-to.ensures.runs fine)
       (c.containers-to.ensures.sees fine)).0;
   sees = λ fine.
-      (stood-leaves line (world c.args.tokenizer.now) line (world c.loop-to.tokenizer) c.containers-to.result
+      (is_valid-leaves line (world c.args.tokenizer.now) line (world c.loop-to.tokenizer) c.containers-to.result
       (world c.containers-to.new.tokenizer) c.loop-to.invariant (c.containers-to.ensures.runs fine)
       (c.containers-to.ensures.sees fine)).1;
   full = search rules;
@@ -71,7 +73,7 @@ returns-then-see_or_wait c = record {
   runs = λ fine.
       subst (λ (x : World). RunsHere FlowStep line (world c.args.tokenizer.now) c.containers-to.result x)
       (sym (c.if-see_or_wait.ensures.same refl))
-      (stood-leaves line (world c.args.tokenizer.now) line (world c.loop-to.tokenizer) c.containers-to.result
+      (is_valid-leaves line (world c.args.tokenizer.now) line (world c.loop-to.tokenizer) c.containers-to.result
       (world c.containers-to.new.tokenizer) c.loop-to.invariant (c.containers-to.ensures.runs fine)
       (c.containers-to.ensures.sees fine)).0;
   sees = search rules;

@@ -4,12 +4,12 @@ use Rattle.md_engine.specs.declared.state.State.TheVariants.{Next}
 use Rattle.md_engine.specs.Scheme.{work}
 use Rattle.md_engine.specs.World.{world}
 use Rattle.md_registry.specs.States.{flow_table_scheme}
-use Rattle.md_registry.proofs.GfmTable.Calls.{Stood}
+use Rattle.md_registry.proofs.GfmTable.Calls.{IsValid}
 use Rattle.md_at_once.proofs.at_once.lines.Given as goal
 
 abbrev pub invariant-loop-to : goal.invariant-loop-to
 invariant-loop-to l =
-    Stood (n.Document document.ContainerExistingBefore) (world l.initial.tokenizer)
+    IsValid (n.Document document.ContainerExistingBefore) (world l.initial.tokenizer)
     (n.Document document.ContainerExistingBefore) (world l.tokenizer)
 
 abbrev pub decreases-loop-to : goal.decreases-loop-to

@@ -5,14 +5,14 @@ use Rattle.md_engine.specs.declared.tokenizer.container.Container.{Container}
 use Rattle.md_engine.specs.declared.tokenizer.container.name.ContainerKind.{ContainerKind}
 use Rattle.md_engine.specs.declared.tokenizer.container.name.ContainerKind.TheVariants as kind
 use Rattle.md_engine.specs.World.{World, container_of, looks, world}
-use Rattle.md_engine.proofs.Loops.{CameHere, CameTo, came-first}
+use Rattle.md_engine.proofs.Loops.{ArrivedHere, ArrivedAt, arrived-first}
 use Rattle.md_engine.proofs.StayLemmas.{within-world}
 use Rattle.md_containers.specs.PlainBullet.{bulleted}
 use Rattle.md_containers.proofs.PlainBullet.{bullet-next}
 use Rattle.md_registry.specs.LineFlags.{asking}
 use Rattle.md_registry.specs.Registry.{opener_front, openers}
 use Rattle.md_registry.specs.States.{FlowStep}
-use Rattle.md_registry.proofs.LinesAtOnce.{ends-behind}
+use Rattle.md_registry.proofs.LinesAtOnce.{ends-following}
 use Rattle.md_registry.proofs.OpensAtOnce.{bullet-opens}
 use Rattle.md_tables.proofs.RowWords.{on-ok}
 use Rattle.md_at_once.proofs.at_once.opens_at_once.Goals as goal
@@ -28,15 +28,17 @@ returns-2 c = record {
       ∙ ap (λ (k : ContainerKind). asking (container_of k) w) c.plain_opener.ensures in
       let has_taken : is_ok c.take_plain_opening.result ≡ true = c.if-or_error.ensures.negation in
       let is : u ≡ bulleted (asking (container_of kind.ListItem) w) =
-      on-ok c.take_plain_opening.result (u ≡ bulleted (world c.ask.new.tokenizer)) has_taken c.take_plain_opening.ensures
+      on-ok c.take_plain_opening.result (u ≡ bulleted (world c.ask.new.tokenizer)) has_taken
+      c.take_plain_opening.ensures
       ∙ ap bulleted asks in
-      let came : CameHere FlowStep first w (n.Document document.ContainerNewAfter) u = λ is_end s v named from may.
-      subst (λ (x : World). CameTo FlowStep is_end s v (n.Document document.ContainerNewAfter) x) (sym is)
-      (bullet-opens is_end s v w (came-first FlowStep first w is_end s v named from may)
+      let arrived : ArrivedHere FlowStep first w (n.Document document.ContainerNewAfter) u =
+      λ is_end s v named from may.
+      subst (λ (x : World). ArrivedAt FlowStep is_end s v (n.Document document.ContainerNewAfter) x) (sym is)
+      (bullet-opens is_end s v w (arrived-first FlowStep first w is_end s v named from may)
       c.requires.at.current (within-world c.args.tokenizer.now) c.requires.plain) in
       let next = bullet-next w c.requires.plain in
-      (ends-behind first (n.Document document.ContainerNewAfter) w u c.container_new_after.result
-      (world c.container_new_after.new.tokenizer) came ((refl, refl), refl) (c.container_new_after.ensures.to fine)
+      (ends-following first (n.Document document.ContainerNewAfter) w u c.container_new_after.result
+      (world c.container_new_after.new.tokenizer) arrived ((refl, refl), refl) (c.container_new_after.ensures.to fine)
       (c.container_new_after.ensures.world fine) fine (subst (λ (x : World). x.current ≡ looks x) (sym is) refl)
       (within-world c.take_plain_opening.new.tokenizer)
       (inr (subst (λ (x : World). x.point.index < x.setting.limit) (sym is) next))).0;
@@ -49,15 +51,17 @@ returns-2 c = record {
       ∙ ap (λ (k : ContainerKind). asking (container_of k) w) c.plain_opener.ensures in
       let has_taken : is_ok c.take_plain_opening.result ≡ true = c.if-or_error.ensures.negation in
       let is : u ≡ bulleted (asking (container_of kind.ListItem) w) =
-      on-ok c.take_plain_opening.result (u ≡ bulleted (world c.ask.new.tokenizer)) has_taken c.take_plain_opening.ensures
+      on-ok c.take_plain_opening.result (u ≡ bulleted (world c.ask.new.tokenizer)) has_taken
+      c.take_plain_opening.ensures
       ∙ ap bulleted asks in
-      let came : CameHere FlowStep first w (n.Document document.ContainerNewAfter) u = λ is_end s v named from may.
-      subst (λ (x : World). CameTo FlowStep is_end s v (n.Document document.ContainerNewAfter) x) (sym is)
-      (bullet-opens is_end s v w (came-first FlowStep first w is_end s v named from may)
+      let arrived : ArrivedHere FlowStep first w (n.Document document.ContainerNewAfter) u =
+      λ is_end s v named from may.
+      subst (λ (x : World). ArrivedAt FlowStep is_end s v (n.Document document.ContainerNewAfter) x) (sym is)
+      (bullet-opens is_end s v w (arrived-first FlowStep first w is_end s v named from may)
       c.requires.at.current (within-world c.args.tokenizer.now) c.requires.plain) in
       let next = bullet-next w c.requires.plain in
-      (ends-behind first (n.Document document.ContainerNewAfter) w u c.container_new_after.result
-      (world c.container_new_after.new.tokenizer) came ((refl, refl), refl) (c.container_new_after.ensures.to fine)
+      (ends-following first (n.Document document.ContainerNewAfter) w u c.container_new_after.result
+      (world c.container_new_after.new.tokenizer) arrived ((refl, refl), refl) (c.container_new_after.ensures.to fine)
       (c.container_new_after.ensures.world fine) fine (subst (λ (x : World). x.current ≡ looks x) (sym is) refl)
       (within-world c.take_plain_opening.new.tokenizer)
       (inr (subst (λ (x : World). x.point.index < x.setting.limit) (sym is) next))).1;

@@ -7,30 +7,32 @@ use Rattle.md_engine.specs.declared.state.Name.{Name as StateName}
 use Rattle.md_engine.specs.declared.state.Name.TheVariants as n
 use Rattle.md_engine.specs.declared.state.flow.State.TheVariants as flow
 use Rattle.md_engine.specs.declared.state.heading_atx.State.TheVariants as heading
-use Rattle.md_engine.proofs.Loops.{CameHere, came-first, not_error}
+use Rattle.md_engine.proofs.Loops.{ArrivedHere, arrived-first, not_error}
 use Rattle.md_engine.proofs.StayLemmas.{within-world}
 use Rattle.md_engine.proofs.Walks.{Within}
 use Rattle.md_registry.specs.Flow.{start_transition}
 use Rattle.md_registry.specs.States.{FlowStep}
-use Rattle.md_registry.proofs.LinesAtOnce.{Goes, blank-leaves, content-follows, goes-through, leaves-once, runs-on}
-use Rattle.md_registry.proofs.LinesAtOnce.{start-leaves}
+use Rattle.md_registry.proofs.LinesAtOnce.{Proceeds, blank-leaves, content-follows, proceeds-through, leaves-once}
+use Rattle.md_registry.proofs.LinesAtOnce.{runs-on, start-leaves}
 use Rattle.md_at_once.proofs.at_once.rest_begins.Goals as goal
 
 starts : (w : World) (to : State) (new : World) → w.current ≡ looks w → Within w →
     (to ≢ Error → to ≡ (start_transition w).to) → (to ≢ Error → new ≡ (start_transition w).world) → to ≢ Error →
-    Goes (n.Flow flow.Start) w to new
+    Proceeds (n.Flow flow.Start) w to new
 starts w to new seen within to_is new_is fine =
     leaves-once (n.Flow flow.Start) w to new (start-leaves w) (to_is fine) (new_is fine) fine seen within
 
 pub returns-then-content_alone : goal.returns-then-content_alone
 returns-then-content_alone c =
     let w = world c.args.tokenizer.now in
-    let came : CameHere FlowStep (n.Flow flow.Start) w (n.Flow flow.BeforeContent) w = λ is_end s v named sees may.
+    let arrived : ArrivedHere FlowStep (n.Flow flow.Start) w (n.Flow flow.BeforeContent) w =
+    λ is_end s v named sees may.
     content-follows is_end s v w (sym c.content_alone.ensures ∙ c.if-content_alone.true) c.requires.current
-    (within-world c.args.tokenizer.now) (came-first FlowStep (n.Flow flow.Start) w is_end s v named sees may) in
+    (within-world c.args.tokenizer.now) (arrived-first FlowStep (n.Flow flow.Start) w is_end s v named sees may) in
     let all = λ (fine : c.content_begins.result ≢ Error).
     runs-on (n.Flow flow.Start) (n.Flow flow.BeforeContent) w w c.content_begins.result
-    (world c.content_begins.new.tokenizer) came (c.content_begins.ensures.runs fine) (c.content_begins.ensures.sees fine)
+    (world c.content_begins.new.tokenizer) arrived (c.content_begins.ensures.runs fine)
+    (c.content_begins.ensures.sees fine)
     c.requires.current (inl refl) in
     record { runs = λ fine. (all fine).0; sees = λ fine. (all fine).1 }
 
@@ -64,7 +66,8 @@ returns-then-may_be_blank c =
     let w = world c.args.tokenizer.now in
     let u = world c.start-state.new.tokenizer in
     let all = λ (fine : c.blank_line_before.result ≢ Error).
-    goes-through (n.Flow flow.Start) (n.Flow flow.BlankLineBefore) w u c.start-state.result c.blank_line_before.result
+    proceeds-through (n.Flow flow.Start) (n.Flow flow.BlankLineBefore) w u c.start-state.result
+    c.blank_line_before.result
     (world c.blank_line_before.new.tokenizer) c.requires.current (c.may_be_blank.ensures c.if-may_be_blank.true)
     (starts w _ u c.requires.current (within-world c.args.tokenizer.now) c.start-state.ensures.state.to
     c.start-state.ensures.state.world)
@@ -79,8 +82,9 @@ returns-then-is_heading c =
     let u = world c.start-state.new.tokenizer in
     let all = λ (fine : c.end.result ≢ Error).
     let begins : c.heading_begins-to.result ≢ Error = c.end.ensures.fine fine in
-    c.end.ensures.goes_on fine (n.Flow flow.Start) w c.requires.current
-    (goes-through (n.Flow flow.Start) (n.HeadingAtx heading.Start) w u c.start-state.result c.heading_begins-to.result
+    c.end.ensures.is_continued fine (n.Flow flow.Start) w c.requires.current
+    (proceeds-through (n.Flow flow.Start) (n.HeadingAtx heading.Start) w u c.start-state.result
+    c.heading_begins-to.result
     (world c.heading_begins-to.new.tokenizer) c.requires.current (c.is_heading.ensures c.if-is_heading.true)
     (starts w _ u c.requires.current (within-world c.args.tokenizer.now) c.start-state.ensures.state.to
     c.start-state.ensures.state.world)
@@ -90,5 +94,6 @@ returns-then-is_heading c =
 pub returns : goal.returns
 returns c =
     let all = starts (world c.args.tokenizer.now) c.start-state.result (world c.start-state.new.tokenizer)
-    c.requires.current (within-world c.args.tokenizer.now) c.start-state.ensures.state.to c.start-state.ensures.state.world in
+    c.requires.current (within-world c.args.tokenizer.now) c.start-state.ensures.state.to
+    c.start-state.ensures.state.world in
     record { runs = λ fine. (all fine).0; sees = λ fine. (all fine).1 }

@@ -5,7 +5,7 @@ use Rattle.md_engine.specs.declared.state.raw_flow.State.TheVariants as its
 use Rattle.md_engine.specs.declared.state.Name.TheVariants as n
 use Rattle.md_engine.specs.declared.state.State.TheVariants.{Error}
 use Rattle.md_engine.proofs.StayLemmas.{within-world}
-use Rattle.md_registry.proofs.LinesAtOnce.{Goes, goes-through, inside-leaves, leaves-once}
+use Rattle.md_registry.proofs.LinesAtOnce.{Proceeds, proceeds-through, inside-leaves, leaves-once}
 use Rattle.md_at_once.proofs.FenceLines.{still-seen}
 use Rattle.md_at_once.proofs.fences.by_states.Goals as goal
 
@@ -13,14 +13,15 @@ pub further-requires : goal.further-requires
 further-requires c =
     let w = world c.args.tokenizer.now in
     let u = world c.flow_inside-to.new.tokenizer in
-    let goes : c.flow_inside-to.result ≢ Error → Goes (n.Document document.FlowInside) w c.flow_inside-to.result u =
+    let proceeds : c.flow_inside-to.result ≢ Error → Proceeds (n.Document document.FlowInside) w
+    c.flow_inside-to.result u =
     λ fine. leaves-once (n.Document document.FlowInside) w c.flow_inside-to.result u (inside-leaves w)
     (c.flow_inside-to.ensures.to fine)
     (c.flow_inside-to.ensures.world fine) fine c.requires.current (within-world c.args.tokenizer.now) in
     record {
       current =
           still-seen (n.Document document.FlowInside) (n.RawFlow its.AtNonLazyBreak) w u c.flow_inside-to.result
-          (c.is_further.ensures c.if-is_further.true) goes;
+          (c.is_further.ensures c.if-is_further.true) proceeds;
       has = tt;
     }
 
@@ -28,14 +29,15 @@ pub returns-then-is_further : goal.returns-then-is_further
 returns-then-is_further c =
     let w = world c.args.tokenizer.now in
     let u = world c.flow_inside-to.new.tokenizer in
-    let goes : c.flow_inside-to.result ≢ Error → Goes (n.Document document.FlowInside) w c.flow_inside-to.result u =
+    let proceeds : c.flow_inside-to.result ≢ Error → Proceeds (n.Document document.FlowInside) w
+    c.flow_inside-to.result u =
     λ fine. leaves-once (n.Document document.FlowInside) w c.flow_inside-to.result u (inside-leaves w)
     (c.flow_inside-to.ensures.to fine)
     (c.flow_inside-to.ensures.world fine) fine c.requires.current (within-world c.args.tokenizer.now) in
     let all = λ (fine : c.further.result ≢ Error).
-    goes-through (n.Document document.FlowInside) (n.RawFlow its.AtNonLazyBreak) w u c.flow_inside-to.result
+    proceeds-through (n.Document document.FlowInside) (n.RawFlow its.AtNonLazyBreak) w u c.flow_inside-to.result
     c.further.result (world c.further.new.tokenizer)
-    c.requires.current (c.is_further.ensures c.if-is_further.true) goes
+    c.requires.current (c.is_further.ensures c.if-is_further.true) proceeds
     (λ saw. (c.further.ensures.runs fine, c.further.ensures.sees fine)) in
     record { runs = λ fine. (all fine).0; sees = λ fine. (all fine).1 }
 
@@ -43,8 +45,9 @@ pub returns : goal.returns
 returns c =
     let w = world c.args.tokenizer.now in
     let u = world c.flow_inside-to.new.tokenizer in
-    let goes : c.flow_inside-to.result ≢ Error → Goes (n.Document document.FlowInside) w c.flow_inside-to.result u =
+    let proceeds : c.flow_inside-to.result ≢ Error → Proceeds (n.Document document.FlowInside) w
+    c.flow_inside-to.result u =
     λ fine. leaves-once (n.Document document.FlowInside) w c.flow_inside-to.result u (inside-leaves w)
     (c.flow_inside-to.ensures.to fine)
     (c.flow_inside-to.ensures.world fine) fine c.requires.current (within-world c.args.tokenizer.now) in
-    record { runs = λ fine. (goes fine).0; sees = λ fine. (goes fine).1 }
+    record { runs = λ fine. (proceeds fine).0; sees = λ fine. (proceeds fine).1 }

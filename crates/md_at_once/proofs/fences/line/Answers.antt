@@ -9,6 +9,6 @@ pub returns : goal.returns
 returns c =
     let all = λ (fine : c.end.result ≢ Error).
     let first = c.end.ensures.fine fine in
-    c.end.ensures.goes_on fine (n.RawFlow its.ContentStart) (world c.args.tokenizer.now) c.requires.current
+    c.end.ensures.is_continued fine (n.RawFlow its.ContentStart) (world c.args.tokenizer.now) c.requires.current
     (c.taken-to.ensures.runs first, c.taken-to.ensures.sees first) in
     record { runs = λ fine. (all fine).0; sees = λ fine. (all fine).1 }

@@ -4,7 +4,7 @@ use Rattle.md_engine.specs.declared.state.raw_flow.State.TheVariants as its
 use Rattle.md_engine.specs.declared.state.Name.TheVariants as n
 use Rattle.md_engine.specs.declared.state.State.TheVariants.{Error}
 use Rattle.md_engine.proofs.StayLemmas.{within-world}
-use Rattle.md_registry.proofs.LinesAtOnce.{Goes, goes-through}
+use Rattle.md_registry.proofs.LinesAtOnce.{Proceeds, proceeds-through}
 use Rattle.md_at_once.proofs.FenceLines.{breaks, still-seen}
 use Rattle.md_at_once.proofs.fences.tried.Goals as goal
 
@@ -12,14 +12,14 @@ pub line-requires : goal.line-requires
 line-requires c =
     let w = world c.args.tokenizer.now in
     let u = world c.at_non_lazy_break-to.new.tokenizer in
-    let goes : c.at_non_lazy_break-to.result ≢ Error → Goes (n.RawFlow its.AtNonLazyBreak) w
+    let proceeds : c.at_non_lazy_break-to.result ≢ Error → Proceeds (n.RawFlow its.AtNonLazyBreak) w
     c.at_non_lazy_break-to.result u =
     breaks w c.at_non_lazy_break-to.result u c.requires.current (within-world c.args.tokenizer.now)
     c.at_non_lazy_break-to.ensures.to c.at_non_lazy_break-to.ensures.world in
     record {
       current =
           still-seen (n.RawFlow its.AtNonLazyBreak) (n.RawFlow its.ContentStart) w u c.at_non_lazy_break-to.result
-          (c.is_start.ensures c.if-is_start.true) goes;
+          (c.is_start.ensures c.if-is_start.true) proceeds;
       has = tt;
     }
 
@@ -27,14 +27,14 @@ pub returns-then-is_start : goal.returns-then-is_start
 returns-then-is_start c =
     let w = world c.args.tokenizer.now in
     let u = world c.at_non_lazy_break-to.new.tokenizer in
-    let goes : c.at_non_lazy_break-to.result ≢ Error → Goes (n.RawFlow its.AtNonLazyBreak) w
+    let proceeds : c.at_non_lazy_break-to.result ≢ Error → Proceeds (n.RawFlow its.AtNonLazyBreak) w
     c.at_non_lazy_break-to.result u =
     breaks w c.at_non_lazy_break-to.result u c.requires.current (within-world c.args.tokenizer.now)
     c.at_non_lazy_break-to.ensures.to c.at_non_lazy_break-to.ensures.world in
     let all = λ (fine : c.line.result ≢ Error).
-    goes-through (n.RawFlow its.AtNonLazyBreak) (n.RawFlow its.ContentStart) w u c.at_non_lazy_break-to.result
+    proceeds-through (n.RawFlow its.AtNonLazyBreak) (n.RawFlow its.ContentStart) w u c.at_non_lazy_break-to.result
     c.line.result (world c.line.new.tokenizer)
-    c.requires.current (c.is_start.ensures c.if-is_start.true) goes
+    c.requires.current (c.is_start.ensures c.if-is_start.true) proceeds
     (λ saw. (c.line.ensures.runs fine, c.line.ensures.sees fine)) in
     record { runs = λ fine. (all fine).0; sees = λ fine. (all fine).1 }
 
@@ -42,8 +42,8 @@ pub returns : goal.returns
 returns c =
     let w = world c.args.tokenizer.now in
     let u = world c.at_non_lazy_break-to.new.tokenizer in
-    let goes : c.at_non_lazy_break-to.result ≢ Error → Goes (n.RawFlow its.AtNonLazyBreak) w
+    let proceeds : c.at_non_lazy_break-to.result ≢ Error → Proceeds (n.RawFlow its.AtNonLazyBreak) w
     c.at_non_lazy_break-to.result u =
     breaks w c.at_non_lazy_break-to.result u c.requires.current (within-world c.args.tokenizer.now)
     c.at_non_lazy_break-to.ensures.to c.at_non_lazy_break-to.ensures.world in
-    record { runs = λ fine. (goes fine).0; sees = λ fine. (goes fine).1 }
+    record { runs = λ fine. (proceeds fine).0; sees = λ fine. (proceeds fine).1 }

@@ -2,7 +2,7 @@ use Rattle.std.proofs.Common.{◌≡◌, ap, inl, is_ok, subst, sym, true, rules
 use Rattle.md_engine.specs.World.{World, looks, world}
 use Rattle.md_engine.specs.declared.state.raw_flow.State.TheVariants as its
 use Rattle.md_engine.specs.declared.state.Name.TheVariants as n
-use Rattle.md_engine.proofs.Loops.{CameHere, CameTo, came-first}
+use Rattle.md_engine.proofs.Loops.{ArrivedHere, ArrivedAt, arrived-first}
 use Rattle.md_engine.proofs.StayLemmas.{within-world}
 use Rattle.md_registry.specs.States.{FlowStep}
 use Rattle.md_registry.proofs.LinesAtOnce.{runs-on}
@@ -21,11 +21,11 @@ returns-2 c = record {
       let has_begun : is_ok c.begin_unclosed.result ≡ true = c.if-or_error.ensures.negation in
       let begun : u ≡ unclosed w =
       on-ok c.begin_unclosed.result (u ≡ unclosed w) has_begun c.begin_unclosed.ensures in
-      let came : CameHere FlowStep first w next u = λ is_end s v named sees may.
-      subst (λ (x : World). CameTo FlowStep is_end s v next x) (sym begun)
+      let arrived : ArrivedHere FlowStep first w next u = λ is_end s v named sees may.
+      subst (λ (x : World). ArrivedAt FlowStep is_end s v next x) (sym begun)
       (closes-none is_end s v w c.requires.none c.requires.at.current (within-world c.args.tokenizer.now)
-      (came-first FlowStep first w is_end s v named sees may)) in
-      (runs-on first next w u c.line.result (world c.line.new.tokenizer) came (c.line.ensures.runs fine)
+      (arrived-first FlowStep first w is_end s v named sees may)) in
+      (runs-on first next w u c.line.result (world c.line.new.tokenizer) arrived (c.line.ensures.runs fine)
       (c.line.ensures.sees fine) (subst (λ (x : World). x.current ≡ looks x) (sym begun) c.requires.at.current)
       (inl (ap (λ (x : World). x.point) begun))).0;
   sees = search rules;

@@ -65,7 +65,7 @@ returns-2 c = record {
       whole-ends w u x c.line_end.result (world c.line_end.new.tokenizer) c.requires.whole c.requires.at.current
       (within-world c.args.tokenizer.now)
       (subst (λ (q : World). SeesAll Line q u) c.settle.ensures c.see_line.ensures)
-      (ahead (c.if-see_or_wait.ensures.goes_on refl)) new (c.line_end.ensures.runs fine);
+      (ahead (c.if-see_or_wait.ensures.is_continued refl)) new (c.line_end.ensures.runs fine);
   sees = search rules;
   full = search rules;
 }

@@ -15,7 +15,8 @@ returns-in-ContinuationClose c =
     let w' = world c.rest_done.new.tokenizer in
     record {
       runs = λ fine.
-          subst (λ (x : HtmlState). RunsHere FlowStep (n.HtmlFlow x) w c.rest_done.result w') (sym c.in-ContinuationClose.is)
+          subst (λ (x : HtmlState). RunsHere FlowStep (n.HtmlFlow x) w c.rest_done.result w')
+          (sym c.in-ContinuationClose.is)
           (c.rest_done.ensures.runs fine);
       sees = c.rest_done.ensures.sees;
     }
@@ -35,6 +36,6 @@ pub returns-in_default : goal.returns-in_default
 returns-in_default c =
     let once = λ (fine : c.call.result ≢ Error).
     called-once (n.HtmlFlow c.args.state) (world c.args.tokenizer.now) c.call.result (world c.call.new.tokenizer)
-    c.requires.current c.requires.stands (within-world c.args.tokenizer.now) fine (c.call.ensures.to fine)
+    c.requires.current c.requires.valid (within-world c.args.tokenizer.now) fine (c.call.ensures.to fine)
     (c.call.ensures.world fine) in
     record { runs = λ fine. (once fine).0; sees = λ fine. (once fine).1 }

@@ -25,4 +25,4 @@ returns-else-see_or_wait-clause-some c =
     subst (AnswersWith c.args.to (n.HtmlFlow c.in-Some.next) (world c.args.tokenizer.now))
     (sym (c.if-see_or_wait.ensures.sees refl))
     (ThatTook (c.in-Next.is ∙ ap (λ (x : StateName). Next x) c.in-Some.ensures)
-    (ahead (c.if-see_or_wait.ensures.goes_on refl)))
+    (ahead (c.if-see_or_wait.ensures.is_continued refl)))

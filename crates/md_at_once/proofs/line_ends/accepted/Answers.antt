@@ -19,5 +19,5 @@ pub returns-else-see_or_wait-clause-runs : goal.returns-else-see_or_wait-clause-
 returns-else-see_or_wait-clause-runs c = λ fine.
     end-runs c.args.shuts (world c.args.tokenizer.now) (world c.leave.new.tokenizer) (world c.see_or_wait.new.self)
     c.in-Some.next c.line_ends.result (world c.line_ends.new.tokenizer) c.requires
-    c.in-Some.ensures.leaves (c.if-see_or_wait.ensures.sees refl) (ahead (c.if-see_or_wait.ensures.goes_on refl))
+    c.in-Some.ensures.leaves (c.if-see_or_wait.ensures.sees refl) (ahead (c.if-see_or_wait.ensures.is_continued refl))
     (c.line_ends.ensures.runs fine)

@@ -3,7 +3,7 @@ use Rattle.md_engine.specs.World.{World, looks, world}
 use Rattle.md_engine.specs.declared.state.document.State.TheVariants as document
 use Rattle.md_engine.specs.declared.state.flow.State.TheVariants as flow
 use Rattle.md_engine.specs.declared.state.Name.TheVariants as n
-use Rattle.md_engine.proofs.Loops.{CameHere, came-first}
+use Rattle.md_engine.proofs.Loops.{ArrivedHere, arrived-first}
 use Rattle.md_engine.proofs.StayLemmas.{within-world}
 use Rattle.md_engine.proofs.Walks.{then-stays}
 use Rattle.md_registry.specs.LineFlags.{shut_leaf}
@@ -19,15 +19,17 @@ returns-clause-runs c = λ fine.
     let u = world c.leaf_after.new.tokenizer in
     let same : u ≡ record w { flags = shut_leaf w.flags } = c.leaf_after.ensures.world in
     let seen : u.current ≡ looks u = subst (λ (x : World). x.current ≡ looks x) (sym same) c.requires.current in
-    let came : CameHere T (n.Flow flow.LeafAfter) w (n.Document document.FlowEnd) u =
+    let arrived : ArrivedHere T (n.Flow flow.LeafAfter) w (n.Document document.FlowEnd) u =
     λ is_end s z named from may.
     then-stays T is_end s z (n.Flow flow.LeafAfter) (n.Document document.FlowEnd) w u
-    (came-first T (n.Flow flow.LeafAfter) w is_end s z named from may) (record { to_is = refl; new_is = same })
+    (arrived-first T (n.Flow flow.LeafAfter) w is_end s z named from may) (record { to_is = refl; new_is = same })
     (ap (λ (x : World). x.setting) same) (within-world c.args.tokenizer.now) (ap (λ (x : World). x.point) same) seen in
     (ends-with (n.Flow flow.LeafAfter) (n.Document document.FlowEnd) w u c.flow_end.result
-    (world c.flow_end.new.tokenizer) came (line-leaves u) (c.flow_end.ensures.to fine) (c.flow_end.ensures.world fine)
+    (world c.flow_end.new.tokenizer) arrived (line-leaves u) (c.flow_end.ensures.to fine)
+    (c.flow_end.ensures.world fine)
     fine seen (within-world c.leaf_after.new.tokenizer) (ap (λ (x : World). x.point) same)).0
 
 pub returns-clause-sees : goal.returns-clause-sees
 returns-clause-sees c = λ fine from.
-    end-sees (world c.leaf_after.new.tokenizer) c.flow_end.result (c.flow_end.ensures.to fine) from (world c.flow_end.new.tokenizer)
+    end-sees (world c.leaf_after.new.tokenizer) c.flow_end.result (c.flow_end.ensures.to fine) from
+    (world c.flow_end.new.tokenizer)

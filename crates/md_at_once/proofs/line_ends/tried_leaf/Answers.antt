@@ -7,5 +7,5 @@ returns-else-frame c =
     let fs = c.args.tokenizer.now.frames.items in
     let got : slice_get fs (length fs - 1) ≡ Some c.in-Some.frame.now =
     rw c.deref.ensures.value at (sym c.in-Some.ensures.value) in
-    innermost-tried c.args.tokenizer.now c.in-Some.frame.now c.behind_leaf.result got c.if-frame.false
-    c.behind_leaf.ensures
+    innermost-tried c.args.tokenizer.now c.in-Some.frame.now c.following_leaf.result got c.if-frame.false
+    c.following_leaf.ensures

@@ -5,7 +5,7 @@ use Rattle.md_engine.specs.Place.{IsPlaced}
 use Rattle.md_engine.specs.World.{setting_of, world}
 use Rattle.md_engine.proofs.Sound.{sound-moved}
 use Rattle.md_engine.proofs.Sound.{sound-put}
-use Rattle.md_containers.proofs.Ahead.{StandsAhead}
+use Rattle.md_containers.proofs.Ahead.{TwoAhead}
 use Rattle.md_containers.proofs.QuotePrefix.{prefix-ahead}
 use Rattle.md_containers.proofs.block_quote.take_plain_prefix.Goals as goal
 
@@ -14,7 +14,7 @@ invariant_of-tokenizer c =
     let t = c.args.tokenizer.now in
     let P : Event → Type 0 = λ e. IsPlaced t.bytes.now e.point in
     let Q : Point → Type 0 = λ p. IsPlaced t.bytes.now p in
-    let at : StandsAhead (setting_of t) t.point =
+    let at : TwoAhead (setting_of t) t.point =
     prefix-ahead (world t) c.requires t.sound.placed t.sound.readable in
     let marked : IsPlaced t.bytes.now c.ahead-marked.result = subst Q (sym c.ahead-marked.ensures) at.placed_one in
     let to : IsPlaced t.bytes.now c.ahead-to.result = subst Q (sym c.ahead-to.ensures) at.placed_two in

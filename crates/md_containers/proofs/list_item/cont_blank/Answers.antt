@@ -21,17 +21,20 @@ gone-on w (suc more) lt = refl
 
 pub returns-then-tokenizer-gt0 : goal.returns-then-tokenizer-gt0
 returns-then-tokenizer-gt0 c =
-    state-is _ _ _ _ _ (item_rule its.ContBlank (world c.args.tokenizer.now) _ _) (λ fine. (c.go_on_indent.ensures.to fine
+    state-is _ _ _ _ _ (item_rule its.ContBlank (world c.args.tokenizer.now) _ _)
+    (λ fine. (c.proceed_in_indent.ensures.to fine
     ∙ ap (λ (t : Transition). t.to)
     (gone-on (world c.args.tokenizer.now) c.args.tokenizer.now.scratch.whitespace.max c.if-tokenizer-gt0.true)))
     (λ fine.
-    c.go_on_indent.ensures.world fine
+    c.proceed_in_indent.ensures.world fine
     ∙ ap (λ (t : Transition). t.world)
-    (gone-on (world c.args.tokenizer.now) c.args.tokenizer.now.scratch.whitespace.max c.if-tokenizer-gt0.true)) (search rules)
+    (gone-on (world c.args.tokenizer.now) c.args.tokenizer.now.scratch.whitespace.max c.if-tokenizer-gt0.true))
+    (search rules)
 
 pub returns-then-tokenizer : goal.returns-then-tokenizer
 returns-then-tokenizer c =
-    state-is _ _ _ _ _ (item_rule its.ContBlank (world c.args.tokenizer.now) _ _) (λ fine. (ap (λ (t : Transition). t.to)
+    state-is _ _ _ _ _ (item_rule its.ContBlank (world c.args.tokenizer.now) _ _)
+    (λ fine. (ap (λ (t : Transition). t.to)
     (started-blank (world c.args.tokenizer.now) c.args.tokenizer.now.scratch.whitespace.max
     (omega (arith, c.if-tokenizer-gt0.false)) c.if-tokenizer.true)))
     (λ fine.

@@ -21,13 +21,15 @@ begun w (suc more) min e same = absurd (omega (arith, e))
 
 pub returns-then-tokenizer-gt0 : goal.returns-then-tokenizer-gt0
 returns-then-tokenizer-gt0 c =
-    state-is _ _ _ _ _ (item_rule its.ContFilled (world c.args.tokenizer.now) _ _) (λ fine. (c.go_on_indent.ensures.to fine
+    state-is _ _ _ _ _ (item_rule its.ContFilled (world c.args.tokenizer.now) _ _)
+    (λ fine. (c.proceed_in_indent.ensures.to fine
     ∙ ap (λ (t : Transition). t.to)
     (gone-on (world c.args.tokenizer.now) c.args.tokenizer.now.scratch.whitespace.max c.if-tokenizer-gt0.true)))
     (λ fine.
-    c.go_on_indent.ensures.world fine
+    c.proceed_in_indent.ensures.world fine
     ∙ ap (λ (t : Transition). t.world)
-    (gone-on (world c.args.tokenizer.now) c.args.tokenizer.now.scratch.whitespace.max c.if-tokenizer-gt0.true)) (search rules)
+    (gone-on (world c.args.tokenizer.now) c.args.tokenizer.now.scratch.whitespace.max c.if-tokenizer-gt0.true))
+    (search rules)
 
 pub returns-else-tokenizer-gt0 : goal.returns-else-tokenizer-gt0
 returns-else-tokenizer-gt0 c = record {

@@ -4,7 +4,7 @@ use Rattle.std.specs.Prelude.{string_bytes}
 use Rattle.md_engine.specs.declared.event.Event.{Event}
 use Rattle.md_content.specs.Labels.{labels_in}
 use Rattle.md_content.specs.Resolves.{has_neither, is_all_read}
-use Rattle.md_content.proofs.FoundLemmas.{found-behind}
+use Rattle.md_content.proofs.FoundLemmas.{found-following}
 use Rattle.md_events.proofs.SubstitutedLemmas.{to-end}
 use Rattle.md_content.proofs.content.found_among.Goals as goal
 
@@ -18,4 +18,4 @@ returns c =
     let labels : map string_bytes c.in_ok-labels.field-0.items ≡
     labels_in c.args.bytes.now (drop (prefix_len has_neither events) events) =
     rw left at c.in_ok-labels.ensures in
-    found-behind c.args.bytes.now events c.is_done.result _ _ done labels (ap (map string_bytes) c.new.ensures.items)
+    found-following c.args.bytes.now events c.is_done.result _ _ done labels (ap (map string_bytes) c.new.ensures.items)

@@ -27,16 +27,16 @@ unset = record {
   link = None;
 }
 
-pub loop-behind-preserved : goal.loop-behind-preserved
-loop-behind-preserved c =
+pub loop-following-preserved : goal.loop-following-preserved
+loop-following-preserved c =
     let events : List Event = c.args.events.now in
-    let at : ℕ = c.loop-behind.at in
-    let behind : ℕ = c.in-Some.behind in
-    let next : ℕ = at + 1 + behind in
-    let inv = c.loop-behind.invariant in
+    let at : ℕ = c.loop-following.at in
+    let following : ℕ = c.in-Some.following in
+    let next : ℕ = at + 1 + following in
+    let inv = c.loop-following.invariant in
     let line = rw (to-end events (at + 1)) at c.in-Some.ensures.line in
     let begins : begins_chunk (drop next events) ≡ true =
-    ap begins_chunk (sym (drop-drop behind (at + 1) events))
+    ap begins_chunk (sym (drop-drop following (at + 1) events))
     ∙ (rw (to-end events (at + 1)) at c.in-Some.ensures.begins) in
     let e : Event = get_or events next unset in
     let f : Event = get_or events (next + 1) unset in
@@ -46,36 +46,36 @@ loop-behind-preserved c =
     ∙ sym c.is_followed.ensures ∙ c.if-not-is_followed.false in
     record {
       begins = begins;
-      lines = counts-more events at behind next c.loop-behind.more inv.begins line.1 line.0 refl inv.lines;
+      lines = counts-more events at following next c.loop-following.more inv.begins line.1 line.0 refl inv.lines;
       whole =
-          whole-more events at behind next unset f.point inv.begins begins line.1 line.0 refl follows ∙ inv.whole;
+          whole-more events at following next unset f.point inv.begins begins line.1 line.0 refl follows ∙ inv.whole;
       few = omega (arith, inv.few);
     }
 
 pub ends_part-requires : goal.ends_part-requires
 ends_part-requires c =
     let events : List Event = c.args.events.now in
-    let at : ℕ = c.loop-behind.at in
+    let at : ℕ = c.loop-following.at in
     rw (to-end events (at + 1))
     (omega (
       arith,
       length-drop (at + 1) events,
       length-drop at events,
-      two-first (drop at events) c.loop-behind.invariant.begins,
+      two-first (drop at events) c.loop-following.invariant.begins,
     ))
 
 pub bounds-events-at-else-not-ends_part-2 : goal.bounds-events-at-else-not-ends_part-2
 bounds-events-at-else-not-ends_part-2 c =
     let events : List Event = c.args.events.now in
-    let at : ℕ = c.loop-behind.at in
-    omega (arith, length-drop at events, two-first (drop at events) c.loop-behind.invariant.begins)
+    let at : ℕ = c.loop-following.at in
+    omega (arith, length-drop at events, two-first (drop at events) c.loop-following.invariant.begins)
 
 pub bounds-events-last : goal.bounds-events-last
 bounds-events-last c =
     let events : List Event = c.args.events.now in
-    let at : ℕ = c.loop-behind.at in
-    let more : ℕ = c.loop-behind.more in
-    let inv = c.loop-behind.invariant in
+    let at : ℕ = c.loop-following.at in
+    let more : ℕ = c.loop-following.more in
+    let inv = c.loop-following.invariant in
     let alone : joined_with (drop (at + 1) events) ≡ 0 =
     rw (to-end events (at + 1)) at (c.ends_part.ensures.alone c.if-not-ends_part.false) in
     let none : lines_from (drop 1 (drop (at + 1) events)) ≡ [] =
@@ -92,9 +92,9 @@ bounds-events-last c =
 pub may_define_at-requires : goal.may_define_at-requires
 may_define_at-requires c =
     let events : List Event = c.args.events.now in
-    let at : ℕ = c.loop-behind.at in
-    let more : ℕ = c.loop-behind.more in
-    let inv = c.loop-behind.invariant in
+    let at : ℕ = c.loop-following.at in
+    let more : ℕ = c.loop-following.more in
+    let inv = c.loop-following.invariant in
     let alone : joined_with (drop (at + 1) events) ≡ 0 =
     rw (to-end events (at + 1)) at (c.ends_part.ensures.alone c.if-not-ends_part.false) in
     let none : lines_from (drop 1 (drop (at + 1) events)) ≡ [] =
@@ -117,9 +117,9 @@ pub returns : goal.returns
 returns c =
     let bytes : List ℕ = c.args.bytes.now in
     let events : List Event = c.args.events.now in
-    let at : ℕ = c.loop-behind.at in
-    let more : ℕ = c.loop-behind.more in
-    let inv = c.loop-behind.invariant in
+    let at : ℕ = c.loop-following.at in
+    let more : ℕ = c.loop-following.more in
+    let inv = c.loop-following.invariant in
     let alone : joined_with (drop (at + 1) events) ≡ 0 =
     rw (to-end events (at + 1)) at (c.ends_part.ensures.alone c.if-not-ends_part.false) in
     let none : lines_from (drop 1 (drop (at + 1) events)) ≡ [] =

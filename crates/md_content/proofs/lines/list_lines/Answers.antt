@@ -1,4 +1,5 @@
-use Rattle.std.proofs.Common.{◌≡◌, ◌+◌, ◌<◌, ◌∙◌, ◌++◌, List, ap, arith, drop, false, length, length-drop, refl, sym, true}
+use Rattle.std.proofs.Common.{◌≡◌, ◌+◌, ◌<◌, ◌∙◌, ◌++◌, List, ap, arith, drop, false, length, length-drop, refl, sym}
+use Rattle.std.proofs.Common.{true}
 use Rattle.std.specs.Prelude.{None}
 use Rattle.std.proofs.lemmas.List.{append-nil}
 use Rattle.md_engine.specs.declared.event.Event.{Event}
@@ -32,7 +33,8 @@ loop-at-preserved-then-begins_chunk c =
     record {
       within = omega (arith, low, length-drop (at + 1) events);
       chunks =
-          lines-more events at with (at + 1 + with) unset c.loop-at.chunks.items c.push_chunk.new.chunks.items _ begins is
+          lines-more events at with (at + 1 + with) unset c.loop-at.chunks.items
+          c.push_chunk.new.chunks.items _ begins is
           refl c.in_ok-push_chunk.ensures c.loop-at.invariant.chunks;
     }
 

@@ -55,7 +55,7 @@ loop-more-init c =
       fewer =
           subst (λ (l : List Event). length l < length rest) (sym next)
           (fewer-left rest (joined_with (drop 1 rest)) (begins c.args.further rest c.requires));
-      behind = λ bytes options events is reached.
+      following = λ bytes options events is reached.
           paragraph-first bytes options events (given_of old) rest (given_of all) (left_of all) c.args.further line
           unset is reached lines next given;
     }
@@ -97,9 +97,9 @@ loop-more-preserved c =
           subst (λ (l : List Event). length l < length now) (sym next)
           (fewer-left now (joined_with (drop 1 now)) (begins more now has)) in
           omega (arith, size, length-drop n rest, inv.fewer);
-      behind = λ bytes options events is reached.
+      following = λ bytes options events is reached.
           paragraph-more bytes options events (given_of old) rest (given_of all) (left_of all) c.loop-more.line.after
-          more line unset (inv.behind bytes options events is reached) has lines next given;
+          more line unset (inv.following bytes options events is reached) has lines next given;
     }
 
 pub take_line-line-requires-in-loop-more : goal.take_line-line-requires-in-loop-more
@@ -127,7 +127,7 @@ returns-clause-given c =
     (GivesParagraph c.args.further (given_of c.args.all.now) (left_of c.args.all.now) (given_of all) (left_of all))
     (λ put bytes options events is reached.
     paragraph-all bytes options events (given_of old) (left_of old) (given_of all) (left_of all) after
-    (inv.behind bytes options events is reached) ended c.put_paragraph_event-2.ensures.left
+    (inv.following bytes options events is reached) ended c.put_paragraph_event-2.ensures.left
     (given-end (written_of old) (held_of old) (written_of all) (held_of all) (exit Paragraph after) put
     c.put_paragraph_event-2.ensures.held inv.held)) c.put_paragraph_event-2.ensures.written
   where

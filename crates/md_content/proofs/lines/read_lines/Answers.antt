@@ -1,5 +1,5 @@
-use Rattle.std.proofs.Common.{◌≡◌, ◌<◌, ◌+◌, ◌++◌, ◌∙◌, ◌∷◌, ℕ, List, [], append-nil, append_assoc, ap, arith, drop, false}
-use Rattle.std.proofs.Common.{get_or, length, refl, subst, suc, sym, take, true}
+use Rattle.std.proofs.Common.{◌≡◌, ◌<◌, ◌+◌, ◌++◌, ◌∙◌, ◌∷◌, ℕ, List, [], append-nil, append_assoc, ap, arith, drop}
+use Rattle.std.proofs.Common.{false, get_or, length, refl, subst, suc, sym, take, true}
 use Rattle.std.specs.List.{prefix_len}
 use Rattle.std.specs.Prelude.{None}
 use Rattle.std.proofs.lemmas.List.{take_rest}
@@ -97,7 +97,7 @@ loop-event-preserved-in-Continue-branch-3 c =
     let given = ap (λ (l : List Event). written_of all ++ l) (c.place.ensures.held ∙ c.skip.ensures.held)
     ∙ append-nil (written_of all)
     ∙ (rw (c.skip.ensures.written, c.left-then-begins_chunk-3.ensures) at place.placed) in
-    let behind = rw c.left-then-begins_chunk-3.ensures at place.left in
+    let following = rw c.left-then-begins_chunk-3.ensures at place.left in
     record {
       given = placed-place text (given_of c.loop-event.all) (given_of all) _ _ _ given inv.given read.placed;
       left =
@@ -111,7 +111,7 @@ loop-event-preserved-in-Continue-branch-3 c =
           (drop c.place.new.self.placed c.place.new.self.events.items) c.place.new.self.chunks (joined l)
           (given_of all)) (sym left)
           (leads-line text options (joined c.args.events.items) rest _ _ _ (given_of c.loop-event.all) (given_of all)
-          _ _ _ with (1 + with) unset begins is refl begun place.chunks given behind inv.substituted);
+          _ _ _ with (1 + with) unset begins is refl begun place.chunks given following inv.substituted);
     }
 
 pub loop-event-preserved-in-Continue-branch-4 : goal.loop-event-preserved-in-Continue-branch-4

@@ -11,7 +11,8 @@ invariant-loop-event l = record {
   given : ArePlaced l.reader.bytes.now (given_of l.all);
   left : ArePlaced l.reader.bytes.now (left_of l.all);
   found : ArePlaced l.reader.bytes.now l.found.events.items;
-  substituted : Leads wants_content (content_readings l.reader.bytes.now l.reader.options.now) (joined l.fn.events.items)
+  substituted : Leads wants_content (content_readings l.reader.bytes.now l.reader.options.now)
+      (joined l.fn.events.items)
       (drop l.found.placed l.found.events.items) l.found.chunks (joined (left_of l.all)) (given_of l.all);
 }
 

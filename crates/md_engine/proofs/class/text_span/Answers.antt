@@ -17,10 +17,10 @@ is-text b h =
     rw (lf, cr, tab) refl
 
 -- bytes of text and the span after them are one span
-span-behind : (bytes : List ℕ) (at n : ℕ) → at ≤ length bytes →
+span-following : (bytes : List ℕ) (at n : ℕ) → at ≤ length bytes →
     ((k : ℕ) → k < at → has Text (slice_index bytes k) ≡ true) → IsSpan Text (drop at bytes) n →
     IsSpan Text bytes (at + n)
-span-behind bytes at n le before span = record {
+span-following bytes at n le before span = record {
   within = let size = length-drop at bytes in omega (arith, size, span.within);
   each = λ k lt. go k lt (nat_lt k at) refl;
   ends =
@@ -41,6 +41,6 @@ rest bytes at = take_all (length bytes - at) (drop at bytes) (let size = length-
 
 pub returns : goal.returns
 returns c =
-    span-behind c.args.bytes.now c.above_cr_len-at.result c.count.result c.above_cr_len-at.ensures.bound
+    span-following c.args.bytes.now c.above_cr_len-at.result c.count.result c.above_cr_len-at.ensures.bound
     (λ k lt. is-text _ (prefix_len_passes (nat_lt 13) c.args.bytes.now k 0 (rw (← c.above_cr_len-at.ensures.value) lt)))
     (rw rest at c.count.ensures)

@@ -3,16 +3,16 @@ use Rattle.md_engine.specs.declared.state.State.{State}
 use Rattle.md_engine.specs.declared.state.State.TheVariants.{Error, Next, Retry}
 use Rattle.md_engine.specs.Going.{SeesOn}
 use Rattle.md_engine.specs.Run.{RunsHere, plain}
-use Rattle.md_engine.specs.Scheme.{stands, work}
+use Rattle.md_engine.specs.Scheme.{valid, work}
 use Rattle.md_engine.specs.World.{World, world}
-use Rattle.md_engine.proofs.Loops.{came-first, came-runs, came-stays, not_error}
+use Rattle.md_engine.proofs.Loops.{arrived-first, arrived-runs, arrived-stays, not_error}
 use Rattle.md_engine.proofs.table.call_here.Goals as goal
 
 pub loop-next-init : goal.loop-next-init
 loop-next-init g c = record {
   current = c.requires.current;
-  stands = c.requires.stands;
-  came = came-first g.T.Table.step c.args.first (world c.args.tokenizer.now);
+  valid = c.requires.valid;
+  arrived = arrived-first g.T.Table.step c.args.first (world c.args.tokenizer.now);
   falls = omega arith;
   setting = refl;
 }
@@ -27,7 +27,7 @@ loop-next-preserved g c =
     let old : World = world c.loop-next.tokenizer in
     let new : World = world c.call.new.tokenizer in
     let P : State → Type 0 = λ s. SeesOn s old new in
-    let Q : State → Type 0 = λ s. stands S new (plain s) in
+    let Q : State → Type 0 = λ s. valid S new (plain s) in
     let R : State → Type 0 = λ s. work S new (plain s) < work S old (Next c.loop-next.name) in
     let V : State → Type 0 = λ s. RunsHere T c.loop-next.name old s new in
     let sees : SeesOn (Retry next) old new = subst P is (c.call.ensures.sees fine) in
@@ -38,10 +38,10 @@ loop-next-preserved g c =
     work S (world c.args.tokenizer.now) (Next c.args.first) = c.loop-next.invariant.falls in
     record {
       current = sees.0;
-      stands = subst Q is (c.call.ensures.stands fine);
-      came =
-          came-stays T c.args.first c.loop-next.name next (world c.args.tokenizer.now) old new
-          c.loop-next.invariant.came (subst V is (c.call.ensures.runs fine)) sees same;
+      valid = subst Q is (c.call.ensures.valid fine);
+      arrived =
+          arrived-stays T c.args.first c.loop-next.name next (world c.args.tokenizer.now) old new
+          c.loop-next.invariant.arrived (subst V is (c.call.ensures.runs fine)) sees same;
       falls = omega (arith, less, before);
       setting = same ∙ c.loop-next.invariant.setting;
     }
@@ -58,10 +58,10 @@ loop-next-smaller g c =
 pub returns-in_default : goal.returns-in_default
 returns-in_default g c = record {
   runs = λ fine is_end.
-      came-runs g.T.Table.step is_end c.args.first c.loop-next.name (world c.args.tokenizer.now)
-      (world c.loop-next.tokenizer) c.call.result (world c.call.new.tokenizer) (c.loop-next.invariant.came is_end)
+      arrived-runs g.T.Table.step is_end c.args.first c.loop-next.name (world c.args.tokenizer.now)
+      (world c.loop-next.tokenizer) c.call.result (world c.call.new.tokenizer) (c.loop-next.invariant.arrived is_end)
       (c.call.ensures.runs fine is_end);
-  stands = λ fine. c.call.ensures.stands fine;
+  valid = λ fine. c.call.ensures.valid fine;
   falls = λ fine.
       let less = c.call.ensures.falls fine in
       let before = c.loop-next.invariant.falls in

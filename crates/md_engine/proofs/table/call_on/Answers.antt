@@ -4,15 +4,15 @@ use Rattle.md_engine.specs.declared.state.State.TheVariants.{Error, Next}
 use Rattle.md_engine.specs.Run.{RunsFrom, reading}
 use Rattle.md_engine.specs.Scheme.{work}
 use Rattle.md_engine.specs.World.{World, looks, world}
-use Rattle.md_engine.proofs.Falls.{stands_same}
-use Rattle.md_engine.proofs.Loops.{came-first, came-on, came-runs, not_error, not_waiting, runs-then}
+use Rattle.md_engine.proofs.Falls.{valid_same}
+use Rattle.md_engine.proofs.Loops.{arrived-first, arrived-on, arrived-runs, not_error, not_waiting, runs-then}
 use Rattle.md_engine.proofs.table.call_on.Goals as goal
 
 pub loop-next-init : goal.loop-next-init
 loop-next-init g c = record {
   current = c.requires.current;
-  stands = c.requires.stands;
-  came = came-first g.T.Table.step c.args.first (world c.args.tokenizer.now) c.args.is_end;
+  valid = c.requires.valid;
+  arrived = arrived-first g.T.Table.step c.args.first (world c.args.tokenizer.now) c.args.is_end;
   falls = omega arith;
   setting = refl;
 }
@@ -24,12 +24,12 @@ next_fine n = not_error (Next n) n refl
 pub returns-in_default : goal.returns-in_default
 returns-in_default g c = record {
   runs = λ fine.
-      came-runs g.T.Table.step c.args.is_end c.args.first c.loop-next.name (world c.args.tokenizer.now)
+      arrived-runs g.T.Table.step c.args.is_end c.args.first c.loop-next.name (world c.args.tokenizer.now)
       (world c.loop-next.tokenizer) c.call_here-state.result (world c.call_here-state.new.tokenizer)
-      c.loop-next.invariant.came (c.call_here-state.ensures.runs fine c.args.is_end);
+      c.loop-next.invariant.arrived (c.call_here-state.ensures.runs fine c.args.is_end);
   waits =
       not_waiting c.args.is_end c.call_here-state.result (world c.call_here-state.new.tokenizer) c.in_default.not-Next;
-  stands = λ fine. c.call_here-state.ensures.stands fine;
+  valid = λ fine. c.call_here-state.ensures.valid fine;
   falls = λ fine.
       let less = c.call_here-state.ensures.falls fine in
       let before = c.loop-next.invariant.falls in
@@ -46,8 +46,8 @@ returns-then-see_or_wait-clause-runs g c = λ fine.
     subst P (sym (c.if-see_or_wait.ensures.same refl))
     (runs-then T c.args.is_end c.args.first old (Next next) (world c.call_here-state.new.tokenizer) (Next next)
     (world c.stay.new.tokenizer)
-    (came-runs T c.args.is_end c.args.first c.loop-next.name old (world c.loop-next.tokenizer) (Next next)
-    (world c.call_here-state.new.tokenizer) c.loop-next.invariant.came (c.in-Next.ensures.runs fine c.args.is_end))
+    (arrived-runs T c.args.is_end c.args.first c.loop-next.name old (world c.loop-next.tokenizer) (Next next)
+    (world c.call_here-state.new.tokenizer) c.loop-next.invariant.arrived (c.in-Next.ensures.runs fine c.args.is_end))
     (c.stay.ensures.runs c.args.is_end))
 
 pub loop-next-preserved : goal.loop-next-preserved
@@ -70,15 +70,15 @@ loop-next-preserved g c =
     work S old (Next c.args.first) = c.loop-next.invariant.falls in
     record {
       current = subst P (sym sees) refl;
-      stands = stands_same S (reading u) w (Next next) (Next next) (sym sees) refl c.stay.ensures.stands;
-      came =
-          came-on T c.args.is_end c.args.first next old u w
+      valid = valid_same S (reading u) w (Next next) (Next next) (sym sees) refl c.stay.ensures.valid;
+      arrived =
+          arrived-on T c.args.is_end c.args.first next old u w
           (runs-then T c.args.is_end c.args.first old (Next next) (world c.call_here-state.new.tokenizer) (Next next) u
-          (came-runs T c.args.is_end c.args.first c.loop-next.name old (world c.loop-next.tokenizer) (Next next)
-          (world c.call_here-state.new.tokenizer) c.loop-next.invariant.came
+          (arrived-runs T c.args.is_end c.args.first c.loop-next.name old (world c.loop-next.tokenizer) (Next next)
+          (world c.call_here-state.new.tokenizer) c.loop-next.invariant.arrived
           (c.in-Next.ensures.runs fine c.args.is_end))
           (c.stay.ensures.runs c.args.is_end))
-          (c.if-see_or_wait.ensures.goes_on refl) sees;
+          (c.if-see_or_wait.ensures.is_continued refl) sees;
       falls = omega (arith, same, below, less, before);
       setting =
           ap (λ (x : World). x.setting) sees ∙ c.stay.ensures.setting ∙ c.in-Next.ensures.setting fine

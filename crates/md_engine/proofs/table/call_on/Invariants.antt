@@ -1,15 +1,15 @@
 use Rattle.std.proofs.Common.{◌≡◌, ◌≤◌}
 use Rattle.md_engine.specs.declared.state.State.TheVariants.{Next}
-use Rattle.md_engine.specs.Scheme.{stands, work}
+use Rattle.md_engine.specs.Scheme.{valid, work}
 use Rattle.md_engine.specs.World.{looks, world}
-use Rattle.md_engine.proofs.Loops.{Came}
+use Rattle.md_engine.proofs.Loops.{Arrived}
 use Rattle.md_engine.proofs.table.call_on.Given as goal
 
 abbrev pub invariant-loop-next : goal.invariant-loop-next
 invariant-loop-next g l = record {
   current : (world l.tokenizer).current ≡ looks (world l.tokenizer);
-  stands : stands g.T.Table.scheme (world l.tokenizer) (Next l.name);
-  came : Came g.T.Table.step l.is_end l.fn.first (world l.initial.tokenizer) l.name (world l.tokenizer);
+  valid : valid g.T.Table.scheme (world l.tokenizer) (Next l.name);
+  arrived : Arrived g.T.Table.step l.is_end l.fn.first (world l.initial.tokenizer) l.name (world l.tokenizer);
   falls : work g.T.Table.scheme (world l.tokenizer) (Next l.name) ≤
       work g.T.Table.scheme (world l.initial.tokenizer) (Next l.fn.first);
   setting : (world l.tokenizer).setting ≡ (world l.initial.tokenizer).setting;

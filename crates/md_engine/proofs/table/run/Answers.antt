@@ -3,18 +3,18 @@ use Rattle.md_engine.specs.declared.state.State.TheVariants.{Next}
 use Rattle.md_engine.specs.Run.{plain, reading}
 use Rattle.md_engine.specs.Run.Runs.{Stays, ThenLeaves}
 use Rattle.md_engine.specs.World.{World, world}
-use Rattle.md_engine.proofs.Falls.{falls_same, leaves_falls, leaves_stands, stands_same}
+use Rattle.md_engine.proofs.Falls.{falls_same, leaves_falls, leaves_valid, valid_same}
 use Rattle.md_engine.proofs.Keeps.{runs-append}
 use Rattle.md_engine.proofs.Loops.{end_not_error, is_end_of, not_error, plain_of}
 use Rattle.md_engine.proofs.table.run.Goals as goal
 
 pub loop-state-init : goal.loop-state-init
-loop-state-init g c = record { runs = λ _. Stays; stands = λ _. c.requires; setting = λ _. refl }
+loop-state-init g c = record { runs = λ _. Stays; valid = λ _. c.requires; setting = λ _. refl }
 
 pub loop-state-smaller-in-Some : goal.loop-state-smaller-in-Some
 loop-state-smaller-in-Some g c =
     let end = is_end_of c.loop-state.state c.in-Ok.is in
-    leaves_falls g.T.Table.scheme _ _ _ _ c.in-Some.ensures.leaves (c.loop-state.invariant.stands (end_not_error _ end))
+    leaves_falls g.T.Table.scheme _ _ _ _ c.in-Some.ensures.leaves (c.loop-state.invariant.valid (end_not_error _ end))
 
 pub loop-state-preserved-in-Some : goal.loop-state-preserved-in-Some
 loop-state-preserved-in-Some g c =
@@ -22,16 +22,16 @@ loop-state-preserved-in-Some g c =
     let fine = end_not_error _ end in
     record {
       runs = λ _. ThenLeaves _ _ _ _ (c.loop-state.invariant.runs fine) c.in-Some.ensures.leaves;
-      stands =
-          λ _. leaves_stands g.T.Table.scheme _ _ _ _ c.in-Some.ensures.leaves (c.loop-state.invariant.stands fine);
+      valid =
+          λ _. leaves_valid g.T.Table.scheme _ _ _ _ c.in-Some.ensures.leaves (c.loop-state.invariant.valid fine);
       setting = λ _. c.leave.ensures.setting ∙ c.loop-state.invariant.setting fine;
     }
 
-pub call_on-requires-clause-stands : goal.call_on-requires-clause-stands
-call_on-requires-clause-stands g c =
+pub call_on-requires-clause-valid : goal.call_on-requires-clause-valid
+call_on-requires-clause-valid g c =
     let p = plain_of c.loop-state.state c.in-Next.name c.in-Next.is in
-    let st = c.loop-state.invariant.stands (not_error _ _ p) in
-    stands_same g.T.Table.scheme (reading (world c.loop-state.tokenizer)) (world c.see_or_wait.new.self)
+    let st = c.loop-state.invariant.valid (not_error _ _ p) in
+    valid_same g.T.Table.scheme (reading (world c.loop-state.tokenizer)) (world c.see_or_wait.new.self)
     (plain c.loop-state.state) (Next c.in-Next.name) (sym (c.if-see_or_wait.ensures.sees refl)) p st
 
 pub returns-in-Next-call_on-clause-runs : goal.returns-in-Next-call_on-clause-runs
@@ -39,7 +39,7 @@ returns-in-Next-call_on-clause-runs g c = λ fine.
     let p = plain_of c.loop-state.state c.in-Next.name c.in-Next.is in
     runs-append _ _ _ _ _ _ _ _ (c.loop-state.invariant.runs (not_error _ _ p))
     (c.in-Next-call_on.ensures.runs fine c.loop-state.state (world c.loop-state.tokenizer) p
-    (sym (c.if-see_or_wait.ensures.sees refl)) (c.if-see_or_wait.ensures.goes_on refl))
+    (sym (c.if-see_or_wait.ensures.sees refl)) (c.if-see_or_wait.ensures.is_continued refl))
 
 pub loop-state-smaller : goal.loop-state-smaller
 loop-state-smaller g c =
@@ -57,8 +57,8 @@ loop-state-preserved g c =
       runs =
           λ h. runs-append _ _ _ _ _ _ _ _ (c.loop-state.invariant.runs fine)
           (c.call_on.ensures.runs h c.loop-state.state (world c.loop-state.tokenizer) p
-          (sym (c.if-see_or_wait.ensures.sees refl)) (c.if-see_or_wait.ensures.goes_on refl));
-      stands = λ h. c.call_on.ensures.stands h;
+          (sym (c.if-see_or_wait.ensures.sees refl)) (c.if-see_or_wait.ensures.is_continued refl));
+      valid = λ h. c.call_on.ensures.valid h;
       setting = λ h.
           c.call_on.ensures.setting h
           ∙ ap (λ (w : World). w.setting) (c.if-see_or_wait.ensures.sees refl)

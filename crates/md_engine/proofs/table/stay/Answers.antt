@@ -6,11 +6,11 @@ use Rattle.md_engine.proofs.StayLemmas.{stayed-by, within-world}
 use Rattle.md_engine.proofs.table.stay.Goals as goal
 
 pub returns-in_default : goal.returns-in_default
-returns-in_default g c = record { runs = λ is_end. Stays; stands = c.requires; falls = omega arith; setting = refl }
+returns-in_default g c = record { runs = λ is_end. Stays; valid = c.requires; falls = omega arith; setting = refl }
 
 pub returns-in_default-takes_at_once : goal.returns-in_default-takes_at_once
 returns-in_default-takes_at_once g c =
-    record { runs = λ is_end. Stays; stands = c.requires; falls = omega arith; setting = refl }
+    record { runs = λ is_end. Stays; valid = c.requires; falls = omega arith; setting = refl }
 
 pub returns-in-Line : goal.returns-in-Line
 returns-in-Line g c =
@@ -20,7 +20,7 @@ returns-in-Line g c =
     stayed-by g.T.Table.step g.T.Table.scheme c.args.state c.in-Next.name c.in-Some.stay
     (world c.args.tokenizer.now)
     (world c.see_line.new.self) c.in-Next.is c.in-Some.ensures c.requires (within-world c.args.tokenizer.now) all in
-    record { runs = h.runs; stands = h.ready; falls = h.falls; setting = h.setting }
+    record { runs = h.runs; valid = h.ready; falls = h.falls; setting = h.setting }
 
 pub returns-in-Word : goal.returns-in-Word
 returns-in-Word g c =
@@ -30,7 +30,7 @@ returns-in-Word g c =
     stayed-by g.T.Table.step g.T.Table.scheme c.args.state c.in-Next.name c.in-Some.stay
     (world c.args.tokenizer.now)
     (world c.see_word.new.self) c.in-Next.is c.in-Some.ensures c.requires (within-world c.args.tokenizer.now) all in
-    record { runs = h.runs; stands = h.ready; falls = h.falls; setting = h.setting }
+    record { runs = h.runs; valid = h.ready; falls = h.falls; setting = h.setting }
 
 pub returns-in-Plain : goal.returns-in-Plain
 returns-in-Plain g c =
@@ -40,7 +40,7 @@ returns-in-Plain g c =
     stayed-by g.T.Table.step g.T.Table.scheme c.args.state c.in-Next.name c.in-Some.stay
     (world c.args.tokenizer.now)
     (world c.see_plain.new.self) c.in-Next.is c.in-Some.ensures c.requires (within-world c.args.tokenizer.now) all in
-    record { runs = h.runs; stands = h.ready; falls = h.falls; setting = h.setting }
+    record { runs = h.runs; valid = h.ready; falls = h.falls; setting = h.setting }
 
 pub returns-in-White : goal.returns-in-White
 returns-in-White g c =
@@ -50,7 +50,7 @@ returns-in-White g c =
     stayed-by g.T.Table.step g.T.Table.scheme c.args.state c.in-Next.name c.in-Some.stay
     (world c.args.tokenizer.now)
     (world c.see_white.new.self) c.in-Next.is c.in-Some.ensures c.requires (within-world c.args.tokenizer.now) all in
-    record { runs = h.runs; stands = h.ready; falls = h.falls; setting = h.setting }
+    record { runs = h.runs; valid = h.ready; falls = h.falls; setting = h.setting }
 
 pub returns-in_default-stay : goal.returns-in_default-stay
 returns-in_default-stay g c =
@@ -59,4 +59,4 @@ returns-in_default-stay g c =
     (world c.args.tokenizer.now)
     (world c.see_each.new.self) c.in-Next.is c.in-Some.ensures c.requires (within-world c.args.tokenizer.now)
     c.see_each.ensures in
-    record { runs = h.runs; stands = h.ready; falls = h.falls; setting = h.setting }
+    record { runs = h.runs; valid = h.ready; falls = h.falls; setting = h.setting }

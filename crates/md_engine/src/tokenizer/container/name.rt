@@ -1,7 +1,7 @@
 // The kinds of containers: the names of their events, and what else the engine shows by the kind.
 
 ghost use Rattle.std.specs.Prelude.{◌≡◌};
-ghost use Rattle.md_engine.specs.ContainerName.{first_kind, kind_goes_over, name_of};
+ghost use Rattle.md_engine.specs.ContainerName.{first_kind, kind_continues_over, name_of};
 
 use crate::event::Name;
 
@@ -24,8 +24,8 @@ pub(crate) fn first_kind() -> ContainerKind
 /// Whether a container of a kind continues over an empty line, of which it takes nothing, by whether it started blank:
 /// a list item does that did not (CommonMark 5.2), and a footnote definition always.
 #[inline(always)]
-pub(crate) fn kind_goes_over(kind: ContainerKind, starts_blank: bool) -> bool
-    ensures { result ≡ kind_goes_over kind starts_blank }
+pub(crate) fn kind_continues_over(kind: ContainerKind, starts_blank: bool) -> bool
+    ensures { result ≡ kind_continues_over kind starts_blank }
 {
     match kind {
         ContainerKind::BlockQuote => false,

@@ -22,8 +22,9 @@ loop-end-preserved c =
       moved = piece-up old now parts.result.0.now parts.result.1.now c.copy_piece.new.events end c.args.gap many
           parts.ensures.front parts.ensures.back small (omega (arith, back, inv.within)) long (sym inv.many)
           (rw (take_rest parts.result.0.now end) at c.copy_piece.ensures.copied)
-          (rw (take_rest parts.result.0.now end) at c.copy_piece.ensures.behind) before (rw back inv.moved);
-      before = piece-before old now parts.result.0.now c.copy_piece.new.events end c.args.gap many parts.ensures.front long
+          (rw (take_rest parts.result.0.now end) at c.copy_piece.ensures.following) before (rw back inv.moved);
+      before = piece-before old now parts.result.0.now c.copy_piece.new.events end c.args.gap many
+          parts.ensures.front long
           before;
       many = length-append parts.result.0.now c.copy_piece.new.events
           ∙ omega (arith, long, parts.ensures.back_len, c.copy_piece.ensures.many, inv.many, inv.within, back);

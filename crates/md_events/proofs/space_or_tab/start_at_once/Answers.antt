@@ -3,7 +3,7 @@ use Rattle.md_engine.specs.declared.event.Name.TheVariants.{SpaceOrTab}
 use Rattle.md_engine.specs.declared.state.Name.TheVariants as n
 use Rattle.md_engine.specs.declared.state.space_or_tab.State.TheVariants as its
 use Rattle.md_engine.specs.World.{world}
-use Rattle.md_engine.proofs.Loops.{CameHere}
+use Rattle.md_engine.proofs.Loops.{ArrivedHere}
 use Rattle.md_engine.proofs.StayLemmas.{within-world}
 use Rattle.md_events.specs.Spaces.{WhiteStep}
 use Rattle.md_events.specs.Transition.{exited}
@@ -36,14 +36,14 @@ returns-then-begins-3 c = record {
       let has_entered : is_ok c.enter.result ≡ true = c.if-or_error.ensures.negation in
       let has_exited : is_ok c.exit.result ≡ true = c.if-or_error-2.ensures.negation in
       let ended : x ≡ exited (world c.see_or_wait.new.self) SpaceOrTab = rw has_exited at c.exit.ensures.world in
-      let came : CameHere WhiteStep start w (n.SpaceOrTab its.After) x =
+      let arrived : ArrivedHere WhiteStep start w (n.SpaceOrTab its.After) x =
       rw ended
       (white-ends w (world c.enter.new.self) (world c.see_white.new.self) (world c.see_or_wait.new.self)
       (sym c.begins.ensures ∙ c.if-begins.true) c.requires.current (within-world c.args.tokenizer.now)
       (rw has_entered at c.enter.ensures.world) (within-world c.enter.new.self) c.see_white.ensures
-      (ahead (c.if-see_or_wait.ensures.goes_on refl)) (c.if-see_or_wait.ensures.sees refl)
+      (ahead (c.if-see_or_wait.ensures.is_continued refl)) (c.if-see_or_wait.ensures.sees refl)
       (within-world c.see_or_wait.new.self)) in
-      white-called start its.After w x c.after.result (world c.after.new.tokenizer) came c.after.ensures.to
+      white-called start its.After w x c.after.result (world c.after.new.tokenizer) arrived c.after.ensures.to
       c.after.ensures.world fine (within-world c.exit.new.self);
   sees = search rules;
   full = search rules;

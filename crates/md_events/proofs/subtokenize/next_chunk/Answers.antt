@@ -6,7 +6,7 @@ use Rattle.md_engine.specs.declared.event.Kind.TheVariants.{Enter}
 use Rattle.md_engine.specs.declared.event.Name.TheVariants.{Frontmatter}
 use Rattle.md_events.specs.Rewritten.{left_of}
 use Rattle.md_events.specs.Substituted.{chunk_of, stays}
-use Rattle.md_events.proofs.LinedLemmas.{begins-behind}
+use Rattle.md_events.proofs.LinedLemmas.{begins-following}
 use Rattle.md_events.proofs.subtokenize.next_chunk.Goals as goal
 
 -- what indexing gives past the end of a list
@@ -25,8 +25,8 @@ returns-clause-some g c =
     let rest : List Event = left_of c.hold_many.new.self in
     let many : c.staying-many.result ≡ prefix_len (stays wants) old =
     c.staying-many.ensures.value ∙ ap (prefix_len (stays wants)) c.left.ensures in
-    let behind : rest ≡ drop (prefix_len (stays wants) old) old =
+    let following : rest ≡ drop (prefix_len (stays wants) old) old =
     c.hold_many.ensures.left ∙ ap (λ (n : ℕ). drop n old) many in
     let two : 1 < length rest = rw c.left-left.ensures at c.if-left-lt2.false in
-    begins-behind wants old rest unset _ behind two
+    begins-following wants old rest unset _ following two
     (ap (λ (l : List Event). chunk_of (get_or l 0 unset) (get_or l 1 unset)) c.left-left.ensures)

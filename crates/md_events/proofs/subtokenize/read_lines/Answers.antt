@@ -19,7 +19,8 @@ loop-chunk-preserved g c =
     let before : List Event = left_of c.loop-chunk.all in
     let rest : List Event = left_of c.next_chunk.new.all in
     let left = c.in_ok-put_chunk.ensures.left in
-    let each : EachLine wants c.args.bytes.now rest = subst (EachLine wants c.args.bytes.now) (sym c.in-Some.ensures.left)
+    let each : EachLine wants c.args.bytes.now rest = subst (EachLine wants c.args.bytes.now)
+    (sym c.in-Some.ensures.left)
     (each-run wants c.args.bytes.now before c.loop-chunk.invariant.each) in
     let first : FirstLine wants c.args.bytes.now rest c.in-Some.chunk =
     first-line wants c.args.bytes.now rest c.in-Some.chunk c.in-Some.ensures.some each in
@@ -39,12 +40,14 @@ returns g c =
     let rest : List Event = left_of c.next_chunk.new.all in
     let given : List Event = given_of c.next_chunk.new.all in
     let last : List Event = take (length c.left-rest.result.now) rest in
-    let all : last ≡ rest = take_all (length c.left-rest.result.now) rest (omega (arith, ap length c.left-rest.ensures)) in
+    let all : last ≡ rest = take_all (length c.left-rest.result.now) rest
+    (omega (arith, ap length c.left-rest.ensures)) in
     let lines = given-run wants c.args.bytes.now before rest (given_of c.loop-chunk.all) given _
     c.in_default.ensures.left c.in_default.ensures.given c.loop-chunk.invariant.given in
     c.finish.ensures ∙ c.give.ensures.written
     ∙ ap (λ (l : List Event). l ++ held_of c.hold_many.new.self) c.hold_many.ensures.written
     ∙ ap (λ (l : List Event). written_of c.next_chunk.new.all ++ l) c.hold_many.ensures.held
     ∙ sym (append_assoc (written_of c.next_chunk.new.all) (held_of c.next_chunk.new.all) last)
-    ∙ ap (λ (l : List Event). given ++ l) (all ∙ sym (lined-short wants c.args.bytes.now rest c.in_default.ensures.none))
+    ∙ ap (λ (l : List Event). given ++ l)
+    (all ∙ sym (lined-short wants c.args.bytes.now rest c.in_default.ensures.none))
     ∙ lines

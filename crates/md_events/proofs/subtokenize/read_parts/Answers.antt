@@ -1,5 +1,5 @@
-use Rattle.std.proofs.Common.{◌≡◌, ◌<◌, ℕ, ◌+◌, ◌++◌, ◌⊎◌, List, [], append-nil, append_assoc, ap, arith, drop, get_or, inl, inr}
-use Rattle.std.proofs.Common.{length, subst, suc, sym, take, ◌∙◌}
+use Rattle.std.proofs.Common.{◌≡◌, ◌<◌, ℕ, ◌+◌, ◌++◌, ◌⊎◌, List, [], append-nil, append_assoc, ap, arith, drop, get_or}
+use Rattle.std.proofs.Common.{inl, inr, length, subst, suc, sym, take, ◌∙◌}
 use Rattle.std.specs.List.{prefix_len}
 use Rattle.std.specs.Prelude.{None, Some}
 use Rattle.std.proofs.lemmas.List.{drop_all, take_rest}
@@ -55,7 +55,8 @@ or_read-requires-clause-asked g c = λ none.
     let wants = g.R.Reader.wants c.args.reader.now in
     let rest : List Event = left_of c.loop-event.all in
     let some : Some c.in-Some-chunk_content.content ≡ wanted wants (get_or rest 0 unset) =
-    c.in-Some-chunk_content.ensures ∙ ap (wanted wants) (sym (ap (λ (l : List Event). get_or l 0 unset) c.in-Some.ensures.some)) in
+    c.in-Some-chunk_content.ensures ∙ ap (wanted wants)
+    (sym (ap (λ (l : List Event). get_or l 0 unset) c.in-Some.ensures.some)) in
     let two : 1 < length rest = rw c.left.ensures at c.if-left-gt1.true in
     rw c.left-in-Some-chunk_content.ensures
     (asked-part wants (g.R.Reader.may_read c.args.reader.now) rest c.loop-event.found.chunks unset
@@ -72,14 +73,15 @@ loop-event-preserved-then-left-gt1 g c =
     let place = c.in_ok-place-in-Some-chunk_content.ensures in
     let all = c.place.new.events in
     let some : Some c.in-Some-chunk_content.content ≡ wanted wants (get_or rest 0 unset) =
-    c.in-Some-chunk_content.ensures ∙ ap (wanted wants) (sym (ap (λ (l : List Event). get_or l 0 unset) c.in-Some.ensures.some)) in
+    c.in-Some-chunk_content.ensures ∙ ap (wanted wants)
+    (sym (ap (λ (l : List Event). get_or l 0 unset) c.in-Some.ensures.some)) in
     let two : 1 < length rest = rw c.left.ensures at c.if-left-gt1.true in
     let left : left_of all ≡ drop 2 rest = place.rest ∙ c.skip.ensures.left in
     let begun = rw c.left-in-Some-chunk_content.ensures at read.begun in
     let given = ap (λ (l : List Event). written_of all ++ l) (c.place.ensures.held ∙ c.skip.ensures.held)
     ∙ append-nil (written_of all)
     ∙ (rw (c.skip.ensures.written, c.left-in-Some-chunk_content-2.ensures) at place.placed) in
-    let behind = rw c.left-in-Some-chunk_content-2.ensures at place.left in
+    let following = rw c.left-in-Some-chunk_content-2.ensures at place.left in
     record {
       given = placed-place text (given_of c.loop-event.all) (given_of all) _ _ _ given inv.given read.placed;
       left = subst (ArePlaced text) (sym left) (All-drop (λ (e : Event). IsPlaced text e.point) 2 rest inv.left);
@@ -90,9 +92,10 @@ loop-event-preserved-then-left-gt1 g c =
           Leads wants reads c.args.events.items (drop c.place.new.self.placed c.place.new.self.events.items)
           c.place.new.self.chunks l (given_of all)) (sym left)
           (leads-part wants reads c.args.events.items rest _ _ _ (given_of c.loop-event.all) (given_of all) _ _ _ unset
-          c.in-Some-chunk_content.content two some begun place.chunks given behind inv.substituted);
+          c.in-Some-chunk_content.content two some begun place.chunks given following inv.substituted);
       asked = subst (EachAsked wants (g.R.Reader.may_read c.args.reader.now) c.place.new.self.chunks) (sym left)
-          (asked-next wants (g.R.Reader.may_read c.args.reader.now) _ rest _ _ _ _ _ unset c.in-Some-chunk_content.content
+          (asked-next wants (g.R.Reader.may_read c.args.reader.now) _ rest _ _ _ _ _ unset
+          c.in-Some-chunk_content.content
           two some begun place.chunks inv.asked);
     }
 
@@ -131,11 +134,13 @@ loop-event-preserved g c =
           subst (λ (l : List Event). Leads wants reads c.args.events.items left chunks l (given_of all))
           (sym c.hold_many.ensures.left)
           (subst (Leads wants reads c.args.events.items left chunks (drop many rest)) (sym given)
-          (leads-stays wants reads c.args.events.items left (given_of old) rest chunks many c.in-Some.event c.in-Some.ensures.some
+          (leads-stays wants reads c.args.events.items left (given_of old) rest chunks many c.in-Some.event
+          c.in-Some.ensures.some
           stay count inv.substituted));
       asked = subst (EachAsked wants (g.R.Reader.may_read c.args.reader.now) c.loop-event.found.chunks)
           (sym c.hold_many.ensures.left)
-          (asked-stays wants (g.R.Reader.may_read c.args.reader.now) rest _ many c.in-Some.event c.in-Some.ensures.some stay
+          (asked-stays wants (g.R.Reader.may_read c.args.reader.now) rest _ many c.in-Some.event
+          c.in-Some.ensures.some stay
           count inv.asked);
     }
 

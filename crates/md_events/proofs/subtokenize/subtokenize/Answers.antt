@@ -9,8 +9,10 @@ use Rattle.md_events.proofs.subtokenize.subtokenize.Goals as goal
 pub read_lines-requires : goal.read_lines-requires
 read_lines-requires g c =
     let reader = c.args.reader.now in
-    subst (λ (bytes : List ℕ). EachLine (g.R.Reader.wants reader) bytes c.args.events.items) (sym c.in-Some.ensures.text)
-    (lined-each (g.R.Reader.wants reader) (g.R.Reader.text reader) (g.R.Reader.may_read reader) (g.R.Reader.reads_as reader)
+    subst (λ (bytes : List ℕ). EachLine (g.R.Reader.wants reader) bytes c.args.events.items)
+    (sym c.in-Some.ensures.text)
+    (lined-each (g.R.Reader.wants reader) (g.R.Reader.text reader) (g.R.Reader.may_read reader)
+    (g.R.Reader.reads_as reader)
     c.args.events.items c.in-Some.ensures.lines c.requires.asked)
 
 pub returns-in-Some-clause-placed : goal.returns-in-Some-clause-placed

@@ -3,7 +3,8 @@ use Rattle.md_flow.proofs.constructs.takes_at_once.Goals as goal
 
 pub returns-in-HeadingAtx : goal.returns-in-HeadingAtx
 returns-in-HeadingAtx c =
-    rw c.in-HeadingAtx.is (IfSome_then c.takes_at_once-in-HeadingAtx.result c.takes_at_once-in-HeadingAtx.ensures (λ k h. h))
+    rw c.in-HeadingAtx.is (IfSome_then c.takes_at_once-in-HeadingAtx.result
+    c.takes_at_once-in-HeadingAtx.ensures (λ k h. h))
 
 pub returns-in-ListItem : goal.returns-in-ListItem
 returns-in-ListItem c =

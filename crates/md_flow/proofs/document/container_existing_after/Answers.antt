@@ -8,5 +8,6 @@ use Rattle.md_events.proofs.StatesLemmas.{sure-state-is}
 
 pub returns-else-continued-len : goal.returns-else-continued-len
 returns-else-continued-len c =
-    sure-state-is _ _ _ _ (document_rule document.ContainerExistingAfter (world c.args.tokenizer.now) _ _) (search rules)
+    sure-state-is _ _ _ _ (document_rule document.ContainerExistingAfter (world c.args.tokenizer.now) _ _)
+    (search rules)
     (grind (arith, common_steps))

@@ -19,11 +19,11 @@ returns-3 c =
     } in
     let has_closed : is_ok c.close.result ≡ true = c.if-or_error.ensures.negation in
     let has_opened : is_ok c.open.result ≡ true = c.if-or_error-2.ensures.negation in
-    let behind = with_asked (closed w w.flags.continued w.flags.line_end) in
-    let opened : world c.open.new.self ≡ behind =
+    let following = with_asked (closed w w.flags.continued w.flags.line_end) in
+    let opened : world c.open.new.self ≡ following =
     (rw has_opened at c.open.ensures.world) ∙ ap with_asked (rw has_closed at c.close.ensures.world) in
     let len_is : c.len-tokenizer.result ≡ length (world c.open.new.self).flags.containers =
     omega (arith, c.len-tokenizer.ensures) in
     ap (begun c.len-tokenizer.result) opened
-    ∙ ap (λ len. begun len behind) (len_is ∙ ap (λ (v : World). length v.flags.containers) opened))
+    ∙ ap (λ len. begun len following) (len_is ∙ ap (λ (v : World). length v.flags.containers) opened))
     (search rules)

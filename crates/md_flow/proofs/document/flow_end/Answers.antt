@@ -49,7 +49,8 @@ returns-in-Some-eq10-2 c =
     ∙ ap (next (ending_name v.flags.blank)) len_is
     ∙ ap (λ o. (flow_end_code v o).world) (sym (here ∙ ap Some ten))
     ∙ ap (λ (x : World). (flow_end_code x x.current).world)
-    ((rw has_closed at c.close.ensures.world) ∙ ap (λ n. closed w n w.flags.line_end) c.kept_containers-keep.ensures)) (search rules)
+    ((rw has_closed at c.close.ensures.world) ∙ ap (λ n. closed w n w.flags.line_end) c.kept_containers-keep.ensures))
+    (search rules)
 
 pub returns-in-None-2 : goal.returns-in-None-2
 returns-in-None-2 c =

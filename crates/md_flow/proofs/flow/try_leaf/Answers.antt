@@ -6,7 +6,7 @@ use Rattle.md_engine.specs.declared.state.Name.TheVariants as n
 use Rattle.md_engine.specs.declared.state.State.TheVariants.{Retry}
 use Rattle.md_engine.specs.declared.state.flow.State.{State as FlowState}
 use Rattle.proof_frame.specs.LeafName.{LeafName}
-use Rattle.md_events.specs.Look.{looks_behind, may_with}
+use Rattle.md_events.specs.Look.{looks_after, may_with}
 use Rattle.md_events.specs.Spaces.{sees_white}
 use Rattle.md_events.specs.Transition.{Transition}
 use Rattle.md_registry.specs.Flow.{leaf_end, leaf_transition, trial_code}
@@ -17,7 +17,7 @@ use Rattle.md_flow.proofs.flow.try_leaf.Goals as goal
 abbrev Begins : Option LeafName → World → Bool → Type 0
 Begins o w may =
     (l : LeafName) → o ≡ Some l →
-    may ≡ may_with ((leaf l).may_begin w.flags.leaf (sees_white w.current)) (looks_behind w)
+    may ≡ may_with ((leaf l).may_begin w.flags.leaf (sees_white w.current)) (looks_after w)
 
 abbrev Follows : Option LeafName → FlowState → Type 0
 Follows o next = (l : LeafName) → o ≡ Some l → next ≡ next_of l
@@ -54,7 +54,8 @@ returns-then-not-leaf_may_begin-clause-to c = λ fine.
     let o = tried_at c.args.state in
     ap (λ (t : Transition). t.to)
     (sym
-    (passed o w c.in-Some.start c.next_leaf-next.result (sym c.in-Some.is ∙ c.leaf_start.ensures) c.next_leaf-next.ensures
+    (passed o w c.in-Some.start c.next_leaf-next.result (sym c.in-Some.is ∙ c.leaf_start.ensures)
+    c.next_leaf-next.ensures
     (begins-by o w c.leaf_may_begin.result false c.if-not-leaf_may_begin.true
     c.leaf_may_begin.ensures.may)))
 

@@ -6,7 +6,7 @@ use Rattle.md_engine.specs.declared.state.State.TheVariants.{Next}
 use Rattle.md_engine.specs.Run.{Runs, reading}
 use Rattle.md_engine.specs.World.{World, looks, world}
 use Rattle.md_engine.proofs.Keeps.{runs-setting}
-use Rattle.md_engine.proofs.Loops.{Came, CameTo, call-runs, call-sees, came-first, came-runs, reading-same}
+use Rattle.md_engine.proofs.Loops.{Arrived, ArrivedAt, call-runs, call-sees, arrived-first, arrived-runs, reading-same}
 use Rattle.md_engine.proofs.StayLemmas.{within-world}
 use Rattle.md_leaves.specs.Heading.{before_transition}
 use Rattle.md_leaves.specs.HeadingCalls.{HeadingStep}
@@ -57,9 +57,9 @@ returns-then-see_or_wait c = record {
       subst (λ (x : World). x.current ≡ looks x) (sym e) c.requires.current in
       let inside : w1.point.index < w1.setting.limit =
       subst (λ (x : World). x.point.index < x.setting.limit) (sym e) (sequence-inside w c.requires.current is) in
-      let begun : CameTo T is_end s v sequence w1 =
-      subst (λ (x : World). CameTo T is_end s v sequence x) (sym e)
-      (sequence-begins is_end s v w (came-first T (n.HeadingAtx its.Before) w is_end s v named from may) is
+      let begun : ArrivedAt T is_end s v sequence w1 =
+      subst (λ (x : World). ArrivedAt T is_end s v sequence x) (sym e)
+      (sequence-begins is_end s v w (arrived-first T (n.HeadingAtx its.Before) w is_end s v named from may) is
       c.requires.current (within-world c.args.tokenizer.now)) in
       subst (λ (x : World). Runs T is_end s v (Next sequence) x) (sym (c.if-see_or_wait.ensures.same refl))
       (sequence-waits is_end s v w1 u begun seen (within-world c.enter.new.self) c.see_while.ensures.some inside
@@ -84,15 +84,15 @@ returns-2 c = record {
       let seen : w1.current ≡ looks w1 =
       subst (λ (x : World). x.current ≡ looks x) (sym e) c.requires.current in
       let sees : w3 ≡ reading u = c.if-see_or_wait.ensures.sees refl in
-      let came : Came T is_end first w sequence w3 = λ t y called saw here.
-      let begun : CameTo T is_end t y sequence w1 =
-      subst (λ (x : World). CameTo T is_end t y sequence x) (sym e)
-      (sequence-begins is_end t y w (came-first T first w is_end t y called saw here) is c.requires.current
+      let arrived : Arrived T is_end first w sequence w3 = λ t y called saw here.
+      let begun : ArrivedAt T is_end t y sequence w1 =
+      subst (λ (x : World). ArrivedAt T is_end t y sequence x) (sym e)
+      (sequence-begins is_end t y w (arrived-first T first w is_end t y called saw here) is c.requires.current
       (within-world c.args.tokenizer.now)) in
-      subst (λ (x : World). CameTo T is_end t y sequence x) (sym sees)
+      subst (λ (x : World). ArrivedAt T is_end t y sequence x) (sym sees)
       (sequence-taken is_end t y w1 u begun seen (within-world c.enter.new.self) c.see_while.ensures.some
-      (ahead (c.if-see_or_wait.ensures.goes_on refl))) in
-      came-runs T is_end first sequence w w3 c.opens.result (world c.opens.new.tokenizer) came
+      (ahead (c.if-see_or_wait.ensures.is_continued refl))) in
+      arrived-runs T is_end first sequence w w3 c.opens.result (world c.opens.new.tokenizer) arrived
       (c.opens.ensures.runs fine is_end) s v named from may;
   sees = λ fine.
       let T = HeadingStep in
@@ -104,7 +104,7 @@ returns-2 c = record {
       let seen : w3.current ≡ looks w3 = subst (λ (x : World). x.current ≡ looks x) (sym sees) refl in
       let inside : w3.point.index < w3.setting.limit =
       subst (λ (x : World). x.point.index < x.setting.limit) (sym sees)
-      (ahead (c.if-see_or_wait.ensures.goes_on refl)) in
+      (ahead (c.if-see_or_wait.ensures.is_continued refl)) in
       let same : w4.setting ≡ w3.setting =
       runs-setting T true (Next sequence) w3 c.opens.result w4
       (c.opens.ensures.runs fine true (Next sequence) w3 refl (reading-same w3 seen) (inl refl)) in

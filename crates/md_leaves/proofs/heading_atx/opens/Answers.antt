@@ -7,7 +7,7 @@ use Rattle.md_engine.specs.declared.state.Name.TheVariants as n
 use Rattle.md_engine.specs.declared.state.State.TheVariants.{Next}
 use Rattle.md_engine.specs.World.{World, looks, world}
 use Rattle.md_engine.proofs.Keeps.{runs-setting}
-use Rattle.md_engine.proofs.Loops.{Came, CameTo, call-runs, call-sees, came-first, came-runs, reading-same}
+use Rattle.md_engine.proofs.Loops.{Arrived, ArrivedAt, call-runs, call-sees, arrived-first, arrived-runs, reading-same}
 use Rattle.md_engine.proofs.StayLemmas.{within-world}
 use Rattle.md_leaves.specs.Heading.{sees_text, sequence_open_transition}
 use Rattle.md_leaves.specs.HeadingCalls.{HeadingStep}
@@ -49,11 +49,11 @@ returns-then-is_one_space-3 c = record {
       let ended : x ≡ opening_ended w = rw has_exited at c.exit.ensures.world in
       let is : u ≡ spaced (opening_ended w) =
       on-ok c.take_one_space.result (u ≡ spaced x) has_taken c.take_one_space.ensures.world ∙ ap spaced ended in
-      let came : Came T is_end first w (n.HeadingAtx its.AtBreak) u = λ t y called saw here.
-      subst (λ (z : World). CameTo T is_end t y (n.HeadingAtx its.AtBreak) z) (sym is)
-      (opening-ends is_end t y w (came-first T first w is_end t y called saw here) c.requires.current
+      let arrived : Arrived T is_end first w (n.HeadingAtx its.AtBreak) u = λ t y called saw here.
+      subst (λ (z : World). ArrivedAt T is_end t y (n.HeadingAtx its.AtBreak) z) (sym is)
+      (opening-ends is_end t y w (arrived-first T first w is_end t y called saw here) c.requires.current
       (within-world c.args.tokenizer.now) one) in
-      came-runs T is_end first (n.HeadingAtx its.AtBreak) w u c.text.result (world c.text.new.tokenizer) came
+      arrived-runs T is_end first (n.HeadingAtx its.AtBreak) w u c.text.result (world c.text.new.tokenizer) arrived
       (c.text.ensures.runs fine is_end) s v named from may;
   sees = λ fine.
       let T = HeadingStep in

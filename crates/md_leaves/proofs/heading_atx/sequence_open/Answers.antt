@@ -17,7 +17,8 @@ returns-in_default c = record {
   to = search rules;
   world = search rules;
   rule =
-      λ ok. heading_rule its.SequenceOpen (world c.args.tokenizer.now) _ _ c.requires.current (search rules) (search rules);
+      λ ok. heading_rule its.SequenceOpen (world c.args.tokenizer.now) _ _ c.requires.current (search rules)
+      (search rules);
   full = search rules;
 }
 
@@ -26,7 +27,8 @@ returns-in_default-2 c = record {
   to = search rules;
   world = search rules;
   rule =
-      λ ok. heading_rule its.SequenceOpen (world c.args.tokenizer.now) _ _ c.requires.current (search rules) (search rules);
+      λ ok. heading_rule its.SequenceOpen (world c.args.tokenizer.now) _ _ c.requires.current (search rules)
+      (search rules);
   full = search rules;
 }
 
@@ -35,6 +37,7 @@ returns-in-None-2 c = record {
   to = search rules;
   world = search rules;
   rule =
-      λ ok. heading_rule its.SequenceOpen (world c.args.tokenizer.now) _ _ c.requires.current (search rules) (search rules);
+      λ ok. heading_rule its.SequenceOpen (world c.args.tokenizer.now) _ _ c.requires.current (search rules)
+      (search rules);
   full = search rules;
 }

@@ -1,5 +1,5 @@
-use Rattle.std.proofs.Common.{◌≡◌, ◌<◌, ◌∷◌, ◌++◌, [], ℕ, ◌∙◌, Bool, List, ap, append_assoc, append-nil, arith, cond, drop}
-use Rattle.std.proofs.Common.{false, length, refl, subst, sym, take}
+use Rattle.std.proofs.Common.{◌≡◌, ◌<◌, ◌∷◌, ◌++◌, [], ℕ, ◌∙◌, Bool, List, ap, append_assoc, append-nil, arith, cond}
+use Rattle.std.proofs.Common.{drop, false, length, refl, subst, sym, take}
 use Rattle.std.specs.Prelude.{◌==◌}
 use Rattle.std.specs.List.{prefix_len}
 use Rattle.std.proofs.lemmas.List.{length-drop, take-append-drop}
@@ -7,9 +7,9 @@ use Rattle.md_engine.specs.declared.event.Event.{Event}
 use Rattle.md_engine.specs.declared.event.Point.{Point}
 use Rattle.md_engine.specs.Place.{IsPlaced}
 use Rattle.md_engine.specs.World.{World, world}
-use Rattle.md_leaves.specs.HeadingRuns.{Apart, Hashes, White, goes_on, line_runs}
+use Rattle.md_leaves.specs.HeadingRuns.{Apart, Hashes, White, is_continued, line_runs}
 use Rattle.md_leaves.specs.OnLine.{IsOnLine}
-use Rattle.md_leaves.proofs.OnLine.{on-behind, on-front}
+use Rattle.md_leaves.proofs.OnLine.{on-following, on-front}
 use Rattle.md_leaves.proofs.RunsAdded.{none-left, run-parted, run-some}
 use Rattle.md_events.specs.Events.Nested.{pair}
 use Rattle.md_events.specs.Events.Places.{past_text}
@@ -18,10 +18,10 @@ use Rattle.md_leaves.proofs.heading_text.add_runs.Goals as goal
 -- what is left of the piece lies on the line, in its first run and after that
 in-two : (bytes rest front back : List ℕ) (n : ℕ) (p : Point) → front ≡ take n rest → back ≡ drop n rest →
     IsOnLine bytes rest p → IsOnLine bytes (front ++ back) p
-in-two bytes rest front back n p is behind on =
+in-two bytes rest front back n p is following on =
     subst (λ (l : List ℕ). IsOnLine bytes l p)
     (sym
-    (ap (λ (l : List ℕ). l ++ back) is ∙ ap (λ (l : List ℕ). take n rest ++ l) behind ∙ take-append-drop n rest)) on
+    (ap (λ (l : List ℕ). l ++ back) is ∙ ap (λ (l : List ℕ). take n rest ++ l) following ∙ take-append-drop n rest)) on
 
 pub loop-rest-init : goal.loop-rest-init
 loop-rest-init c = record { on = c.requires; same = refl; events = refl }
@@ -43,13 +43,13 @@ add_part-requires-clause-from c =
 pub add_part-requires-clause-to : goal.add_part-requires-clause-to
 add_part-requires-clause-to c =
     let bytes = c.args.tokenizer.now.bytes.now in
-    let behind : IsOnLine bytes c.split_at.result.1.now (past_text c.split_at.result.0.now c.loop-rest.point) =
-    on-behind bytes c.split_at.result.0.now c.split_at.result.1.now c.loop-rest.point
+    let following : IsOnLine bytes c.split_at.result.1.now (past_text c.split_at.result.0.now c.loop-rest.point) =
+    on-following bytes c.split_at.result.0.now c.split_at.result.1.now c.loop-rest.point
     (in-two bytes c.loop-rest.rest.now c.split_at.result.0.now c.split_at.result.1.now c.run_len.result
     c.loop-rest.point c.split_at.ensures.front c.split_at.ensures.back c.loop-rest.invariant.on) in
     subst (λ (l : List ℕ). IsPlaced l c.past_text-end.result)
     (sym (ap (λ (w : World). w.setting.bytes) c.loop-rest.invariant.same))
-    (subst (IsPlaced bytes) (sym c.past_text-end.ensures) behind.placed)
+    (subst (IsPlaced bytes) (sym c.past_text-end.ensures) following.placed)
 
 -- something is left
 some-left : (rest : List ℕ) → false ≡ (length rest == 0) → 0 < length rest
@@ -63,7 +63,7 @@ loop-rest-smaller c =
     let some : 0 < c.run_len.result =
     run-some rest c.run_len.result lt
     (c.run_len.ensures.value
-    ∙ ap (λ (x : Bool). prefix_len (goes_on (cond x White Hashes)) rest) c.is_white-white.ensures) in
+    ∙ ap (λ (x : Bool). prefix_len (is_continued (cond x White Hashes)) rest) c.is_white-white.ensures) in
     omega (arith, some, lt, ap length c.split_at.ensures.back, length-drop c.run_len.result rest)
 
 pub loop-rest-preserved : goal.loop-rest-preserved
@@ -86,7 +86,7 @@ loop-rest-preserved c =
     record {
       on =
           subst (IsOnLine bytes back) (sym c.past_text-end.ensures)
-          (on-behind bytes front back p
+          (on-following bytes front back p
           (in-two bytes rest front back c.run_len.result p c.split_at.ensures.front c.split_at.ensures.back
           c.loop-rest.invariant.on));
       same = ap (λ (x : World). record x { events = w0.events }) new ∙ c.loop-rest.invariant.same;

@@ -8,10 +8,10 @@ use Rattle.md_engine.specs.declared.event.Point.{Point}
 use Rattle.md_engine.specs.declared.tokenizer.Tokenizer.{Tokenizer}
 use Rattle.md_engine.specs.Place.{IsPlaced, first_point}
 use Rattle.md_engine.specs.World.{World, world}
-use Rattle.md_leaves.specs.Heading.{text_behind}
+use Rattle.md_leaves.specs.Heading.{text_following}
 use Rattle.md_leaves.specs.HeadingRuns.{Apart, chunk_unless_empty, line_runs, linked_data, text_events}
 use Rattle.md_leaves.specs.OnLine.{IsOnLine}
-use Rattle.md_leaves.proofs.OnLine.{on-behind}
+use Rattle.md_leaves.proofs.OnLine.{on-following}
 use Rattle.md_leaves.proofs.TextBegun.{first-placed, last-placed, text-on}
 use Rattle.md_meaning.specs.Leaves.{heading_text}
 use Rattle.md_meaning.specs.Lines.{without_ending}
@@ -65,10 +65,10 @@ taken-on t from line e is =
 -- the text and what is after it
 in-two : (bytes line front back : List ℕ) (n : ℕ) (p : Point) → front ≡ take n line → back ≡ drop n line →
     IsOnLine bytes line p → IsOnLine bytes (front ++ back) p
-in-two bytes line front back n p is behind on =
+in-two bytes line front back n p is following on =
     subst (λ (l : List ℕ). IsOnLine bytes l p)
     (sym
-    (ap (λ (l : List ℕ). l ++ back) is ∙ ap (λ (l : List ℕ). take n line ++ l) behind ∙ take-append-drop n line)) on
+    (ap (λ (l : List ℕ). l ++ back) is ∙ ap (λ (l : List ℕ). take n line ++ l) following ∙ take-append-drop n line)) on
 
 -- their events
 text-is : (line front back text : List ℕ) (p q : Point) → text ≡ heading_text line →
@@ -79,7 +79,8 @@ text-is line front back text p q is is_front is_back long end =
     let size = length (heading_text line) in
     let z = past_text (take size line) p in
     let same : size ≡ length text = ap length (sym is) in
-    let there : z ≡ q = ap (λ (n : ℕ). past_text (take n line) p) same ∙ ap (λ (l : List ℕ). past_text l p) (sym is_front)
+    let there : z ≡ q = ap (λ (n : ℕ). past_text (take n line) p) same
+    ∙ ap (λ (l : List ℕ). past_text l p) (sym is_front)
     ∙ sym end in
     ap (λ (n : ℕ). linked_data (chunk_unless_empty n p z) ++ line_runs Apart (drop size line) z) (same ∙ sym long)
     ∙ ap (λ (l : List ℕ). linked_data (chunk_unless_empty (length front) p z) ++ line_runs Apart l z)
@@ -113,18 +114,18 @@ add_data-requires-clause-from c =
     c.text_taken-line.ensures).placed
 
 -- the text ends at a place on the line
-behind : (t : Tokenizer) (from q : Point) (line front back : List ℕ) (n : ℕ) →
+following : (t : Tokenizer) (from q : Point) (line front back : List ℕ) (n : ℕ) →
     Some from ≡ cond (is_begun t) (Some (last_of t)) None →
     line ≡ without_ending (line_taken t.bytes.now t.scratch t.point) → front ≡ take n line → back ≡ drop n line →
     q ≡ past_text front from → IsOnLine t.bytes.now back q
-behind t from q line front back n e is is_front is_back end =
+following t from q line front back n e is is_front is_back end =
     subst (IsOnLine t.bytes.now back) (sym end)
-    (on-behind t.bytes.now front back from
+    (on-following t.bytes.now front back from
     (in-two t.bytes.now line front back n from is_front is_back (taken-on t from line e is)))
 
 pub add_data-requires-clause-end : goal.add_data-requires-clause-end
 add_data-requires-clause-end c =
-    (behind c.args.tokenizer.now c.in-Some.from c.text_end-end.result c.text_taken-line.result.now
+    (following c.args.tokenizer.now c.in-Some.from c.text_end-end.result c.text_taken-line.result.now
     c.split_at.result.0.now c.split_at.result.1.now (length c.heading_text.result.now) c.in-Some.ensures
     c.text_taken-line.ensures c.split_at.ensures.front c.split_at.ensures.back c.text_end-end.ensures).placed
 
@@ -133,7 +134,7 @@ add_runs-requires c =
     let t = c.args.tokenizer.now in
     subst (λ (l : List ℕ). IsOnLine l c.split_at.result.1.now c.text_end-end.result)
     (sym (ap (λ (x : World). x.setting.bytes) c.in_ok-add_data.ensures.world))
-    (behind t c.in-Some.from c.text_end-end.result c.text_taken-line.result.now c.split_at.result.0.now
+    (following t c.in-Some.from c.text_end-end.result c.text_taken-line.result.now c.split_at.result.0.now
     c.split_at.result.1.now (length c.heading_text.result.now) c.in-Some.ensures c.text_taken-line.ensures
     c.split_at.ensures.front c.split_at.ensures.back c.text_end-end.ensures)
 
@@ -152,7 +153,7 @@ returns-clause-world c =
     let taken : List ℕ = line_taken w.setting.bytes w.scratch w.point in
     let mid : world c.add_data.new.tokenizer ≡ record w { events = w.events ++ text_part } =
     c.in_ok-add_data.ensures.world in
-    let text : text_behind w.events w.scratch taken ≡ text_part ++ runs =
+    let text : text_following w.events w.scratch taken ≡ text_part ++ runs =
     ap (λ (x : Bool). cond x (text_events (without_ending taken) (last_of t)) []) begun.0
     ∙ ap (text_events (without_ending taken)) (sym begun.1)
     ∙ ap (λ (l : List ℕ). text_events l from) (sym c.text_taken-line.ensures)

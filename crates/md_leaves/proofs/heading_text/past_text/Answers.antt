@@ -20,7 +20,8 @@ past_byte-point-requires c =
     let i = c.loop-byte.byte-index in
     let piece = c.args.piece.now in
     let room = on-room c.args.bytes.now (drop (i + 1) piece) (get_or piece i 0) c.loop-byte.point
-    (subst (λ (l : List ℕ). IsOnLine c.args.bytes.now l c.loop-byte.point) (at_drop_more (λ (l : List ℕ). l) piece i 0 c.loop-byte-test.true)
+    (subst (λ (l : List ℕ). IsOnLine c.args.bytes.now l c.loop-byte.point)
+    (at_drop_more (λ (l : List ℕ). l) piece i 0 c.loop-byte-test.true)
     c.loop-byte.invariant.on) in
     (room.index, room.column)
 
@@ -28,7 +29,8 @@ pub loop-byte-preserved : goal.loop-byte-preserved
 loop-byte-preserved c =
     let i = c.loop-byte.byte-index in
     let piece = c.args.piece.now in
-    let first : drop i piece ≡ get_or piece i 0 ∷ drop (i + 1) piece = at_drop_more (λ (l : List ℕ). l) piece i 0 c.loop-byte-test.true in
+    let first : drop i piece ≡ get_or piece i 0 ∷ drop (i + 1) piece =
+    at_drop_more (λ (l : List ℕ). l) piece i 0 c.loop-byte-test.true in
     let on : IsOnLine c.args.bytes.now (get_or piece i 0 ∷ drop (i + 1) piece) c.loop-byte.point =
     subst (λ (l : List ℕ). IsOnLine c.args.bytes.now l c.loop-byte.point) first c.loop-byte.invariant.on in
     record {

@@ -8,3 +8,8 @@ pub returns-2 : goal.returns-2
 returns-2 c =
     state-is _ _ _ _ _ (bom_rule its.Inside _ _ _) (search rules)
     (search rules) (search rules)
+
+pub returns-then-size-lt3 : goal.returns-then-size-lt3
+returns-then-size-lt3 c =
+    state-is _ _ _ _ _ (bom_rule its.Inside _ _ _) (search rules)
+    (search rules) (search rules)

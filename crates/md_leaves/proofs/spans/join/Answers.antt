@@ -4,7 +4,7 @@ use Rattle.std.proofs.lemmas.Bool.{or_parts}
 use Rattle.md_engine.specs.declared.event.Event.{Event}
 use Rattle.md_leaves.specs.declared.spans.Place.TheVariants.{Outside}
 use Rattle.md_leaves.specs.declared.spans.Walk.{Walk}
-use Rattle.md_leaves.specs.Spanned.{given, goes_on, passes_on, spanned, spanned_from, turn}
+use Rattle.md_leaves.specs.Spanned.{given, is_continued, passes_on, spanned, spanned_from, turn}
 use Rattle.md_leaves.specs.SpannedWalk.{given_of, passing, rest_of}
 use Rattle.md_leaves.specs.Turned.{HoldNoUnderline, is_underline}
 use Rattle.md_events.specs.Rewritten.{held_of, left_of, written_of}
@@ -68,7 +68,7 @@ loop-event-preserved c =
           (plain-append (given_of new) (take (passing new) (rest_of new))
           (subst HoldNoUnderline (sym c.in_ok-step.ensures.given)
           (plain-append (given_of old) (given old.place c.in-Some.event left) (c.loop-event.invariant.plain both.0)
-          (plain-given (turn c.in-Some.event) old.place (goes_on left) c.in-Some.event both.1)))
+          (plain-given (turn c.in-Some.event) old.place (is_continued left) c.in-Some.event both.1)))
           (plain-passed new.place (rest_of new) (passing new) (omega arith)));
     }
 

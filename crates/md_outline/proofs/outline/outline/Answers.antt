@@ -16,4 +16,4 @@ loop-event-preserved c = record {
 pub returns : goal.returns
 returns c = λ is.
     state-end c.args.state.now.bytes.now c.args.events.now c.loop-event.event-index (state_of c.loop-event.reading) is
-    (omega arith) (c.loop-event.invariant.reads is).comes
+    (omega arith) (c.loop-event.invariant.reads is).becomes

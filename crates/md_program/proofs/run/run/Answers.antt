@@ -5,6 +5,6 @@ pub returns-in-Err : goal.returns-in-Err
 returns-in-Err g c = record {
   failure = Some c.in-Err.failure;
   ending = c.report.ensures.status;
-  telling = c.report.ensures.told;
+  reporting = c.report.ensures.recorded;
   running = c.in-Err.ensures;
 }

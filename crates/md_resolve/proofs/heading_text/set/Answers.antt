@@ -52,10 +52,10 @@ is-found c =
     c.until_text-front.ensures.within c.text_len-text.ensures.set c.text_len-text.ensures.within
 
 -- what is left after the text
-left-behind : (c : goal.After-hold_many-3) →
+left-following : (c : goal.After-hold_many-3) →
     left_of c.push_text.new.events
     ≡ drop c.text_len-text.result (drop c.until_text-front.result (left_of c.args.all.now))
-left-behind c =
+left-following c =
     c.in_ok-push_text.ensures.left ∙ c.skip.ensures.left ∙ ap (drop c.text_len-text.result) c.hold_many-2.ensures.left
 
 -- what an index past the end would give
@@ -81,13 +81,13 @@ returns-clause-given c =
     ∙ ap₂ (λ (a b : List Event). a ++ b) c.hold_many-2.ensures.written c.hold_many-2.ensures.held))
     (c.hold_many-3.ensures.held
     ∙ ap₂ (λ (a b : List Event). a ++ take more b) (c.in_ok-push_text.ensures.held ∙ c.skip.ensures.held)
-    (left-behind c))
+    (left-following c))
     ∙ heading-given c.args._event (left_of c.args.all.now) es c.until_end-many.result front text nothing
     (written_of c.args.all.now) (held_of c.args.all.now) (is-found c) (omega (arith, c.if-text-eq0.false))
 
 pub returns-clause-left : goal.returns-clause-left
 returns-clause-left c =
     c.hold_many-3.ensures.left
-    ∙ ap (drop (c.until_end-many.result - c.until_text-front.result - c.text_len-text.result)) (left-behind c)
+    ∙ ap (drop (c.until_end-many.result - c.until_text-front.result - c.text_len-text.result)) (left-following c)
     ∙ heading-left c.args._event (left_of c.args.all.now) (take c.until_end-many.result c.left-left.result.now)
     c.until_end-many.result c.until_text-front.result c.text_len-text.result (is-found c)

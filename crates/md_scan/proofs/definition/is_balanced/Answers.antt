@@ -1,10 +1,10 @@
 use Rattle.std.proofs.Common.{◌∙◌, length, sym, ap, arith}
-use Rattle.md_scan.proofs.DefinitionLemmas.{balanced-stops, balanced-goes, balanced-ends, depth_behind-le}
+use Rattle.md_scan.proofs.DefinitionLemmas.{balanced-stops, balanced-proceeds, balanced-ends, depth_following-le}
 use Rattle.md_scan.proofs.definition.is_balanced.Goals as goal
 
-pub returns-in_default-depth_behind : goal.returns-in_default-depth_behind
-returns-in_default-depth_behind c =
-    sym (balanced-stops _ _ _ _ _ c.in-Some.ensures.cases.0 c.in_default-depth_behind.ensures)
+pub returns-in_default-depth_following : goal.returns-in_default-depth_following
+returns-in_default-depth_following c =
+    sym (balanced-stops _ _ _ _ _ c.in-Some.ensures.cases.0 c.in_default-depth_following.ensures)
     ∙ c.loop-first.invariant.0
 
 pub returns : goal.returns
@@ -14,12 +14,13 @@ pub loop-first-preserved : goal.loop-first-preserved
 loop-first-preserved c = (
   rw c.is_bare-escaped.ensures
       (sym
-      (balanced-goes _ c.in-Some-depth_behind.behind _ _ _ _ c.in-Some.ensures.cases.0 c.in-Some-depth_behind.ensures)
+      (balanced-proceeds _ c.in-Some-depth_following.following _ _ _ _ c.in-Some.ensures.cases.0
+      c.in-Some-depth_following.ensures)
       ∙ c.loop-first.invariant.0),
   omega (
     arith,
-    depth_behind-le c.loop-first.escaped c.loop-first.depth c.in-Some.first.now c.in-Some-depth_behind.behind
-        c.in-Some-depth_behind.ensures,
+    depth_following-le c.loop-first.escaped c.loop-first.depth c.in-Some.first.now c.in-Some-depth_following.following
+        c.in-Some-depth_following.ensures,
     c.loop-first.invariant.1,
     ap length c.in-Some.ensures.cases.0,
   ),

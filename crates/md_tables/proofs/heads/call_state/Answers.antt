@@ -35,7 +35,7 @@ returns-in-SpaceOrTab c = record {
   runs = λ fine.
       let w = world c.args.tokenizer.now in
       let w' = world c.call-in-SpaceOrTab.new.tokenizer in
-      (head-called c.args.name w c.call-in-SpaceOrTab.result w' c.requires.current c.requires.stands
+      (head-called c.args.name w c.call-in-SpaceOrTab.result w' c.requires.current c.requires.valid
       (within-world c.args.tokenizer.now) fine
       (c.call-in-SpaceOrTab.ensures.to fine ∙ ap (λ (x : StateName). (head_transition x w).to) (sym c.in-SpaceOrTab.is))
       (c.call-in-SpaceOrTab.ensures.world fine
@@ -43,7 +43,7 @@ returns-in-SpaceOrTab c = record {
   sees = λ fine.
       let w = world c.args.tokenizer.now in
       let w' = world c.call-in-SpaceOrTab.new.tokenizer in
-      (head-called c.args.name w c.call-in-SpaceOrTab.result w' c.requires.current c.requires.stands
+      (head-called c.args.name w c.call-in-SpaceOrTab.result w' c.requires.current c.requires.valid
       (within-world c.args.tokenizer.now) fine
       (c.call-in-SpaceOrTab.ensures.to fine ∙ ap (λ (x : StateName). (head_transition x w).to) (sym c.in-SpaceOrTab.is))
       (c.call-in-SpaceOrTab.ensures.world fine

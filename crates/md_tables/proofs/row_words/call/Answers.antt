@@ -11,7 +11,7 @@ returns-in-None c = record {
   sees = λ fine.
       let r = c.args.row in
       (passes-runs r (name_at r c.args.place) (world c.args.tokenizer.now) (name_at r place.Break)
-      (world c.reach.new.tokenizer) c.parts.result (world c.parts.new.tokenizer) c.in-None.ensures.goes
+      (world c.reach.new.tokenizer) c.parts.result (world c.parts.new.tokenizer) c.in-None.ensures.proceeds
       (c.parts.ensures.runs fine) (c.parts.ensures.sees fine)).1;
   full = search rules;
 }

@@ -11,7 +11,7 @@ returns-in-Some c = record {
   sees = λ fine.
       let r = c.args.row in
       let name = name_at r place.Break in
-      let here = c.in-Some.ensures.goes fine in
+      let here = c.in-Some.ensures.proceeds fine in
       (passes-runs r name (world c.args.tokenizer.now) name (world c.loop-state.tokenizer) c.in-Some.state _
       c.loop-state.invariant here.0 here.1).1;
   full = search rules;

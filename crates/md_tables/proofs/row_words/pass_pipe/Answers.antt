@@ -10,12 +10,12 @@ use Rattle.md_tables.specs.Row.{name_at}
 use Rattle.md_tables.specs.RowWords.{RowStep, divided}
 use Rattle.md_tables.specs.RowWords.RowStep.{OfRow}
 use Rattle.md_tables.specs.declared.row.Place.TheVariants as place
-use Rattle.md_tables.proofs.RowWords.{Stood, gap-falls, gap-goes, on-ok, pipe-taken, pipe-waits, stood-first}
+use Rattle.md_tables.proofs.RowWords.{IsValid, gap-falls, gap-proceeds, on-ok, pipe-taken, pipe-waits, is_valid-first}
 use Rattle.md_leaves.proofs.HeadingCalls.{ahead}
 use Rattle.md_tables.proofs.row_words.pass_pipe.Goals as goal
 
-pub returns-then-see_or_wait-clause-goes : goal.returns-then-see_or_wait-clause-goes
-returns-then-see_or_wait-clause-goes c = λ fine.
+pub returns-then-see_or_wait-clause-proceeds : goal.returns-then-see_or_wait-clause-proceeds
+returns-then-see_or_wait-clause-proceeds c = λ fine.
     let r = c.args.row in
     let first = name_at r place.Break in
     let w = world c.args.tokenizer.now in
@@ -26,13 +26,13 @@ returns-then-see_or_wait-clause-goes c = λ fine.
           (sym c.name_at.ensures)
           (subst (RunsHere (RowStep r) first w (Next (name_at r place.CellBefore)))
           (sym (c.if-see_or_wait.ensures.same refl ∙ is))
-          (pipe-waits r first w w (stood-first r first w c.requires.at.current) (within-world c.args.tokenizer.now)
+          (pipe-waits r first w w (is_valid-first r first w c.requires.at.current) (within-world c.args.tokenizer.now)
           c.requires.pipe)),
       tt,
     )
 
-pub returns-clause-goes : goal.returns-clause-goes
-returns-clause-goes c =
+pub returns-clause-proceeds : goal.returns-clause-proceeds
+returns-clause-proceeds c =
     let r = c.args.row in
     let first = name_at r place.Break in
     let cell = name_at r place.CellBefore in
@@ -41,15 +41,15 @@ returns-clause-goes c =
     let v = world c.see_or_wait.new.self in
     let has_taken : is_ok c.take_pipe.result ≡ true = c.if-is_err.ensures.negation in
     let is : u ≡ divided w = on-ok c.take_pipe.result (u ≡ divided w) has_taken c.take_pipe.ensures.world in
-    let behind : (divided w).point.index < (divided w).setting.limit =
-    subst (λ (y : World). y.point.index < y.setting.limit) is (ahead (c.if-see_or_wait.ensures.goes_on refl)) in
+    let following : (divided w).point.index < (divided w).setting.limit =
+    subst (λ (y : World). y.point.index < y.setting.limit) is (ahead (c.if-see_or_wait.ensures.is_continued refl)) in
     let sees : v ≡ reading (divided w) = c.if-see_or_wait.ensures.sees refl ∙ ap (λ (y : World). reading y) is in
-    let stood : Stood r first w cell v =
-    subst (Stood r first w cell) (sym sees)
-    (pipe-taken r first w w (stood-first r first w c.requires.at.current) (within-world c.args.tokenizer.now)
-    c.requires.pipe behind) in
+    let is_valid : IsValid r first w cell v =
+    subst (IsValid r first w cell) (sym sees)
+    (pipe-taken r first w w (is_valid-first r first w c.requires.at.current) (within-world c.args.tokenizer.now)
+    c.requires.pipe following) in
     let within = within-world c.see_or_wait.new.self in
-    gap-goes r first cell w v v (world c.gap.new.tokenizer) c.gap.result stood within within refl refl refl
+    gap-proceeds r first cell w v v (world c.gap.new.tokenizer) c.gap.result is_valid within within refl refl refl
     (OfRow place.CellBefore refl refl refl) c.gap.ensures.none c.gap.ensures.to c.gap.ensures.world
 
 pub returns-clause-falls : goal.returns-clause-falls

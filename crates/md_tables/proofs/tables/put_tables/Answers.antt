@@ -2,7 +2,7 @@ use Rattle.std.proofs.Common.{sym, subst}
 use Rattle.std.proofs.lemmas.List.{take_rest}
 use Rattle.md_events.specs.Parts.{ArePlaced}
 use Rattle.md_tables.specs.Tabled.{tabled}
-use Rattle.md_tables.proofs.TabledWalk.{tabled-placed, walk-done, walk-goes}
+use Rattle.md_tables.proofs.TabledWalk.{tabled-placed, walk-done, walk-proceeds}
 use Rattle.md_tables.proofs.tables.put_tables.Goals as goal
 use Rattle.md_tables.proofs.tables.put_tables.Goals.{then-in_table+in_ok-many, else-in_table+in_ok-many-2}
 
@@ -14,11 +14,11 @@ loop-at-preserved c =
     elim c.if-in_table.branch [
       | then-in_table+in_ok-many w ↦
           rw (w.walk-is, w.many-is)
-          (walk-goes old w.inside.new.self events (tabled events) at w.in_ok-many.many
+          (walk-proceeds old w.inside.new.self events (tabled events) at w.in_ok-many.many
           (rw (take_rest events at) at w.in_ok-many.ensures.in_all) c.loop-at.invariant)
       | else-in_table+in_ok-many-2 w ↦
           rw (w.walk-is, w.many-is)
-          (walk-goes old w.outside.new.self events (tabled events) at w.in_ok-many-2.many
+          (walk-proceeds old w.outside.new.self events (tabled events) at w.in_ok-many-2.many
           (rw (take_rest events at) at w.in_ok-many-2.ensures.in_all) c.loop-at.invariant)
     ]
 

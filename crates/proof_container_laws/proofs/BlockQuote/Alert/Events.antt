@@ -14,9 +14,9 @@ use Rattle.md_events.specs.Events.Nested.{around, enter, exit, pair}
 
 -- the events of the prefix of any line, but for its end
 abbrev pub front_list : Point → Point → Point → Point → List Event
-front_list p marker behind q =
+front_list p marker following q =
     pair_unless_empty n.SpaceOrTab p marker ++ enter n.BlockQuotePrefix marker ∷ enter n.BlockQuoteMarker marker
-    ∷ exit n.BlockQuoteMarker behind ∷ pair_unless_empty n.SpaceOrTab behind q
+    ∷ exit n.BlockQuoteMarker following ∷ pair_unless_empty n.SpaceOrTab following q
 
 -- those of the marker of an alert
 abbrev pub marker_list : Point → Point → Point → Point → List Event
@@ -26,15 +26,15 @@ marker_list p left right q =
 
 -- what a prefix is around
 abbrev pub inside_list : Point → Point → Point → List Event → List Event
-inside_list marker behind middle alert =
-    pair n.BlockQuoteMarker marker behind ++ (pair_unless_empty n.SpaceOrTab behind middle ++ alert)
+inside_list marker following middle alert =
+    pair n.BlockQuoteMarker marker following ++ (pair_unless_empty n.SpaceOrTab following middle ++ alert)
 
 -- a prefix without its end
 pub front-is : (bytes : List ℕ) (kind : AlertKind) (p q : Point) (es : List Event) →
     (o : IsOpening bytes (Some kind) p q es) →
-    o.front ≡ front_list p o.prefix.marker o.prefix.behind o.middle
+    o.front ≡ front_list p o.prefix.marker o.prefix.following o.middle
 front-is bytes kind p q es o =
-    append_cancel_right o.front (front_list p o.prefix.marker o.prefix.behind o.middle)
+    append_cancel_right o.front (front_list p o.prefix.marker o.prefix.following o.middle)
     (exit n.BlockQuotePrefix o.middle ∷ []) o.prefix.events
 
 -- the whole, as parts around others
@@ -42,11 +42,11 @@ pub alert-is : (bytes : List ℕ) (kind : AlertKind) (p q : Point) (es : List Ev
     (o : IsOpening bytes (Some kind) p q es) →
     es ≡
     pair_unless_empty n.SpaceOrTab p o.prefix.marker
-    ++ around n.BlockQuotePrefix o.prefix.marker q (inside_list o.prefix.marker o.prefix.behind o.middle o.alert)
+    ++ around n.BlockQuotePrefix o.prefix.marker q (inside_list o.prefix.marker o.prefix.following o.middle o.alert)
 alert-is bytes kind p q es o =
     let indent : List Event = pair_unless_empty n.SpaceOrTab p o.prefix.marker in
     let front : List Event = enter n.BlockQuotePrefix o.prefix.marker ∷ enter n.BlockQuoteMarker o.prefix.marker
-    ∷ exit n.BlockQuoteMarker o.prefix.behind ∷ pair_unless_empty n.SpaceOrTab o.prefix.behind o.middle in
+    ∷ exit n.BlockQuoteMarker o.prefix.following ∷ pair_unless_empty n.SpaceOrTab o.prefix.following o.middle in
     let end : List Event = exit n.BlockQuotePrefix q ∷ [] in
     o.events ∙ ap (λ (l : List Event). (l ++ o.alert) ++ end) (front-is bytes kind p q es o)
     ∙ ap (λ (l : List Event). l ++ end) (append_assoc indent front o.alert)

@@ -6,19 +6,20 @@ use Rattle.md_engine.specs.declared.event.Kind.TheVariants.{Enter}
 use Rattle.md_engine.specs.declared.event.Name.TheVariants as n
 use Rattle.md_engine.specs.declared.event.Point.{Point}
 use Rattle.md_containers.proofs.OpeningLines.{IsMarker, IsOpening, marker-kind}
-use Rattle.md_containers.proofs.UnlistedLemmas.{NoListing, among, stands-append, unlists-same}
+use Rattle.md_containers.proofs.UnlistedLemmas.{NoListing, among, valid-append, unlists-same}
 use Rattle.md_meaning.specs.declared.alert.AlertKind.{AlertKind}
 use Rattle.md_meaning.specs.State.{InQuote}
-use Rattle.md_events.specs.Events.Grammar.{behind_block, blocks}
+use Rattle.md_events.specs.Events.Grammar.{after_block, blocks}
 use Rattle.md_events.specs.Events.Inline.{pair_unless_empty}
 use Rattle.md_events.specs.Events.Nested.{around, enter, exit}
 use Rattle.md_events.specs.Events.Prefix.{is_prefix}
 use Rattle.md_events.specs.Events.Spelled.{IsQuoteMarker, OpenLeaf, Reading, Text, is_before_blocks, kind_at, on_shape}
 use Rattle.md_events.specs.Events.Spelled.{read, read_by, with_kind}
 use Rattle.md_meaning.specs.Tree.{End}
-use Rattle.md_events.proofs.SpelledLemmas.{Between, Quiet, QuietOrPrefix, Unmarked, read-from, read-prefixes, read-quiet}
+use Rattle.md_events.proofs.SpelledLemmas.{Between, Quiet, QuietOrPrefix, Unmarked, read-from, read-prefixes}
+use Rattle.md_events.proofs.SpelledLemmas.{read-quiet}
 use Rattle.proof_frame.proofs.EachEvent.{each-append, each-front}
-use Rattle.proof_frame.proofs.LeafStands.{between-stand, between-unlisted}
+use Rattle.proof_frame.proofs.LeafAllowed.{between-are_valid, between-unlisted}
 use Rattle.proof_frame.proofs.PartedFacts.{Still, sits-still}
 use Rattle.proof_frame.proofs.PlainFacts.{Untold, plain-untold}
 use Rattle.proof_frame.proofs.PlainRoles.{pair-roles}
@@ -35,7 +36,7 @@ alert-facts : (bytes : List ℕ) (kind : AlertKind) (p q : Point) (es : List Eve
     IsOpening bytes (Some kind) p q es → PrefixFacts bytes p q es
 alert-facts bytes kind p q es o =
     part-facts (alert-part bytes kind p q es o) (o.marker.line ∙ o.prefix.line)
-    (λ behind. prefix-clear bytes p o.middle (o.front ++ exit n.BlockQuotePrefix o.middle ∷ []) o.prefix)
+    (λ following. prefix-clear bytes p o.middle (o.front ++ exit n.BlockQuotePrefix o.middle ∷ []) o.prefix)
 
 -- They have names of prefixes.
 
@@ -71,7 +72,7 @@ alert-some bytes kind p q es o none =
     go : (xs : List Event) →
         xs
         ++ around n.BlockQuotePrefix o.prefix.marker q
-        (inside_list o.prefix.marker o.prefix.behind o.middle o.alert) ≢
+        (inside_list o.prefix.marker o.prefix.following o.middle o.alert) ≢
         []
     go [] h = cc
     go (x ∷ xs) h = cc
@@ -79,10 +80,10 @@ alert-some bytes kind p q es o none =
 -- They are read.
 
 -- the marker gives the quote its kind, before its blocks
-marker-told : (bytes : List ℕ) (kind : AlertKind) (p q : Point) (es : List Event) →
+marker-recorded : (bytes : List ℕ) (kind : AlertKind) (p q : Point) (es : List Event) →
     (m : IsMarker bytes kind p q es) → (r : Reading) → r.text ≡ None → r.leaf ≡ None →
     read_by bytes Enter IsQuoteMarker m.opens (begins (InQuote None) r) ≡ begins (InQuote (Some kind)) r
-marker-told bytes kind p q es m r none shut =
+marker-recorded bytes kind p q es m r none shut =
     let s : Reading = begins (InQuote None) r in
     ap
     (λ (x : Bool). cond x (record s { outer = on_shape (with_kind (kind_at bytes m.opens.index)) s.outer }) s)
@@ -96,12 +97,12 @@ marker-read : (bytes : List ℕ) (kind : AlertKind) (p q : Point) (es : List Eve
 marker-read bytes kind p q es m r none shut =
     let s : Reading = begins (InQuote None) r in
     let white : List Event = pair_unless_empty n.SpaceOrTab p m.opens in
-    let behind : List Event = exit n.BlockQuoteMarker m.closes ∷ pair_unless_empty n.SpaceOrTab m.closes q in
+    let following : List Event = exit n.BlockQuoteMarker m.closes ∷ pair_unless_empty n.SpaceOrTab m.closes q in
     ap (read bytes s) m.events
-    ∙ read-from bytes s s white (enter n.BlockQuoteMarker m.opens ∷ behind)
+    ∙ read-from bytes s s white (enter n.BlockQuoteMarker m.opens ∷ following)
     (read-quiet bytes s white (pair-roles Quiet n.SpaceOrTab p m.opens tt))
-    ∙ ap (λ (x : Reading). read bytes x behind) (marker-told bytes kind p q es m r none shut)
-    ∙ read-prefixes bytes (begins (InQuote (Some kind)) r) behind none
+    ∙ ap (λ (x : Reading). read bytes x following) (marker-recorded bytes kind p q es m r none shut)
+    ∙ read-prefixes bytes (begins (InQuote (Some kind)) r) following none
     (tt, pair-roles QuietOrPrefix n.SpaceOrTab m.closes q tt) (tt, white-unmarked bytes m.closes q)
 
 alert-read : (bytes : List ℕ) (kind : AlertKind) (p q : Point) (es : List Event) →
@@ -131,13 +132,13 @@ alert-opens bytes kind p q es o = record {
   plain = plain-untold bytes es (prefixes-roles Untold es (refl, refl) (refl, refl) (refl, refl) are);
   sits = sits-still bytes es (prefixes-roles Still es tt tt tt are);
   leads =
-      λ text takes. unlists-same text (blocks ∷ []) (blocks ∷ behind_block ∷ []) (enter n.BlockQuote p ∷ es)
+      λ text takes. unlists-same text (blocks ∷ []) (blocks ∷ after_block ∷ []) (enter n.BlockQuote p ∷ es)
       (refl, none)
       (alert-begins bytes kind p q es o text);
-  stands =
-      λ held. stands-append bytes (among held) (among (false ∷ held)) (among (false ∷ held)) (enter n.BlockQuote p ∷ [])
-      es (record { stand = (tt, tt); behind = refl })
-      (between-stand bytes (false ∷ held) es (prefixes-roles Between es tt tt tt are));
+  valid =
+      λ held. valid-append bytes (among held) (among (false ∷ held)) (among (false ∷ held)) (enter n.BlockQuote p ∷ [])
+      es (record { are_valid = (tt, tt); following = refl })
+      (between-are_valid bytes (false ∷ held) es (prefixes-roles Between es tt tt tt are));
   unlisted = none;
   read = λ r none shut. alert-read bytes kind p q es o r none shut;
   shown = refl;

@@ -5,7 +5,7 @@ use Rattle.md_engine.specs.declared.event.Name.TheVariants as n
 use Rattle.md_engine.specs.declared.event.Point.{Point}
 use Rattle.md_containers.proofs.OpeningLines.{IsMarker, IsOpening}
 use Rattle.md_meaning.specs.declared.alert.AlertKind.{AlertKind}
-use Rattle.md_events.specs.Events.Grammar.{Expression, behind, behind_block, blocks, inside, left_of}
+use Rattle.md_events.specs.Events.Grammar.{Expression, following, after_block, blocks, inside, left_of}
 use Rattle.md_events.specs.Events.Inline.{pair_unless_empty}
 use Rattle.md_events.specs.Events.Nested.{around, enter, pair}
 use Rattle.md_events.specs.Events.Places.{same_place}
@@ -14,7 +14,7 @@ use Rattle.proof_container_laws.proofs.BlockQuote.Alert.Events.{alert-is, inside
 
 -- the prefix from `>` on may be where that is left after it
 leads-part : (text x : Expression) (marker past middle left right q : Point) →
-    Leads text (x ∷ []) (behind n.BlockQuotePrefix x ∷ [])
+    Leads text (x ∷ []) (following n.BlockQuotePrefix x ∷ [])
     (around n.BlockQuotePrefix marker q (inside_list marker past middle (marker_list middle left right q)))
 leads-part text x marker past middle left right q outer =
     go (same_place past middle) (same_place middle left) (same_place right q)
@@ -26,7 +26,7 @@ leads-part text x marker past middle left right q outer =
         ++ (cond none [] (pair n.SpaceOrTab past middle)
         ++ (cond before [] (pair n.SpaceOrTab middle left)
         ++ (pair n.BlockQuoteMarker left right ++ cond after [] (pair n.SpaceOrTab right q)))))) ≡
-        behind n.BlockQuotePrefix x ∷ outer
+        following n.BlockQuotePrefix x ∷ outer
     go true true true = refl
     go true true false = refl
     go true false true = refl
@@ -39,22 +39,22 @@ leads-part text x marker past middle left right q outer =
 part-leads : (bytes : List ℕ) (kind : AlertKind) (text x : Expression) (marker past middle q : Point)
     (alert : List Event) →
     IsMarker bytes kind middle q alert →
-    Leads text (x ∷ []) (behind n.BlockQuotePrefix x ∷ [])
+    Leads text (x ∷ []) (following n.BlockQuotePrefix x ∷ [])
     (around n.BlockQuotePrefix marker q (inside_list marker past middle alert))
 part-leads bytes kind text x marker past middle q alert m =
     subst
     (λ (es : List Event).
-    Leads text (x ∷ []) (behind n.BlockQuotePrefix x ∷ [])
+    Leads text (x ∷ []) (following n.BlockQuotePrefix x ∷ [])
     (around n.BlockQuotePrefix marker q (inside_list marker past middle es))) (sym m.events)
     (leads-part text x marker past middle m.opens m.closes q)
 
 -- where it opens, with its begin
 pub alert-begins : (bytes : List ℕ) (kind : AlertKind) (p q : Point) (es : List Event) →
     IsOpening bytes (Some kind) p q es → (text : Expression) →
-    Leads text (blocks ∷ []) (blocks ∷ behind_block ∷ []) (enter n.BlockQuote p ∷ es)
+    Leads text (blocks ∷ []) (blocks ∷ after_block ∷ []) (enter n.BlockQuote p ∷ es)
 alert-begins bytes kind p q es o text outer =
     subst (Leads text (quote ∷ []) (blocks ∷ [])) (sym (alert-is bytes kind p q es o))
-    (go (leads-unless text quote n.SpaceOrTab p marker refl)) (behind_block ∷ outer)
+    (go (leads-unless text quote n.SpaceOrTab p marker refl)) (after_block ∷ outer)
   where
     quote : Expression
     quote = inside text n.BlockQuote
@@ -66,9 +66,9 @@ alert-begins bytes kind p q es o text outer =
     indent = pair_unless_empty n.SpaceOrTab p marker
 
     part : List Event
-    part = around n.BlockQuotePrefix marker q (inside_list marker o.prefix.behind o.middle o.alert)
+    part = around n.BlockQuotePrefix marker q (inside_list marker o.prefix.following o.middle o.alert)
 
-    same : (some : Bool) → behind n.BlockQuotePrefix (maybe some n.SpaceOrTab quote) ≡ blocks
+    same : (some : Bool) → following n.BlockQuotePrefix (maybe some n.SpaceOrTab quote) ≡ blocks
     same true = refl
     same false = refl
 
@@ -77,5 +77,5 @@ alert-begins bytes kind p q es o text outer =
     go w =
         let room : Expression = maybe w.0 n.SpaceOrTab quote in
         subst (λ (z : Expression). Leads text (quote ∷ []) (z ∷ []) (indent ++ part)) (same w.0)
-        (leads-append text (quote ∷ []) (room ∷ []) (behind n.BlockQuotePrefix room ∷ []) indent part w.1
-        (part-leads bytes kind text room marker o.prefix.behind o.middle q o.alert o.marker))
+        (leads-append text (quote ∷ []) (room ∷ []) (following n.BlockQuotePrefix room ∷ []) indent part w.1
+        (part-leads bytes kind text room marker o.prefix.following o.middle q o.alert o.marker))

@@ -15,9 +15,9 @@ use Rattle.md_containers.proofs.OpeningLines.{IsMarker}
 use Rattle.md_meaning.specs.Alert.{first_kind, is_marker, kinds, marker_of}
 use Rattle.md_meaning.specs.declared.alert.AlertKind.{AlertKind}
 use Rattle.md_meaning.specs.declared.alert.AlertKind.TheVariants as its
-use Rattle.md_events.specs.Events.Pieces.{is_one_of, piece_stands}
+use Rattle.md_events.specs.Events.Pieces.{is_one_of, is_valid_piece}
 use Rattle.proof_frame.proofs.BetweenFacts.{is_low}
-use Rattle.proof_frame.proofs.PieceFacts.{begins-whole, over-stands, span}
+use Rattle.proof_frame.proofs.PieceFacts.{begins-whole, over-valid, span}
 
 -- The bytes of a marker.
 
@@ -96,12 +96,12 @@ marker-low bytes kind p q es m =
     let some = known.2 in
     let past = m.past in (omega arith, same.1, omega arith)
 
-pub bytes-stand : (bytes : List ℕ) (kind : AlertKind) (p q : Point) (es : List Event) →
-    (m : IsMarker bytes kind p q es) → piece_stands bytes (span n.BlockQuoteMarker m.opens m.closes) ≡ true
-bytes-stand bytes kind p q es m =
+pub bytes-are_valid : (bytes : List ℕ) (kind : AlertKind) (p q : Point) (es : List Event) →
+    (m : IsMarker bytes kind p q es) → is_valid_piece bytes (span n.BlockQuoteMarker m.opens m.closes) ≡ true
+bytes-are_valid bytes kind p q es m =
     let line : List ℕ = slice_range bytes m.opens.index m.closes.index in
     let some = (marker-low bytes kind p q es m).2 in
-    over-stands bytes n.BlockQuoteMarker m.opens m.closes line
+    over-valid bytes n.BlockQuoteMarker m.opens m.closes line
     (record { some = some; whole = m.closes_whole; slice = refl })
     (begins-whole n.BlockQuoteMarker m.opens m.opens_whole)
     (or_right (is_one_of (62 ∷ []) line) (is_marker line)

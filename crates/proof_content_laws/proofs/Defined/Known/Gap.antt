@@ -5,17 +5,17 @@ use Rattle.md_engine.specs.declared.event.Event.{Event}
 use Rattle.md_engine.specs.declared.event.Name.TheVariants as n
 use Rattle.md_engine.specs.declared.event.Point.{Point}
 use Rattle.md_outline.specs.Between.{is_between}
-use Rattle.md_events.specs.Events.Grammar.{Expression, behind}
+use Rattle.md_events.specs.Events.Grammar.{Expression, following}
 use Rattle.md_events.specs.Events.Inline.{pair_unless_empty}
 use Rattle.md_events.specs.Events.Nested.{pair}
 use Rattle.md_events.specs.Events.Places.{same_place}
 use Rattle.md_events.specs.Events.Spelled.{DefinitionLeaf, DefinitionSoFar, OpenLeaf}
-use Rattle.proof_frame.proofs.BetweenFacts.{ending-before, ending-behind}
+use Rattle.proof_frame.proofs.BetweenFacts.{ending-before, ending-following}
 use Rattle.proof_frame.proofs.ContainerNames.{TakesPrefixes}
 use Rattle.proof_content_laws.proofs.Defined.Form.{Gap, IsBreak, IsGap, IsWhite, OnLine, OverLine, gap_events}
 use Rattle.proof_content_laws.proofs.Defined.Known.Marks.{white-back, white-between, white-parts}
-use Rattle.proof_frame.proofs.PartsFacts.{PartsFacts, parts-append, behind_ending, parts-ended, parts-front}
-use Rattle.proof_frame.proofs.FrontStands.{fronts-between}
+use Rattle.proof_frame.proofs.PartsFacts.{PartsFacts, parts-append, following_ending, parts-ended, parts-front}
+use Rattle.proof_frame.proofs.FrontValid.{fronts-between}
 
 -- Places between characters.
 
@@ -23,7 +23,7 @@ use Rattle.proof_frame.proofs.FrontStands.{fronts-between}
 break-between : (bytes : List ℕ) (e q r : Point) (front : List Event) → IsBreak bytes e q r front →
     is_between bytes r.index ≡ true
 break-between bytes e q r front is =
-    (fronts-between bytes [] q r front (ending-behind bytes e q is.ending) is.front_is).1
+    (fronts-between bytes [] q r front (ending-following bytes e q is.ending) is.front_is).1
 
 -- from the begin of a gap, and from its end
 pub gap-between : (bytes : List ℕ) (p q : Point) (g : Gap) → IsGap bytes p q g → is_between bytes p.index ≡ true →
@@ -42,9 +42,9 @@ gap-back bytes p q (OverLine a e b r s front) is h = white-back bytes p e is.1 (
 
 -- Whitespace may be there, or a line ending with prefixes; after whitespace this is left, and that after the ending.
 pub record MayGap (x y w : Expression) : Type 0 where
-  pub white : behind n.SpaceOrTab x ≡ y
-  pub ended : behind n.LineEnding x ≡ w
-  pub white_ended : behind n.LineEnding y ≡ w
+  pub white : following n.SpaceOrTab x ≡ y
+  pub ended : following n.LineEnding x ≡ w
+  pub white_ended : following n.LineEnding y ≡ w
   pub takes : TakesPrefixes w
 
 abbrev pub gap_left : Expression → Expression → Expression → Gap → Expression
@@ -55,7 +55,7 @@ gap_left x y w (OverLine p e q r s front) = w
 
 -- after the ending of a line a definition has no line more
 ended-leaf : (bytes : List ℕ) (q : Point) (d : DefinitionSoFar) →
-    behind_ending bytes q (DefinitionLeaf d) ≡ DefinitionLeaf d
+    following_ending bytes q (DefinitionLeaf d) ≡ DefinitionLeaf d
 ended-leaf bytes q d = go (nat_lt q.index (length bytes))
   where
     go : (x : Bool) → cond x (DefinitionLeaf d) (DefinitionLeaf d) ≡ DefinitionLeaf d
@@ -63,7 +63,7 @@ ended-leaf bytes q d = go (nat_lt q.index (length bytes))
     go false = refl
 
 -- whitespace, by what is left after it
-white-to : (bytes : List ℕ) (p q : Point) (x y : Expression) (leaf : OpenLeaf) → behind n.SpaceOrTab x ≡ y →
+white-to : (bytes : List ℕ) (p q : Point) (x y : Expression) (leaf : OpenLeaf) → following n.SpaceOrTab x ≡ y →
     IsWhite bytes p q →
     PartsFacts bytes p q x (cond (same_place p q) x y) leaf leaf (pair_unless_empty n.SpaceOrTab p q)
     (pair_unless_empty n.SpaceOrTab p q)
@@ -74,7 +74,7 @@ white-to bytes p q x y leaf left is =
     (pair_unless_empty n.SpaceOrTab p q)) left (white-parts bytes p q x leaf is)
 
 -- where prefixes may be, so may whitespace
-white-same : (bytes : List ℕ) (p q : Point) (w : Expression) (leaf : OpenLeaf) → behind n.SpaceOrTab w ≡ w →
+white-same : (bytes : List ℕ) (p q : Point) (w : Expression) (leaf : OpenLeaf) → following n.SpaceOrTab w ≡ w →
     IsWhite bytes p q →
     PartsFacts bytes p q w w leaf leaf (pair_unless_empty n.SpaceOrTab p q) (pair_unless_empty n.SpaceOrTab p q)
 white-same bytes p q w leaf left is =
@@ -89,7 +89,7 @@ white-same bytes p q w leaf left is =
 
 -- the ending of a line, wherever it may be
 ending-parts : (bytes : List ℕ) (e q r : Point) (front : List Event) (x w : Expression) (d : DefinitionSoFar) →
-    behind n.LineEnding x ≡ w → IsBreak bytes e q r front →
+    following n.LineEnding x ≡ w → IsBreak bytes e q r front →
     PartsFacts bytes e q x w (DefinitionLeaf d) (DefinitionLeaf d) (pair n.LineEnding e q) (pair n.LineEnding e q)
 ending-parts bytes e q r front x w d left is =
     subst₂
@@ -118,7 +118,7 @@ gap-parts bytes p q x y w d (OverLine a e b r s front) may is =
     (ending-parts bytes e b r front z w d (go (same_place p e)) is.2)
     (λ begin end. ending-before bytes e b is.2.ending))
     (parts-front bytes b r w leaf front may.takes is.2.front_is)
-    (λ begin end. ending-behind bytes e b is.2.ending)) (white-same bytes r s w leaf may.takes.0 is.3)
+    (λ begin end. ending-following bytes e b is.2.ending)) (white-same bytes r s w leaf may.takes.0 is.3)
     (λ begin end. break-between bytes e b r front is.2))
   where
     leaf : OpenLeaf
@@ -127,6 +127,6 @@ gap-parts bytes p q x y w d (OverLine a e b r s front) may is =
     z : Expression
     z = cond (same_place p e) x y
 
-    go : (t : Bool) → behind n.LineEnding (cond t x y) ≡ w
+    go : (t : Bool) → following n.LineEnding (cond t x y) ≡ w
     go true = may.ended
     go false = may.white_ended

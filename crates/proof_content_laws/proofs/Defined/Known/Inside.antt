@@ -5,7 +5,7 @@ use Rattle.md_engine.specs.declared.event.Event.{Event}
 use Rattle.md_engine.specs.declared.event.Name.TheVariants as n
 use Rattle.md_engine.specs.declared.event.Point.{Point}
 use Rattle.md_meaning.specs.Texts.{trim_further}
-use Rattle.md_events.specs.Events.Grammar.{Expression, behind}
+use Rattle.md_events.specs.Events.Grammar.{Expression, following}
 use Rattle.md_events.specs.Events.Inline.{pair_unless_empty}
 use Rattle.md_events.specs.Events.Nested.{around, pair}
 use Rattle.md_events.specs.Events.Places.{same_place}
@@ -18,9 +18,10 @@ use Rattle.proof_content_laws.proofs.Defined.Form.{strand_lines, strand_unread, 
 use Rattle.proof_content_laws.proofs.Defined.Form.{target_by, target_text, text_lines, title_by, titled_by}
 use Rattle.proof_content_laws.proofs.Defined.Known.Gap.{gap-between, gap-parts}
 use Rattle.proof_content_laws.proofs.Defined.Known.Label.{label-parts, label_last, label_text}
-use Rattle.proof_content_laws.proofs.Defined.Known.Left.{behind_gap, colon_left, end_left, form_left, so_far, target-gap}
-use Rattle.proof_content_laws.proofs.Defined.Known.Left.{target-left, target_left, title-gap, title_left}
-use Rattle.proof_content_laws.proofs.Defined.Known.Marks.{mark-behind, mark-parts, white-back, white-parts, white_left}
+use Rattle.proof_content_laws.proofs.Defined.Known.Left.{following_gap, colon_left, end_left, form_left, so_far}
+use Rattle.proof_content_laws.proofs.Defined.Known.Left.{target-gap, target-left, target_left, title-gap, title_left}
+use Rattle.proof_content_laws.proofs.Defined.Known.Marks.{mark-following, mark-parts, white-back, white-parts}
+use Rattle.proof_content_laws.proofs.Defined.Known.Marks.{white_left}
 use Rattle.proof_frame.proofs.PartsFacts.{PartsFacts, parts-append}
 use Rattle.proof_content_laws.proofs.Defined.Known.Target.{StringParts, target-fills, target-parts}
 use Rattle.proof_content_laws.proofs.Defined.Known.Title.{TextParts, TitleParts, title-back, title-fills, title-parts}
@@ -46,17 +47,17 @@ abbrev pub through_gap : (Strand → List Event) → Form → List Event
 through_gap f x = label_by f x ++ pair n.DefinitionMarker x.c x.d ++ gap_events x.gap
 
 gap-through : (bytes : List ℕ) (x : Form) (g t : Point) → IsForm bytes x g t → FormTexts bytes x →
-    PartsFacts bytes x.p g form_left (behind_gap target_left x.gap) (so_far [] [] None)
+    PartsFacts bytes x.p g form_left (following_gap target_left x.gap) (so_far [] [] None)
     (so_far (label_lines x) [] None) (through_gap strand_unread x) (through_gap (strand_done bytes) x)
 gap-through bytes x g t is known =
     parts-append
     (parts-append
     (label-parts bytes x form_left (so_far [] [] None) (so_far (label_lines x) [] None) is.opens is.closes known.label)
     (mark-parts bytes n.DefinitionMarker 58 x.c x.d colon_left (so_far (label_lines x) [] None) is.colon tt refl
-    (λ text. refl) refl) (λ begin end. mark-behind bytes 93 x.b x.c is.closes refl))
-    (gap-parts bytes x.d g target_left (behind n.SpaceOrTab target_left) (behind n.LineEnding target_left)
+    (λ text. refl) refl) (λ begin end. mark-following bytes 93 x.b x.c is.closes refl))
+    (gap-parts bytes x.d g target_left (following n.SpaceOrTab target_left) (following n.LineEnding target_left)
     (record { label = label_lines x; destination = []; title = None }) x.gap target-gap is.gap)
-    (λ begin end. mark-behind bytes 58 x.c x.d is.colon refl)
+    (λ begin end. mark-following bytes 58 x.c x.d is.colon refl)
 
 -- with it,
 abbrev pub through_target : (Strand → List Event) → (Point → Point → List Event) → Form → List Event
@@ -69,11 +70,11 @@ target-through bytes x g t is known =
     parts-append (gap-through bytes x g t is known)
     (subst
     (λ (z : Expression).
-    PartsFacts bytes g t (behind_gap target_left x.gap) z (so_far (label_lines x) [] None)
+    PartsFacts bytes g t (following_gap target_left x.gap) z (so_far (label_lines x) [] None)
     (so_far (label_lines x) (target_text x.target) None) (target_by string_unread x.target)
     (target_by (string_done bytes) x.target)) (target-left x.gap)
-    (target-parts bytes g t (behind_gap target_left x.gap) (label_lines x) x.target known.target is.target))
-    (λ begin end. gap-between bytes x.d g x.gap is.gap (mark-behind bytes 58 x.c x.d is.colon refl))
+    (target-parts bytes g t (following_gap target_left x.gap) (label_lines x) x.target known.target is.target))
+    (λ begin end. gap-between bytes x.d g x.gap is.gap (mark-following bytes 58 x.c x.d is.colon refl))
 
 -- and with the title.
 title-through : (bytes : List ℕ) (x : Form) (g t : Point) → IsForm bytes x g t → FormTexts bytes x →
@@ -109,7 +110,7 @@ title-last f front target (Some t) h fills both last =
 
 gap-stays : (bytes : List ℕ) (p q : Point) (g : Gap) → IsGap bytes p q g → Stays (gap_events g)
 gap-stays bytes p q g is =
-    (gap-parts bytes p q title_left (behind n.SpaceOrTab title_left) (behind n.LineEnding title_left)
+    (gap-parts bytes p q title_left (following n.SpaceOrTab title_left) (following n.LineEnding title_left)
     (record { label = []; destination = []; title = None }) g title-gap is).stays
 
 string-stays : (bytes : List ℕ) (label : List (List ℕ)) (target : List ℕ) (a b : Point) (text : Option Strand) →
@@ -157,7 +158,7 @@ form-fills bytes x g t is known = (
     others = white-others x.e x.last
 
     gap :
-        PartsFacts bytes x.p g form_left (behind_gap target_left x.gap) (so_far [] [] None)
+        PartsFacts bytes x.p g form_left (following_gap target_left x.gap) (so_far [] [] None)
         (so_far (label_lines x) [] None) (through_gap strand_unread x) (through_gap (strand_done bytes) x)
     gap = gap-through bytes x g t is known
 

@@ -2,7 +2,7 @@
 use Rattle.std.proofs.Common.{ℕ, List, ◌++◌, refl}
 use Rattle.md_engine.specs.declared.event.Event.{Event}
 use Rattle.md_engine.specs.declared.event.Name.TheVariants as n
-use Rattle.md_events.specs.Events.Grammar.{Expression, Nothing, behind, inside, plain_text}
+use Rattle.md_events.specs.Events.Grammar.{Expression, Nothing, following, inside, plain_text}
 use Rattle.md_events.specs.Events.Nested.{around, pair}
 use Rattle.md_events.specs.Events.Spelled.{OpenLeaf}
 use Rattle.proof_content_laws.proofs.Defined.Known.Enclosed.{IsMarkName, parts-enclosed}
@@ -17,10 +17,10 @@ abbrev pub label_begin : Expression
 label_begin = inside plain_text n.DefinitionLabel
 
 abbrev pub label_text : Expression
-label_text = behind n.DefinitionLabelMarker label_begin
+label_text = following n.DefinitionLabelMarker label_begin
 
 abbrev pub label_last : Expression
-label_last = behind n.DefinitionLabelString label_text
+label_last = following n.DefinitionLabelString label_text
 
 -- by what is known of its text
 pub label-parts : (bytes : List ℕ) (x : Form) (left : Expression) (from to : OpenLeaf) →
@@ -28,7 +28,7 @@ pub label-parts : (bytes : List ℕ) (x : Form) (left : Expression) (from to : O
     PartsFacts bytes x.a x.b label_text label_last from to
     (around n.DefinitionLabelString x.a x.b (strand_unread x.label))
     (around n.DefinitionLabelString x.a x.b (strand_done bytes x.label)) →
-    PartsFacts bytes x.p x.c left (behind n.DefinitionLabel left) from to (label_by strand_unread x)
+    PartsFacts bytes x.p x.c left (following n.DefinitionLabel left) from to (label_by strand_unread x)
     (label_by (strand_done bytes) x)
 label-parts bytes x left from to opens closes text =
     parts-around bytes n.DefinitionLabel x.p x.c left label_begin Nothing from to from to (enclosed unread)

@@ -16,7 +16,7 @@ use Rattle.proof_content_laws.proofs.Defined.Known.Inside.{FormTexts, form-fills
 use Rattle.proof_content_laws.proofs.Defined.Known.Left.{end-left, end_left, form_left, so_far}
 use Rattle.proof_content_laws.proofs.Defined.Known.Marks.{white-lead, white_left}
 use Rattle.proof_frame.proofs.LeafFacts.{LeafFacts}
-use Rattle.proof_frame.proofs.LeafLines.Leaf.{facts-behind_lead, leaf-around}
+use Rattle.proof_frame.proofs.LeafLines.Leaf.{facts-after_lead, leaf-around}
 use Rattle.proof_frame.proofs.PartsFacts.{PartsFacts}
 use Rattle.proof_frame.proofs.PlainFacts.{ArePlain}
 
@@ -25,7 +25,7 @@ pub facts-by : (bytes : List ℕ) (x : Form) (g t : Point) → IsForm bytes x g 
     ArePlain bytes (around n.Definition x.p x.last (inside_by (strand_done bytes) (string_done bytes) x)) →
     LeafFacts bytes (Some (form_block x)) true x.first x.last (form_unread x) (form_done bytes x)
 facts-by bytes x g t is known plain =
-    facts-behind_lead (white-lead bytes x.first x.p is.indent)
+    facts-after_lead (white-lead bytes x.first x.p is.indent)
     (leaf-around n.Definition OfDefinition (record { is = refl; leaf = refl; no_part = refl; block = refl }) (record {
       unread_starts = refl;
       starts = refl;

@@ -9,10 +9,10 @@ use Rattle.md_engine.specs.declared.event.Name.{Name}
 use Rattle.md_engine.specs.declared.event.Name.TheVariants as n
 use Rattle.md_engine.specs.declared.event.Point.{Point}
 use Rattle.md_meaning.specs.Rest.{is_blank}
-use Rattle.md_events.specs.Events.Grammar.{Expression, behind, inside, may_end}
+use Rattle.md_events.specs.Events.Grammar.{Expression, following, inside, may_end}
 use Rattle.md_events.specs.Events.Inline.{pair_unless_empty}
 use Rattle.md_events.specs.Events.Nested.{pair}
-use Rattle.md_events.specs.Events.Pieces.{piece_stands, stands_over}
+use Rattle.md_events.specs.Events.Pieces.{is_valid_piece, may_cover}
 use Rattle.md_events.specs.Events.Places.{at_or_before, same_place}
 use Rattle.md_events.specs.Events.Spelled.{OpenLeaf, role}
 use Rattle.md_events.proofs.EndingsLemmas.{AreOthers}
@@ -20,11 +20,11 @@ use Rattle.md_events.proofs.InlineLemmas.{before-text, same-refl}
 use Rattle.md_events.proofs.PlacesLemmas.{apart-later}
 use Rattle.md_events.proofs.SpelledLemmas.{Quiet}
 use Rattle.md_outline.specs.Between.{is_between}
-use Rattle.proof_frame.proofs.BetweenFacts.{between-before, between-behind, blank-low, is_low, low-at}
+use Rattle.proof_frame.proofs.BetweenFacts.{between-before, between-following, blank-low, is_low, low-at}
 use Rattle.proof_content_laws.proofs.Defined.Form.{IsByte, IsRun, IsWhite}
 use Rattle.proof_frame.proofs.PartsFacts.{PartsFacts, parts-none, parts-pair}
 use Rattle.proof_frame.proofs.IndentRemoved.Shown.{whole-clear}
-use Rattle.proof_frame.proofs.PieceFacts.{Over, begins-cut, begins-whole, over-stands, span}
+use Rattle.proof_frame.proofs.PieceFacts.{Over, begins-cut, begins-whole, over-valid, span}
 use Rattle.proof_frame.proofs.LeafLines.Lead.{LeadFacts, lead-none, lead-white}
 
 -- Runs of a line.
@@ -50,36 +50,37 @@ run-before bytes text p q some low run =
     between-before bytes p.index
     (low-at bytes text p.index q.index p.index run.slice run.size low (omega arith) (omega (arith, some, run.size)))
 
-pub run-behind : (bytes text : List ℕ) (p q : Point) → 0 < length text → list_all is_low text ≡ true →
+pub run-following : (bytes text : List ℕ) (p q : Point) → 0 < length text → list_all is_low text ≡ true →
     IsRun bytes text p q → is_between bytes q.index ≡ true
-run-behind bytes text p q some low run =
-    between-behind bytes q.index
+run-following bytes text p q some low run =
+    between-following bytes q.index
     (low-at bytes text p.index q.index (q.index - 1) run.slice run.size low (omega (arith, some, run.size))
     (omega (arith, some, run.size)))
 
 -- Marks.
 
-pub mark-stands : (bytes : List ℕ) (name : Name) (b : ℕ) (p q : Point) → IsByte bytes b p q →
-    stands_over name (b ∷ []) ≡ true → piece_stands bytes (span name p q) ≡ true
-mark-stands bytes name b p q is over =
-    over-stands bytes name p q (b ∷ []) (run-over bytes (b ∷ []) p q (omega arith) is.1) (begins-whole name p is.0) over
+pub mark-valid : (bytes : List ℕ) (name : Name) (b : ℕ) (p q : Point) → IsByte bytes b p q →
+    may_cover name (b ∷ []) ≡ true → is_valid_piece bytes (span name p q) ≡ true
+mark-valid bytes name b p q is over =
+    over-valid bytes name p q (b ∷ []) (run-over bytes (b ∷ []) p q (omega arith) is.1) (begins-whole name p is.0) over
 
 pub mark-parts : (bytes : List ℕ) (name : Name) (b : ℕ) (p q : Point) (x : Expression) (leaf : OpenLeaf) →
     IsByte bytes b p q → Quiet (role name) → AreOthers (pair name p q) →
-    ((text : Expression) → may_end (inside text name) ≡ true) → stands_over name (b ∷ []) ≡ true →
-    PartsFacts bytes p q x (behind name x) leaf leaf (pair name p q) (pair name p q)
+    ((text : Expression) → may_end (inside text name) ≡ true) → may_cover name (b ∷ []) ≡ true →
+    PartsFacts bytes p q x (following name x) leaf leaf (pair name p q) (pair name p q)
 mark-parts bytes name b p q x leaf is quiet others ends over =
     parts-pair bytes name p q x leaf quiet others ends (run-order bytes (b ∷ []) p q is.1)
-    (mark-stands bytes name b p q is over)
+    (mark-valid bytes name b p q is over)
 
 -- they are of ASCII
 pub mark-before : (bytes : List ℕ) (b : ℕ) (p q : Point) → IsByte bytes b p q → is_low b ≡ true →
     is_between bytes p.index ≡ true
 mark-before bytes b p q is low = run-before bytes (b ∷ []) p q (omega arith) (and_from (is_low b) true low refl) is.1
 
-pub mark-behind : (bytes : List ℕ) (b : ℕ) (p q : Point) → IsByte bytes b p q → is_low b ≡ true →
+pub mark-following : (bytes : List ℕ) (b : ℕ) (p q : Point) → IsByte bytes b p q → is_low b ≡ true →
     is_between bytes q.index ≡ true
-mark-behind bytes b p q is low = run-behind bytes (b ∷ []) p q (omega arith) (and_from (is_low b) true low refl) is.1
+mark-following bytes b p q is low = run-following bytes (b ∷ []) p q (omega arith)
+    (and_from (is_low b) true low refl) is.1
 
 -- Whitespace.
 
@@ -99,12 +100,12 @@ white-by P bytes p q (inr is) none some =
 
 -- what is left of the grammar after it, by whether it is empty
 abbrev pub white_left : Bool → Expression → Expression
-white_left empty x = cond empty x (behind n.SpaceOrTab x)
+white_left empty x = cond empty x (following n.SpaceOrTab x)
 
-white-stands : (bytes text : List ℕ) (p q : Point) → 0 < length text → is_blank text ≡ true → IsRun bytes text p q →
-    piece_stands bytes (span n.SpaceOrTab p q) ≡ true
-white-stands bytes text p q some blank run =
-    over-stands bytes n.SpaceOrTab p q text (run-over bytes text p q some run) (begins-cut n.SpaceOrTab p refl) blank
+white-valid : (bytes text : List ℕ) (p q : Point) → 0 < length text → is_blank text ≡ true → IsRun bytes text p q →
+    is_valid_piece bytes (span n.SpaceOrTab p q) ≡ true
+white-valid bytes text p q some blank run =
+    over-valid bytes n.SpaceOrTab p q text (run-over bytes text p q some run) (begins-cut n.SpaceOrTab p refl) blank
 
 pub white-parts : (bytes : List ℕ) (p q : Point) (x : Expression) (leaf : OpenLeaf) → IsWhite bytes p q →
     PartsFacts bytes p q x (white_left (same_place p q) x) leaf leaf (pair_unless_empty n.SpaceOrTab p q)
@@ -114,14 +115,14 @@ white-parts bytes p q x leaf is =
     p q is (parts-none bytes p x leaf)
     (λ text some blank run.
     parts-pair bytes n.SpaceOrTab p q x leaf tt refl (λ text. refl) (run-order bytes text p q run)
-    (white-stands bytes text p q some blank run))
+    (white-valid bytes text p q some blank run))
 
 -- between characters it is so from its begin, and from its end
 pub white-between : (bytes : List ℕ) (p q : Point) → IsWhite bytes p q → is_between bytes p.index ≡ true →
     is_between bytes q.index ≡ true
 white-between bytes p q (inl same) h = subst (λ (r : Point). is_between bytes r.index ≡ true) same h
 white-between bytes p q (inr is) h =
-    run-behind bytes is.0 p q (some-long is.0 is.1) (blank-low is.0 is.2) is.3
+    run-following bytes is.0 p q (some-long is.0 is.1) (blank-low is.0 is.2) is.3
 
 pub white-back : (bytes : List ℕ) (p q : Point) → IsWhite bytes p q → is_between bytes q.index ≡ true →
     is_between bytes p.index ≡ true
@@ -134,5 +135,5 @@ pub white-lead : (bytes : List ℕ) (p q : Point) → IsWhite bytes p q →
 white-lead bytes p q is =
     white-by (λ (b : Bool) (r : Point) (es : List Event). LeadFacts bytes p r es) bytes p q is (lead-none bytes p)
     (λ text some blank run.
-    lead-white bytes p q (run-order bytes text p q run) (white-stands bytes text p q some blank run)
+    lead-white bytes p q (run-order bytes text p q run) (white-valid bytes text p q some blank run)
     (white-between bytes p q is) (λ first. whole-clear bytes q run.whole))

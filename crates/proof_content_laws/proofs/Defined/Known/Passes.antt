@@ -8,7 +8,7 @@ use Rattle.md_engine.specs.declared.event.Name.{Name}
 use Rattle.md_engine.specs.declared.event.Point.{Point}
 use Rattle.md_meaning.specs.Lines.{is_ending}
 use Rattle.md_meaning.proofs.TextsLemmas.{Both, Ending, LineFeed, Return, ending_bytes}
-use Rattle.md_outline.specs.LinesStand.{Part, part_site}
+use Rattle.md_outline.specs.LinesAllowed.{Part, part_site}
 use Rattle.md_outline.proofs.DefinedPass.{any-slice, part_begin, part_purpose, passes-part, passes-part_line}
 use Rattle.md_outline.proofs.LinesPass.{Passes}
 use Rattle.md_events.specs.Events.Inline.{plain_chunk}

@@ -5,8 +5,8 @@ use Rattle.md_engine.specs.declared.event.Event.{Event}
 use Rattle.md_engine.specs.declared.event.Name.{Name}
 use Rattle.md_engine.specs.declared.event.Name.TheVariants as n
 use Rattle.md_engine.specs.declared.event.Point.{Point}
-use Rattle.md_outline.specs.LinesStand.{AtLabel, AtTitleText, BehindPart, BehindTitleText, DestinationLeft, LabelPart}
-use Rattle.md_outline.specs.LinesStand.{Left, MayHaveTitle, NoneLeft, Site, TitleLeft, TitlePart}
+use Rattle.md_outline.specs.LinesAllowed.{AtLabel, AtTitleText, AfterPart, AfterTitleText, DestinationLeft, LabelPart}
+use Rattle.md_outline.specs.LinesAllowed.{Left, MayHaveTitle, NoneLeft, Site, TitleLeft, TitlePart}
 use Rattle.md_outline.proofs.DefinedPass.{passes-between, passes-definition, passes-destination, passes-titled}
 use Rattle.md_outline.proofs.DefinedPass.{passes-untitled}
 use Rattle.md_events.specs.Events.Inline.{pair_unless_empty, plain_chunk}
@@ -21,7 +21,8 @@ use Rattle.proof_content_laws.proofs.Defined.Known.Inside.{through_gap, through_
 use Rattle.proof_content_laws.proofs.Defined.Known.Passes.{strand-passes}
 use Rattle.proof_content_laws.proofs.Defined.Strings.Lines.{strand-lines}
 use Rattle.proof_content_laws.proofs.Defined.Known.Target.{chunk-one}
-use Rattle.proof_content_laws.proofs.Defined.Known.Texts.{FormStrings, LabelString, TargetString, TextString, TitleString}
+use Rattle.proof_content_laws.proofs.Defined.Known.Texts.{FormStrings, LabelString, TargetString, TextString}
+use Rattle.proof_content_laws.proofs.Defined.Known.Texts.{TitleString}
 use Rattle.proof_frame.proofs.FrontNames.{fronts-prefixes}
 use Rattle.proof_frame.proofs.PlainFacts.{ArePlain, ArePlainFrom, Untold, known-around}
 use Rattle.proof_frame.proofs.PlainFacts.{plain-none, plain-quiet, plain-through, plain-untold, quiet-from}
@@ -72,7 +73,7 @@ gap-roles P bytes p q (OverLine a e b r s front) quiet ending prefix marker is =
 
 -- a gap between two parts
 gap-plain : (bytes : List ℕ) (p q : Point) (left : Left) (g : Gap) → IsGap bytes p q g →
-    ArePlainFrom bytes (BehindPart left) (BehindPart left) (gap_events g)
+    ArePlainFrom bytes (AfterPart left) (AfterPart left) (gap_events g)
 gap-plain bytes p q left g is = record {
   known =
       (plain-untold bytes (gap_events g)
@@ -83,11 +84,11 @@ gap-plain bytes p q left g is = record {
 -- Its parts.
 
 label-plain : (bytes : List ℕ) (x : Form) (g t : Point) → IsForm bytes x g t → LabelString bytes x →
-    ArePlainFrom bytes AtLabel (BehindPart DestinationLeft) (label_by (strand_done bytes) x)
+    ArePlainFrom bytes AtLabel (AfterPart DestinationLeft) (label_by (strand_done bytes) x)
 label-plain bytes x g t is known =
-    around-plain bytes n.DefinitionLabel x.p x.c AtLabel (BehindPart DestinationLeft)
+    around-plain bytes n.DefinitionLabel x.p x.c AtLabel (AfterPart DestinationLeft)
     (pair n.DefinitionLabelMarker x.p x.a ++ text ++ pair n.DefinitionLabelMarker x.b x.c) tt
-    (marks-plain bytes n.DefinitionLabelMarker x.p x.a x.b x.c AtLabel (BehindPart DestinationLeft) text tt
+    (marks-plain bytes n.DefinitionLabelMarker x.p x.a x.b x.c AtLabel (AfterPart DestinationLeft) text tt
     (record {
       known = known.known refl;
       lines =
@@ -105,7 +106,7 @@ target_ends (Literal p a b q []) = DestinationLeft
 target_ends (Literal p a b q (c ∷ cs)) = TitleLeft
 
 string-plain : (bytes : List ℕ) (p q : Point) (text : List ℕ) → p.vs ≡ 0 → text ≢ [] → IsRun bytes text p q →
-    TargetString bytes → ArePlainFrom bytes (BehindPart DestinationLeft) (BehindPart TitleLeft) (string_done bytes p q)
+    TargetString bytes → ArePlainFrom bytes (AfterPart DestinationLeft) (AfterPart TitleLeft) (string_done bytes p q)
 string-plain bytes p q text whole some run known = record {
   known = (known p q text whole some run).known refl;
   lines =
@@ -115,31 +116,31 @@ string-plain bytes p q text whole some run known = record {
 }
 
 target-plain : (bytes : List ℕ) (p q : Point) (t : Target) → IsTarget bytes p q t → TargetString bytes →
-    ArePlainFrom bytes (BehindPart DestinationLeft) (BehindPart (target_ends t)) (target_by (string_done bytes) t)
+    ArePlainFrom bytes (AfterPart DestinationLeft) (AfterPart (target_ends t)) (target_by (string_done bytes) t)
 target-plain bytes p q (Raw a b text) is known =
-    around-plain bytes n.DefinitionDestination a b (BehindPart DestinationLeft) (BehindPart TitleLeft)
+    around-plain bytes n.DefinitionDestination a b (AfterPart DestinationLeft) (AfterPart TitleLeft)
     (around n.DefinitionDestinationRaw a b (string_done bytes a b)) tt
-    (around-plain bytes n.DefinitionDestinationRaw a b (BehindPart DestinationLeft) (BehindPart TitleLeft)
+    (around-plain bytes n.DefinitionDestinationRaw a b (AfterPart DestinationLeft) (AfterPart TitleLeft)
     (string_done bytes a b) tt
     (string-plain bytes a b text (subst (λ (x : Point). x.vs ≡ 0) (sym is.0) is.2) is.3
     (subst₂ (λ (x y : Point). IsRun bytes text x y) (sym is.0) (sym is.1) is.4) known))
 target-plain bytes p q (Literal o a b e []) is known =
-    around-plain bytes n.DefinitionDestination o e (BehindPart DestinationLeft) (BehindPart DestinationLeft)
+    around-plain bytes n.DefinitionDestination o e (AfterPart DestinationLeft) (AfterPart DestinationLeft)
     (around n.DefinitionDestinationLiteral o e (marked [])) tt
-    (around-plain bytes n.DefinitionDestinationLiteral o e (BehindPart DestinationLeft) (BehindPart DestinationLeft)
+    (around-plain bytes n.DefinitionDestinationLiteral o e (AfterPart DestinationLeft) (AfterPart DestinationLeft)
     (marked []) tt
-    (marks-plain bytes n.DefinitionDestinationLiteralMarker o a b e (BehindPart DestinationLeft)
-    (BehindPart DestinationLeft) [] tt (plain-none bytes (BehindPart DestinationLeft))))
+    (marks-plain bytes n.DefinitionDestinationLiteralMarker o a b e (AfterPart DestinationLeft)
+    (AfterPart DestinationLeft) [] tt (plain-none bytes (AfterPart DestinationLeft))))
   where
     marked : List Event → List Event
     marked es =
         pair n.DefinitionDestinationLiteralMarker o a ++ es ++ pair n.DefinitionDestinationLiteralMarker b e
 target-plain bytes p q (Literal o a b e (c ∷ cs)) is known =
-    around-plain bytes n.DefinitionDestination o e (BehindPart DestinationLeft) (BehindPart TitleLeft)
+    around-plain bytes n.DefinitionDestination o e (AfterPart DestinationLeft) (AfterPart TitleLeft)
     (around n.DefinitionDestinationLiteral o e (marked (string_done bytes a b))) tt
-    (around-plain bytes n.DefinitionDestinationLiteral o e (BehindPart DestinationLeft) (BehindPart TitleLeft)
+    (around-plain bytes n.DefinitionDestinationLiteral o e (AfterPart DestinationLeft) (AfterPart TitleLeft)
     (marked (string_done bytes a b)) tt
-    (marks-plain bytes n.DefinitionDestinationLiteralMarker o a b e (BehindPart DestinationLeft) (BehindPart TitleLeft)
+    (marks-plain bytes n.DefinitionDestinationLiteralMarker o a b e (AfterPart DestinationLeft) (AfterPart TitleLeft)
     (string_done bytes a b) tt (string-plain bytes a b (c ∷ cs) is.2.1.whole (λ e. cc) is.3 known)))
   where
     marked : List Event → List Event
@@ -149,7 +150,7 @@ target-plain bytes p q (Literal o a b e (c ∷ cs)) is known =
 -- a title around its text, or none
 text-plain : (bytes : List ℕ) (left : Left) (p a b q : Point) (text : Option Strand) → MayHaveTitle left → a.vs ≡ 0 →
     IsText bytes a b text → TextString bytes a b text →
-    ArePlainFrom bytes (BehindPart left) (BehindPart NoneLeft)
+    ArePlainFrom bytes (AfterPart left) (AfterPart NoneLeft)
     (around n.DefinitionTitle p q
     (pair n.DefinitionTitleMarker p a ++ string_of (strand_done bytes) a b text ++ pair n.DefinitionTitleMarker b q))
 text-plain bytes left p a b q None may whole is known = record {
@@ -175,9 +176,9 @@ text-plain bytes left p a b q (Some s) may whole is known = record {
     marked : List Event
     marked = pair n.DefinitionTitleMarker p a ++ text ++ pair n.DefinitionTitleMarker b q
 
-    inside : ArePlainFrom bytes AtTitleText BehindTitleText marked
+    inside : ArePlainFrom bytes AtTitleText AfterTitleText marked
     inside =
-        marks-plain bytes n.DefinitionTitleMarker p a b q AtTitleText BehindTitleText text tt
+        marks-plain bytes n.DefinitionTitleMarker p a b q AtTitleText AfterTitleText text tt
         (record {
           known = known.known refl;
           lines =
@@ -191,10 +192,10 @@ title_ends left (Some t) = NoneLeft
 
 title-plain : (bytes : List ℕ) (left : Left) (p q : Point) (title : Option Titled) → MayHaveTitle left →
     IsTitle bytes p q title → TitleString bytes title →
-    ArePlainFrom bytes (BehindPart left) (BehindPart (title_ends left title)) (title_by (strand_done bytes) title)
-title-plain bytes left p q None may is known = plain-none bytes (BehindPart left)
+    ArePlainFrom bytes (AfterPart left) (AfterPart (title_ends left title)) (title_by (strand_done bytes) title)
+title-plain bytes left p q None may is known = plain-none bytes (AfterPart left)
 title-plain bytes left p q (Some t) may is known =
-    plain-through bytes (BehindPart left) (BehindPart left) (BehindPart NoneLeft) (gap_events t.gap)
+    plain-through bytes (AfterPart left) (AfterPart left) (AfterPart NoneLeft) (gap_events t.gap)
     (around n.DefinitionTitle t.p t.q
     (pair n.DefinitionTitleMarker t.p t.a ++ string_of (strand_done bytes) t.a t.b t.text
     ++ pair n.DefinitionTitleMarker t.b t.q)) (gap-plain bytes p t.p left t.gap is.gap)
@@ -207,15 +208,15 @@ may-title (Literal p a b q (c ∷ cs)) = tt
 
 -- All of it.
 inside-plain : (bytes : List ℕ) (x : Form) (g t : Point) → IsForm bytes x g t → FormStrings bytes x →
-    ArePlainFrom bytes AtLabel (BehindPart (title_ends (target_ends x.target) x.title))
+    ArePlainFrom bytes AtLabel (AfterPart (title_ends (target_ends x.target) x.title))
     (inside_by (strand_done bytes) (string_done bytes) x)
 inside-plain bytes x g t is known =
     plain-through bytes AtLabel end end
     (through_target (strand_done bytes) (string_done bytes) x ++ title_by (strand_done bytes) x.title)
     (pair_unless_empty n.SpaceOrTab x.e x.last)
-    (plain-through bytes AtLabel (BehindPart (target_ends x.target)) end
+    (plain-through bytes AtLabel (AfterPart (target_ends x.target)) end
     (through_target (strand_done bytes) (string_done bytes) x) (title_by (strand_done bytes) x.title)
-    (plain-through bytes AtLabel first (BehindPart (target_ends x.target)) (through_gap (strand_done bytes) x)
+    (plain-through bytes AtLabel first (AfterPart (target_ends x.target)) (through_gap (strand_done bytes) x)
     (target_by (string_done bytes) x.target)
     (plain-through bytes AtLabel first first (label_by (strand_done bytes) x ++ pair n.DefinitionMarker x.c x.d)
     (gap_events x.gap)
@@ -226,10 +227,10 @@ inside-plain bytes x g t is known =
     (quiet-from bytes end (pair_unless_empty n.SpaceOrTab x.e x.last) (white-quiet x.e x.last))
   where
     first : Site
-    first = BehindPart DestinationLeft
+    first = AfterPart DestinationLeft
 
     end : Site
-    end = BehindPart (title_ends (target_ends x.target) x.title)
+    end = AfterPart (title_ends (target_ends x.target) x.title)
 
 pub form-plain : (bytes : List ℕ) (x : Form) (g t : Point) → IsForm bytes x g t → FormStrings bytes x →
     ArePlain bytes (around n.Definition x.p x.last (inside_by (strand_done bytes) (string_done bytes) x))

@@ -5,7 +5,7 @@ use Rattle.std.specs.Prelude.{None}
 use Rattle.md_engine.specs.declared.event.Event.{Event}
 use Rattle.md_engine.specs.declared.event.Name.TheVariants as n
 use Rattle.md_engine.specs.declared.event.Point.{Point}
-use Rattle.md_events.specs.Events.Grammar.{Expression, Nothing, behind, inside, plain_text}
+use Rattle.md_events.specs.Events.Grammar.{Expression, Nothing, following, inside, plain_text}
 use Rattle.md_events.specs.Events.Inline.{pair_unless_empty, plain_chunk}
 use Rattle.md_events.specs.Events.Nested.{around, pair}
 use Rattle.md_events.specs.Events.Places.{same_place}
@@ -27,7 +27,7 @@ use Rattle.proof_frame.proofs.PieceFacts.{Starts}
 abbrev pub StringParts : List ℕ → List (List ℕ) → Type 0
 StringParts bytes label =
     (a b : Point) (text : List ℕ) (x : Expression) → a.vs ≡ 0 → text ≢ [] → IsRun bytes text a b →
-    PartsFacts bytes a b x (behind n.DefinitionDestinationString x) (so_far label [] None) (so_far label text None)
+    PartsFacts bytes a b x (following n.DefinitionDestinationString x) (so_far label [] None) (so_far label text None)
     (string_unread a b) (string_done bytes a b)
 
 raw-name : IsPartName n.DefinitionDestinationRaw (inside plain_text n.DefinitionDestinationRaw)
@@ -66,7 +66,7 @@ literal-mark = record { quiet = tt; others = λ p q. refl; ends = λ text. refl 
 -- what is left after the first mark
 abbrev literal_text : Expression
 literal_text =
-    behind n.DefinitionDestinationLiteralMarker (inside plain_text n.DefinitionDestinationLiteral)
+    following n.DefinitionDestinationLiteralMarker (inside plain_text n.DefinitionDestinationLiteral)
 
 -- The whole, around what is between its marks or is its text.
 
@@ -78,9 +78,9 @@ literal_inside p a b q es =
     pair n.DefinitionDestinationLiteralMarker p a ++ es ++ pair n.DefinitionDestinationLiteralMarker b q
 
 literal-parts : (bytes : List ℕ) (p a b q : Point) (x y : Expression) (from to : OpenLeaf) (us ds : List Event) →
-    IsByte bytes 60 p a → IsByte bytes 62 b q → behind n.DefinitionDestinationLiteralMarker y ≡ Nothing →
+    IsByte bytes 60 p a → IsByte bytes 62 b q → following n.DefinitionDestinationLiteralMarker y ≡ Nothing →
     PartsFacts bytes a b literal_text y from to us ds →
-    PartsFacts bytes p q x (behind n.DefinitionDestination x) from to
+    PartsFacts bytes p q x (following n.DefinitionDestination x) from to
     (around n.DefinitionDestination p q (around n.DefinitionDestinationLiteral p q (literal_inside p a b q us)))
     (around n.DefinitionDestination p q (around n.DefinitionDestinationLiteral p q (literal_inside p a b q ds)))
 literal-parts bytes p a b q x y from to us ds opens closes left h =
@@ -115,7 +115,7 @@ literal-parts bytes p a b q x y from to us ds opens closes left h =
 raw-parts : (bytes : List ℕ) (p q : Point) (x : Expression) (from to : OpenLeaf) (us ds : List Event) →
     Starts us → Starts ds →
     PartsFacts bytes p q (inside plain_text n.DefinitionDestinationRaw) Nothing from to us ds →
-    PartsFacts bytes p q x (behind n.DefinitionDestination x) from to (raw_events p q us) (raw_events p q ds)
+    PartsFacts bytes p q x (following n.DefinitionDestination x) from to (raw_events p q us) (raw_events p q ds)
 raw-parts bytes p q x from to us ds first starts h =
     parts-around bytes n.DefinitionDestination p q x (inside plain_text n.DefinitionDestination) Nothing from to from to
     (around n.DefinitionDestinationRaw p q us) (around n.DefinitionDestinationRaw p q ds) target-name refl refl refl raw
@@ -131,19 +131,19 @@ raw-parts bytes p q x from to us ds first starts h =
 
 pub target-parts : (bytes : List ℕ) (p q : Point) (x : Expression) (label : List (List ℕ)) (t : Target) →
     StringParts bytes label → IsTarget bytes p q t →
-    PartsFacts bytes p q x (behind n.DefinitionDestination x) (so_far label [] None)
+    PartsFacts bytes p q x (following n.DefinitionDestination x) (so_far label [] None)
     (so_far label (target_text t) None) (target_by string_unread t) (target_by (string_done bytes) t)
 target-parts bytes p q x label (Raw a b text) string is =
     subst₂
     (λ (u v : Point).
-    PartsFacts bytes p q x (behind n.DefinitionDestination x) (so_far label [] None) (so_far label text None)
+    PartsFacts bytes p q x (following n.DefinitionDestination x) (so_far label [] None) (so_far label text None)
     (raw_events u v (string_unread u v)) (raw_events u v (string_done bytes u v))) (sym is.0) (sym is.1)
     (raw-parts bytes p q x (so_far label [] None) (so_far label text None) (string_unread p q) (string_done bytes p q)
     refl refl (string p q text (inside plain_text n.DefinitionDestinationRaw) is.2 is.3 is.4))
 target-parts bytes p q x label (Literal o a b e []) string is =
     subst₂
     (λ (u v : Point).
-    PartsFacts bytes p q x (behind n.DefinitionDestination x) (so_far label [] None) (so_far label [] None)
+    PartsFacts bytes p q x (following n.DefinitionDestination x) (so_far label [] None) (so_far label [] None)
     (around n.DefinitionDestination u v (around n.DefinitionDestinationLiteral u v (literal_inside u a b v [])))
     (around n.DefinitionDestination u v (around n.DefinitionDestinationLiteral u v (literal_inside u a b v []))))
     (sym is.0) (sym is.1)
@@ -154,12 +154,12 @@ target-parts bytes p q x label (Literal o a b e []) string is =
 target-parts bytes p q x label (Literal o a b e (c ∷ cs)) string is =
     subst₂
     (λ (u v : Point).
-    PartsFacts bytes p q x (behind n.DefinitionDestination x) (so_far label [] None) (so_far label (c ∷ cs) None)
+    PartsFacts bytes p q x (following n.DefinitionDestination x) (so_far label [] None) (so_far label (c ∷ cs) None)
     (around n.DefinitionDestination u v
     (around n.DefinitionDestinationLiteral u v (literal_inside u a b v (string_unread a b))))
     (around n.DefinitionDestination u v
     (around n.DefinitionDestinationLiteral u v (literal_inside u a b v (string_done bytes a b))))) (sym is.0) (sym is.1)
-    (literal-parts bytes p a b q x (behind n.DefinitionDestinationString literal_text) (so_far label [] None)
+    (literal-parts bytes p a b q x (following n.DefinitionDestinationString literal_text) (so_far label [] None)
     (so_far label (c ∷ cs) None) (string_unread a b) (string_done bytes a b) is.2 is.4 refl
     (string a b (c ∷ cs) literal_text is.2.1.whole (λ e. cc) is.3))
 

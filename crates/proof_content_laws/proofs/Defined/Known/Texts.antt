@@ -11,26 +11,27 @@ use Rattle.proof_content_laws.proofs.Defined.Form.{Form, IsRun, Strand, Titled, 
 use Rattle.proof_content_laws.proofs.Defined.Form.{strand_lines, strand_unread, target_text}
 use Rattle.proof_content_laws.proofs.Defined.Known.Inside.{FormTexts, label_lines}
 use Rattle.proof_content_laws.proofs.Defined.Known.Label.{label_text}
-use Rattle.proof_content_laws.proofs.Defined.Strings.Facts.{StringFacts, label_told, target_told, title_told}
+use Rattle.proof_content_laws.proofs.Defined.Strings.Facts.{StringFacts, label_recorded, target_recorded}
+use Rattle.proof_content_laws.proofs.Defined.Strings.Facts.{title_recorded}
 use Rattle.proof_content_laws.proofs.Defined.Known.Title.{TextParts, TitleParts, title_text}
 
 -- What is known of the texts of a definition: of its label, of any destination, and of its title, if it has one.
 
 abbrev pub LabelString : List ℕ → Form → Type 0
 LabelString bytes x =
-    StringFacts bytes n.DefinitionLabelString AsLabel x.a x.b (label_told (strand_lines x.label))
+    StringFacts bytes n.DefinitionLabelString AsLabel x.a x.b (label_recorded (strand_lines x.label))
     (strand_unread x.label) (strand_done bytes x.label)
 
 abbrev pub TargetString : List ℕ → Type 0
 TargetString bytes =
     (p q : Point) (text : List ℕ) → p.vs ≡ 0 → text ≢ [] → IsRun bytes text p q →
-    StringFacts bytes n.DefinitionDestinationString AsDestination p q (target_told text)
+    StringFacts bytes n.DefinitionDestinationString AsDestination p q (target_recorded text)
     (enter_link n.Data p string_link ∷ exit n.Data q ∷ []) (plain_chunk bytes (record { first = p; after = q }))
 
 abbrev pub TextString : List ℕ → Point → Point → Option Strand → Type 0
 TextString bytes a b None = Unit {0}
 TextString bytes a b (Some s) =
-    StringFacts bytes n.DefinitionTitleString AsTitle a b (title_told (strand_lines s)) (strand_unread s)
+    StringFacts bytes n.DefinitionTitleString AsTitle a b (title_recorded (strand_lines s)) (strand_unread s)
     (strand_done bytes s)
 
 abbrev pub TitleString : List ℕ → Option Titled → Type 0

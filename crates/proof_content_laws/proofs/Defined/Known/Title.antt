@@ -9,9 +9,9 @@ use Rattle.md_engine.specs.declared.event.Point.{Point}
 use Rattle.md_meaning.specs.Definition.{title_closer}
 use Rattle.md_meaning.specs.Texts.{trim_further}
 use Rattle.md_outline.specs.Between.{is_between}
-use Rattle.md_events.specs.Events.Grammar.{Expression, Nothing, behind, inside, plain_text}
+use Rattle.md_events.specs.Events.Grammar.{Expression, Nothing, following, inside, plain_text}
 use Rattle.md_events.specs.Events.Nested.{around, exit, pair}
-use Rattle.md_events.specs.Events.Spelled.{OpenLeaf, at_title, first_told, read}
+use Rattle.md_events.specs.Events.Spelled.{OpenLeaf, at_title, first_recorded, read}
 use Rattle.md_events.proofs.EndingsLemmas.{Filling, Stays, filling-append, stays-append, stays-others}
 use Rattle.md_events.proofs.SpelledLemmas.{read-from}
 use Rattle.proof_frame.proofs.FilledAround.{around-fills}
@@ -20,8 +20,8 @@ use Rattle.proof_content_laws.proofs.Defined.Form.{IsText, IsTitle, IsTitled, La
 use Rattle.proof_content_laws.proofs.Defined.Form.{Titled, strand_done, strand_lines, strand_unread, string_of}
 use Rattle.proof_content_laws.proofs.Defined.Form.{text_lines, title_by, titled_by}
 use Rattle.proof_content_laws.proofs.Defined.Known.Gap.{gap-back, gap-parts}
-use Rattle.proof_content_laws.proofs.Defined.Known.Left.{behind_gap, end_left, last_left, so_far, title-gap, title-left}
-use Rattle.proof_content_laws.proofs.Defined.Known.Left.{title_left}
+use Rattle.proof_content_laws.proofs.Defined.Known.Left.{following_gap, end_left, last_left, so_far, title-gap}
+use Rattle.proof_content_laws.proofs.Defined.Known.Left.{title-left, title_left}
 use Rattle.proof_content_laws.proofs.Defined.Known.Marks.{mark-before}
 use Rattle.proof_frame.proofs.PartsFacts.{IsPartName, PartsFacts, parts-around, parts-append, parts-none, ReadsLeaf}
 
@@ -68,7 +68,7 @@ title-marks b c h = go (b == 34) refl (b == 39) refl (b == 40) refl h
 -- a title without a text is one empty line
 title-reads : (bytes : List ℕ) (label lines : List (List ℕ)) (target : List ℕ) (p q : Point) (es : List Event) →
     ReadsLeaf bytes (so_far label target (Some [])) (so_far label target (Some lines)) es →
-    ReadsLeaf bytes (so_far label target None) (so_far label target (Some (first_told lines ([] ∷ []))))
+    ReadsLeaf bytes (so_far label target None) (so_far label target (Some (first_recorded lines ([] ∷ []))))
     (around n.DefinitionTitle p q es)
 title-reads bytes label lines target p q es h s text is_open =
     ap
@@ -82,22 +82,22 @@ title-reads bytes label lines target p q es h s text is_open =
 
 -- what is left after its first mark
 abbrev pub title_text : Expression
-title_text = behind n.DefinitionTitleMarker (inside plain_text n.DefinitionTitle)
+title_text = following n.DefinitionTitleMarker (inside plain_text n.DefinitionTitle)
 
 -- what is known of it, if there is one
 abbrev pub TextParts : List ℕ → List (List ℕ) → List ℕ → Point → Point → Option Strand → Type 0
 TextParts bytes label target a b None = Unit {0}
 TextParts bytes label target a b (Some s) =
-    PartsFacts bytes a b title_text (behind n.DefinitionTitleString title_text) (so_far label target (Some []))
+    PartsFacts bytes a b title_text (following n.DefinitionTitleString title_text) (so_far label target (Some []))
     (so_far label target (Some (trim_further (strand_lines s))))
     (around n.DefinitionTitleString a b (strand_unread s)) (around n.DefinitionTitleString a b (strand_done bytes s))
 
 -- a text has a line
-text-told : (s : Strand) →
-    first_told (trim_further (strand_lines s)) ([] ∷ []) ≡ trim_further (strand_lines s)
-text-told NoLine = refl
-text-told (LastLine p q text) = refl
-text-told (OneLine p e q r text front s) = refl
+text-recorded : (s : Strand) →
+    first_recorded (trim_further (strand_lines s)) ([] ∷ []) ≡ trim_further (strand_lines s)
+text-recorded NoLine = refl
+text-recorded (LastLine p q text) = refl
+text-recorded (OneLine p e q r text front s) = refl
 
 abbrev marked : (Strand → List Event) → Titled → List Event
 marked f t =
@@ -106,7 +106,7 @@ marked f t =
 -- between its marks
 marked-parts : (bytes : List ℕ) (p q : Point) (label : List (List ℕ)) (target : List ℕ) (t : Titled) →
     IsTitled bytes p q t → TextParts bytes label target t.a t.b t.text →
-    (lines : List (List ℕ)) × (told : first_told lines ([] ∷ []) ≡ text_lines t.text)
+    (lines : List (List ℕ)) × (recorded : first_recorded lines ([] ∷ []) ≡ text_lines t.text)
     × PartsFacts bytes t.p t.q (inside plain_text n.DefinitionTitle) Nothing (so_far label target (Some []))
     (so_far label target (Some lines)) (marked strand_unread t) (marked (strand_done bytes) t)
 marked-parts bytes p q label target t is known = go t.text known is.inside
@@ -115,7 +115,7 @@ marked-parts bytes p q label target t is known = go t.text known is.inside
     marks = title-marks t.opener t.closer is.closer_is
 
     go : (text : Option Strand) → TextParts bytes label target t.a t.b text → IsText bytes t.a t.b text →
-        (lines : List (List ℕ)) × (told : first_told lines ([] ∷ []) ≡ text_lines text)
+        (lines : List (List ℕ)) × (recorded : first_recorded lines ([] ∷ []) ≡ text_lines text)
         × PartsFacts bytes t.p t.q (inside plain_text n.DefinitionTitle) Nothing (so_far label target (Some []))
         (so_far label target (Some lines)) (marked strand_unread (record t { text = text }))
         (marked (strand_done bytes) (record t { text = text }))
@@ -132,9 +132,9 @@ marked-parts bytes p q label target t is known = go t.text known is.inside
     )
     go (Some s) known some = (
       trim_further (strand_lines s),
-      text-told s,
+      text-recorded s,
       parts-enclosed bytes n.DefinitionTitleMarker t.opener t.closer t.p t.a t.b t.q
-          (inside plain_text n.DefinitionTitle) (behind n.DefinitionTitleString title_text)
+          (inside plain_text n.DefinitionTitle) (following n.DefinitionTitleString title_text)
           (so_far label target (Some [])) (so_far label target (Some (trim_further (strand_lines s))))
           (around n.DefinitionTitleString t.a t.b (strand_unread s))
           (around n.DefinitionTitleString t.a t.b (strand_done bytes s)) title-mark marks.0 marks.1 is.opens is.closes
@@ -154,14 +154,14 @@ titled-parts bytes p q label target t is known =
     (so_far label target (Some (text_lines t.text))) (titled_by strand_unread t) (titled_by (strand_done bytes) t))
     is.last
     (parts-append
-    (gap-parts bytes p t.p title_left (behind n.SpaceOrTab title_left) (behind n.LineEnding title_left)
+    (gap-parts bytes p t.p title_left (following n.SpaceOrTab title_left) (following n.LineEnding title_left)
     (record { label = label; destination = target; title = None }) t.gap title-gap is.gap)
     (subst
     (λ (z : Expression).
-    PartsFacts bytes t.p t.q (behind_gap title_left t.gap) z (so_far label target None)
+    PartsFacts bytes t.p t.q (following_gap title_left t.gap) z (so_far label target None)
     (so_far label target (Some (text_lines t.text))) (around n.DefinitionTitle t.p t.q (marked strand_unread t))
     (around n.DefinitionTitle t.p t.q (marked (strand_done bytes) t))) (title-left t.gap)
-    (parts-around bytes n.DefinitionTitle t.p t.q (behind_gap title_left t.gap) (inside plain_text n.DefinitionTitle)
+    (parts-around bytes n.DefinitionTitle t.p t.q (following_gap title_left t.gap) (inside plain_text n.DefinitionTitle)
     Nothing (so_far label target (Some [])) (so_far label target (Some h.0)) (so_far label target None)
     (so_far label target (Some (text_lines t.text))) (marked strand_unread t) (marked (strand_done bytes) t) title-name
     refl refl refl h.2
@@ -176,7 +176,7 @@ titled-parts bytes p q label target t is known =
     marks = title-marks t.opener t.closer is.closer_is
 
     h :
-        (lines : List (List ℕ)) × (told : first_told lines ([] ∷ []) ≡ text_lines t.text)
+        (lines : List (List ℕ)) × (recorded : first_recorded lines ([] ∷ []) ≡ text_lines t.text)
         × PartsFacts bytes t.p t.q (inside plain_text n.DefinitionTitle) Nothing (so_far label target (Some []))
         (so_far label target (Some lines)) (marked strand_unread t) (marked (strand_done bytes) t)
     h = marked-parts bytes p q label target t is known

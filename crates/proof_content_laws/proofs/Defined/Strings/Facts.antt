@@ -7,16 +7,16 @@ use Rattle.std.specs.Prelude.{Some}
 use Rattle.md_engine.specs.declared.event.Event.{Event}
 use Rattle.md_engine.specs.declared.event.Name.{Name}
 use Rattle.md_engine.specs.declared.event.Point.{Point}
-use Rattle.md_containers.specs.ItemsStand.{IsPart}
+use Rattle.md_containers.specs.ItemsAllowed.{IsPart}
 use Rattle.md_meaning.specs.Rest.{is_blank}
 use Rattle.md_meaning.specs.Texts.{trim_further}
 use Rattle.md_events.specs.declared.inline.PartKind.TheVariants.{String}
 use Rattle.md_events.specs.Events.Endings.{on_line}
-use Rattle.md_events.specs.Events.Grammar.{Expression, behind, inside}
+use Rattle.md_events.specs.Events.Grammar.{Expression, following, inside}
 use Rattle.md_events.specs.Events.Nested.{around}
 use Rattle.md_meaning.specs.Tree.{Line}
-use Rattle.md_events.specs.Events.Spelled.{Reading, noted, on_leaf, told, DefinitionLeaf, DefinitionSoFar, Purpose}
-use Rattle.md_events.specs.Events.Spelled.{TextRole, first_told, role, with_title}
+use Rattle.md_events.specs.Events.Spelled.{Reading, noted, on_leaf, recorded, DefinitionLeaf, DefinitionSoFar, Purpose}
+use Rattle.md_events.specs.Events.Spelled.{TextRole, first_recorded, role, with_title}
 use Rattle.md_events.specs.Events.Tiles.{part_kind}
 use Rattle.md_events.proofs.EndingsLemmas.{is_other}
 use Rattle.md_events.proofs.SpelledLemmas.{Between, Roles}
@@ -28,16 +28,16 @@ use Rattle.proof_frame.proofs.PartsFacts.{PartsFacts}
 -- What they say of the definition: what was said first is.
 
 -- its label, by the lines as they are
-abbrev pub label_told : List (List ℕ) → DefinitionSoFar → DefinitionSoFar
-label_told lines d = record d { label = first_told d.label (trim_further lines) }
+abbrev pub label_recorded : List (List ℕ) → DefinitionSoFar → DefinitionSoFar
+label_recorded lines d = record d { label = first_recorded d.label (trim_further lines) }
 
 -- its title
-abbrev pub title_told : List (List ℕ) → DefinitionSoFar → DefinitionSoFar
-title_told lines d = with_title (trim_further lines) d
+abbrev pub title_recorded : List (List ℕ) → DefinitionSoFar → DefinitionSoFar
+title_recorded lines d = with_title (trim_further lines) d
 
 -- its destination
-abbrev pub target_told : List ℕ → DefinitionSoFar → DefinitionSoFar
-target_told text d = record d { destination = first_told d.destination text }
+abbrev pub target_recorded : List ℕ → DefinitionSoFar → DefinitionSoFar
+target_recorded text d = record d { destination = first_recorded d.destination text }
 
 -- Lines of a paragraph are not blank: so it is with each line of a text that begins and ends in that text.
 abbrev pub AreFilled : Strand → Type 0
@@ -52,8 +52,8 @@ FurtherFilled (OneLine p e q r text front s) = AreFilled s
 
 -- What a name says of its part: it is a string of a leaf, and a text for this purpose.
 pub record IsString (name : Name) (purpose : Purpose) : Type 0 where
-  pub tells : role name ≡ TextRole purpose
-  pub leaf : (line : Line) (r : Reading) → told purpose line r ≡ on_leaf (noted purpose line) r
+  pub records : role name ≡ TextRole purpose
+  pub leaf : (line : Line) (r : Reading) → recorded purpose line r ≡ on_leaf (noted purpose line) r
   pub kind : part_kind name ≡ Some String
   pub inside_is : (text : Expression) → inside text name ≡ text
   pub other : is_other (on_line name) ≡ true
@@ -62,9 +62,9 @@ pub record IsString (name : Name) (purpose : Purpose) : Type 0 where
 -- A text of this name is around these events from a point to a point, before it is read, and around those once it is.
 -- It says this of the definition that is open.
 pub record StringFacts (bytes : List ℕ) (name : Name) (purpose : Purpose) (p q : Point)
-    (tells : DefinitionSoFar → DefinitionSoFar) (unread done : List Event) : Type 0 where
+    (records : DefinitionSoFar → DefinitionSoFar) (unread done : List Event) : Type 0 where
   pub facts : (x : Expression) (d : DefinitionSoFar) →
-      PartsFacts bytes p q x (behind name x) (DefinitionLeaf d) (DefinitionLeaf (tells d)) (around name p q unread)
+      PartsFacts bytes p q x (following name x) (DefinitionLeaf d) (DefinitionLeaf (records d)) (around name p q unread)
       (around name p q done)
   -- in the text are what the tree does not show, endings and prefixes
   pub texts : Roles Between done

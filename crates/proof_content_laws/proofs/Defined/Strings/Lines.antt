@@ -15,11 +15,12 @@ use Rattle.md_events.proofs.FeedLines.{ending-some, slice-split, IsEnding}
 use Rattle.md_events.proofs.InlineLemmas.{same-refl}
 use Rattle.md_events.proofs.NestedLemmas.{at_or_before-trans}
 use Rattle.md_events.proofs.PlacesLemmas.{apart-later}
-use Rattle.proof_frame.proofs.ChunkFacts.{Chunked, chunked-alone, chunked-ended, ending-order, ending-stands, line-ending}
+use Rattle.proof_frame.proofs.ChunkFacts.{Chunked, chunked-alone, chunked-ended, ending-order, ending-valid}
+use Rattle.proof_frame.proofs.ChunkFacts.{line-ending}
 use Rattle.proof_content_laws.proofs.Defined.Form.{IsBreak, IsRun, IsStrand, LastLine, NoLine, OneLine, Strand}
 use Rattle.proof_content_laws.proofs.Defined.Known.Marks.{run-order, some-long}
 use Rattle.proof_frame.proofs.LineTexts.{one-next, without-none, without-one}
-use Rattle.proof_frame.proofs.PieceFacts.{Starts, PiecesValid, chunk-stands, stood-append, stood-unless_empty}
+use Rattle.proof_frame.proofs.PieceFacts.{Starts, PiecesValid, chunk-valid, is_valid-append, is_valid-unless_empty}
 
 -- These lines of a text, or what is left of it after a line, are from a point to a point. So it is said line by line.
 pub data AreLines (bytes : List ℕ) : Point → Point → Strand → Type 0 where
@@ -95,16 +96,16 @@ ending-alone : (bytes : List ℕ) (p b : Point) → p.vs ≡ 0 → line_end byte
     IsEnding bytes p b → Chunked bytes p b
 ending-alone bytes p b whole end ending = record {
   linked =
-      chunk-stands bytes n.Data p b (ending_bytes ending.ending)
+      chunk-valid bytes n.Data p b (ending_bytes ending.ending)
       (record { some = grows; whole = ending.whole; slice = ending.text }) refl
       (one-next [] ending.ending tt true);
   read =
       subst (λ (x : Point). PiecesValid bytes (pair_unless_empty n.Data p x ++ pair_unless_empty n.LineEnding x b))
       (sym end)
-      (stood-append bytes (pair_unless_empty n.Data p p) (pair_unless_empty n.LineEnding p b)
-      (stood-unless_empty bytes n.Data p p (λ apart. absurd (true≢false (sym (same-refl p) ∙ apart))))
-      (stood-unless_empty bytes n.LineEnding p b
-      (λ apart. ending-stands bytes n.LineEnding p b line-ending whole ending)));
+      (is_valid-append bytes (pair_unless_empty n.Data p p) (pair_unless_empty n.LineEnding p b)
+      (is_valid-unless_empty bytes n.Data p p (λ apart. absurd (true≢false (sym (same-refl p) ∙ apart))))
+      (is_valid-unless_empty bytes n.LineEnding p b
+      (λ apart. ending-valid bytes n.LineEnding p b line-ending whole ending)));
   starts =
       subst (λ (x : Point). Starts (pair_unless_empty n.Data p x ++ pair_unless_empty n.LineEnding x b)) (sym end)
       (go (same_place p p) (same-refl p) (same_place p b) (apart-later p b grows));

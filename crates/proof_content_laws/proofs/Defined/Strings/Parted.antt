@@ -17,12 +17,12 @@ use Rattle.md_events.specs.Events.Inline.{plain_chunk}
 use Rattle.md_events.specs.Events.Nested.{around, enter, exit}
 use Rattle.md_events.specs.Events.Spelled.{Purpose, Role, TextRole, byte_at, role}
 use Rattle.md_events.proofs.FeedLines.{slice-split}
-use Rattle.proof_frame.proofs.BetweenFacts.{ending-behind, is_low}
+use Rattle.proof_frame.proofs.BetweenFacts.{ending-following, is_low}
 use Rattle.proof_content_laws.proofs.Defined.Form.{IsRun, Strand, strand_done}
 use Rattle.proof_content_laws.proofs.Defined.Strings.Facts.{AreFilled, FurtherFilled}
 use Rattle.proof_content_laws.proofs.Defined.Strings.Lines.{AreLines, Last, More, NoneLeft}
 use Rattle.proof_content_laws.proofs.Defined.Strings.Reads.{RunBytes, run-bytes, plain-begins}
-use Rattle.proof_frame.proofs.FrontStands.{fronts-parted}
+use Rattle.proof_frame.proofs.FrontValid.{fronts-parted}
 use Rattle.proof_frame.proofs.PartedFacts.{PrefixesAtLineStart, clear, low-clear, passes-chunk}
 use Rattle.proof_frame.proofs.CollectFacts.{slice-none}
 use Rattle.proof_frame.proofs.Reached.{Fine, Reaches, cut-white, reaches-ended, reaches-fine}
@@ -91,8 +91,8 @@ exit-parted : (bytes : List ℕ) (name : Name) (purpose : Purpose) (q : Point) (
     role name ≡ TextRole purpose → MayPart bytes purpose →
     begins_line span (slice_range bytes span.from q.index) ≡ true →
     are_parted bytes None ys ≡ true → are_parted bytes (Some span) (exit name q ∷ ys) ≡ true
-exit-parted bytes name purpose q span ys tells may begins h =
-    ap (λ (x : Role). parts_by bytes Exit x q (Some span) && are_parted bytes (span_by Exit x q (Some span)) ys) tells
+exit-parted bytes name purpose q span ys records may begins h =
+    ap (λ (x : Role). parts_by bytes Exit x q (Some span) && are_parted bytes (span_by Exit x q (Some span)) ys) records
     ∙ and_from (parts_by bytes Exit (TextRole purpose) q (Some span)) (are_parted bytes None ys)
     (may q span ∙ begins) h
 
@@ -100,23 +100,23 @@ further-parted : (bytes : List ℕ) (name : Name) (purpose : Purpose) (p q : Poi
     role name ≡ TextRole purpose → MayPart bytes purpose → AreFilled s → AreLines bytes p q s →
     are_parted bytes None ys ≡ true → (span : OpenTextSpan) → Reaches bytes p span →
     are_parted bytes (Some span) (strand_done bytes s ++ exit name q ∷ ys) ≡ true
-further-parted bytes name purpose q _ _ ys tells may filled (NoneLeft _ whole) h span reaches =
+further-parted bytes name purpose q _ _ ys records may filled (NoneLeft _ whole) h span reaches =
     let here : byte_at q ≡ q.index = ap (λ (v : ℕ). cond (v == 0) q.index (q.index + 1)) whole in
-    exit-parted bytes name purpose q span ys tells may
+    exit-parted bytes name purpose q span ys records may
     (reaches.marks q.index (omega (arith, here)) (ap is_blank (slice-none bytes q.index))).0 h
-further-parted bytes name purpose p q _ ys tells may filled (Last _ _ text some run) h span reaches =
+further-parted bytes name purpose p q _ ys records may filled (Last _ _ text some run) h span reaches =
     let chunk : Chunk = record { first = p; after = q } in
     let own : RunBytes bytes text p q = run-bytes bytes text p q run in
     let piece : slice_range bytes span.from q.index ≡ slice_range bytes span.from (byte_at p) ++ own.here =
     slice-split bytes span.from (byte_at p) q.index reaches.from own.within
     ∙ ap (λ (l : List ℕ). slice_range bytes span.from (byte_at p) ++ l) own.slice in
     passes-chunk bytes (Some span) chunk (exit name q ∷ ys)
-    ∙ exit-parted bytes name purpose q span ys tells may
+    ∙ exit-parted bytes name purpose q span ys records may
     (ap (begins_line span) piece
     ∙ begins-both span (slice_range bytes span.from (byte_at p)) own.here
     (reaches.marks (byte_at p) (omega arith) (run-white bytes text p q some run)).0
     (plain-begins own.here own.no_ending)) h
-further-parted bytes name purpose p q _ ys tells may filled (More _ e b r _ text front s run break more) h span
+further-parted bytes name purpose p q _ ys records may filled (More _ e b r _ text front s run break more) h span
     reaches =
     let chunk : Chunk = record { first = p; after = b } in
     let events : List Event = plain_chunk bytes chunk in
@@ -132,9 +132,9 @@ further-parted bytes name purpose p q _ ys tells may filled (More _ e b r _ text
     let apart : ((events ++ front) ++ read) ++ rest ≡ events ++ (front ++ (read ++ rest)) = simp append_assoc in
     ap (are_parted bytes (Some span)) apart
     ∙ passes-chunk bytes (Some span) chunk (front ++ (read ++ rest))
-    ∙ fronts-parted bytes [] b r front span (read ++ rest) break.front_is refl (ending-behind bytes e b break.ending)
+    ∙ fronts-parted bytes [] b r front span (read ++ rest) break.front_is refl (ending-following bytes e b break.ending)
     (strand-clear bytes r q s filled.1 more) (reaches-ended bytes e b span break.ending fine within)
-    (λ next meets. further-parted bytes name purpose r q s ys tells may filled.1 more h next meets)
+    (λ next meets. further-parted bytes name purpose r q s ys records may filled.1 more h next meets)
 
 -- From its first line on, where the text is whole.
 
@@ -145,12 +145,13 @@ first-parted : (bytes : List ℕ) (name : Name) (purpose : Purpose) (p q : Point
     role name ≡ TextRole purpose → MayPart bytes purpose → FurtherFilled s → AreLines bytes p q s →
     are_parted bytes None ys ≡ true → (span : OpenTextSpan) → span.is_parted ≡ false → span.from ≡ byte_at p →
     are_parted bytes (Some span) (strand_done bytes s ++ exit name q ∷ ys) ≡ true
-first-parted bytes name purpose q _ _ ys tells may filled (NoneLeft _ whole) h span begun from =
-    exit-parted bytes name purpose q span ys tells may (first-line span (slice_range bytes span.from q.index) begun) h
-first-parted bytes name purpose p q _ ys tells may filled (Last _ _ text some run) h span begun from =
+first-parted bytes name purpose q _ _ ys records may filled (NoneLeft _ whole) h span begun from =
+    exit-parted bytes name purpose q span ys records may (first-line span (slice_range bytes span.from q.index) begun) h
+first-parted bytes name purpose p q _ ys records may filled (Last _ _ text some run) h span begun from =
     passes-chunk bytes (Some span) (record { first = p; after = q }) (exit name q ∷ ys)
-    ∙ exit-parted bytes name purpose q span ys tells may (first-line span (slice_range bytes span.from q.index) begun) h
-first-parted bytes name purpose p q _ ys tells may filled (More _ e b r _ text front s run break more) h span begun
+    ∙ exit-parted bytes name purpose q span ys records may
+    (first-line span (slice_range bytes span.from q.index) begun) h
+first-parted bytes name purpose p q _ ys records may filled (More _ e b r _ text front s run break more) h span begun
     from =
     let chunk : Chunk = record { first = p; after = b } in
     let events : List Event = plain_chunk bytes chunk in
@@ -162,20 +163,20 @@ first-parted bytes name purpose p q _ ys tells may filled (More _ e b r _ text f
     let apart : ((events ++ front) ++ read) ++ rest ≡ events ++ (front ++ (read ++ rest)) = simp append_assoc in
     ap (are_parted bytes (Some span)) apart
     ∙ passes-chunk bytes (Some span) chunk (front ++ (read ++ rest))
-    ∙ fronts-parted bytes [] b r front span (read ++ rest) break.front_is refl (ending-behind bytes e b break.ending)
+    ∙ fronts-parted bytes [] b r front span (read ++ rest) break.front_is refl (ending-following bytes e b break.ending)
     (strand-clear bytes r q s filled more) (reaches-ended bytes e b span break.ending fine within)
-    (λ next meets. further-parted bytes name purpose r q s ys tells may filled more h next meets)
+    (λ next meets. further-parted bytes name purpose r q s ys records may filled more h next meets)
 
 -- A text that begins ends.
 pub strand-sits : (bytes : List ℕ) (name : Name) (purpose : Purpose) (p q : Point) (s : Strand) →
     role name ≡ TextRole purpose → may_part purpose ≡ true → FurtherFilled s → AreLines bytes p q s →
     PrefixesAtLineStart bytes (around name p q (strand_done bytes s))
-strand-sits bytes name purpose p q s tells may filled lines ys h =
+strand-sits bytes name purpose p q s records may filled lines ys h =
     let events : List Event = strand_done bytes s in
     let span : OpenTextSpan = record { from = byte_at p; is_parted = false } in
     ap (λ (es : List Event). are_parted bytes None (enter name p ∷ es)) (append_assoc events (exit name q ∷ []) ys)
-    ∙ ap (λ (x : Role). are_parted bytes (span_by Enter x p None) (events ++ exit name q ∷ ys)) tells
-    ∙ first-parted bytes name purpose p q s ys tells
+    ∙ ap (λ (x : Role). are_parted bytes (span_by Enter x p None) (events ++ exit name q ∷ ys)) records
+    ∙ first-parted bytes name purpose p q s ys records
     (λ at text. ap
     (λ (x : Bool). cond x (begins_line text (slice_range bytes text.from at.index)) (not text.is_parted)) may)
     filled lines h span refl refl
@@ -183,14 +184,15 @@ strand-sits bytes name purpose p q s tells may filled lines ys h =
 -- One line is not parted.
 pub line-sits : (bytes : List ℕ) (name : Name) (purpose : Purpose) (p q : Point) → role name ≡ TextRole purpose →
     PrefixesAtLineStart bytes (around name p q (plain_chunk bytes (record { first = p; after = q })))
-line-sits bytes name purpose p q tells ys h =
+line-sits bytes name purpose p q records ys h =
     let chunk : Chunk = record { first = p; after = q } in
     let events : List Event = plain_chunk bytes chunk in
     let span : OpenTextSpan = record { from = byte_at p; is_parted = false } in
     ap (λ (es : List Event). are_parted bytes None (enter name p ∷ es)) (append_assoc events (exit name q ∷ []) ys)
-    ∙ ap (λ (x : Role). are_parted bytes (span_by Enter x p None) (events ++ exit name q ∷ ys)) tells
+    ∙ ap (λ (x : Role). are_parted bytes (span_by Enter x p None) (events ++ exit name q ∷ ys)) records
     ∙ passes-chunk bytes (Some span) chunk (exit name q ∷ ys)
-    ∙ ap (λ (x : Role). parts_by bytes Exit x q (Some span) && are_parted bytes (span_by Exit x q (Some span)) ys) tells
+    ∙ ap (λ (x : Role). parts_by bytes Exit x q (Some span)
+    && are_parted bytes (span_by Exit x q (Some span)) ys) records
     ∙ and_from (parts_by bytes Exit (TextRole purpose) q (Some span)) (are_parted bytes None ys)
     (whole (may_part purpose)) h
   where

@@ -18,7 +18,7 @@ use Rattle.proof_content_laws.proofs.Defined.Strings.Places.{HasLine}
 use Rattle.proof_frame.proofs.FrontLemmas.{fronts-order}
 use Rattle.proof_frame.proofs.LineTexts.{one-last, one-next}
 use Rattle.md_events.specs.declared.inline.PartKind.TheVariants.{String}
-use Rattle.proof_frame.proofs.BetweenFacts.{ending-before, ending-behind}
+use Rattle.proof_frame.proofs.BetweenFacts.{ending-before, ending-following}
 use Rattle.proof_frame.proofs.TextInside.{TextInside, text-line, text-more, text-none}
 use Rattle.proof_content_laws.proofs.Defined.Strings.Lines.{ended-end, run-alone, run-end, run-ended}
 use Rattle.proof_content_laws.proofs.Defined.Known.Marks.{run-order, some-long}
@@ -35,7 +35,7 @@ strand-inside bytes p q _ (More _ e b r _ text front s run break more) =
     (text-line bytes String string_link p e b refl (run-ended bytes text p e b r front run break)
     (ended-order bytes text p e b run break.ending) (ended-end bytes text p e b run break.ending)
     (λ first last. ending-before bytes e b break.ending))
-    break.front_is (ending-behind bytes e b break.ending) (strand-inside bytes r q s more)
+    break.front_is (ending-following bytes e b break.ending) (strand-inside bytes r q s more)
 
 -- it begins with the first
 pub strand-begins : (bytes : List ℕ) (p q : Point) (s : Strand) → HasLine s → AreLines bytes p q s →

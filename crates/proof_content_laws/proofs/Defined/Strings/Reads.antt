@@ -17,7 +17,7 @@ use Rattle.md_events.specs.Events.Inline.{plain_chunk}
 use Rattle.md_events.specs.Events.Spelled.{begun, byte_at, text_to}
 use Rattle.md_events.proofs.FeedLines.{slice-inside, slice-split}
 use Rattle.md_events.proofs.SpelledLemmas.{QuietOrEnding, text_after}
-use Rattle.proof_frame.proofs.CollectFacts.{Collects, collects-back, collects-behind, collects-inline, slice-none}
+use Rattle.proof_frame.proofs.CollectFacts.{Collects, collects-back, collects-following, collects-inline, slice-none}
 use Rattle.proof_content_laws.proofs.Defined.Form.{IsBreak, IsRun, LastLine, NoLine, OneLine, Strand, strand_done}
 use Rattle.proof_content_laws.proofs.Defined.Form.{strand_lines}
 use Rattle.proof_content_laws.proofs.Defined.Strings.Facts.{AreFilled, FurtherFilled}
@@ -101,7 +101,7 @@ begins-filled [] more none filled = absurd (true≢false filled)
 begins-filled (b ∷ line) more none filled = let here = none.0 in grind (arith, nat_tests)
 
 -- Lines of a text, as they are read.
-pub record IsTold (bytes : List ℕ) (p q : Point) (s : Strand) : Type 0 where
+pub record IsRecorded (bytes : List ℕ) (p q : Point) (s : Strand) : Type 0 where
   pub own : List (List ℕ)
   pub all : List ℕ
   pub collects : Collects bytes (strand_done bytes s) (byte_at p) q.index all
@@ -117,8 +117,8 @@ further-filled (LastLine p q text) h = tt
 further-filled (OneLine p e q r text front s) h = h.1
 
 -- none
-none-told : (bytes : List ℕ) (q : Point) → q.vs ≡ 0 → IsTold bytes q q NoLine
-none-told bytes q whole =
+none-recorded : (bytes : List ℕ) (q : Point) → q.vs ≡ 0 → IsRecorded bytes q q NoLine
+none-recorded bytes q whole =
     let here : byte_at q ≡ q.index = ap (λ (v : ℕ). cond (v == 0) q.index (q.index + 1)) whole in
     record {
       own = [] ∷ [];
@@ -134,8 +134,8 @@ none-told bytes q whole =
     }
 
 -- one line
-last-told : (bytes text : List ℕ) (p q : Point) → IsRun bytes text p q → IsTold bytes p q (LastLine p q text)
-last-told bytes text p q run =
+last-recorded : (bytes text : List ℕ) (p q : Point) → IsRun bytes text p q → IsRecorded bytes p q (LastLine p q text)
+last-recorded bytes text p q run =
     let own : RunBytes bytes text p q = run-bytes bytes text p q run in
     let chunk : Chunk = record { first = p; after = q } in
     record {
@@ -152,9 +152,10 @@ last-told bytes text p q run =
     }
 
 -- one more in front
-more-told : (bytes text : List ℕ) (p e b r q : Point) (front : List Event) (s : Strand) → IsRun bytes text p e →
-    IsBreak bytes e b r front → AreFilled s → IsTold bytes r q s → IsTold bytes p q (OneLine p e b r text front s)
-more-told bytes text p e b r q front s run break filled below =
+more-recorded : (bytes text : List ℕ) (p e b r q : Point) (front : List Event) (s : Strand) → IsRun bytes text p e →
+    IsBreak bytes e b r front → AreFilled s → IsRecorded bytes r q s →
+    IsRecorded bytes p q (OneLine p e b r text front s)
+more-recorded bytes text p e b r q front s run break filled below =
     let mine : RunBytes bytes text p e = run-bytes bytes text p e run in
     let here : List ℕ = mine.here in
     let ending = break.ending in
@@ -181,7 +182,7 @@ more-told bytes text p e b r q front s run break filled below =
     (l ++ (white ++ below.all))) with_ending
     (collects-back bytes (plain_chunk bytes chunk ++ (front ++ further)) (byte_at p) b.index end
     (white ++ below.all) le
-    (collects-behind bytes (plain_chunk bytes chunk) (front ++ further) b.index end (white ++ below.all)
+    (collects-following bytes (plain_chunk bytes chunk) (front ++ further) b.index end (white ++ below.all)
     (chunk-roles QuietOrEnding bytes chunk tt tt) from)) in
     let rest : trim_each (onto_line white below.own) ≡ trim_each (strand_lines s) =
     trim-onto white below.own fronted.1 ∙ below.trimmed in
@@ -207,34 +208,34 @@ more-told bytes text p e b r q front s run break filled below =
           ∙ ap (λ (l : List (List ℕ)). text ∷ l) rest;
     }
 
-pub lines-told : (bytes : List ℕ) (p q : Point) (s : Strand) → FurtherFilled s → AreLines bytes p q s →
-    IsTold bytes p q s
-lines-told bytes q _ _ filled (NoneLeft _ whole) = none-told bytes q whole
-lines-told bytes p q _ filled (Last _ _ text some run) = last-told bytes text p q run
-lines-told bytes p q _ filled (More _ e b r _ text front s run break more) =
-    more-told bytes text p e b r q front s run break filled
-    (lines-told bytes r q s (further-filled s filled) more)
+pub lines-recorded : (bytes : List ℕ) (p q : Point) (s : Strand) → FurtherFilled s → AreLines bytes p q s →
+    IsRecorded bytes p q s
+lines-recorded bytes q _ _ filled (NoneLeft _ whole) = none-recorded bytes q whole
+lines-recorded bytes p q _ filled (Last _ _ text some run) = last-recorded bytes text p q run
+lines-recorded bytes p q _ filled (More _ e b r _ text front s run break more) =
+    more-recorded bytes text p e b r q front s run break filled
+    (lines-recorded bytes r q s (further-filled s filled) more)
 
 -- what is said of a text from a point on is all of it
-told-all : (bytes : List ℕ) (p q : Point) (s : Strand) → (is : IsTold bytes p q s) →
+recorded-all : (bytes : List ℕ) (p q : Point) (s : Strand) → (is : IsRecorded bytes p q s) →
     text_to bytes q.index (text_after bytes (begun p) (strand_done bytes s)) ≡ is.all
-told-all bytes p q s is =
+recorded-all bytes p q s is =
     is.collects (begun p) (omega arith) ∙ ap (λ (l : List ℕ). l ++ is.all) (slice-none bytes (byte_at p))
 
 -- so it has these lines
-pub told-lines : (bytes : List ℕ) (p q : Point) (s : Strand) → p.vs ≡ 0 → FurtherFilled s → AreLines bytes p q s →
+pub recorded-lines : (bytes : List ℕ) (p q : Point) (s : Strand) → p.vs ≡ 0 → FurtherFilled s → AreLines bytes p q s →
     trim_further (split_lines (text_to bytes q.index (text_after bytes (begun p) (strand_done bytes s)))) ≡
     trim_further (strand_lines s)
-told-lines bytes p q s whole filled lines =
-    let is : IsTold bytes p q s = lines-told bytes p q s filled lines in
-    ap (λ (l : List ℕ). trim_further (split_lines l)) (told-all bytes p q s is)
+recorded-lines bytes p q s whole filled lines =
+    let is : IsRecorded bytes p q s = lines-recorded bytes p q s filled lines in
+    ap (λ (l : List ℕ). trim_further (split_lines l)) (recorded-all bytes p q s is)
     ∙ ap trim_further (split-lines is.own is.all is.are)
     ∙ is.first whole
 
 -- and one line is that
-pub told-line : (bytes text : List ℕ) (p q : Point) → p.vs ≡ 0 → IsRun bytes text p q →
+pub recorded-line : (bytes text : List ℕ) (p q : Point) → p.vs ≡ 0 → IsRun bytes text p q →
     text_to bytes q.index (text_after bytes (begun p) (plain_chunk bytes (record { first = p; after = q }))) ≡ text
-unfolding last-told run-bytes
-told-line bytes text p q whole run =
-    told-all bytes p q (LastLine p q text) (last-told bytes text p q run)
+unfolding last-recorded run-bytes
+recorded-line bytes text p q whole run =
+    recorded-all bytes p q (LastLine p q text) (last-recorded bytes text p q run)
     ∙ (run-bytes bytes text p q run).whole whole

@@ -6,17 +6,17 @@ use Rattle.md_engine.specs.declared.event.Name.TheVariants as n
 use Rattle.md_engine.specs.declared.event.Point.{Point}
 use Rattle.md_link_definitions.specs.Chunks.{string_link}
 use Rattle.md_events.specs.declared.inline.Chunk.{Chunk}
-use Rattle.md_events.specs.Events.Grammar.{Expression, behind, plain_text, unread_text}
+use Rattle.md_events.specs.Events.Grammar.{Expression, following, plain_text, unread_text}
 use Rattle.md_events.specs.Events.Inline.{pair_unless_empty, plain_chunk}
 use Rattle.md_events.specs.Events.Nested.{enter_link, exit, pair}
 use Rattle.md_events.proofs.EndingsLemmas.{Stays, stays-append, stays-others}
-use Rattle.md_events.proofs.GrammarLemmas.{IsWord, Leads, leads-append, leads-pair, leads-unless, maybe, word-behind}
+use Rattle.md_events.proofs.GrammarLemmas.{IsWord, Leads, leads-append, leads-pair, leads-unless, maybe, word-following}
 use Rattle.md_events.proofs.PlacesLemmas.{apart-later}
 use Rattle.proof_frame.proofs.ChunkFacts.{chunk-word, text_left}
 use Rattle.proof_content_laws.proofs.Defined.Form.{IsRun, Strand, strand_done, strand_unread}
 use Rattle.proof_content_laws.proofs.Defined.Strings.Lines.{AreLines, Last, More, NoneLeft, ended-end}
 use Rattle.proof_content_laws.proofs.Defined.Strings.Places.{HasLine}
-use Rattle.proof_frame.proofs.FrontStands.{fronts-others}
+use Rattle.proof_frame.proofs.FrontValid.{fronts-others}
 use Rattle.proof_frame.proofs.GrammarFronts.{front-stays}
 use Rattle.md_events.proofs.FeedLines.{IsEnding}
 use Rattle.proof_content_laws.proofs.Text.ChunkStays.{chunk-stays}
@@ -31,7 +31,7 @@ rest-word bytes q _ _ (NoneLeft _ whole) = record { left = unread_rest; leads = 
 rest-word bytes p q _ (Last _ _ text some run) = record { left = unread_rest; leads = λ outer. refl; ends = refl }
 rest-word bytes p q _ (More _ e b r _ text front s run break more) =
     let chunk : List Event = enter_link n.Data p string_link ∷ exit n.Data b ∷ [] in
-    word-behind unread_text (unread_rest ∷ []) (unread_rest ∷ []) (chunk ++ front) (strand_unread s)
+    word-following unread_text (unread_rest ∷ []) (unread_rest ∷ []) (chunk ++ front) (strand_unread s)
     (leads-append unread_text (unread_rest ∷ []) (unread_rest ∷ []) (unread_rest ∷ []) chunk front (λ outer. refl)
     (front-stays unread_text unread_rest bytes [] b r front (refl, refl) break.front_is refl))
     (rest-word bytes r q s more)
@@ -46,7 +46,7 @@ unread-word bytes p q _ has (Last _ _ text some run) = record {
 }
 unread-word bytes p q _ has (More _ e b r _ text front s run break more) =
     let chunk : List Event = enter_link n.Data p string_link ∷ exit n.Data b ∷ [] in
-    word-behind unread_text (unread_text ∷ []) (unread_rest ∷ []) (chunk ++ front) (strand_unread s)
+    word-following unread_text (unread_text ∷ []) (unread_rest ∷ []) (chunk ++ front) (strand_unread s)
     (leads-append unread_text (unread_text ∷ []) (unread_rest ∷ []) (unread_rest ∷ []) chunk front (λ outer. refl)
     (front-stays unread_text unread_rest bytes [] b r front (refl, refl) break.front_is refl))
     (rest-word bytes r q s more)
@@ -74,7 +74,7 @@ ended-leads bytes text first p e b run ending =
     apart =
         ap (λ (x : Bool). cond x [] (pair n.LineEnding e b)) (apart-later e b (ending-grows bytes e b ending))
 
-    same : (first line : Bool) → behind n.LineEnding (maybe line n.Data (text_left first)) ≡ text_left false
+    same : (first line : Bool) → following n.LineEnding (maybe line n.Data (text_left first)) ≡ text_left false
     same true true = refl
     same true false = refl
     same false true = refl
@@ -88,7 +88,7 @@ ended-leads bytes text first p e b run ending =
         (λ (x : Expression).
         Leads plain_text (text_left first ∷ []) (x ∷ []) (pair_unless_empty n.Data p e ++ pair n.LineEnding e b))
         (same first line.0)
-        (leads-append plain_text (text_left first ∷ []) (mid line.0 ∷ []) (behind n.LineEnding (mid line.0) ∷ [])
+        (leads-append plain_text (text_left first ∷ []) (mid line.0 ∷ []) (following n.LineEnding (mid line.0) ∷ [])
         (pair_unless_empty n.Data p e) (pair n.LineEnding e b) line.1
         (leads-pair plain_text (mid line.0) n.LineEnding e b refl))
 
@@ -102,7 +102,7 @@ done-word bytes first q _ _ (NoneLeft _ whole) = none-word first
 done-word bytes first p q _ (Last _ _ text some run) = chunk-word bytes first (record { first = p; after = q })
 done-word bytes first p q _ (More _ e b r _ text front s run break more) =
     let chunk : List Event = plain_chunk bytes (record { first = p; after = b }) in
-    word-behind plain_text (text_left first ∷ []) (text_left false ∷ []) (chunk ++ front) (strand_done bytes s)
+    word-following plain_text (text_left first ∷ []) (text_left false ∷ []) (chunk ++ front) (strand_done bytes s)
     (leads-append plain_text (text_left first ∷ []) (text_left false ∷ []) (text_left false ∷ []) chunk front
     (ended-leads bytes text first p e b run break.ending)
     (front-stays plain_text (text_left false) bytes [] b r front (refl, refl) break.front_is refl))

@@ -14,7 +14,7 @@ returns-in-None-clause-front c =
 
 pub returns-in_ok-lines-in-Some-clause-front : goal.returns-in_ok-lines-in-Some-clause-front
 returns-in_ok-lines-in-Some-clause-front c =
-    let behind : drop c.lines_before_fence.result c.args.rests.now ≡
+    let following : drop c.lines_before_fence.result c.args.rests.now ≡
     c.in-Some.field-0-0.now ∷ c.in-Some.after.now = sym c.split_at.ensures.back
     ∙ c.in-Some.ensures.cases.0 in
     ap (λ b. Some (record { block = b; after = lines_in c.in-Some.after.now }))
@@ -25,18 +25,18 @@ returns-in_ok-lines-in-Some-clause-front c =
     c.in_ok-lines-in-Some.ensures
     ∙ front_by-some c.args.marker c.lines_before_fence.result c.args.rests.now c.split_at.result.0.now
     c.in-Some.after.now c.lines_before_fence.ensures.value
-    (drop-below c.lines_before_fence.result c.args.rests.now c.in-Some.after.now c.in-Some.field-0-0.now behind)
+    (drop-below c.lines_before_fence.result c.args.rests.now c.in-Some.after.now c.in-Some.field-0-0.now following)
     c.split_at.ensures.front
-    (drop-next c.lines_before_fence.result c.args.rests.now c.in-Some.after.now c.in-Some.field-0-0.now behind)
+    (drop-next c.lines_before_fence.result c.args.rests.now c.in-Some.after.now c.in-Some.field-0-0.now following)
 
 pub returns-in_ok-lines-in-Some-clause-after : goal.returns-in_ok-lines-in-Some-clause-after
 returns-in_ok-lines-in-Some-clause-after c =
-    let behind : drop c.lines_before_fence.result c.args.rests.now ≡
+    let following : drop c.lines_before_fence.result c.args.rests.now ≡
     c.in-Some.field-0-0.now ∷ c.in-Some.after.now = sym c.split_at.ensures.back
     ∙ c.in-Some.ensures.cases.0 in
     record {
       before = c.lines_before_fence.result + 1;
-      is = drop-next c.lines_before_fence.result c.args.rests.now c.in-Some.after.now c.in-Some.field-0-0.now behind;
+      is = drop-next c.lines_before_fence.result c.args.rests.now c.in-Some.after.now c.in-Some.field-0-0.now following;
     }
 
 pub returns-in-None-clause-after : goal.returns-in-None-clause-after

@@ -7,14 +7,14 @@ pub pieces-init : goal.pieces-init
 unfolding row_cells
 pieces-init c = rw (c.new-cells.ensures.items, c.after_optional-rest.ensures, c.trim.ensures) refl
 
-pub returns-then-behind-le1 : goal.returns-then-behind-le1
-returns-then-behind-le1 c =
+pub returns-then-following-le1 : goal.returns-then-following-le1
+returns-then-following-le1 c =
     let pushes : PushesCell c.pieces.cells.items c.push.new.items.items c.pieces.rest.now c.split_at.result.1.now =
     record {
       cell = c.trim-in-pieces.result;
       pushed = c.in_ok-push.ensures;
       text = cc;
-      behind_is = cc;
+      following_is = cc;
     } in
     last_cell pushes (omega arith) _ c.pieces.invariant
 
@@ -25,6 +25,6 @@ pieces-preserved c =
       cell = c.trim-in-pieces.result;
       pushed = c.in_ok-push.ensures;
       text = cc;
-      behind_is = cc;
+      following_is = cc;
     } in
     rw c.split_at-in-pieces.ensures.back (next_cell pushes (omega arith) _ c.pieces.invariant)

@@ -7,7 +7,7 @@ use Rattle.reference_tree.proofs.containers.quote_taken.Goals as goal
 pub returns : goal.returns
 returns c =
     quote_taken-some c.args.options.now c.args.kind (rest_meaning c.args.rest.now)
-    (rest_meaning c.behind_indent-marker.result) (rest_meaning c.lose.result)
-    (sym c.has_small_indent.ensures ∙ c.if-not-has_small_indent.false) c.behind_indent-marker.ensures
+    (rest_meaning c.after_indent-marker.result) (rest_meaning c.lose.result)
+    (sym c.has_small_indent.ensures ∙ c.if-not-has_small_indent.false) c.after_indent-marker.ensures
     (sym c.begins_with.ensures ∙ c.if-not-begins_with.false)
-    (c.lose.ensures ∙ ap (r.lose 1) c.behind.ensures)
+    (c.lose.ensures ∙ ap (r.lose 1) c.following.ensures)

@@ -28,7 +28,8 @@ returns c bs =
     ap
     (λ xs.
     then_blocks (blocks_meaning c.push-2.new.blocks) (with_items c.args.marker (meanings xs) bs)) c.new-2.ensures
-    ∙ then_blocks-push bs c.in_ok-done.done.list.items c.push-2.new.blocks.list.items c.list_of-2.result.block c.in_ok-push-2.ensures
+    ∙ then_blocks-push bs c.in_ok-done.done.list.items c.push-2.new.blocks.list.items c.list_of-2.result.block
+    c.in_ok-push-2.ensures
     ∙ ap (λ b. then_blocks (blocks_meaning c.in_ok-done.done) (t.More b bs)) c.list_of-2.ensures
     ∙ flushed-list g.marker c.args.marker (blocks_meaning g.done) (blocks_meaning g.items)
     (blocks_meaning c.in_ok-done.done) (blocks_meaning c.args.list) bs c.in_ok-done.ensures

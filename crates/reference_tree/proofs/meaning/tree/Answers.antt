@@ -17,11 +17,11 @@ returns-in-Some c =
           ∙ ap (λ bytes. rests_at (first_column bytes) (lines_of (without_mark bytes))) c.as_bytes.ensures.value;
       front = c.in_ok-front.ensures.front;
     } in
-    subst (λ (x : Blocks). IfOk c.tree_behind.result (λ t. blocks_meaning t ≡ x))
+    subst (λ (x : Blocks). IfOk c.tree_after.result (λ t. blocks_meaning t ≡ x))
     (tree-some c.args.options.now c.args.text.now c.deref.result.now c.in_ok-front.field-0 c.in-Some.front
     reads c.in-Some.is
     (subst (λ o. IfSome o (λ f. IsEnd (drop 1 c.deref.result.now) f.after.now)) c.in-Some.is
-    c.in_ok-front.ensures.after)) c.tree_behind.ensures
+    c.in_ok-front.ensures.after)) c.tree_after.ensures
 
 pub returns : goal.returns
 returns c =

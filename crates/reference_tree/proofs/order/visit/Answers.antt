@@ -9,7 +9,8 @@ returns-in_default c =
 
 pub returns : goal.returns
 returns c =
-    visited c.args.found.now.items c.push.new.items.items (record { depth = c.args.level.depth; block = c.in-Some.block })
+    visited c.args.found.now.items c.push.new.items.items
+    (record { depth = c.args.level.depth; block = c.in-Some.block })
     c.args.levels.now.items c.push-2.new.items.items c.push-3.new.items.items c.args.level
     (record { depth = c.args.level.depth; blocks = c.in-Some.after })
     (record { depth = c.in_ok-inner.inner; blocks = c.inside.result })

@@ -14,15 +14,15 @@ returns-in-BlankLine c =
     let w = world c.args.tokenizer.now in
     let w' = world c.call.new.tokenizer in
     let once = λ (fine : c.call.result ≢ Error).
-    called-once c.args.name w c.call.result w' c.requires.current c.requires.stands
+    called-once c.args.name w c.call.result w' c.requires.current c.requires.valid
     (within-world c.args.tokenizer.now) fine (rw c.in-BlankLine.is (c.call.ensures.to fine))
     (rw c.in-BlankLine.is (c.call.ensures.world fine)) in
     let kept = λ (fine : c.call.result ≢ Error).
     here-keeps FlowStep flow_table_scheme c.args.name w c.call.result w' flow-keeps
-    c.requires.current c.requires.stands (once fine).0 in
+    c.requires.current c.requires.valid (once fine).0 in
     record {
       runs = λ fine. (once fine).0;
-      stands = λ fine. (kept fine).0;
+      valid = λ fine. (kept fine).0;
       falls = λ fine. (kept fine).1;
       setting = λ fine. (kept fine).2;
       sees = λ fine. (once fine).1;
@@ -33,15 +33,15 @@ returns-in-Content c =
     let w = world c.args.tokenizer.now in
     let w' = world c.call-in-Content.new.tokenizer in
     let once = λ (fine : c.call-in-Content.result ≢ Error).
-    called-once c.args.name w c.call-in-Content.result w' c.requires.current c.requires.stands
+    called-once c.args.name w c.call-in-Content.result w' c.requires.current c.requires.valid
     (within-world c.args.tokenizer.now) fine (rw c.in-Content.is (c.call-in-Content.ensures.to fine))
     (rw c.in-Content.is (c.call-in-Content.ensures.world fine)) in
     let kept = λ (fine : c.call-in-Content.result ≢ Error).
     here-keeps FlowStep flow_table_scheme c.args.name w c.call-in-Content.result w' flow-keeps
-    c.requires.current c.requires.stands (once fine).0 in
+    c.requires.current c.requires.valid (once fine).0 in
     record {
       runs = λ fine. (once fine).0;
-      stands = λ fine. (kept fine).0;
+      valid = λ fine. (kept fine).0;
       falls = λ fine. (kept fine).1;
       setting = λ fine. (kept fine).2;
       sees = λ fine. (once fine).1;
@@ -56,10 +56,10 @@ returns-in-SpaceOrTab c =
     (c.call_white.ensures.runs fine) in
     let kept = λ (fine : c.call_white.result ≢ Error).
     here-keeps FlowStep flow_table_scheme c.args.name w c.call_white.result w' flow-keeps
-    c.requires.current c.requires.stands (runs fine) in
+    c.requires.current c.requires.valid (runs fine) in
     record {
       runs = runs;
-      stands = λ fine. (kept fine).0;
+      valid = λ fine. (kept fine).0;
       falls = λ fine. (kept fine).1;
       setting = λ fine. (kept fine).2;
       sees = c.call_white.ensures.sees;
@@ -74,10 +74,10 @@ returns-in-Document c =
     (c.call_document.ensures.runs fine) in
     let kept = λ (fine : c.call_document.result ≢ Error).
     here-keeps FlowStep flow_table_scheme c.args.name w c.call_document.result w' flow-keeps
-    c.requires.current c.requires.stands (runs fine) in
+    c.requires.current c.requires.valid (runs fine) in
     record {
       runs = runs;
-      stands = λ fine. (kept fine).0;
+      valid = λ fine. (kept fine).0;
       falls = λ fine. (kept fine).1;
       setting = λ fine. (kept fine).2;
       sees = c.call_document.ensures.sees;
@@ -92,10 +92,10 @@ returns-in-Flow c =
     (c.call_flow.ensures.runs fine) in
     let kept = λ (fine : c.call_flow.result ≢ Error).
     here-keeps FlowStep flow_table_scheme c.args.name w c.call_flow.result w' flow-keeps
-    c.requires.current c.requires.stands (runs fine) in
+    c.requires.current c.requires.valid (runs fine) in
     record {
       runs = runs;
-      stands = λ fine. (kept fine).0;
+      valid = λ fine. (kept fine).0;
       falls = λ fine. (kept fine).1;
       setting = λ fine. (kept fine).2;
       sees = c.call_flow.ensures.sees;
@@ -107,10 +107,10 @@ returns-in_default c =
     let w' = world c.call_at_once.new.tokenizer in
     let kept = λ (fine : c.call_at_once.result ≢ Error).
     here-keeps FlowStep flow_table_scheme c.args.name w c.call_at_once.result w' flow-keeps
-    c.requires.current c.requires.stands (c.call_at_once.ensures.runs fine) in
+    c.requires.current c.requires.valid (c.call_at_once.ensures.runs fine) in
     record {
       runs = c.call_at_once.ensures.runs;
-      stands = λ fine. (kept fine).0;
+      valid = λ fine. (kept fine).0;
       falls = λ fine. (kept fine).1;
       setting = λ fine. (kept fine).2;
       sees = c.call_at_once.ensures.sees;

@@ -12,7 +12,8 @@ returns-in-Content c =
 pub returns-in-SpaceOrTab : goal.returns-in-SpaceOrTab
 returns-in-SpaceOrTab c =
     rw c.in-SpaceOrTab.is
-    (flow-stays (n.SpaceOrTab c.in-SpaceOrTab.state) c.takes_at_once-in-SpaceOrTab.result c.takes_at_once-in-SpaceOrTab.ensures)
+    (flow-stays (n.SpaceOrTab c.in-SpaceOrTab.state) c.takes_at_once-in-SpaceOrTab.result
+    c.takes_at_once-in-SpaceOrTab.ensures)
 
 pub returns-in_default : goal.returns-in_default
 returns-in_default c =

@@ -35,10 +35,10 @@ returns-in-SpaceOrTab c =
     (c.call_at_once.ensures.runs fine is_end s v named sees may)) in
     let kept = λ (fine : c.call_at_once.result ≢ Error).
     here-keeps ContentStep content_scheme c.args.name w c.call_at_once.result w' content-keeps c.requires.current
-    c.requires.stands (runs fine) in
+    c.requires.valid (runs fine) in
     record {
       runs = runs;
-      stands = λ fine. (kept fine).0;
+      valid = λ fine. (kept fine).0;
       falls = λ fine. (kept fine).1;
       setting = λ fine. (kept fine).2;
       sees = c.call_at_once.ensures.sees;
@@ -50,21 +50,21 @@ returns-in_default c =
     let w' = world c.call_state.new.tokenizer in
     let same = λ (fine : c.call_state.result ≢ Error).
     does-setting content_scheme c.args.name w (content_transition c.args.name w) w' (c.call_state.ensures.world fine)
-    (content_terminates c.args.name w c.requires.current c.requires.stands) in
+    (content_terminates c.args.name w c.requires.current c.requires.valid) in
     let step : c.call_state.result ≢ Error → ContentStep c.args.name w c.call_state.result w' = λ fine.
     record { to_is = c.call_state.ensures.to fine; new_is = c.call_state.ensures.world fine } in
     record {
       runs = λ fine.
           call-runs ContentStep c.args.name w c.call_state.result w' (step fine) fine (same fine)
           (within-world c.args.tokenizer.now);
-      stands = λ fine.
-          (content-keeps c.args.name w c.call_state.result w' c.requires.current c.requires.stands (step fine)).0;
+      valid = λ fine.
+          (content-keeps c.args.name w c.call_state.result w' c.requires.current c.requires.valid (step fine)).0;
       falls = λ fine.
-          (content-keeps c.args.name w c.call_state.result w' c.requires.current c.requires.stands (step fine)).1;
+          (content-keeps c.args.name w c.call_state.result w' c.requires.current c.requires.valid (step fine)).1;
       setting = same;
       sees = λ fine.
           call-sees c.call_state.result w w'
           (does-remain content_scheme c.args.name w (content_transition c.args.name w) c.call_state.result w'
           (c.call_state.ensures.to fine) (c.call_state.ensures.world fine)
-          (content_terminates c.args.name w c.requires.current c.requires.stands)) (same fine) c.requires.current;
+          (content_terminates c.args.name w c.requires.current c.requires.valid)) (same fine) c.requires.current;
     }

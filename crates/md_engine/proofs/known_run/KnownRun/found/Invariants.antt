@@ -4,7 +4,7 @@ use Rattle.md_engine.proofs.known_run.KnownRun.found.Given as goal
 
 abbrev pub invariant-loop-end : goal.invariant-loop-end
 invariant-loop-end l = record {
-  behind : l.index ≤ l.end;
+  following : l.index ≤ l.end;
   from : l.from ≤ l.index;
   each : AreOfRun l.bytes l.marker l.from l.end;
 }

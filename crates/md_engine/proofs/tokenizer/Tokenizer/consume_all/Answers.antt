@@ -1,6 +1,6 @@
 use Rattle.std.proofs.Common.{◌≡◌, ◌<◌, ◌≤◌, arith}
 use Rattle.md_engine.specs.World.{World, world}
-use Rattle.md_engine.proofs.ClassLemmas.{none-taken, placed-behind, span-here, span-taken}
+use Rattle.md_engine.proofs.ClassLemmas.{none-taken, placed-following, span-here, span-taken}
 use Rattle.md_engine.proofs.Sound.{sound-moved}
 use Rattle.md_engine.proofs.tokenizer.Tokenizer.consume_all.Goals as goal
 
@@ -13,7 +13,7 @@ invariant_of-self c =
     let w : World = world c.args.self.now in
     let at : w.point.index ≤ c.args.end = omega arith in
     let some : 0 < c.span-count.result = c.if-count-gt0.true in
-    let q = placed-behind c.args.class c.span-count.result w.setting.bytes c.args.end w.point
+    let q = placed-following c.args.class c.span-count.result w.setting.bytes c.args.end w.point
     c.args.self.now.sound.placed c.requires at some c.span-count.ensures in
     record {
       sound = sound-moved _ _ _ _ _ _ _ c.args.self.now.sound (rw c.further-self.ensures q);

@@ -11,4 +11,5 @@ returns-clause-left c =
 
 pub returns-clause-held : goal.returns-clause-held
 returns-clause-held c =
-    held-more c.args.self.now.events.items c.args.self.now.done c.args.self.now.read c.args._event (omega arith) c.requires
+    held-more c.args.self.now.events.items c.args.self.now.done c.args.self.now.read c.args._event
+    (omega arith) c.requires

@@ -19,5 +19,13 @@ loop-at-preserved c =
       held = c.put_piece.ensures.held ∙ c.loop-at.invariant.held;
       written = piece-appended es (written_of c.loop-at.self) (written_of c.put_piece.new.self) _ at many
           (rw (take_rest es at) at c.put_piece.ensures.written) c.loop-at.invariant.written;
-      room = omega (arith, further, size, within, c.put_piece.ensures.room.1, c.loop-at.invariant.room, c.loop-at-test.true);
+      room = omega (
+        arith,
+        further,
+        size,
+        within,
+        c.put_piece.ensures.room.1,
+        c.loop-at.invariant.room,
+        c.loop-at-test.true,
+      );
     }

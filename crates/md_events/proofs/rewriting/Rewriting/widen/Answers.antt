@@ -1,8 +1,9 @@
-use Rattle.std.proofs.Common.{◌≡◌, ℕ, ◌+◌, ◌-◌, List, ◌++◌, take, drop, length, length-append, ap, arith, refl, replicate, sym, ◌∙◌}
+use Rattle.std.proofs.Common.{◌≡◌, ℕ, ◌+◌, ◌-◌, List, ◌++◌, take, drop, length, length-append, ap, arith, refl}
+use Rattle.std.proofs.Common.{replicate, sym, ◌∙◌}
 use Rattle.std.proofs.lemmas.List.{length-replicate, take-append-le, take-take, take_at, with_items_is}
 use Rattle.std.specs.Vec.{vec_len, with_items}
 use Rattle.md_engine.specs.declared.event.Event.{Event}
-use Rattle.md_events.proofs.RewrittenLemmas.{made-longer, moved-behind}
+use Rattle.md_events.proofs.RewrittenLemmas.{made-longer, moved-following}
 use Rattle.md_events.proofs.rewriting.Rewriting.widen.Goals as goal
 
 -- a list is made longer by so many events
@@ -47,7 +48,8 @@ back c =
     let old : List Event = c.args.self.now.events.items in
     c.move_up.ensures.moved
     ∙ ap (drop c.args.self.now.done)
-    (ap (λ (n : ℕ). take n c.deref_mut.result.now) (omega (arith, long old c.deref_mut.result.now c.room_for-many.result h))
+    (ap (λ (n : ℕ). take n c.deref_mut.result.now)
+    (omega (arith, long old c.deref_mut.result.now c.room_for-many.result h))
     ∙ ap (take (length old)) h.is ∙ take_at old h.more (length old) refl)
 
 set : (c : goal.After-self-3-1) →
@@ -58,7 +60,7 @@ set c =
 pub returns-clause-left : goal.returns-clause-left
 returns-clause-left c =
     ap (drop (c.args.self.now.read + c.room_for-many.result)) (set c)
-    ∙ moved-behind c.args.self.now.events.items c.move_up.new.events c.args.self.now.done c.args.self.now.read
+    ∙ moved-following c.args.self.now.events.items c.move_up.new.events c.args.self.now.done c.args.self.now.read
     c.room_for-many.result (omega arith) (back c)
 
 pub returns-clause-held : goal.returns-clause-held

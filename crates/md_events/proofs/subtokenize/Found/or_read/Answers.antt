@@ -9,4 +9,5 @@ read-requires-clause-chunks g c =
     (g.R.Reader.wants c.args.reader.now) c.args.events.now c.requires.placed c.requires.within)
 
 pub read-requires-clause-asked : goal.read-requires-clause-asked
-read-requires-clause-asked g c = rw (c.deref.ensures.value, c.in_ok-list_chunks.ensures) (c.requires.asked (omega arith))
+read-requires-clause-asked g c = rw (c.deref.ensures.value, c.in_ok-list_chunks.ensures)
+    (c.requires.asked (omega arith))

@@ -17,7 +17,7 @@ returns c =
     (λ pushed u.
     first-all c.args.word c.args.depth (entries_of c.args.lines.now.items) (entries_of c.push.new.lines.items)
     (entries_of c.push_lines.new.lines.items) c.args.text.now c.split_at.result.0.now c.split_at.result.1.now
-    c.behind_ending.result.now c.text_of.result.now c.first_line_len.result
-    c.first_line_len.ensures.value c.split_at.ensures.front c.split_at.ensures.back c.behind_ending.ensures.value u
+    c.following_ending.result.now c.text_of.result.now c.first_line_len.result
+    c.first_line_len.ensures.value c.split_at.ensures.front c.split_at.ensures.back c.following_ending.ensures.value u
     c.text_of.ensures c.in_ok-push.ensures (sym c.is_empty.ensures ∙ c.if-is_empty.false) pushed)
     c.push_lines.ensures

@@ -8,7 +8,8 @@ returns c =
     on_ok-map c.push.result
     (λ pushed u.
     let rest = c.in_ok-rest.ensures.rest u in
-    lines-all c.args.word c.args.depth (entries_of c.args.lines.now.items) (entries_of c.push_full_lines.new.lines.items)
+    lines-all c.args.word c.args.depth (entries_of c.args.lines.now.items)
+    (entries_of c.push_full_lines.new.lines.items)
     (entries_of c.push.new.lines.items) c.args.text.now c.in_ok-rest.rest.now c.line_text.result.now
     rest.1 (c.in_ok-rest.ensures.lines u) (c.line_text.ensures rest.0) pushed)
     c.push.ensures

@@ -2,7 +2,7 @@ use Rattle.std.proofs.Common.{◌<◌, ◌+◌, length, arith}
 use Rattle.std.proofs.lemmas.List.{take_rest}
 use Rattle.md_tables.proofs.Unset.{unset}
 use Rattle.md_tables.proofs.TabledWalk.{walk-stepped}
-use Rattle.md_tables.specs.Goes.{in_all}
+use Rattle.md_tables.specs.Proceeds.{in_all}
 use Rattle.md_tables.proofs.tables.Walk.inside.Goals as goal
 
 pub returns-clause-in_all : goal.returns-clause-in_all

@@ -3,7 +3,7 @@ use Rattle.md_events.specs.Events.Nested.{enter}
 use Rattle.md_tables.specs.Cells.{cell_name}
 use Rattle.md_tables.specs.Tabled.{tabled_from}
 use Rattle.md_tables.specs.declared.cells.Stage.TheVariants.{Within}
-use Rattle.md_tables.proofs.PartsWalk.{front-goes, gives, two-first}
+use Rattle.md_tables.proofs.PartsWalk.{front-proceeds, gives, two-first}
 use Rattle.md_tables.proofs.Unset.{unset}
 use Rattle.md_tables.proofs.tables.Walk.part_front.Goals as goal
 
@@ -20,4 +20,4 @@ returns-clause-in_all c =
     (rw c.cell_name.ensures at c.in_ok-give_two_first.ensures)
     (ap (tabled_from now.section now.rows.stage) (sym (two-first events unset c.in-len2-up.len_at_least))
     ∙ rw c.requires.stage
-    (front-goes now.section k begin end rest c.requires.section (sym c.is_pipe.ensures ∙ c.if-not-is_pipe.false)))
+    (front-proceeds now.section k begin end rest c.requires.section (sym c.is_pipe.ensures ∙ c.if-not-is_pipe.false)))

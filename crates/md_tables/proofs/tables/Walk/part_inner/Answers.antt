@@ -8,8 +8,8 @@ use Rattle.md_tables.proofs.PartsWalk.{gives, inner-ends, one-first}
 use Rattle.md_tables.proofs.Unset.{unset}
 use Rattle.md_tables.proofs.tables.Walk.part_inner.Goals as goal
 
-pub returns-then-not-goes_on-clause-in_all : goal.returns-then-not-goes_on-clause-in_all
-returns-then-not-goes_on-clause-in_all c =
+pub returns-then-not-is_continued-clause-in_all : goal.returns-then-not-is_continued-clause-in_all
+returns-then-not-is_continued-clause-in_all c =
     let now = c.args.self.now in
     let k = c.args.kind in
     let events = c.args.events.now in
@@ -21,4 +21,4 @@ returns-then-not-goes_on-clause-in_all c =
     (ap (tabled_from now.section now.rows.stage) (sym (one-first events unset c.in-len1-up.len_at_least))
     ∙ rw c.requires.stage
     (inner-ends now.section k end rest c.requires.section (sym c.ends_inner.ensures ∙ c.if-not-ends_inner.false)
-    (rw (take_rest events 1) at (sym c.goes_on.ensures ∙ c.if-not-goes_on.true))))
+    (rw (take_rest events 1) at (sym c.is_continued.ensures ∙ c.if-not-is_continued.true))))

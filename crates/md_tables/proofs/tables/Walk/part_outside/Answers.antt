@@ -1,13 +1,13 @@
 use Rattle.std.proofs.Common.{◌≤◌, [], ◌∷◌, drop, length, arith, get_or, sym, ◌∙◌, ap}
 use Rattle.std.proofs.lemmas.List.{drop-drop, take_rest}
-use Rattle.md_tables.specs.Goes.{in_all}
+use Rattle.md_tables.specs.Proceeds.{in_all}
 use Rattle.md_tables.specs.Tabled.{tabled_from}
 use Rattle.md_tables.specs.declared.cells.Stage.TheVariants.{Front}
 use Rattle.md_engine.specs.declared.event.Name.TheVariants as n
 use Rattle.md_events.specs.Events.Nested.{enter}
 use Rattle.md_tables.specs.declared.cells.RowKind.TheVariants.{Text}
 use Rattle.md_tables.specs.declared.tables.Section.TheVariants.{Body}
-use Rattle.md_tables.proofs.PartsWalk.{body-begins, ending-goes, gives, one-first, row-goes, two-first}
+use Rattle.md_tables.proofs.PartsWalk.{body-begins, ending-proceeds, gives, one-first, row-proceeds, two-first}
 use Rattle.md_tables.proofs.Unset.{unset}
 use Rattle.md_tables.proofs.tables.Walk.part_outside.Goals as goal
 
@@ -23,7 +23,7 @@ returns-then-is_ending-clause-in_all c =
     c.in_ok-give_two.ensures
     (ap (tabled_from now.section now.rows.stage) (sym (two-first events unset c.in-len2-up.len_at_least))
     ∙ rw c.requires.stage
-    (ending-goes now.section begin end rest c.requires.section (sym c.is_ending.ensures ∙ c.if-is_ending.true)))
+    (ending-proceeds now.section begin end rest c.requires.section (sym c.is_ending.ensures ∙ c.if-is_ending.true)))
 
 pub returns-then-begins_body-clause-in_all : goal.returns-then-begins_body-clause-in_all
 returns-then-begins_body-clause-in_all c =
@@ -53,5 +53,5 @@ returns-clause-in_all c =
     (tabled_from now.section (Front c.in-Some.kind) rest) c.in_ok-give.ensures
     (ap (tabled_from now.section now.rows.stage) (sym (one-first events unset long))
     ∙ rw c.requires.stage
-    (row-goes now.section c.in-Some.kind begin rest c.requires.section
+    (row-proceeds now.section c.in-Some.kind begin rest c.requires.section
     (sym c.is_between.ensures ∙ c.if-is_between.false) (sym c.in-Some.ensures)))

@@ -1,6 +1,6 @@
 use Rattle.std.proofs.Common.{[], ◌∷◌, drop, get_or, sym, ◌∙◌, ap}
 use Rattle.md_tables.specs.Tabled.{tabled_from}
-use Rattle.md_tables.proofs.PartsWalk.{gives, two-first, white-goes}
+use Rattle.md_tables.proofs.PartsWalk.{gives, two-first, white-proceeds}
 use Rattle.md_tables.proofs.Unset.{unset}
 use Rattle.md_tables.proofs.tables.Walk.part_within.Goals as goal
 
@@ -16,5 +16,5 @@ returns-then-is_white_pair-clause-in_all c =
     c.in_ok-give_two.ensures
     (ap (tabled_from now.section now.rows.stage) (sym (two-first events unset c.in-len2-up.len_at_least))
     ∙ rw c.requires.stage
-    (white-goes now.section c.args.kind begin end rest c.requires.section
+    (white-proceeds now.section c.args.kind begin end rest c.requires.section
     (sym c.is_white_pair.ensures ∙ c.if-is_white_pair.true)))

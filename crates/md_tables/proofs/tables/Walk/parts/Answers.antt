@@ -1,7 +1,7 @@
 use Rattle.std.proofs.Common.{◌≡◌, ◌≤◌, ◌-◌, drop, length, ◌∙◌, arith, length-drop}
 use Rattle.std.proofs.lemmas.List.{take_rest}
-use Rattle.md_tables.specs.Goes.{in_all}
-use Rattle.md_tables.proofs.TabledWalk.{walk-goes}
+use Rattle.md_tables.specs.Proceeds.{in_all}
+use Rattle.md_tables.proofs.TabledWalk.{walk-proceeds}
 use Rattle.md_tables.proofs.tables.Walk.parts.Goals as goal
 
 pub loop-at-preserved : goal.loop-at-preserved
@@ -13,7 +13,7 @@ loop-at-preserved c =
           rw (take_rest events at) at c.in_ok-many.ensures.within in
           let left : length (drop at events) ≡ length events - at = length-drop at events in
           omega arith),
-      walk-goes c.loop-at.self c.part.new.self events (in_all c.args.self.now events) at c.in_ok-many.many
+      walk-proceeds c.loop-at.self c.part.new.self events (in_all c.args.self.now events) at c.in_ok-many.many
           (rw (take_rest events at) at c.in_ok-many.ensures.in_all) c.loop-at.invariant.2,
     )
 

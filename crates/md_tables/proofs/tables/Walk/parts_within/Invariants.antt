@@ -1,5 +1,5 @@
 use Rattle.std.proofs.Common.{◌≡◌, ◌≤◌, ◌-◌, drop, length, true}
-use Rattle.md_tables.specs.Goes.{in_all, in_table}
+use Rattle.md_tables.specs.Proceeds.{in_all, in_table}
 use Rattle.md_tables.specs.declared.cells.Stage.TheVariants.{Within}
 use Rattle.md_tables.proofs.tables.Walk.parts_within.Given as goal
 
