@@ -29,8 +29,6 @@ use Rattle.md_registry.specs.LineFlags.{next_container}
 use Rattle.md_registry.specs.Registry.{continues_with}
 use Rattle.md_registry.specs.Flow.{leaf_end}
 use Rattle.md_registry.specs.States.{FlowStep}
-use Rattle.md_engine.specs.declared.tokenizer.Tokenizer.{Tokenizer}
-use Rattle.md_events.specs.States.{IsRun}
 
 -- what is at the point may be read, and is seen
 abbrev pub SeesAhead : World → Type 0
@@ -123,7 +121,3 @@ pub record IsNoClose (w : World) : Type 0 where
 -- a further line has begun that closes nothing, as where a closing fence was tried
 abbrev pub unclosed : World → World
 unclosed w = record (line_entered w) { scratch = calmed (cleared w.scratch) }
-
--- what a call that takes several states of flow or of the document at once promises; of want of memory it says nothing
-abbrev pub IsFlowRun : StateName → World → State → Tokenizer → Type 0
-IsFlowRun name old answer new = IsRun FlowStep name old (Unit {0}) answer new

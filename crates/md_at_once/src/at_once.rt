@@ -6,9 +6,10 @@
 // as a whole and ends in the same call; where its end can be read no attempt begins. The next line begins in it too.
 // The pages of the states can be read without them.
 
-ghost use Rattle.std.specs.Prelude.{OnOk, Some, false, length, true, ◌≡◌, ◌<◌, ◌≤◌, ◌^◌};
+ghost use Rattle.std.specs.Prelude.{OnOk, Some, false, length, true, ◌≡◌, ◌≢◌, ◌<◌, ◌≤◌, ◌^◌};
 ghost use Rattle.md_content.specs.Chunks.{begun};
 ghost use Rattle.md_events.specs.WholeLine.{line_taken};
+ghost use Rattle.md_engine.specs.Going.{SeesOn};
 ghost use Rattle.md_engine.specs.Place.{IsPlaced};
 ghost use Rattle.md_engine.specs.Run.{RunsHere};
 ghost use Rattle.md_engine.specs.Scheme.{valid};
@@ -17,14 +18,14 @@ ghost use Rattle.md_engine.specs.declared.state.Name.{Name as StateName};
 ghost use Rattle.md_engine.specs.declared.state.State.{State};
 ghost use Rattle.md_engine.specs.declared.state.document.State.{State as DocumentState};
 ghost use Rattle.md_at_once.specs.AtOnce.{EndsAtOnce, IsNoLabel, OpensNone, SeesAhead, IsVisible};
-ghost use Rattle.md_at_once.specs.AtOnce.{line_added, line_tried, IsFlowRun};
+ghost use Rattle.md_at_once.specs.AtOnce.{line_added, line_tried};
 ghost use Rattle.md_registry.specs.AtOnce.{ContinuesAtOnce, asking_next, openers_passed};
 ghost use Rattle.md_registry.specs.Flow.{existing_after_transition};
 ghost use Rattle.md_registry.specs.LineFlags.{next_container};
 ghost use Rattle.md_containers.specs.PlainBullet.{IsPlainBullet};
 ghost use Rattle.md_registry.specs.Registry.{opener_front, openers};
 ghost use Rattle.md_registry.specs.Flow.{leaf_end};
-ghost use Rattle.md_registry.specs.States.{flow_table_scheme, is_flow_own};
+ghost use Rattle.md_registry.specs.States.{FlowStep, flow_table_scheme, is_flow_own};
 ghost use Rattle.md_events.specs.Lent.{whole_from};
 ghost use Rattle.md_events.specs.Transition.{IsAt, NeedsNothing};
 ghost use Rattle.md_engine.specs.declared.state.flow.State.{State as FlowState};
@@ -135,8 +136,10 @@ fn has_no_indent(tokenizer: &Tokenizer) -> bool
 #[inline(always)]
 pub fn containers_existing(tokenizer: &mut Tokenizer) -> State
     requires { IsAt NeedsNothing (StateName.Document DocumentState.ContainerExistingBefore) (world tokenizer.old) }
-    ensures run { IsFlowRun (StateName.Document DocumentState.ContainerExistingBefore)
-        (world tokenizer.old) result tokenizer.new }
+    ensures runs { result ≢ State.Error →
+        RunsHere FlowStep
+        (StateName.Document DocumentState.ContainerExistingBefore) (world tokenizer.old) result (world tokenizer.new) }
+    ensures sees { result ≢ State.Error → SeesOn result (world tokenizer.old) (world tokenizer.new) }
     ensures opens { (name : StateName) → result ≡ State.Next name → SeesAhead (world tokenizer.new) }
 {
     while continues_at_once(tokenizer) {
@@ -166,7 +169,10 @@ pub fn pass_openers(tokenizer: &mut Tokenizer)
 pub fn opens_at_once(tokenizer: &mut Tokenizer) -> State
     requires at { IsAt NeedsNothing (StateName.Document (opener_front openers)) (world tokenizer.old) }
     requires plain { IsPlainBullet (world tokenizer.old) }
-    ensures { IsFlowRun (StateName.Document (opener_front openers)) (world tokenizer.old) result tokenizer.new }
+    ensures runs { result ≢ State.Error →
+        RunsHere FlowStep
+        (StateName.Document (opener_front openers)) (world tokenizer.old) result (world tokenizer.new) }
+    ensures sees { result ≢ State.Error → SeesOn result (world tokenizer.old) (world tokenizer.new) }
 {
     document::ask(tokenizer, Container::new(choices::plain_opener()));
     or_error!(choices::take_plain_opening(tokenizer));
@@ -247,7 +253,10 @@ fn content_added(tokenizer: &mut Tokenizer, from: Point) -> Result<(), Message>
 #[inline(always)]
 fn content_begins(tokenizer: &mut Tokenizer) -> State
     requires { IsAt NeedsNothing (StateName.Flow FlowState.BeforeContent) (world tokenizer.old) }
-    ensures { IsFlowRun (StateName.Flow FlowState.BeforeContent) (world tokenizer.old) result tokenizer.new }
+    ensures runs { result ≢ State.Error →
+        RunsHere FlowStep
+        (StateName.Flow FlowState.BeforeContent) (world tokenizer.old) result (world tokenizer.new) }
+    ensures sees { result ≢ State.Error → SeesOn result (world tokenizer.old) (world tokenizer.new) }
 {
     if blank_line::ends_line(tokenizer.current) {
         return flow::before_content(tokenizer);
@@ -266,7 +275,10 @@ fn content_begins(tokenizer: &mut Tokenizer) -> State
 #[inline(always)]
 pub fn heading_begins(tokenizer: &mut Tokenizer) -> State
     requires { IsAt NeedsNothing (StateName.HeadingAtx HeadingState.Start) (world tokenizer.old) }
-    ensures { IsFlowRun (StateName.HeadingAtx HeadingState.Start) (world tokenizer.old) result tokenizer.new }
+    ensures runs { result ≢ State.Error →
+        RunsHere FlowStep
+        (StateName.HeadingAtx HeadingState.Start) (world tokenizer.old) result (world tokenizer.new) }
+    ensures sees { result ≢ State.Error → SeesOn result (world tokenizer.old) (world tokenizer.new) }
 {
     match heading_atx::start(tokenizer) {
         State::Retry(StateName::HeadingAtx(HeadingState::Before)) => heading_atx::opening(
@@ -303,7 +315,10 @@ fn is_heading(state: State) -> bool
 #[inline(always)]
 fn rest_begins(tokenizer: &mut Tokenizer) -> State
     requires { IsAt NeedsNothing (StateName.Flow FlowState.Start) (world tokenizer.old) }
-    ensures { IsFlowRun (StateName.Flow FlowState.Start) (world tokenizer.old) result tokenizer.new }
+    ensures runs { result ≢ State.Error →
+        RunsHere FlowStep
+        (StateName.Flow FlowState.Start) (world tokenizer.old) result (world tokenizer.new) }
+    ensures sees { result ≢ State.Error → SeesOn result (world tokenizer.old) (world tokenizer.new) }
 {
     if choices::content_alone(tokenizer.flags.leaf, tokenizer.current) {
         return content_begins(tokenizer);
@@ -341,7 +356,10 @@ fn opens_none(tokenizer: &Tokenizer) -> bool
 #[inline(always)]
 fn containers_new(tokenizer: &mut Tokenizer) -> State
     requires { IsAt NeedsNothing (StateName.Document (opener_front openers)) (world tokenizer.old) }
-    ensures { IsFlowRun (StateName.Document (opener_front openers)) (world tokenizer.old) result tokenizer.new }
+    ensures runs { result ≢ State.Error →
+        RunsHere FlowStep
+        (StateName.Document (opener_front openers)) (world tokenizer.old) result (world tokenizer.new) }
+    ensures sees { result ≢ State.Error → SeesOn result (world tokenizer.old) (world tokenizer.new) }
 {
     if opens_none(tokenizer) {
         pass_openers(tokenizer);
@@ -361,7 +379,10 @@ fn containers_new(tokenizer: &mut Tokenizer) -> State
 #[inline(always)]
 fn after_containers(tokenizer: &mut Tokenizer) -> State
     requires { IsAt NeedsNothing (StateName.Document DocumentState.ContainersAfter) (world tokenizer.old) }
-    ensures { IsFlowRun (StateName.Document DocumentState.ContainersAfter) (world tokenizer.old) result tokenizer.new }
+    ensures runs { result ≢ State.Error →
+        RunsHere FlowStep
+        (StateName.Document DocumentState.ContainersAfter) (world tokenizer.old) result (world tokenizer.new) }
+    ensures sees { result ≢ State.Error → SeesOn result (world tokenizer.old) (world tokenizer.new) }
 {
     document::containers_after(tokenizer);
     if choices::continues_inside(tokenizer.flags.leaf) {
@@ -378,8 +399,10 @@ fn after_containers(tokenizer: &mut Tokenizer) -> State
 #[inline(always)]
 fn containers(tokenizer: &mut Tokenizer) -> State
     requires { IsAt NeedsNothing (StateName.Document DocumentState.ContainerExistingBefore) (world tokenizer.old) }
-    ensures { IsFlowRun (StateName.Document DocumentState.ContainerExistingBefore)
-        (world tokenizer.old) result tokenizer.new }
+    ensures runs { result ≢ State.Error →
+        RunsHere FlowStep
+        (StateName.Document DocumentState.ContainerExistingBefore) (world tokenizer.old) result (world tokenizer.new) }
+    ensures sees { result ≢ State.Error → SeesOn result (world tokenizer.old) (world tokenizer.new) }
 {
     match containers_existing(tokenizer) {
         State::Next(StateName::Document(DocumentState::ContainerNewBefore)) => {
@@ -412,8 +435,10 @@ fn lines(tokenizer: &mut Tokenizer) -> State
     requires current { (world tokenizer.old).current ≡ looks (world tokenizer.old) }
     requires valid { valid flow_table_scheme (world tokenizer.old)
         (State.Next (StateName.Document DocumentState.ContainerExistingBefore)) }
-    ensures { IsFlowRun (StateName.Document DocumentState.ContainerExistingBefore)
-        (world tokenizer.old) result tokenizer.new }
+    ensures runs { result ≢ State.Error →
+        RunsHere FlowStep
+        (StateName.Document DocumentState.ContainerExistingBefore) (world tokenizer.old) result (world tokenizer.new) }
+    ensures sees { result ≢ State.Error → SeesOn result (world tokenizer.old) (world tokenizer.new) }
 {
     loop {
         let to = containers(tokenizer);
@@ -431,7 +456,10 @@ fn lines(tokenizer: &mut Tokenizer) -> State
 pub fn call_document(tokenizer: &mut Tokenizer, state: DocumentState) -> State
     requires current { (world tokenizer.old).current ≡ looks (world tokenizer.old) }
     requires valid { valid flow_table_scheme (world tokenizer.old) (State.Next (StateName.Document state)) }
-    ensures { IsFlowRun (StateName.Document state) (world tokenizer.old) result tokenizer.new }
+    ensures runs { result ≢ State.Error →
+        RunsHere FlowStep (StateName.Document state)
+        (world tokenizer.old) result (world tokenizer.new) }
+    ensures sees { result ≢ State.Error → SeesOn result (world tokenizer.old) (world tokenizer.new) }
 {
     match state {
         DocumentState::ContainerExistingBefore => lines(tokenizer),
@@ -445,7 +473,10 @@ pub fn call_document(tokenizer: &mut Tokenizer, state: DocumentState) -> State
 pub fn call_flow(tokenizer: &mut Tokenizer, state: FlowState) -> State
     requires current { (world tokenizer.old).current ≡ looks (world tokenizer.old) }
     requires valid { valid flow_table_scheme (world tokenizer.old) (State.Next (StateName.Flow state)) }
-    ensures { IsFlowRun (StateName.Flow state) (world tokenizer.old) result tokenizer.new }
+    ensures runs { result ≢ State.Error →
+        RunsHere FlowStep (StateName.Flow state)
+        (world tokenizer.old) result (world tokenizer.new) }
+    ensures sees { result ≢ State.Error → SeesOn result (world tokenizer.old) (world tokenizer.new) }
 {
     match state {
         FlowState::Start => rest_begins(tokenizer),
@@ -461,7 +492,10 @@ pub fn call_flow(tokenizer: &mut Tokenizer, state: FlowState) -> State
 pub fn call_white(tokenizer: &mut Tokenizer, state: WhiteState) -> State
     requires current { (world tokenizer.old).current ≡ looks (world tokenizer.old) }
     requires valid { valid flow_table_scheme (world tokenizer.old) (State.Next (StateName.SpaceOrTab state)) }
-    ensures { IsFlowRun (StateName.SpaceOrTab state) (world tokenizer.old) result tokenizer.new }
+    ensures runs { result ≢ State.Error →
+        RunsHere FlowStep (StateName.SpaceOrTab state)
+        (world tokenizer.old) result (world tokenizer.new) }
+    ensures sees { result ≢ State.Error → SeesOn result (world tokenizer.old) (world tokenizer.new) }
 {
     space_or_tab::call_at_once(tokenizer, state)
 }
@@ -471,7 +505,10 @@ pub fn call_white(tokenizer: &mut Tokenizer, state: WhiteState) -> State
 fn call_heading(tokenizer: &mut Tokenizer, state: HeadingState) -> State
     requires current { (world tokenizer.old).current ≡ looks (world tokenizer.old) }
     requires valid { valid flow_table_scheme (world tokenizer.old) (State.Next (StateName.HeadingAtx state)) }
-    ensures { IsFlowRun (StateName.HeadingAtx state) (world tokenizer.old) result tokenizer.new }
+    ensures runs { result ≢ State.Error →
+        RunsHere FlowStep (StateName.HeadingAtx state)
+        (world tokenizer.old) result (world tokenizer.new) }
+    ensures sees { result ≢ State.Error → SeesOn result (world tokenizer.old) (world tokenizer.new) }
 {
     match state {
         HeadingState::AtBreak => heading_atx::text(tokenizer),
@@ -485,7 +522,10 @@ fn call_heading(tokenizer: &mut Tokenizer, state: HeadingState) -> State
 fn call_in_table(tokenizer: &mut Tokenizer, state: TableState) -> State
     requires current { (world tokenizer.old).current ≡ looks (world tokenizer.old) }
     requires valid { valid flow_table_scheme (world tokenizer.old) (State.Next (StateName.GfmTable state)) }
-    ensures { IsFlowRun (StateName.GfmTable state) (world tokenizer.old) result tokenizer.new }
+    ensures runs { result ≢ State.Error →
+        RunsHere FlowStep (StateName.GfmTable state)
+        (world tokenizer.old) result (world tokenizer.new) }
+    ensures sees { result ≢ State.Error → SeesOn result (world tokenizer.old) (world tokenizer.new) }
 {
     match place_of(Row::Body, state) {
         Some(place) => row_words::call(tokenizer, Row::Body, place),
@@ -498,7 +538,10 @@ fn call_in_table(tokenizer: &mut Tokenizer, state: TableState) -> State
 fn call_table(tokenizer: &mut Tokenizer, first: TableState) -> State
     requires current { (world tokenizer.old).current ≡ looks (world tokenizer.old) }
     requires valid { valid flow_table_scheme (world tokenizer.old) (State.Next (StateName.GfmTable first)) }
-    ensures { IsFlowRun (StateName.GfmTable first) (world tokenizer.old) result tokenizer.new }
+    ensures runs { result ≢ State.Error →
+        RunsHere FlowStep (StateName.GfmTable first)
+        (world tokenizer.old) result (world tokenizer.new) }
+    ensures sees { result ≢ State.Error → SeesOn result (world tokenizer.old) (world tokenizer.new) }
 {
     let mut state = first;
     loop {
@@ -516,7 +559,10 @@ pub fn call_at_once(tokenizer: &mut Tokenizer, name: StateName) -> State
     requires current { (world tokenizer.old).current ≡ looks (world tokenizer.old) }
     requires valid { valid flow_table_scheme (world tokenizer.old) (State.Next name) }
     requires construct { is_flow_own name ≡ false }
-    ensures { IsFlowRun name (world tokenizer.old) result tokenizer.new }
+    ensures runs { result ≢ State.Error →
+        RunsHere FlowStep name (world tokenizer.old)
+        result (world tokenizer.new) }
+    ensures sees { result ≢ State.Error → SeesOn result (world tokenizer.old) (world tokenizer.new) }
 {
     match name {
         StateName::HeadingAtx(state) => call_heading(tokenizer, state),

@@ -6,8 +6,9 @@
 // attempt begins. Each function is a run of the states (`RunsHere`), so the pages of the states can be read without
 // this one.
 
-ghost use Rattle.std.specs.Prelude.{◌≡◌, OnOk, true};
+ghost use Rattle.std.specs.Prelude.{◌≡◌, ◌≢◌, OnOk, true};
 ghost use Rattle.md_code.specs.Fence.{FenceNeeds, block_name, chunk_name, cleared, held_indent, held_marker};
+ghost use Rattle.md_engine.specs.Going.{SeesOn};
 ghost use Rattle.md_engine.specs.Place.{IsPlaced};
 ghost use Rattle.md_engine.specs.Run.{RunsHere};
 ghost use Rattle.md_engine.specs.World.{world};
@@ -15,8 +16,9 @@ ghost use Rattle.md_engine.specs.declared.state.Name.{Name as StateName};
 ghost use Rattle.md_engine.specs.declared.state.State.{State};
 ghost use Rattle.md_engine.specs.declared.state.document.State.{State as DocumentState};
 ghost use Rattle.md_engine.specs.declared.state.raw_flow.State.{State as RawState};
-ghost use Rattle.md_at_once.specs.AtOnce.{IsNoClose, unclosed, IsFlowRun};
+ghost use Rattle.md_at_once.specs.AtOnce.{IsNoClose, unclosed};
 ghost use Rattle.md_at_once.specs.WholeLines.{IsWhole, chunk_event, line_event, settled, whole_added, whole_tried};
+ghost use Rattle.md_registry.specs.States.{FlowStep};
 ghost use Rattle.md_events.specs.Spaces.{calmed};
 ghost use Rattle.md_events.specs.Transition.{IsAt, NeedsNothing};
 
@@ -84,7 +86,10 @@ fn is_further(state: State) -> bool
 #[inline(always)]
 fn chunk(tokenizer: &mut Tokenizer) -> State
     requires { IsAt FenceNeeds (StateName.RawFlow RawState.ContentChunk) (world tokenizer.old) }
-    ensures { IsFlowRun (StateName.RawFlow RawState.ContentChunk) (world tokenizer.old) result tokenizer.new }
+    ensures runs { result ≢ State.Error →
+        RunsHere FlowStep
+        (StateName.RawFlow RawState.ContentChunk) (world tokenizer.old) result (world tokenizer.new) }
+    ensures sees { result ≢ State.Error → SeesOn result (world tokenizer.old) (world tokenizer.new) }
 {
     if blank_line::ends_line(tokenizer.current) {
         return raw_flow::content_chunk(tokenizer);
@@ -100,7 +105,10 @@ fn chunk(tokenizer: &mut Tokenizer) -> State
 #[inline(always)]
 fn chunk_done(tokenizer: &mut Tokenizer) -> State
     requires { IsAt FenceNeeds (StateName.RawFlow RawState.ContentChunk) (world tokenizer.old) }
-    ensures { IsFlowRun (StateName.RawFlow RawState.ContentChunk) (world tokenizer.old) result tokenizer.new }
+    ensures runs { result ≢ State.Error →
+        RunsHere FlowStep
+        (StateName.RawFlow RawState.ContentChunk) (world tokenizer.old) result (world tokenizer.new) }
+    ensures sees { result ≢ State.Error → SeesOn result (world tokenizer.old) (world tokenizer.new) }
 {
     let to = chunk(tokenizer);
     if is_rest(to) {
@@ -113,7 +121,10 @@ fn chunk_done(tokenizer: &mut Tokenizer) -> State
 #[inline(always)]
 fn rest(tokenizer: &mut Tokenizer) -> State
     requires { IsAt FenceNeeds (StateName.RawFlow RawState.BeforeContentChunk) (world tokenizer.old) }
-    ensures { IsFlowRun (StateName.RawFlow RawState.BeforeContentChunk) (world tokenizer.old) result tokenizer.new }
+    ensures runs { result ≢ State.Error →
+        RunsHere FlowStep
+        (StateName.RawFlow RawState.BeforeContentChunk) (world tokenizer.old) result (world tokenizer.new) }
+    ensures sees { result ≢ State.Error → SeesOn result (world tokenizer.old) (world tokenizer.new) }
 {
     let to = raw_flow::before_content_chunk(tokenizer);
     if is_chunk(to) {
@@ -126,7 +137,10 @@ fn rest(tokenizer: &mut Tokenizer) -> State
 #[inline(always)]
 fn taken(tokenizer: &mut Tokenizer) -> State
     requires { IsAt FenceNeeds (StateName.RawFlow RawState.ContentStart) (world tokenizer.old) }
-    ensures { IsFlowRun (StateName.RawFlow RawState.ContentStart) (world tokenizer.old) result tokenizer.new }
+    ensures runs { result ≢ State.Error →
+        RunsHere FlowStep
+        (StateName.RawFlow RawState.ContentStart) (world tokenizer.old) result (world tokenizer.new) }
+    ensures sees { result ≢ State.Error → SeesOn result (world tokenizer.old) (world tokenizer.new) }
 {
     let to = raw_flow::content_start(tokenizer);
     if is_rest(to) {
@@ -139,7 +153,10 @@ fn taken(tokenizer: &mut Tokenizer) -> State
 #[inline(never)]
 fn line(tokenizer: &mut Tokenizer) -> State
     requires { IsAt FenceNeeds (StateName.RawFlow RawState.ContentStart) (world tokenizer.old) }
-    ensures { IsFlowRun (StateName.RawFlow RawState.ContentStart) (world tokenizer.old) result tokenizer.new }
+    ensures runs { result ≢ State.Error →
+        RunsHere FlowStep
+        (StateName.RawFlow RawState.ContentStart) (world tokenizer.old) result (world tokenizer.new) }
+    ensures sees { result ≢ State.Error → SeesOn result (world tokenizer.old) (world tokenizer.new) }
 {
     let to = taken(tokenizer);
     end(tokenizer, to)
@@ -193,7 +210,10 @@ fn begin_unclosed(tokenizer: &mut Tokenizer) -> Result<(), Message>
 fn untried(tokenizer: &mut Tokenizer) -> State
     requires at { IsAt FenceNeeds (StateName.RawFlow RawState.AtNonLazyBreak) (world tokenizer.old) }
     requires none { IsNoClose (world tokenizer.old) }
-    ensures { IsFlowRun (StateName.RawFlow RawState.AtNonLazyBreak) (world tokenizer.old) result tokenizer.new }
+    ensures runs { result ≢ State.Error →
+        RunsHere FlowStep
+        (StateName.RawFlow RawState.AtNonLazyBreak) (world tokenizer.old) result (world tokenizer.new) }
+    ensures sees { result ≢ State.Error → SeesOn result (world tokenizer.old) (world tokenizer.new) }
 {
     or_error!(begin_unclosed(tokenizer));
     line(tokenizer)
@@ -204,7 +224,10 @@ fn untried(tokenizer: &mut Tokenizer) -> State
 #[inline(always)]
 fn tried(tokenizer: &mut Tokenizer) -> State
     requires { IsAt FenceNeeds (StateName.RawFlow RawState.AtNonLazyBreak) (world tokenizer.old) }
-    ensures { IsFlowRun (StateName.RawFlow RawState.AtNonLazyBreak) (world tokenizer.old) result tokenizer.new }
+    ensures runs { result ≢ State.Error →
+        RunsHere FlowStep
+        (StateName.RawFlow RawState.AtNonLazyBreak) (world tokenizer.old) result (world tokenizer.new) }
+    ensures sees { result ≢ State.Error → SeesOn result (world tokenizer.old) (world tokenizer.new) }
 {
     let to = raw_flow::at_non_lazy_break(tokenizer);
     if is_start(to) {
@@ -217,7 +240,10 @@ fn tried(tokenizer: &mut Tokenizer) -> State
 #[inline(always)]
 fn further(tokenizer: &mut Tokenizer) -> State
     requires { IsAt FenceNeeds (StateName.RawFlow RawState.AtNonLazyBreak) (world tokenizer.old) }
-    ensures { IsFlowRun (StateName.RawFlow RawState.AtNonLazyBreak) (world tokenizer.old) result tokenizer.new }
+    ensures runs { result ≢ State.Error →
+        RunsHere FlowStep
+        (StateName.RawFlow RawState.AtNonLazyBreak) (world tokenizer.old) result (world tokenizer.new) }
+    ensures sees { result ≢ State.Error → SeesOn result (world tokenizer.old) (world tokenizer.new) }
 {
     if closes_none(tokenizer) {
         untried(tokenizer)
@@ -333,7 +359,10 @@ fn whole_added(tokenizer: &mut Tokenizer, from: Point) -> Result<(), Message>
 fn whole(tokenizer: &mut Tokenizer) -> State
     requires at { IsAt NeedsNothing (StateName.Document DocumentState.FlowInside) (world tokenizer.old) }
     requires whole { IsWhole (world tokenizer.old) }
-    ensures { IsFlowRun (StateName.Document DocumentState.FlowInside) (world tokenizer.old) result tokenizer.new }
+    ensures runs { result ≢ State.Error →
+        RunsHere FlowStep
+        (StateName.Document DocumentState.FlowInside) (world tokenizer.old) result (world tokenizer.new) }
+    ensures sees { result ≢ State.Error → SeesOn result (world tokenizer.old) (world tokenizer.new) }
 {
     settle(tokenizer);
     let from = tokenizer.point;
@@ -350,7 +379,10 @@ fn whole(tokenizer: &mut Tokenizer) -> State
 #[inline(always)]
 fn by_states(tokenizer: &mut Tokenizer) -> State
     requires { IsAt NeedsNothing (StateName.Document DocumentState.FlowInside) (world tokenizer.old) }
-    ensures { IsFlowRun (StateName.Document DocumentState.FlowInside) (world tokenizer.old) result tokenizer.new }
+    ensures runs { result ≢ State.Error →
+        RunsHere FlowStep
+        (StateName.Document DocumentState.FlowInside) (world tokenizer.old) result (world tokenizer.new) }
+    ensures sees { result ≢ State.Error → SeesOn result (world tokenizer.old) (world tokenizer.new) }
 {
     let to = document::flow_inside(tokenizer);
     if is_further(to) {
@@ -363,7 +395,10 @@ fn by_states(tokenizer: &mut Tokenizer) -> State
 #[inline(always)]
 pub fn inside(tokenizer: &mut Tokenizer) -> State
     requires { IsAt NeedsNothing (StateName.Document DocumentState.FlowInside) (world tokenizer.old) }
-    ensures { IsFlowRun (StateName.Document DocumentState.FlowInside) (world tokenizer.old) result tokenizer.new }
+    ensures runs { result ≢ State.Error →
+        RunsHere FlowStep
+        (StateName.Document DocumentState.FlowInside) (world tokenizer.old) result (world tokenizer.new) }
+    ensures sees { result ≢ State.Error → SeesOn result (world tokenizer.old) (world tokenizer.new) }
 {
     if is_whole(tokenizer) {
         whole(tokenizer)

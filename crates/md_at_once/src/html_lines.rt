@@ -4,7 +4,8 @@
 // such a one takes. What is left of a line is taken at once, and the line ends. Each function is a run of the states
 // (`RunsHere`), so the pages of the states can be read without this one.
 
-ghost use Rattle.std.specs.Prelude.{◌≡◌, IfSome, None, true};
+ghost use Rattle.std.specs.Prelude.{◌≡◌, ◌≢◌, IfSome, None, true};
+ghost use Rattle.md_engine.specs.Going.{SeesOn};
 ghost use Rattle.md_engine.specs.Run.{RunsHere};
 ghost use Rattle.md_engine.specs.Scheme.{valid};
 ghost use Rattle.md_engine.specs.World.{looks, world};
@@ -12,10 +13,9 @@ ghost use Rattle.md_engine.specs.declared.state.Name.{Name as StateName};
 ghost use Rattle.md_engine.specs.declared.state.State.{State};
 ghost use Rattle.md_engine.specs.declared.state.html_flow.State.{State as HtmlState};
 ghost use Rattle.md_html.specs.Html.{HtmlNeeds};
-ghost use Rattle.md_registry.specs.States.{flow_table_scheme};
+ghost use Rattle.md_registry.specs.States.{FlowStep, flow_table_scheme};
 ghost use Rattle.md_events.specs.Transition.{IsAt};
 ghost use Rattle.md_tables.specs.GfmTable.{AnswersWith};
-ghost use Rattle.md_at_once.specs.AtOnce.{IsFlowRun};
 
 use crate::line_ends::end;
 use md_engine::state::html_flow::State as HtmlState;
@@ -73,7 +73,10 @@ fn is_over(state: State) -> bool
 #[inline(always)]
 fn rest(tokenizer: &mut Tokenizer) -> State
     requires { IsAt HtmlNeeds (StateName.HtmlFlow HtmlState.ContinuationClose) (world tokenizer.old) }
-    ensures { IsFlowRun (StateName.HtmlFlow HtmlState.ContinuationClose) (world tokenizer.old) result tokenizer.new }
+    ensures runs { result ≢ State.Error →
+        RunsHere FlowStep
+        (StateName.HtmlFlow HtmlState.ContinuationClose) (world tokenizer.old) result (world tokenizer.new) }
+    ensures sees { result ≢ State.Error → SeesOn result (world tokenizer.old) (world tokenizer.new) }
 {
     if blank_line::ends_line(tokenizer.current) {
         return html_flow::continuation_close(tokenizer);
@@ -89,7 +92,10 @@ fn rest(tokenizer: &mut Tokenizer) -> State
 #[inline(always)]
 fn rest_done(tokenizer: &mut Tokenizer) -> State
     requires { IsAt HtmlNeeds (StateName.HtmlFlow HtmlState.ContinuationClose) (world tokenizer.old) }
-    ensures { IsFlowRun (StateName.HtmlFlow HtmlState.ContinuationClose) (world tokenizer.old) result tokenizer.new }
+    ensures runs { result ≢ State.Error →
+        RunsHere FlowStep
+        (StateName.HtmlFlow HtmlState.ContinuationClose) (world tokenizer.old) result (world tokenizer.new) }
+    ensures sees { result ≢ State.Error → SeesOn result (world tokenizer.old) (world tokenizer.new) }
 {
     let to = rest(tokenizer);
     if is_over(to) {
@@ -102,7 +108,10 @@ fn rest_done(tokenizer: &mut Tokenizer) -> State
 #[inline(always)]
 fn further_inside(tokenizer: &mut Tokenizer) -> State
     requires { IsAt HtmlNeeds (StateName.HtmlFlow HtmlState.BlankLineBefore) (world tokenizer.old) }
-    ensures { IsFlowRun (StateName.HtmlFlow HtmlState.BlankLineBefore) (world tokenizer.old) result tokenizer.new }
+    ensures runs { result ≢ State.Error →
+        RunsHere FlowStep
+        (StateName.HtmlFlow HtmlState.BlankLineBefore) (world tokenizer.old) result (world tokenizer.new) }
+    ensures sees { result ≢ State.Error → SeesOn result (world tokenizer.old) (world tokenizer.new) }
 {
     let to = html_flow::blank_line_before(tokenizer);
     if is_rest(to) {
@@ -115,7 +124,10 @@ fn further_inside(tokenizer: &mut Tokenizer) -> State
 #[inline(always)]
 fn further(tokenizer: &mut Tokenizer) -> State
     requires { IsAt HtmlNeeds (StateName.HtmlFlow HtmlState.ContinuationStart) (world tokenizer.old) }
-    ensures { IsFlowRun (StateName.HtmlFlow HtmlState.ContinuationStart) (world tokenizer.old) result tokenizer.new }
+    ensures runs { result ≢ State.Error →
+        RunsHere FlowStep
+        (StateName.HtmlFlow HtmlState.ContinuationStart) (world tokenizer.old) result (world tokenizer.new) }
+    ensures sees { result ≢ State.Error → SeesOn result (world tokenizer.old) (world tokenizer.new) }
 {
     let to = html_flow::continuation_start(tokenizer);
     if is_open(to) {
@@ -129,7 +141,9 @@ fn further(tokenizer: &mut Tokenizer) -> State
 fn call_state(tokenizer: &mut Tokenizer, state: HtmlState) -> State
     requires current { (world tokenizer.old).current ≡ looks (world tokenizer.old) }
     requires valid { valid flow_table_scheme (world tokenizer.old) (State.Next (StateName.HtmlFlow state)) }
-    ensures { IsFlowRun (StateName.HtmlFlow state) (world tokenizer.old) result tokenizer.new }
+    ensures runs { result ≢ State.Error →
+        RunsHere FlowStep (StateName.HtmlFlow state) (world tokenizer.old) result (world tokenizer.new) }
+    ensures sees { result ≢ State.Error → SeesOn result (world tokenizer.old) (world tokenizer.new) }
 {
     match state {
         HtmlState::ContinuationClose => rest_done(tokenizer),
@@ -179,7 +193,9 @@ fn next(tokenizer: &mut Tokenizer, to: State) -> Option<HtmlState>
 pub fn call(tokenizer: &mut Tokenizer, first: HtmlState) -> State
     requires current { (world tokenizer.old).current ≡ looks (world tokenizer.old) }
     requires valid { valid flow_table_scheme (world tokenizer.old) (State.Next (StateName.HtmlFlow first)) }
-    ensures { IsFlowRun (StateName.HtmlFlow first) (world tokenizer.old) result tokenizer.new }
+    ensures runs { result ≢ State.Error →
+        RunsHere FlowStep (StateName.HtmlFlow first) (world tokenizer.old) result (world tokenizer.new) }
+    ensures sees { result ≢ State.Error → SeesOn result (world tokenizer.old) (world tokenizer.new) }
 {
     let mut state = first;
     loop {

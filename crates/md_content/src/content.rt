@@ -14,7 +14,7 @@ ghost use Rattle.std.specs.Prelude.{OnOk, length, slice_range, true};
 ghost use Rattle.std.specs.List.{prefix_len};
 ghost use Rattle.std.specs.Option.{option_map};
 ghost use Rattle.md_content.specs.ChunkRule.{IsChunkState};
-ghost use Rattle.md_engine.specs.Full.{Grown, IsFullOf, OnError};
+ghost use Rattle.md_engine.specs.Full.{IsFull, OnError};
 ghost use Rattle.md_engine.specs.Found.{found_in};
 ghost use Rattle.md_engine.specs.Scheme.{valid};
 ghost use Rattle.md_engine.specs.World.{looks, world};
@@ -162,7 +162,7 @@ fn call_state(tokenizer: &mut Tokenizer, name: StateName) -> State
     requires valid { valid content_scheme (world tokenizer.old) (State.Next name) }
     ensures to { result ≢ State.Error → result ≡ (content_transition name (world tokenizer.old)).to }
     ensures world { result ≢ State.Error → world tokenizer.new ≡ (content_transition name (world tokenizer.old)).world }
-    ensures full { OnError result (IsFullOf (Grown.Resolvers ∷ Grown.Events ∷ Grown.Frames ∷ []) tokenizer.new) }
+    ensures full { OnError result (IsFull tokenizer.new) }
 {
     match name {
         StateName::Content(state) => definitions::call(tokenizer, state),

@@ -59,7 +59,7 @@ fn may_end(byte: u8) -> bool {
 }
 
 /// What follows the `[` that comes first.
-fn behind_opener(line: &[u8]) -> Option<&[u8]>
+fn after_opener(line: &[u8]) -> Option<&[u8]>
     ensures { IfSome result (λ text. line.now ≡ left_bracket ∷ text.now) }
 {
     match line {
@@ -69,11 +69,11 @@ fn behind_opener(line: &[u8]) -> Option<&[u8]>
 }
 
 /// What follows `]: ` that comes first.
-fn behind_closer(rest: &[u8]) -> Option<&[u8]>
-    ensures { IfSome result (λ behind. rest.now ≡ right_bracket ∷ colon ∷ space ∷ behind.now) }
+fn after_closer(rest: &[u8]) -> Option<&[u8]>
+    ensures { IfSome result (λ following. rest.now ≡ right_bracket ∷ colon ∷ space ∷ following.now) }
 {
     match rest {
-        [b']', b':', b' ', behind @ ..] => Some(behind),
+        [b']', b':', b' ', following @ ..] => Some(following),
         _ => None,
     }
 }
@@ -82,11 +82,11 @@ fn behind_closer(rest: &[u8]) -> Option<&[u8]>
 fn sizes_of(line: &[u8]) -> Option<Sizes>
     ensures { IfSome result (λ sizes. whole.IsDefinition line.now sizes.label sizes.destination) }
 {
-    let Some(text) = behind_opener(line) else {
+    let Some(text) = after_opener(line) else {
         return None;
     };
     let (label, rest) = text.split_at(label_len(text));
-    let Some(destination) = behind_closer(rest) else {
+    let Some(destination) = after_closer(rest) else {
         return None;
     };
     if label.len() > LABEL_LEN || is_blank(label) || !is_plain_destination(destination) {

@@ -59,7 +59,7 @@ record AreContainers : Type 0 where
   definition : exact given.ALL definition_text ≡ definition_events
   footnote : exact given.ALL footnote_text ≡ footnote_events
   cut_chunk : exact given.ALL cut_chunk_text ≡ cut_chunk_events
-  following_definition : exact given.ALL after_definition_text ≡ after_definition_events
+  after_definition : exact given.ALL after_definition_text ≡ after_definition_events
   lazy_head : exact given.ALL lazy_head_text ≡ lazy_head_events
 
 are-exact : AreContainers
@@ -82,6 +82,6 @@ are-exact = record {
   definition = refl;
   footnote = refl;
   cut_chunk = refl;
-  following_definition = refl;
+  after_definition = refl;
   lazy_head = refl;
 }

@@ -29,7 +29,8 @@ ghost use Rattle.md_registry.specs.Document.{none_opens_transition};
 ghost use Rattle.md_registry.specs.Document.{document_table_scheme, document_transition};
 ghost use Rattle.md_events.specs.Transition.{IsAt, NeedsNothing, taken};
 ghost use Rattle.md_registry.specs.Flow.{opener_transition};
-ghost use Rattle.md_registry.specs.FlowRule.{DocumentMeans, IsDocumentState, IsSureDocumentState};
+ghost use Rattle.md_registry.specs.FlowRule.{DocumentMeans, IsContainersState, IsDocumentState};
+ghost use Rattle.md_registry.specs.FlowRule.{IsSureDocumentState};
 ghost use Rattle.md_registry.specs.Registry.{opener_at};
 
 use crate::resolve;
@@ -295,7 +296,7 @@ pub(crate) fn try_new(tokenizer: &mut Tokenizer, kind: ContainerKind) -> State
 #[tactic(auto, using(md_registry::proofs::FlowSteps::document_rule))]
 pub fn container_new_after(tokenizer: &mut Tokenizer) -> State
     requires { IsAt NeedsNothing (StateName.Document DocumentState.ContainerNewAfter) (world tokenizer.old) }
-    ensures { IsDocumentState DocumentState.ContainerNewAfter (world tokenizer.old) result tokenizer.new }
+    ensures { IsContainersState DocumentState.ContainerNewAfter (world tokenizer.old) result tokenizer.new }
 {
     let Flags {
         asked,
@@ -446,7 +447,7 @@ fn take_ending(tokenizer: &mut Tokenizer)
 #[tactic(auto, using(md_registry::proofs::FlowSteps::document_rule))]
 pub fn flow_end(tokenizer: &mut Tokenizer) -> State
     requires { IsAt NeedsNothing (StateName.Document DocumentState.FlowEnd) (world tokenizer.old) }
-    ensures { IsDocumentState DocumentState.FlowEnd (world tokenizer.old) result tokenizer.new }
+    ensures { IsContainersState DocumentState.FlowEnd (world tokenizer.old) result tokenizer.new }
 {
     let keep = kept_containers(tokenizer);
     let line_end = tokenizer.flags.line_end;
@@ -477,7 +478,7 @@ pub fn flow_end(tokenizer: &mut Tokenizer) -> State
 #[tactic(auto, using(md_registry::proofs::FlowSteps::document_rule))]
 pub fn call(tokenizer: &mut Tokenizer, state: DocumentState) -> State
     requires { IsAt NeedsNothing (StateName.Document state) (world tokenizer.old) }
-    ensures { IsDocumentState state (world tokenizer.old) result tokenizer.new }
+    ensures { IsContainersState state (world tokenizer.old) result tokenizer.new }
 {
     match state {
         DocumentState::Start => start(tokenizer),

@@ -33,8 +33,8 @@ use Rattle.proof_frame.specs.Rule.{Rule, tried}
 use Rattle.md_registry.specs.Document.{document_own_transition}
 use Rattle.md_events.specs.States.{IsState, IsSureState}
 use Rattle.md_engine.specs.declared.tokenizer.Tokenizer.{Tokenizer}
-use Rattle.md_engine.specs.Full.{IsFullOf, IsFull}
-use Rattle.md_engine.specs.Full.Grown.{Events, Frames, Containers}
+use Rattle.md_engine.specs.Full.{IsFull, IsFullList}
+use Rattle.md_engine.specs.Full.Grown.{Containers}
 use Rattle.md_registry.specs.Flow.{flow_own_transition}
 
 -- the containers after so many end, before the event at an index
@@ -291,8 +291,13 @@ HasOpen w = 0 < length w.flags.containers
 -- what a state of the document promises
 abbrev pub IsDocumentState : DocumentState → World → State → Tokenizer → Type 0
 IsDocumentState state old answer new =
+    IsState (document_own_transition state old) (DocumentMeans state old) (IsFull new) answer new
+
+-- the same of a state by which containers may end or open
+abbrev pub IsContainersState : DocumentState → World → State → Tokenizer → Type 0
+IsContainersState state old answer new =
     IsState (document_own_transition state old) (DocumentMeans state old)
-    (IsFullOf (Containers ∷ Events ∷ Frames ∷ []) new ⊎ HasOpen old) answer new
+    ((IsFull new ⊎ HasOpen old) ⊎ IsFullList Containers new) answer new
 
 -- the same of a state that wants no memory
 abbrev pub IsSureDocumentState : DocumentState → World → State → Tokenizer → Type 0

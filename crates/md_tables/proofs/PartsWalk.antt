@@ -1,6 +1,6 @@
 -- The walk over a table continues with parts of rows.
 use Rattle.std.proofs.Common.{◌≡◌, ◌≤◌, Bool, true, false, cond, ◌&&◌, None, Some, List, [], ◌∷◌, ◌++◌, drop, get_or}
-use Rattle.std.proofs.Common.{length, refl, subst, ◌∙◌, ap, append-nil, append_assoc, arith}
+use Rattle.std.proofs.Common.{length, refl, subst, sym, ◌∙◌, ap, append-nil, append_assoc, arith}
 use Rattle.std.proofs.lemmas.Bool.{and_parts}
 use Rattle.md_engine.specs.declared.event.Event.{Event}
 use Rattle.md_engine.specs.declared.event.Kind.{Kind}
@@ -337,6 +337,55 @@ inner-ends section k e es at h whole = go k h whole
         (mark-name (λ (m : Name). Proceeds Delimiter (is Exit m e))
         (one section (Inner Delimiter) (is Exit n.GfmTableDelimiterMarker e) es at refl ∙ rw none refl)
         (one section (Inner Delimiter) (is Exit n.GfmTableDelimiterFiller e) es at refl ∙ rw none refl))
+
+-- whitespace and a further word after it: nothing is written until that has begun
+inner-continues : (section : Section) (e : Event) (es : List Event) → in_table section ≡ true →
+    ends_inner Text e ≡ true → is_continued Text es ≡ true →
+    tabled_from section (Inner Text) (e ∷ es) ≡ tabled_from section (Inner Text) (drop 3 es)
+inner-continues section e [] at h more = absurd (cc)
+inner-continues section e (a ∷ []) at h more = absurd (cc)
+inner-continues section e (a ∷ b ∷ []) at h more =
+    let none : false ≡ true = (and_parts (is_white a.name && is_white b.name) false more).1 in
+    absurd (cc)
+inner-continues section e (a ∷ b ∷ x ∷ es) at h more =
+    let both = and_parts (is_white a.name && is_white b.name) (begins_inner Text x) more in
+    let white = and_parts (is_white a.name) (is_white b.name) both.0 in
+    first ∙ gap a (b ∷ x ∷ es) white.0 ∙ gap b (x ∷ es) white.1
+    ∙ begins (λ (y : Event). tabled_from section row.Gap (y ∷ es) ≡ tabled_from section (Inner Text) es)
+    (is_inner Text) x both.1
+    (text-name
+    (λ (m : Name). tabled_from section row.Gap (is Enter m x ∷ es) ≡ tabled_from section (Inner Text) es)
+    (one section row.Gap (is Enter n.Data x) es at refl))
+  where
+    rest : List Event
+    rest = a ∷ b ∷ x ∷ es
+
+    first : tabled_from section (Inner Text) (e ∷ rest) ≡ tabled_from section row.Gap rest
+    first =
+        ends (λ (y : Event). tabled_from section (Inner Text) (y ∷ rest) ≡ tabled_from section row.Gap rest)
+        (is_inner Text) e h
+        (text-name
+        (λ (m : Name). tabled_from section (Inner Text) (is Exit m e ∷ rest) ≡ tabled_from section row.Gap rest)
+        (one section (Inner Text) (is Exit n.Data e) rest at refl ∙ rw more refl))
+
+    gap : (y : Event) (ys : List Event) → is_white y.name ≡ true →
+        tabled_from section row.Gap (y ∷ ys) ≡ tabled_from section row.Gap ys
+    gap y ys is_one =
+        white-name (λ (m : Name). tabled_from section row.Gap (is y.kind m y ∷ ys) ≡ tabled_from section row.Gap ys)
+        (by-kind y.kind) y.name is_one
+      where
+        by-kind : (kind : Kind) →
+            tabled_from section row.Gap (is kind n.SpaceOrTab y ∷ ys) ≡ tabled_from section row.Gap ys
+        by-kind Enter = one section row.Gap (is Enter n.SpaceOrTab y) ys at refl
+        by-kind Exit = one section row.Gap (is Exit n.SpaceOrTab y) ys at refl
+
+pub inner-joins : (section : Section) (k : RowKind) (events : List Event) (d : Event) → k ≡ Text →
+    in_table section ≡ true → 1 ≤ length events → ends_inner k (get_or events 0 d) ≡ true →
+    is_continued k (drop 1 events) ≡ true →
+    tabled_from section (Inner k) (drop 4 events) ≡ tabled_from section (Inner k) events
+inner-joins section Delimiter events d is_text at some h more = absurd (cc)
+inner-joins section Text [] d is_text at some h more = absurd (omega arith)
+inner-joins section Text (e ∷ es) d is_text at some h more = sym (inner-continues section e es at h more)
 
 -- and both at once.
 pub inner-whole : (section : Section) (k : RowKind) (a b : Event) (es : List Event) → in_table section ≡ true →

@@ -20,40 +20,40 @@ use Rattle.proof_frame.proofs.PrefixNames.{prefixes-roles}
 -- Open containers.
 
 -- what is left of the parts around blocks, where these names are open
-abbrev pub behinds : List Name → List Expression
-behinds [] = []
-behinds (name ∷ names) = after_block ∷ behinds names
+abbrev pub blocks_after_each : List Name → List Expression
+blocks_after_each [] = []
+blocks_after_each (name ∷ names) = after_block ∷ blocks_after_each names
 
 -- some names around others
-pub behinds-append : (xs ys : List Name) → behinds (xs ++ ys) ≡ behinds xs ++ behinds ys
-behinds-append [] ys = refl
-behinds-append (name ∷ xs) ys = ap (λ (l : List Expression). after_block ∷ l) (behinds-append xs ys)
+pub blocks_after_each-append : (xs ys : List Name) → blocks_after_each (xs ++ ys) ≡ blocks_after_each xs ++ blocks_after_each ys
+blocks_after_each-append [] ys = refl
+blocks_after_each-append (name ∷ xs) ys = ap (λ (l : List Expression). after_block ∷ l) (blocks_after_each-append xs ys)
 
 -- with one around them
-behinds-around : (xs : List Name) (name : Name) (outer : List Expression) →
-    behinds (xs ++ name ∷ []) ++ outer ≡ behinds xs ++ (after_block ∷ outer)
-behinds-around xs name outer =
-    ap (λ (l : List Expression). l ++ outer) (behinds-append xs (name ∷ []))
-    ∙ append_assoc (behinds xs) (after_block ∷ []) outer
+blocks_after_each-around : (xs : List Name) (name : Name) (outer : List Expression) →
+    blocks_after_each (xs ++ name ∷ []) ++ outer ≡ blocks_after_each xs ++ (after_block ∷ outer)
+blocks_after_each-around xs name outer =
+    ap (λ (l : List Expression). l ++ outer) (blocks_after_each-append xs (name ∷ []))
+    ∙ append_assoc (blocks_after_each xs) (after_block ∷ []) outer
 
 -- LinePrefix.
 
 -- before blocks, what is there opens the containers that begin in it
 pub front-leads : (text : Expression) (bytes : List ℕ) (opens : List Container) (p q : Point) (front : List Event) →
     TakesData text → LinePrefix bytes opens p q front →
-    Unlists text (blocks ∷ []) (blocks ∷ behinds (open_names opens)) front
+    Unlists text (blocks ∷ []) (blocks ∷ blocks_after_each (open_names opens)) front
 front-leads text bytes _ p _ _ takes (Following _) = λ outer. refl
 front-leads text bytes opens p r _ takes (Proceeds _ _ q _ es fs is more) =
-    unlists-append text (blocks ∷ []) (blocks ∷ []) (blocks ∷ behinds (open_names opens)) es fs
+    unlists-append text (blocks ∷ []) (blocks ∷ []) (blocks ∷ blocks_after_each (open_names opens)) es fs
     (unlists-same text (blocks ∷ []) (blocks ∷ []) es (parts-unlisted es (prefixes-roles IsPart es tt tt tt is.names))
     (is.stays text blocks (refl, refl))) (front-leads text bytes opens q r fs takes more)
 front-leads text bytes _ p r _ takes (Begins c opens _ q _ es fs is more) =
     let further : Unlists text (blocks ∷ after_block ∷ [])
-    (blocks ∷ behinds (open_names opens ++ container_name c ∷ [])) fs =
+    (blocks ∷ blocks_after_each (open_names opens ++ container_name c ∷ [])) fs =
     λ outer. front-leads text bytes opens q r fs takes more (after_block ∷ outer)
-    ∙ ap (λ (l : List Expression). blocks ∷ l) (sym (behinds-around (open_names opens) (container_name c) outer)) in
+    ∙ ap (λ (l : List Expression). blocks ∷ l) (sym (blocks_after_each-around (open_names opens) (container_name c) outer)) in
     unlists-append text (blocks ∷ []) (blocks ∷ after_block ∷ [])
-    (blocks ∷ behinds (open_names opens ++ container_name c ∷ [])) (enter (container_name c) p ∷ es) fs
+    (blocks ∷ blocks_after_each (open_names opens ++ container_name c ∷ [])) (enter (container_name c) p ∷ es) fs
     (is.leads text takes) further
 
 -- before a further line of a leaf, where prefixes may be
@@ -81,18 +81,18 @@ following-ends false = refl
 -- containers end
 pub ends-lead : (text : Expression) (cs : List Container) (p : Point) (block : Bool) →
     (after : Bool) ×
-    Unlists text (blocks_after block ∷ behinds (open_names cs)) (blocks_after after ∷ []) (ends_of cs p)
+    Unlists text (blocks_after block ∷ blocks_after_each (open_names cs)) (blocks_after after ∷ []) (ends_of cs p)
 ends-lead text [] p block = (block, λ outer. refl)
 ends-lead text (c ∷ cs) p block =
     let inner : (after : Bool) ×
-    Unlists text (blocks_after block ∷ behinds (open_names cs)) (blocks_after after ∷ [])
+    Unlists text (blocks_after block ∷ blocks_after_each (open_names cs)) (blocks_after after ∷ [])
     (ends_of cs p) = ends-lead text cs p block in
     let name : Name = container_name c in (
       true,
       λ outer.
           ap (λ (l : List Expression). unlisted_left text (blocks_after block ∷ l) (ends_of cs p ++ exit name p ∷ []))
-          (behinds-around (open_names cs) name outer)
-          ∙ unlists-rest text (blocks_after block ∷ behinds (open_names cs)) (blocks_after inner.0 ∷ [])
+          (blocks_after_each-around (open_names cs) name outer)
+          ∙ unlists-rest text (blocks_after block ∷ blocks_after_each (open_names cs)) (blocks_after inner.0 ∷ [])
           (after_block ∷ outer) (ends_of cs p) (exit name p ∷ []) inner.1
           ∙ ap (λ (b : Bool). cond b (after_block ∷ outer) []) (following-ends inner.0),
     )

@@ -19,7 +19,7 @@ use Rattle.proof_rows.specs.Rows.{final_row, first_row, front_done, group_done, 
 use Rattle.proof_rows.specs.Rows.{groups_events, tail_events, group_ending, is_blank_group}
 use Rattle.proof_rows.specs.BlockList.{group_unread, tabled_group, tabled_groups}
 use Rattle.proof_frame.proofs.ContainerNames.{TakesData, open_names}
-use Rattle.proof_frame.proofs.GrammarFronts.{following-ends, behinds, behinds-append, blocks_after, ends-lead}
+use Rattle.proof_frame.proofs.GrammarFronts.{following-ends, blocks_after_each, blocks_after_each-append, blocks_after, ends-lead}
 use Rattle.proof_frame.proofs.GrammarFronts.{front-leads}
 use Rattle.proof_rows.proofs.GroupLines.{EndsBeforeGroups}
 use Rattle.proof_rows.proofs.GroupLemmas.{rows-end}
@@ -65,54 +65,54 @@ Whole text stack events = is_whole (unlisted_left text stack events) ≡ true
 leaf-left : (options : ParseOptions) (text : Expression) (bytes : List ℕ) (block : Bool) (names : List Name)
     (p : Point) (group : Group) (events more : List Event) →
     TakesData text → Ordered options bytes p group → Valid options bytes text block group events →
-    unlisted_left text (blocks ∷ behinds names) (events ++ more) ≡
-    unlisted_left text (blocks_after block ∷ behinds (open_names (first_row group).change.opens ++ names))
+    unlisted_left text (blocks ∷ blocks_after_each names) (events ++ more) ≡
+    unlisted_left text (blocks_after block ∷ blocks_after_each (open_names (first_row group).change.opens ++ names))
     (tail_events (group_ending group) (final_row group) ++ more)
 leaf-left options text bytes block names p group events more takes o s =
     let row : Row = first_row group in
-    let opens : List Expression = behinds (open_names row.change.opens) in
+    let opens : List Expression = blocks_after_each (open_names row.change.opens) in
     let tail : List Event = tail_events (group_ending group) (final_row group) in
     let apart : (s.front ++ s.leaf ++ tail) ++ more ≡ s.front ++ (s.leaf ++ (tail ++ more)) = simp append_assoc in
-    ap (λ (es : List Event). unlisted_left text (blocks ∷ behinds names) (es ++ more)) s.is
-    ∙ ap (unlisted_left text (blocks ∷ behinds names)) apart
-    ∙ unlists-rest text (blocks ∷ []) (blocks ∷ opens) (behinds names) s.front (s.leaf ++ (tail ++ more))
+    ap (λ (es : List Event). unlisted_left text (blocks ∷ blocks_after_each names) (es ++ more)) s.is
+    ∙ ap (unlisted_left text (blocks ∷ blocks_after_each names)) apart
+    ∙ unlists-rest text (blocks ∷ []) (blocks ∷ opens) (blocks_after_each names) s.front (s.leaf ++ (tail ++ more))
     (front-leads text bytes row.change.opens p row.first s.front takes (s.fronts p o))
-    ∙ unlists-rest text (blocks ∷ []) (blocks_after block ∷ []) (opens ++ behinds names) s.leaf (tail ++ more) s.leads
+    ∙ unlists-rest text (blocks ∷ []) (blocks_after block ∷ []) (opens ++ blocks_after_each names) s.leaf (tail ++ more) s.leads
     ∙ ap (λ (l : List Expression). unlisted_left text (blocks_after block ∷ l) (tail ++ more))
-    (sym (behinds-append (open_names row.change.opens) names))
+    (sym (blocks_after_each-append (open_names row.change.opens) names))
 
 -- where nothing follows, nothing is open
-none-whole : (block : Bool) (names : List Name) → is_whole (blocks ∷ behinds names) ≡ true →
-    is_whole (blocks_after block ∷ behinds names) ≡ true
+none-whole : (block : Bool) (names : List Name) → is_whole (blocks ∷ blocks_after_each names) ≡ true →
+    is_whole (blocks_after block ∷ blocks_after_each names) ≡ true
 none-whole block [] h = following-ends block
 none-whole block (name ∷ names) h = cc
 
 -- after the ends of containers the line ends, if more follows
 ending-whole : (text : Expression) (each : Group → List Event) (block : Bool) (kept : List Name) (row : Row)
     (blank : Bool) (gs : List Group) →
-    EndsBeforeGroups row gs → Whole text (blocks ∷ behinds kept) (all_of each gs) →
-    Whole text (blocks_after block ∷ behinds kept) (ending_events (ending_name blank) row ++ all_of each gs)
+    EndsBeforeGroups row gs → Whole text (blocks ∷ blocks_after_each kept) (all_of each gs) →
+    Whole text (blocks_after block ∷ blocks_after_each kept) (ending_events (ending_name blank) row ++ all_of each gs)
 ending-whole text each block kept row blank gs ends h = go row.after refl gs ends h
   where
-    some : (q : Point) (more : List Event) → row.after ≡ Some q → Whole text (blocks ∷ behinds kept) more →
-        Whole text (blocks_after block ∷ behinds kept) (ending_events (ending_name blank) row ++ more)
+    some : (q : Point) (more : List Event) → row.after ≡ Some q → Whole text (blocks ∷ blocks_after_each kept) more →
+        Whole text (blocks_after block ∷ blocks_after_each kept) (ending_events (ending_name blank) row ++ more)
     some q more after k =
-        ap (λ (es : List Event). is_whole (unlisted_left text (blocks_after block ∷ behinds kept) (es ++ more)))
+        ap (λ (es : List Event). is_whole (unlisted_left text (blocks_after block ∷ blocks_after_each kept) (es ++ more)))
         (ending-is (ending_name blank) row q after)
         ∙ ap is_whole
-        (unlists-rest text (blocks_after block ∷ []) (blocks ∷ []) (behinds kept)
+        (unlists-rest text (blocks_after block ∷ []) (blocks ∷ []) (blocks_after_each kept)
         (pair (ending_name blank) row.end q) more (ending-unlists text blank row.end q block))
         ∙ k
 
     go : (after : Option Point) → row.after ≡ after → (gs : List Group) → EndsBeforeGroups row gs →
-        Whole text (blocks ∷ behinds kept) (all_of each gs) →
-        Whole text (blocks_after block ∷ behinds kept) (ending_events (ending_name blank) row ++ all_of each gs)
+        Whole text (blocks ∷ blocks_after_each kept) (all_of each gs) →
+        Whole text (blocks_after block ∷ blocks_after_each kept) (ending_events (ending_name blank) row ++ all_of each gs)
     go (Some q) after gs ends h = some q (all_of each gs) after h
     go None after [] ends h =
         ap
         (λ (x : Option Point).
         is_whole
-        (unlisted_left text (blocks_after block ∷ behinds kept)
+        (unlisted_left text (blocks_after block ∷ blocks_after_each kept)
         (elim x [ None ↦ [] | Some q ↦ pair (ending_name blank) row.end q ] ++ []))) after
         ∙ none-whole block kept h
     go None after (g ∷ gs) ends h = let bad : None ≡ Some ends.0 = sym after ∙ ends.1 in cc
@@ -121,29 +121,29 @@ ending-whole text each block kept row blank gs ends h = go row.after refl gs end
 tail-whole : (text : Expression) (each : Group → List Event) (block : Bool) (all kept : List Name) (row : Row)
     (blank : Bool) (gs : List Group) →
     all ≡ open_names row.closed_after ++ kept → EndsBeforeGroups row gs →
-    Whole text (blocks ∷ behinds kept) (all_of each gs) →
-    Whole text (blocks_after block ∷ behinds all) (tail_events (ending_name blank) row ++ all_of each gs)
+    Whole text (blocks ∷ blocks_after_each kept) (all_of each gs) →
+    Whole text (blocks_after block ∷ blocks_after_each all) (tail_events (ending_name blank) row ++ all_of each gs)
 tail-whole text each block all kept row blank gs keeps ends h =
     let ended : (after : Bool) ×
-    Unlists text (blocks_after block ∷ behinds (open_names row.closed_after)) (blocks_after after ∷ [])
+    Unlists text (blocks_after block ∷ blocks_after_each (open_names row.closed_after)) (blocks_after after ∷ [])
     (ends_of row.closed_after row.end) = ends-lead text row.closed_after row.end block in
     let ending : List Event = ending_events (ending_name blank) row ++ all_of each gs in
     ap
     (λ (l : List Expression).
     is_whole (unlisted_left text (blocks_after block ∷ l) (tail_events (ending_name blank) row ++ all_of each gs)))
-    (ap behinds keeps ∙ behinds-append (open_names row.closed_after) kept)
+    (ap blocks_after_each keeps ∙ blocks_after_each-append (open_names row.closed_after) kept)
     ∙ ap
     (λ (es : List Event).
-    is_whole (unlisted_left text (blocks_after block ∷ behinds (open_names row.closed_after) ++ behinds kept) es))
+    is_whole (unlisted_left text (blocks_after block ∷ blocks_after_each (open_names row.closed_after) ++ blocks_after_each kept) es))
     (append_assoc (ends_of row.closed_after row.end) (ending_events (ending_name blank) row) (all_of each gs))
     ∙ ap is_whole
-    (unlists-rest text (blocks_after block ∷ behinds (open_names row.closed_after)) (blocks_after ended.0 ∷ [])
-    (behinds kept) (ends_of row.closed_after row.end) ending ended.1)
+    (unlists-rest text (blocks_after block ∷ blocks_after_each (open_names row.closed_after)) (blocks_after ended.0 ∷ [])
+    (blocks_after_each kept) (ends_of row.closed_after row.end) ending ended.1)
     ∙ ending-whole text each ended.0 kept row blank gs ends h
 
 -- The groups of a text, where these names are open.
 abbrev WholeUnder : Expression → (Group → List Event) → List Name → Point → List Group → Type 0
-WholeUnder text each names p gs = EachEnded gs → Whole text (blocks ∷ behinds names) (all_of each gs)
+WholeUnder text each names p gs = EachEnded gs → Whole text (blocks ∷ blocks_after_each names) (all_of each gs)
 
 -- group by group
 whole-by_groups : (options : ParseOptions) (bytes : List ℕ) (text : Expression) (each : Group → List Event) →

@@ -181,7 +181,7 @@ pub fn begin_here(tokenizer: &mut Tokenizer, kind: HtmlKind, state: HtmlState) -
 }
 
 /// or after what is here.
-pub fn begin_behind(tokenizer: &mut Tokenizer, kind: HtmlKind, state: HtmlState) -> State
+pub fn begin_after(tokenizer: &mut Tokenizer, kind: HtmlKind, state: HtmlState) -> State
     requires { (world tokenizer.old).point.index < length (world tokenizer.old).setting.bytes }
     ensures to { result ≡ (moved (world tokenizer.old) (takes_as kind state (world tokenizer.old).scratch)).to }
     ensures world { world tokenizer.new ≡

@@ -1,4 +1,4 @@
-use Rattle.std.proofs.Common.{◌≡◌, ◌∙◌, Bool, ap, false, inl, subst, sym, true, rules}
+use Rattle.std.proofs.Common.{◌≡◌, ◌∙◌, Bool, ap, false, inl, subst, sym, true}
 use Rattle.std.specs.Option.{is_some}
 use Rattle.md_engine.specs.Going.{SeesOn}
 use Rattle.md_engine.specs.Run.{RunsHere}
@@ -44,51 +44,45 @@ rest-follows w u begun outside seen within is_end s v named sees may =
     (line-begun is_end s v w outside seen within
     (arrived-first FlowStep (n.Document document.ContainersAfter) w is_end s v named sees may))
 
-pub returns-then-continues_inside : goal.returns-then-continues_inside
-returns-then-continues_inside c = record {
-  runs = λ fine.
-      (inside (world c.args.tokenizer.now) (world c.containers_after.new.tokenizer) c.containers_after.ensures.world
-      c.requires.current (within-world c.args.tokenizer.now) c.inside.result (world c.inside.new.tokenizer)
-      (sym c.continues_inside.ensures ∙ c.if-continues_inside.true) (c.inside.ensures.runs fine)
-      (c.inside.ensures.sees fine)).0;
-  sees = λ fine.
-      (inside (world c.args.tokenizer.now) (world c.containers_after.new.tokenizer) c.containers_after.ensures.world
-      c.requires.current (within-world c.args.tokenizer.now) c.inside.result (world c.inside.new.tokenizer)
-      (sym c.continues_inside.ensures ∙ c.if-continues_inside.true) (c.inside.ensures.runs fine)
-      (c.inside.ensures.sees fine)).1;
-  full = search rules;
-}
+pub returns-then-continues_inside-clause-runs : goal.returns-then-continues_inside-clause-runs
+returns-then-continues_inside-clause-runs c = λ fine.
+    (inside (world c.args.tokenizer.now) (world c.containers_after.new.tokenizer) c.containers_after.ensures.world
+    c.requires.current (within-world c.args.tokenizer.now) c.inside.result (world c.inside.new.tokenizer)
+    (sym c.continues_inside.ensures ∙ c.if-continues_inside.true) (c.inside.ensures.runs fine)
+    (c.inside.ensures.sees fine)).0
 
-pub returns-then-ends_line : goal.returns-then-ends_line
-returns-then-ends_line c = record {
-  runs = λ fine.
-      let T = FlowStep in
-      let first = n.Document document.ContainersAfter in
-      let w = world c.args.tokenizer.now in
-      let u = world c.containers_after.new.tokenizer in
-      let begun : u ≡ record w { flags = begun_line w.flags } = c.containers_after.ensures.world in
-      let seen : u.current ≡ looks u = subst (λ (x : World). x.current ≡ looks x) (sym begun) c.requires.current in
-      let outside : is_some (asked_first (begun_line w.flags).leaf) ≡ false =
-      ap (λ (x : World). is_some (asked_first x.flags.leaf)) (sym begun) ∙ sym c.continues_inside.ensures
-      ∙ c.if-continues_inside.false in
-      let ends : ends_line u.current ≡ true = sym c.ends_line.ensures ∙ c.if-ends_line.true in
-      let at_line : ArrivedHere T first w (n.Flow flow.BlankLineBefore) u = λ is_end s v named sees may.
-      line-blank is_end s v u (starts-blank u ends) seen (within-world c.containers_after.new.tokenizer)
-      (rest-follows w u begun outside c.requires.current (within-world c.args.tokenizer.now) is_end s v
-      named sees may) in
-      let x = world c.blank_line_after.new.tokenizer in
-      let over : x ≡ record u { flags = blanked u.flags } = c.blank_line_after.ensures.world in
-      let at_end : ArrivedHere T first w (n.Document document.FlowEnd) x = λ is_end s v named sees may.
-      subst (λ (y : World). ArrivedAt T is_end s v (n.Document document.FlowEnd) y) (sym over)
-      (line-over is_end s v u ends seen (within-world c.containers_after.new.tokenizer)
-      (at_line is_end s v named sees may)) in
-      (ends-with first (n.Document document.FlowEnd) w x c.flow_end.result (world c.flow_end.new.tokenizer) at_end
-      (line-leaves x) (c.flow_end.ensures.to fine) (c.flow_end.ensures.world fine) fine
-      (subst (λ (y : World). y.current ≡ looks y) (sym over) seen) (within-world c.blank_line_after.new.tokenizer)
-      (ap (λ (y : World). y.point) over ∙ ap (λ (y : World). y.point) begun)).0;
-  sees = search rules;
-  full = search rules;
-}
+pub returns-then-continues_inside-clause-sees : goal.returns-then-continues_inside-clause-sees
+returns-then-continues_inside-clause-sees c = λ fine.
+    (inside (world c.args.tokenizer.now) (world c.containers_after.new.tokenizer) c.containers_after.ensures.world
+    c.requires.current (within-world c.args.tokenizer.now) c.inside.result (world c.inside.new.tokenizer)
+    (sym c.continues_inside.ensures ∙ c.if-continues_inside.true) (c.inside.ensures.runs fine)
+    (c.inside.ensures.sees fine)).1
+
+pub returns-then-ends_line-clause-runs : goal.returns-then-ends_line-clause-runs
+returns-then-ends_line-clause-runs c = λ fine.
+    let T = FlowStep in
+    let first = n.Document document.ContainersAfter in
+    let w = world c.args.tokenizer.now in
+    let u = world c.containers_after.new.tokenizer in
+    let begun : u ≡ record w { flags = begun_line w.flags } = c.containers_after.ensures.world in
+    let seen : u.current ≡ looks u = subst (λ (x : World). x.current ≡ looks x) (sym begun) c.requires.current in
+    let outside : is_some (asked_first (begun_line w.flags).leaf) ≡ false =
+    ap (λ (x : World). is_some (asked_first x.flags.leaf)) (sym begun) ∙ sym c.continues_inside.ensures
+    ∙ c.if-continues_inside.false in
+    let ends : ends_line u.current ≡ true = sym c.ends_line.ensures ∙ c.if-ends_line.true in
+    let at_line : ArrivedHere T first w (n.Flow flow.BlankLineBefore) u = λ is_end s v named sees may.
+    line-blank is_end s v u (starts-blank u ends) seen (within-world c.containers_after.new.tokenizer)
+    (rest-follows w u begun outside c.requires.current (within-world c.args.tokenizer.now) is_end s v named sees may) in
+    let x = world c.blank_line_after.new.tokenizer in
+    let over : x ≡ record u { flags = blanked u.flags } = c.blank_line_after.ensures.world in
+    let at_end : ArrivedHere T first w (n.Document document.FlowEnd) x = λ is_end s v named sees may.
+    subst (λ (y : World). ArrivedAt T is_end s v (n.Document document.FlowEnd) y) (sym over)
+    (line-over is_end s v u ends seen (within-world c.containers_after.new.tokenizer)
+    (at_line is_end s v named sees may)) in
+    (ends-with first (n.Document document.FlowEnd) w x c.flow_end.result (world c.flow_end.new.tokenizer) at_end
+    (line-leaves x) (c.flow_end.ensures.to fine) (c.flow_end.ensures.world fine) fine
+    (subst (λ (y : World). y.current ≡ looks y) (sym over) seen) (within-world c.blank_line_after.new.tokenizer)
+    (ap (λ (y : World). y.point) over ∙ ap (λ (y : World). y.point) begun)).0
 
 rest : (w u : World) → u ≡ record w { flags = begun_line w.flags } → w.current ≡ looks w → Within w → (to : State)
     (new : World) → is_some (asked_first u.flags.leaf) ≡ false →
@@ -101,17 +95,16 @@ rest w u begun seen within to new none runs sees =
     (rest-follows w u begun outside seen within) runs sees
     (subst (λ (x : World). x.current ≡ looks x) (sym begun) seen) (inl (ap (λ (x : World). x.point) begun))
 
-pub returns-else-ends_line : goal.returns-else-ends_line
-returns-else-ends_line c = record {
-  runs = λ fine.
-      (rest (world c.args.tokenizer.now) (world c.containers_after.new.tokenizer) c.containers_after.ensures.world
-      c.requires.current (within-world c.args.tokenizer.now) c.rest_begins.result (world c.rest_begins.new.tokenizer)
-      (sym c.continues_inside.ensures ∙ c.if-continues_inside.false) (c.rest_begins.ensures.runs fine)
-      (c.rest_begins.ensures.sees fine)).0;
-  sees = λ fine.
-      (rest (world c.args.tokenizer.now) (world c.containers_after.new.tokenizer) c.containers_after.ensures.world
-      c.requires.current (within-world c.args.tokenizer.now) c.rest_begins.result (world c.rest_begins.new.tokenizer)
-      (sym c.continues_inside.ensures ∙ c.if-continues_inside.false) (c.rest_begins.ensures.runs fine)
-      (c.rest_begins.ensures.sees fine)).1;
-  full = search rules;
-}
+pub returns-else-ends_line-clause-runs : goal.returns-else-ends_line-clause-runs
+returns-else-ends_line-clause-runs c = λ fine.
+    (rest (world c.args.tokenizer.now) (world c.containers_after.new.tokenizer) c.containers_after.ensures.world
+    c.requires.current (within-world c.args.tokenizer.now) c.rest_begins.result (world c.rest_begins.new.tokenizer)
+    (sym c.continues_inside.ensures ∙ c.if-continues_inside.false) (c.rest_begins.ensures.runs fine)
+    (c.rest_begins.ensures.sees fine)).0
+
+pub returns-else-ends_line-clause-sees : goal.returns-else-ends_line-clause-sees
+returns-else-ends_line-clause-sees c = λ fine.
+    (rest (world c.args.tokenizer.now) (world c.containers_after.new.tokenizer) c.containers_after.ensures.world
+    c.requires.current (within-world c.args.tokenizer.now) c.rest_begins.result (world c.rest_begins.new.tokenizer)
+    (sym c.continues_inside.ensures ∙ c.if-continues_inside.false) (c.rest_begins.ensures.runs fine)
+    (c.rest_begins.ensures.sees fine)).1

@@ -1,4 +1,4 @@
-use Rattle.std.proofs.Common.{◌≢◌, subst, sym, rules}
+use Rattle.std.proofs.Common.{◌≢◌, subst, sym}
 use Rattle.md_engine.specs.declared.state.Name.TheVariants as n
 use Rattle.md_engine.specs.declared.state.State.TheVariants.{Error}
 use Rattle.md_engine.specs.Going.{SeesOn}
@@ -30,22 +30,21 @@ loop-next-smaller c =
     (world c.loop-next.tokenizer) to u _ _ c.loop-next.invariant (c.call_in_table-to.ensures.runs fine)
     (c.call_in_table-to.ensures.sees fine) c.in-Some.ensures.some).1
 
-pub returns-in_default : goal.returns-in_default
-returns-in_default c = record {
-  runs = λ fine.
-      let first = n.GfmTable c.args.first in
-      let old = world c.args.tokenizer.now in
-      let to = c.call_in_table-to.result in
-      subst (λ (x : World). RunsHere FlowStep first old to x) (sym (c.next.ensures.none c.in_default.is))
-      (is_valid-leaves first old (n.GfmTable c.loop-next.state) (world c.loop-next.tokenizer) to
-      (world c.call_in_table-to.new.tokenizer) c.loop-next.invariant (c.call_in_table-to.ensures.runs fine)
-      (c.call_in_table-to.ensures.sees fine)).0;
-  sees = λ fine.
-      let old = world c.args.tokenizer.now in
-      let to = c.call_in_table-to.result in
-      subst (λ (x : World). SeesOn to old x) (sym (c.next.ensures.none c.in_default.is))
-      (is_valid-leaves (n.GfmTable c.args.first) old (n.GfmTable c.loop-next.state) (world c.loop-next.tokenizer) to
-      (world c.call_in_table-to.new.tokenizer) c.loop-next.invariant (c.call_in_table-to.ensures.runs fine)
-      (c.call_in_table-to.ensures.sees fine)).1;
-  full = search rules;
-}
+pub returns-in_default-clause-runs : goal.returns-in_default-clause-runs
+returns-in_default-clause-runs c = λ fine.
+    let first = n.GfmTable c.args.first in
+    let old = world c.args.tokenizer.now in
+    let to = c.call_in_table-to.result in
+    subst (λ (x : World). RunsHere FlowStep first old to x) (sym (c.next.ensures.none c.in_default.is))
+    (is_valid-leaves first old (n.GfmTable c.loop-next.state) (world c.loop-next.tokenizer) to
+    (world c.call_in_table-to.new.tokenizer) c.loop-next.invariant (c.call_in_table-to.ensures.runs fine)
+    (c.call_in_table-to.ensures.sees fine)).0
+
+pub returns-in_default-clause-sees : goal.returns-in_default-clause-sees
+returns-in_default-clause-sees c = λ fine.
+    let old = world c.args.tokenizer.now in
+    let to = c.call_in_table-to.result in
+    subst (λ (x : World). SeesOn to old x) (sym (c.next.ensures.none c.in_default.is))
+    (is_valid-leaves (n.GfmTable c.args.first) old (n.GfmTable c.loop-next.state) (world c.loop-next.tokenizer) to
+    (world c.call_in_table-to.new.tokenizer) c.loop-next.invariant (c.call_in_table-to.ensures.runs fine)
+    (c.call_in_table-to.ensures.sees fine)).1

@@ -1,4 +1,4 @@
-use Rattle.std.proofs.Common.{ap, sym, rules}
+use Rattle.std.proofs.Common.{ap, sym}
 use Rattle.md_engine.specs.declared.state.Name.{Name as StateName}
 use Rattle.md_engine.specs.declared.state.Name.TheVariants as n
 use Rattle.md_engine.specs.declared.state.State.{State}
@@ -18,11 +18,7 @@ white-flows (n.SpaceOrTab state) w to new e = record {
 }
 white-flows name w to new e = absurd e
 
-pub returns : goal.returns
-returns c = record {
-  runs = λ fine is_end s v named from may.
-      runs-in WhiteStep FlowStep is_end s v c.call_at_once.result (world c.call_at_once.new.tokenizer) white-flows
-      (c.call_at_once.ensures.runs fine is_end s v named from may);
-  sees = search rules;
-  full = search rules;
-}
+pub returns-clause-runs : goal.returns-clause-runs
+returns-clause-runs c = λ fine is_end s v named from may.
+    runs-in WhiteStep FlowStep is_end s v c.call_at_once.result (world c.call_at_once.new.tokenizer) white-flows
+    (c.call_at_once.ensures.runs fine is_end s v named from may)

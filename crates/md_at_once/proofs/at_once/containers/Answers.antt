@@ -51,7 +51,7 @@ returns-in-Next-Document-ContainerNewBefore-clause-runs c = λ fine.
     at.is ∙ ap Next at.field-0-is ∙ ap (λ (x : DocumentState). Next (n.Document x)) at.field-0-0-is in
     let become = not_error c.containers_existing.result next (plain_of c.containers_existing.result next (inl is)) in
     let runs : RunsHere FlowStep line old (Next next) u =
-    subst (λ (x : State). RunsHere FlowStep line old x u) is (c.containers_existing.ensures.run.runs become) in
+    subst (λ (x : State). RunsHere FlowStep line old x u) is (c.containers_existing.ensures.runs become) in
     (proceeds old u (world c.containers_new.new.tokenizer) c.containers_new.result runs
     (c.containers_existing.ensures.opens next is) (c.containers_new.ensures.runs fine)
     (c.containers_new.ensures.sees fine)).0
@@ -66,7 +66,7 @@ returns-in-Next-Document-ContainerNewBefore-clause-sees c = λ fine.
     at.is ∙ ap Next at.field-0-is ∙ ap (λ (x : DocumentState). Next (n.Document x)) at.field-0-0-is in
     let become = not_error c.containers_existing.result next (plain_of c.containers_existing.result next (inl is)) in
     let runs : RunsHere FlowStep line old (Next next) u =
-    subst (λ (x : State). RunsHere FlowStep line old x u) is (c.containers_existing.ensures.run.runs become) in
+    subst (λ (x : State). RunsHere FlowStep line old x u) is (c.containers_existing.ensures.runs become) in
     (proceeds old u (world c.containers_new.new.tokenizer) c.containers_new.result runs
     (c.containers_existing.ensures.opens next is) (c.containers_new.ensures.runs fine)
     (c.containers_new.ensures.sees fine)).1
@@ -81,7 +81,7 @@ returns-in-Retry-Document-ContainerNewBefore-clause-runs c = λ fine.
     let new = world c.containers_new-in-Retry-Document-ContainerNewBefore.new.tokenizer in
     (stays-runs line next (world c.args.tokenizer.now) (world c.containers_existing.new.tokenizer)
     c.containers_existing.result c.containers_new-in-Retry-Document-ContainerNewBefore.result new c.requires.current is
-    (c.containers_existing.ensures.run.runs become) (c.containers_existing.ensures.run.sees become)
+    (c.containers_existing.ensures.runs become) (c.containers_existing.ensures.sees become)
     (c.containers_new-in-Retry-Document-ContainerNewBefore.ensures.runs fine)
     (c.containers_new-in-Retry-Document-ContainerNewBefore.ensures.sees fine)).0
 
@@ -95,7 +95,7 @@ returns-in-Retry-Document-ContainerNewBefore-clause-sees c = λ fine.
     let new = world c.containers_new-in-Retry-Document-ContainerNewBefore.new.tokenizer in
     (stays-runs line next (world c.args.tokenizer.now) (world c.containers_existing.new.tokenizer)
     c.containers_existing.result c.containers_new-in-Retry-Document-ContainerNewBefore.result new c.requires.current is
-    (c.containers_existing.ensures.run.runs become) (c.containers_existing.ensures.run.sees become)
+    (c.containers_existing.ensures.runs become) (c.containers_existing.ensures.sees become)
     (c.containers_new-in-Retry-Document-ContainerNewBefore.ensures.runs fine)
     (c.containers_new-in-Retry-Document-ContainerNewBefore.ensures.sees fine)).1
 
@@ -111,7 +111,7 @@ returns-in-Retry-Document-ContainersAfter-clause-runs c = λ fine.
     (stays-runs first next (world c.args.tokenizer.now) (world c.containers_existing.new.tokenizer)
     c.containers_existing.result c.after_containers.result (world c.after_containers.new.tokenizer)
     c.requires.current is
-    (c.containers_existing.ensures.run.runs become) (c.containers_existing.ensures.run.sees become)
+    (c.containers_existing.ensures.runs become) (c.containers_existing.ensures.sees become)
     (c.after_containers.ensures.runs fine) (c.after_containers.ensures.sees fine)).0
 
 pub returns-in-Retry-Document-ContainersAfter-clause-sees :
@@ -126,5 +126,5 @@ returns-in-Retry-Document-ContainersAfter-clause-sees c = λ fine.
     (stays-runs first next (world c.args.tokenizer.now) (world c.containers_existing.new.tokenizer)
     c.containers_existing.result c.after_containers.result (world c.after_containers.new.tokenizer)
     c.requires.current is
-    (c.containers_existing.ensures.run.runs become) (c.containers_existing.ensures.run.sees become)
+    (c.containers_existing.ensures.runs become) (c.containers_existing.ensures.sees become)
     (c.after_containers.ensures.runs fine) (c.after_containers.ensures.sees fine)).1

@@ -1,5 +1,4 @@
 use Rattle.std.proofs.Common.{◌≡◌, ◌⊎◌, ◌<◌, ◌∙◌, Some, false, true, ap, arith, inl, inr, is_ok, refl, subst, sym}
-use Rattle.std.proofs.Common.{rules}
 use Rattle.std.specs.Prelude.{OnOk}
 use Rattle.std.specs.declared.result.Result.{Result}
 use Rattle.md_engine.specs.declared.state.document.State.{State as DocumentState}
@@ -106,31 +105,26 @@ container_existing_before-requires c = record {
   has = tt;
 }
 
-pub returns-then-has_no_indent-clause-run : goal.returns-then-has_no_indent-clause-run
-returns-then-has_no_indent-clause-run c = record {
-  runs = λ fine.
-      let old = world c.args.tokenizer.now in
-      let w = world c.continues_at_once.new.tokenizer in
-      let first = n.Document document.ContainerExistingBefore in
-      let is = sym c.continues_at_once.ensures.same in
-      let ends : EndsAtOnce w = c.if-has_no_indent.ensures refl in
-      let seen : w.current ≡ looks w = subst (λ (y : World). y.current ≡ looks y) is
-      c.loop-tokenizer.invariant.current in
-      let arrived : ArrivedHere FlowStep first old first w =
-      subst (λ (y : World). ArrivedHere FlowStep first old first y) is c.loop-tokenizer.invariant.arrived in
-      λ is_end s v named from may.
-      let run = container-ends is_end s v w ends seen (within-world c.continues_at_once.new.tokenizer)
-      (arrived is_end s v named from may) in
-      let at : Runs FlowStep is_end s v (Next (n.Document (opener_front openers)))
-      (world c.ask_next-then-has_no_indent.new.tokenizer) =
-      subst (λ (y : World). Runs FlowStep is_end s v (Next (n.Document (opener_front openers))) y)
-      (sym c.ask_next-then-has_no_indent.ensures) run in
-      subst (λ (x : DocumentState). Runs FlowStep is_end s v (Next (n.Document x))
-      (world c.ask_next-then-has_no_indent.new.tokenizer))
-      (sym c.first_opener.ensures) at;
-  sees = search rules;
-  full = search rules;
-}
+pub returns-then-has_no_indent-clause-runs : goal.returns-then-has_no_indent-clause-runs
+returns-then-has_no_indent-clause-runs c = λ fine.
+    let old = world c.args.tokenizer.now in
+    let w = world c.continues_at_once.new.tokenizer in
+    let first = n.Document document.ContainerExistingBefore in
+    let is = sym c.continues_at_once.ensures.same in
+    let ends : EndsAtOnce w = c.if-has_no_indent.ensures refl in
+    let seen : w.current ≡ looks w = subst (λ (y : World). y.current ≡ looks y) is c.loop-tokenizer.invariant.current in
+    let arrived : ArrivedHere FlowStep first old first w =
+    subst (λ (y : World). ArrivedHere FlowStep first old first y) is c.loop-tokenizer.invariant.arrived in
+    λ is_end s v named from may.
+    let run = container-ends is_end s v w ends seen (within-world c.continues_at_once.new.tokenizer)
+    (arrived is_end s v named from may) in
+    let at : Runs FlowStep is_end s v (Next (n.Document (opener_front openers)))
+    (world c.ask_next-then-has_no_indent.new.tokenizer) =
+    subst (λ (y : World). Runs FlowStep is_end s v (Next (n.Document (opener_front openers))) y)
+    (sym c.ask_next-then-has_no_indent.ensures) run in
+    subst (λ (x : DocumentState). Runs FlowStep is_end s v (Next (n.Document x))
+    (world c.ask_next-then-has_no_indent.new.tokenizer))
+    (sym c.first_opener.ensures) at
 
 pub returns-then-has_no_indent-clause-opens : goal.returns-then-has_no_indent-clause-opens
 returns-then-has_no_indent-clause-opens c = λ name e.
@@ -146,38 +140,36 @@ returns-clause-opens c = λ name e.
     let fine = not_error c.container_existing_before.result name (ap plain e) in
     absurd (existing-stays w name (sym (c.container_existing_before.ensures.to fine) ∙ e))
 
-pub returns-clause-run : goal.returns-clause-run
-returns-clause-run c = record {
-  runs = λ fine.
-      let w = world c.continues_at_once.new.tokenizer in
-      let first = n.Document document.ContainerExistingBefore in
-      let arrived : ArrivedHere FlowStep first (world c.args.tokenizer.now) first w =
-      subst (λ (y : World). ArrivedHere FlowStep first (world c.args.tokenizer.now) first y)
-      (sym c.continues_at_once.ensures.same) c.loop-tokenizer.invariant.arrived in
-      arrived-calls FlowStep first first (world c.args.tokenizer.now) w c.container_existing_before.result
-      (world c.container_existing_before.new.tokenizer) arrived
-      (record {
-        to_is = c.container_existing_before.ensures.to fine;
-        new_is = c.container_existing_before.ensures.world fine;
-      }) fine
-      (ap (λ (x : World). x.setting) (c.container_existing_before.ensures.world fine) ∙ (existing-remains w).1)
-      (within-world c.continues_at_once.new.tokenizer);
-  sees = λ fine.
-      let old = world c.args.tokenizer.now in
-      let w = world c.continues_at_once.new.tokenizer in
-      let w' = world c.container_existing_before.new.tokenizer in
-      let is = sym c.continues_at_once.ensures.same in
-      let seen : w.current ≡ looks w = subst (λ (y : World). y.current ≡ looks y) is
-      c.loop-tokenizer.invariant.current in
-      let may : (w.point ≡ old.point) ⊎ (w.point.index < w.setting.limit) =
-      subst (λ (y : World). (y.point ≡ old.point) ⊎ (y.point.index < y.setting.limit)) is
-      c.loop-tokenizer.invariant.may in
-      let same : w'.setting ≡ w.setting =
-      ap (λ (x : World). x.setting) (c.container_existing_before.ensures.world fine) ∙ (existing-remains w).1 in
-      sees-from c.container_existing_before.result old w w'
-      (call-sees c.container_existing_before.result w w'
-      (remains-of (existing_before_transition w) c.container_existing_before.result w w'
-      (c.container_existing_before.ensures.to fine) (c.container_existing_before.ensures.world fine)
-      (existing-remains w).0) same seen) same may;
-  full = search rules;
-}
+pub returns-clause-runs : goal.returns-clause-runs
+returns-clause-runs c = λ fine.
+    let w = world c.continues_at_once.new.tokenizer in
+    let first = n.Document document.ContainerExistingBefore in
+    let arrived : ArrivedHere FlowStep first (world c.args.tokenizer.now) first w =
+    subst (λ (y : World). ArrivedHere FlowStep first (world c.args.tokenizer.now) first y)
+    (sym c.continues_at_once.ensures.same) c.loop-tokenizer.invariant.arrived in
+    arrived-calls FlowStep first first (world c.args.tokenizer.now) w c.container_existing_before.result
+    (world c.container_existing_before.new.tokenizer) arrived
+    (record {
+      to_is = c.container_existing_before.ensures.to fine;
+      new_is = c.container_existing_before.ensures.world fine;
+    }) fine
+    (ap (λ (x : World). x.setting) (c.container_existing_before.ensures.world fine) ∙ (existing-remains w).1)
+    (within-world c.continues_at_once.new.tokenizer)
+
+pub returns-clause-sees : goal.returns-clause-sees
+returns-clause-sees c = λ fine.
+    let old = world c.args.tokenizer.now in
+    let w = world c.continues_at_once.new.tokenizer in
+    let w' = world c.container_existing_before.new.tokenizer in
+    let is = sym c.continues_at_once.ensures.same in
+    let seen : w.current ≡ looks w = subst (λ (y : World). y.current ≡ looks y) is c.loop-tokenizer.invariant.current in
+    let may : (w.point ≡ old.point) ⊎ (w.point.index < w.setting.limit) =
+    subst (λ (y : World). (y.point ≡ old.point) ⊎ (y.point.index < y.setting.limit)) is
+    c.loop-tokenizer.invariant.may in
+    let same : w'.setting ≡ w.setting =
+    ap (λ (x : World). x.setting) (c.container_existing_before.ensures.world fine) ∙ (existing-remains w).1 in
+    sees-from c.container_existing_before.result old w w'
+    (call-sees c.container_existing_before.result w w'
+    (remains-of (existing_before_transition w) c.container_existing_before.result w w'
+    (c.container_existing_before.ensures.to fine) (c.container_existing_before.ensures.world fine)
+    (existing-remains w).0) same seen) same may

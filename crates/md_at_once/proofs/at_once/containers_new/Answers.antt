@@ -1,4 +1,4 @@
-use Rattle.std.proofs.Common.{◌≡◌, ◌≢◌, ◌∙◌, Bool, Option, ap, false, inl, refl, subst, sym, true, rules}
+use Rattle.std.proofs.Common.{◌≡◌, ◌≢◌, ◌∙◌, Bool, Option, ap, false, inl, refl, subst, sym, true}
 use Rattle.std.specs.Option.{is_some}
 use Rattle.md_engine.specs.Going.{SeesOn}
 use Rattle.md_engine.specs.Run.{RunsHere}
@@ -38,48 +38,43 @@ inside w u passed none seen within to new asked runs sees =
     runs-on first (n.Document document.FlowInside) w u to new arrived runs sees
     (subst (λ (x : World). x.current ≡ looks x) (sym passed) seen) (inl (ap (λ (x : World). x.point) passed))
 
-pub returns-then-continues_inside : goal.returns-then-continues_inside
-returns-then-continues_inside c = record {
-  runs = λ fine.
-      let w = world c.args.tokenizer.now in
-      let none : OpensNone w = c.opens_none.ensures c.if-opens_none.true in
-      (inside w (world c.pass_openers.new.tokenizer) c.pass_openers.ensures none c.requires.current
-      (within-world c.args.tokenizer.now) c.inside.result (world c.inside.new.tokenizer)
-      (sym c.continues_inside.ensures ∙ c.if-continues_inside.true) (c.inside.ensures.runs fine)
-      (c.inside.ensures.sees fine)).0;
-  sees = λ fine.
-      let w = world c.args.tokenizer.now in
-      let none : OpensNone w = c.opens_none.ensures c.if-opens_none.true in
-      (inside w (world c.pass_openers.new.tokenizer) c.pass_openers.ensures none c.requires.current
-      (within-world c.args.tokenizer.now) c.inside.result (world c.inside.new.tokenizer)
-      (sym c.continues_inside.ensures ∙ c.if-continues_inside.true) (c.inside.ensures.runs fine)
-      (c.inside.ensures.sees fine)).1;
-  full = search rules;
-}
+pub returns-then-continues_inside-clause-runs : goal.returns-then-continues_inside-clause-runs
+returns-then-continues_inside-clause-runs c = λ fine.
+    let w = world c.args.tokenizer.now in
+    let none : OpensNone w = c.opens_none.ensures c.if-opens_none.true in
+    (inside w (world c.pass_openers.new.tokenizer) c.pass_openers.ensures none c.requires.current
+    (within-world c.args.tokenizer.now) c.inside.result (world c.inside.new.tokenizer)
+    (sym c.continues_inside.ensures ∙ c.if-continues_inside.true) (c.inside.ensures.runs fine)
+    (c.inside.ensures.sees fine)).0
 
-pub returns-else-continues_inside : goal.returns-else-continues_inside
-returns-else-continues_inside c = record {
-  runs = λ fine.
-      let first = n.Document (opener_front openers) in
-      let w = world c.args.tokenizer.now in
-      let u = world c.pass_openers.new.tokenizer in
-      let none : OpensNone w = c.opens_none.ensures c.if-opens_none.true in
-      let passed : u ≡ openers_passed w = c.pass_openers.ensures in
-      let outside : is_some (asked_first (openers_passed w).flags.leaf) ≡ false =
-      ap (λ (x : World). is_some (asked_first x.flags.leaf)) (sym passed)
-      ∙ sym c.continues_inside.ensures ∙ c.if-continues_inside.false in
-      let arrived : ArrivedHere FlowStep first w (n.Flow flow.Start) u = λ is_end s v named sees may.
-      subst (λ (x : World). ArrivedAt FlowStep is_end s v (n.Flow flow.Start) x) (sym passed)
-      (subst (λ (x : Bool). ArrivedAt FlowStep is_end s v (leaf_front x) (openers_passed w)) outside
-      (passes-to-front is_end s v w none c.requires.current (within-world c.args.tokenizer.now)
-      (arrived-first FlowStep first w is_end s v named sees may))) in
-      (runs-on first (n.Flow flow.Start) w u c.rest_begins.result (world c.rest_begins.new.tokenizer) arrived
-      (c.rest_begins.ensures.runs fine) (c.rest_begins.ensures.sees fine)
-      (subst (λ (x : World). x.current ≡ looks x) (sym passed) c.requires.current)
-      (inl (ap (λ (x : World). x.point) passed))).0;
-  sees = search rules;
-  full = search rules;
-}
+pub returns-then-continues_inside-clause-sees : goal.returns-then-continues_inside-clause-sees
+returns-then-continues_inside-clause-sees c = λ fine.
+    let w = world c.args.tokenizer.now in
+    let none : OpensNone w = c.opens_none.ensures c.if-opens_none.true in
+    (inside w (world c.pass_openers.new.tokenizer) c.pass_openers.ensures none c.requires.current
+    (within-world c.args.tokenizer.now) c.inside.result (world c.inside.new.tokenizer)
+    (sym c.continues_inside.ensures ∙ c.if-continues_inside.true) (c.inside.ensures.runs fine)
+    (c.inside.ensures.sees fine)).1
+
+pub returns-else-continues_inside-clause-runs : goal.returns-else-continues_inside-clause-runs
+returns-else-continues_inside-clause-runs c = λ fine.
+    let first = n.Document (opener_front openers) in
+    let w = world c.args.tokenizer.now in
+    let u = world c.pass_openers.new.tokenizer in
+    let none : OpensNone w = c.opens_none.ensures c.if-opens_none.true in
+    let passed : u ≡ openers_passed w = c.pass_openers.ensures in
+    let outside : is_some (asked_first (openers_passed w).flags.leaf) ≡ false =
+    ap (λ (x : World). is_some (asked_first x.flags.leaf)) (sym passed)
+    ∙ sym c.continues_inside.ensures ∙ c.if-continues_inside.false in
+    let arrived : ArrivedHere FlowStep first w (n.Flow flow.Start) u = λ is_end s v named sees may.
+    subst (λ (x : World). ArrivedAt FlowStep is_end s v (n.Flow flow.Start) x) (sym passed)
+    (subst (λ (x : Bool). ArrivedAt FlowStep is_end s v (leaf_front x) (openers_passed w)) outside
+    (passes-to-front is_end s v w none c.requires.current (within-world c.args.tokenizer.now)
+    (arrived-first FlowStep first w is_end s v named sees may))) in
+    (runs-on first (n.Flow flow.Start) w u c.rest_begins.result (world c.rest_begins.new.tokenizer) arrived
+    (c.rest_begins.ensures.runs fine) (c.rest_begins.ensures.sees fine)
+    (subst (λ (x : World). x.current ≡ looks x) (sym passed) c.requires.current)
+    (inl (ap (λ (x : World). x.point) passed))).0
 
 pub returns-else-opens_plainly : goal.returns-else-opens_plainly
 returns-else-opens_plainly c =

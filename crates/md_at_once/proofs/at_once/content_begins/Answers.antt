@@ -1,4 +1,4 @@
-use Rattle.std.proofs.Common.{◌≡◌, ◌≤◌, ◌∙◌, ap, is_ok, refl, subst, sym, true, rules}
+use Rattle.std.proofs.Common.{◌≡◌, ◌≤◌, ◌∙◌, ap, is_ok, refl, subst, sym, true}
 use Rattle.md_engine.specs.Place.{IsPlaced}
 use Rattle.md_engine.specs.Run.{reading}
 use Rattle.md_engine.specs.Staying.{SeesSome}
@@ -17,15 +17,11 @@ use Rattle.md_leaves.proofs.HeadingCalls.{ahead}
 use Rattle.md_tables.proofs.RowWords.{on-ok}
 use Rattle.md_at_once.proofs.at_once.content_begins.Goals as goal
 
-pub returns-then-ends_line : goal.returns-then-ends_line
-returns-then-ends_line c = record {
-  runs = λ fine.
-      (leaves-once (n.Flow flow.BeforeContent) (world c.args.tokenizer.now) c.before_content.result
-      (world c.before_content.new.tokenizer) ((refl, refl), refl) (c.before_content.ensures.to fine)
-      (c.before_content.ensures.world fine) fine c.requires.current (within-world c.args.tokenizer.now)).0;
-  sees = search rules;
-  full = search rules;
-}
+pub returns-then-ends_line-clause-runs : goal.returns-then-ends_line-clause-runs
+returns-then-ends_line-clause-runs c = λ fine.
+    (leaves-once (n.Flow flow.BeforeContent) (world c.args.tokenizer.now) c.before_content.result
+    (world c.before_content.new.tokenizer) ((refl, refl), refl) (c.before_content.ensures.to fine)
+    (c.before_content.ensures.world fine) fine c.requires.current (within-world c.args.tokenizer.now)).0
 
 -- the point before the line lies in the text that is seen after it
 placed-on : (t : Tokenizer) (u v : World) → SeesSome Line (world t) u → v.setting ≡ u.setting →
@@ -38,24 +34,20 @@ content_tried-requires c =
     placed-on c.args.tokenizer.now (world c.see_line.new.self) (world c.see_or_wait.new.self) c.see_line.ensures.some
     (ap (λ (x : World). x.setting) (c.if-see_or_wait.ensures.same refl))
 
-pub returns-then-see_or_wait-2 : goal.returns-then-see_or_wait-2
-returns-then-see_or_wait-2 c = record {
-  runs = λ fine.
-      let w = world c.args.tokenizer.now in
-      let u = world c.see_line.new.self in
-      let x = world c.content_tried.new.tokenizer in
-      let same : world c.see_or_wait.new.self ≡ u = c.if-see_or_wait.ensures.same refl in
-      let has_tried : is_ok c.content_tried.result ≡ true = c.if-or_error.ensures.negation in
-      let new : x ≡ line_tried w.point u =
-      on-ok c.content_tried.result (x ≡ line_tried w.point (world c.see_or_wait.new.self)) has_tried
-      c.content_tried.ensures
-      ∙ ap (line_tried w.point) same in
-      content-waits w u x c.requires.current (within-world c.args.tokenizer.now)
-      (inside-line w c.requires.current (sym c.ends_line.ensures ∙ c.if-ends_line.false)) c.see_line.ensures
-      (c.if-see_or_wait.ensures.waits refl).1 new;
-  sees = search rules;
-  full = search rules;
-}
+pub returns-then-see_or_wait-2-clause-runs : goal.returns-then-see_or_wait-2-clause-runs
+returns-then-see_or_wait-2-clause-runs c = λ fine.
+    let w = world c.args.tokenizer.now in
+    let u = world c.see_line.new.self in
+    let x = world c.content_tried.new.tokenizer in
+    let same : world c.see_or_wait.new.self ≡ u = c.if-see_or_wait.ensures.same refl in
+    let has_tried : is_ok c.content_tried.result ≡ true = c.if-or_error.ensures.negation in
+    let new : x ≡ line_tried w.point u =
+    on-ok c.content_tried.result (x ≡ line_tried w.point (world c.see_or_wait.new.self)) has_tried
+    c.content_tried.ensures
+    ∙ ap (line_tried w.point) same in
+    content-waits w u x c.requires.current (within-world c.args.tokenizer.now)
+    (inside-line w c.requires.current (sym c.ends_line.ensures ∙ c.if-ends_line.false)) c.see_line.ensures
+    (c.if-see_or_wait.ensures.waits refl).1 new
 
 pub content_added-requires-clause-placed : goal.content_added-requires-clause-placed
 content_added-requires-clause-placed c =
@@ -68,21 +60,17 @@ content_added-requires-clause-order c =
     subst (λ (x : World). whole_from w.point ≤ whole_from x.point) (sym (c.if-see_or_wait.ensures.sees refl))
     (some-order w (world c.see_line.new.self) c.see_line.ensures.some)
 
-pub returns-2 : goal.returns-2
-returns-2 c = record {
-  runs = λ fine.
-      let w = world c.args.tokenizer.now in
-      let u = world c.see_line.new.self in
-      let x = world c.content_added.new.tokenizer in
-      let sees : world c.see_or_wait.new.self ≡ reading u = c.if-see_or_wait.ensures.sees refl in
-      let has_added : is_ok c.content_added.result ≡ true = c.if-or_error-2.ensures.negation in
-      let new : x ≡ line_added w.point (reading u) =
-      on-ok c.content_added.result (x ≡ line_added w.point (world c.see_or_wait.new.self)) has_added
-      c.content_added.ensures
-      ∙ ap (line_added w.point) sees in
-      content-ends w u x c.line_end.result (world c.line_end.new.tokenizer) c.requires.current
-      (within-world c.args.tokenizer.now) c.see_line.ensures (ahead (c.if-see_or_wait.ensures.is_continued refl)) new
-      (c.line_end.ensures.runs fine);
-  sees = search rules;
-  full = search rules;
-}
+pub returns-2-clause-runs : goal.returns-2-clause-runs
+returns-2-clause-runs c = λ fine.
+    let w = world c.args.tokenizer.now in
+    let u = world c.see_line.new.self in
+    let x = world c.content_added.new.tokenizer in
+    let sees : world c.see_or_wait.new.self ≡ reading u = c.if-see_or_wait.ensures.sees refl in
+    let has_added : is_ok c.content_added.result ≡ true = c.if-or_error-2.ensures.negation in
+    let new : x ≡ line_added w.point (reading u) =
+    on-ok c.content_added.result (x ≡ line_added w.point (world c.see_or_wait.new.self)) has_added
+    c.content_added.ensures
+    ∙ ap (line_added w.point) sees in
+    content-ends w u x c.line_end.result (world c.line_end.new.tokenizer) c.requires.current
+    (within-world c.args.tokenizer.now) c.see_line.ensures (ahead (c.if-see_or_wait.ensures.is_continued refl)) new
+    (c.line_end.ensures.runs fine)

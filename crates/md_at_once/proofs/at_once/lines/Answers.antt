@@ -55,27 +55,22 @@ loop-to-smaller c =
     (c.containers-to.ensures.runs fine) (c.containers-to.ensures.sees fine)
     (proceeds u u' to is (c.if-see_or_wait.ensures.sees refl) lt)).1
 
-pub returns-then-not-awaits_line : goal.returns-then-not-awaits_line
-returns-then-not-awaits_line c = record {
-  runs = λ fine.
-      (is_valid-leaves line (world c.args.tokenizer.now) line (world c.loop-to.tokenizer) c.containers-to.result
-      (world c.containers-to.new.tokenizer) c.loop-to.invariant (c.containers-to.ensures.runs fine)
-      (c.containers-to.ensures.sees fine)).0;
-  sees = λ fine.
-      (is_valid-leaves line (world c.args.tokenizer.now) line (world c.loop-to.tokenizer) c.containers-to.result
-      (world c.containers-to.new.tokenizer) c.loop-to.invariant (c.containers-to.ensures.runs fine)
-      (c.containers-to.ensures.sees fine)).1;
-  full = search rules;
-}
+pub returns-then-not-awaits_line-clause-runs : goal.returns-then-not-awaits_line-clause-runs
+returns-then-not-awaits_line-clause-runs c = λ fine.
+    (is_valid-leaves line (world c.args.tokenizer.now) line (world c.loop-to.tokenizer) c.containers-to.result
+    (world c.containers-to.new.tokenizer) c.loop-to.invariant (c.containers-to.ensures.runs fine)
+    (c.containers-to.ensures.sees fine)).0
 
-pub returns-then-see_or_wait : goal.returns-then-see_or_wait
-returns-then-see_or_wait c = record {
-  runs = λ fine.
-      subst (λ (x : World). RunsHere FlowStep line (world c.args.tokenizer.now) c.containers-to.result x)
-      (sym (c.if-see_or_wait.ensures.same refl))
-      (is_valid-leaves line (world c.args.tokenizer.now) line (world c.loop-to.tokenizer) c.containers-to.result
-      (world c.containers-to.new.tokenizer) c.loop-to.invariant (c.containers-to.ensures.runs fine)
-      (c.containers-to.ensures.sees fine)).0;
-  sees = search rules;
-  full = search rules;
-}
+pub returns-then-not-awaits_line-clause-sees : goal.returns-then-not-awaits_line-clause-sees
+returns-then-not-awaits_line-clause-sees c = λ fine.
+    (is_valid-leaves line (world c.args.tokenizer.now) line (world c.loop-to.tokenizer) c.containers-to.result
+    (world c.containers-to.new.tokenizer) c.loop-to.invariant (c.containers-to.ensures.runs fine)
+    (c.containers-to.ensures.sees fine)).1
+
+pub returns-then-see_or_wait-clause-runs : goal.returns-then-see_or_wait-clause-runs
+returns-then-see_or_wait-clause-runs c = λ fine.
+    subst (λ (x : World). RunsHere FlowStep line (world c.args.tokenizer.now) c.containers-to.result x)
+    (sym (c.if-see_or_wait.ensures.same refl))
+    (is_valid-leaves line (world c.args.tokenizer.now) line (world c.loop-to.tokenizer) c.containers-to.result
+    (world c.containers-to.new.tokenizer) c.loop-to.invariant (c.containers-to.ensures.runs fine)
+    (c.containers-to.ensures.sees fine)).0

@@ -1,4 +1,4 @@
-use Rattle.std.proofs.Common.{◌≡◌, ◌<◌, ◌∙◌, true, ap, inr, is_ok, refl, subst, sym, rules}
+use Rattle.std.proofs.Common.{◌≡◌, ◌<◌, ◌∙◌, true, ap, inr, is_ok, refl, subst, sym}
 use Rattle.md_engine.specs.declared.state.document.State.TheVariants as document
 use Rattle.md_engine.specs.declared.state.Name.TheVariants as n
 use Rattle.md_engine.specs.declared.tokenizer.container.Container.{Container}
@@ -17,53 +17,48 @@ use Rattle.md_registry.proofs.OpensAtOnce.{bullet-opens}
 use Rattle.md_tables.proofs.RowWords.{on-ok}
 use Rattle.md_at_once.proofs.at_once.opens_at_once.Goals as goal
 
-pub returns-2 : goal.returns-2
-returns-2 c = record {
-  runs = λ fine.
-      let first = n.Document (opener_front openers) in
-      let w = world c.args.tokenizer.now in
-      let u = world c.take_plain_opening.new.tokenizer in
-      let asks : world c.ask.new.tokenizer ≡ asking (container_of kind.ListItem) w =
-      c.ask.ensures ∙ ap (λ (x : Container). asking x w) c.new.ensures
-      ∙ ap (λ (k : ContainerKind). asking (container_of k) w) c.plain_opener.ensures in
-      let has_taken : is_ok c.take_plain_opening.result ≡ true = c.if-or_error.ensures.negation in
-      let is : u ≡ bulleted (asking (container_of kind.ListItem) w) =
-      on-ok c.take_plain_opening.result (u ≡ bulleted (world c.ask.new.tokenizer)) has_taken
-      c.take_plain_opening.ensures
-      ∙ ap bulleted asks in
-      let arrived : ArrivedHere FlowStep first w (n.Document document.ContainerNewAfter) u =
-      λ is_end s v named from may.
-      subst (λ (x : World). ArrivedAt FlowStep is_end s v (n.Document document.ContainerNewAfter) x) (sym is)
-      (bullet-opens is_end s v w (arrived-first FlowStep first w is_end s v named from may)
-      c.requires.at.current (within-world c.args.tokenizer.now) c.requires.plain) in
-      let next = bullet-next w c.requires.plain in
-      (ends-following first (n.Document document.ContainerNewAfter) w u c.container_new_after.result
-      (world c.container_new_after.new.tokenizer) arrived ((refl, refl), refl) (c.container_new_after.ensures.to fine)
-      (c.container_new_after.ensures.world fine) fine (subst (λ (x : World). x.current ≡ looks x) (sym is) refl)
-      (within-world c.take_plain_opening.new.tokenizer)
-      (inr (subst (λ (x : World). x.point.index < x.setting.limit) (sym is) next))).0;
-  sees = λ fine.
-      let first = n.Document (opener_front openers) in
-      let w = world c.args.tokenizer.now in
-      let u = world c.take_plain_opening.new.tokenizer in
-      let asks : world c.ask.new.tokenizer ≡ asking (container_of kind.ListItem) w =
-      c.ask.ensures ∙ ap (λ (x : Container). asking x w) c.new.ensures
-      ∙ ap (λ (k : ContainerKind). asking (container_of k) w) c.plain_opener.ensures in
-      let has_taken : is_ok c.take_plain_opening.result ≡ true = c.if-or_error.ensures.negation in
-      let is : u ≡ bulleted (asking (container_of kind.ListItem) w) =
-      on-ok c.take_plain_opening.result (u ≡ bulleted (world c.ask.new.tokenizer)) has_taken
-      c.take_plain_opening.ensures
-      ∙ ap bulleted asks in
-      let arrived : ArrivedHere FlowStep first w (n.Document document.ContainerNewAfter) u =
-      λ is_end s v named from may.
-      subst (λ (x : World). ArrivedAt FlowStep is_end s v (n.Document document.ContainerNewAfter) x) (sym is)
-      (bullet-opens is_end s v w (arrived-first FlowStep first w is_end s v named from may)
-      c.requires.at.current (within-world c.args.tokenizer.now) c.requires.plain) in
-      let next = bullet-next w c.requires.plain in
-      (ends-following first (n.Document document.ContainerNewAfter) w u c.container_new_after.result
-      (world c.container_new_after.new.tokenizer) arrived ((refl, refl), refl) (c.container_new_after.ensures.to fine)
-      (c.container_new_after.ensures.world fine) fine (subst (λ (x : World). x.current ≡ looks x) (sym is) refl)
-      (within-world c.take_plain_opening.new.tokenizer)
-      (inr (subst (λ (x : World). x.point.index < x.setting.limit) (sym is) next))).1;
-  full = search rules;
-}
+pub returns-2-clause-runs : goal.returns-2-clause-runs
+returns-2-clause-runs c = λ fine.
+    let first = n.Document (opener_front openers) in
+    let w = world c.args.tokenizer.now in
+    let u = world c.take_plain_opening.new.tokenizer in
+    let asks : world c.ask.new.tokenizer ≡ asking (container_of kind.ListItem) w =
+    c.ask.ensures ∙ ap (λ (x : Container). asking x w) c.new.ensures
+    ∙ ap (λ (k : ContainerKind). asking (container_of k) w) c.plain_opener.ensures in
+    let has_taken : is_ok c.take_plain_opening.result ≡ true = c.if-or_error.ensures.negation in
+    let is : u ≡ bulleted (asking (container_of kind.ListItem) w) =
+    on-ok c.take_plain_opening.result (u ≡ bulleted (world c.ask.new.tokenizer)) has_taken c.take_plain_opening.ensures
+    ∙ ap bulleted asks in
+    let arrived : ArrivedHere FlowStep first w (n.Document document.ContainerNewAfter) u = λ is_end s v named from may.
+    subst (λ (x : World). ArrivedAt FlowStep is_end s v (n.Document document.ContainerNewAfter) x) (sym is)
+    (bullet-opens is_end s v w (arrived-first FlowStep first w is_end s v named from may)
+    c.requires.at.current (within-world c.args.tokenizer.now) c.requires.plain) in
+    let next = bullet-next w c.requires.plain in
+    (ends-following first (n.Document document.ContainerNewAfter) w u c.container_new_after.result
+    (world c.container_new_after.new.tokenizer) arrived ((refl, refl), refl) (c.container_new_after.ensures.to fine)
+    (c.container_new_after.ensures.world fine) fine (subst (λ (x : World). x.current ≡ looks x) (sym is) refl)
+    (within-world c.take_plain_opening.new.tokenizer)
+    (inr (subst (λ (x : World). x.point.index < x.setting.limit) (sym is) next))).0
+
+pub returns-2-clause-sees : goal.returns-2-clause-sees
+returns-2-clause-sees c = λ fine.
+    let first = n.Document (opener_front openers) in
+    let w = world c.args.tokenizer.now in
+    let u = world c.take_plain_opening.new.tokenizer in
+    let asks : world c.ask.new.tokenizer ≡ asking (container_of kind.ListItem) w =
+    c.ask.ensures ∙ ap (λ (x : Container). asking x w) c.new.ensures
+    ∙ ap (λ (k : ContainerKind). asking (container_of k) w) c.plain_opener.ensures in
+    let has_taken : is_ok c.take_plain_opening.result ≡ true = c.if-or_error.ensures.negation in
+    let is : u ≡ bulleted (asking (container_of kind.ListItem) w) =
+    on-ok c.take_plain_opening.result (u ≡ bulleted (world c.ask.new.tokenizer)) has_taken c.take_plain_opening.ensures
+    ∙ ap bulleted asks in
+    let arrived : ArrivedHere FlowStep first w (n.Document document.ContainerNewAfter) u = λ is_end s v named from may.
+    subst (λ (x : World). ArrivedAt FlowStep is_end s v (n.Document document.ContainerNewAfter) x) (sym is)
+    (bullet-opens is_end s v w (arrived-first FlowStep first w is_end s v named from may)
+    c.requires.at.current (within-world c.args.tokenizer.now) c.requires.plain) in
+    let next = bullet-next w c.requires.plain in
+    (ends-following first (n.Document document.ContainerNewAfter) w u c.container_new_after.result
+    (world c.container_new_after.new.tokenizer) arrived ((refl, refl), refl) (c.container_new_after.ensures.to fine)
+    (c.container_new_after.ensures.world fine) fine (subst (λ (x : World). x.current ≡ looks x) (sym is) refl)
+    (within-world c.take_plain_opening.new.tokenizer)
+    (inr (subst (λ (x : World). x.point.index < x.setting.limit) (sym is) next))).1

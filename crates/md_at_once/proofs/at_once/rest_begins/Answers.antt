@@ -94,6 +94,5 @@ returns-then-is_heading c =
 pub returns : goal.returns
 returns c =
     let all = starts (world c.args.tokenizer.now) c.start-state.result (world c.start-state.new.tokenizer)
-    c.requires.current (within-world c.args.tokenizer.now) c.start-state.ensures.state.to
-    c.start-state.ensures.state.world in
+    c.requires.current (within-world c.args.tokenizer.now) c.start-state.ensures.state.to c.start-state.ensures.state.world in
     record { runs = λ fine. (all fine).0; sees = λ fine. (all fine).1 }

@@ -1,4 +1,4 @@
-use Rattle.std.proofs.Common.{◌≡◌, ap, inl, is_ok, subst, sym, true, rules}
+use Rattle.std.proofs.Common.{◌≡◌, ap, inl, is_ok, subst, sym, true}
 use Rattle.md_engine.specs.World.{World, looks, world}
 use Rattle.md_engine.specs.declared.state.raw_flow.State.TheVariants as its
 use Rattle.md_engine.specs.declared.state.Name.TheVariants as n
@@ -11,23 +11,19 @@ use Rattle.md_at_once.proofs.NoClose.{closes-none}
 use Rattle.md_tables.proofs.RowWords.{on-ok}
 use Rattle.md_at_once.proofs.fences.untried.Goals as goal
 
-pub returns-2 : goal.returns-2
-returns-2 c = record {
-  runs = λ fine.
-      let first = n.RawFlow its.AtNonLazyBreak in
-      let next = n.RawFlow its.ContentStart in
-      let w = world c.args.tokenizer.now in
-      let u = world c.begin_unclosed.new.tokenizer in
-      let has_begun : is_ok c.begin_unclosed.result ≡ true = c.if-or_error.ensures.negation in
-      let begun : u ≡ unclosed w =
-      on-ok c.begin_unclosed.result (u ≡ unclosed w) has_begun c.begin_unclosed.ensures in
-      let arrived : ArrivedHere FlowStep first w next u = λ is_end s v named sees may.
-      subst (λ (x : World). ArrivedAt FlowStep is_end s v next x) (sym begun)
-      (closes-none is_end s v w c.requires.none c.requires.at.current (within-world c.args.tokenizer.now)
-      (arrived-first FlowStep first w is_end s v named sees may)) in
-      (runs-on first next w u c.line.result (world c.line.new.tokenizer) arrived (c.line.ensures.runs fine)
-      (c.line.ensures.sees fine) (subst (λ (x : World). x.current ≡ looks x) (sym begun) c.requires.at.current)
-      (inl (ap (λ (x : World). x.point) begun))).0;
-  sees = search rules;
-  full = search rules;
-}
+pub returns-2-clause-runs : goal.returns-2-clause-runs
+returns-2-clause-runs c = λ fine.
+    let first = n.RawFlow its.AtNonLazyBreak in
+    let next = n.RawFlow its.ContentStart in
+    let w = world c.args.tokenizer.now in
+    let u = world c.begin_unclosed.new.tokenizer in
+    let has_begun : is_ok c.begin_unclosed.result ≡ true = c.if-or_error.ensures.negation in
+    let begun : u ≡ unclosed w =
+    on-ok c.begin_unclosed.result (u ≡ unclosed w) has_begun c.begin_unclosed.ensures in
+    let arrived : ArrivedHere FlowStep first w next u = λ is_end s v named sees may.
+    subst (λ (x : World). ArrivedAt FlowStep is_end s v next x) (sym begun)
+    (closes-none is_end s v w c.requires.none c.requires.at.current (within-world c.args.tokenizer.now)
+    (arrived-first FlowStep first w is_end s v named sees may)) in
+    (runs-on first next w u c.line.result (world c.line.new.tokenizer) arrived (c.line.ensures.runs fine)
+    (c.line.ensures.sees fine) (subst (λ (x : World). x.current ≡ looks x) (sym begun) c.requires.at.current)
+    (inl (ap (λ (x : World). x.point) begun))).0

@@ -1,4 +1,4 @@
-use Rattle.std.proofs.Common.{◌≡◌, ◌∙◌, ap, is_ok, refl, subst, sym, true, rules}
+use Rattle.std.proofs.Common.{◌≡◌, ◌∙◌, ap, is_ok, refl, subst, sym, true}
 use Rattle.md_engine.specs.Place.{IsPlaced}
 use Rattle.md_engine.specs.Run.{reading}
 use Rattle.md_engine.specs.Staying.{SeesAll}
@@ -24,48 +24,40 @@ whole_tried-requires c =
     placed-on c.settle.new.tokenizer (world c.see_line.new.self) (world c.see_or_wait.new.self) c.see_line.ensures
     (ap (λ (x : World). x.setting) (c.if-see_or_wait.ensures.same refl))
 
-pub returns-then-see_or_wait-2 : goal.returns-then-see_or_wait-2
-returns-then-see_or_wait-2 c = record {
-  runs = λ fine.
-      let w = world c.args.tokenizer.now in
-      let u = world c.see_line.new.self in
-      let x = world c.whole_tried.new.tokenizer in
-      let same : world c.see_or_wait.new.self ≡ u = c.if-see_or_wait.ensures.same refl in
-      let has_tried : is_ok c.whole_tried.result ≡ true = c.if-or_error.ensures.negation in
-      let from = ap (λ (q : World). q.point) c.settle.ensures in
-      let new : x ≡ whole_tried w.point u =
-      on-ok c.whole_tried.result (x ≡ whole_tried c.settle.new.tokenizer.point (world c.see_or_wait.new.self)) has_tried
-      c.whole_tried.ensures
-      ∙ ap (λ p. whole_tried p (world c.see_or_wait.new.self)) from ∙ ap (whole_tried w.point) same in
-      whole-waits w u x c.requires.whole c.requires.at.current (within-world c.args.tokenizer.now)
-      (subst (λ (q : World). SeesAll Line q u) c.settle.ensures c.see_line.ensures)
-      (c.if-see_or_wait.ensures.waits refl).1 new;
-  sees = search rules;
-  full = search rules;
-}
+pub returns-then-see_or_wait-2-clause-runs : goal.returns-then-see_or_wait-2-clause-runs
+returns-then-see_or_wait-2-clause-runs c = λ fine.
+    let w = world c.args.tokenizer.now in
+    let u = world c.see_line.new.self in
+    let x = world c.whole_tried.new.tokenizer in
+    let same : world c.see_or_wait.new.self ≡ u = c.if-see_or_wait.ensures.same refl in
+    let has_tried : is_ok c.whole_tried.result ≡ true = c.if-or_error.ensures.negation in
+    let from = ap (λ (q : World). q.point) c.settle.ensures in
+    let new : x ≡ whole_tried w.point u =
+    on-ok c.whole_tried.result (x ≡ whole_tried c.settle.new.tokenizer.point (world c.see_or_wait.new.self)) has_tried
+    c.whole_tried.ensures
+    ∙ ap (λ p. whole_tried p (world c.see_or_wait.new.self)) from ∙ ap (whole_tried w.point) same in
+    whole-waits w u x c.requires.whole c.requires.at.current (within-world c.args.tokenizer.now)
+    (subst (λ (q : World). SeesAll Line q u) c.settle.ensures c.see_line.ensures)
+    (c.if-see_or_wait.ensures.waits refl).1 new
 
 pub whole_added-requires : goal.whole_added-requires
 whole_added-requires c =
     placed-on c.settle.new.tokenizer (world c.see_line.new.self) (world c.see_or_wait.new.self) c.see_line.ensures
     (ap (λ (x : World). x.setting) (c.if-see_or_wait.ensures.sees refl))
 
-pub returns-2 : goal.returns-2
-returns-2 c = record {
-  runs = λ fine.
-      let w = world c.args.tokenizer.now in
-      let u = world c.see_line.new.self in
-      let x = world c.whole_added.new.tokenizer in
-      let sees : world c.see_or_wait.new.self ≡ reading u = c.if-see_or_wait.ensures.sees refl in
-      let has_added : is_ok c.whole_added.result ≡ true = c.if-or_error-2.ensures.negation in
-      let from = ap (λ (q : World). q.point) c.settle.ensures in
-      let new : x ≡ whole_added w.point (reading u) =
-      on-ok c.whole_added.result (x ≡ whole_added c.settle.new.tokenizer.point (world c.see_or_wait.new.self)) has_added
-      c.whole_added.ensures
-      ∙ ap (λ p. whole_added p (world c.see_or_wait.new.self)) from ∙ ap (whole_added w.point) sees in
-      whole-ends w u x c.line_end.result (world c.line_end.new.tokenizer) c.requires.whole c.requires.at.current
-      (within-world c.args.tokenizer.now)
-      (subst (λ (q : World). SeesAll Line q u) c.settle.ensures c.see_line.ensures)
-      (ahead (c.if-see_or_wait.ensures.is_continued refl)) new (c.line_end.ensures.runs fine);
-  sees = search rules;
-  full = search rules;
-}
+pub returns-2-clause-runs : goal.returns-2-clause-runs
+returns-2-clause-runs c = λ fine.
+    let w = world c.args.tokenizer.now in
+    let u = world c.see_line.new.self in
+    let x = world c.whole_added.new.tokenizer in
+    let sees : world c.see_or_wait.new.self ≡ reading u = c.if-see_or_wait.ensures.sees refl in
+    let has_added : is_ok c.whole_added.result ≡ true = c.if-or_error-2.ensures.negation in
+    let from = ap (λ (q : World). q.point) c.settle.ensures in
+    let new : x ≡ whole_added w.point (reading u) =
+    on-ok c.whole_added.result (x ≡ whole_added c.settle.new.tokenizer.point (world c.see_or_wait.new.self)) has_added
+    c.whole_added.ensures
+    ∙ ap (λ p. whole_added p (world c.see_or_wait.new.self)) from ∙ ap (whole_added w.point) sees in
+    whole-ends w u x c.line_end.result (world c.line_end.new.tokenizer) c.requires.whole c.requires.at.current
+    (within-world c.args.tokenizer.now)
+    (subst (λ (q : World). SeesAll Line q u) c.settle.ensures c.see_line.ensures)
+    (ahead (c.if-see_or_wait.ensures.is_continued refl)) new (c.line_end.ensures.runs fine)

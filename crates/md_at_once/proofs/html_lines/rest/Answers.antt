@@ -1,4 +1,4 @@
-use Rattle.std.proofs.Common.{◌≡◌, ◌≢◌, ◌<◌, ◌∙◌, inr, refl, subst, sym, rules}
+use Rattle.std.proofs.Common.{◌≡◌, ◌≢◌, ◌<◌, ◌∙◌, inr, refl, subst, sym}
 use Rattle.md_engine.specs.Run.{RunsHere}
 use Rattle.md_engine.specs.World.{World, looks, world}
 use Rattle.md_engine.specs.declared.state.html_flow.State.TheVariants as its
@@ -26,18 +26,14 @@ returns-then-ends_line c =
     c.requires.current (within-world c.args.tokenizer.now) in
     record { runs = λ fine. (all fine).0; sees = λ fine. (all fine).1 }
 
-pub returns-then-see_or_wait : goal.returns-then-see_or_wait
-returns-then-see_or_wait c = record {
-  runs = λ fine.
-      let name = n.HtmlFlow its.ContinuationClose in
-      let w = world c.args.tokenizer.now in
-      subst (λ (x : World). RunsHere FlowStep name w (Next name) x) (sym (c.if-see_or_wait.ensures.same refl))
-      (line-waits name w (world c.see_line.new.self) close-takes c.requires.current (within-world c.args.tokenizer.now)
-      c.see_line.ensures (inside-line w c.requires.current (sym c.ends_line.ensures ∙ c.if-ends_line.false))
-      (c.if-see_or_wait.ensures.waits refl).1);
-  sees = search rules;
-  full = search rules;
-}
+pub returns-then-see_or_wait-clause-runs : goal.returns-then-see_or_wait-clause-runs
+returns-then-see_or_wait-clause-runs c = λ fine.
+    let name = n.HtmlFlow its.ContinuationClose in
+    let w = world c.args.tokenizer.now in
+    subst (λ (x : World). RunsHere FlowStep name w (Next name) x) (sym (c.if-see_or_wait.ensures.same refl))
+    (line-waits name w (world c.see_line.new.self) close-takes c.requires.current (within-world c.args.tokenizer.now)
+    c.see_line.ensures (inside-line w c.requires.current (sym c.ends_line.ensures ∙ c.if-ends_line.false))
+    (c.if-see_or_wait.ensures.waits refl).1)
 
 pub returns : goal.returns
 returns c =

@@ -32,14 +32,10 @@ returns-then-tokenizer-gt0 c =
     (search rules)
 
 pub returns-else-tokenizer-gt0 : goal.returns-else-tokenizer-gt0
-returns-else-tokenizer-gt0 c = record {
-  to = search rules;
-  world = search rules;
-  rule = λ fine.
-      let begins = begun (world c.args.tokenizer.now) c.args.tokenizer.now.scratch.whitespace.max _
-      (omega (arith, c.if-tokenizer-gt0.false)) c.least_width-min.ensures in
-      item_rule its.ContFilled (world c.args.tokenizer.now) _ _
-      (c.begin_indent.ensures.to fine ∙ ap (λ (t : Transition). t.to) begins)
-      (c.begin_indent.ensures.world fine ∙ ap (λ (t : Transition). t.world) begins);
-  full = search rules;
-}
+returns-else-tokenizer-gt0 c =
+    let begins = begun (world c.args.tokenizer.now) c.args.tokenizer.now.scratch.whitespace.max _
+    (omega (arith, c.if-tokenizer-gt0.false)) c.least_width-min.ensures in
+    state-is _ _ _ _ _ (item_rule its.ContFilled (world c.args.tokenizer.now) _ _)
+    (λ fine. c.begin_indent.ensures.to fine ∙ ap (λ (t : Transition). t.to) begins)
+    (λ fine. c.begin_indent.ensures.world fine ∙ ap (λ (t : Transition). t.world) begins)
+    (search rules)

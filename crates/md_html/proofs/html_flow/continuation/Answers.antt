@@ -1,4 +1,5 @@
-use Rattle.std.proofs.Common.{rules, ◌≡◌, ℕ, Some, false, refl, ap, sym, ◌∙◌, nat_eq}
+use Rattle.std.proofs.Common.{arith, rules, ◌≡◌, ℕ, Some, false, refl, ap, sym, ◌∙◌, nat_eq}
+use Rattle.std.proofs.lemmas.Grind.{common_steps}
 use Rattle.std.proofs.lemmas.Bool.{eq-eqb}
 use Rattle.md_engine.specs.declared.state.State.{State}
 use Rattle.md_engine.specs.declared.state.html_flow.State.TheVariants as its
@@ -46,8 +47,8 @@ returns-then-byte-tokenizer c = record {
 
 pub returns-else-byte-tokenizer : goal.returns-else-byte-tokenizer
 returns-else-byte-tokenizer c = record {
-  to = search rules;
-  world = search rules;
+  to = first_of (search rules, grind (arith, common_steps));
+  world = first_of (search rules, grind (arith, common_steps));
   rule = λ fine. html_rule its.Continuation _ _ _ (search rules) (search rules);
   full = search rules;
 }

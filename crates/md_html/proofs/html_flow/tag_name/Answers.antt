@@ -6,14 +6,14 @@ use Rattle.md_html.proofs.html_flow.tag_name.Goals as goal
 
 pub returns-in-Some : goal.returns-in-Some
 returns-in-Some c = record {
-  to = search rules;
-  world = search rules;
+  to = first_of (search rules, grind (arith, common_steps));
+  world = first_of (search rules, grind (arith, common_steps));
   rule = html_rule its.TagName _ _ _ (grind (arith, common_steps)) (grind (arith, common_steps));
 }
 
 pub returns-in-None : goal.returns-in-None
 returns-in-None c = record {
-  to = search rules;
-  world = search rules;
+  to = first_of (search rules, grind (arith, common_steps));
+  world = first_of (search rules, grind (arith, common_steps));
   rule = html_rule its.TagName _ _ _ (grind (arith, common_steps)) (grind (arith, common_steps));
 }

@@ -6,14 +6,14 @@ use Rattle.md_html.proofs.html_flow.tag.complete_attribute_value_quoted.Goals as
 
 pub returns-then-byte-tokenizer : goal.returns-then-byte-tokenizer
 returns-then-byte-tokenizer c = record {
-  to = search rules;
-  world = search rules;
+  to = first_of (search rules, grind (arith, common_steps));
+  world = first_of (search rules, grind (arith, common_steps));
   rule = html_rule its.CompleteAttributeValueQuoted _ _ _ (grind (arith, common_steps)) (grind (arith, common_steps));
 }
 
 pub returns-else-byte-tokenizer : goal.returns-else-byte-tokenizer
 returns-else-byte-tokenizer c = record {
-  to = search rules;
-  world = search rules;
+  to = first_of (search rules, grind (arith, common_steps));
+  world = first_of (search rules, grind (arith, common_steps));
   rule = html_rule its.CompleteAttributeValueQuoted _ _ _ (search rules) (search rules);
 }

@@ -1,0 +1,13 @@
+use Rattle.std.proofs.Common.{arith, rules}
+use Rattle.std.proofs.lemmas.Grind.{common_steps}
+use Rattle.md_engine.specs.World.{world}
+use Rattle.md_events.proofs.StatesLemmas.{state-is}
+use Rattle.md_tables.proofs.RowMeaning.{row_rule}
+use Rattle.md_tables.proofs.row.at_break.Goals as goal
+
+pub returns-in-Some-2 : goal.returns-in-Some-2
+returns-in-Some-2 c =
+    state-is _ _ _ _ _ (row_rule c.args.row _ (world c.args.tokenizer.now) _ _)
+    (first_of (search rules, grind (arith, common_steps)))
+    (first_of (search rules, grind (arith, common_steps)))
+    (search rules)
