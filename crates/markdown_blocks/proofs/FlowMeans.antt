@@ -46,19 +46,12 @@ flow_has bytes options next = record {
 
 -- where the table is at a state, the state has what it needs
 flow-needs : (state : FlowState) (w : World) → valid flow_table_scheme w (Next (n.Flow state)) → FlowInvariant state w
-flow-needs flow.Start w at = at.0.0
 flow-needs flow.BlankLineBefore w at = tt
 flow-needs flow.BeforeContent w at = tt
 flow-needs flow.BlankLineAfter w at = tt
 flow-needs flow.LeafAfter w at = tt
 flow-needs flow.After w at = tt
-flow-needs flow.BeforeCodeIndented w at = at.0.0
-flow-needs flow.BeforeRaw w at = at.0.0
-flow-needs flow.BeforeHtml w at = at.0.0
-flow-needs flow.BeforeHeadingAtx w at = at.0.0
-flow-needs flow.BeforeHeadingSetext w at = at.0.0
-flow-needs flow.BeforeThematicBreak w at = at.0.0
-flow-needs flow.BeforeGfmTable w at = at.0.0
+flow-needs _ w at = at.0.0
 
 containers_at : (feed : Feed) (next : Rule) (state : DocumentState) (w : World) →
     HasFlow (flow_behaves_by w.setting.bytes w.setting.options next) w.setting.options next → Sees feed w →

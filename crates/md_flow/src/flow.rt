@@ -11,7 +11,7 @@
 ghost use Rattle.std.specs.Prelude.{◌≡◌, ◌≢◌, List, false, true, ℕ};
 ghost use Rattle.md_engine.specs.declared.configuration.ParseOptions.{ParseOptions};
 ghost use Rattle.md_meaning.specs.Rest.{is_white};
-ghost use Rattle.md_registry.specs.Dispatch.{IsOutsideRow};
+ghost use Rattle.md_registry.specs.Dispatch.{IsOutsideEnd, IsOutsideRow};
 ghost use Rattle.md_engine.specs.Full.{IsFull, OnError};
 ghost use Rattle.md_engine.specs.World.{world};
 ghost use Rattle.md_engine.specs.declared.state.Name.{Name as StateName};
@@ -48,6 +48,7 @@ pub fn start(tokenizer: &mut Tokenizer) -> State
     ensures state { IsFlowState FlowState.Start (world tokenizer.old) result tokenizer.new }
     ensures outside { (options : ParseOptions) (column byte : ℕ) (bytes : List ℕ) → is_white byte ≡ false →
         IsOutsideRow options column byte bytes }
+    ensures ended { (options : ParseOptions) (column : ℕ) → IsOutsideEnd options column }
 {
     match tokenizer.current {
         None => State::Retry(StateName::Flow(FlowState::BlankLineBefore)),

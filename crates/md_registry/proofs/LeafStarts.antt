@@ -103,9 +103,7 @@ setext-taken options on r starts =
         (cond x (Some Fence)
         (cond h (Some HtmlFlow)
         (cond y (Some HeadingAtx)
-        (cond s (Some HeadingSetext)
-        (cond (break_leaf.starts options on r) (Some ThematicBreak)
-        (cond (table_leaf.starts options on r) (Some GfmTable) None))))))
+        (cond s (Some HeadingSetext) (first_of (λ l. (leaf l).starts options on r) (following HeadingSetext))))))
 
 -- where a line has the bytes of an underline, but no text that it may turn, no leaf starts
 pub lost-none : (options : ParseOptions) (at : OpenText) (r : Rest) (depth : ℕ) →

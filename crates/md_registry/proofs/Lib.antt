@@ -29,4 +29,3 @@ pub mod FlowSteps
 pub mod Dispatch
 pub mod Fence
 pub mod LeafRests
-pub mod OutsideRow

@@ -45,6 +45,8 @@ use Rattle.proof_content_laws.proofs.Paragraph.Laws.{paragraph-laws}
 use Rattle.md_registry.proofs.PlainLaws.{PlainLaws}
 use Rattle.proof_frame.proofs.TextLaws.{TextLaws}
 use Rattle.proof_leaf_laws.proofs.ThematicBreak.Laws.{break-laws}
+use Rattle.md_outline.specs.HeadingDepths.{is_shallow}
+use Rattle.proof_leaf_laws.proofs.HeadingAtx.Found.{heading-shallow}
 
 -- Leaves.
 
@@ -59,6 +61,13 @@ laws HeadingAtx = heading-laws
 laws HeadingSetext = setext-laws heading_resolver
 laws ThematicBreak = break-laws heading_resolver
 laws GfmTable = table-laws heading_resolver
+
+-- An outline can show the block of a leaf that always ends on its line.
+pub block-shallow : (l : LeafName) → (leaf l).ends ≡ true → (options : ParseOptions) (on : HeldLeaf) (r : Rest) →
+    (leaf l).starts options on r ≡ true → is_shallow ((leaf l).block r) ≡ true
+block-shallow HeadingAtx ends options on r starts = heading-shallow options r starts
+block-shallow ThematicBreak ends options on r starts = refl
+block-shallow _ ends options on r starts = absurd (cc)
 
 -- A leaf that is tried after others is asked whichever leaf is open.
 

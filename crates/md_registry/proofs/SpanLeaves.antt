@@ -1,6 +1,7 @@
 -- Leaves of several lines: what the first line of one leaves open, which leaf takes its further lines, that its lines
 -- are joined, and what is known of one that is open between two lines.
 use Rattle.std.proofs.Common.{◌≡◌, Bool, true, false, cond, ◌&&◌, ◌||◌, List, [], ◌∷◌, ◌++◌, refl, sym, ◌∙◌, ap, ℕ}
+use Rattle.std.proofs.Common.{subst}
 use Rattle.std.specs.Option.{is_some}
 use Rattle.md_engine.specs.declared.tokenizer.held_leaf.HeldLeaf.TheVariants as held_leaf
 use Rattle.md_code.specs.Fence.{is_open as is_fence}
@@ -21,9 +22,8 @@ use Rattle.proof_literal_laws.specs.Leaf.CodeIndented.{code_further, code_leaf, 
 use Rattle.proof_literal_laws.specs.Leaf.Fence.{fence_leaf, opening_at}
 use Rattle.proof_literal_laws.specs.Leaf.FenceFurther.{fence_further}
 use Rattle.proof_table_laws.specs.Leaf.GfmTable.{may_be_table}
-use Rattle.proof_leaf_laws.specs.Leaf.HeadingAtx.{heading_leaf}
-use Rattle.proof_frame.specs.LeafName.{CodeFurther, CodeIndented, Fence, FenceFurther, HeadingAtx, HeadingSetext}
-use Rattle.proof_frame.specs.LeafName.{GfmTable, HtmlFlow, HtmlFurther, LeafName, ThematicBreak}
+use Rattle.proof_frame.specs.LeafName.{CodeFurther, CodeIndented, Fence, FenceFurther, HeadingSetext, GfmTable}
+use Rattle.proof_frame.specs.LeafName.{HtmlFlow, HtmlFurther, LeafName}
 use Rattle.md_registry.specs.Resolving.{joins_lines}
 use Rattle.proof_literal_laws.proofs.CodeIndented.Cells.{code-rest}
 use Rattle.proof_literal_laws.proofs.CodeIndented.Found.{code-proceeds}
@@ -39,12 +39,11 @@ use Rattle.md_meaning.specs.Html.{HtmlKind, html_ends}
 use Rattle.md_html.specs.Html.{ends_in_front, is_html}
 use Rattle.md_html.specs.HtmlLine as rule
 use Rattle.proof_literal_laws.specs.Leaf.HtmlFlow.{begins_as, html_further, html_leaf, kind_begun}
-use Rattle.proof_leaf_laws.proofs.HeadingAtx.Found.{heading-shallow}
 use Rattle.proof_leaf_laws.proofs.HeadingSetext.Span.{setext-begins, setext-span}
 use Rattle.md_registry.proofs.OpenSpan.{Begun, BecomesShallow, OpenSpan}
 use Rattle.proof_frame.proofs.ShallowBlocks.{shallow-then}
 use Rattle.proof_frame.proofs.SpanLaws.{SpanLaws}
-use Rattle.md_registry.proofs.Registry.{laws}
+use Rattle.md_registry.proofs.Registry.{laws, block-shallow}
 
 -- a line of HTML leaves open what may be open, and an outline can show it
 html-built : (kind : HtmlKind) (lines : List Line) (r : Rest) → IsBuiltLeaf (left_by (html_line kind lines r))
@@ -84,6 +83,21 @@ html-begins options on r starts begins =
     let open_html = (and_parts (is_html on) (not (ends_in_front on && is_blank r.bytes)) starts).0 in
     let bad : true ≡ false = sym open_html ∙ begins in cc
 
+-- a leaf that always ends on its line becomes its block
+single-begun : (l : LeafName) → (leaf l).ends ≡ true → (options : ParseOptions) (on : HeldLeaf) (r : Rest) →
+    (leaf l).starts options on r ≡ true → Begun l options on r
+unfolding IsOpenSpan
+single-begun l ends options on r starts = record {
+  holds = ap (λ (c : LeafResult). kind_of_leaf (left_by c)) is ∙ sym (((laws l).shut ends options on).1 r);
+  built = subst (λ (c : LeafResult). IsBuiltLeaf (left_by c)) (sym is) tt;
+  shallow =
+      subst BecomesShallow (sym is)
+      (λ bs shallow. shallow-then bs ((leaf l).block r) shallow (block-shallow l ends options on r starts));
+}
+  where
+    is : (leaf l).becomes options NoLeaf r ≡ Finished ((leaf l).block r)
+    is = (laws l).finishes ends options NoLeaf r
+
 -- what a line that begins a leaf makes of it
 pub leaf-begun : (l : LeafName) (options : ParseOptions) (on : HeldLeaf) (r : Rest) →
     (leaf l).starts options on r ≡ true → (leaf l).further on ≡ false → Begun l options on r
@@ -103,15 +117,9 @@ leaf-begun HtmlFlow options on r h begins = record {
   shallow = begun-shallow (kind_begun r) r;
 }
 leaf-begun HtmlFurther options on r h begins = absurd (html-begins options on r h begins)
-leaf-begun HeadingAtx options on r h begins = record {
-  holds = refl;
-  built = tt;
-  shallow = λ bs shallow. shallow-then bs (heading_leaf.block r) shallow (heading-shallow options r h);
-}
 leaf-begun HeadingSetext options on r h begins = absurd (setext-begins options on r h begins)
-leaf-begun ThematicBreak options on r h begins =
-    record { holds = refl; built = tt; shallow = λ bs shallow. shallow-then bs Break shallow refl }
 leaf-begun GfmTable options on r h begins = absurd (table-begins options on r h begins)
+leaf-begun _ options on r h begins = single-begun _ refl options on r h
 
 -- after a line of fenced code or of HTML no other leaf of several lines is open,
 none-left : (t : HeldLeaf → Bool) (x y : Bool) (on : HeldLeaf) → t held_leaf.None ≡ false → t on ≡ false →
@@ -191,10 +199,9 @@ span-laws Fence e = fence-span
 span-laws FenceFurther e = further-span fence_leaf fence_further fence-span fence-begins
 span-laws HtmlFlow e = html-span
 span-laws HtmlFurther e = further-span html_leaf html_further html-span html-begins
-span-laws HeadingAtx e = absurd (cc)
 span-laws HeadingSetext e = setext-span
-span-laws ThematicBreak e = absurd (cc)
 span-laws GfmTable e = table-span
+span-laws _ e = absurd (cc)
 
 -- where a leaf of several lines begins, lines are joined
 pub lines-join : (l : LeafName) → (leaf l).ends ≡ false → (options : ParseOptions) (on : HeldLeaf) (r : Rest) →
@@ -223,10 +230,9 @@ lines-join HtmlFlow e options on r starts begins =
     last false false false = refl
     last _ _ _ = refl
 lines-join HtmlFurther e options on r starts begins = absurd (html-begins options on r starts begins)
-lines-join HeadingAtx e options on r starts begins = absurd (cc)
 lines-join HeadingSetext e options on r starts begins = absurd (setext-begins options on r starts begins)
-lines-join ThematicBreak e options on r starts begins = absurd (cc)
 lines-join GfmTable e options on r starts begins = absurd (table-begins options on r starts begins)
+lines-join _ e options on r starts begins = absurd (cc)
 
 -- fenced code or math that is open
 pub fence-open : (o : Opening) (lines : List Line) → is_fence (kind_of_leaf (OpenFence o lines)) ≡ true →

@@ -9,21 +9,7 @@ use Rattle.md_meaning.specs.Outline.{outline}
 -- what is asked for, as far as it is there: all but the constructs of MDX
 abbrev pub built_from : ParseOptions → ParseOptions
 built_from options = record {
-  constructs = record {
-    alerts = options.constructs.alerts;
-    block_quote = options.constructs.block_quote;
-    code_fenced = options.constructs.code_fenced;
-    code_indented = options.constructs.code_indented;
-    definition = options.constructs.definition;
-    frontmatter = options.constructs.frontmatter;
-    gfm_footnote_definition = options.constructs.gfm_footnote_definition;
-    gfm_table = options.constructs.gfm_table;
-    heading_atx = options.constructs.heading_atx;
-    heading_setext = options.constructs.heading_setext;
-    html_flow = options.constructs.html_flow;
-    list_item = options.constructs.list_item;
-    math_flow = options.constructs.math_flow;
-    thematic_break = options.constructs.thematic_break;
+  constructs = record options.constructs {
     mdx_esm = false;
     mdx_expression_flow = false;
     mdx_expression_text = false;

@@ -21,8 +21,7 @@ use Rattle.proof_exact.proofs.Tails.{last_ending}
 use Rattle.proof_exact_lines.proofs.BeginsAt.{BeginsAt}
 use Rattle.proof_frame.specs.EndingName.{ending_name}
 use Rattle.proof_frame.specs.HeldLeaf.{has_lines, kind_of_leaf, may_continue, takes_lazy}
-use Rattle.proof_frame.specs.LeafName.{CodeFurther, CodeIndented, Fence, FenceFurther, GfmTable, HeadingAtx}
-use Rattle.proof_frame.specs.LeafName.{HeadingSetext, HtmlFlow, HtmlFurther, LeafName, ThematicBreak}
+use Rattle.proof_frame.specs.LeafName.{CodeFurther, LeafName}
 use Rattle.proof_frame.specs.Row.{BlankRow, LeafRow, Row, RowKind, TextRow, any_framed, ending_of, is_blank_by}
 use Rattle.proof_frame.specs.Row.{is_empty_row, is_framed}
 use Rattle.proof_frame.proofs.LeafLines.Rest.{row_unread}
@@ -139,16 +138,8 @@ nothing-valid options bytes x r is l kind = go (has_lines r.on) refl
 -- Which lines are blank, though a leaf takes them: those after code.
 
 stays-code : (l : LeafName) → (leaf l).stays_blank ≡ true → l ≡ CodeFurther
-stays-code CodeIndented e = cc
 stays-code CodeFurther e = refl
-stays-code Fence e = cc
-stays-code FenceFurther e = cc
-stays-code HtmlFlow e = cc
-stays-code HtmlFurther e = cc
-stays-code HeadingAtx e = cc
-stays-code HeadingSetext e = cc
-stays-code ThematicBreak e = cc
-stays-code GfmTable e = cc
+stays-code _ e = cc
 
 -- whether it is one after code that does not belong to it, or is not known to belong to it
 abbrev pub IsLast : Role → Rest → RowKind → Type 0

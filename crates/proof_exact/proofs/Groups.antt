@@ -12,8 +12,7 @@ use Rattle.md_meaning.specs.Rest.{trim_start}
 use Rattle.md_exact.specs.Blocks.{events_by, tail}
 use Rattle.md_exact.specs.Leaves.{content_line}
 use Rattle.md_exact.specs.Rows.{Role, Row}
-use Rattle.proof_frame.specs.LeafName.{CodeFurther, CodeIndented, Fence, FenceFurther, GfmTable, HeadingAtx}
-use Rattle.proof_frame.specs.LeafName.{HeadingSetext, HtmlFlow, HtmlFurther, LeafName, ThematicBreak}
+use Rattle.proof_frame.specs.LeafName.{CodeFurther, HeadingAtx, LeafName, ThematicBreak}
 use Rattle.proof_frame.specs.Row.{BlankRow, LeafRow, Row as FrameRow, RowKind, TextRow, blank_line}
 use Rattle.proof_leaf_laws.specs.Leaf.ThematicBreak.{is_ruled}
 use Rattle.md_registry.specs.Registry.{leaf}
@@ -50,14 +49,7 @@ single-leaf options bytes x r fit ThematicBreak e ends =
     ap (λ (role : Role). events_by options role (x ∷ [])) (first-role options bytes x r fit ThematicBreak e refl)
     ∙ break-one x r.first (read-as options bytes x r fit).at
     (and_parts _ (is_rule (trim_start x.rest.bytes)) ruled).1
-single-leaf options bytes x r fit CodeIndented e ends = cc
-single-leaf options bytes x r fit CodeFurther e ends = cc
-single-leaf options bytes x r fit Fence e ends = cc
-single-leaf options bytes x r fit FenceFurther e ends = cc
-single-leaf options bytes x r fit HtmlFlow e ends = cc
-single-leaf options bytes x r fit HtmlFurther e ends = cc
-single-leaf options bytes x r fit HeadingSetext e ends = cc
-single-leaf options bytes x r fit GfmTable e ends = cc
+single-leaf options bytes x r fit _ e ends = cc
 
 single-events : (options : ParseOptions) (bytes : List ℕ) (x : Row) (r : FrameRow) → Fit options bytes x r →
     IsSingle options bytes r → events_by options x.role (x ∷ []) ≡ leaf_unread bytes r.kind r

@@ -9,8 +9,7 @@ use Rattle.md_engine.specs.declared.tokenizer.held_leaf.OpenText.{OpenText}
 use Rattle.md_exact.specs.Blocks.{is_continued as role_continues, grouped, onto}
 use Rattle.md_exact.specs.Rows as exact
 use Rattle.proof_frame.specs.HeldLeaf.{may_continue, takes_lazy}
-use Rattle.proof_frame.specs.LeafName.{CodeFurther, CodeIndented, Fence, FenceFurther, GfmTable, HeadingAtx}
-use Rattle.proof_frame.specs.LeafName.{HeadingSetext, HtmlFlow, HtmlFurther, LeafName, ThematicBreak}
+use Rattle.proof_frame.specs.LeafName.{CodeFurther, Fence, FenceFurther, GfmTable, HeadingSetext, HtmlFurther, LeafName}
 use Rattle.proof_frame.specs.Row.{BlankRow, LeafRow, Row, RowKind, TextRow, any_framed, is_framed}
 use Rattle.proof_frame.proofs.LeafLines.Bare.{inner, outer}
 use Rattle.proof_frame.proofs.LeafLines.Rest.{row_unread}
@@ -164,16 +163,12 @@ other-code options on r l other further =
 
 line-code : (options : ParseOptions) (on : HeldLeaf) (r : Rest) (l : LeafName) → (leaf l).further on ≡ true →
     is_code ((leaf l).holds options on r) ≡ is_code on
-line-code options on r CodeIndented e = cc
 line-code options on r CodeFurther e = sym e
-line-code options on r Fence e = cc
 line-code options on r FenceFurther e = other-code options on r FenceFurther (λ bad. cc) e
-line-code options on r HtmlFlow e = cc
 line-code options on r HtmlFurther e = other-code options on r HtmlFurther (λ bad. cc) e
-line-code options on r HeadingAtx e = cc
 line-code options on r HeadingSetext e = other-code options on r HeadingSetext (λ bad. cc) e
-line-code options on r ThematicBreak e = cc
 line-code options on r GfmTable e = other-code options on r GfmTable (λ bad. cc) e
+line-code options on r _ e = cc
 
 further-code : (options : ParseOptions) (bytes line : List ℕ) (row : Row) (l : LeafName) →
     IsRow options bytes line row → row.kind ≡ LeafRow l → is_further row.kind row.on ≡ true →

@@ -20,10 +20,9 @@ use Rattle.md_meaning.specs.State.{kept}
 use Rattle.proof_table_laws.proofs.GfmTable.Span.{table-begins}
 use Rattle.md_exact.specs.Blocks.{events_by, tail}
 use Rattle.md_exact.specs.Rows.{Delimiter, Role, Row}
-use Rattle.proof_frame.specs.LeafName.{CodeFurther, CodeIndented, Fence, FenceFurther, GfmTable, HeadingAtx}
-use Rattle.proof_frame.specs.LeafName.{HeadingSetext, HtmlFlow, HtmlFurther, LeafName, ThematicBreak}
-use Rattle.proof_frame.specs.Row.{LeafRow, Row as FrameRow, any_framed, ending_of, last_row, span_after}
-use Rattle.proof_frame.specs.Row.{span_by}
+use Rattle.proof_frame.specs.LeafName.{CodeFurther, CodeIndented, Fence, FenceFurther, GfmTable, HeadingSetext}
+use Rattle.proof_frame.specs.LeafName.{HtmlFlow, HtmlFurther, LeafName}
+use Rattle.proof_frame.specs.Row.{LeafRow, Row as FrameRow, any_framed, ending_of, last_row, span_after, span_by}
 use Rattle.proof_frame.proofs.LeafLines.Bare.{inner, outer}
 use Rattle.md_registry.specs.Registry.{further_of, leaf}
 use Rattle.md_registry.proofs.UnderNames.{heads-table}
@@ -276,8 +275,7 @@ leaf-same options bytes r rs More events same ess are begins takes put =
         absurd (setext-begins options r.on line.is.rest (starts HeadingSetext kind) first)
     by GfmTable kind several first proceeds =
         absurd (table-begins options r.on line.is.rest (starts GfmTable kind) first)
-    by HeadingAtx kind several first proceeds = absurd (cc)
-    by ThematicBreak kind several first proceeds = absurd (cc)
+    by _ kind several first proceeds = absurd (cc)
 
 -- A table.
 

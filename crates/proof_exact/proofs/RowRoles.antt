@@ -12,8 +12,7 @@ use Rattle.md_meaning.specs.Tree.{Line}
 use Rattle.md_exact.specs.Rows.{AfterCode, Blank, Delimiter, First, FirstText, Further, FurtherText, Head, Role}
 use Rattle.md_exact.specs.Rows.{Underline, role_before}
 use Rattle.proof_frame.specs.HeldLeaf.{kind_of_leaf, may_continue, takes_lazy}
-use Rattle.proof_frame.specs.LeafName.{CodeFurther, CodeIndented, Fence, FenceFurther, GfmTable, HeadingAtx}
-use Rattle.proof_frame.specs.LeafName.{HeadingSetext, HtmlFlow, HtmlFurther, LeafName, ThematicBreak}
+use Rattle.proof_frame.specs.LeafName.{CodeFurther, LeafName}
 use Rattle.proof_frame.specs.Row.{BlankRow, LeafRow, Row, RowKind, TextRow, any_framed, is_framed}
 use Rattle.proof_frame.proofs.LeafLines.Rest.{row_unread}
 use Rattle.proof_literal_laws.proofs.CodeIndented.Rows.{in-framed, row-in}
@@ -227,16 +226,8 @@ following-lazy options bytes line row is = ap takes_lazy is.following ∙ go row
     go TextRow = refl
 
 pub code-further : (l : LeafName) → (leaf l).further held_leaf.Code ≡ true → l ≡ CodeFurther
-code-further CodeIndented e = cc
 code-further CodeFurther e = refl
-code-further Fence e = cc
-code-further FenceFurther e = cc
-code-further HtmlFlow e = cc
-code-further HtmlFurther e = cc
-code-further HeadingAtx e = cc
-code-further HeadingSetext e = cc
-code-further ThematicBreak e = cc
-code-further GfmTable e = cc
+code-further _ e = cc
 
 -- So it is before these lines what its kind says.
 pub role-before : (options : ParseOptions) (bytes : List ℕ) (open_leaf : Leaf) (row : Row) (next : Role)

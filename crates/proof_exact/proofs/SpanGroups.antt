@@ -3,8 +3,8 @@ use Rattle.std.proofs.Common.{◌≡◌, Bool, true, false, cond, List, [], ◌�
 use Rattle.std.specs.Prelude.{◌&&◌, if◌then◌else◌}
 use Rattle.std.proofs.lemmas.Bool.{and_parts}
 use Rattle.md_engine.specs.declared.tokenizer.held_leaf.HeldLeaf.{HeldLeaf}
-use Rattle.proof_frame.specs.LeafName.{CodeFurther, CodeIndented, Fence, FenceFurther, GfmTable, HeadingAtx}
-use Rattle.proof_frame.specs.LeafName.{HeadingSetext, HtmlFlow, HtmlFurther, LeafName, ThematicBreak}
+use Rattle.proof_frame.specs.LeafName.{CodeFurther, CodeIndented, Fence, FenceFurther, GfmTable, HeadingSetext}
+use Rattle.proof_frame.specs.LeafName.{HtmlFlow, HtmlFurther, LeafName}
 use Rattle.proof_frame.specs.Row.{BlankRow, LeafRow, Row, RowKind, TextRow}
 use Rattle.md_registry.specs.Registry.{leaf}
 use Rattle.proof_rows.specs.Rows.{Group, Headed, LeafLines, Lines, Single, Turned, groups, is_further, is_last}
@@ -25,10 +25,9 @@ further-several Fence on e = refl
 further-several FenceFurther on e = refl
 further-several HtmlFlow on e = refl
 further-several HtmlFurther on e = refl
-further-several HeadingAtx on e = cc
 further-several HeadingSetext on e = refl
-further-several ThematicBreak on e = cc
 further-several GfmTable on e = refl
+further-several _ on e = cc
 
 -- a line of a leaf of several before lines of which the first continues no leaf
 pub span-alone : (row : Row) (gs : List Group) → FirstIs Begins gs → onto_span row gs ≡ LeafLines row [] ∷ gs

@@ -1,33 +1,30 @@
 -- After a line that opens no container: what is the last block of the innermost container.
-use Rattle.std.proofs.Common.{◌≡◌, ℕ, Bool, true, false, cond, ◌&&◌, List, [], ◌∷◌, ◌++◌, drop, length, refl, ap, ap₂}
-use Rattle.std.proofs.Common.{sym, subst, ◌∙◌}
+use Rattle.std.proofs.Common.{◌≡◌, ℕ, Bool, true, false, cond, ◌&&◌, List, [], ◌∷◌, ◌++◌, length, refl, ap, ap₂, sym}
+use Rattle.std.proofs.Common.{subst, ◌∙◌}
 use Rattle.std.specs.Prelude.{◌||◌, ◌==◌, nat_le, nat_lt, reverse, Option, Some, None}
-use Rattle.std.specs.Option.{is_some, option_or}
+use Rattle.std.specs.Option.{is_some}
 use Rattle.md_engine.specs.declared.configuration.ParseOptions.{ParseOptions}
-use Rattle.md_meaning.specs.Ascii.{dollar, hash}
+use Rattle.md_meaning.specs.Ascii.{dollar}
 use Rattle.md_meaning.specs.Definition.{Cut, Defined, cut_definitions, definition_at}
-use Rattle.md_meaning.specs.Html.{HtmlKind, html_ends, html_kind}
-use Rattle.md_meaning.specs.Leaves.{Finished, LeafResult, NoText, Opened, ParagraphContext, Text, allows, break_at}
-use Rattle.md_meaning.specs.Leaves.{closes, code_at, code_continued, code_line, ends_at_blank, fence_at, fence_from}
-use Rattle.md_meaning.specs.Leaves.{fence_continued, is_continued, heading_at, heading_lines, heading_text, html_at}
-use Rattle.md_meaning.specs.Leaves.{html_by, html_continued, html_line, is_fence_marker, is_free, is_head_of, is_rule}
-use Rattle.md_meaning.specs.Leaves.{least_size, may_start, opening, starts, table_at, table_by, table_continued}
+use Rattle.md_meaning.specs.Html.{HtmlKind}
+use Rattle.md_meaning.specs.Leaves.{Finished, LeafResult, NoText, Opened, ParagraphContext, Text, closes}
+use Rattle.md_meaning.specs.Leaves.{code_continued, code_line, ends_at_blank, fence_continued, is_continued}
+use Rattle.md_meaning.specs.Leaves.{html_continued, html_line, is_head_of, starts, table_at, table_by, table_continued}
 use Rattle.md_meaning.specs.Leaves.{underline_depth, underlined, underlined_by, with_line}
-use Rattle.md_meaning.specs.Rest.{Rest, has_small_indent, indent, is_blank, is_parted, line_of, lose, run_len, trim}
-use Rattle.md_meaning.specs.Rest.{trim_start}
+use Rattle.md_meaning.specs.Rest.{Rest, has_small_indent, indent, is_blank, line_of, lose, trim}
 use Rattle.md_meaning.specs.State.{Innermost, Leaf, NoLeaf, OpenCode, OpenFence, OpenHtml, OpenParagraph, OpenTable}
 use Rattle.md_meaning.specs.State.{Opening, ParagraphLine, cut, fence_block, shut_paragraph, texts, then_block}
 use Rattle.md_meaning.specs.State.{then_definitions, then_leaf, then_paragraph}
 use Rattle.md_meaning.specs.Step.{became, fresh_by, fresh_line, leaf_line, leaf_line_by, on_or_fresh, row_or_text}
 use Rattle.md_meaning.specs.Step.{spot_of, text_by, text_line, underline_or_text}
 use Rattle.md_meaning.specs.Table.{delimiter_columns, row_cells}
-use Rattle.md_meaning.specs.Tree.{Block, Blocks, Break, Definition, End, Fence, Heading, Html, Line, Math, More}
-use Rattle.md_meaning.specs.Tree.{Paragraph}
+use Rattle.md_meaning.specs.Tree.{Block, Blocks, Definition, End, Fence, Line, Math, More, Paragraph, Item}
 use Rattle.md_meaning.proofs.DefinitionLemmas.{cut_definitions-none, cut_definitions-some}
-use Rattle.md_meaning.proofs.FindsLemmas.{Finds, first-found, none-found, some-found, unless-found, when-found}
+use Rattle.md_meaning.proofs.FindsLemmas.{Finds, none-found, some-found, unless-found, when-found}
 use Rattle.md_exact.specs.Rows.{AfterCode, Blank, Delimiter, First, FirstText, Further, FurtherText, Role, Underline}
 use Rattle.md_exact.specs.Rows.{first_or, fresh_role, is_blank_role, role_on}
 use Rattle.proof_exact_lines.specs.Last.{HasLine, item_of, last_after, last_in, last_of}
+use Rattle.proof_exact_lines.proofs.LeafLines.{Starts, html_line-starts, leaf-starts}
 
 -- What a line brings.
 
@@ -45,102 +42,13 @@ Becomes (Finished block) = item_of block ≡ None
 opened-when : (x : Bool) (leaf : Leaf) → IsBuilt leaf → Finds (cond x (Some (Opened leaf)) None) Becomes
 opened-when x leaf h = when-found Becomes x (Some (Opened leaf)) (λ e. some-found Becomes (Opened leaf) h)
 
--- what begins: code, a fence, HTML, a heading or a break
-abbrev pub Starts : LeafResult → Type 0
-Starts (Opened (OpenCode lines)) = Unit {0}
-Starts (Opened (OpenFence o lines)) = Unit {0}
-Starts (Opened (OpenHtml kind lines)) = Unit {0}
-Starts (Opened leaf) = ⊥
-Starts (Finished Break) = Unit {0}
-Starts (Finished (Heading depth lines)) = Unit {0}
-Starts (Finished (Html lines)) = Unit {0}
-Starts (Finished block) = ⊥
-
 starts-become : (c : LeafResult) → Starts c → Becomes c
 starts-become (Opened (OpenCode lines)) h = tt
 starts-become (Opened (OpenFence o lines)) h = tt
 starts-become (Opened (OpenHtml kind lines)) h = tt
 starts-become (Opened _) h = absurd h
-starts-become (Finished Break) h = refl
-starts-become (Finished (Heading depth lines)) h = refl
-starts-become (Finished (Html lines)) h = refl
-starts-become (Finished _) h = absurd h
-
--- where a test passes
-when-starts : (x : Bool) (c : LeafResult) → Starts c → Finds (cond x (Some c) None) Starts
-when-starts x c h = when-found Starts x (Some c) (λ e. some-found Starts c h)
-
-fence-starts : (options : ParseOptions) (columns : ℕ) (bytes : List ℕ) → Finds (fence_from options columns bytes) Starts
-fence-starts options columns [] = none-found Starts
-fence-starts options columns (m ∷ bytes) =
-    let size = run_len m (m ∷ bytes) in
-    let after = drop size (m ∷ bytes) in
-    when-starts (is_fence_marker options m && nat_le (least_size m) size && allows m after)
-    (Opened (OpenFence (opening m size columns (trim_start after)) [])) tt
-
-html_line-starts : (kind : HtmlKind) (lines : List Line) (r : Rest) → Starts (html_line kind lines r)
-html_line-starts kind lines r = go (html_ends kind r.bytes)
-  where
-    go : (x : Bool) → Starts (cond x (Finished (Html (lines ++ line_of r ∷ [])))
-        (Opened (OpenHtml kind (lines ++ line_of r ∷ []))))
-    go true = tt
-    go false = tt
-
-html-starts : (against : ParagraphContext) (r : Rest) (kind : Option HtmlKind) → Finds (html_by against r kind) Starts
-html-starts against r None = none-found Starts
-html-starts against r (Some kind) =
-    when-found Starts (may_start against kind) (Some (html_line kind [] r))
-    (λ e. some-found Starts (html_line kind [] r) (html_line-starts kind [] r))
-
-code_at-starts : (options : ParseOptions) (against : ParagraphContext) (r : Rest) →
-    Finds (code_at options against r) Starts
-unfolding code_at
-code_at-starts options against r =
-    when-starts (options.constructs.code_indented && is_free against && nat_le 4 (indent r))
-    (Opened (OpenCode (code_line r ∷ []))) tt
-
-fence_at-starts : (options : ParseOptions) (r : Rest) → Finds (fence_at options r) Starts
-unfolding fence_at
-fence_at-starts options r =
-    when-found Starts (has_small_indent options r) (fence_from options (indent r) (trim_start r.bytes))
-    (λ e. fence-starts options (indent r) (trim_start r.bytes))
-
-html_at-starts : (options : ParseOptions) (against : ParagraphContext) (r : Rest) →
-    Finds (html_at options against r) Starts
-unfolding html_at
-html_at-starts options against r =
-    when-found Starts (options.constructs.html_flow && has_small_indent options r)
-    (html_by against r (html_kind (trim_start r.bytes))) (λ e. html-starts against r (html_kind (trim_start r.bytes)))
-
-heading_at-starts : (options : ParseOptions) (r : Rest) → Finds (heading_at options r) Starts
-unfolding heading_at
-heading_at-starts options r =
-    let text = trim_start r.bytes in
-    let depth = run_len hash text in
-    when-starts
-    (options.constructs.heading_atx && has_small_indent options r && nat_le 1 depth && nat_le depth 6
-    && is_parted (drop depth text))
-    (Finished (Heading depth (heading_lines (heading_text (drop depth text))))) tt
-
-break_at-starts : (options : ParseOptions) (r : Rest) → Finds (break_at options r) Starts
-unfolding break_at
-break_at-starts options r =
-    when-starts
-    (options.constructs.thematic_break && has_small_indent options r && is_rule (trim_start r.bytes))
-    (Finished Break) tt
-
-pub leaf-starts : (options : ParseOptions) (against : ParagraphContext) (r : Rest) →
-    Finds (starts options against r) Starts
-unfolding starts
-leaf-starts options against r =
-    let heading = option_or (heading_at options r) (break_at options r) in
-    let html = option_or (html_at options against r) heading in
-    first-found Starts (code_at options against r) (option_or (fence_at options r) html)
-    (code_at-starts options against r)
-    (first-found Starts (fence_at options r) html (fence_at-starts options r)
-    (first-found Starts (html_at options against r) heading (html_at-starts options against r)
-    (first-found Starts (heading_at options r) (break_at options r) (heading_at-starts options r)
-    (break_at-starts options r))))
+starts-become (Finished (Item marker digits bs)) h = absurd h
+starts-become (Finished _) h = refl
 
 pub starts-becomes : (options : ParseOptions) (against : ParagraphContext) (r : Rest) →
     Finds (starts options against r) Becomes

@@ -31,7 +31,8 @@ use Rattle.proof_exact_lines.proofs.ExactListed.{line-text, by-new, begun, body_
 use Rattle.proof_exact_lines.proofs.GroupEvents.{first_group, grouped-first, rest_groups}
 use Rattle.proof_exact_lines.proofs.LeafEvents.{Plain, content-items, fence-items, heading-items, leaf-items}
 use Rattle.proof_exact_lines.proofs.LeafEvents.{runs_line-items, table-items}
-use Rattle.proof_exact_lines.proofs.LeafLast.{Starts, fresh-cases, leaf-starts}
+use Rattle.proof_exact_lines.proofs.LeafLast.{fresh-cases}
+use Rattle.proof_exact_lines.proofs.LeafLines.{Starts, leaf-starts}
 use Rattle.proof_exact_lines.proofs.LineWalk.{after}
 use Rattle.proof_exact_lines.proofs.ListWalk.{further-none, none-piece}
 use Rattle.proof_exact_lines.proofs.RowLast.{begins-facts, on_of, remains-facts}

@@ -29,7 +29,8 @@ use Rattle.md_tables.specs.Heads.{begins_further_row, is_chunk, is_table, meets_
 use Rattle.md_tables.proofs.HeadsLemmas.{meets-other, prefix-passed}
 use Rattle.proof_frame.specs.Change.{ends_of}
 use Rattle.proof_frame.specs.HeldLeaf.{may_continue}
-use Rattle.proof_frame.specs.LeafName.{GfmTable, HeadingAtx, HeadingSetext, LeafName, ThematicBreak}
+use Rattle.proof_frame.specs.LeafName.{CodeFurther, CodeIndented, Fence, FenceFurther, GfmTable, HeadingSetext}
+use Rattle.proof_frame.specs.LeafName.{HtmlFlow, HtmlFurther, LeafName}
 use Rattle.md_registry.specs.Registry.{leaf}
 use Rattle.proof_frame.specs.Row.{BlankRow, LeafRow, Row, RowKind, TextRow, ending_events, ending_of}
 use Rattle.proof_rows.specs.Rows.{is_further, leaf_events, line_following, row_events, row_events_by, rows_events}
@@ -160,9 +161,15 @@ blank-met row (below ∷ rows) ends =
 -- A leaf that always ends on its line begins with its own begin.
 single-met : (l : LeafName) → (leaf l).ends ≡ true → (options : ParseOptions) (on : HeldLeaf) (line : List ℕ)
     (p : Point) (es : List Event) → meets_table ((leaf l).added options on line p ++ es) ≡ false
-single-met HeadingAtx e options on line p es = refl
-single-met ThematicBreak e options on line p es = refl
-single-met _ e options on line p es = absurd (cc)
+single-met CodeIndented e options on line p es = absurd (cc)
+single-met CodeFurther e options on line p es = absurd (cc)
+single-met Fence e options on line p es = absurd (cc)
+single-met FenceFurther e options on line p es = absurd (cc)
+single-met HtmlFlow e options on line p es = absurd (cc)
+single-met HtmlFurther e options on line p es = absurd (cc)
+single-met HeadingSetext e options on line p es = absurd (cc)
+single-met GfmTable e options on line p es = absurd (cc)
+single-met _ e options on line p es = refl
 
 -- the begin of a leaf of several lines stops a look, and is no further line
 begin-met : (e : Event) (es : List Event) → IsBegin e → meets_table (e ∷ es) ≡ false

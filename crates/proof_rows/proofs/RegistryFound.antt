@@ -1,5 +1,5 @@
 -- Which leaves of the line definition start on a line: of those that are built the first of the registry, and no other.
-use Rattle.std.proofs.Common.{◌≡◌, Bool, true, false, cond, List, [], ◌∷◌, refl, ap, ap₂, sym, ◌∙◌}
+use Rattle.std.proofs.Common.{◌≡◌, Bool, true, false, cond, List, [], ◌∷◌, refl, ap, ap₂, sym, ◌∙◌, ◌++◌}
 use Rattle.std.specs.Prelude.{◌&&◌, Option, None, Some}
 use Rattle.std.specs.Option.{option_or}
 use Rattle.md_engine.specs.declared.configuration.ParseOptions.{ParseOptions}
@@ -46,22 +46,18 @@ or_table t (Some l) = Some l
 
 pub table-last : (options : ParseOptions) (on : HeldLeaf) (r : Rest) →
     leaf_at options on r ≡ or_table (table_leaf.starts options on r) (other_at options on r)
-table-last options on r =
-    go (code_leaf.starts options on r) (fence_leaf.starts options on r) (html_leaf.starts options on r)
-    (heading_leaf.starts options on r) (setext_leaf.starts options on r) (break_leaf.starts options on r)
-    (table_leaf.starts options on r)
+table-last options on r = by (λ (l : LeafName). (leaf l).starts options on r) other_trials
   where
-    to : Bool → Bool → Bool → Bool → Bool → Bool → Option LeafName → Option LeafName
-    to c x h y s z last =
-        cond c (Some CodeIndented)
-        (cond x (Some Fence)
-        (cond h (Some HtmlFlow)
-        (cond y (Some HeadingAtx) (cond s (Some HeadingSetext) (cond z (Some ThematicBreak) last)))))
-
-    go : (c x h y s z t : Bool) →
-        to c x h y s z (cond t (Some GfmTable) None) ≡ or_table t (to c x h y s z None)
-    go false false false false false false t = refl
-    go _ _ _ _ _ _ t = refl
+    by : (test : LeafName → Bool) (ls : List LeafName) →
+        first_of test (ls ++ GfmTable ∷ []) ≡ or_table (test GfmTable) (first_of test ls)
+    by test [] = refl
+    by test (l ∷ ls) = go (test l) (by test ls)
+      where
+        go : (x : Bool) → first_of test (ls ++ GfmTable ∷ []) ≡ or_table (test GfmTable) (first_of test ls) →
+            cond x (Some l) (first_of test (ls ++ GfmTable ∷ [])) ≡
+            or_table (test GfmTable) (cond x (Some l) (first_of test ls))
+        go true more = refl
+        go false more = more
 
 -- none of them takes a line of text as its head
 abbrev AllHeadless : List LeafName → Type 0

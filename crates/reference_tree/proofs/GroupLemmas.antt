@@ -10,13 +10,9 @@ use Rattle.reference_grammars.specs.declared.tree.Block.TheVariants as b
 use Rattle.reference_grammars.specs.declared.tree.Block.TheOpen as layer
 use Rattle.reference_grammars.specs.declared.tree.Block.TheOpen.{Block-F}
 use Rattle.reference_grammars.specs.declared.tree.Block.TheViews.{out-Block, roll-Block, roll-out-Block}
-use Rattle.reference_grammars.specs.Trees.{meaning, meanings}
-use Rattle.reference_grammars.proofs.MeaningLemmas.{meaning-Frontmatter, meaning-Quote, meaning-Footnote}
-use Rattle.reference_grammars.proofs.MeaningLemmas.{meaning-Heading}
-use Rattle.reference_grammars.proofs.MeaningLemmas.{meaning-Break, meaning-Code, meaning-Html, meaning-Fence}
-use Rattle.reference_grammars.proofs.MeaningLemmas.{meaning-Math}
-use Rattle.reference_grammars.proofs.MeaningLemmas.{meaning-Definition, meaning-Paragraph, meaning-Table}
+use Rattle.reference_grammars.specs.Trees.{meaning, meanings, block_step}
 use Rattle.reference_tree.specs.Groups.{then_blocks, with_items}
+use Rattle.reference_grammars.specs.declared.tree.Block.TheFolds.{fold-roll-Block}
 
 eqb-same : (n : ℕ) → (n == n) ≡ true
 eqb-same n = grind (arith, nat_tests)
@@ -88,22 +84,7 @@ apart-item m n j (t.More (t.ListOf k is) bs) other = by (n == k) refl
         (t.More (t.ListOf n (t.More j t.End)) (t.More (t.ListOf k is) bs)))
     by true e = apart-list m k (t.More j is) bs (subst (λ x. (m == x) ≡ false) (eqb-true n k e) other)
     by false e = apart-list m n (t.More j t.End) (t.More (t.ListOf k is) bs) other
-apart-item m n j (t.More (t.Frontmatter x y) bs) other =
-    apart-list m n (t.More j t.End) (t.More (t.Frontmatter x y) bs) other
-apart-item m n j (t.More (t.Quote kind x) bs) other = apart-list m n (t.More j t.End) (t.More (t.Quote kind x) bs) other
-apart-item m n j (t.More (t.Item x y z) bs) other = apart-list m n (t.More j t.End) (t.More (t.Item x y z) bs) other
-apart-item m n j (t.More (t.Footnote x y) bs) other = apart-list m n (t.More j t.End) (t.More (t.Footnote x y) bs) other
-apart-item m n j (t.More (t.Heading x y) bs) other = apart-list m n (t.More j t.End) (t.More (t.Heading x y) bs) other
-apart-item m n j (t.More t.Break bs) other = apart-list m n (t.More j t.End) (t.More t.Break bs) other
-apart-item m n j (t.More (t.Code x) bs) other = apart-list m n (t.More j t.End) (t.More (t.Code x) bs) other
-apart-item m n j (t.More (t.Html x) bs) other = apart-list m n (t.More j t.End) (t.More (t.Html x) bs) other
-apart-item m n j (t.More (t.Fence x y z u v) bs) other =
-    apart-list m n (t.More j t.End) (t.More (t.Fence x y z u v) bs) other
-apart-item m n j (t.More (t.Math x y z) bs) other = apart-list m n (t.More j t.End) (t.More (t.Math x y z) bs) other
-apart-item m n j (t.More (t.Definition x y z) bs) other =
-    apart-list m n (t.More j t.End) (t.More (t.Definition x y z) bs) other
-apart-item m n j (t.More (t.Paragraph x) bs) other = apart-list m n (t.More j t.End) (t.More (t.Paragraph x) bs) other
-apart-item m n j (t.More (t.Table x y) bs) other = apart-list m n (t.More j t.End) (t.More (t.Table x y) bs) other
+apart-item m n j (t.More _ bs) other = apart-list m n (t.More j t.End) (t.More _ bs) other
 
 -- a block that is neither a list nor an item
 abbrev pub is_other : t.Block → Bool
@@ -113,83 +94,25 @@ is_other _ = true
 
 apart-other : (m : ℕ) (b : t.Block) (bs : t.Blocks) → is_other b ≡ true → Apart m (t.More b bs)
 apart-other m (t.ListOf n is) bs e = absurd (cc)
-apart-other m (t.Frontmatter x y) bs e = λ i. refl
-apart-other m (t.Quote kind x) bs e = λ i. refl
 apart-other m (t.Item x y z) bs e = absurd (cc)
-apart-other m (t.Footnote x y) bs e = λ i. refl
-apart-other m (t.Heading x y) bs e = λ i. refl
-apart-other m t.Break bs e = λ i. refl
-apart-other m (t.Code x) bs e = λ i. refl
-apart-other m (t.Html x) bs e = λ i. refl
-apart-other m (t.Fence x y z u v) bs e = λ i. refl
-apart-other m (t.Math x y z) bs e = λ i. refl
-apart-other m (t.Definition x y z) bs e = λ i. refl
-apart-other m (t.Paragraph x) bs e = λ i. refl
-apart-other m (t.Table x y) bs e = λ i. refl
+apart-other m _ bs e = λ i. refl
 
 -- so is a block of the program that is neither
 pub other-block : (x : Block) → ((m : ℕ) (bs : Vec Block Global) → x ≢ b.ListOf m bs) →
     ((m : ℕ) (digits : Bor (List ℕ)) (bs : Vec Block Global) → x ≢ b.Item m digits bs) → is_other (meaning x) ≡ true
 other-block x no_list no_item = by (out-Block x) refl
   where
-    same : (y : Block) → x ≡ y → is_other (meaning y) ≡ true → is_other (meaning x) ≡ true
-    same y e h = subst (λ z. is_other (meaning z) ≡ true) (sym e) h
-
     by : (l : Block-F Block) → out-Block x ≡ l → is_other (meaning x) ≡ true
     by (layer.ListOf m bs) e = absurd (no_list m bs (sym (roll-out-Block x) ∙ ap roll-Block e ∙ b.rolls-ListOf m bs))
     by (layer.Item m digits bs) e =
         absurd (no_item m digits bs (sym (roll-out-Block x) ∙ ap roll-Block e ∙ b.rolls-Item m digits bs))
-    by (layer.Frontmatter m ls) e =
-        same (b.Frontmatter m ls) (sym (roll-out-Block x) ∙ ap roll-Block e ∙ b.rolls-Frontmatter m ls)
-        (ap is_other (meaning-Frontmatter m ls))
-    by (layer.Quote kind bs) e =
-        same (b.Quote kind bs) (sym (roll-out-Block x) ∙ ap roll-Block e ∙ b.rolls-Quote kind bs)
-        (ap is_other (meaning-Quote kind bs))
-    by (layer.Footnote label bs) e =
-        same (b.Footnote label bs) (sym (roll-out-Block x) ∙ ap roll-Block e ∙ b.rolls-Footnote label bs)
-        (ap is_other (meaning-Footnote label bs))
-    by (layer.Heading depth ls) e =
-        same (b.Heading depth ls) (sym (roll-out-Block x) ∙ ap roll-Block e ∙ b.rolls-Heading depth ls)
-        (ap is_other (meaning-Heading depth ls))
-    by layer.Break e =
-        same b.Break (sym (roll-out-Block x) ∙ ap roll-Block e ∙ b.rolls-Break) (ap is_other meaning-Break)
-    by (layer.Code ls) e =
-        same (b.Code ls) (sym (roll-out-Block x) ∙ ap roll-Block e ∙ b.rolls-Code ls) (ap is_other (meaning-Code ls))
-    by (layer.Html ls) e =
-        same (b.Html ls) (sym (roll-out-Block x) ∙ ap roll-Block e ∙ b.rolls-Html ls) (ap is_other (meaning-Html ls))
-    by (layer.Fence m info meta ls closed) e =
-        same (b.Fence m info meta ls closed)
-        (sym (roll-out-Block x) ∙ ap roll-Block e ∙ b.rolls-Fence m info meta ls closed)
-        (ap is_other (meaning-Fence m info meta ls closed))
-    by (layer.Math meta ls closed) e =
-        same (b.Math meta ls closed) (sym (roll-out-Block x) ∙ ap roll-Block e ∙ b.rolls-Math meta ls closed)
-        (ap is_other (meaning-Math meta ls closed))
-    by (layer.Definition label destination title) e =
-        same (b.Definition label destination title)
-        (sym (roll-out-Block x) ∙ ap roll-Block e ∙ b.rolls-Definition label destination title)
-        (ap is_other (meaning-Definition label destination title))
-    by (layer.Paragraph ls) e =
-        same (b.Paragraph ls) (sym (roll-out-Block x) ∙ ap roll-Block e ∙ b.rolls-Paragraph ls)
-        (ap is_other (meaning-Paragraph ls))
-    by (layer.Table delimiter rows) e =
-        same (b.Table delimiter rows) (sym (roll-out-Block x) ∙ ap roll-Block e ∙ b.rolls-Table delimiter rows)
-        (ap is_other (meaning-Table delimiter rows))
+    by _ e =
+        ap is_other
+        (ap meaning (sym (roll-out-Block x) ∙ ap roll-Block e) ∙ fold-roll-Block t.Block block_step _)
 
 with_front-other : (b : t.Block) (bs : t.Blocks) → is_other b ≡ true → with_front b bs ≡ t.More b bs
-with_front-other (t.ListOf n is) bs e = refl
-with_front-other (t.Frontmatter x y) bs e = refl
-with_front-other (t.Quote kind x) bs e = refl
 with_front-other (t.Item x y z) bs e = absurd (cc)
-with_front-other (t.Footnote x y) bs e = refl
-with_front-other (t.Heading x y) bs e = refl
-with_front-other t.Break bs e = refl
-with_front-other (t.Code x) bs e = refl
-with_front-other (t.Html x) bs e = refl
-with_front-other (t.Fence x y z u v) bs e = refl
-with_front-other (t.Math x y z) bs e = refl
-with_front-other (t.Definition x y z) bs e = refl
-with_front-other (t.Paragraph x) bs e = refl
-with_front-other (t.Table x y) bs e = refl
+with_front-other _ bs e = refl
 
 -- what was flushed, and then blocks onto which its items do not join
 flushed-then : (m : ℕ) (done is flushed bs : t.Blocks) → flushed ≡ then_blocks done (with_items m is t.End) →

@@ -27,16 +27,7 @@ mutual
   outline-block depth (t.Footnote label bs) =
       ap (λ xs. entry depth word.Footnote ∷ entry_with (depth + 1) word.Label label ∷ xs)
       (outline_placed (depth + 1) bs)
-  outline-block depth (t.Frontmatter x y) = sym (append-nil (block_entries depth (t.Frontmatter x y)))
-  outline-block depth (t.Heading x y) = sym (append-nil (block_entries depth (t.Heading x y)))
-  outline-block depth t.Break = refl
-  outline-block depth (t.Code x) = sym (append-nil (block_entries depth (t.Code x)))
-  outline-block depth (t.Html x) = sym (append-nil (block_entries depth (t.Html x)))
-  outline-block depth (t.Fence x y z u v) = sym (append-nil (block_entries depth (t.Fence x y z u v)))
-  outline-block depth (t.Math x y z) = sym (append-nil (block_entries depth (t.Math x y z)))
-  outline-block depth (t.Definition x y z) = sym (append-nil (block_entries depth (t.Definition x y z)))
-  outline-block depth (t.Paragraph x) = sym (append-nil (block_entries depth (t.Paragraph x)))
-  outline-block depth (t.Table x y) = sym (append-nil (block_entries depth (t.Table x y)))
+  outline-block depth _ = sym (append-nil _)
 
   pub outline_placed : (depth : ℕ) (bs : t.Blocks) → outline depth bs ≡ own_lines (placed depth bs)
   outline_placed depth t.End = refl
@@ -67,16 +58,7 @@ mutual
   labels-block depth (t.Item m digits bs) = labels_placed (depth + 1) bs
   labels-block depth (t.Footnote label bs) =
       ap (both (own_labels (t.Footnote label bs))) (labels_placed (depth + 1) bs)
-  labels-block depth (t.Frontmatter x y) = refl
-  labels-block depth (t.Heading x y) = refl
-  labels-block depth t.Break = refl
-  labels-block depth (t.Code x) = refl
-  labels-block depth (t.Html x) = refl
-  labels-block depth (t.Fence x y z u v) = refl
-  labels-block depth (t.Math x y z) = refl
-  labels-block depth (t.Definition x y z) = refl
-  labels-block depth (t.Paragraph x) = refl
-  labels-block depth (t.Table x y) = refl
+  labels-block depth _ = refl
 
   pub labels_placed : (depth : ℕ) (bs : t.Blocks) → labels bs ≡ labels_at (placed depth bs)
   labels_placed depth t.End = refl
@@ -96,19 +78,7 @@ left_push (k ∷ levels) l =
 -- a block, and then those in it
 pub placed-inside : (depth : ℕ) (b : t.Block) → placed_block depth b ≡ place depth b ∷ placed (depth + 1) (blocks_in b)
 placed-inside depth (t.Quote kind bs) = refl
-placed-inside depth (t.ListOf m is) = refl
-placed-inside depth (t.Item m digits bs) = refl
-placed-inside depth (t.Footnote label bs) = refl
-placed-inside depth (t.Frontmatter x y) = refl
-placed-inside depth (t.Heading x y) = refl
-placed-inside depth t.Break = refl
-placed-inside depth (t.Code x) = refl
-placed-inside depth (t.Html x) = refl
-placed-inside depth (t.Fence x y z u v) = refl
-placed-inside depth (t.Math x y z) = refl
-placed-inside depth (t.Definition x y z) = refl
-placed-inside depth (t.Paragraph x) = refl
-placed-inside depth (t.Table x y) = refl
+placed-inside depth _ = refl
 
 -- the first block of a level is visited: then those in it, then those after it
 pub visited : (before found : List program.Place) (p : program.Place) (old mid new : List Level)
