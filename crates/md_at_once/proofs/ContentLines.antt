@@ -11,7 +11,6 @@ use Rattle.md_engine.specs.declared.event.Name.TheVariants.{Content}
 use Rattle.md_engine.specs.declared.state.content.State.TheVariants as content
 use Rattle.md_engine.specs.declared.state.flow.State.TheVariants as flow
 use Rattle.md_engine.specs.declared.state.Name.TheVariants as n
-use Rattle.md_engine.specs.declared.state.State.{State}
 use Rattle.md_engine.specs.declared.state.State.TheVariants.{Next, Nok}
 use Rattle.md_engine.specs.declared.stay.Stay.TheVariants.{Line}
 use Rattle.md_engine.specs.declared.tokenizer.Frame.{Frame}
@@ -21,7 +20,7 @@ use Rattle.md_engine.specs.Run.{RunsFrom, RunsHere, reading}
 use Rattle.md_engine.specs.Staying.{Sees, SeesAll, SeesSome}
 use Rattle.md_engine.specs.Staying.SeesSome.{Nothing, OneMore}
 use Rattle.md_engine.specs.World.{World, looks}
-use Rattle.md_engine.proofs.Loops.{Arrived, ArrivedHere, ArrivedAt, arrived-first, arrived-runs}
+use Rattle.md_engine.proofs.Loops.{ArrivedHere, ArrivedAt, arrived-first, arrived-runs}
 use Rattle.md_engine.proofs.Walks.{Within, then-holds, then-seen, then-stays, within-more, within-one}
 use Rattle.md_link_definitions.specs.OpenText.{text_following}
 use Rattle.md_events.specs.Events.Nested.{exit}
@@ -131,11 +130,11 @@ content-waits w u x seen within lt all le new is_end =
         ∙ ap (λ (s : Scratch). laid w.events w.frames s) keeps.scratch
 
 -- Where it can be read to its end the attempt is left there, and the line ends.
-pub content-ends : (w u x : World) (to : State) (new : World) → w.current ≡ looks w → Within w → SeesAll Line w u →
+pub content-ends : (w u x : World) → w.current ≡ looks w → Within w → SeesAll Line w u →
     u.point.index < u.setting.limit → x ≡ line_added w.point (reading u) →
-    RunsHere FlowStep (n.Flow flow.After) x to new → RunsHere FlowStep (n.Flow flow.BeforeContent) w to new
-content-ends w u x to new seen within all lt following runs is_end =
-    arrived-runs FlowStep is_end (n.Flow flow.BeforeContent) (n.Flow flow.After) w x to new arrived (runs is_end)
+    ArrivedHere FlowStep (n.Flow flow.BeforeContent) w (n.Flow flow.After) x
+content-ends w u x seen within all lt following is_end s z named from may =
+    subst (λ (y : World). ArrivedAt FlowStep is_end s z (n.Flow flow.After) y) left over
   where
     keeps : Keeps w u
     keeps = some-keeps w u all.some
@@ -165,14 +164,16 @@ content-ends w u x to new seen within all lt following runs is_end =
         ∙ ap (λ (fs : List Frame). laid (both w.events) fs u.scratch) keeps.frames
         ∙ ap (λ (s : Scratch). laid (both w.events) w.frames s) keeps.scratch)
 
-    arrived : Arrived FlowStep is_end (n.Flow flow.BeforeContent) w (n.Flow flow.After) x
-    arrived s z named from may =
-        let at_end = then-seen FlowStep is_end s z (n.Content content.ChunkInside) Line (begins_in w w) (begins_in w u)
+    at_end : ArrivedAt FlowStep is_end s z (n.Content content.ChunkInside) inside
+    at_end =
+        then-seen FlowStep is_end s z (n.Content content.ChunkInside) Line (begins_in w w) (begins_in w u)
         (takes-so (n.Content content.ChunkInside) chunk-takes) (begins w seen within is_end s z named from may) seen
-        (begins-within w within) (all-seen w u all).some lt in
-        let over = then-holds FlowStep is_end s z (n.Content content.ChunkInside) (n.Flow flow.After) inside taken
+        (begins-within w within) (all-seen w u all).some lt
+
+    over : ArrivedAt FlowStep is_end s z (n.Flow flow.After) (reading (record taken { frames = w.frames }))
+    over =
+        then-holds FlowStep is_end s z (n.Content content.ChunkInside) (n.Flow flow.After) inside taken
         (line_frame (length w.events) w.point) w.frames at_end
         (stepped-as (n.Content content.ChunkInside) inside (chunk_inside_code inside true)
         (ap (chunk_inside_code inside) (line-over u lt all.ends))) refl (begins-within w within) refl refl
-        refl within lt in
-        subst (λ (y : World). ArrivedAt FlowStep is_end s z (n.Flow flow.After) y) left over
+        refl within lt

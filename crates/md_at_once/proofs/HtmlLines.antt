@@ -1,10 +1,11 @@
 -- Lines of HTML that are taken in one call: each of their states leaves the text as it is, and where it stays, it stays
 -- where it was.
-use Rattle.std.proofs.Common.{◌≡◌, ◌≢◌, ◌∙◌, Bool, true, false, ap, refl}
+use Rattle.std.proofs.Common.{◌≡◌, ◌≢◌, ◌∙◌, Bool, true, false, ap, refl, subst, sym}
 use Rattle.md_content.proofs.StaysLemmas.{not-ending}
 use Rattle.md_engine.specs.declared.state.html_flow.State.TheVariants as its
 use Rattle.md_engine.specs.declared.state.Name.TheVariants as n
 use Rattle.md_engine.specs.declared.stay.Stay.TheVariants.{Line}
+use Rattle.md_engine.specs.Full.{OnError}
 use Rattle.md_engine.specs.World.{World, looks}
 use Rattle.md_engine.specs.declared.state.State.{State}
 use Rattle.md_engine.specs.declared.state.State.TheVariants.{Error}
@@ -47,6 +48,17 @@ pub blanks : (w : World) (to : State) (new : World) → w.current ≡ looks w �
 blanks w to new seen within to_is new_is fine =
     leaves-once (n.HtmlFlow its.BlankLineBefore) w to new
     (blank-leaves w (ends_line w.current) (sees_white w.current)) to_is new_is fine seen within
+
+-- the state of which wants no memory
+pub blanks-want : (w : World) (to : State) (X : Type 0) → to ≡ (html_transition its.BlankLineBefore w).to →
+    OnError to X
+blanks-want w to X is =
+    subst (λ (s : State). OnError s X) (sym is) (by (ends_line w.current) (sees_white w.current))
+  where
+    by : (x y : Bool) → OnError (moved w (blank_move w.scratch x y)).to X
+    by true y = tt
+    by false true = tt
+    by false false = tt
 
 pub overs : (w : World) (to : State) (new : World) → w.current ≡ looks w → Within w →
     (to ≢ Error → to ≡ (html_transition its.ContinuationAfter w).to) →

@@ -50,7 +50,7 @@ innermost-tried t f (Some shuts) got check ok =
     record { frame = f; outer = is.0; frames = is.1; moves_on = check; ok = ok }
 
 -- where the attempt at it holds it is left
-left-after : (shuts : Bool) (w u : World) (next : State) → IsTried shuts w → Leaves Ok w next u →
+pub left-after : (shuts : Bool) (w u : World) (next : State) → IsTried shuts w → Leaves Ok w next u →
     next ≡ Next (n.Flow (leaf_end shuts))
 left-after shuts w u next h l =
     let e : l.frame ∷ l.outer ≡ h.frame ∷ h.outer = sym l.frames ∙ h.frames in

@@ -10,7 +10,6 @@ use Rattle.md_engine.specs.declared.state.document.State.TheVariants as document
 use Rattle.md_engine.specs.declared.state.flow.State.TheVariants as flow
 use Rattle.md_engine.specs.declared.state.raw_flow.State.TheVariants as its
 use Rattle.md_engine.specs.declared.state.Name.TheVariants as n
-use Rattle.md_engine.specs.declared.state.State.{State}
 use Rattle.md_engine.specs.declared.state.State.TheVariants.{Next, Retry}
 use Rattle.md_engine.specs.declared.stay.Stay.TheVariants.{Line}
 use Rattle.md_engine.specs.declared.tokenizer.Frame.{Frame}
@@ -19,7 +18,7 @@ use Rattle.md_engine.specs.declared.tokenizer.held_leaf.HeldLeaf.{HeldLeaf}
 use Rattle.md_engine.specs.Run.{RunsFrom, RunsHere, reading}
 use Rattle.md_engine.specs.Staying.{SeesAll}
 use Rattle.md_engine.specs.World.{Flags, World, looks}
-use Rattle.md_engine.proofs.Loops.{Arrived, ArrivedHere, ArrivedAt, arrived-first, arrived-runs}
+use Rattle.md_engine.proofs.Loops.{ArrivedHere, ArrivedAt, arrived-first, arrived-runs}
 use Rattle.md_engine.proofs.Walks.{Within, then-holds, then-seen, then-stays, within-more, within-one}
 use Rattle.proof_frame.specs.LeafName.{FenceFurther}
 use Rattle.md_meaning.specs.Rest.{is_white}
@@ -189,11 +188,11 @@ four es a b c d =
     ∙ append_assoc es (a ∷ []) (b ∷ c ∷ d ∷ [])
 
 -- Where it can be read to its end the attempt is left there, and the line ends.
-pub whole-ends : (w u x : World) (to : State) (new : World) → IsWhole w → w.current ≡ looks w → Within w →
-    SeesAll Line (settled w) u → u.point.index < u.setting.limit → x ≡ whole_added w.point (reading u) →
-    RunsHere FlowStep (n.Flow flow.After) x to new → RunsHere FlowStep (n.Document document.FlowInside) w to new
-whole-ends w u x to new h seen within all lt following runs is_end =
-    arrived-runs FlowStep is_end (n.Document document.FlowInside) (n.Flow flow.After) w x to new arrived (runs is_end)
+pub whole-ends : (w u x : World) → IsWhole w → w.current ≡ looks w → Within w → SeesAll Line (settled w) u →
+    u.point.index < u.setting.limit → x ≡ whole_added w.point (reading u) →
+    ArrivedHere FlowStep (n.Document document.FlowInside) w (n.Flow flow.After) x
+whole-ends w u x h seen within all lt following is_end s v named from may =
+    subst (λ (q : World). ArrivedAt FlowStep is_end s v (n.Flow flow.After) q) left done
   where
     c : World
     c = settled w
@@ -242,18 +241,21 @@ whole-ends w u x to new h seen within all lt following runs is_end =
         ∙ ap (λ (s : Scratch). laid (four_of w.events u.flags.leaf) w.frames s) keeps.scratch
         ∙ ap (λ (g : Flags). laid (four_of w.events g.leaf) w.frames c.scratch) keeps.flags)
 
-    arrived : Arrived FlowStep is_end (n.Document document.FlowInside) w (n.Flow flow.After) x
-    arrived s v named from may =
-        let at_end = then-seen FlowStep is_end s v (n.RawFlow its.ContentChunk) Line (begins_in c c) (begins_in c u)
+    at_end : ArrivedAt FlowStep is_end s v (n.RawFlow its.ContentChunk) inside
+    at_end =
+        then-seen FlowStep is_end s v (n.RawFlow its.ContentChunk) Line (begins_in c c) (begins_in c u)
         (takes-so (n.RawFlow its.ContentChunk) chunk-takes) (begins w h seen within is_end s v named from may) seen
-        (begins-within w within) (all-seen c u all).some lt in
-        let at_rest = then-stays FlowStep is_end s v (n.RawFlow its.ContentChunk) (n.RawFlow its.BeforeContentChunk)
-        inside y at_end
+        (begins-within w within) (all-seen c u all).some lt
+
+    at_rest : ArrivedAt FlowStep is_end s v (n.RawFlow its.BeforeContentChunk) y
+    at_rest =
+        then-stays FlowStep is_end s v (n.RawFlow its.ContentChunk) (n.RawFlow its.BeforeContentChunk) inside y at_end
         (stepped-as (n.RawFlow its.ContentChunk) inside (chunk_code inside true) (ap (chunk_code inside) over)) refl
-        in-inside refl refl in
-        let done = then-holds FlowStep is_end s v (n.RawFlow its.BeforeContentChunk) (n.Flow flow.After) y z f w.frames
-        at_rest
+        in-inside refl refl
+
+    done : ArrivedAt FlowStep is_end s v (n.Flow flow.After) (reading (record z { frames = w.frames }))
+    done =
+        then-holds FlowStep is_end s v (n.RawFlow its.BeforeContentChunk) (n.Flow flow.After) y z f w.frames at_rest
         (stepped-as (n.RawFlow its.BeforeContentChunk) y (before_chunk_code y true)
         (ap (before_chunk_code y) over)) refl
-        in-y refl refl refl within lt in
-        subst (λ (q : World). ArrivedAt FlowStep is_end s v (n.Flow flow.After) q) left done
+        in-y refl refl refl within lt

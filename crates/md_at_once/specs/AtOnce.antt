@@ -1,21 +1,25 @@
 -- What functions that take several states in one call know of the states before them and after them.
-use Rattle.std.specs.Prelude.{◌≡◌, ℕ, ◌+◌, ◌<◌, ◌⊎◌, ◌==◌, Bool, true, false, List, [], ◌∷◌, ◌++◌, Option, Some, length}
-use Rattle.std.specs.Prelude.{slice_index}
+use Rattle.std.specs.Prelude.{◌≡◌, ◌≢◌, ℕ, ◌+◌, ◌<◌, ◌⊎◌, ◌==◌, Bool, true, false, List, [], ◌∷◌, ◌++◌, Option, Some}
+use Rattle.std.specs.Prelude.{length, slice_index}
+use Rattle.std.specs.Vec.{vec_capacity, vec_len}
 use Rattle.md_engine.specs.declared.state.Name.{Name as StateName}
 use Rattle.md_engine.specs.declared.state.Name.TheVariants as n
 use Rattle.md_engine.specs.declared.state.State.{State}
-use Rattle.md_engine.specs.declared.state.State.TheVariants.{Next, Nok}
+use Rattle.md_engine.specs.declared.state.State.TheVariants.{Error, Next, Nok, Ok}
 use Rattle.md_engine.specs.declared.state.flow.State.TheVariants as flow
 use Rattle.md_engine.specs.declared.state.list_item.State.TheVariants as its
 use Rattle.md_engine.specs.declared.tokenizer.container.Container.{Container}
 use Rattle.md_engine.specs.declared.tokenizer.Frame.{Frame}
+use Rattle.md_engine.specs.declared.tokenizer.Tokenizer.{Tokenizer}
 use Rattle.md_engine.specs.declared.event.Kind.TheVariants.{Enter}
 use Rattle.md_engine.specs.declared.event.Name.TheVariants.{Content}
 use Rattle.md_engine.specs.declared.resolve.name.Name.TheVariants.{Content as ContentResolver}
 use Rattle.md_engine.specs.declared.event.Point.{Point}
+use Rattle.md_engine.specs.Full.{IsFull, IsFullOf, OnError}
+use Rattle.md_engine.specs.Full.Grown.{Containers, Frames, Resolvers}
 use Rattle.md_engine.specs.Going.{SeesOn}
-use Rattle.md_engine.specs.Run.{RunsHere}
-use Rattle.md_engine.specs.World.{World, looks, registered_before}
+use Rattle.md_engine.specs.Run.{Runs, RunsHere, plain, reading}
+use Rattle.md_engine.specs.World.{World, looks, registered_before, world as world_of}
 use Rattle.md_content.specs.Chunks.{begun, content_link, rest_taken, unbegun}
 use Rattle.md_link_definitions.specs.OpenText.{text_following}
 use Rattle.md_code.specs.Fence.{cleared, held_marker, line_entered}
@@ -24,10 +28,12 @@ use Rattle.md_meaning.specs.Rest.{is_white}
 use Rattle.md_events.specs.Events.Nested.{exit}
 use Rattle.md_events.specs.Look.{looks_after}
 use Rattle.md_events.specs.Spaces.{calmed, sees_white}
+use Rattle.md_events.specs.States.{IsRun}
 use Rattle.md_registry.specs.AtOnce.{opens_none}
 use Rattle.md_registry.specs.LineFlags.{next_container}
 use Rattle.md_registry.specs.Registry.{continues_with}
 use Rattle.md_registry.specs.Flow.{leaf_end}
+use Rattle.md_registry.specs.FlowRule.{HasOpen}
 use Rattle.md_registry.specs.States.{FlowStep}
 
 -- what is at the point may be read, and is seen
@@ -121,3 +127,78 @@ pub record IsNoClose (w : World) : Type 0 where
 -- a further line has begun that closes nothing, as where a closing fence was tried
 abbrev pub unclosed : World → World
 unclosed w = record (line_entered w) { scratch = calmed (cleared w.scratch) }
+
+-- Why a call that takes several states at once wants memory.
+
+-- the list of events has no room for so many more
+abbrev pub LacksRoom : ℕ → Tokenizer → Type 0
+LacksRoom count t = vec_capacity t.events < vec_len t.events + count
+
+-- A list has no room: that of events for the four of a line of code, or another for one more.
+abbrev pub IsShort : Tokenizer → Type 0
+IsShort t = LacksRoom 4 t ⊎ IsFullOf (Frames ∷ Resolvers ∷ Containers ∷ []) t
+
+-- A run from this state gets to where containers are open. There a prefix is taken, or containers end, and of either it
+-- is not said which list wants memory.
+pub record GetsToOpen (is_end : Bool) (s : State) (w : World) : Type 0 where
+  pub to : State
+  pub at : World
+  pub runs : Runs FlowStep is_end s w to at
+  pub opened : HasOpen at
+
+-- so does one from each state of this name that sees what is seen here
+abbrev pub MeetsOpen : StateName → World → Type 0
+MeetsOpen name old =
+    (is_end : Bool) (s : State) (w : World) → plain s ≡ Next name → reading w ≡ old →
+    (is_end ≡ true) ⊎ (w.point.index < w.setting.limit) → GetsToOpen is_end s w
+
+abbrev pub FlowFull : StateName → World → Tokenizer → Type 0
+FlowFull name old new = IsShort new ⊎ MeetsOpen name old
+
+-- the same after a leaf has accepted its line
+abbrev pub LineFull : World → Tokenizer → Type 0
+LineFull old new = IsShort new ⊎ ((is_end : Bool) → GetsToOpen is_end Ok old)
+
+-- the same after any answer, which may be want of memory itself
+abbrev pub EndFull : State → Tokenizer → Tokenizer → Type 0
+EndFull to old new = ((to ≡ Error) × (new ≡ old)) ⊎ ((to ≡ Ok) × LineFull (world_of old) new)
+
+-- What such a call promises: the states of flow run one after the other, and it sees what is at its point after them;
+-- or it answers want of memory, and this is why.
+abbrev pub IsFlowRun : StateName → World → State → Tokenizer → Type 0
+IsFlowRun name old answer new = IsRun FlowStep name old (FlowFull name old new) answer new
+
+-- the same of one that ends no line: there is no room for one more event or attempt
+abbrev pub IsRunInLine : StateName → World → State → Tokenizer → Type 0
+IsRunInLine name old answer new = IsRun FlowStep name old (IsFull new) answer new
+
+-- the constructs of which a call may take several states
+abbrev pub takes_several : StateName → Bool
+takes_several (n.HeadingAtx state) = true
+takes_several (n.GfmTable state) = true
+takes_several (n.HtmlFlow state) = true
+takes_several name = false
+
+-- the same of a state of any construct; of those whose calls take one state it is not said why they want memory
+abbrev pub IsConstructRun : StateName → World → State → Tokenizer → Type 0
+IsConstructRun name old answer new =
+    IsRun FlowStep name old (takes_several name ≡ true → FlowFull name old new) answer new
+
+-- the same of one that only ends a line, and so stays nowhere, from wherever one sees
+pub record IsLineEnd (name : StateName) (old : World) (answer : State) (new : Tokenizer) : Type 0 where
+  pub runs : answer ≢ Error → RunsHere FlowStep name old answer (world_of new)
+  pub sees : answer ≢ Error → (from : World) → SeesOn answer from (world_of new)
+  pub full : OnError answer (FlowFull name old new)
+
+-- the same where the leaf of a line has accepted it
+pub record IsAccepted (old : World) (answer : State) (new : Tokenizer) : Type 0 where
+  pub runs : answer ≢ Error → (is_end : Bool) → Runs FlowStep is_end Ok old answer (world_of new)
+  pub sees : answer ≢ Error → (from : World) → SeesOn answer from (world_of new)
+  pub full : OnError answer (LineFull old new)
+
+-- What a call promises that ends the line after an answer: each run that becomes the answer continues to what the call
+-- answers.
+pub record IsEnded (to : State) (old : Tokenizer) (answer : State) (new : Tokenizer) : Type 0 where
+  pub fine : answer ≢ Error → to ≢ Error
+  pub is_continued : answer ≢ Error → IsContinued to (world_of old) answer (world_of new)
+  pub full : OnError answer (EndFull to old new)

@@ -2,30 +2,28 @@
 //
 // The states of the document, of flow and of constructs are called one after another. Where one look shows what several
 // of them do (a prefix is taken as a whole, no container opens with a byte, a line is content), these functions do the
-// same in one call; each has in its contract that it is a run of those states (`RunsHere`). A line of content is taken
+// same in one call; each has in its contract that it is a run of those states (`IsFlowRun`). A line of content is taken
 // as a whole and ends in the same call; where its end can be read no attempt begins. The next line begins in it too.
 // The pages of the states can be read without them.
 
-ghost use Rattle.std.specs.Prelude.{OnOk, Some, false, length, true, ◌≡◌, ◌≢◌, ◌<◌, ◌≤◌, ◌^◌};
+ghost use Rattle.std.specs.Prelude.{OnOk, Some, false, is_err, length, true, ◌≡◌, ◌<◌, ◌≤◌, ◌^◌};
 ghost use Rattle.md_content.specs.Chunks.{begun};
 ghost use Rattle.md_events.specs.WholeLine.{line_taken};
-ghost use Rattle.md_engine.specs.Going.{SeesOn};
 ghost use Rattle.md_engine.specs.Place.{IsPlaced};
-ghost use Rattle.md_engine.specs.Run.{RunsHere};
 ghost use Rattle.md_engine.specs.Scheme.{valid};
 ghost use Rattle.md_engine.specs.World.{looks, world};
 ghost use Rattle.md_engine.specs.declared.state.Name.{Name as StateName};
 ghost use Rattle.md_engine.specs.declared.state.State.{State};
 ghost use Rattle.md_engine.specs.declared.state.document.State.{State as DocumentState};
 ghost use Rattle.md_at_once.specs.AtOnce.{EndsAtOnce, IsNoLabel, OpensNone, SeesAhead, IsVisible};
-ghost use Rattle.md_at_once.specs.AtOnce.{line_added, line_tried};
+ghost use Rattle.md_at_once.specs.AtOnce.{IsConstructRun, IsFlowRun, IsRunInLine, IsShort, line_added, line_tried};
 ghost use Rattle.md_registry.specs.AtOnce.{ContinuesAtOnce, asking_next, openers_passed};
 ghost use Rattle.md_registry.specs.Flow.{existing_after_transition};
 ghost use Rattle.md_registry.specs.LineFlags.{next_container};
 ghost use Rattle.md_containers.specs.PlainBullet.{IsPlainBullet};
 ghost use Rattle.md_registry.specs.Registry.{opener_front, openers};
 ghost use Rattle.md_registry.specs.Flow.{leaf_end};
-ghost use Rattle.md_registry.specs.States.{FlowStep, flow_table_scheme, is_flow_own};
+ghost use Rattle.md_registry.specs.States.{flow_table_scheme, is_flow_own};
 ghost use Rattle.md_events.specs.Lent.{whole_from};
 ghost use Rattle.md_events.specs.Transition.{IsAt, NeedsNothing};
 ghost use Rattle.md_engine.specs.declared.state.flow.State.{State as FlowState};
@@ -34,6 +32,7 @@ ghost use Rattle.md_engine.specs.declared.state.list_item.State.{State as ItemSt
 
 use crate::line_ends::{end, leaf_end, line_end};
 use crate::{fences, html_lines};
+use md_containers::plain_item;
 use md_engine::class::is_white;
 use md_engine::event::{Content, Event, Kind, Link, Name, Point};
 use md_engine::message::Message;
@@ -136,10 +135,8 @@ fn has_no_indent(tokenizer: &Tokenizer) -> bool
 #[inline(always)]
 pub fn containers_existing(tokenizer: &mut Tokenizer) -> State
     requires { IsAt NeedsNothing (StateName.Document DocumentState.ContainerExistingBefore) (world tokenizer.old) }
-    ensures runs { result ≢ State.Error →
-        RunsHere FlowStep
-        (StateName.Document DocumentState.ContainerExistingBefore) (world tokenizer.old) result (world tokenizer.new) }
-    ensures sees { result ≢ State.Error → SeesOn result (world tokenizer.old) (world tokenizer.new) }
+    ensures run { IsFlowRun (StateName.Document DocumentState.ContainerExistingBefore)
+        (world tokenizer.old) result tokenizer.new }
     ensures opens { (name : StateName) → result ≡ State.Next name → SeesAhead (world tokenizer.new) }
 {
     while continues_at_once(tokenizer) {
@@ -169,13 +166,10 @@ pub fn pass_openers(tokenizer: &mut Tokenizer)
 pub fn opens_at_once(tokenizer: &mut Tokenizer) -> State
     requires at { IsAt NeedsNothing (StateName.Document (opener_front openers)) (world tokenizer.old) }
     requires plain { IsPlainBullet (world tokenizer.old) }
-    ensures runs { result ≢ State.Error →
-        RunsHere FlowStep
-        (StateName.Document (opener_front openers)) (world tokenizer.old) result (world tokenizer.new) }
-    ensures sees { result ≢ State.Error → SeesOn result (world tokenizer.old) (world tokenizer.new) }
+    ensures { IsFlowRun (StateName.Document (opener_front openers)) (world tokenizer.old) result tokenizer.new }
 {
     document::ask(tokenizer, Container::new(choices::plain_opener()));
-    or_error!(choices::take_plain_opening(tokenizer));
+    or_error!(plain_item::take_plain_bullet(tokenizer));
     document::container_new_after(tokenizer)
 }
 
@@ -188,11 +182,16 @@ const CONTENT_LINK: Link = Link {
 
 /// Begins an attempt at a line of content, and the line, at a point before that where the tokenizer is.
 #[inline(never)]
+#[tactic(auto, unfolding(md_engine::specs::Full::IsFullList))]
 fn content_tried(tokenizer: &mut Tokenizer, from: Point) -> Result<(), Message>
     requires { IsPlaced (world tokenizer.old).setting.bytes from }
-    ensures { OnOk result (world tokenizer.new ≡ line_tried from (world tokenizer.old)) }
+    ensures world { OnOk result (world tokenizer.new ≡ line_tried from (world tokenizer.old)) }
+    ensures full { is_err result ≡ true → IsShort tokenizer.new }
 {
-    if tokenizer.frames.reserve(1).is_err() || tokenizer.events.reserve(1).is_err() {
+    if tokenizer.frames.reserve(1).is_err() {
+        return Err(Message);
+    }
+    if tokenizer.events.reserve(1).is_err() {
         return Err(Message);
     }
     let frame = Frame {
@@ -234,7 +233,8 @@ fn line_from<'a>(tokenizer: &Tokenizer<'a>, from: Point) -> &'a [u8]
 fn content_added(tokenizer: &mut Tokenizer, from: Point) -> Result<(), Message>
     requires placed { IsPlaced (world tokenizer.old).setting.bytes from }
     requires order { whole_from from ≤ whole_from (world tokenizer.old).point }
-    ensures { OnOk result (world tokenizer.new ≡ line_added from (world tokenizer.old)) }
+    ensures world { OnOk result (world tokenizer.new ≡ line_added from (world tokenizer.old)) }
+    ensures full { is_err result ≡ true → IsShort tokenizer.new }
 {
     let line = line_from(tokenizer, from);
     let to = tokenizer.point;
@@ -253,10 +253,7 @@ fn content_added(tokenizer: &mut Tokenizer, from: Point) -> Result<(), Message>
 #[inline(always)]
 fn content_begins(tokenizer: &mut Tokenizer) -> State
     requires { IsAt NeedsNothing (StateName.Flow FlowState.BeforeContent) (world tokenizer.old) }
-    ensures runs { result ≢ State.Error →
-        RunsHere FlowStep
-        (StateName.Flow FlowState.BeforeContent) (world tokenizer.old) result (world tokenizer.new) }
-    ensures sees { result ≢ State.Error → SeesOn result (world tokenizer.old) (world tokenizer.new) }
+    ensures { IsFlowRun (StateName.Flow FlowState.BeforeContent) (world tokenizer.old) result tokenizer.new }
 {
     if blank_line::ends_line(tokenizer.current) {
         return flow::before_content(tokenizer);
@@ -275,10 +272,7 @@ fn content_begins(tokenizer: &mut Tokenizer) -> State
 #[inline(always)]
 pub fn heading_begins(tokenizer: &mut Tokenizer) -> State
     requires { IsAt NeedsNothing (StateName.HeadingAtx HeadingState.Start) (world tokenizer.old) }
-    ensures runs { result ≢ State.Error →
-        RunsHere FlowStep
-        (StateName.HeadingAtx HeadingState.Start) (world tokenizer.old) result (world tokenizer.new) }
-    ensures sees { result ≢ State.Error → SeesOn result (world tokenizer.old) (world tokenizer.new) }
+    ensures { IsRunInLine (StateName.HeadingAtx HeadingState.Start) (world tokenizer.old) result tokenizer.new }
 {
     match heading_atx::start(tokenizer) {
         State::Retry(StateName::HeadingAtx(HeadingState::Before)) => heading_atx::opening(
@@ -315,10 +309,7 @@ fn is_heading(state: State) -> bool
 #[inline(always)]
 fn rest_begins(tokenizer: &mut Tokenizer) -> State
     requires { IsAt NeedsNothing (StateName.Flow FlowState.Start) (world tokenizer.old) }
-    ensures runs { result ≢ State.Error →
-        RunsHere FlowStep
-        (StateName.Flow FlowState.Start) (world tokenizer.old) result (world tokenizer.new) }
-    ensures sees { result ≢ State.Error → SeesOn result (world tokenizer.old) (world tokenizer.new) }
+    ensures { IsFlowRun (StateName.Flow FlowState.Start) (world tokenizer.old) result tokenizer.new }
 {
     if choices::content_alone(tokenizer.flags.leaf, tokenizer.current) {
         return content_begins(tokenizer);
@@ -356,10 +347,7 @@ fn opens_none(tokenizer: &Tokenizer) -> bool
 #[inline(always)]
 fn containers_new(tokenizer: &mut Tokenizer) -> State
     requires { IsAt NeedsNothing (StateName.Document (opener_front openers)) (world tokenizer.old) }
-    ensures runs { result ≢ State.Error →
-        RunsHere FlowStep
-        (StateName.Document (opener_front openers)) (world tokenizer.old) result (world tokenizer.new) }
-    ensures sees { result ≢ State.Error → SeesOn result (world tokenizer.old) (world tokenizer.new) }
+    ensures { IsFlowRun (StateName.Document (opener_front openers)) (world tokenizer.old) result tokenizer.new }
 {
     if opens_none(tokenizer) {
         pass_openers(tokenizer);
@@ -379,10 +367,7 @@ fn containers_new(tokenizer: &mut Tokenizer) -> State
 #[inline(always)]
 fn after_containers(tokenizer: &mut Tokenizer) -> State
     requires { IsAt NeedsNothing (StateName.Document DocumentState.ContainersAfter) (world tokenizer.old) }
-    ensures runs { result ≢ State.Error →
-        RunsHere FlowStep
-        (StateName.Document DocumentState.ContainersAfter) (world tokenizer.old) result (world tokenizer.new) }
-    ensures sees { result ≢ State.Error → SeesOn result (world tokenizer.old) (world tokenizer.new) }
+    ensures { IsFlowRun (StateName.Document DocumentState.ContainersAfter) (world tokenizer.old) result tokenizer.new }
 {
     document::containers_after(tokenizer);
     if choices::continues_inside(tokenizer.flags.leaf) {
@@ -399,10 +384,8 @@ fn after_containers(tokenizer: &mut Tokenizer) -> State
 #[inline(always)]
 fn containers(tokenizer: &mut Tokenizer) -> State
     requires { IsAt NeedsNothing (StateName.Document DocumentState.ContainerExistingBefore) (world tokenizer.old) }
-    ensures runs { result ≢ State.Error →
-        RunsHere FlowStep
-        (StateName.Document DocumentState.ContainerExistingBefore) (world tokenizer.old) result (world tokenizer.new) }
-    ensures sees { result ≢ State.Error → SeesOn result (world tokenizer.old) (world tokenizer.new) }
+    ensures { IsFlowRun (StateName.Document DocumentState.ContainerExistingBefore)
+        (world tokenizer.old) result tokenizer.new }
 {
     match containers_existing(tokenizer) {
         State::Next(StateName::Document(DocumentState::ContainerNewBefore)) => {
@@ -435,10 +418,8 @@ fn lines(tokenizer: &mut Tokenizer) -> State
     requires current { (world tokenizer.old).current ≡ looks (world tokenizer.old) }
     requires valid { valid flow_table_scheme (world tokenizer.old)
         (State.Next (StateName.Document DocumentState.ContainerExistingBefore)) }
-    ensures runs { result ≢ State.Error →
-        RunsHere FlowStep
-        (StateName.Document DocumentState.ContainerExistingBefore) (world tokenizer.old) result (world tokenizer.new) }
-    ensures sees { result ≢ State.Error → SeesOn result (world tokenizer.old) (world tokenizer.new) }
+    ensures { IsFlowRun (StateName.Document DocumentState.ContainerExistingBefore)
+        (world tokenizer.old) result tokenizer.new }
 {
     loop {
         let to = containers(tokenizer);
@@ -456,10 +437,7 @@ fn lines(tokenizer: &mut Tokenizer) -> State
 pub fn call_document(tokenizer: &mut Tokenizer, state: DocumentState) -> State
     requires current { (world tokenizer.old).current ≡ looks (world tokenizer.old) }
     requires valid { valid flow_table_scheme (world tokenizer.old) (State.Next (StateName.Document state)) }
-    ensures runs { result ≢ State.Error →
-        RunsHere FlowStep (StateName.Document state)
-        (world tokenizer.old) result (world tokenizer.new) }
-    ensures sees { result ≢ State.Error → SeesOn result (world tokenizer.old) (world tokenizer.new) }
+    ensures { IsFlowRun (StateName.Document state) (world tokenizer.old) result tokenizer.new }
 {
     match state {
         DocumentState::ContainerExistingBefore => lines(tokenizer),
@@ -473,10 +451,7 @@ pub fn call_document(tokenizer: &mut Tokenizer, state: DocumentState) -> State
 pub fn call_flow(tokenizer: &mut Tokenizer, state: FlowState) -> State
     requires current { (world tokenizer.old).current ≡ looks (world tokenizer.old) }
     requires valid { valid flow_table_scheme (world tokenizer.old) (State.Next (StateName.Flow state)) }
-    ensures runs { result ≢ State.Error →
-        RunsHere FlowStep (StateName.Flow state)
-        (world tokenizer.old) result (world tokenizer.new) }
-    ensures sees { result ≢ State.Error → SeesOn result (world tokenizer.old) (world tokenizer.new) }
+    ensures { IsFlowRun (StateName.Flow state) (world tokenizer.old) result tokenizer.new }
 {
     match state {
         FlowState::Start => rest_begins(tokenizer),
@@ -492,10 +467,7 @@ pub fn call_flow(tokenizer: &mut Tokenizer, state: FlowState) -> State
 pub fn call_white(tokenizer: &mut Tokenizer, state: WhiteState) -> State
     requires current { (world tokenizer.old).current ≡ looks (world tokenizer.old) }
     requires valid { valid flow_table_scheme (world tokenizer.old) (State.Next (StateName.SpaceOrTab state)) }
-    ensures runs { result ≢ State.Error →
-        RunsHere FlowStep (StateName.SpaceOrTab state)
-        (world tokenizer.old) result (world tokenizer.new) }
-    ensures sees { result ≢ State.Error → SeesOn result (world tokenizer.old) (world tokenizer.new) }
+    ensures { IsRunInLine (StateName.SpaceOrTab state) (world tokenizer.old) result tokenizer.new }
 {
     space_or_tab::call_at_once(tokenizer, state)
 }
@@ -505,10 +477,7 @@ pub fn call_white(tokenizer: &mut Tokenizer, state: WhiteState) -> State
 fn call_heading(tokenizer: &mut Tokenizer, state: HeadingState) -> State
     requires current { (world tokenizer.old).current ≡ looks (world tokenizer.old) }
     requires valid { valid flow_table_scheme (world tokenizer.old) (State.Next (StateName.HeadingAtx state)) }
-    ensures runs { result ≢ State.Error →
-        RunsHere FlowStep (StateName.HeadingAtx state)
-        (world tokenizer.old) result (world tokenizer.new) }
-    ensures sees { result ≢ State.Error → SeesOn result (world tokenizer.old) (world tokenizer.new) }
+    ensures { IsRunInLine (StateName.HeadingAtx state) (world tokenizer.old) result tokenizer.new }
 {
     match state {
         HeadingState::AtBreak => heading_atx::text(tokenizer),
@@ -522,14 +491,11 @@ fn call_heading(tokenizer: &mut Tokenizer, state: HeadingState) -> State
 fn call_in_table(tokenizer: &mut Tokenizer, state: TableState) -> State
     requires current { (world tokenizer.old).current ≡ looks (world tokenizer.old) }
     requires valid { valid flow_table_scheme (world tokenizer.old) (State.Next (StateName.GfmTable state)) }
-    ensures runs { result ≢ State.Error →
-        RunsHere FlowStep (StateName.GfmTable state)
-        (world tokenizer.old) result (world tokenizer.new) }
-    ensures sees { result ≢ State.Error → SeesOn result (world tokenizer.old) (world tokenizer.new) }
+    ensures { IsRunInLine (StateName.GfmTable state) (world tokenizer.old) result tokenizer.new }
 {
     match place_of(Row::Body, state) {
         Some(place) => row_words::call(tokenizer, Row::Body, place),
-        None => constructs::call(tokenizer, StateName::GfmTable(state)),
+        None => gfm_table::call(tokenizer, state),
     }
 }
 
@@ -538,14 +504,14 @@ fn call_in_table(tokenizer: &mut Tokenizer, state: TableState) -> State
 fn call_table(tokenizer: &mut Tokenizer, first: TableState) -> State
     requires current { (world tokenizer.old).current ≡ looks (world tokenizer.old) }
     requires valid { valid flow_table_scheme (world tokenizer.old) (State.Next (StateName.GfmTable first)) }
-    ensures runs { result ≢ State.Error →
-        RunsHere FlowStep (StateName.GfmTable first)
-        (world tokenizer.old) result (world tokenizer.new) }
-    ensures sees { result ≢ State.Error → SeesOn result (world tokenizer.old) (world tokenizer.new) }
+    ensures { IsRunInLine (StateName.GfmTable first) (world tokenizer.old) result tokenizer.new }
 {
     let mut state = first;
     loop {
         let to = call_in_table(tokenizer, state);
+        if let State::Error = to {
+            return to;
+        }
         let Some(next) = gfm_table::next(tokenizer, to) else {
             return to;
         };
@@ -559,10 +525,7 @@ pub fn call_at_once(tokenizer: &mut Tokenizer, name: StateName) -> State
     requires current { (world tokenizer.old).current ≡ looks (world tokenizer.old) }
     requires valid { valid flow_table_scheme (world tokenizer.old) (State.Next name) }
     requires construct { is_flow_own name ≡ false }
-    ensures runs { result ≢ State.Error →
-        RunsHere FlowStep name (world tokenizer.old)
-        result (world tokenizer.new) }
-    ensures sees { result ≢ State.Error → SeesOn result (world tokenizer.old) (world tokenizer.new) }
+    ensures { IsConstructRun name (world tokenizer.old) result tokenizer.new }
 {
     match name {
         StateName::HeadingAtx(state) => call_heading(tokenizer, state),

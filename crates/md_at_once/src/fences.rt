@@ -3,22 +3,20 @@
 // A line that closes no fence goes from state to state up to its end. Here these states are called one after the other,
 // what is left of the line is taken at once between them, and the line ends. A line that closes nothing by its first
 // byte, and loses no indent, is content as a whole: its events are added at once, and where its end can be read no
-// attempt begins. Each function is a run of the states (`RunsHere`), so the pages of the states can be read without
+// attempt begins. Each function is a run of the states (`IsFlowRun`), so the pages of the states can be read without
 // this one.
 
-ghost use Rattle.std.specs.Prelude.{◌≡◌, ◌≢◌, OnOk, true};
+ghost use Rattle.std.specs.Prelude.{◌≡◌, OnOk, is_err, true};
 ghost use Rattle.md_code.specs.Fence.{FenceNeeds, block_name, chunk_name, cleared, held_indent, held_marker};
-ghost use Rattle.md_engine.specs.Going.{SeesOn};
+ghost use Rattle.md_engine.specs.Full.{Grown, IsFullList};
 ghost use Rattle.md_engine.specs.Place.{IsPlaced};
-ghost use Rattle.md_engine.specs.Run.{RunsHere};
 ghost use Rattle.md_engine.specs.World.{world};
 ghost use Rattle.md_engine.specs.declared.state.Name.{Name as StateName};
 ghost use Rattle.md_engine.specs.declared.state.State.{State};
 ghost use Rattle.md_engine.specs.declared.state.document.State.{State as DocumentState};
 ghost use Rattle.md_engine.specs.declared.state.raw_flow.State.{State as RawState};
-ghost use Rattle.md_at_once.specs.AtOnce.{IsNoClose, unclosed};
+ghost use Rattle.md_at_once.specs.AtOnce.{IsFlowRun, IsNoClose, IsRunInLine, IsShort, unclosed};
 ghost use Rattle.md_at_once.specs.WholeLines.{IsWhole, chunk_event, line_event, settled, whole_added, whole_tried};
-ghost use Rattle.md_registry.specs.States.{FlowStep};
 ghost use Rattle.md_events.specs.Spaces.{calmed};
 ghost use Rattle.md_events.specs.Transition.{IsAt, NeedsNothing};
 
@@ -86,10 +84,7 @@ fn is_further(state: State) -> bool
 #[inline(always)]
 fn chunk(tokenizer: &mut Tokenizer) -> State
     requires { IsAt FenceNeeds (StateName.RawFlow RawState.ContentChunk) (world tokenizer.old) }
-    ensures runs { result ≢ State.Error →
-        RunsHere FlowStep
-        (StateName.RawFlow RawState.ContentChunk) (world tokenizer.old) result (world tokenizer.new) }
-    ensures sees { result ≢ State.Error → SeesOn result (world tokenizer.old) (world tokenizer.new) }
+    ensures { IsRunInLine (StateName.RawFlow RawState.ContentChunk) (world tokenizer.old) result tokenizer.new }
 {
     if blank_line::ends_line(tokenizer.current) {
         return raw_flow::content_chunk(tokenizer);
@@ -105,10 +100,7 @@ fn chunk(tokenizer: &mut Tokenizer) -> State
 #[inline(always)]
 fn chunk_done(tokenizer: &mut Tokenizer) -> State
     requires { IsAt FenceNeeds (StateName.RawFlow RawState.ContentChunk) (world tokenizer.old) }
-    ensures runs { result ≢ State.Error →
-        RunsHere FlowStep
-        (StateName.RawFlow RawState.ContentChunk) (world tokenizer.old) result (world tokenizer.new) }
-    ensures sees { result ≢ State.Error → SeesOn result (world tokenizer.old) (world tokenizer.new) }
+    ensures { IsRunInLine (StateName.RawFlow RawState.ContentChunk) (world tokenizer.old) result tokenizer.new }
 {
     let to = chunk(tokenizer);
     if is_rest(to) {
@@ -121,10 +113,7 @@ fn chunk_done(tokenizer: &mut Tokenizer) -> State
 #[inline(always)]
 fn rest(tokenizer: &mut Tokenizer) -> State
     requires { IsAt FenceNeeds (StateName.RawFlow RawState.BeforeContentChunk) (world tokenizer.old) }
-    ensures runs { result ≢ State.Error →
-        RunsHere FlowStep
-        (StateName.RawFlow RawState.BeforeContentChunk) (world tokenizer.old) result (world tokenizer.new) }
-    ensures sees { result ≢ State.Error → SeesOn result (world tokenizer.old) (world tokenizer.new) }
+    ensures { IsRunInLine (StateName.RawFlow RawState.BeforeContentChunk) (world tokenizer.old) result tokenizer.new }
 {
     let to = raw_flow::before_content_chunk(tokenizer);
     if is_chunk(to) {
@@ -137,10 +126,7 @@ fn rest(tokenizer: &mut Tokenizer) -> State
 #[inline(always)]
 fn taken(tokenizer: &mut Tokenizer) -> State
     requires { IsAt FenceNeeds (StateName.RawFlow RawState.ContentStart) (world tokenizer.old) }
-    ensures runs { result ≢ State.Error →
-        RunsHere FlowStep
-        (StateName.RawFlow RawState.ContentStart) (world tokenizer.old) result (world tokenizer.new) }
-    ensures sees { result ≢ State.Error → SeesOn result (world tokenizer.old) (world tokenizer.new) }
+    ensures { IsRunInLine (StateName.RawFlow RawState.ContentStart) (world tokenizer.old) result tokenizer.new }
 {
     let to = raw_flow::content_start(tokenizer);
     if is_rest(to) {
@@ -153,10 +139,7 @@ fn taken(tokenizer: &mut Tokenizer) -> State
 #[inline(never)]
 fn line(tokenizer: &mut Tokenizer) -> State
     requires { IsAt FenceNeeds (StateName.RawFlow RawState.ContentStart) (world tokenizer.old) }
-    ensures runs { result ≢ State.Error →
-        RunsHere FlowStep
-        (StateName.RawFlow RawState.ContentStart) (world tokenizer.old) result (world tokenizer.new) }
-    ensures sees { result ≢ State.Error → SeesOn result (world tokenizer.old) (world tokenizer.new) }
+    ensures { IsFlowRun (StateName.RawFlow RawState.ContentStart) (world tokenizer.old) result tokenizer.new }
 {
     let to = taken(tokenizer);
     end(tokenizer, to)
@@ -197,7 +180,8 @@ fn calm(tokenizer: &mut Tokenizer)
 /// Begins a further line that closes nothing.
 #[inline(always)]
 fn begin_unclosed(tokenizer: &mut Tokenizer) -> Result<(), Message>
-    ensures { OnOk result (world tokenizer.new ≡ unclosed (world tokenizer.old)) }
+    ensures world { OnOk result (world tokenizer.new ≡ unclosed (world tokenizer.old)) }
+    ensures full { is_err result ≡ true → IsFullList Grown.Events tokenizer.new }
 {
     let name = block_name(held_marker(tokenizer.flags.leaf));
     tokenizer.enter_link(name, FURTHER)?;
@@ -210,10 +194,7 @@ fn begin_unclosed(tokenizer: &mut Tokenizer) -> Result<(), Message>
 fn untried(tokenizer: &mut Tokenizer) -> State
     requires at { IsAt FenceNeeds (StateName.RawFlow RawState.AtNonLazyBreak) (world tokenizer.old) }
     requires none { IsNoClose (world tokenizer.old) }
-    ensures runs { result ≢ State.Error →
-        RunsHere FlowStep
-        (StateName.RawFlow RawState.AtNonLazyBreak) (world tokenizer.old) result (world tokenizer.new) }
-    ensures sees { result ≢ State.Error → SeesOn result (world tokenizer.old) (world tokenizer.new) }
+    ensures { IsFlowRun (StateName.RawFlow RawState.AtNonLazyBreak) (world tokenizer.old) result tokenizer.new }
 {
     or_error!(begin_unclosed(tokenizer));
     line(tokenizer)
@@ -224,10 +205,7 @@ fn untried(tokenizer: &mut Tokenizer) -> State
 #[inline(always)]
 fn tried(tokenizer: &mut Tokenizer) -> State
     requires { IsAt FenceNeeds (StateName.RawFlow RawState.AtNonLazyBreak) (world tokenizer.old) }
-    ensures runs { result ≢ State.Error →
-        RunsHere FlowStep
-        (StateName.RawFlow RawState.AtNonLazyBreak) (world tokenizer.old) result (world tokenizer.new) }
-    ensures sees { result ≢ State.Error → SeesOn result (world tokenizer.old) (world tokenizer.new) }
+    ensures { IsFlowRun (StateName.RawFlow RawState.AtNonLazyBreak) (world tokenizer.old) result tokenizer.new }
 {
     let to = raw_flow::at_non_lazy_break(tokenizer);
     if is_start(to) {
@@ -240,10 +218,7 @@ fn tried(tokenizer: &mut Tokenizer) -> State
 #[inline(always)]
 fn further(tokenizer: &mut Tokenizer) -> State
     requires { IsAt FenceNeeds (StateName.RawFlow RawState.AtNonLazyBreak) (world tokenizer.old) }
-    ensures runs { result ≢ State.Error →
-        RunsHere FlowStep
-        (StateName.RawFlow RawState.AtNonLazyBreak) (world tokenizer.old) result (world tokenizer.new) }
-    ensures sees { result ≢ State.Error → SeesOn result (world tokenizer.old) (world tokenizer.new) }
+    ensures { IsFlowRun (StateName.RawFlow RawState.AtNonLazyBreak) (world tokenizer.old) result tokenizer.new }
 {
     if closes_none(tokenizer) {
         untried(tokenizer)
@@ -303,11 +278,16 @@ fn opening(leaf: HeldLeaf, point: Point) -> (Event, Event)
 
 /// Begins an attempt at a line, and the line, at a point before that where the tokenizer is.
 #[inline(never)]
+#[tactic(auto, unfolding(md_engine::specs::Full::IsFullList))]
 fn whole_tried(tokenizer: &mut Tokenizer, from: Point) -> Result<(), Message>
     requires { IsPlaced (world tokenizer.old).setting.bytes from }
-    ensures { OnOk result (world tokenizer.new ≡ whole_tried from (world tokenizer.old)) }
+    ensures world { OnOk result (world tokenizer.new ≡ whole_tried from (world tokenizer.old)) }
+    ensures full { is_err result ≡ true → IsShort tokenizer.new }
 {
-    if tokenizer.frames.reserve(1).is_err() || tokenizer.events.reserve(2).is_err() {
+    if tokenizer.frames.reserve(1).is_err() {
+        return Err(Message);
+    }
+    if tokenizer.events.reserve(2).is_err() {
         return Err(Message);
     }
     let frame = Frame {
@@ -328,7 +308,8 @@ fn whole_tried(tokenizer: &mut Tokenizer, from: Point) -> Result<(), Message>
 #[inline(always)]
 fn whole_added(tokenizer: &mut Tokenizer, from: Point) -> Result<(), Message>
     requires { IsPlaced (world tokenizer.old).setting.bytes from }
-    ensures { OnOk result (world tokenizer.new ≡ whole_added from (world tokenizer.old)) }
+    ensures world { OnOk result (world tokenizer.new ≡ whole_added from (world tokenizer.old)) }
+    ensures full { is_err result ≡ true → IsShort tokenizer.new }
 {
     let (first, second) = opening(tokenizer.flags.leaf, from);
     let third = Event {
@@ -359,10 +340,7 @@ fn whole_added(tokenizer: &mut Tokenizer, from: Point) -> Result<(), Message>
 fn whole(tokenizer: &mut Tokenizer) -> State
     requires at { IsAt NeedsNothing (StateName.Document DocumentState.FlowInside) (world tokenizer.old) }
     requires whole { IsWhole (world tokenizer.old) }
-    ensures runs { result ≢ State.Error →
-        RunsHere FlowStep
-        (StateName.Document DocumentState.FlowInside) (world tokenizer.old) result (world tokenizer.new) }
-    ensures sees { result ≢ State.Error → SeesOn result (world tokenizer.old) (world tokenizer.new) }
+    ensures { IsFlowRun (StateName.Document DocumentState.FlowInside) (world tokenizer.old) result tokenizer.new }
 {
     settle(tokenizer);
     let from = tokenizer.point;
@@ -379,10 +357,7 @@ fn whole(tokenizer: &mut Tokenizer) -> State
 #[inline(always)]
 fn by_states(tokenizer: &mut Tokenizer) -> State
     requires { IsAt NeedsNothing (StateName.Document DocumentState.FlowInside) (world tokenizer.old) }
-    ensures runs { result ≢ State.Error →
-        RunsHere FlowStep
-        (StateName.Document DocumentState.FlowInside) (world tokenizer.old) result (world tokenizer.new) }
-    ensures sees { result ≢ State.Error → SeesOn result (world tokenizer.old) (world tokenizer.new) }
+    ensures { IsFlowRun (StateName.Document DocumentState.FlowInside) (world tokenizer.old) result tokenizer.new }
 {
     let to = document::flow_inside(tokenizer);
     if is_further(to) {
@@ -395,10 +370,7 @@ fn by_states(tokenizer: &mut Tokenizer) -> State
 #[inline(always)]
 pub fn inside(tokenizer: &mut Tokenizer) -> State
     requires { IsAt NeedsNothing (StateName.Document DocumentState.FlowInside) (world tokenizer.old) }
-    ensures runs { result ≢ State.Error →
-        RunsHere FlowStep
-        (StateName.Document DocumentState.FlowInside) (world tokenizer.old) result (world tokenizer.new) }
-    ensures sees { result ≢ State.Error → SeesOn result (world tokenizer.old) (world tokenizer.new) }
+    ensures { IsFlowRun (StateName.Document DocumentState.FlowInside) (world tokenizer.old) result tokenizer.new }
 {
     if is_whole(tokenizer) {
         whole(tokenizer)

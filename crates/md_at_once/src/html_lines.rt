@@ -2,18 +2,17 @@
 //
 // The states of HTML are called one after the other, up to one that refuses, or that may stay: the table takes what
 // such a one takes. What is left of a line is taken at once, and the line ends. Each function is a run of the states
-// (`RunsHere`), so the pages of the states can be read without this one.
+// (`IsFlowRun`), so the pages of the states can be read without this one.
 
-ghost use Rattle.std.specs.Prelude.{◌≡◌, ◌≢◌, IfSome, None, true};
-ghost use Rattle.md_engine.specs.Going.{SeesOn};
-ghost use Rattle.md_engine.specs.Run.{RunsHere};
+ghost use Rattle.std.specs.Prelude.{◌≡◌, IfSome, None, true};
 ghost use Rattle.md_engine.specs.Scheme.{valid};
 ghost use Rattle.md_engine.specs.World.{looks, world};
 ghost use Rattle.md_engine.specs.declared.state.Name.{Name as StateName};
 ghost use Rattle.md_engine.specs.declared.state.State.{State};
 ghost use Rattle.md_engine.specs.declared.state.html_flow.State.{State as HtmlState};
+ghost use Rattle.md_at_once.specs.AtOnce.{IsFlowRun, IsRunInLine};
 ghost use Rattle.md_html.specs.Html.{HtmlNeeds};
-ghost use Rattle.md_registry.specs.States.{FlowStep, flow_table_scheme};
+ghost use Rattle.md_registry.specs.States.{flow_table_scheme};
 ghost use Rattle.md_events.specs.Transition.{IsAt};
 ghost use Rattle.md_tables.specs.GfmTable.{AnswersWith};
 
@@ -21,7 +20,6 @@ use crate::line_ends::end;
 use md_engine::state::html_flow::State as HtmlState;
 use md_engine::state::{Name as StateName, State};
 use md_engine::tokenizer::Tokenizer;
-use md_flow::constructs;
 use md_html::html_flow;
 use md_leaves::blank_line;
 
@@ -73,10 +71,7 @@ fn is_over(state: State) -> bool
 #[inline(always)]
 fn rest(tokenizer: &mut Tokenizer) -> State
     requires { IsAt HtmlNeeds (StateName.HtmlFlow HtmlState.ContinuationClose) (world tokenizer.old) }
-    ensures runs { result ≢ State.Error →
-        RunsHere FlowStep
-        (StateName.HtmlFlow HtmlState.ContinuationClose) (world tokenizer.old) result (world tokenizer.new) }
-    ensures sees { result ≢ State.Error → SeesOn result (world tokenizer.old) (world tokenizer.new) }
+    ensures { IsRunInLine (StateName.HtmlFlow HtmlState.ContinuationClose) (world tokenizer.old) result tokenizer.new }
 {
     if blank_line::ends_line(tokenizer.current) {
         return html_flow::continuation_close(tokenizer);
@@ -92,10 +87,7 @@ fn rest(tokenizer: &mut Tokenizer) -> State
 #[inline(always)]
 fn rest_done(tokenizer: &mut Tokenizer) -> State
     requires { IsAt HtmlNeeds (StateName.HtmlFlow HtmlState.ContinuationClose) (world tokenizer.old) }
-    ensures runs { result ≢ State.Error →
-        RunsHere FlowStep
-        (StateName.HtmlFlow HtmlState.ContinuationClose) (world tokenizer.old) result (world tokenizer.new) }
-    ensures sees { result ≢ State.Error → SeesOn result (world tokenizer.old) (world tokenizer.new) }
+    ensures { IsRunInLine (StateName.HtmlFlow HtmlState.ContinuationClose) (world tokenizer.old) result tokenizer.new }
 {
     let to = rest(tokenizer);
     if is_over(to) {
@@ -108,10 +100,7 @@ fn rest_done(tokenizer: &mut Tokenizer) -> State
 #[inline(always)]
 fn further_inside(tokenizer: &mut Tokenizer) -> State
     requires { IsAt HtmlNeeds (StateName.HtmlFlow HtmlState.BlankLineBefore) (world tokenizer.old) }
-    ensures runs { result ≢ State.Error →
-        RunsHere FlowStep
-        (StateName.HtmlFlow HtmlState.BlankLineBefore) (world tokenizer.old) result (world tokenizer.new) }
-    ensures sees { result ≢ State.Error → SeesOn result (world tokenizer.old) (world tokenizer.new) }
+    ensures { IsRunInLine (StateName.HtmlFlow HtmlState.BlankLineBefore) (world tokenizer.old) result tokenizer.new }
 {
     let to = html_flow::blank_line_before(tokenizer);
     if is_rest(to) {
@@ -124,10 +113,7 @@ fn further_inside(tokenizer: &mut Tokenizer) -> State
 #[inline(always)]
 fn further(tokenizer: &mut Tokenizer) -> State
     requires { IsAt HtmlNeeds (StateName.HtmlFlow HtmlState.ContinuationStart) (world tokenizer.old) }
-    ensures runs { result ≢ State.Error →
-        RunsHere FlowStep
-        (StateName.HtmlFlow HtmlState.ContinuationStart) (world tokenizer.old) result (world tokenizer.new) }
-    ensures sees { result ≢ State.Error → SeesOn result (world tokenizer.old) (world tokenizer.new) }
+    ensures { IsRunInLine (StateName.HtmlFlow HtmlState.ContinuationStart) (world tokenizer.old) result tokenizer.new }
 {
     let to = html_flow::continuation_start(tokenizer);
     if is_open(to) {
@@ -141,14 +127,12 @@ fn further(tokenizer: &mut Tokenizer) -> State
 fn call_state(tokenizer: &mut Tokenizer, state: HtmlState) -> State
     requires current { (world tokenizer.old).current ≡ looks (world tokenizer.old) }
     requires valid { valid flow_table_scheme (world tokenizer.old) (State.Next (StateName.HtmlFlow state)) }
-    ensures runs { result ≢ State.Error →
-        RunsHere FlowStep (StateName.HtmlFlow state) (world tokenizer.old) result (world tokenizer.new) }
-    ensures sees { result ≢ State.Error → SeesOn result (world tokenizer.old) (world tokenizer.new) }
+    ensures { IsRunInLine (StateName.HtmlFlow state) (world tokenizer.old) result tokenizer.new }
 {
     match state {
         HtmlState::ContinuationClose => rest_done(tokenizer),
         HtmlState::ContinuationStart => further(tokenizer),
-        _ => constructs::call(tokenizer, StateName::HtmlFlow(state)),
+        _ => html_flow::call(tokenizer, state),
     }
 }
 
@@ -168,6 +152,7 @@ fn next(tokenizer: &mut Tokenizer, to: State) -> Option<HtmlState>
     ensures none { result ≡ None → world tokenizer.new ≡ world tokenizer.old }
     ensures some { IfSome result
         (λ next. AnswersWith to (StateName.HtmlFlow next) (world tokenizer.old) (world tokenizer.new)) }
+    ensures error { to ≡ State.Error → tokenizer.new ≡ tokenizer.old }
 {
     match to {
         State::Retry(name) => html_state(name),
@@ -193,9 +178,7 @@ fn next(tokenizer: &mut Tokenizer, to: State) -> Option<HtmlState>
 pub fn call(tokenizer: &mut Tokenizer, first: HtmlState) -> State
     requires current { (world tokenizer.old).current ≡ looks (world tokenizer.old) }
     requires valid { valid flow_table_scheme (world tokenizer.old) (State.Next (StateName.HtmlFlow first)) }
-    ensures runs { result ≢ State.Error →
-        RunsHere FlowStep (StateName.HtmlFlow first) (world tokenizer.old) result (world tokenizer.new) }
-    ensures sees { result ≢ State.Error → SeesOn result (world tokenizer.old) (world tokenizer.new) }
+    ensures { IsFlowRun (StateName.HtmlFlow first) (world tokenizer.old) result tokenizer.new }
 {
     let mut state = first;
     loop {

@@ -3,7 +3,7 @@
 //
 // `at_once` has prefixes, content and headings, `fences` and `html_lines` the further lines of fences and of HTML, and
 // `line_ends` how a line ends in the same call. Each function promises a run of the states that it replaces
-// (`RunsHere`), so the states of `md_flow` can be read without this crate. `table` has the table that the parser runs.
+// (`IsFlowRun`), so the states of `md_flow` can be read without this crate. `table` has the table that the parser runs.
 #![tactic(auto)]
 
 mod at_once;

@@ -3,15 +3,12 @@
 // A leaf has accepted its line, or content has been taken: the attempt at it is left, the state of flow after the leaf
 // and that of the document at the end of the line are called in the same call.
 
-ghost use Rattle.std.specs.Prelude.{Bool, IfSome, Some, false, true, ◌≡◌, ◌≢◌, ◌<◌};
-ghost use Rattle.md_engine.specs.Going.{SeesOn};
-ghost use Rattle.md_engine.specs.Run.{Runs, RunsHere};
-ghost use Rattle.md_engine.specs.World.{World, world};
+ghost use Rattle.std.specs.Prelude.{IfSome, ◌≡◌};
+ghost use Rattle.md_engine.specs.World.{world};
 ghost use Rattle.md_engine.specs.declared.state.Name.{Name as StateName};
 ghost use Rattle.md_engine.specs.declared.state.State.{State};
-ghost use Rattle.md_at_once.specs.AtOnce.{IsContinued, IsTried};
+ghost use Rattle.md_at_once.specs.AtOnce.{IsAccepted, IsEnded, IsLineEnd, IsTried};
 ghost use Rattle.md_registry.specs.Flow.{leaf_end};
-ghost use Rattle.md_registry.specs.States.{FlowStep};
 ghost use Rattle.md_events.specs.Transition.{IsAt, NeedsNothing};
 ghost use Rattle.md_engine.specs.declared.state.flow.State.{State as FlowState};
 
@@ -25,10 +22,7 @@ use md_flow::{document, flow};
 #[inline(always)]
 pub(crate) fn leaf_end(tokenizer: &mut Tokenizer) -> State
     requires { IsAt NeedsNothing (StateName.Flow FlowState.LeafAfter) (world tokenizer.old) }
-    ensures runs { result ≢ State.Error →
-        RunsHere FlowStep
-        (StateName.Flow FlowState.LeafAfter) (world tokenizer.old) result (world tokenizer.new) }
-    ensures sees { result ≢ State.Error → (from : World) → SeesOn result from (world tokenizer.new) }
+    ensures { IsLineEnd (StateName.Flow FlowState.LeafAfter) (world tokenizer.old) result tokenizer.new }
 {
     flow::leaf_after(tokenizer);
     document::flow_end(tokenizer)
@@ -38,10 +32,7 @@ pub(crate) fn leaf_end(tokenizer: &mut Tokenizer) -> State
 #[inline(always)]
 pub(crate) fn line_end(tokenizer: &mut Tokenizer) -> State
     requires { IsAt NeedsNothing (StateName.Flow FlowState.After) (world tokenizer.old) }
-    ensures runs { result ≢ State.Error →
-        RunsHere FlowStep
-        (StateName.Flow FlowState.After) (world tokenizer.old) result (world tokenizer.new) }
-    ensures sees { result ≢ State.Error → (from : World) → SeesOn result from (world tokenizer.new) }
+    ensures { IsLineEnd (StateName.Flow FlowState.After) (world tokenizer.old) result tokenizer.new }
 {
     flow::after(tokenizer);
     document::flow_end(tokenizer)
@@ -51,9 +42,7 @@ pub(crate) fn line_end(tokenizer: &mut Tokenizer) -> State
 #[inline(always)]
 fn line_ends(tokenizer: &mut Tokenizer, shuts: bool) -> State
     requires { IsAt NeedsNothing (StateName.Flow (leaf_end shuts)) (world tokenizer.old) }
-    ensures runs { result ≢ State.Error →
-        RunsHere FlowStep (StateName.Flow (leaf_end shuts)) (world tokenizer.old) result (world tokenizer.new) }
-    ensures sees { result ≢ State.Error → (from : World) → SeesOn result from (world tokenizer.new) }
+    ensures { IsLineEnd (StateName.Flow (leaf_end shuts)) (world tokenizer.old) result tokenizer.new }
 {
     if shuts {
         leaf_end(tokenizer)
@@ -95,9 +84,7 @@ fn tried_leaf(tokenizer: &Tokenizer) -> Option<bool>
 #[inline(always)]
 fn accepted(tokenizer: &mut Tokenizer, shuts: bool) -> State
     requires { IsTried shuts (world tokenizer.old) }
-    ensures runs { result ≢ State.Error → (is_end : Bool) →
-        Runs FlowStep is_end State.Ok (world tokenizer.old) result (world tokenizer.new) }
-    ensures sees { result ≢ State.Error → (from : World) → SeesOn result from (world tokenizer.new) }
+    ensures { IsAccepted (world tokenizer.old) result tokenizer.new }
 {
     match leave(tokenizer, State::Ok) {
         None => State::Ok,
@@ -114,8 +101,7 @@ fn accepted(tokenizer: &mut Tokenizer, shuts: bool) -> State
 /// Ends a line whose leaf has accepted it.
 #[inline(always)]
 pub(crate) fn end(tokenizer: &mut Tokenizer, to: State) -> State
-    ensures fine { result ≢ State.Error → to ≢ State.Error }
-    ensures is_continued { result ≢ State.Error → IsContinued to (world tokenizer.old) result (world tokenizer.new) }
+    ensures { IsEnded to tokenizer.old result tokenizer.new }
 {
     let State::Ok = to else {
         return to;

@@ -24,6 +24,7 @@ returns-in-AtBreak c =
           runs-in HeadingStep FlowStep is_end s v c.text.result w'
           (heading-flows) (c.text.ensures.runs fine is_end s v named sees may));
       sees = c.text.ensures.sees;
+      full = c.text.ensures.full;
     }
 
 pub returns-in-SequenceOpen : goal.returns-in-SequenceOpen
@@ -38,6 +39,7 @@ returns-in-SequenceOpen c =
           runs-in HeadingStep FlowStep is_end s v c.opens.result w'
           (heading-flows) (c.opens.ensures.runs fine is_end s v named sees may));
       sees = c.opens.ensures.sees;
+      full = c.opens.ensures.full;
     }
 
 pub returns-in_default : goal.returns-in_default
@@ -46,4 +48,4 @@ returns-in_default c =
     called-once (n.HeadingAtx c.args.state) (world c.args.tokenizer.now) c.call.result
     (world c.call.new.tokenizer) c.requires.current c.requires.valid (within-world c.args.tokenizer.now) fine
     (c.call.ensures.to fine) (c.call.ensures.world fine) in
-    record { runs = λ fine. (once fine).0; sees = λ fine. (once fine).1 }
+    record { runs = λ fine. (once fine).0; sees = λ fine. (once fine).1; full = c.call.ensures.full }

@@ -26,6 +26,7 @@ returns-in-Some c =
           runs-in (RowStep Body) FlowStep is_end s v c.call.result w' (row-flows)
           (c.call.ensures.runs fine is_end s v named sees may));
       sees = c.call.ensures.sees;
+      full = c.call.ensures.full;
     }
 
 pub returns-in-None : goal.returns-in-None
@@ -34,4 +35,4 @@ returns-in-None c =
     called-once (n.GfmTable c.args.state) (world c.args.tokenizer.now) c.call-in-None.result
     (world c.call-in-None.new.tokenizer) c.requires.current c.requires.valid (within-world c.args.tokenizer.now) fine
     (c.call-in-None.ensures.to fine) (c.call-in-None.ensures.world fine) in
-    record { runs = λ fine. (once fine).0; sees = λ fine. (once fine).1 }
+    record { runs = λ fine. (once fine).0; sees = λ fine. (once fine).1; full = c.call-in-None.ensures.full }

@@ -6,10 +6,10 @@ use Rattle.md_registry.specs.States.{flow_table_scheme}
 use Rattle.md_registry.proofs.GfmTable.Calls.{IsValid}
 use Rattle.md_at_once.proofs.at_once.call_table.Given as goal
 
-abbrev pub invariant-loop-next : goal.invariant-loop-next
-invariant-loop-next l =
+abbrev pub invariant-loop-to : goal.invariant-loop-to
+invariant-loop-to l =
     IsValid (n.GfmTable l.fn.first) (world l.initial.tokenizer)
     (n.GfmTable l.state) (world l.tokenizer)
 
-abbrev pub decreases-loop-next : goal.decreases-loop-next
-decreases-loop-next l = work flow_table_scheme (world l.tokenizer) (Next (n.GfmTable l.state))
+abbrev pub decreases-loop-to : goal.decreases-loop-to
+decreases-loop-to l = work flow_table_scheme (world l.tokenizer) (Next (n.GfmTable l.state))

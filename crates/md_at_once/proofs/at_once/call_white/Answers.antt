@@ -18,7 +18,11 @@ white-flows (n.SpaceOrTab state) w to new e = record {
 }
 white-flows name w to new e = absurd e
 
-pub returns-clause-runs : goal.returns-clause-runs
-returns-clause-runs c = λ fine is_end s v named from may.
-    runs-in WhiteStep FlowStep is_end s v c.call_at_once.result (world c.call_at_once.new.tokenizer) white-flows
-    (c.call_at_once.ensures.runs fine is_end s v named from may)
+pub returns : goal.returns
+returns c = record {
+  runs = λ fine is_end s v named from may.
+      runs-in WhiteStep FlowStep is_end s v c.call_at_once.result (world c.call_at_once.new.tokenizer) white-flows
+      (c.call_at_once.ensures.runs fine is_end s v named from may);
+  sees = c.call_at_once.ensures.sees;
+  full = c.call_at_once.ensures.full;
+}

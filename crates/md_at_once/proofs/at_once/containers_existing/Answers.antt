@@ -1,11 +1,11 @@
-use Rattle.std.proofs.Common.{◌≡◌, ◌⊎◌, ◌<◌, ◌∙◌, Some, false, true, ap, arith, inl, inr, is_ok, refl, subst, sym}
+use Rattle.std.proofs.Common.{◌≡◌, ◌≢◌, ◌⊎◌, ◌<◌, ◌∙◌, Some, false, true, ap, arith, inl, inr, is_ok, refl, subst, sym}
 use Rattle.std.specs.Prelude.{OnOk}
 use Rattle.std.specs.declared.result.Result.{Result}
 use Rattle.md_engine.specs.declared.state.document.State.{State as DocumentState}
 use Rattle.md_engine.specs.declared.state.document.State.TheVariants as document
 use Rattle.md_engine.specs.declared.state.Name.TheVariants as n
-use Rattle.md_engine.specs.declared.state.State.TheVariants.{Next}
-use Rattle.md_engine.specs.Run.{Runs, plain}
+use Rattle.md_engine.specs.declared.state.State.TheVariants.{Error, Next}
+use Rattle.md_engine.specs.Run.{Runs, RunsHere, plain}
 use Rattle.md_engine.specs.Scheme.{cells_left}
 use Rattle.md_engine.specs.World.{World, looks, world}
 use Rattle.md_engine.proofs.Loops.{ArrivedHere, ArrivedAt, call-sees, arrived-calls, arrived-first, not_error}
@@ -20,6 +20,7 @@ use Rattle.md_registry.specs.Registry.{opener_front, openers}
 use Rattle.md_at_once.specs.AtOnce.{EndsAtOnce, SeesAhead}
 use Rattle.md_at_once.proofs.NoIndent.{container-ends, ends-ahead, existing-stays, taken-held}
 use Rattle.md_tables.proofs.RowWords.{on-ok}
+use Rattle.md_at_once.proofs.WantOfMemory.{asked-open, met-following, open-met, state-wants}
 use Rattle.md_at_once.proofs.at_once.containers_existing.Goals as goal
 
 -- the next container was asked, and its prefix was taken
@@ -105,8 +106,22 @@ container_existing_before-requires c = record {
   has = tt;
 }
 
-pub returns-then-has_no_indent-clause-runs : goal.returns-then-has_no_indent-clause-runs
-returns-then-has_no_indent-clause-runs c = λ fine.
+pub returns-in-loop-tokenizer-clause-run : goal.returns-in-loop-tokenizer-clause-run
+returns-in-loop-tokenizer-clause-run c =
+    let first = n.Document document.ContainerExistingBefore in
+    let w = world c.loop-tokenizer.tokenizer in
+    let at_once : ContinuesAtOnce w = c.continues_at_once.ensures.proceeds c.loop-tokenizer-test.true in
+    record {
+      runs = λ fine. absurd (fine refl);
+      sees = λ fine. absurd (fine refl);
+      full =
+          inr
+          (met-following first first (world c.args.tokenizer.now) w c.loop-tokenizer.invariant.arrived
+          (open-met first w (asked-open w at_once)));
+    }
+
+pub returns-then-has_no_indent-clause-run : goal.returns-then-has_no_indent-clause-run
+returns-then-has_no_indent-clause-run c =
     let old = world c.args.tokenizer.now in
     let w = world c.continues_at_once.new.tokenizer in
     let first = n.Document document.ContainerExistingBefore in
@@ -115,6 +130,8 @@ returns-then-has_no_indent-clause-runs c = λ fine.
     let seen : w.current ≡ looks w = subst (λ (y : World). y.current ≡ looks y) is c.loop-tokenizer.invariant.current in
     let arrived : ArrivedHere FlowStep first old first w =
     subst (λ (y : World). ArrivedHere FlowStep first old first y) is c.loop-tokenizer.invariant.arrived in
+    let runs : RunsHere FlowStep first old (Next (n.Document c.first_opener.result))
+    (world c.ask_next-then-has_no_indent.new.tokenizer) =
     λ is_end s v named from may.
     let run = container-ends is_end s v w ends seen (within-world c.continues_at_once.new.tokenizer)
     (arrived is_end s v named from may) in
@@ -124,7 +141,8 @@ returns-then-has_no_indent-clause-runs c = λ fine.
     (sym c.ask_next-then-has_no_indent.ensures) run in
     subst (λ (x : DocumentState). Runs FlowStep is_end s v (Next (n.Document x))
     (world c.ask_next-then-has_no_indent.new.tokenizer))
-    (sym c.first_opener.ensures) at
+    (sym c.first_opener.ensures) at in
+    record { runs = λ fine. runs; sees = λ fine. tt; full = tt }
 
 pub returns-then-has_no_indent-clause-opens : goal.returns-then-has_no_indent-clause-opens
 returns-then-has_no_indent-clause-opens c = λ name e.
@@ -140,36 +158,37 @@ returns-clause-opens c = λ name e.
     let fine = not_error c.container_existing_before.result name (ap plain e) in
     absurd (existing-stays w name (sym (c.container_existing_before.ensures.to fine) ∙ e))
 
-pub returns-clause-runs : goal.returns-clause-runs
-returns-clause-runs c = λ fine.
+pub returns-clause-run : goal.returns-clause-run
+returns-clause-run c =
+    let old = world c.args.tokenizer.now in
     let w = world c.continues_at_once.new.tokenizer in
     let first = n.Document document.ContainerExistingBefore in
     let arrived : ArrivedHere FlowStep first (world c.args.tokenizer.now) first w =
     subst (λ (y : World). ArrivedHere FlowStep first (world c.args.tokenizer.now) first y)
     (sym c.continues_at_once.ensures.same) c.loop-tokenizer.invariant.arrived in
-    arrived-calls FlowStep first first (world c.args.tokenizer.now) w c.container_existing_before.result
-    (world c.container_existing_before.new.tokenizer) arrived
-    (record {
-      to_is = c.container_existing_before.ensures.to fine;
-      new_is = c.container_existing_before.ensures.world fine;
-    }) fine
-    (ap (λ (x : World). x.setting) (c.container_existing_before.ensures.world fine) ∙ (existing-remains w).1)
-    (within-world c.continues_at_once.new.tokenizer)
-
-pub returns-clause-sees : goal.returns-clause-sees
-returns-clause-sees c = λ fine.
-    let old = world c.args.tokenizer.now in
-    let w = world c.continues_at_once.new.tokenizer in
+    let to = c.container_existing_before.result in
     let w' = world c.container_existing_before.new.tokenizer in
     let is = sym c.continues_at_once.ensures.same in
     let seen : w.current ≡ looks w = subst (λ (y : World). y.current ≡ looks y) is c.loop-tokenizer.invariant.current in
     let may : (w.point ≡ old.point) ⊎ (w.point.index < w.setting.limit) =
     subst (λ (y : World). (y.point ≡ old.point) ⊎ (y.point.index < y.setting.limit)) is
     c.loop-tokenizer.invariant.may in
-    let same : w'.setting ≡ w.setting =
+    let kept = λ (fine : to ≢ Error).
     ap (λ (x : World). x.setting) (c.container_existing_before.ensures.world fine) ∙ (existing-remains w).1 in
-    sees-from c.container_existing_before.result old w w'
-    (call-sees c.container_existing_before.result w w'
-    (remains-of (existing_before_transition w) c.container_existing_before.result w w'
-    (c.container_existing_before.ensures.to fine) (c.container_existing_before.ensures.world fine)
-    (existing-remains w).0) same seen) same may
+    record {
+      runs = λ fine.
+          arrived-calls FlowStep first first old w to w' arrived
+          (record {
+            to_is = c.container_existing_before.ensures.to fine;
+            new_is = c.container_existing_before.ensures.world fine;
+          }) fine (kept fine) (within-world c.continues_at_once.new.tokenizer);
+      sees = λ fine.
+          sees-from to old w w'
+          (call-sees to w w'
+          (remains-of (existing_before_transition w) to w w'
+          (c.container_existing_before.ensures.to fine) (c.container_existing_before.ensures.world fine)
+          (existing-remains w).0) (kept fine) seen) (kept fine) may;
+      full =
+          state-wants first old to c.container_existing_before.new.tokenizer
+          c.container_existing_before.ensures.full;
+    }

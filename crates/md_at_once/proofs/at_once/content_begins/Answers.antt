@@ -1,27 +1,40 @@
-use Rattle.std.proofs.Common.{◌≡◌, ◌≤◌, ◌∙◌, ap, is_ok, refl, subst, sym, true}
+use Rattle.std.proofs.Common.{◌≡◌, ◌≢◌, ◌≤◌, ◌∙◌, ap, is_ok, refl, subst, sym, true}
 use Rattle.md_engine.specs.Place.{IsPlaced}
 use Rattle.md_engine.specs.Run.{reading}
 use Rattle.md_engine.specs.Staying.{SeesSome}
 use Rattle.md_engine.specs.World.{Setting, World, world}
 use Rattle.md_engine.specs.declared.state.Name.TheVariants as n
 use Rattle.md_engine.specs.declared.state.flow.State.TheVariants as flow
+use Rattle.md_engine.specs.declared.state.State.TheVariants.{Error}
 use Rattle.md_engine.specs.declared.stay.Stay.TheVariants.{Line}
 use Rattle.md_engine.specs.declared.tokenizer.Tokenizer.{Tokenizer}
+use Rattle.md_engine.proofs.Loops.{ArrivedHere, arrived-runs}
 use Rattle.md_engine.proofs.StayLemmas.{some-setting, within-world}
 use Rattle.md_events.specs.Lent.{whole_from}
+use Rattle.md_registry.specs.States.{FlowStep}
 use Rattle.md_registry.proofs.LinesAtOnce.{leaves-once}
 use Rattle.md_at_once.specs.AtOnce.{line_added, line_tried}
 use Rattle.md_at_once.proofs.ContentLines.{content-ends, content-waits, some-order}
 use Rattle.md_events.proofs.SpacesTermination.{inside-line}
 use Rattle.md_leaves.proofs.HeadingCalls.{ahead}
 use Rattle.md_tables.proofs.RowWords.{on-ok}
+use Rattle.md_at_once.proofs.WantOfMemory.{state-wants, wants-following}
 use Rattle.md_at_once.proofs.at_once.content_begins.Goals as goal
 
-pub returns-then-ends_line-clause-runs : goal.returns-then-ends_line-clause-runs
-returns-then-ends_line-clause-runs c = λ fine.
-    (leaves-once (n.Flow flow.BeforeContent) (world c.args.tokenizer.now) c.before_content.result
-    (world c.before_content.new.tokenizer) ((refl, refl), refl) (c.before_content.ensures.to fine)
-    (c.before_content.ensures.world fine) fine c.requires.current (within-world c.args.tokenizer.now)).0
+pub returns-then-ends_line : goal.returns-then-ends_line
+returns-then-ends_line c =
+    let w = world c.args.tokenizer.now in
+    let all = λ (fine : c.before_content.result ≢ Error).
+    leaves-once (n.Flow flow.BeforeContent) w c.before_content.result (world c.before_content.new.tokenizer)
+    ((refl, refl), refl) (c.before_content.ensures.to fine) (c.before_content.ensures.world fine) fine
+    c.requires.current (within-world c.args.tokenizer.now) in
+    record {
+      runs = λ fine. (all fine).0;
+      sees = λ fine. (all fine).1;
+      full =
+          state-wants (n.Flow flow.BeforeContent) w c.before_content.result c.before_content.new.tokenizer
+          c.before_content.ensures.full;
+    }
 
 -- the point before the line lies in the text that is seen after it
 placed-on : (t : Tokenizer) (u v : World) → SeesSome Line (world t) u → v.setting ≡ u.setting →
@@ -34,8 +47,8 @@ content_tried-requires c =
     placed-on c.args.tokenizer.now (world c.see_line.new.self) (world c.see_or_wait.new.self) c.see_line.ensures.some
     (ap (λ (x : World). x.setting) (c.if-see_or_wait.ensures.same refl))
 
-pub returns-then-see_or_wait-2-clause-runs : goal.returns-then-see_or_wait-2-clause-runs
-returns-then-see_or_wait-2-clause-runs c = λ fine.
+pub returns-then-see_or_wait-2 : goal.returns-then-see_or_wait-2
+returns-then-see_or_wait-2 c =
     let w = world c.args.tokenizer.now in
     let u = world c.see_line.new.self in
     let x = world c.content_tried.new.tokenizer in
@@ -43,11 +56,16 @@ returns-then-see_or_wait-2-clause-runs c = λ fine.
     let has_tried : is_ok c.content_tried.result ≡ true = c.if-or_error.ensures.negation in
     let new : x ≡ line_tried w.point u =
     on-ok c.content_tried.result (x ≡ line_tried w.point (world c.see_or_wait.new.self)) has_tried
-    c.content_tried.ensures
+    c.content_tried.ensures.world
     ∙ ap (line_tried w.point) same in
-    content-waits w u x c.requires.current (within-world c.args.tokenizer.now)
-    (inside-line w c.requires.current (sym c.ends_line.ensures ∙ c.if-ends_line.false)) c.see_line.ensures
-    (c.if-see_or_wait.ensures.waits refl).1 new
+    record {
+      runs = λ fine.
+          content-waits w u x c.requires.current (within-world c.args.tokenizer.now)
+          (inside-line w c.requires.current (sym c.ends_line.ensures ∙ c.if-ends_line.false)) c.see_line.ensures
+          (c.if-see_or_wait.ensures.waits refl).1 new;
+      sees = λ fine. tt;
+      full = tt;
+    }
 
 pub content_added-requires-clause-placed : goal.content_added-requires-clause-placed
 content_added-requires-clause-placed c =
@@ -60,8 +78,8 @@ content_added-requires-clause-order c =
     subst (λ (x : World). whole_from w.point ≤ whole_from x.point) (sym (c.if-see_or_wait.ensures.sees refl))
     (some-order w (world c.see_line.new.self) c.see_line.ensures.some)
 
-pub returns-2-clause-runs : goal.returns-2-clause-runs
-returns-2-clause-runs c = λ fine.
+pub returns-2 : goal.returns-2
+returns-2 c =
     let w = world c.args.tokenizer.now in
     let u = world c.see_line.new.self in
     let x = world c.content_added.new.tokenizer in
@@ -69,8 +87,17 @@ returns-2-clause-runs c = λ fine.
     let has_added : is_ok c.content_added.result ≡ true = c.if-or_error-2.ensures.negation in
     let new : x ≡ line_added w.point (reading u) =
     on-ok c.content_added.result (x ≡ line_added w.point (world c.see_or_wait.new.self)) has_added
-    c.content_added.ensures
+    c.content_added.ensures.world
     ∙ ap (line_added w.point) sees in
-    content-ends w u x c.line_end.result (world c.line_end.new.tokenizer) c.requires.current
-    (within-world c.args.tokenizer.now) c.see_line.ensures (ahead (c.if-see_or_wait.ensures.is_continued refl)) new
-    (c.line_end.ensures.runs fine)
+    let arrived : ArrivedHere FlowStep (n.Flow flow.BeforeContent) w (n.Flow flow.After) x =
+    content-ends w u x c.requires.current (within-world c.args.tokenizer.now) c.see_line.ensures
+    (ahead (c.if-see_or_wait.ensures.is_continued refl)) new in
+    record {
+      runs = λ fine is_end.
+          arrived-runs FlowStep is_end (n.Flow flow.BeforeContent) (n.Flow flow.After) w x c.line_end.result
+          (world c.line_end.new.tokenizer) (arrived is_end) (c.line_end.ensures.runs fine is_end);
+      sees = λ fine. c.line_end.ensures.sees fine w;
+      full =
+          wants-following (n.Flow flow.BeforeContent) (n.Flow flow.After) w x c.line_end.result
+          c.line_end.new.tokenizer arrived c.line_end.ensures.full;
+    }

@@ -9,7 +9,7 @@ invariant_of-tokenizer-2 c = record {
       rw (
         c.push_reserved-2.ensures.items,
         c.push_reserved.ensures.items,
-        c.reserve-else-is_err.ensures.items,
+        c.reserve-2.ensures.items,
         c.reserve.ensures.items,
       )
       (sound-put _ _ _ _ _ _ _

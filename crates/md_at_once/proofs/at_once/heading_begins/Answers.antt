@@ -53,18 +53,18 @@ returns-in-Retry-HeadingAtx-Before c =
           (heading-flows) (c.opening.ensures.runs fine is_end s x named sees may),
       c.opening.ensures.sees fine,
     )) in
-    record { runs = λ fine. (all fine).0; sees = λ fine. (all fine).1 }
+    record { runs = λ fine. (all fine).0; sees = λ fine. (all fine).1; full = c.opening.ensures.full }
 
 pub returns-in_default-2 : goal.returns-in_default-2
 returns-in_default-2 c =
     let w = world c.args.tokenizer.now in
     let all = starts w _ (world c.start.new.tokenizer) c.requires.current (within-world c.args.tokenizer.now)
     c.in_default.ensures.to c.in_default.ensures.world in
-    record { runs = λ fine. (all fine).0; sees = λ fine. (all fine).1 }
+    record { runs = λ fine. (all fine).0; sees = λ fine. (all fine).1; full = c.in_default.ensures.full }
 
 pub returns-in_default-3 : goal.returns-in_default-3
 returns-in_default-3 c =
     let w = world c.args.tokenizer.now in
     let all = starts w c.start.result (world c.start.new.tokenizer) c.requires.current
     (within-world c.args.tokenizer.now) c.start.ensures.to c.start.ensures.world in
-    record { runs = λ fine. (all fine).0; sees = λ fine. (all fine).1 }
+    record { runs = λ fine. (all fine).0; sees = λ fine. (all fine).1; full = c.start.ensures.full }

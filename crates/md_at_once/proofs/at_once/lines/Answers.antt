@@ -4,6 +4,7 @@ use Rattle.md_engine.specs.declared.state.Name.{Name as StateName}
 use Rattle.md_engine.specs.declared.state.Name.TheVariants as n
 use Rattle.md_engine.specs.declared.state.State.{State}
 use Rattle.md_engine.specs.declared.state.State.TheVariants.{Error, Next}
+use Rattle.md_engine.specs.Going.{SeesOn}
 use Rattle.md_engine.specs.Run.{RunsHere, plain, reading}
 use Rattle.md_engine.specs.World.{World, world}
 use Rattle.md_engine.proofs.Loops.{not_error}
@@ -11,6 +12,8 @@ use Rattle.md_registry.specs.States.{FlowStep}
 use Rattle.md_registry.proofs.GfmTable.Calls.{is_valid-first, is_valid-proceeds, is_valid-leaves}
 use Rattle.md_tables.specs.GfmTable.{AnswersWith}
 use Rattle.md_tables.specs.GfmTable.AnswersWith.{ThatTook}
+use Rattle.md_at_once.specs.AtOnce.{FlowFull}
+use Rattle.md_at_once.proofs.WantOfMemory.{wants-following, wants-none}
 use Rattle.md_at_once.proofs.at_once.lines.Goals as goal
 
 abbrev line : StateName
@@ -55,22 +58,33 @@ loop-to-smaller c =
     (c.containers-to.ensures.runs fine) (c.containers-to.ensures.sees fine)
     (proceeds u u' to is (c.if-see_or_wait.ensures.sees refl) lt)).1
 
-pub returns-then-not-awaits_line-clause-runs : goal.returns-then-not-awaits_line-clause-runs
-returns-then-not-awaits_line-clause-runs c = λ fine.
-    (is_valid-leaves line (world c.args.tokenizer.now) line (world c.loop-to.tokenizer) c.containers-to.result
-    (world c.containers-to.new.tokenizer) c.loop-to.invariant (c.containers-to.ensures.runs fine)
-    (c.containers-to.ensures.sees fine)).0
+pub returns-then-not-awaits_line : goal.returns-then-not-awaits_line
+returns-then-not-awaits_line c =
+    let old = world c.args.tokenizer.now in
+    let w = world c.loop-to.tokenizer in
+    let to = c.containers-to.result in
+    let all = λ (fine : to ≢ Error).
+    is_valid-leaves line old line w to (world c.containers-to.new.tokenizer) c.loop-to.invariant
+    (c.containers-to.ensures.runs fine) (c.containers-to.ensures.sees fine) in
+    record {
+      runs = λ fine. (all fine).0;
+      sees = λ fine. (all fine).1;
+      full =
+          wants-following line line old w to c.containers-to.new.tokenizer c.loop-to.invariant.arrived
+          c.containers-to.ensures.full;
+    }
 
-pub returns-then-not-awaits_line-clause-sees : goal.returns-then-not-awaits_line-clause-sees
-returns-then-not-awaits_line-clause-sees c = λ fine.
-    (is_valid-leaves line (world c.args.tokenizer.now) line (world c.loop-to.tokenizer) c.containers-to.result
-    (world c.containers-to.new.tokenizer) c.loop-to.invariant (c.containers-to.ensures.runs fine)
-    (c.containers-to.ensures.sees fine)).1
-
-pub returns-then-see_or_wait-clause-runs : goal.returns-then-see_or_wait-clause-runs
-returns-then-see_or_wait-clause-runs c = λ fine.
-    subst (λ (x : World). RunsHere FlowStep line (world c.args.tokenizer.now) c.containers-to.result x)
-    (sym (c.if-see_or_wait.ensures.same refl))
-    (is_valid-leaves line (world c.args.tokenizer.now) line (world c.loop-to.tokenizer) c.containers-to.result
-    (world c.containers-to.new.tokenizer) c.loop-to.invariant (c.containers-to.ensures.runs fine)
-    (c.containers-to.ensures.sees fine)).0
+pub returns-then-see_or_wait : goal.returns-then-see_or_wait
+returns-then-see_or_wait c =
+    let old = world c.args.tokenizer.now in
+    let to = c.containers-to.result in
+    let new = c.see_or_wait.new.self in
+    let is : to ≡ Next line = c.awaits_line.ensures (search rules) in
+    record {
+      runs = λ fine.
+          subst (λ (x : World). RunsHere FlowStep line old to x) (sym (c.if-see_or_wait.ensures.same refl))
+          (is_valid-leaves line old line (world c.loop-to.tokenizer) to (world c.containers-to.new.tokenizer)
+          c.loop-to.invariant (c.containers-to.ensures.runs fine) (c.containers-to.ensures.sees fine)).0;
+      sees = λ fine. subst (λ (x : State). SeesOn x old (world new)) (sym is) tt;
+      full = wants-none to (FlowFull line old new) (not_error to line (ap plain is));
+    }

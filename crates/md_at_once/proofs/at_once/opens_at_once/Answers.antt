@@ -1,6 +1,7 @@
-use Rattle.std.proofs.Common.{◌≡◌, ◌<◌, ◌∙◌, true, ap, inr, is_ok, refl, subst, sym}
+use Rattle.std.proofs.Common.{◌≡◌, ◌≢◌, ◌<◌, ◌∙◌, true, ap, inr, is_ok, refl, rules, subst, sym}
 use Rattle.md_engine.specs.declared.state.document.State.TheVariants as document
 use Rattle.md_engine.specs.declared.state.Name.TheVariants as n
+use Rattle.md_engine.specs.declared.state.State.TheVariants.{Error}
 use Rattle.md_engine.specs.declared.tokenizer.container.Container.{Container}
 use Rattle.md_engine.specs.declared.tokenizer.container.name.ContainerKind.{ContainerKind}
 use Rattle.md_engine.specs.declared.tokenizer.container.name.ContainerKind.TheVariants as kind
@@ -15,50 +16,45 @@ use Rattle.md_registry.specs.States.{FlowStep}
 use Rattle.md_registry.proofs.LinesAtOnce.{ends-following}
 use Rattle.md_registry.proofs.OpensAtOnce.{bullet-opens}
 use Rattle.md_tables.proofs.RowWords.{on-ok}
+use Rattle.md_at_once.proofs.FlowRuns.{run-short}
+use Rattle.md_at_once.proofs.WantOfMemory.{containers-want, events-short, wants-following}
 use Rattle.md_at_once.proofs.at_once.opens_at_once.Goals as goal
 
-pub returns-2-clause-runs : goal.returns-2-clause-runs
-returns-2-clause-runs c = λ fine.
-    let first = n.Document (opener_front openers) in
-    let w = world c.args.tokenizer.now in
-    let u = world c.take_plain_opening.new.tokenizer in
-    let asks : world c.ask.new.tokenizer ≡ asking (container_of kind.ListItem) w =
-    c.ask.ensures ∙ ap (λ (x : Container). asking x w) c.new.ensures
-    ∙ ap (λ (k : ContainerKind). asking (container_of k) w) c.plain_opener.ensures in
-    let has_taken : is_ok c.take_plain_opening.result ≡ true = c.if-or_error.ensures.negation in
-    let is : u ≡ bulleted (asking (container_of kind.ListItem) w) =
-    on-ok c.take_plain_opening.result (u ≡ bulleted (world c.ask.new.tokenizer)) has_taken c.take_plain_opening.ensures
-    ∙ ap bulleted asks in
-    let arrived : ArrivedHere FlowStep first w (n.Document document.ContainerNewAfter) u = λ is_end s v named from may.
-    subst (λ (x : World). ArrivedAt FlowStep is_end s v (n.Document document.ContainerNewAfter) x) (sym is)
-    (bullet-opens is_end s v w (arrived-first FlowStep first w is_end s v named from may)
-    c.requires.at.current (within-world c.args.tokenizer.now) c.requires.plain) in
-    let next = bullet-next w c.requires.plain in
-    (ends-following first (n.Document document.ContainerNewAfter) w u c.container_new_after.result
-    (world c.container_new_after.new.tokenizer) arrived ((refl, refl), refl) (c.container_new_after.ensures.to fine)
-    (c.container_new_after.ensures.world fine) fine (subst (λ (x : World). x.current ≡ looks x) (sym is) refl)
-    (within-world c.take_plain_opening.new.tokenizer)
-    (inr (subst (λ (x : World). x.point.index < x.setting.limit) (sym is) next))).0
+pub returns : goal.returns
+returns c =
+    run-short (n.Document (opener_front openers)) (world c.args.tokenizer.now) c.take_plain_bullet.new.tokenizer
+    (events-short c.take_plain_bullet.new.tokenizer (c.take_plain_bullet.ensures.full (search rules)))
 
-pub returns-2-clause-sees : goal.returns-2-clause-sees
-returns-2-clause-sees c = λ fine.
+pub returns-2 : goal.returns-2
+returns-2 c =
     let first = n.Document (opener_front openers) in
     let w = world c.args.tokenizer.now in
-    let u = world c.take_plain_opening.new.tokenizer in
+    let u = world c.take_plain_bullet.new.tokenizer in
     let asks : world c.ask.new.tokenizer ≡ asking (container_of kind.ListItem) w =
     c.ask.ensures ∙ ap (λ (x : Container). asking x w) c.new.ensures
     ∙ ap (λ (k : ContainerKind). asking (container_of k) w) c.plain_opener.ensures in
-    let has_taken : is_ok c.take_plain_opening.result ≡ true = c.if-or_error.ensures.negation in
+    let has_taken : is_ok c.take_plain_bullet.result ≡ true = c.if-or_error.ensures.negation in
     let is : u ≡ bulleted (asking (container_of kind.ListItem) w) =
-    on-ok c.take_plain_opening.result (u ≡ bulleted (world c.ask.new.tokenizer)) has_taken c.take_plain_opening.ensures
+    on-ok c.take_plain_bullet.result (u ≡ bulleted (world c.ask.new.tokenizer)) has_taken
+    c.take_plain_bullet.ensures.world
     ∙ ap bulleted asks in
     let arrived : ArrivedHere FlowStep first w (n.Document document.ContainerNewAfter) u = λ is_end s v named from may.
     subst (λ (x : World). ArrivedAt FlowStep is_end s v (n.Document document.ContainerNewAfter) x) (sym is)
     (bullet-opens is_end s v w (arrived-first FlowStep first w is_end s v named from may)
     c.requires.at.current (within-world c.args.tokenizer.now) c.requires.plain) in
     let next = bullet-next w c.requires.plain in
-    (ends-following first (n.Document document.ContainerNewAfter) w u c.container_new_after.result
+    let all = λ (fine : c.container_new_after.result ≢ Error).
+    ends-following first (n.Document document.ContainerNewAfter) w u c.container_new_after.result
     (world c.container_new_after.new.tokenizer) arrived ((refl, refl), refl) (c.container_new_after.ensures.to fine)
     (c.container_new_after.ensures.world fine) fine (subst (λ (x : World). x.current ≡ looks x) (sym is) refl)
-    (within-world c.take_plain_opening.new.tokenizer)
-    (inr (subst (λ (x : World). x.point.index < x.setting.limit) (sym is) next))).1
+    (within-world c.take_plain_bullet.new.tokenizer)
+    (inr (subst (λ (x : World). x.point.index < x.setting.limit) (sym is) next)) in
+    record {
+      runs = λ fine. (all fine).0;
+      sees = λ fine. (all fine).1;
+      full =
+          wants-following first (n.Document document.ContainerNewAfter) w u c.container_new_after.result
+          c.container_new_after.new.tokenizer arrived
+          (containers-want (n.Document document.ContainerNewAfter) u c.container_new_after.result
+          c.container_new_after.new.tokenizer c.container_new_after.ensures.full);
+    }

@@ -13,7 +13,9 @@ use Rattle.md_engine.proofs.Walks.{Within}
 use Rattle.md_registry.specs.Flow.{start_transition}
 use Rattle.md_registry.specs.States.{FlowStep}
 use Rattle.md_registry.proofs.LinesAtOnce.{Proceeds, blank-leaves, content-follows, proceeds-through, leaves-once}
-use Rattle.md_registry.proofs.LinesAtOnce.{runs-on, start-leaves}
+use Rattle.md_registry.proofs.LinesAtOnce.{start-leaves}
+use Rattle.md_at_once.proofs.FlowRuns.{run-ends, run-on}
+use Rattle.md_at_once.proofs.WantOfMemory.{state-wants}
 use Rattle.md_at_once.proofs.at_once.rest_begins.Goals as goal
 
 starts : (w : World) (to : State) (new : World) → w.current ≡ looks w → Within w →
@@ -29,12 +31,8 @@ returns-then-content_alone c =
     λ is_end s v named sees may.
     content-follows is_end s v w (sym c.content_alone.ensures ∙ c.if-content_alone.true) c.requires.current
     (within-world c.args.tokenizer.now) (arrived-first FlowStep (n.Flow flow.Start) w is_end s v named sees may) in
-    let all = λ (fine : c.content_begins.result ≢ Error).
-    runs-on (n.Flow flow.Start) (n.Flow flow.BeforeContent) w w c.content_begins.result
-    (world c.content_begins.new.tokenizer) arrived (c.content_begins.ensures.runs fine)
-    (c.content_begins.ensures.sees fine)
-    c.requires.current (inl refl) in
-    record { runs = λ fine. (all fine).0; sees = λ fine. (all fine).1 }
+    run-on (n.Flow flow.Start) (n.Flow flow.BeforeContent) w w c.content_begins.result c.content_begins.new.tokenizer
+    arrived c.requires.current (inl refl) c.content_begins.ensures
 
 -- what is here is still seen
 still-seen : (next : StateName) (w u : World) (s : State) → w.current ≡ looks w → Within w → s ≡ Retry next →
@@ -74,25 +72,38 @@ returns-then-may_be_blank c =
     (λ saw. leaves-once (n.Flow flow.BlankLineBefore) u c.blank_line_before.result
     (world c.blank_line_before.new.tokenizer) (blank-leaves u) (c.blank_line_before.ensures.to fine)
     (c.blank_line_before.ensures.world fine) fine saw (within-world c.start-state.new.tokenizer)) in
-    record { runs = λ fine. (all fine).0; sees = λ fine. (all fine).1 }
+    record {
+      runs = λ fine. (all fine).0;
+      sees = λ fine. (all fine).1;
+      full =
+          state-wants (n.Flow flow.Start) w c.blank_line_before.result c.blank_line_before.new.tokenizer
+          c.blank_line_before.ensures.full;
+    }
 
 pub returns-then-is_heading : goal.returns-then-is_heading
 returns-then-is_heading c =
     let w = world c.args.tokenizer.now in
     let u = world c.start-state.new.tokenizer in
-    let all = λ (fine : c.end.result ≢ Error).
-    let begins : c.heading_begins-to.result ≢ Error = c.end.ensures.fine fine in
-    c.end.ensures.is_continued fine (n.Flow flow.Start) w c.requires.current
-    (proceeds-through (n.Flow flow.Start) (n.HeadingAtx heading.Start) w u c.start-state.result
-    c.heading_begins-to.result
-    (world c.heading_begins-to.new.tokenizer) c.requires.current (c.is_heading.ensures c.if-is_heading.true)
+    let to = c.heading_begins-to.result in
+    let mid = c.heading_begins-to.new.tokenizer in
+    let proceeds : to ≢ Error → Proceeds (n.Flow flow.Start) w to (world mid) = λ begins.
+    proceeds-through (n.Flow flow.Start) (n.HeadingAtx heading.Start) w u c.start-state.result to
+    (world mid) c.requires.current (c.is_heading.ensures c.if-is_heading.true)
     (starts w _ u c.requires.current (within-world c.args.tokenizer.now) c.start-state.ensures.state.to
     c.start-state.ensures.state.world)
-    (λ saw. (c.heading_begins-to.ensures.runs begins, c.heading_begins-to.ensures.sees begins))) in
-    record { runs = λ fine. (all fine).0; sees = λ fine. (all fine).1 }
+    (λ saw. (c.heading_begins-to.ensures.runs begins, c.heading_begins-to.ensures.sees begins)) in
+    run-ends (n.Flow flow.Start) w to mid c.end.result c.end.new.tokenizer c.requires.current proceeds
+    (state-wants (n.Flow flow.Start) w to mid c.heading_begins-to.ensures.full) c.end.ensures
 
 pub returns : goal.returns
 returns c =
     let all = starts (world c.args.tokenizer.now) c.start-state.result (world c.start-state.new.tokenizer)
-    c.requires.current (within-world c.args.tokenizer.now) c.start-state.ensures.state.to c.start-state.ensures.state.world in
-    record { runs = λ fine. (all fine).0; sees = λ fine. (all fine).1 }
+    c.requires.current (within-world c.args.tokenizer.now) c.start-state.ensures.state.to
+    c.start-state.ensures.state.world in
+    record {
+      runs = λ fine. (all fine).0;
+      sees = λ fine. (all fine).1;
+      full =
+          state-wants (n.Flow flow.Start) (world c.args.tokenizer.now) c.start-state.result
+          c.start-state.new.tokenizer c.start-state.ensures.state.full;
+    }

@@ -5,8 +5,10 @@ use Rattle.md_engine.specs.declared.state.raw_flow.State.TheVariants as its
 use Rattle.md_engine.specs.declared.state.Name.TheVariants as n
 use Rattle.md_engine.specs.declared.state.State.TheVariants.{Error}
 use Rattle.md_engine.proofs.StayLemmas.{within-world}
-use Rattle.md_registry.proofs.LinesAtOnce.{Proceeds, proceeds-through, inside-leaves, leaves-once}
+use Rattle.md_registry.proofs.LinesAtOnce.{Proceeds, inside-leaves, leaves-once}
 use Rattle.md_at_once.proofs.FenceLines.{still-seen}
+use Rattle.md_at_once.proofs.FlowRuns.{run-through}
+use Rattle.md_at_once.proofs.WantOfMemory.{state-wants}
 use Rattle.md_at_once.proofs.fences.by_states.Goals as goal
 
 pub further-requires : goal.further-requires
@@ -34,12 +36,9 @@ returns-then-is_further c =
     λ fine. leaves-once (n.Document document.FlowInside) w c.flow_inside-to.result u (inside-leaves w)
     (c.flow_inside-to.ensures.to fine)
     (c.flow_inside-to.ensures.world fine) fine c.requires.current (within-world c.args.tokenizer.now) in
-    let all = λ (fine : c.further.result ≢ Error).
-    proceeds-through (n.Document document.FlowInside) (n.RawFlow its.AtNonLazyBreak) w u c.flow_inside-to.result
-    c.further.result (world c.further.new.tokenizer)
-    c.requires.current (c.is_further.ensures c.if-is_further.true) proceeds
-    (λ saw. (c.further.ensures.runs fine, c.further.ensures.sees fine)) in
-    record { runs = λ fine. (all fine).0; sees = λ fine. (all fine).1 }
+    run-through (n.Document document.FlowInside) (n.RawFlow its.AtNonLazyBreak) w u c.flow_inside-to.result
+    c.further.result c.further.new.tokenizer c.requires.current (c.is_further.ensures c.if-is_further.true) proceeds
+    c.further.ensures
 
 pub returns : goal.returns
 returns c =
@@ -50,4 +49,10 @@ returns c =
     λ fine. leaves-once (n.Document document.FlowInside) w c.flow_inside-to.result u (inside-leaves w)
     (c.flow_inside-to.ensures.to fine)
     (c.flow_inside-to.ensures.world fine) fine c.requires.current (within-world c.args.tokenizer.now) in
-    record { runs = λ fine. (proceeds fine).0; sees = λ fine. (proceeds fine).1 }
+    record {
+      runs = λ fine. (proceeds fine).0;
+      sees = λ fine. (proceeds fine).1;
+      full =
+          state-wants (n.Document document.FlowInside) w c.flow_inside-to.result c.flow_inside-to.new.tokenizer
+          c.flow_inside-to.ensures.full;
+    }

@@ -22,16 +22,22 @@ returns-then-ends_line c =
     leaves-once (n.RawFlow its.ContentChunk) w c.content_chunk.result (world c.content_chunk.new.tokenizer)
     (chunk-leaves w (ends_line w.current)) (c.content_chunk.ensures.to fine) (c.content_chunk.ensures.world fine) fine
     c.requires.current (within-world c.args.tokenizer.now) in
-    record { runs = λ fine. (all fine).0; sees = λ fine. (all fine).1 }
+    record { runs = λ fine. (all fine).0; sees = λ fine. (all fine).1; full = c.content_chunk.ensures.full }
 
-pub returns-then-see_or_wait-clause-runs : goal.returns-then-see_or_wait-clause-runs
-returns-then-see_or_wait-clause-runs c = λ fine.
+pub returns-then-see_or_wait : goal.returns-then-see_or_wait
+returns-then-see_or_wait c =
     let name = n.RawFlow its.ContentChunk in
     let w = world c.args.tokenizer.now in
-    subst (λ (x : World). RunsHere FlowStep name w (Next name) x) (sym (c.if-see_or_wait.ensures.same refl))
-    (line-waits name w (world c.see_line.new.self) chunk-takes c.requires.current (within-world c.args.tokenizer.now)
-    c.see_line.ensures (inside-line w c.requires.current (sym c.ends_line.ensures ∙ c.if-ends_line.false))
-    (c.if-see_or_wait.ensures.waits refl).1)
+    record {
+      runs = λ fine.
+          subst (λ (x : World). RunsHere FlowStep name w (Next name) x) (sym (c.if-see_or_wait.ensures.same refl))
+          (line-waits name w (world c.see_line.new.self) chunk-takes c.requires.current
+          (within-world c.args.tokenizer.now)
+          c.see_line.ensures (inside-line w c.requires.current (sym c.ends_line.ensures ∙ c.if-ends_line.false))
+          (c.if-see_or_wait.ensures.waits refl).1);
+      sees = λ fine. tt;
+      full = tt;
+    }
 
 pub returns : goal.returns
 returns c =
@@ -50,4 +56,4 @@ returns c =
     (c.content_chunk-2.ensures.to fine) (c.content_chunk-2.ensures.world fine) fine
     (subst (λ (x : World). x.current ≡ looks x) (sym sees) refl) (within-world c.see_or_wait.new.self)
     (inr (subst (λ (x : World). x.point.index < x.setting.limit) (sym sees) lt)) in
-    record { runs = λ fine. (all fine).0; sees = λ fine. (all fine).1 }
+    record { runs = λ fine. (all fine).0; sees = λ fine. (all fine).1; full = c.content_chunk-2.ensures.full }

@@ -34,7 +34,7 @@ returns-then-is_rest c =
     (λ saw. befores u c.before_content_chunk.result (world c.before_content_chunk.new.tokenizer) saw (within-world
     c.chunk-to.new.tokenizer)
     c.before_content_chunk.ensures.to c.before_content_chunk.ensures.world fine) in
-    record { runs = λ fine. (all fine).0; sees = λ fine. (all fine).1 }
+    record { runs = λ fine. (all fine).0; sees = λ fine. (all fine).1; full = c.before_content_chunk.ensures.full }
 
 pub returns : goal.returns
 returns c =
@@ -42,4 +42,4 @@ returns c =
     let u = world c.chunk-to.new.tokenizer in
     let proceeds : c.chunk-to.result ≢ Error → Proceeds (n.RawFlow its.ContentChunk) w c.chunk-to.result u =
     λ fine. (c.chunk-to.ensures.runs fine, c.chunk-to.ensures.sees fine) in
-    record { runs = λ fine. (proceeds fine).0; sees = λ fine. (proceeds fine).1 }
+    record { runs = λ fine. (proceeds fine).0; sees = λ fine. (proceeds fine).1; full = c.chunk-to.ensures.full }

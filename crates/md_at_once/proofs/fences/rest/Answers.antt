@@ -37,7 +37,7 @@ returns-then-is_chunk c =
     c.chunk_done.result (world c.chunk_done.new.tokenizer)
     c.requires.current (c.is_chunk.ensures c.if-is_chunk.true) proceeds
     (λ saw. (c.chunk_done.ensures.runs fine, c.chunk_done.ensures.sees fine)) in
-    record { runs = λ fine. (all fine).0; sees = λ fine. (all fine).1 }
+    record { runs = λ fine. (all fine).0; sees = λ fine. (all fine).1; full = c.chunk_done.ensures.full }
 
 pub returns : goal.returns
 returns c =
@@ -47,4 +47,8 @@ returns c =
     c.before_content_chunk-to.result u =
     befores w c.before_content_chunk-to.result u c.requires.current (within-world c.args.tokenizer.now)
     c.before_content_chunk-to.ensures.to c.before_content_chunk-to.ensures.world in
-    record { runs = λ fine. (proceeds fine).0; sees = λ fine. (proceeds fine).1 }
+    record {
+      runs = λ fine. (proceeds fine).0;
+      sees = λ fine. (proceeds fine).1;
+      full = c.before_content_chunk-to.ensures.full;
+    }

@@ -36,7 +36,7 @@ returns-then-is_rest c =
     c.rest.result (world c.rest.new.tokenizer)
     c.requires.current (c.is_rest.ensures c.if-is_rest.true) proceeds
     (λ saw. (c.rest.ensures.runs fine, c.rest.ensures.sees fine)) in
-    record { runs = λ fine. (all fine).0; sees = λ fine. (all fine).1 }
+    record { runs = λ fine. (all fine).0; sees = λ fine. (all fine).1; full = c.rest.ensures.full }
 
 pub returns : goal.returns
 returns c =
@@ -46,4 +46,8 @@ returns c =
     c.content_start-to.result u =
     starts w c.content_start-to.result u c.requires.current (within-world c.args.tokenizer.now)
     c.content_start-to.ensures.to c.content_start-to.ensures.world in
-    record { runs = λ fine. (proceeds fine).0; sees = λ fine. (proceeds fine).1 }
+    record {
+      runs = λ fine. (proceeds fine).0;
+      sees = λ fine. (proceeds fine).1;
+      full = c.content_start-to.ensures.full;
+    }

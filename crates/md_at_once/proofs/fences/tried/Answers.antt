@@ -4,8 +4,10 @@ use Rattle.md_engine.specs.declared.state.raw_flow.State.TheVariants as its
 use Rattle.md_engine.specs.declared.state.Name.TheVariants as n
 use Rattle.md_engine.specs.declared.state.State.TheVariants.{Error}
 use Rattle.md_engine.proofs.StayLemmas.{within-world}
-use Rattle.md_registry.proofs.LinesAtOnce.{Proceeds, proceeds-through}
+use Rattle.md_registry.proofs.LinesAtOnce.{Proceeds}
 use Rattle.md_at_once.proofs.FenceLines.{breaks, still-seen}
+use Rattle.md_at_once.proofs.FlowRuns.{run-through}
+use Rattle.md_at_once.proofs.WantOfMemory.{state-wants}
 use Rattle.md_at_once.proofs.fences.tried.Goals as goal
 
 pub line-requires : goal.line-requires
@@ -31,12 +33,9 @@ returns-then-is_start c =
     c.at_non_lazy_break-to.result u =
     breaks w c.at_non_lazy_break-to.result u c.requires.current (within-world c.args.tokenizer.now)
     c.at_non_lazy_break-to.ensures.to c.at_non_lazy_break-to.ensures.world in
-    let all = λ (fine : c.line.result ≢ Error).
-    proceeds-through (n.RawFlow its.AtNonLazyBreak) (n.RawFlow its.ContentStart) w u c.at_non_lazy_break-to.result
-    c.line.result (world c.line.new.tokenizer)
-    c.requires.current (c.is_start.ensures c.if-is_start.true) proceeds
-    (λ saw. (c.line.ensures.runs fine, c.line.ensures.sees fine)) in
-    record { runs = λ fine. (all fine).0; sees = λ fine. (all fine).1 }
+    run-through (n.RawFlow its.AtNonLazyBreak) (n.RawFlow its.ContentStart) w u c.at_non_lazy_break-to.result
+    c.line.result c.line.new.tokenizer c.requires.current (c.is_start.ensures c.if-is_start.true) proceeds
+    c.line.ensures
 
 pub returns : goal.returns
 returns c =
@@ -46,4 +45,10 @@ returns c =
     c.at_non_lazy_break-to.result u =
     breaks w c.at_non_lazy_break-to.result u c.requires.current (within-world c.args.tokenizer.now)
     c.at_non_lazy_break-to.ensures.to c.at_non_lazy_break-to.ensures.world in
-    record { runs = λ fine. (proceeds fine).0; sees = λ fine. (proceeds fine).1 }
+    record {
+      runs = λ fine. (proceeds fine).0;
+      sees = λ fine. (proceeds fine).1;
+      full =
+          state-wants (n.RawFlow its.AtNonLazyBreak) w c.at_non_lazy_break-to.result
+          c.at_non_lazy_break-to.new.tokenizer c.at_non_lazy_break-to.ensures.full;
+    }

@@ -10,7 +10,7 @@ invariant_of-tokenizer-2 c = record {
         c.push_reserved-3.ensures.items,
         c.push_reserved-2.ensures.items,
         c.push_reserved.ensures.items,
-        c.reserve-else-is_err.ensures.items,
+        c.reserve-2.ensures.items,
         c.reserve.ensures.items,
         c.opening.ensures,
       )

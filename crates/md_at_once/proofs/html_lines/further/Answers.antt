@@ -40,7 +40,7 @@ returns-then-is_open c =
     c.continuation_start-to.result c.further_inside.result
     (world c.further_inside.new.tokenizer) c.requires.current (c.is_open.ensures c.if-is_open.true) proceeds
     (λ saw. (c.further_inside.ensures.runs fine, c.further_inside.ensures.sees fine)) in
-    record { runs = λ fine. (all fine).0; sees = λ fine. (all fine).1 }
+    record { runs = λ fine. (all fine).0; sees = λ fine. (all fine).1; full = c.further_inside.ensures.full }
 
 pub returns : goal.returns
 returns c =
@@ -51,4 +51,8 @@ returns c =
     furthers w c.continuation_start-to.result u c.requires.current (within-world c.args.tokenizer.now)
     c.continuation_start-to.ensures.to
     c.continuation_start-to.ensures.world in
-    record { runs = λ fine. (proceeds fine).0; sees = λ fine. (proceeds fine).1 }
+    record {
+      runs = λ fine. (proceeds fine).0;
+      sees = λ fine. (proceeds fine).1;
+      full = c.continuation_start-to.ensures.full;
+    }

@@ -35,7 +35,7 @@ returns-then-is_over c =
     (λ saw. overs u c.continuation_after.result (world c.continuation_after.new.tokenizer) saw
     (within-world c.rest-to.new.tokenizer)
     c.continuation_after.ensures.to c.continuation_after.ensures.world fine) in
-    record { runs = λ fine. (all fine).0; sees = λ fine. (all fine).1 }
+    record { runs = λ fine. (all fine).0; sees = λ fine. (all fine).1; full = c.continuation_after.ensures.full }
 
 pub returns : goal.returns
 returns c =
@@ -43,4 +43,4 @@ returns c =
     let u = world c.rest-to.new.tokenizer in
     let proceeds : c.rest-to.result ≢ Error → Proceeds (n.HtmlFlow its.ContinuationClose) w c.rest-to.result u =
     λ fine. (c.rest-to.ensures.runs fine, c.rest-to.ensures.sees fine) in
-    record { runs = λ fine. (proceeds fine).0; sees = λ fine. (proceeds fine).1 }
+    record { runs = λ fine. (proceeds fine).0; sees = λ fine. (proceeds fine).1; full = c.rest-to.ensures.full }

@@ -10,10 +10,11 @@ use Rattle.md_registry.specs.LineFlags.{shut_leaf}
 use Rattle.md_registry.specs.States.{FlowStep}
 use Rattle.md_registry.proofs.LinesAtOnce.{ends-with, line-leaves}
 use Rattle.md_at_once.proofs.LineEnds.{end-sees}
+use Rattle.md_at_once.proofs.WantOfMemory.{containers-want, wants-following}
 use Rattle.md_at_once.proofs.line_ends.leaf_end.Goals as goal
 
-pub returns-clause-runs : goal.returns-clause-runs
-returns-clause-runs c = λ fine.
+pub returns : goal.returns
+returns c =
     let T = FlowStep in
     let w = world c.args.tokenizer.now in
     let u = world c.leaf_after.new.tokenizer in
@@ -24,12 +25,17 @@ returns-clause-runs c = λ fine.
     then-stays T is_end s z (n.Flow flow.LeafAfter) (n.Document document.FlowEnd) w u
     (arrived-first T (n.Flow flow.LeafAfter) w is_end s z named from may) (record { to_is = refl; new_is = same })
     (ap (λ (x : World). x.setting) same) (within-world c.args.tokenizer.now) (ap (λ (x : World). x.point) same) seen in
-    (ends-with (n.Flow flow.LeafAfter) (n.Document document.FlowEnd) w u c.flow_end.result
-    (world c.flow_end.new.tokenizer) arrived (line-leaves u) (c.flow_end.ensures.to fine)
-    (c.flow_end.ensures.world fine)
-    fine seen (within-world c.leaf_after.new.tokenizer) (ap (λ (x : World). x.point) same)).0
-
-pub returns-clause-sees : goal.returns-clause-sees
-returns-clause-sees c = λ fine from.
-    end-sees (world c.leaf_after.new.tokenizer) c.flow_end.result (c.flow_end.ensures.to fine) from
-    (world c.flow_end.new.tokenizer)
+    record {
+      runs = λ fine.
+          (ends-with (n.Flow flow.LeafAfter) (n.Document document.FlowEnd) w u c.flow_end.result
+          (world c.flow_end.new.tokenizer) arrived (line-leaves u) (c.flow_end.ensures.to fine)
+          (c.flow_end.ensures.world fine)
+          fine seen (within-world c.leaf_after.new.tokenizer) (ap (λ (x : World). x.point) same)).0;
+      sees = λ fine from.
+          end-sees u c.flow_end.result (c.flow_end.ensures.to fine) from (world c.flow_end.new.tokenizer);
+      full =
+          wants-following (n.Flow flow.LeafAfter) (n.Document document.FlowEnd) w u c.flow_end.result
+          c.flow_end.new.tokenizer arrived
+          (containers-want (n.Document document.FlowEnd) u c.flow_end.result c.flow_end.new.tokenizer
+          c.flow_end.ensures.full);
+    }
