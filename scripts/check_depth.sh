@@ -3,7 +3,8 @@
 # is set, they are in that folder) run with 256 KB of stack.
 #
 # - `test_bench levels` tries the parser on 100,000 markers of containers, of three kinds, the third of four containers, and the plain program
-#   on a quarter of each.
+#   on as many quotes and on a quarter of the others.
+# - `blocks` prints the outline of a line of 1,000,000 `*`, of one of as many spaces, and of 100,000 empty lines.
 # - `plain_blocks` prints the outline of 2,000 containers in one another, on one line and on two, the second of which closes them. The
 #   outlines are written here.
 # - The same with requests for memory refused, every 61st in turn, alone and with all that follow (`scripts/refuse.c`): the program then
@@ -76,6 +77,9 @@ def check_outline(text, wanted):
 ended = run([program("test_bench"), "levels"])
 if ended != (0, b"9 tried, 0 wrong\n", b""):
     sys.exit(f"bench levels with {STACK} bytes of stack: {ended}")
+for text, words in (("*" * 1_000_000, "break\n"), (" " * 1_000_000, ""), ("\n" * 100_000, "")):
+    if run([program("blocks")], text) != (0, (words + "\ndefinitions 0\nfootnotes 0\n").encode(), b""):
+        sys.exit(f"blocks on {len(text)} of {text[0]!r}: not its outline with {STACK} bytes of stack")
 runs = 0
 for marker, words in MARKERS.items():
     line = marker * (LEVELS // len(words)) + "a\n"

@@ -203,16 +203,19 @@ class Tests:
         self.programs = programs
         model_of = lambda text, constructs: models([(text, constructs)])[text, constructs]
         self.cases = [*all_cases(folder, True), *c_cases(Case, model_of)]
+        self.refusals = [0] * len(self.cases)
 
     def refused_by(self, number, report=None):
-        """What refuses a wrong body, or None: the cases of its report first."""
+        """What refuses a wrong body, or None: the cases of its report first, and of these those that refused most."""
         environment = {**os.environ, "MUTANT": str(number)}
-        for case in sorted(self.cases, key=lambda case: case.words[:1] != [report]):
+        cases = enumerate(self.cases)
+        for at, case in sorted(cases, key=lambda it: (it[1].words[:1] != [report], -self.refusals[it[0]])):
             try:
                 is_right = case.holds(case.run([os.path.join(self.programs, case.program)], environment))
             except subprocess.TimeoutExpired:
                 is_right = False
             if not is_right:
+                self.refusals[at] += 1
                 return ascii(case.words[:6])
         for words in (["scripts/man.py", "--check"], ["scripts/check_texts.sh"]):
             ran = subprocess.run(words, capture_output=True, text=True, errors="replace", env=environment)

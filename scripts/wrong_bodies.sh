@@ -10,6 +10,9 @@
 # run with an argument that is none. An edit of a crate of the plain program changes that body, each other the parser. One
 # with the line `# bench` is tried with each construct off too, by its events, and on long labels, and something must be
 # wrong.
+#
+# So are wrong bodies that follow from a list, and not from files: the first state of each construct, which answers `Nok` at
+# once, and `pass`, which changes nothing at once. A row changes by each, so a parse goes through these functions.
 set -euo pipefail
 cd "$(dirname "$0")/.."
 work=$(mktemp -d)
@@ -20,8 +23,12 @@ tar -C crates --exclude=out -cf - . | tar -C "$work/crates" -xf -
 python3 - "$work" scripts/wrong-bodies/*.edit <<'PYTHON'
 import os, shutil, sys
 
+sys.path.insert(0, "scripts")
+sys.dont_write_bytecode = True
+from first_states import FIRST, begun
+
 work, *edits = sys.argv[1:]
-if len(edits) >= 256:
+if len(edits) + len(FIRST) >= 256:
     sys.exit("too many wrong bodies for one program")
 
 
@@ -48,6 +55,13 @@ for number, edit in enumerate(edits, 1):
     if not tells:
         sys.exit(f"{edit}: no `new:` asks is_wrong()")
     bodies.append((number, "Plain" if name.split("/")[1] in ("reference_grammars", "reference_tree") else "Blocks"))
+
+# what follows from the list
+for number, state in enumerate(FIRST, len(edits) + 1):
+    path = f"{work}/crates/{state.file}"
+    text = begun(open(path, encoding="utf-8").read(), state, f"tokenizer.options.constructs.is_wrong({number})")
+    open(path, "w", encoding="utf-8").write(text)
+    bodies.append((number, "Blocks"))
 
 # which body is wrong
 options = "crates/md_engine/src/configuration.rt"
@@ -192,6 +206,7 @@ import re, sys
 sys.path.insert(0, "scripts")
 sys.dont_write_bytecode = True
 import counts
+from first_states import FIRST
 
 work, *edits = sys.argv[1:]
 ends = open(f"{work}/ends", errors="replace").read()
@@ -203,13 +218,14 @@ for body, many in rows.items():
     if said.get((body, 0)) != f"status 2\n{many} tried, 0 wrong":
         sys.exit(f"wrong bodies: {body} as it is: {said.get((body, 0), 'no result')}\n{ends[-3000:]}")
 failed = 0
-for number, edit in enumerate(edits, 1):
+states = [f"{state.file}: {state.function} answers {state.answer} at once" for state in FIRST]
+for number, edit in enumerate(edits + states, 1):
     body, found = next(((it[0], said[it]) for it in said if it[1] == number), ("", "no result"))
-    is_wrong = r"^\d+ tried, [1-9]" if "# bench\n" in open(edit) else r"^\d+ tried, "
+    is_wrong = r"^\d+ tried, " if number <= len(edits) and "# bench\n" not in open(edit) else r"^\d+ tried, [1-9]"
     if not re.search(is_wrong, found, re.M) or found == said.get((body, 0)):
         print(f"{edit}: no row changes ({found})")
         failed += 1
-failed += counts.wrong_count("wrong bodies", len(edits))
-print(f"wrong bodies: {len(edits) - failed} passed, {failed} failed")
+failed += counts.wrong_count("wrong bodies", len(edits)) + counts.wrong_count("first states", len(FIRST))
+print(f"wrong bodies: {len(edits) + len(FIRST) - failed} passed, {failed} failed")
 sys.exit(failed != 0)
 PYTHON

@@ -128,8 +128,8 @@ fn code_of(alloc: Global, text: &str) -> Result<String, Message>
 
 /// Whether two labels are the same (CommonMark 6.3).
 fn same_label(alloc: Global, left: &str, right: &str) -> Result<bool, Message> {
-    let left = normal_form(alloc, &[left.as_bytes()])?;
-    let right = normal_form(alloc, &[right.as_bytes()])?;
+    let left = normal_form(alloc, &[left])?;
+    let right = normal_form(alloc, &[right])?;
     Ok(left == right)
 }
 

@@ -18,7 +18,7 @@ use Rattle.md_meaning.specs.Texts.{split_lines}
 use Rattle.md_meaning.proofs.TextsLemmas.{NoEnding, split-line}
 use Rattle.md_events.specs.declared.inline.Chunk.{Chunk}
 use Rattle.md_events.specs.Events.Inline.{Covers, chunk_text, ends_whole, is_inline, is_line, is_one_line, line_end}
-use Rattle.md_events.specs.Events.Inline.{line_endings, pair_unless_empty, pieces}
+use Rattle.md_events.specs.Events.Inline.{line_endings, may_be_inside, pair_unless_empty, pieces}
 use Rattle.md_events.specs.Events.Nested.{enter, exit, pair}
 use Rattle.md_events.specs.Events.Places.{are_placed, at_or_before, is_placed, past_byte, same_place}
 use Rattle.md_events.specs.Substituted.{belongs}
@@ -179,21 +179,22 @@ chunk-placed bytes chunk roles w =
 
 -- Names.
 
-mark-inline : (kind : Kind) (name : Name) (p : Point) → Mark name → Unit {0} → is_inline name ≡ true
+mark-inline : (kind : Kind) (name : Name) (p : Point) → Mark name → Unit {0} →
+    (is_inline name && true) ≡ true
 mark-inline kind _ p on_text u = refl
 mark-inline kind _ p on_link u = refl
 mark-inline kind _ p on_bracket u = refl
 mark-inline kind _ p on_label u = refl
 
 pub chunk-inline : (bytes : List ℕ) (chunk : Chunk) (roles : List Role) →
-    list_all (λ (e : Event). is_inline e.name) (read_chunk bytes chunk roles) ≡ true
+    list_all may_be_inside (read_chunk bytes chunk roles) ≡ true
 chunk-inline bytes chunk roles =
     let text : List ℕ = chunk_text bytes chunk in
     let line : List ℕ = without_ending text in
     let end : Point = line_end bytes chunk in
     let here : List Role = take (length text) roles in
     let ends : Bool = ends_label (drop (length line) here) in
-    let test : Event → Bool = λ e. is_inline e.name in
+    let test : Event → Bool = may_be_inside in
     all-append test (line_events line (take (length line) here) chunk.first chunk.first)
     (ending_events end chunk.after ends)
     (all-line test (λ p. Unit {0}) mark-inline line (take (length line) here) chunk.first chunk.first tt

@@ -15,7 +15,7 @@ use Rattle.md_events.specs.declared.inline.Chunk.{Chunk}
 use Rattle.md_events.specs.declared.inline.PartKind.{PartKind}
 use Rattle.md_events.specs.declared.inline.PartKind.TheVariants as kind
 use Rattle.md_events.specs.Events.Inline.{Fills, Framed, IsPart, KeepsFrame, Part, are_lines, chunk_placed, chunk_text}
-use Rattle.md_events.specs.Events.Inline.{cut_at, endings_of, ends_whole, in_order, is_inline, is_line, is_one_line}
+use Rattle.md_events.specs.Events.Inline.{cut_at, endings_of, ends_whole, in_order, is_line, is_one_line, may_be_inside}
 use Rattle.md_events.specs.Events.Inline.{line_end, line_endings, pair_unless_empty, together}
 use Rattle.md_events.specs.Events.Nested.{enter, exit, pair}
 use Rattle.md_events.specs.Events.Places.{are_placed, at_or_before, first_point, is_placed, same_place}
@@ -91,10 +91,10 @@ chunks-placed bytes (chunk ∷ chunks) roles ws =
     (chunk-placed bytes chunk roles ws.0) (chunks-placed bytes chunks (roles_after bytes chunk roles) ws.1)
 
 chunks-inline : (bytes : List ℕ) (chunks : List Chunk) (roles : List Role) →
-    list_all (λ (e : Event). is_inline e.name) (together (chunks_events bytes chunks roles)) ≡ true
+    list_all may_be_inside (together (chunks_events bytes chunks roles)) ≡ true
 chunks-inline bytes [] roles = refl
 chunks-inline bytes (chunk ∷ chunks) roles =
-    all-append (λ (e : Event). is_inline e.name) (read_chunk bytes chunk roles)
+    all-append may_be_inside (read_chunk bytes chunk roles)
     (together (chunks_events bytes chunks (roles_after bytes chunk roles)))
     (chunk-inline bytes chunk roles) (chunks-inline bytes chunks (roles_after bytes chunk roles))
 

@@ -9,7 +9,7 @@ ghost use Rattle.examples_marks.specs.References as spec;
 use md_engine::message::Message;
 use md_engine::parse_state::ParseState;
 use md_scan::definition::{Enclosed, up_to_mark};
-use md_scan::label::normal_form;
+use md_scan::label::form_of_bytes;
 use md_scan::memory;
 use std::alloc::Global;
 
@@ -93,7 +93,7 @@ fn is_defined(alloc: Global, state: &ParseState, text: &[u8]) -> Result<bool, Me
         return Ok(false);
     }
     let line = on_one_line(alloc, text)?;
-    let form = normal_form(alloc, &[line.as_slice()])?;
+    let form = form_of_bytes(alloc, &[line.as_slice()])?;
     Ok(is_listed(&state.definitions, &form))
 }
 

@@ -1,8 +1,9 @@
 -- What is in a text once its lines and its content are read: texts that are not read yet.
 use Rattle.md_engine.specs.declared.tokenizer.held_leaf.HeldLeaf.TheVariants as held_leaf
-use Rattle.std.proofs.Common.{◌≡◌, ◌^◌, ◌<◌, ℕ, List, [], length, refl, sym, ◌∙◌, subst}
+use Rattle.std.proofs.Common.{◌≡◌, ◌^◌, ◌<◌, ℕ, List, [], inr, length, refl, sym, ◌∙◌, subst}
 use Rattle.md_engine.specs.declared.configuration.ParseOptions.{ParseOptions}
 use Rattle.md_engine.specs.declared.event.Event.{Event}
+use Rattle.md_engine.specs.declared.event.Point.{Point}
 use Rattle.md_engine.specs.Found.{Found}
 use Rattle.md_engine.specs.Place.{first_point}
 use Rattle.md_engine.specs.World.{World}
@@ -24,7 +25,8 @@ use Rattle.proof_rows.proofs.TextAre.{lines_of, rows_of, text-are}
 use Rattle.proof_rows.proofs.AloneGroups.{leaves-alone}
 use Rattle.md_content.specs.Joined.{joined}
 use Rattle.proof_table_laws.specs.Headed.{heads_read}
-use Rattle.md_order.specs.Alone.{HoldNoBlock, Nothing}
+use Rattle.md_order.specs.Alone.{HoldNoBlock, MayPass, Nothing}
+use Rattle.md_order.specs.InOrder.{every}
 use Rattle.markdown_blocks.proofs.FlowReads.{FlowFlushed, text-quiet}
 
 pub part-of : (options : ParseOptions) (bytes : List ℕ) →
@@ -49,7 +51,7 @@ content-are options bytes built small content read =
     (text-are options bytes built small) (text-quiet options bytes (body_point options bytes))) read)
 
 -- Once the lines of each leaf of several are joined, leaf blocks hold no block: so the resolvers may run in one pass.
-pub joined-alone : (options : ParseOptions) (bytes : List ℕ) → IsWithoutMdx options → length bytes < 2 ^ 61 →
+joined-alone : (options : ParseOptions) (bytes : List ℕ) → IsWithoutMdx options → length bytes < 2 ^ 61 →
     (found : Found) (new : World) → FlowFlushed bytes options (body_point options bytes) found new →
     HoldNoBlock Nothing (lines_joined options new.events)
 joined-alone options bytes built small found new flow =
@@ -58,3 +60,12 @@ joined-alone options bytes built small found new flow =
     (leaves-alone options bytes [] held_leaf.None (body_point options bytes) (lines_of options bytes)
     (rows_of options bytes) (refl, refl) (text-are options bytes built small)
     (text-quiet options bytes (body_point options bytes)))
+
+-- So it is from a point that is the begin of the body.
+pub joined-pass : (options : ParseOptions) (bytes : List ℕ) (p : Point) → IsWithoutMdx options →
+    length bytes < 2 ^ 61 → (found : Found) (new : World) → p ≡ body_point options bytes →
+    FlowFlushed bytes options p found new → MayPass every (lines_joined options new.events)
+joined-pass options bytes p built small found new begins flow =
+    inr
+    (joined-alone options bytes built small found new
+    (subst (λ (q : Point). FlowFlushed bytes options q found new) begins flow))

@@ -26,6 +26,8 @@ use Rattle.md_content.proofs.LabelsLemmas.{labels-none}
 use Rattle.md_content.specs.Resolves.{found_in_content}
 use Rattle.md_leaves.specs.HeadingText.{headings_resolved}
 use Rattle.md_leaves.specs.Turned.{turned}
+use Rattle.md_order.specs.Alone.{MayPass}
+use Rattle.md_order.specs.InOrder.{every}
 use Rattle.md_tables.specs.Tabled.{tabled}
 use Rattle.md_registry.specs.Resolving.{lines_joined, resolved_as}
 use Rattle.md_events.specs.Substituted.{Substituted}
@@ -393,13 +395,13 @@ flow-flushed-from bytes options p start to end at none flushed found new same al
 
 -- and once the lines of leaves are joined, and lists, headings and tables are set
 pub flow-reads : (bytes : List ℕ) (options : ParseOptions) (p : Point) (found : Found) (items new : World) →
-    FlowFlushed bytes options p found items →
+    FlowFlushed bytes options p found items → MayPass every (lines_joined options items.events) →
     new ≡
     record items {
       events = tabled (turned (headings_resolved (listed items.setting.bytes (lines_joined options items.events))));
     } →
     FlowReads bytes options p found new
-flow-reads bytes options p found items new h set =
+flow-reads bytes options p found items new h may set =
     let put : List ℕ → List Event → List Event =
     λ text es. tabled (turned (headings_resolved (listed text (lines_joined options es)))) in
     let text : items.setting.bytes ≡ bytes = ap (λ (x : Setting). x.bytes) h.setting in
@@ -415,6 +417,7 @@ flow-reads bytes options p found items new h set =
       events = h.events;
       content = h.content;
       content_read = h.content_read;
+      may_pass = subst (λ (l : List Event). MayPass every (lines_joined options l)) h.events_are may;
       events_are = is;
       rest = all ∙ ap (λ (l : List Event). record h.ended { events = l }) (sym is);
       setting = ap (λ (x : World). x.setting) set ∙ h.setting;

@@ -14,6 +14,8 @@ use Rattle.md_content.specs.Labels.{labels_in}
 use Rattle.md_content.specs.Resolves.{found_in_content}
 use Rattle.md_leaves.specs.HeadingText.{headings_resolved}
 use Rattle.md_leaves.specs.Turned.{turned}
+use Rattle.md_order.specs.Alone.{MayPass}
+use Rattle.md_order.specs.InOrder.{every}
 use Rattle.md_tables.specs.Tabled.{tabled}
 use Rattle.md_events.specs.Substituted.{Substituted}
 use Rattle.markdown_blocks.specs.Fed.{FlowRan}
@@ -39,7 +41,9 @@ pub record FlowReads (bytes : List ℕ) (options : ParseOptions) (p : Point) (fo
   pub content : List Event
   pub content_read : Substituted wants_content (content_readings bytes options) [] 0
       (joined (heads_read options bytes (rows_events (text_rows options bytes p)))) content
-  -- then the lines of each leaf of several are joined, and lists are put around items, headings get their texts, and
+  -- of which leaf blocks hold no block, once the lines of each leaf of several are joined: so one pass may set all
+  pub may_pass : MayPass every (lines_joined options content)
+  -- then these lines are joined, and lists are put around items, headings get their texts, and
   -- tables their cells
   pub events_are : new.events ≡ tabled (turned (headings_resolved (listed bytes (lines_joined options content))))
   -- all else stays

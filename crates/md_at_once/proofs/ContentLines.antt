@@ -1,8 +1,8 @@
 -- Lines of content that are taken without an attempt. Where the end of a line can be read, this is what an attempt does
 -- that is begun and left; else an attempt is begun when the rest of the line has been seen.
-use Rattle.std.proofs.Common.{◌≡◌, ◌<◌, ◌≤◌, ◌∙◌, ◌++◌, Bool, true, false, List, [], ◌∷◌, ap, append_assoc, arith}
+use Rattle.std.proofs.Common.{◌≡◌, ◌<◌, ◌≤◌, ◌∙◌, ◌++◌, Bool, true, false, List, [], ◌∷◌, ap, arith}
 use Rattle.std.proofs.Common.{Some, length, nat_eq, not, refl, subst, sym}
-use Rattle.md_content.specs.Chunks.{begun, chunk_inside_code, chunk_start_transition, content_link, rest_taken, unbegun}
+use Rattle.md_content.specs.Chunks.{begun, chunk_inside_code, chunk_start_transition, chunk_transition, content_link}
 use Rattle.md_events.proofs.LineTaken.{whole-following}
 use Rattle.md_content.proofs.StaysLemmas.{chunk-takes, not-ending}
 use Rattle.md_engine.specs.declared.event.Event.{Event}
@@ -22,13 +22,11 @@ use Rattle.md_engine.specs.Staying.SeesSome.{Nothing, OneMore}
 use Rattle.md_engine.specs.World.{World, looks}
 use Rattle.md_engine.proofs.Loops.{ArrivedHere, ArrivedAt, arrived-first, arrived-runs}
 use Rattle.md_engine.proofs.Walks.{Within, then-holds, then-seen, then-stays, within-more, within-one}
-use Rattle.md_link_definitions.specs.OpenText.{text_following}
-use Rattle.md_events.specs.Events.Nested.{exit}
 use Rattle.md_events.specs.Lent.{whole_from}
 use Rattle.md_events.specs.Spaces.{ends_line}
 use Rattle.md_events.specs.Transition.{tried}
 use Rattle.md_registry.specs.States.{FlowStep}
-use Rattle.md_at_once.specs.AtOnce.{line_added, line_frame, line_tried}
+use Rattle.md_at_once.specs.AtOnce.{line_frame, line_tried}
 use Rattle.md_at_once.proofs.LineEnds.{line-waits, takes-so}
 use Rattle.md_at_once.proofs.TakenBack.{stepped-as}
 use Rattle.md_at_once.proofs.WhiteEnds.{looks-inside}
@@ -100,12 +98,17 @@ begins-within w within =
     within-more (line_frame (length w.events) w.point ∷ w.frames) w.events (first_event w ∷ [])
     (within-one (line_frame (length w.events) w.point) w.frames (length w.events) (omega arith) within)
 
-all-seen : (w u : World) → SeesAll Line w u → SeesAll Line (begins_in w w) (begins_in w u)
-all-seen w u all = record { some = some-with _ _ _ w u all.some; ends = all.ends }
+-- the same line where it has begun without an attempt
+abbrev entered_in : World → World
+entered_in w = (chunk_start_transition w).world
+
+all-seen : (w u : World) → SeesAll Line (entered_in w) u → SeesAll Line (begins_in w w) (begins_in w u)
+all-seen w u all = record { some = some-with _ _ _ (entered_in w) u all.some; ends = all.ends }
 
 -- Where the text that may be read ends in the line, it waits for more.
 pub content-waits : (w u x : World) → w.current ≡ looks w → Within w → w.point.index < w.setting.limit →
-    SeesAll Line w u → u.setting.limit ≤ u.point.index → x ≡ line_tried w.point u →
+    SeesAll Line (chunk_start_transition w).world u → u.setting.limit ≤ u.point.index →
+    x ≡ line_tried (length w.events) w.point u →
     RunsHere FlowStep (n.Flow flow.BeforeContent) w (Next (n.Content content.ChunkInside)) x
 content-waits w u x seen within lt all le new is_end =
     subst (λ (y : World). RunsFrom FlowStep is_end (n.Flow flow.BeforeContent) w
@@ -117,27 +120,33 @@ content-waits w u x seen within lt all le new is_end =
     (begins-within w within)
     (all-seen w u all) lt le is_end))
   where
-    keeps : Keeps w u
-    keeps = some-keeps w u all.some
+    keeps : Keeps (entered_in w) u
+    keeps = some-keeps (entered_in w) u all.some
 
     laid : List Event → List Frame → Scratch → World
-    laid es fs s = with (es ++ first_event w ∷ []) (line_frame (length es) w.point ∷ fs) (begun w.point s) u
+    laid es fs s = with es (line_frame (length w.events) w.point ∷ fs) s u
 
-    same : line_tried w.point u ≡ begins_in w u
+    same : line_tried (length w.events) w.point u ≡ begins_in w u
     same =
         ap (λ (es : List Event). laid es u.frames u.scratch) keeps.events
-        ∙ ap (λ (fs : List Frame). laid w.events fs u.scratch) keeps.frames
-        ∙ ap (λ (s : Scratch). laid w.events w.frames s) keeps.scratch
+        ∙ ap (λ (fs : List Frame). laid (entered_in w).events fs u.scratch) keeps.frames
+        ∙ ap (λ (s : Scratch). laid (entered_in w).events w.frames s) keeps.scratch
 
--- Where it can be read to its end the attempt is left there, and the line ends.
-pub content-ends : (w u x : World) → w.current ≡ looks w → Within w → SeesAll Line w u →
-    u.point.index < u.setting.limit → x ≡ line_added w.point (reading u) →
+-- Where it can be read to its end, the line ends there,
+pub ends-there : (w u : World) → SeesAll Line w u → u.point.index < u.setting.limit →
+    chunk_transition content.ChunkInside (reading u) ≡ chunk_inside_code (reading u) true
+ends-there w u all lt = ap (chunk_inside_code (reading u)) (line-over u lt all.ends)
+
+-- as where an attempt is left.
+pub content-ends : (w u x : World) → w.current ≡ looks w → Within w →
+    SeesAll Line (chunk_start_transition w).world u → u.point.index < u.setting.limit →
+    x ≡ (chunk_inside_code (reading u) true).world →
     ArrivedHere FlowStep (n.Flow flow.BeforeContent) w (n.Flow flow.After) x
 content-ends w u x seen within all lt following is_end s z named from may =
     subst (λ (y : World). ArrivedAt FlowStep is_end s z (n.Flow flow.After) y) left over
   where
-    keeps : Keeps w u
-    keeps = some-keeps w u all.some
+    keeps : Keeps (entered_in w) u
+    keeps = some-keeps (entered_in w) u all.some
 
     inside : World
     inside = reading (begins_in w u)
@@ -146,23 +155,14 @@ content-ends w u x seen within all lt following is_end s z named from may =
     taken = (chunk_inside_code inside true).world
 
     laid : List Event → List Frame → Scratch → World
-    laid es fs s = record (with es fs (unbegun s) (line_added w.point (reading u))) {
-      flags = record u.flags {
-        leaf = text_following u.flags.leaf (rest_taken u.setting.bytes (begun w.point s) u.point);
-      };
-    }
-
-    both : List Event → List Event
-    both es = es ++ first_event w ∷ exit Content u.point ∷ []
+    laid es fs s = (chunk_inside_code (with es fs s (reading u)) true).world
 
     left : reading (record taken { frames = w.frames }) ≡ x
     left =
-        ap (λ (es : List Event). laid es w.frames w.scratch)
-        (append_assoc w.events (first_event w ∷ []) (exit Content u.point ∷ []))
-        ∙ sym
-        (following ∙ ap (λ (es : List Event). laid (both es) u.frames u.scratch) keeps.events
-        ∙ ap (λ (fs : List Frame). laid (both w.events) fs u.scratch) keeps.frames
-        ∙ ap (λ (s : Scratch). laid (both w.events) w.frames s) keeps.scratch)
+        sym
+        (following ∙ ap (λ (es : List Event). laid es u.frames u.scratch) keeps.events
+        ∙ ap (λ (fs : List Frame). laid (entered_in w).events fs u.scratch) keeps.frames
+        ∙ ap (λ (s : Scratch). laid (entered_in w).events w.frames s) keeps.scratch)
 
     at_end : ArrivedAt FlowStep is_end s z (n.Content content.ChunkInside) inside
     at_end =

@@ -2,6 +2,7 @@ pub mod ContentLines
 pub mod FenceLines
 pub mod FlowRuns
 pub mod HtmlLines
+mod LateAttempt
 pub mod LineEnds
 pub mod NoClose
 pub mod NoIndent

@@ -1,5 +1,5 @@
 -- Why a call that takes several states at once wants memory: by what is known of the state in it that does.
-use Rattle.std.proofs.Common.{◌≡◌, ◌≢◌, ◌∙◌, ◌<◌, ◌≤◌, ◌⊎◌, Bool, true, ap, arith, inl, inr, refl, subst, sym}
+use Rattle.std.proofs.Common.{◌≡◌, ◌≢◌, ◌∙◌, ◌<◌, ◌≤◌, ◌⊎◌, Bool, true, [], ◌∷◌, ap, arith, inl, inr, refl, subst, sym}
 use Rattle.std.proofs.lemmas.Option.{slice_get_within}
 use Rattle.std.specs.Vec.{vec_capacity, vec_len}
 use Rattle.md_engine.specs.declared.state.Name.{Name as StateName}
@@ -7,8 +7,8 @@ use Rattle.md_engine.specs.declared.state.Name.TheVariants as n
 use Rattle.md_engine.specs.declared.state.State.{State}
 use Rattle.md_engine.specs.declared.state.State.TheVariants.{Error, Next, Nok, Ok, Retry}
 use Rattle.md_engine.specs.declared.tokenizer.Tokenizer.{Tokenizer}
-use Rattle.md_engine.specs.Full.{IsFull, IsFullList, OnError}
-use Rattle.md_engine.specs.Full.Grown.{Containers, Events}
+use Rattle.md_engine.specs.Full.{IsFull, IsFullList, IsFullOf, OnError}
+use Rattle.md_engine.specs.Full.Grown.{Containers, Events, Frames, Resolvers}
 use Rattle.md_engine.specs.Going.{SeesOn}
 use Rattle.md_engine.specs.Run.{Leaves, Runs, RunsHere, plain, reading}
 use Rattle.md_engine.specs.Run.Runs.{Stays, ThenLeaves}
@@ -64,6 +64,10 @@ end-kept Nok t = tt
 end-kept (Next name) t = tt
 end-kept (Retry name) t = tt
 
+-- of one that wants memory, why it does
+pub wanted : (s : State) (X : Type 0) → s ≡ Error → OnError s X → X
+wanted s X is h = subst (λ (t : State). OnError t X) is h
+
 -- Of a list.
 
 pub events-short : (t : Tokenizer) → IsFullList Events t → IsShort t
@@ -74,6 +78,12 @@ pub state-short : (t : Tokenizer) → IsFull t → IsShort t
 state-short t (inl full) = events-short t full
 state-short t (inr (inl full)) = inr (inl full)
 state-short t (inr (inr none)) = absurd none
+
+pub chunk-short : (t : Tokenizer) → IsFullOf (Resolvers ∷ Events ∷ Frames ∷ []) t → IsShort t
+chunk-short t (inl full) = inr (inr (inl full))
+chunk-short t (inr (inl full)) = events-short t full
+chunk-short t (inr (inr (inl full))) = inr (inl full)
+chunk-short t (inr (inr (inr none))) = absurd none
 
 -- Of a state.
 

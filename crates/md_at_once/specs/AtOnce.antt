@@ -74,27 +74,9 @@ line_frame count p = record {
   point = p;
 }
 
--- it has begun, and the line, at a point before that where the tokenizer is
-abbrev pub line_tried : Point → World → World
-line_tried p w = record w {
-  events = w.events
-      ++ record { kind = Enter; name = Content; point = p; link = Some content_link } ∷ [];
-  frames = line_frame (length w.events) p ∷ w.frames;
-  scratch = begun p w.scratch;
-}
-
--- a line of content is from a point up to where the tokenizer is, and is held as text
-abbrev pub line_added : Point → World → World
-line_added p w = record w {
-  events = w.events
-      ++ record { kind = Enter; name = Content; point = p; link = Some content_link }
-      ∷ exit Content w.point ∷ [];
-  resolvers = registered_before w.resolvers ContentResolver;
-  scratch = unbegun w.scratch;
-  flags = record w.flags {
-    leaf = text_following w.flags.leaf (rest_taken w.setting.bytes (begun p w.scratch) w.point);
-  };
-}
+-- it has begun after the line has
+abbrev pub line_tried : ℕ → Point → World → World
+line_tried count p w = record w { frames = line_frame count p ∷ w.frames }
 
 -- a run from a state to an answer, where it leaves the tokenizer so
 abbrev pub Proceeds : StateName → World → State → World → Type 0

@@ -6,9 +6,8 @@
 // as a whole and ends in the same call; where its end can be read no attempt begins. The next line begins in it too.
 // The pages of the states can be read without them.
 
-ghost use Rattle.std.specs.Prelude.{OnOk, Some, false, is_err, length, true, ◌≡◌, ◌<◌, ◌≤◌, ◌^◌};
-ghost use Rattle.md_content.specs.Chunks.{begun};
-ghost use Rattle.md_events.specs.WholeLine.{line_taken};
+ghost use Rattle.std.specs.Prelude.{OnOk, Some, false, is_err, length, true, ◌≡◌, ◌≤◌};
+ghost use Rattle.std.specs.List.{All};
 ghost use Rattle.md_engine.specs.Place.{IsPlaced};
 ghost use Rattle.md_engine.specs.Scheme.{valid};
 ghost use Rattle.md_engine.specs.World.{looks, world};
@@ -16,7 +15,7 @@ ghost use Rattle.md_engine.specs.declared.state.Name.{Name as StateName};
 ghost use Rattle.md_engine.specs.declared.state.State.{State};
 ghost use Rattle.md_engine.specs.declared.state.document.State.{State as DocumentState};
 ghost use Rattle.md_at_once.specs.AtOnce.{EndsAtOnce, IsNoLabel, OpensNone, SeesAhead, IsVisible};
-ghost use Rattle.md_at_once.specs.AtOnce.{IsConstructRun, IsFlowRun, IsRunInLine, IsShort, line_added, line_tried};
+ghost use Rattle.md_at_once.specs.AtOnce.{IsConstructRun, IsFlowRun, IsRunInLine, IsShort, line_tried};
 ghost use Rattle.md_registry.specs.AtOnce.{ContinuesAtOnce, asking_next, openers_passed};
 ghost use Rattle.md_registry.specs.Flow.{existing_after_transition};
 ghost use Rattle.md_registry.specs.LineFlags.{next_container};
@@ -24,7 +23,6 @@ ghost use Rattle.md_containers.specs.PlainBullet.{IsPlainBullet};
 ghost use Rattle.md_registry.specs.Registry.{opener_front, openers};
 ghost use Rattle.md_registry.specs.Flow.{leaf_end};
 ghost use Rattle.md_registry.specs.States.{flow_table_scheme, is_flow_own};
-ghost use Rattle.md_events.specs.Lent.{whole_from};
 ghost use Rattle.md_events.specs.Transition.{IsAt, NeedsNothing};
 ghost use Rattle.md_engine.specs.declared.state.flow.State.{State as FlowState};
 ghost use Rattle.md_engine.specs.declared.state.heading_atx.State.{State as HeadingState};
@@ -33,11 +31,11 @@ ghost use Rattle.md_engine.specs.declared.state.list_item.State.{State as ItemSt
 use crate::line_ends::{end, leaf_end, line_end};
 use crate::{fences, html_lines};
 use md_containers::plain_item;
+use md_content::content;
 use md_engine::class::is_white;
-use md_engine::event::{Content, Event, Kind, Link, Name, Point};
+use md_engine::event::Point;
 use md_engine::message::Message;
 use md_engine::or_error;
-use md_engine::resolve::Name as ResolveName;
 use md_engine::state::content::State as ContentState;
 use md_engine::state::document::State as DocumentState;
 use md_engine::state::flow::State as FlowState;
@@ -47,12 +45,9 @@ use md_engine::state::list_item::State as ItemState;
 use md_engine::state::space_or_tab::State as WhiteState;
 use md_engine::state::{Name as StateName, State};
 use md_engine::tokenizer::{Container, Frame, Tokenizer};
-use md_events::parts::add_part;
-use md_events::slice::whole_from;
 use md_events::space_or_tab;
 use md_flow::{constructs, document, flow};
 use md_leaves::{blank_line, heading_atx};
-use md_link_definitions::open_text::text_following;
 use md_registry::choices;
 use md_tables::row::{Row, place_of};
 use md_tables::{gfm_table, row_words};
@@ -173,83 +168,32 @@ pub fn opens_at_once(tokenizer: &mut Tokenizer) -> State
     document::container_new_after(tokenizer)
 }
 
-/// The link of a line of content, which is read when all lines are known.
-const CONTENT_LINK: Link = Link {
-    previous: false,
-    next: false,
-    content: Content::Content,
-};
-
-/// Begins an attempt at a line of content, and the line, at a point before that where the tokenizer is.
+/// Begins an attempt at a line of content that has begun before, at this point, after so many events.
 #[inline(never)]
 #[tactic(auto, unfolding(md_engine::specs::Full::IsFullList))]
-fn content_tried(tokenizer: &mut Tokenizer, from: Point) -> Result<(), Message>
-    requires { IsPlaced (world tokenizer.old).setting.bytes from }
-    ensures world { OnOk result (world tokenizer.new ≡ line_tried from (world tokenizer.old)) }
+fn content_tried(tokenizer: &mut Tokenizer, from: Point, many: usize) -> Result<(), Message>
+    requires placed { IsPlaced (world tokenizer.old).setting.bytes from }
+    requires many { many ≤ length (world tokenizer.old).events }
+    requires outer { All (λ frame. frame.events_len ≤ many) (world tokenizer.old).frames }
+    ensures world { OnOk result (world tokenizer.new ≡ line_tried many from (world tokenizer.old)) }
     ensures full { is_err result ≡ true → IsShort tokenizer.new }
 {
     if tokenizer.frames.reserve(1).is_err() {
-        return Err(Message);
-    }
-    if tokenizer.events.reserve(1).is_err() {
         return Err(Message);
     }
     let frame = Frame {
         ok: State::Next(StateName::Flow(FlowState::After)),
         nok: State::Nok,
         is_check: false,
-        events_len: tokenizer.events.len(),
+        events_len: many,
         point: from,
-    };
-    let first = Event {
-        kind: Kind::Enter,
-        name: Name::Content,
-        point: from,
-        link: Some(CONTENT_LINK),
     };
     tokenizer.frames.push_reserved(frame);
-    tokenizer.events.push_reserved(first);
-    tokenizer.scratch.start = whole_from(from);
-    tokenizer.scratch.size = from.column.saturating_sub(1);
-    tokenizer.scratch.seen = from.vs > 0;
     Ok(())
 }
 
-/// The bytes of a line from a point up to where the tokenizer is.
-#[inline(always)]
-fn line_from<'a>(tokenizer: &Tokenizer<'a>, from: Point) -> &'a [u8]
-    requires placed { IsPlaced (world tokenizer.now).setting.bytes from }
-    requires order { whole_from from ≤ whole_from (world tokenizer.now).point }
-    ensures value { let w = world tokenizer.now in
-        result.now ≡ line_taken w.setting.bytes (begun from w.scratch) w.point }
-    ensures bound { length result.now < 2 ^ 61 }
-{
-    let bytes = tokenizer.bytes;
-    &bytes[whole_from(from)..whole_from(tokenizer.point)]
-}
-
-/// Adds a line of content from a point up to where the tokenizer is, and holds it as text.
-#[inline(always)]
-fn content_added(tokenizer: &mut Tokenizer, from: Point) -> Result<(), Message>
-    requires placed { IsPlaced (world tokenizer.old).setting.bytes from }
-    requires order { whole_from from ≤ whole_from (world tokenizer.old).point }
-    ensures world { OnOk result (world tokenizer.new ≡ line_added from (world tokenizer.old)) }
-    ensures full { is_err result ≡ true → IsShort tokenizer.new }
-{
-    let line = line_from(tokenizer, from);
-    let to = tokenizer.point;
-    add_part(tokenizer, Name::Content, Some(CONTENT_LINK), from, to)?;
-    tokenizer.register_resolver_before(ResolveName::Content)?;
-    let column = from.column.saturating_sub(1);
-    tokenizer.flags.leaf = text_following(tokenizer.flags.leaf, column, from.vs > 0, line);
-    tokenizer.scratch.start = 0;
-    tokenizer.scratch.size = 0;
-    tokenizer.scratch.seen = false;
-    Ok(())
-}
-
-/// Before content: its line is taken at once, and ends. An attempt begins only where the line may continue after what
-/// may be read; then the point stays where that ends, so that nothing is seen twice.
+/// Before content: its line begins, is taken at once, and ends. An attempt begins only where the line may continue after
+/// what may be read; then the point stays where that ends, so that nothing is seen twice.
 #[inline(always)]
 fn content_begins(tokenizer: &mut Tokenizer) -> State
     requires { IsAt NeedsNothing (StateName.Flow FlowState.BeforeContent) (world tokenizer.old) }
@@ -259,12 +203,18 @@ fn content_begins(tokenizer: &mut Tokenizer) -> State
         return flow::before_content(tokenizer);
     }
     let from = tokenizer.point;
+    let many = tokenizer.events.len();
+    if let State::Error = content::chunk_start(tokenizer) {
+        return State::Error;
+    }
     tokenizer.see_line();
     if tokenizer.see_or_wait(false) {
-        or_error!(content_tried(tokenizer, from));
+        or_error!(content_tried(tokenizer, from, many));
         return State::Next(StateName::Content(ContentState::ChunkInside));
     }
-    or_error!(content_added(tokenizer, from));
+    if let State::Error = content::chunk_inside(tokenizer) {
+        return State::Error;
+    }
     line_end(tokenizer)
 }
 

@@ -527,9 +527,12 @@ pub fn resolve(tokenizer: &mut Tokenizer) -> Result<Option<Subresult>, Message>
         bytes: tokenizer.bytes,
         options: tokenizer.options,
     };
+    let Tokenizer { point, current, .. } = *tokenizer;
     let events = tokenizer.take_events();
-    let read = read_lines(alloc, &reader, events)?;
+    let read = read_lines(tokenizer, &reader, events)?;
     let found = found_among(alloc, tokenizer.bytes, &read)?;
+    tokenizer.point = point;
+    tokenizer.current = current;
     tokenizer.set_events(read);
     Ok(Some(found))
 }

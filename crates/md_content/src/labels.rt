@@ -15,7 +15,7 @@ use md_engine::event::{Event, Kind, Name};
 use md_engine::message::Message;
 use md_events::slice::between;
 use md_events::walks::{Test, passing};
-use md_scan::label::normal_form;
+use md_scan::label::form_of_bytes;
 use md_scan::memory::push;
 use std::alloc::Global;
 
@@ -84,7 +84,7 @@ pub fn push_label(alloc: Global, found: &mut Vec<String>, text: &[u8]) -> Result
     ensures { OnOk result
         (map string_bytes found.new.items ≡ map string_bytes found.old.items ++ normal_form (text.now ∷ []) ∷ []) }
 {
-    let form = normal_form(alloc, &[text])?;
+    let form = form_of_bytes(alloc, &[text])?;
     push(found, form)
 }
 

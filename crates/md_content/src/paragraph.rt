@@ -5,17 +5,22 @@
 // It adds `Paragraph` around one linked `Data` a line, which reaches over the line's ending where the paragraph
 // continues.
 
-ghost use Rattle.std.specs.Prelude.{IfSome};
+ghost use Rattle.std.specs.Prelude.{◌≡◌, IfOk, IfSome, OnOk, []};
 ghost use Rattle.md_content.specs.ParagraphRule.{IsParagraphState};
+ghost use Rattle.md_content.specs.Resolves.{IsMoved};
+ghost use Rattle.md_engine.specs.Place.{IsPlaced};
 ghost use Rattle.md_engine.specs.World.{world};
+ghost use Rattle.md_engine.specs.declared.event.Name.{Name};
 ghost use Rattle.md_engine.specs.declared.state.Name.{Name as StateName};
 ghost use Rattle.md_engine.specs.declared.state.State.{State};
 ghost use Rattle.md_engine.specs.declared.state.paragraph.State.{State as ParagraphState};
 ghost use Rattle.md_content.specs.Paragraph.{paragraph_transition};
+ghost use Rattle.md_events.specs.Events.Nested.{enter};
 ghost use Rattle.md_events.specs.Stays.{TakesEach};
 ghost use Rattle.md_events.specs.Transition.{IsAt, NeedsNothing};
 
-use md_engine::event::{Content, Link, Name};
+use md_engine::event::{Content, Event, Link, Name, Point};
+use md_engine::message::Message;
 use md_engine::or_error;
 use md_engine::state::paragraph::State as ParagraphState;
 use md_engine::state::{Name as StateName, State};
@@ -110,4 +115,29 @@ pub fn takes_at_once(state: ParagraphState) -> Option<Stay>
         ParagraphState::Inside => Some(Stay::Line),
         _ => None,
     }
+}
+
+/// The event with which a paragraph begins at a point, as the first state adds it to a tokenizer that has no events.
+///
+/// An `Err` says that memory ran out.
+pub fn begin_at(tokenizer: &mut Tokenizer, point: Point) -> Result<Event, Message>
+    requires events { (world tokenizer.old).events ≡ [] }
+    requires frames { (world tokenizer.old).frames ≡ [] }
+    requires placed { IsPlaced (world tokenizer.old).setting.bytes point }
+    ensures event { IfOk result (λ event. event ≡ enter Name.Paragraph point) }
+    ensures moved { OnOk result (IsMoved (world tokenizer.old) (world tokenizer.new)) }
+{
+    tokenizer.point = point;
+    tokenizer.current = tokenizer.look();
+    if let State::Error = start(tokenizer) {
+        return Err(Message);
+    }
+    let mut events = tokenizer.take_events();
+    let [first] = events.as_slice() else {
+        return Err(Message);
+    };
+    let begin = *first;
+    events.clear();
+    tokenizer.set_events(events);
+    Ok(begin)
 }

@@ -19,7 +19,7 @@ use Rattle.md_events.specs.Events.Nested.{exit, pair, Balanced, Forward, last_po
 use Rattle.md_events.specs.Events.Inline.{Part, pieces, Covers, in_order, chunk_placed, chunk_text, line_end}
 use Rattle.md_events.specs.Events.Inline.{pair_unless_empty, endings_of, plain_chunk, plain_chunks, together}
 use Rattle.md_events.specs.Events.Inline.{plain_events, is_inline, is_line_ending, line_endings, Fills, Framed, IsPart}
-use Rattle.md_events.specs.Events.Inline.{KeepsFrame, cut_at, ends_whole}
+use Rattle.md_events.specs.Events.Inline.{KeepsFrame, cut_at, ends_whole, may_be_inside}
 use Rattle.md_events.specs.Substituted.{belongs}
 use Rattle.md_meaning.proofs.TextsLemmas.{NoEnding}
 use Rattle.md_events.proofs.PlacesLemmas.{all-append, placed-facts, placed-from, placed-text}
@@ -147,12 +147,17 @@ placed-pair bytes name p q h k = go (same_place p q)
     go false = and_from (is_placed bytes p) (is_placed bytes q && true) h (and_from (is_placed bytes q) true k refl)
 
 inline-pair : (name : Name) (p q : Point) → is_inline name ≡ true →
-    list_all (λ (e : Event). is_inline e.name) (pair_unless_empty name p q) ≡ true
+    list_all may_be_inside (pair_unless_empty name p q) ≡ true
 inline-pair name p q h = go (same_place p q)
   where
-    go : (x : Bool) → list_all (λ (e : Event). is_inline e.name) (cond x [] (pair name p q)) ≡ true
+    inside : (is_inline name && true) ≡ true
+    inside = and_from (is_inline name) true h refl
+
+    go : (x : Bool) → list_all may_be_inside (cond x [] (pair name p q)) ≡ true
     go true = refl
-    go false = and_from (is_inline name) (is_inline name && true) h (and_from (is_inline name) true h refl)
+    go false =
+        and_from (is_inline name && true) ((is_inline name && true) && true) inside
+        (and_from (is_inline name && true) true inside refl)
 
 forward-pair : (o : Point) (name : Name) (p q : Point) (es : List Event) → IsTrue (at_or_before o p) →
     IsTrue (at_or_before p q) → Forward q es → Forward o (pair_unless_empty name p q ++ es)
@@ -246,11 +251,11 @@ plain-placed bytes (chunk ∷ chunks) h =
     (plain-placed bytes chunks outer.1)
 
 plain-inline : (bytes : List ℕ) (chunks : List Chunk) →
-    list_all (λ (e : Event). is_inline e.name) (together (plain_chunks bytes chunks)) ≡ true
+    list_all may_be_inside (together (plain_chunks bytes chunks)) ≡ true
 plain-inline bytes [] = refl
 plain-inline bytes (chunk ∷ chunks) =
-    all-append (λ (e : Event). is_inline e.name) (plain_chunk bytes chunk) (together (plain_chunks bytes chunks))
-    (all-append (λ (e : Event). is_inline e.name) (pair_unless_empty n.Data chunk.first (line_end bytes chunk))
+    all-append may_be_inside (plain_chunk bytes chunk) (together (plain_chunks bytes chunks))
+    (all-append may_be_inside (pair_unless_empty n.Data chunk.first (line_end bytes chunk))
     (pair_unless_empty n.LineEnding (line_end bytes chunk) chunk.after)
     (inline-pair n.Data chunk.first (line_end bytes chunk) refl)
     (inline-pair n.LineEnding (line_end bytes chunk) chunk.after refl))

@@ -20,7 +20,7 @@ use Rattle.md_events.specs.Events.Nested.{Forward, is_exit}
 use Rattle.md_events.specs.Events.Spelled.{Role, spelled}
 use Rattle.md_events.specs.Events.Inline.{Part, Piece, IsPart, KeepsFrame, is_linked, is_inline, together, piece_of}
 use Rattle.md_events.specs.Events.Inline.{pieces_from, pieces, in_order, chunk_placed, are_lines, ends_whole}
-use Rattle.md_events.specs.Events.Inline.{is_one_line}
+use Rattle.md_events.specs.Events.Inline.{is_one_line, may_be_inside}
 use Rattle.md_events.specs.Events.Tiles.{begins_at, is_part, parts, part_kind, part_of, part_at, part_end}
 use Rattle.md_events.specs.Events.Tiles.{is_white_piece, is_data, links_kind, is_whole_part, are_whole_parts}
 use Rattle.md_events.specs.Events.Tiles.{inside_part, chunks, IsBlockList, EachRead, Tiles}
@@ -286,14 +286,12 @@ parts-are bytes events list =
 
 -- Layers that keep the promise of all layers.
 
-each-inline : (events : List Event) → list_all (λ (e : Event). is_inline e.name) events ≡ true →
-    Roles QuietOrEnding events
+each-inline : (events : List Event) → list_all may_be_inside events ≡ true → Roles QuietOrEnding events
 each-inline [] h = tt
 each-inline (e ∷ es) h =
-    let parts : (is_inline e.name ≡ true) ×
-    (list_all (λ (e : Event). is_inline e.name) es ≡ true) = and_parts (is_inline e.name)
-    (list_all (λ (e : Event). is_inline e.name) es) h in
-    (inline-role e.name parts.0, each-inline es parts.1)
+    let parts : (may_be_inside e ≡ true) ×
+    (list_all may_be_inside es ≡ true) = and_parts (may_be_inside e) (list_all may_be_inside es) h in
+    (inline-role e.name (and_parts (is_inline e.name) (not (is_linked e)) parts.0).0, each-inline es parts.1)
 
 roles-parts : (P : Role → Type 0) (xs ys : List Event) → Roles P (xs ++ ys) → Roles P xs × Roles P ys
 roles-parts P [] ys h = (tt, h)

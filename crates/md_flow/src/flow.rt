@@ -297,10 +297,16 @@ pub fn call(tokenizer: &mut Tokenizer, state: FlowState) -> State
     match state {
         FlowState::Start => start(tokenizer),
         FlowState::BlankLineBefore => blank_line_before(tokenizer),
+        FlowState::BeforeCodeIndented => before_code_indented(tokenizer),
+        FlowState::BeforeRaw => before_raw(tokenizer),
+        FlowState::BeforeHtml => before_html(tokenizer),
+        FlowState::BeforeHeadingAtx => before_heading_atx(tokenizer),
+        FlowState::BeforeHeadingSetext => before_heading_setext(tokenizer),
+        FlowState::BeforeThematicBreak => before_thematic_break(tokenizer),
+        FlowState::BeforeGfmTable => before_gfm_table(tokenizer),
         FlowState::BeforeContent => before_content(tokenizer),
         FlowState::BlankLineAfter => blank_line_after(tokenizer),
         FlowState::LeafAfter => leaf_after(tokenizer),
         FlowState::After => after(tokenizer),
-        _ => try_leaf(tokenizer, state),
     }
 }

@@ -39,15 +39,7 @@ abbrev mutual
   block_labels (t.Footnote label blocks) =
       both (record { definitions = []; footnotes = normal_form (label ∷ []) ∷ [] }) (labels blocks)
   block_labels (t.Definition label destination title) = record { definitions = normal_form label ∷ []; footnotes = [] }
-  block_labels (t.Frontmatter marker lines) = no_labels
-  block_labels (t.Heading depth lines) = no_labels
-  block_labels t.Break = no_labels
-  block_labels (t.Code lines) = no_labels
-  block_labels (t.Html lines) = no_labels
-  block_labels (t.Fence marker info meta lines closed) = no_labels
-  block_labels (t.Math meta lines closed) = no_labels
-  block_labels (t.Paragraph lines) = no_labels
-  block_labels (t.Table delimiter rows) = no_labels
+  block_labels _ = no_labels
 
   -- the labels of blocks
   pub labels : t.Blocks → Labels

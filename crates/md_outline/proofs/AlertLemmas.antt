@@ -10,7 +10,7 @@ use Rattle.md_meaning.specs.declared.outline.Word.TheVariants as word
 use Rattle.md_meaning.specs.Outline.{Entry, block_entries, entries, entry, entry_with, line_entries, outline}
 use Rattle.md_meaning.specs.Outline.{part_entry, row_entries, rows_entries, table_entries, title_entries}
 use Rattle.md_meaning.specs.State.{then_block}
-use Rattle.md_meaning.specs.Tree.{Block, Blocks, Break, Code, Definition, End, Fence, Footnote, Frontmatter, Heading}
+use Rattle.md_meaning.specs.Tree.{Block, Blocks, Code, Definition, End, Fence, Footnote, Frontmatter, Heading}
 use Rattle.md_meaning.specs.Tree.{Html, Item, Line, ListOf, Math, More, Paragraph, Quote, Table}
 use Rattle.md_events.specs.Events.Spelled.{FootnoteShape, ItemShape, OpenContainer, OrderedShape, QuoteShape, Shape}
 use Rattle.md_events.specs.Events.Spelled.{UnorderedShape, block_around, list_marker, on_last, on_shape, with_kind}
@@ -73,7 +73,6 @@ mutual
   deep-block depth d (Item marker digits bs) le = (le, deep-all depth (d + 1) bs (omega arith))
   deep-block depth d (Footnote label bs) le = (le, (omega arith, deep-all depth (d + 1) bs (omega arith)))
   deep-block depth d (Heading n lines) le = (le, deep-entries depth (d + 1) word.Line lines (omega arith))
-  deep-block depth d Break le = (le, tt)
   deep-block depth d (Code lines) le = (le, deep-lines depth (d + 1) lines (omega arith))
   deep-block depth d (Html lines) le = (le, deep-lines depth (d + 1) lines (omega arith))
   deep-block depth d (Fence marker info meta lines closed) le =
@@ -100,6 +99,7 @@ mutual
       )
   deep-block depth d (Paragraph lines) le = (le, deep-entries depth (d + 1) word.Line lines (omega arith))
   deep-block depth d (Table delimiter rows) le = deep-table depth d delimiter rows le
+  deep-block depth d _ le = (le, tt)
 
   deep-all : (depth d : ℕ) (bs : Blocks) → depth ≤ d → Deep depth (outline d bs)
   deep-all depth d End le = tt

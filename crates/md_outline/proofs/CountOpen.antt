@@ -1,5 +1,8 @@
 -- How many parts are open after the first events, by how many parts have begun.
 use Rattle.std.proofs.Common.{◌≡◌, ℕ, zero, suc, ◌+◌, ◌<◌, ◌≤◌, List, [], ◌∷◌, length, take, get_or, sym}
+use Rattle.std.proofs.Common.{Bool, false, nat_lt, not, refl, true}
+use Rattle.std.specs.Prelude.{◌==◌}
+use Rattle.std.proofs.lemmas.Bool.Decides.{nat_tests}
 use Rattle.std.proofs.Common.{◌∙◌, ◌-◌, ap, drop, length-drop, subst, arith}
 use Rattle.std.proofs.lemmas.List.{drop-drop, get_or-drop, length-take-le, take-take, take_all, take_more}
 use Rattle.md_engine.specs.declared.event.Event.{Event}
@@ -7,6 +10,7 @@ use Rattle.md_engine.specs.declared.event.Kind.{Kind}
 use Rattle.md_engine.specs.declared.event.Kind.TheVariants.{Enter, Exit}
 use Rattle.md_engine.specs.declared.event.Name.{Name}
 use Rattle.md_outline.specs.CountOpen.{begun}
+use Rattle.md_outline.specs.OutlinePart.{IsFewest, least_events}
 use Rattle.md_events.specs.Events.Nested.{Fits, Matches, open_after, open_following}
 use Rattle.md_events.proofs.NestedLemmas.{open_after-append}
 
@@ -141,3 +145,21 @@ left-counts events rest most enters le h =
           h.counts.matched (matches-first [] events most m)
           ∙ ap (λ (l : List Event). h.count + length (open_after [] l)) (take-take h.count most events within);
     })
+
+-- Where some part is open after so many events, or these are too few, one more is needed.
+pub fewest-one : (events : List Event) (end enters : ℕ) → Counts events end enters →
+    (least_events ≤ end → not ((end - enters) == enters) ≡ true) → IsFewest events end → IsFewest events (end + 1)
+fewest-one events end enters counts more fewest balanced k least lt closed = go (nat_lt k end) refl
+  where
+    go : (x : Bool) → nat_lt k end ≡ x → ⊥
+    go true e = let before : k < end = grind (arith, nat_tests) in fewest balanced k least before closed
+    go false e =
+        let same : k ≡ end = grind (arith, nat_tests) in
+        let all : enters + enters ≡ end + length (open_after [] (take end events)) =
+        counts.matched balanced.matches in
+        let none : length (open_after [] (take end events)) ≡ 0 =
+        ap length (subst (λ (n : ℕ). open_after [] (take n events) ≡ []) same closed) in
+        let some : not ((end - enters) == enters) ≡ true = more (omega (arith, least, same)) in
+        let is : ((end - enters) == enters) ≡ true = grind (arith, nat_tests) in
+        let bad : false ≡ true = ap not (sym is) ∙ some in
+        cc

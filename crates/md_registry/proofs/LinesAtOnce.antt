@@ -130,17 +130,7 @@ line-front is_end s v w seen within arrived =
     (leaf_front (is_some (asked_first (begun_line w.flags).leaf))) w (record w { flags = begun_line w.flags }) arrived
     (record { to_is = refl; new_is = refl }) refl within refl seen
 
--- and else its rest begins,
-pub line-begun : (is_end : Bool) (s : State) (v w : World) →
-    is_some (asked_first (begun_line w.flags).leaf) ≡ false → w.current ≡ looks w → Within w →
-    ArrivedAt FlowStep is_end s v (n.Document document.ContainersAfter) w →
-    ArrivedAt FlowStep is_end s v (n.Flow flow.Start) (record w { flags = begun_line w.flags })
-line-begun is_end s v w none seen within arrived =
-    let u : World = record w { flags = begun_line w.flags } in
-    subst (λ (x : Bool). ArrivedAt FlowStep is_end s v (leaf_front x) u) none
-    (line-front is_end s v w seen within arrived)
-
--- which may be blank where whitespace is here, or nothing,
+-- and else its rest, which may be blank where whitespace is here, or nothing,
 pub line-blank : (is_end : Bool) (s : State) (v w : World) →
     start_transition w ≡ record { to = Retry (n.Flow flow.BlankLineBefore); world = w } → w.current ≡ looks w →
     Within w → ArrivedAt FlowStep is_end s v (n.Flow flow.Start) w →

@@ -430,15 +430,6 @@ pub fn plain_opener() -> ContainerKind
     ContainerKind::ListItem
 }
 
-/// Takes that prefix, as the states of the container that is tried do, and sees what follows it.
-#[inline(always)]
-pub fn take_plain_opening(tokenizer: &mut Tokenizer) -> Result<(), Message>
-    requires { IsPlainBullet (world tokenizer.old) }
-    ensures { OnOk result (world tokenizer.new ≡ bulleted (world tokenizer.old)) }
-{
-    plain_item::take_plain_bullet(tokenizer)
-}
-
 /// The state before the prefix of a container on a further line. That of a footnote definition is an indent, as an
 /// item's.
 pub fn continues_with(kind: ContainerKind) -> StateName

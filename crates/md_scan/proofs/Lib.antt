@@ -1,2 +1,3 @@
 pub mod DefinitionLemmas
+pub mod TextWords
 pub mod WordLemmas

@@ -1,6 +1,7 @@
 // The normal forms of labels (CommonMark 6.3).
 ghost use Rattle.std.specs.Prelude.{◌≡◌, ◌≤◌, not, length, string_bytes, IfOk, OnOk};
 ghost use Rattle.std.specs.List.{prefix_len};
+ghost use Rattle.std.specs.Str.{IsUtf8};
 ghost use Rattle.md_meaning.specs.Label as label;
 ghost use Rattle.md_meaning.specs.Rest.{is_white};
 ghost use Rattle.md_scan.specs.Definitions.{texts};
@@ -35,7 +36,8 @@ fn push_word(text: &mut Vec<u8>, word: &[u8]) -> Result<(), Message>
 
 /// Adds the words of a line. After an `Err` the text is cut off.
 fn push_words(text: &mut Vec<u8>, line: &[u8]) -> Result<(), Message>
-    ensures { OnOk result (text.new.items ≡ words.with_words text.old.items (label.words line.now)) }
+    ensures words { OnOk result (text.new.items ≡ words.with_words text.old.items (label.words line.now)) }
+    ensures utf8 { OnOk result (IsUtf8 text.old.items → IsUtf8 line.now → IsUtf8 text.new.items) }
 {
     let mut rest = line;
     while let Some((first, others)) = rest.split_first() {
@@ -61,11 +63,37 @@ fn spaced(alloc: Global, lines: &[&[u8]]) -> Result<Vec<u8>, Message>
     Ok(text)
 }
 
-/// The normal form of a label (CommonMark 6.3), given the bytes of its lines without the prefixes of containers: one
-/// space for each run of spaces, tabs and line endings, none at the ends, and Unicode full case folding. An `Err` says
-/// that memory ran out; so it does of bytes that are no UTF-8, which no label of a text has.
+/// The same of lines that are UTF-8, and so is the text.
+fn spaced_text(alloc: Global, lines: &[&str]) -> Result<Vec<u8>, Message>
+    ensures words { IfOk result (λ text. text.items ≡ label.spaced (texts lines.now)) }
+    ensures utf8 { IfOk result (λ text. IsUtf8 text.items) }
+{
+    let mut text = Vec::new(alloc);
+    for line in lines {
+        push_words(&mut text, line.as_bytes())?;
+    }
+    Ok(text)
+}
+
+/// The normal form of a label (CommonMark 6.3), given its lines without the prefixes of containers: one space for each
+/// run of spaces, tabs and line endings, none at the ends, and Unicode full case folding. An `Err` says that memory ran
+/// out.
 #[tactic(auto, unfolding(md_meaning::specs::Label::normal_form))]
-pub fn normal_form(alloc: Global, lines: &[&[u8]]) -> Result<String, Message>
+pub fn normal_form(alloc: Global, lines: &[&str]) -> Result<String, Message>
+    ensures { IfOk result (λ form. string_bytes form ≡ label.normal_form (texts lines.now)) }
+{
+    let bytes = spaced_text(alloc, lines)?;
+    let text = str::from_utf8(&bytes).unwrap();
+    match default_case_fold_str(alloc, text) {
+        Ok(form) => Ok(form),
+        Err(_) => Err(Message),
+    }
+}
+
+/// The same, given the bytes of the lines. Of bytes that are no UTF-8, which no label of a text has, it says that memory
+/// ran out.
+#[tactic(auto, unfolding(md_meaning::specs::Label::normal_form))]
+pub fn form_of_bytes(alloc: Global, lines: &[&[u8]]) -> Result<String, Message>
     ensures { IfOk result (λ form. string_bytes form ≡ label.normal_form (texts lines.now)) }
 {
     let bytes = spaced(alloc, lines)?;

@@ -11,7 +11,7 @@ ghost use Rattle.reference_tree.specs.Placed.{places};
 use crate::blocks::Blocks;
 use crate::order::{Place, in_order};
 use md_engine::message::Message;
-use md_scan::label::normal_form;
+use md_scan::label::form_of_bytes;
 use md_scan::memory;
 use reference_grammars::tree::Block;
 use std::alloc::Global;
@@ -29,7 +29,7 @@ fn push_form(alloc: Global, forms: &mut Vec<String>, lines: &[&[u8]]) -> Result<
         (map string_bytes forms.new.items ≡
         map string_bytes forms.old.items ++ label.normal_form (texts lines.now) ∷ []) }
 {
-    let form = normal_form(alloc, lines)?;
+    let form = form_of_bytes(alloc, lines)?;
     memory::push(forms, form)
 }
 

@@ -341,7 +341,7 @@ fn push_reference(
         return Ok(());
     }
     let places = (place_of(&part.brackets, from), place_of(&part.brackets, to));
-    let (Some(start), Some(last)) = places else {
+    let (Some(start), Some(last), Ok(label)) = (places.0, places.1, str::from_utf8(label)) else {
         return Ok(());
     };
     let reference = Reference {

@@ -1,27 +1,12 @@
-// Tests of the library, of constructs and their resolvers by themselves, and of the programs. A crate with tests is
+// Tests of the library and of the programs that no row can have: runs over inputs and outputs that fail or that signals
+// interrupt, arguments of a system, outlines by parts, and what the layer of references marks. A crate with tests is
 // proved twice, so they are here and not beside what they test.
 #![tactic(auto)]
 
 #[cfg(test)]
-mod alerts;
-#[cfg(test)]
-mod footnotes;
-#[cfg(test)]
-mod grammars;
-#[cfg(test)]
-mod heading_text;
-#[cfg(test)]
-mod lined;
-#[cfg(test)]
-mod lists;
-#[cfg(test)]
 mod marks;
 #[cfg(test)]
-mod outlines;
-#[cfg(test)]
 mod parts;
-#[cfg(test)]
-mod plain_outlines;
 #[cfg(test)]
 mod runs;
 #[cfg(test)]
@@ -30,7 +15,3 @@ mod signals;
 mod streams;
 #[cfg(test)]
 mod system;
-#[cfg(test)]
-mod tables;
-#[cfg(test)]
-mod wraps;

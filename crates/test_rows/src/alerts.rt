@@ -781,5 +781,53 @@ frontmatter +
 alert note
   paragraph
     | +++
+
+own choice: alerts are of quotes alone | alerts | list_item
+"+ [!NOTE]\n  a"
+list +
+  item
+    paragraph
+      | [!NOTE]
+      | a
+
+own choice: alerts are of quotes alone | alerts | gfm_footnote_definition
+"[^x]: [!NOTE]\n    a"
+footnote
+  label | x
+  paragraph
+    | [!NOTE]
+    | a
+definitions 0
+footnotes 1
+= x
+
+own choice: alerts | alerts | nothing
+"[!NOTE]\na"
+paragraph
+  | [!NOTE]
+  | a
+
+own choice: alerts | alerts | alerts block_quote
+">[!note] \t"
+alert note
+
+own choice: alerts | alerts | alerts block_quote
+" >  [!TIP]\n"
+alert tip
+
+own choice: alerts | alerts | alerts block_quote
+">\t[!TIP]"
+alert tip
+
+own choice: alerts | alerts | alerts block_quote
+">>[!TIP]"
+quote
+  alert tip
+
+own choice: alerts | alerts | alerts block_quote
+"> [!TIP] a"
+quote
+  paragraph
+    | [!TIP] a
 "##
 }

@@ -293,5 +293,14 @@ break
 CommonMark 4.1: a break where no text is open | gfm | thematic_break
 "---"
 break
+
+CommonMark 4.1 | exactly thematic_break
+"--\n-- -\n_ _\t_\n* _ *"
+paragraph
+  | --
+break
+break
+paragraph
+  | * _ *
 "#
 }

@@ -741,5 +741,74 @@ paragraph
   | $$
   | a
   | $$
+
+CommonMark 4.4 | commonmark | code_indented
+"    a"
+code
+  | a
+
+CommonMark 4.4 | commonmark | code_indented
+"    a\n      \n\n\tb\nc"
+code
+  | a
+  |  \u{20}
+  |\u{20}
+  | b
+paragraph
+  | c
+
+CommonMark 4.4 and 5.1 | commonmark | block_quote code_indented
+">     a\n>     b"
+quote
+  code
+    | a
+    | b
+
+CommonMark 4.5 | commonmark | code_fenced
+"~~~\n"
+fence ~ open
+
+CommonMark 4.5 | commonmark | code_fenced
+"~~~\n~~~"
+fence ~
+
+CommonMark 4.5 | commonmark | code_fenced
+"```\na\n````"
+fence `
+  | a
+
+CommonMark 4.5 | commonmark | code_fenced
+"```\n\n\n```\nb"
+fence `
+  |\u{20}
+  |\u{20}
+paragraph
+  | b
+
+CommonMark 4.5 | commonmark | code_fenced
+"``` a b c\nd"
+fence ` open
+  info | a
+  meta | b c
+  | d
+
+CommonMark 4.5 | commonmark | code_fenced
+"~~~a \n~~~ "
+fence ~
+  info | a
+
+CommonMark 4.5 and 5.1 | commonmark | block_quote code_fenced
+"> ```\n> a\nb"
+quote
+  fence ` open
+    | a
+paragraph
+  | b
+
+own choice: math between dollars | all | math_flow
+"$$ a b\nc\n$$"
+math
+  meta | a b
+  | c
 "##
 }

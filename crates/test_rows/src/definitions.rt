@@ -436,5 +436,94 @@ definitions 2
 = a
 = a
 footnotes 0
+
+CommonMark 4.7 | commonmark | definition
+"[a]: b\nc"
+definition
+  label | a
+  destination | b
+paragraph
+  | c
+definitions 1
+= a
+footnotes 0
+
+CommonMark 4.7 | commonmark | definition
+"[a]: b \"c\""
+definition
+  label | a
+  destination | b
+  title | c
+definitions 1
+= a
+footnotes 0
+
+CommonMark 4.7 | commonmark | definition
+"[a]: <> ''"
+definition
+  label | a
+  destination |\u{20}
+  title |\u{20}
+definitions 1
+= a
+footnotes 0
+
+CommonMark 4.7 | commonmark | definition
+"[ a\n b]: c"
+definition
+  label |  a
+  label | b
+  destination | c
+definitions 1
+= a b
+footnotes 0
+
+CommonMark 4.7 | commonmark | definition
+"[a\n  b]:\nc\n'd\n e\n'"
+definition
+  label | a
+  label | b
+  destination | c
+  title | d
+  title | e
+  title |\u{20}
+definitions 1
+= a b
+footnotes 0
+
+CommonMark 4.7 and 5.1 | commonmark | block_quote definition
+"> [a\n> b]: c\n> 'd\n> e'"
+quote
+  definition
+    label | a
+    label | b
+    destination | c
+    title | d
+    title | e
+definitions 1
+= a b
+footnotes 0
+
+CommonMark 4.7 and 5.1 | commonmark | block_quote definition
+"> [\n> a\n> ]: b"
+quote
+  definition
+    label |\u{20}
+    label | a
+    label |\u{20}
+    destination | b
+definitions 1
+= a
+footnotes 0
+
+CommonMark 4.7: a label is compared without case and with one space between words | commonmark | definition
+"[  \u{1e9e} \t A\nb ]: c"
+definition
+  label |   \u{1e9e} \t A
+  label | b\u{20}
+  destination | c
+definitions 1
+= ss a b
+footnotes 0
 "##
 }

@@ -140,6 +140,242 @@ GfmTable
           Data "c d"
         GfmTableCellDivider "|"
 
+the prefix of an alert's first line has the marker, that of the second has none | alerts
+"> [!TIP]\n> a"
+BlockQuote
+  BlockQuotePrefix
+    BlockQuoteMarker ">"
+    SpaceOrTab " "
+    BlockQuoteMarker "[!TIP]"
+  BlankLineEnding "\n"
+  BlockQuotePrefix
+    BlockQuoteMarker ">"
+    SpaceOrTab " "
+  Paragraph
+    Data "a"
+
+whitespace after the marker of an alert belongs to the prefix | alerts
+">[!note] \t"
+BlockQuote
+  BlockQuotePrefix
+    BlockQuoteMarker ">"
+    BlockQuoteMarker "[!note]"
+    SpaceOrTab " \t"
+
+an indent before an alert, and whitespace after its `>` | alerts
+" >  [!TIP]\n"
+BlockQuote
+  SpaceOrTab " "
+  BlockQuotePrefix
+    BlockQuoteMarker ">"
+    SpaceOrTab " "
+    SpaceOrTab " "
+    BlockQuoteMarker "[!TIP]"
+BlankLineEnding "\n"
+
+the columns of a tab before the marker of an alert | alerts
+">\t[!TIP]"
+BlockQuote
+  BlockQuotePrefix
+    BlockQuoteMarker ">"
+    SpaceOrTab "" 1
+    SpaceOrTab "\t"
+    BlockQuoteMarker "[!TIP]"
+
+each of two quotes has its own prefix, the inner one with the marker of an alert | alerts
+">>[!TIP]"
+BlockQuote
+  BlockQuotePrefix
+    BlockQuoteMarker ">"
+  BlockQuote
+    BlockQuotePrefix
+      BlockQuoteMarker ">"
+      BlockQuoteMarker "[!TIP]"
+
+text after the marker makes a quote | alerts
+"> [!TIP] a"
+BlockQuote
+  BlockQuotePrefix
+    BlockQuoteMarker ">"
+    SpaceOrTab " "
+  Paragraph
+    Data "[!TIP] a"
+
+a further line has no marker of an alert | alerts
+">a\n>[!TIP]"
+BlockQuote
+  BlockQuotePrefix
+    BlockQuoteMarker ">"
+  Paragraph
+    Data "a"
+    LineEnding "\n"
+    BlockQuotePrefix
+      BlockQuoteMarker ">"
+    Data "[!TIP]"
+
+without alerts a marker is text | gfm
+"> [!TIP]\n> a"
+BlockQuote
+  BlockQuotePrefix
+    BlockQuoteMarker ">"
+    SpaceOrTab " "
+  Paragraph
+    Data "[!TIP]"
+    LineEnding "\n"
+    BlockQuotePrefix
+      BlockQuoteMarker ">"
+      SpaceOrTab " "
+    Data "a"
+
+a head of one cell without a body | gfm
+"a\n:-"
+GfmTable
+  GfmTableHead
+    GfmTableRow
+      GfmTableCell
+        GfmTableCellText
+          Data "a"
+    LineEnding "\n"
+    GfmTableDelimiterRow
+      GfmTableDelimiterCell
+        GfmTableDelimiterCellValue
+          GfmTableDelimiterMarker ":"
+          GfmTableDelimiterFiller "-"
+
+pipes around a row, and words with a space between them | gfm
+"a|b\n-|-\n|c d|"
+GfmTable
+  GfmTableHead
+    GfmTableRow
+      GfmTableCell
+        GfmTableCellText
+          Data "a"
+      GfmTableCell
+        GfmTableCellDivider "|"
+        GfmTableCellText
+          Data "b"
+    LineEnding "\n"
+    GfmTableDelimiterRow
+      GfmTableDelimiterCell
+        GfmTableDelimiterCellValue
+          GfmTableDelimiterFiller "-"
+      GfmTableDelimiterCell
+        GfmTableCellDivider "|"
+        GfmTableDelimiterCellValue
+          GfmTableDelimiterFiller "-"
+  LineEnding "\n"
+  GfmTableBody
+    GfmTableRow
+      GfmTableCell
+        GfmTableCellDivider "|"
+        GfmTableCellText
+          Data "c d"
+        GfmTableCellDivider "|"
+
+text before a head, a pipe after a backslash, and a paragraph after the table | gfm
+"a\nb\n|-\n\\|\n\nc"
+Paragraph
+  Data "a"
+LineEnding "\n"
+GfmTable
+  GfmTableHead
+    GfmTableRow
+      GfmTableCell
+        GfmTableCellText
+          Data "b"
+    LineEnding "\n"
+    GfmTableDelimiterRow
+      GfmTableDelimiterCell
+        GfmTableCellDivider "|"
+        GfmTableDelimiterCellValue
+          GfmTableDelimiterFiller "-"
+  LineEnding "\n"
+  GfmTableBody
+    GfmTableRow
+      GfmTableCell
+        GfmTableCellText
+          Data "\\|"
+LineEnding "\n"
+BlankLineEnding "\n"
+Paragraph
+  Data "c"
+
+a head on a lazy line | gfm
+"> a\nb\n> :-"
+BlockQuote
+  BlockQuotePrefix
+    BlockQuoteMarker ">"
+    SpaceOrTab " "
+  Paragraph
+    Data "a"
+  LineEnding "\n"
+  GfmTable
+    GfmTableHead
+      GfmTableRow
+        GfmTableCell
+          GfmTableCellText
+            Data "b"
+      LineEnding "\n"
+      BlockQuotePrefix
+        BlockQuoteMarker ">"
+        SpaceOrTab " "
+      GfmTableDelimiterRow
+        GfmTableDelimiterCell
+          GfmTableDelimiterCellValue
+            GfmTableDelimiterMarker ":"
+            GfmTableDelimiterFiller "-"
+
+a lazy line is no delimiter row | gfm
+"> a\n:-"
+BlockQuote
+  BlockQuotePrefix
+    BlockQuoteMarker ">"
+    SpaceOrTab " "
+  Paragraph
+    Data "a"
+    LineEnding "\n"
+    Data ":-"
+
+a heading of its sequence alone has no text | commonmark
+"#"
+HeadingAtx
+  HeadingAtxSequence "#"
+
+an inner run of a heading is text | commonmark
+"# # a"
+HeadingAtx
+  HeadingAtxSequence "#"
+  SpaceOrTab " "
+  HeadingAtxText
+    Data "# a"
+
+each heading has its own text | commonmark
+"# a #\n# b"
+HeadingAtx
+  HeadingAtxSequence "#"
+  SpaceOrTab " "
+  HeadingAtxText
+    Data "a"
+  SpaceOrTab " "
+  HeadingAtxSequence "#"
+LineEnding "\n"
+HeadingAtx
+  HeadingAtxSequence "#"
+  SpaceOrTab " "
+  HeadingAtxText
+    Data "b"
+
+of two runs only the last one closes a heading | commonmark
+"# # # "
+HeadingAtx
+  HeadingAtxSequence "#"
+  SpaceOrTab " "
+  HeadingAtxText
+    Data "#"
+  SpaceOrTab " "
+  HeadingAtxSequence "#"
+  SpaceOrTab " "
+
 a bracket after a backslash opens no reference | commonmark | references
 "\\[q] [q]\n\n[q]: r"
 Paragraph

@@ -471,5 +471,123 @@ definitions 1
 = a b
 footnotes 1
 = f
+
+own choice: frontmatter | all | frontmatter
+"+++ \na: b\n\n\n+++\t\nc"
+frontmatter +
+  | a: b
+  |\u{20}
+  |\u{20}
+paragraph
+  | c
+
+own choice: frontmatter | all | frontmatter
+"---\n\ta \n---"
+frontmatter -
+  | \ta\u{20}
+
+own choice: footnotes as on GitHub | gfm | gfm_footnote_definition
+"[^a]: b\n\n    c"
+footnote
+  label | a
+  paragraph
+    | b
+  paragraph
+    | c
+definitions 0
+footnotes 1
+= a
+
+own choice: labels of footnotes in their order, in normal form, with repeats | gfm | block_quote definition gfm_footnote_definition list_item
+"[^A]: x\n[^\u{df}]:\n\n[b]: c\n\n> - [^a]: z"
+footnote
+  label | A
+  paragraph
+    | x
+footnote
+  label | \u{df}
+definition
+  label | b
+  destination | c
+quote
+  list -
+    item
+      footnote
+        label | a
+        paragraph
+          | z
+definitions 1
+= b
+footnotes 3
+= a
+= ss
+= a
+
+own choice: the label of the outer footnote comes first | gfm | block_quote gfm_footnote_definition
+"[^c]:\n\n    [^d]: x\n\n[^b]: > [^a]: y"
+footnote
+  label | c
+  footnote
+    label | d
+    paragraph
+      | x
+footnote
+  label | b
+  quote
+    footnote
+      label | a
+      paragraph
+        | y
+definitions 0
+footnotes 4
+= c
+= d
+= b
+= a
+
+own choice: footnotes as on GitHub | gfm | gfm_footnote_definition
+"[^x]: \u{feff}a"
+footnote
+  label | x
+  paragraph
+    | \u{feff}a
+definitions 0
+footnotes 1
+= x
+
+own choice: footnotes as on GitHub | gfm | gfm_footnote_definition
+"[^x]: \n    \n    a"
+footnote
+  label | x
+  paragraph
+    | a
+definitions 0
+footnotes 1
+= x
+
+own choice: footnotes as on GitHub | gfm | gfm_footnote_definition list_item
+"+ [^a]: b"
+list +
+  item
+    footnote
+      label | a
+      paragraph
+        | b
+definitions 0
+footnotes 1
+= a
+
+own choice: footnotes as on GitHub | gfm | gfm_footnote_definition
+"[^x]: [^a]: b"
+footnote
+  label | x
+  footnote
+    label | a
+    paragraph
+      | b
+definitions 0
+footnotes 2
+= x
+= a
 "#
 }

@@ -450,5 +450,14 @@ heading 1
 CommonMark 4.2 | commonmark | heading_atx
 "### ###"
 heading 3
+
+CommonMark 4.2 | commonmark | heading_atx
+"a\n# \u{e9}\nb"
+paragraph
+  | a
+heading 1
+  | \u{e9}
+paragraph
+  | b
 "########
 }

@@ -501,5 +501,12 @@ CommonMark 5.2 | commonmark | nothing
 paragraph
   | a
   | 2. b
+
+own choice: a byte order mark elsewhere is text | commonmark | list_item
+"+ \u{feff}a"
+list +
+  item
+    paragraph
+      | \u{feff}a
 "#
 }

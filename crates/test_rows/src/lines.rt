@@ -287,5 +287,32 @@ list -
   item
     paragraph
       | \u{e9}\tb
+
+own choice: a byte order mark in front is no text | commonmark | nothing
+"\u{feff}a"
+paragraph
+  | a
+
+CommonMark 2.3: a zero byte is text; its replacement is a matter of output | commonmark | nothing
+"\0"
+paragraph
+  | \0
+
+CommonMark 2.1 | commonmark | nothing
+"a\r\nb\rc\nd "
+paragraph
+  | a
+  | b
+  | c
+  | d\u{20}
+
+CommonMark 4.9 | commonmark | nothing
+"  \n\t\n"
+
+CommonMark 2.1: only spaces and tabs are blank | commonmark | nothing
+"\u{e9}\n\u{a0}"
+paragraph
+  | \u{e9}
+  | \u{a0}
 "##
 }

@@ -328,5 +328,99 @@ list -
   item
     paragraph
       | c
+
+CommonMark 5.2 | commonmark | list_item
+"-"
+list -
+  item
+
+CommonMark 5.3 | commonmark | list_item
+"-\n-\n"
+list -
+  item
+  item
+
+CommonMark 5.3 | commonmark | list_item
+"-\n+"
+list -
+  item
+list +
+  item
+
+CommonMark 5.2 | commonmark | list_item
+"1)"
+list )
+  item
+
+CommonMark 5.3 | commonmark | list_item
+"- b\n\na\n- c"
+list -
+  item
+    paragraph
+      | b
+paragraph
+  | a
+list -
+  item
+    paragraph
+      | c
+
+CommonMark 5.1 and 5.3 | commonmark | block_quote list_item
+"-\n>\n-"
+list -
+  item
+quote
+list -
+  item
+
+CommonMark 5.3 | commonmark | list_item
+"- -\n-"
+list -
+  item
+    list -
+      item
+  item
+
+CommonMark 5.3 | commonmark | list_item
+"- a\n- b"
+list -
+  item
+    paragraph
+      | a
+  item
+    paragraph
+      | b
+
+CommonMark 5.2 | commonmark | list_item
+"1) a"
+list )
+  item
+    paragraph
+      | a
+
+CommonMark 5.3 | commonmark | list_item
+"* - a\n* b"
+list *
+  item
+    list -
+      item
+        paragraph
+          | a
+  item
+    paragraph
+      | b
+
+CommonMark 5.1 and 5.2 | commonmark | block_quote list_item
+"> - a\n- > b"
+quote
+  list -
+    item
+      paragraph
+        | a
+list -
+  item
+    quote
+      paragraph
+        | b
 "#
 }

@@ -347,5 +347,57 @@ CommonMark 5.1 | commonmark | block_quote
 quote
   paragraph
     | a
+
+CommonMark 2.2 and 5.1 | exactly block_quote
+">\ta\n>\t\tb"
+quote
+  paragraph
+    | a
+    | b
+
+CommonMark 5.1; own choice: a byte order mark in front is no text | commonmark | block_quote
+"\u{feff}> a\r\n> b\rc"
+quote
+  paragraph
+    | a
+    | b
+    | c
+
+CommonMark 5.1 | commonmark | block_quote
+"a\n> b\n\n> c"
+paragraph
+  | a
+quote
+  paragraph
+    | b
+quote
+  paragraph
+    | c
+
+CommonMark 5.1 | commonmark | block_quote thematic_break
+"> a\n >\tb\n> > c\r> > d\n*** "
+quote
+  paragraph
+    | a
+    | b
+  quote
+    paragraph
+      | c
+      | d
+break
+
+own choice: a construct that is off accepts no line | exactly
+"***\n\n# a\n> b"
+paragraph
+  | ***
+paragraph
+  | # a
+  | > b
+
+own choice: a byte order mark elsewhere is text | commonmark | block_quote
+"> \u{feff}a"
+quote
+  paragraph
+    | \u{feff}a
 "#
 }

@@ -271,5 +271,28 @@ CommonMark 2.2: what is left of a cut tab is whitespace | gfm | block_quote them
 ">\t***"
 quote
   break
+
+CommonMark 2.2 and 5.1: a tab has fewer columns after a prefix | exactly block_quote code_indented gfm_footnote_definition list_item
+"> \ta"
+quote
+  paragraph
+    | a
+
+CommonMark 2.2 and 5.2: a tab has fewer columns after a prefix | exactly block_quote code_indented gfm_footnote_definition list_item
+"+ \ta"
+list +
+  item
+    paragraph
+      | a
+
+CommonMark 2.2: after the columns that a footnote asks for, a tab is no indent | exactly block_quote code_indented gfm_footnote_definition list_item
+"[^x]: \ta"
+footnote
+  label | x
+  paragraph
+    | a
+definitions 0
+footnotes 1
+= x
 "##
 }

@@ -716,5 +716,33 @@ footnote
 definitions 0
 footnotes 1
 = a
+
+CommonMark 4.3 | commonmark | heading_setext
+"a\n="
+heading 1
+  | a
+
+CommonMark 4.3 | commonmark | heading_setext
+"a\n  b\n---\nc"
+heading 2
+  | a
+  | b
+paragraph
+  | c
+
+CommonMark 4.3 and 5.1 | commonmark | block_quote heading_setext
+"> a\n> b\n> ="
+quote
+  heading 1
+    | a
+    | b
+
+CommonMark 4.3 and 5.1 | commonmark | block_quote heading_setext
+">>a\n>>b\n>>-"
+quote
+  quote
+    heading 2
+      | a
+      | b
 "##
 }

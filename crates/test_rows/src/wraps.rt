@@ -46,5 +46,30 @@ pub fn rows() -> &'static str {
 "> \n> \n> a"
 "+ \n  \n  a"
 "[^x]: \n    \n    a"
+
+"a"
+"> a"
+"+ a"
+"[^x]: a"
+
+"[!NOTE]\na"
+"> [!NOTE]\n> a"
+"+ [!NOTE]\n  a"
+"[^x]: [!NOTE]\n    a"
+
+"\r\r\n\n\r"
+"> \r> \r\n> \n> \r"
+"+ \r  \r\n  \n  \r"
+"[^x]: \r    \r\n    \n    \r"
+
+"\u{feff}\u{e9}\n\0"
+"> \u{feff}\u{e9}\n> \0"
+"+ \u{feff}\u{e9}\n  \0"
+"[^x]: \u{feff}\u{e9}\n    \0"
+
+"\u{2028}\n\ta"
+"> \u{2028}\n> \ta"
+"+ \u{2028}\n  \ta"
+"[^x]: \u{2028}\n    \ta"
 "#
 }

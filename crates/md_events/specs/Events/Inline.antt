@@ -1,6 +1,6 @@
 -- What every inline layer promises of the events that it answers for a text part, and what the plain layer answers.
 use Rattle.std.specs.Prelude.{◌≡◌, ℕ, ◌<◌, Bool, true, false, ◌&&◌, ◌==◌, if◌then◌else◌, IsTrue, List, [], ◌∷◌, ◌++◌}
-use Rattle.std.specs.Prelude.{length, take, drop, slice_range, Some, None}
+use Rattle.std.specs.Prelude.{length, not, take, drop, slice_range, Some, None}
 use Rattle.std.specs.List.{list_all}
 use Rattle.md_engine.specs.declared.event.Point.{Point}
 use Rattle.md_engine.specs.declared.event.Event.{Event}
@@ -130,6 +130,10 @@ plain_events bytes part = together (plain_chunks bytes part.chunks)
 abbrev pub is_inline : Name → Bool
 is_inline name = (facts name).is_inline
 
+-- whether an event may be inside: its name may, and nothing is left there to be read later
+abbrev pub may_be_inside : Event → Bool
+may_be_inside e = is_inline e.name && not (is_linked e)
+
 abbrev pub is_line_ending : Name → Bool
 is_line_ending n.LineEnding = true
 is_line_ending _ = false
@@ -157,12 +161,12 @@ cut_at (chunk ∷ chunks) events =
     ∷ cut_at chunks (drop (share (length chunks) events chunk.after.index) events)
 
 -- What the events of a text part are in every layer: brackets over the whole part, at points of the text, with no name
--- of a block, and with one `LineEnding` over each ending of a chunk and none elsewhere. What is in the place of each
+-- of a block, none of which is read later, and with one `LineEnding` over each ending of a chunk and none elsewhere. What is in the place of each
 -- chunk covers it with its innermost pairs, so that none reaches over two.
 pub record Framed (bytes : List ℕ) (part : Part) (events : List Event) : Type 0 where
   pub balanced : Balanced events
   pub placed : IsTrue (are_placed bytes events)
-  pub inline : IsTrue (list_all (λ (e : Event). is_inline e.name) events)
+  pub inline : IsTrue (list_all may_be_inside events)
   pub endings : line_endings events ≡ endings_of bytes part.chunks
   pub fills : Fills part.chunks (cut_at part.chunks events)
 

@@ -1,8 +1,8 @@
 // Where the events of the first blocks end.
 
-ghost use Rattle.std.specs.Prelude.{◌≡◌, ◌<◌, ◌≤◌, [], length, take};
+ghost use Rattle.std.specs.Prelude.{◌≡◌, ◌<◌, ◌≤◌, length};
 ghost use Rattle.md_outline.specs.CountOpen.{begun};
-ghost use Rattle.md_events.specs.Events.Nested.{Balanced, open_after};
+ghost use Rattle.md_outline.specs.OutlinePart.{IsFewest, IsWhole};
 
 use md_engine::event::{Event, Kind};
 
@@ -28,7 +28,8 @@ fn entered(event: Event) -> usize
 pub fn part_end(events: &[Event]) -> usize
     ensures within { result ≤ length events.now }
     ensures some { 0 < length events.now → 0 < result }
-    ensures closed { Balanced events.now → open_after [] (take result events.now) ≡ [] }
+    ensures whole { IsWhole events.now result }
+    ensures fewest { IsFewest events.now result }
 {
     let most = events.len().min(LEAST_EVENTS);
     let mut enters = 0;

@@ -1,12 +1,11 @@
-use Rattle.std.proofs.Common.{◌≡◌, Bool, List, ap, arith, inr, length, refl, subst, sym, ◌∙◌}
+use Rattle.std.proofs.Common.{◌≡◌, Bool, List, ap, arith, length, refl, subst, sym, ◌∙◌}
 use Rattle.std.specs.List.{prefix_len}
-use Rattle.md_engine.specs.Found.{Found, found_in}
+use Rattle.md_engine.specs.Found.{found_in}
 use Rattle.md_engine.specs.World.{World, world}
 use Rattle.md_engine.specs.declared.event.Event.{Event}
-use Rattle.md_engine.specs.declared.event.Point.{Point}
 use Rattle.markdown_blocks.specs.Alone.{stays_by_name}
 use Rattle.markdown_blocks.specs.ContentRead.{ReadIf}
-use Rattle.markdown_blocks.proofs.ContentAre.{joined-alone}
+use Rattle.markdown_blocks.proofs.ContentAre.{joined-pass}
 use Rattle.markdown_blocks.proofs.FlowReads.{FlowFlushed, flow-flushed-from, flow-reads, flushed-frames, flushed-side}
 use Rattle.markdown_blocks.proofs.FlowReads.{read-frames}
 use Rattle.markdown_blocks.proofs.StaysAlone.{alone-same, stay-alone, stay-none}
@@ -21,12 +20,15 @@ returns-then-same-len c =
     ∙ ap (λ (es : List Event). prefix_len stays_by_name es) c.deref.ensures.value)
     ∙ c.if-same-len.true ∙ c.len.ensures ∙ sym c.deref.ensures.len
     ∙ ap (λ (es : List Event). length es) c.deref.ensures.value in
-    flow-reads c.args.bytes.now c.args.options.now c.args.start _ _ _
-    (flow-flushed-from c.args.bytes.now c.args.options.now c.args.start _ _ _ _ _ _ (found_in c.nothing.result) w
+    let flushed : FlowFlushed c.args.bytes.now c.args.options.now c.args.start (found_in c.nothing.result) w =
+    flow-flushed-from c.args.bytes.now c.args.options.now c.args.start _ _ _ _ _ _ (found_in c.nothing.result) w
     c.in_ok-tokenizer.ensures refl
     (omega (arith, c.requires.small)) (c.push.ensures.runs c.in_default.not-Error) c.in_ok-flush.ensures
     (subst (λ (b : Bool). ReadIf b w (found_in c.nothing.result) w) (sym (stay-none w.events all))
-    (c.nothing.ensures, refl)))
+    (c.nothing.ensures, refl)) in
+    flow-reads c.args.bytes.now c.args.options.now c.args.start _ _ _ flushed
+    (joined-pass c.args.options.now c.args.bytes.now c.args.start c.requires.built (omega (arith, c.requires.small)) _ w
+    c.requires.begins flushed)
     (ap (λ (es : List Event). record w { events = es })
     (sym (alone-same c.args.options.now w.setting.bytes w.events all)))
 
@@ -51,21 +53,22 @@ resolve_blocks-requires-clause-frames c =
 
 pub resolve_blocks-requires-clause-may : goal.resolve_blocks-requires-clause-may
 resolve_blocks-requires-clause-may c =
-    let found : Found = found_in c.in_ok-found.found in
-    let items : World = world c.read_content.new.tokenizer in
-    inr
-    (joined-alone c.args.options.now c.args.bytes.now c.requires.built (omega (arith, c.requires.small)) found items
-    (subst (λ (p : Point). FlowFlushed c.args.bytes.now c.args.options.now p found items) c.requires.begins
-    (flow-flushed-from c.args.bytes.now c.args.options.now c.args.start _ _ _ _ _ _ _ _
-    c.in_ok-tokenizer.ensures refl
-    (omega (arith, c.requires.small)) (c.push.ensures.runs c.in_default.not-Error) c.in_ok-flush.ensures
-    c.in_ok-found.ensures.content)))
-
-pub returns : goal.returns
-returns c =
-    flow-reads c.args.bytes.now c.args.options.now c.args.start _ _ _
+    joined-pass c.args.options.now c.args.bytes.now c.args.start c.requires.built (omega (arith, c.requires.small))
+    (found_in c.in_ok-found.found) (world c.read_content.new.tokenizer) c.requires.begins
     (flow-flushed-from c.args.bytes.now c.args.options.now c.args.start _ _ _ _ _ _ _ _
     c.in_ok-tokenizer.ensures refl
     (omega (arith, c.requires.small)) (c.push.ensures.runs c.in_default.not-Error) c.in_ok-flush.ensures
     c.in_ok-found.ensures.content)
+
+pub returns : goal.returns
+returns c =
+    let items : World = world c.read_content.new.tokenizer in
+    let flushed : FlowFlushed c.args.bytes.now c.args.options.now c.args.start (found_in c.in_ok-found.found) items =
+    flow-flushed-from c.args.bytes.now c.args.options.now c.args.start _ _ _ _ _ _ _ _
+    c.in_ok-tokenizer.ensures refl
+    (omega (arith, c.requires.small)) (c.push.ensures.runs c.in_default.not-Error) c.in_ok-flush.ensures
+    c.in_ok-found.ensures.content in
+    flow-reads c.args.bytes.now c.args.options.now c.args.start _ _ _ flushed
+    (joined-pass c.args.options.now c.args.bytes.now c.args.start c.requires.built (omega (arith, c.requires.small)) _
+    items c.requires.begins flushed)
     c.in_ok-resolve_blocks.ensures

@@ -1,19 +1,11 @@
-use Rattle.std.proofs.Common.{arith}
-use Rattle.md_engine.proofs.Sound.{sound-put}
-use Rattle.md_flow.proofs.SoundParts.{sound-tried}
+use Rattle.md_at_once.proofs.LateAttempt.{sound-late}
 use Rattle.md_at_once.proofs.at_once.content_tried.Goals as goal
 
 pub invariant_of-tokenizer-2 : goal.invariant_of-tokenizer-2
 invariant_of-tokenizer-2 c = record {
   sound =
-      rw (
-        c.push_reserved-2.ensures.items,
-        c.push_reserved.ensures.items,
-        c.reserve-2.ensures.items,
-        c.reserve.ensures.items,
-      )
-      (sound-put _ _ _ _ _ _ _
-      (sound-tried _ _ _ _ _ _ _ c.args.tokenizer.now.sound c.requires (omega (arith, c.len.ensures))) c.requires);
+      rw (c.push_reserved.ensures.items, c.reserve.ensures.items)
+      (sound-late _ _ _ _ _ _ _ c.args.tokenizer.now.sound c.requires.placed c.requires.many c.requires.outer);
   spread = c.args.tokenizer.now.spread;
   passed = c.args.tokenizer.now.passed;
 }

@@ -36,25 +36,25 @@ loop-more-init c =
     let rest : List Event = left_of old in
     let line : Chunk = c.take_line-line.result in
     let taken = c.take_line-line.ensures in
-    let begun = c.in_ok-put_paragraph_event.ensures in
+    let begun = c.in_ok-put_begin.ensures in
     let put = c.in_ok-put_line.ensures in
     let left : left_of all ≡ left_of c.take_line-line.new.all =
-    c.put_line.ensures.left ∙ c.put_paragraph_event.ensures.left in
+    c.put_line.ensures.left ∙ c.put_begin.ensures.left in
     let held : held_of all ≡ [] =
-    c.put_line.ensures.held ∙ c.put_paragraph_event.ensures.held ∙ taken.held in
+    c.put_line.ensures.held ∙ c.put_begin.ensures.held ∙ taken.held in
     let next : left_of all ≡ drop (joined_with (drop 1 rest) + 2) rest = left ∙ taken.left in
     let lines : lines_from rest ≡ line ∷ lines_from (left_of all) =
     taken.line ∙ ap (λ (l : List Event). line ∷ lines_from l) (sym left) in
     let given : given_of all ≡ given_of old ++ enter Paragraph line.first ∷ lines_of (line ∷ []) =
-    given-first (written_of c.take_line-line.new.all) (written_of c.put_paragraph_event.new.all) (written_of all)
+    given-first (written_of c.take_line-line.new.all) (written_of c.put_begin.new.all) (written_of all)
     (held_of all) (given_of old) (lines_of (line ∷ [])) (enter Paragraph line.first) taken.written begun.written
     put.written held in
     record {
-      lines = subst (HasFurther c.args.further) (sym next) (has-further c.args.further rest c.requires);
+      lines = subst (HasFurther c.args.further) (sym next) (has-further c.args.further rest c.requires.lines);
       held = held;
       fewer =
           subst (λ (l : List Event). length l < length rest) (sym next)
-          (fewer-left rest (joined_with (drop 1 rest)) (begins c.args.further rest c.requires));
+          (fewer-left rest (joined_with (drop 1 rest)) (begins c.args.further rest c.requires.lines));
       following = λ bytes options events is reached.
           paragraph-first bytes options events (given_of old) rest (given_of all) (left_of all) c.args.further line
           unset is reached lines next given;
@@ -119,17 +119,17 @@ pub returns-clause-given : goal.returns-clause-given
 returns-clause-given c =
     let inv = c.loop-more.invariant in
     let old = c.loop-more.all in
-    let all = c.put_paragraph_event-2.new.all in
+    let all = c.put_end.new.all in
     let after = c.loop-more.line.after in
     let none : c.loop-more.more ≡ 0 = omega arith in
     let ended : lines_from (left_of old) ≡ [] = subst (λ (n : ℕ). HasFurther n (left_of old)) none inv.lines in
-    on-ok c.put_paragraph_event-2.result (written_of all ≡ written_of old ++ exit Paragraph after ∷ [])
+    on-ok c.put_end.result (written_of all ≡ written_of old ++ exit Paragraph after ∷ [])
     (GivesParagraph c.args.further (given_of c.args.all.now) (left_of c.args.all.now) (given_of all) (left_of all))
     (λ put bytes options events is reached.
     paragraph-all bytes options events (given_of old) (left_of old) (given_of all) (left_of all) after
-    (inv.following bytes options events is reached) ended c.put_paragraph_event-2.ensures.left
+    (inv.following bytes options events is reached) ended c.put_end.ensures.left
     (given-end (written_of old) (held_of old) (written_of all) (held_of all) (exit Paragraph after) put
-    c.put_paragraph_event-2.ensures.held inv.held)) c.put_paragraph_event-2.ensures.written
+    c.put_end.ensures.held inv.held)) c.put_end.ensures.written
   where
     on-ok : {T E : Type 0} → (x : Result T E) (P Q : Type 0) → (P → Q) → OnOk x P → OnOk x Q
     on-ok (result.Ok v) P Q f h = f h

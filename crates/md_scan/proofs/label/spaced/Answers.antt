@@ -5,7 +5,7 @@ use Rattle.md_scan.proofs.label.spaced.Goals as goal
 
 pub loop-line-preserved : goal.loop-line-preserved
 loop-line-preserved c =
-    rw c.in_ok-push_words.ensures
+    rw c.in_ok-push_words.ensures.words
     (sym (with_words-line _ c.args.lines.now c.loop-line.line-index _ (omega arith)) ∙ c.loop-line.invariant)
 
 pub returns : goal.returns

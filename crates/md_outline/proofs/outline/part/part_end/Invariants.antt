@@ -1,4 +1,5 @@
 use Rattle.std.proofs.Common.{◌-◌, ◌≤◌, length, take}
+use Rattle.md_outline.specs.OutlinePart.{IsFewest, least_events}
 use Rattle.md_outline.proofs.CountOpen.{Counts, Left}
 use Rattle.md_outline.proofs.outline.part.part_end.Given as goal
 
@@ -9,7 +10,12 @@ abbrev pub decreases-loop-rest : goal.decreases-loop-rest
 decreases-loop-rest l = length l.rest
 
 abbrev pub invariant-loop-end : goal.invariant-loop-end
-invariant-loop-end l = record { within : l.end ≤ length l.events; counts : Counts l.events l.end l.enters }
+invariant-loop-end l = record {
+  within : l.end ≤ length l.events;
+  most : l.most ≤ least_events;
+  counts : Counts l.events l.end l.enters;
+  fewest : IsFewest l.events l.end;
+}
 
 abbrev pub decreases-loop-end : goal.decreases-loop-end
 decreases-loop-end l = length l.events - l.end
