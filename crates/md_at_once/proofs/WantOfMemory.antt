@@ -1,6 +1,5 @@
 -- Why a call that takes several states at once wants memory: by what is known of the state in it that does.
 use Rattle.std.proofs.Common.{◌≡◌, ◌≢◌, ◌∙◌, ◌<◌, ◌≤◌, ◌⊎◌, Bool, true, [], ◌∷◌, ap, arith, inl, inr, refl, subst, sym}
-use Rattle.std.proofs.lemmas.Option.{slice_get_within}
 use Rattle.std.specs.Vec.{vec_capacity, vec_len}
 use Rattle.md_engine.specs.declared.state.Name.{Name as StateName}
 use Rattle.md_engine.specs.declared.state.Name.TheVariants as n
@@ -15,7 +14,6 @@ use Rattle.md_engine.specs.Run.Runs.{Stays, ThenLeaves}
 use Rattle.md_engine.specs.World.{World, looks, world}
 use Rattle.md_engine.proofs.Keeps.{runs-append, runs-setting}
 use Rattle.md_engine.proofs.Loops.{ArrivedHere, arrived-first, arrived-stays, not_error, reading-same}
-use Rattle.md_registry.specs.AtOnce.{ContinuesAtOnce}
 use Rattle.md_registry.specs.Flow.{leaf_end}
 use Rattle.md_registry.specs.FlowRule.{HasOpen}
 use Rattle.md_registry.specs.States.{FlowStep}
@@ -31,14 +29,6 @@ weaker Ok X Y f h = tt
 weaker Nok X Y f h = tt
 weaker (Next name) X Y f h = tt
 weaker (Retry name) X Y f h = tt
-
--- what holds anyway
-pub wants-anyhow : (s : State) (X : Type 0) → X → OnError s X
-wants-anyhow Error X h = h
-wants-anyhow Ok X h = tt
-wants-anyhow Nok X h = tt
-wants-anyhow (Next name) X h = tt
-wants-anyhow (Retry name) X h = tt
 
 -- one that does not want it
 pub wants-none : (s : State) (X : Type 0) → s ≢ Error → OnError s X
@@ -100,11 +90,6 @@ open-met name old opened is_end s w named from may = record {
   runs = Stays;
   opened = subst (λ (x : World). HasOpen x) (sym from) opened;
 }
-
--- as where one is asked
-pub asked-open : (w : World) → ContinuesAtOnce w → HasOpen w
-asked-open w h =
-    let lt = slice_get_within w.flags.containers w.flags.continued h.held h.next in omega (arith, lt)
 
 pub containers-want : (name : StateName) (old : World) (s : State) (new : Tokenizer) →
     OnError s ((IsFull new ⊎ HasOpen old) ⊎ IsFullList Containers new) → OnError s (FlowFull name old new)

@@ -1,6 +1,6 @@
 -- What functions that take several states in one call know of the states before them and after them.
-use Rattle.std.specs.Prelude.{◌≡◌, ◌≢◌, ℕ, ◌+◌, ◌<◌, ◌⊎◌, ◌==◌, Bool, true, false, List, [], ◌∷◌, ◌++◌, Option, Some}
-use Rattle.std.specs.Prelude.{length, slice_index}
+use Rattle.std.specs.Prelude.{◌≡◌, ◌≢◌, ℕ, ◌+◌, ◌<◌, ◌⊎◌, ◌==◌, Bool, true, false, List, [], ◌∷◌, Option, Some}
+use Rattle.std.specs.Prelude.{slice_index}
 use Rattle.std.specs.Vec.{vec_capacity, vec_len}
 use Rattle.md_engine.specs.declared.state.Name.{Name as StateName}
 use Rattle.md_engine.specs.declared.state.Name.TheVariants as n
@@ -11,21 +11,15 @@ use Rattle.md_engine.specs.declared.state.list_item.State.TheVariants as its
 use Rattle.md_engine.specs.declared.tokenizer.container.Container.{Container}
 use Rattle.md_engine.specs.declared.tokenizer.Frame.{Frame}
 use Rattle.md_engine.specs.declared.tokenizer.Tokenizer.{Tokenizer}
-use Rattle.md_engine.specs.declared.event.Kind.TheVariants.{Enter}
-use Rattle.md_engine.specs.declared.event.Name.TheVariants.{Content}
-use Rattle.md_engine.specs.declared.resolve.name.Name.TheVariants.{Content as ContentResolver}
 use Rattle.md_engine.specs.declared.event.Point.{Point}
 use Rattle.md_engine.specs.Full.{IsFull, IsFullOf, OnError}
 use Rattle.md_engine.specs.Full.Grown.{Containers, Frames, Resolvers}
 use Rattle.md_engine.specs.Going.{SeesOn}
 use Rattle.md_engine.specs.Run.{Runs, RunsHere, plain, reading}
-use Rattle.md_engine.specs.World.{World, looks, registered_before, world as world_of}
-use Rattle.md_content.specs.Chunks.{begun, content_link, rest_taken, unbegun}
-use Rattle.md_link_definitions.specs.OpenText.{text_following}
+use Rattle.md_engine.specs.World.{World, looks, world as world_of}
 use Rattle.md_code.specs.Fence.{cleared, held_marker, line_entered}
 use Rattle.md_meaning.specs.Ascii.{caret, left_bracket}
 use Rattle.md_meaning.specs.Rest.{is_white}
-use Rattle.md_events.specs.Events.Nested.{exit}
 use Rattle.md_events.specs.Look.{looks_after}
 use Rattle.md_events.specs.Spaces.{calmed, sees_white}
 use Rattle.md_events.specs.States.{IsRun}
@@ -120,8 +114,8 @@ LacksRoom count t = vec_capacity t.events < vec_len t.events + count
 abbrev pub IsShort : Tokenizer → Type 0
 IsShort t = LacksRoom 4 t ⊎ IsFullOf (Frames ∷ Resolvers ∷ Containers ∷ []) t
 
--- A run from this state gets to where containers are open. There a prefix is taken, or containers end, and of either it
--- is not said which list wants memory.
+-- A run from this state gets to where containers are open. These may end there, and their ends are put in a list of its
+-- own, of which nothing is said.
 pub record GetsToOpen (is_end : Bool) (s : State) (w : World) : Type 0 where
   pub to : State
   pub at : World
@@ -153,18 +147,6 @@ IsFlowRun name old answer new = IsRun FlowStep name old (FlowFull name old new) 
 -- the same of one that ends no line: there is no room for one more event or attempt
 abbrev pub IsRunInLine : StateName → World → State → Tokenizer → Type 0
 IsRunInLine name old answer new = IsRun FlowStep name old (IsFull new) answer new
-
--- the constructs of which a call may take several states
-abbrev pub takes_several : StateName → Bool
-takes_several (n.HeadingAtx state) = true
-takes_several (n.GfmTable state) = true
-takes_several (n.HtmlFlow state) = true
-takes_several name = false
-
--- the same of a state of any construct; of those whose calls take one state it is not said why they want memory
-abbrev pub IsConstructRun : StateName → World → State → Tokenizer → Type 0
-IsConstructRun name old answer new =
-    IsRun FlowStep name old (takes_several name ≡ true → FlowFull name old new) answer new
 
 -- the same of one that only ends a line, and so stays nowhere, from wherever one sees
 pub record IsLineEnd (name : StateName) (old : World) (answer : State) (new : Tokenizer) : Type 0 where

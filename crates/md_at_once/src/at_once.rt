@@ -15,7 +15,7 @@ ghost use Rattle.md_engine.specs.declared.state.Name.{Name as StateName};
 ghost use Rattle.md_engine.specs.declared.state.State.{State};
 ghost use Rattle.md_engine.specs.declared.state.document.State.{State as DocumentState};
 ghost use Rattle.md_at_once.specs.AtOnce.{EndsAtOnce, IsNoLabel, OpensNone, SeesAhead, IsVisible};
-ghost use Rattle.md_at_once.specs.AtOnce.{IsConstructRun, IsFlowRun, IsRunInLine, IsShort, line_tried};
+ghost use Rattle.md_at_once.specs.AtOnce.{IsFlowRun, IsRunInLine, IsShort, line_tried};
 ghost use Rattle.md_registry.specs.AtOnce.{ContinuesAtOnce, asking_next, openers_passed};
 ghost use Rattle.md_registry.specs.Flow.{existing_after_transition};
 ghost use Rattle.md_registry.specs.LineFlags.{next_container};
@@ -475,7 +475,7 @@ pub fn call_at_once(tokenizer: &mut Tokenizer, name: StateName) -> State
     requires current { (world tokenizer.old).current ≡ looks (world tokenizer.old) }
     requires valid { valid flow_table_scheme (world tokenizer.old) (State.Next name) }
     requires construct { is_flow_own name ≡ false }
-    ensures { IsConstructRun name (world tokenizer.old) result tokenizer.new }
+    ensures { IsFlowRun name (world tokenizer.old) result tokenizer.new }
 {
     match name {
         StateName::HeadingAtx(state) => call_heading(tokenizer, state),

@@ -1,6 +1,7 @@
 // States of constructs by their names: what a table calls, and what it takes at once.
 
 ghost use Rattle.std.specs.Prelude.{◌≡◌, ◌≢◌, IfSome, None};
+ghost use Rattle.md_engine.specs.Full.{IsFull, OnError};
 ghost use Rattle.md_engine.specs.Scheme.{valid};
 ghost use Rattle.md_engine.specs.World.{looks, world};
 ghost use Rattle.md_engine.specs.declared.state.Name.{Name as StateName};
@@ -31,6 +32,7 @@ pub fn call(tokenizer: &mut Tokenizer, name: StateName) -> State
         world tokenizer.new ≡
         (construct_transition name
         (world tokenizer.old)).world }
+    ensures full { OnError result (IsFull tokenizer.new) }
 {
     match name {
         StateName::BlockQuote(state) => block_quote::call(tokenizer, state),

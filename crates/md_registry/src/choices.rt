@@ -6,8 +6,9 @@
 //
 // What flow itself is made of (blank lines, content, whitespace) is in its own table.
 
-ghost use Rattle.std.specs.Prelude.{◌≡◌, [], OnOk, Some, false, true};
-ghost use Rattle.md_containers.specs.PlainBullet.{IsPlainBullet, bulleted};
+ghost use Rattle.std.specs.Prelude.{◌≡◌, [], OnOk, Some, false, is_err, true};
+ghost use Rattle.md_engine.specs.Full.{Grown, IsFullList};
+ghost use Rattle.md_containers.specs.PlainBullet.{IsPlainBullet};
 ghost use Rattle.md_engine.specs.declared.tokenizer.container.name.ContainerKind.{ContainerKind};
 ghost use Rattle.std.specs.Option.{is_some, option_map};
 ghost use Rattle.md_engine.specs.World.{World, container_of, world};
@@ -401,10 +402,11 @@ pub fn has_plain_prefix(container: Container, tokenizer: &mut Tokenizer) -> bool
 pub fn take_plain_prefix(tokenizer: &mut Tokenizer) -> Result<(), Message>
     requires { HasPrefix (world tokenizer.old).flags.asked (world tokenizer.old).flags.asked.kind
         (world tokenizer.old) }
-    ensures { OnOk result
+    ensures world { OnOk result
         (world tokenizer.new ≡
         prefix_taken (world tokenizer.old).flags.asked (world tokenizer.old).flags.asked.kind
         (world tokenizer.old)) }
+    ensures full { is_err result ≡ true → IsFullList Grown.Events tokenizer.new }
 {
     match tokenizer.flags.asked.kind {
         ContainerKind::BlockQuote => block_quote::take_plain_prefix(tokenizer),

@@ -1,6 +1,6 @@
 -- Words of a text that is UTF-8 are UTF-8, and so are words with spaces between them.
-use Rattle.std.proofs.Common.{◌≡◌, ℕ, zero, suc, ◌<◌, ◌≤◌, Bool, true, false, nat_lt, not, List, [], ◌∷◌, ◌++◌, arith, ap, drop, get_or, length}
-use Rattle.std.proofs.Common.{refl, subst, sym, take, ◌∙◌}
+use Rattle.std.proofs.Common.{◌≡◌, ℕ, zero, suc, ◌<◌, ◌≤◌, Bool, true, false, nat_lt, not, List, [], ◌∷◌, arith, drop, get_or, length}
+use Rattle.std.proofs.Common.{refl, subst, sym, take}
 use Rattle.std.specs.List.{prefix_len}
 use Rattle.std.specs.Prelude.{slice_index}
 use Rattle.std.specs.Str.{IsCharBoundary, IsUtf8}

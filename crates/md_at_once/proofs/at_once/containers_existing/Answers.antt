@@ -1,4 +1,4 @@
-use Rattle.std.proofs.Common.{◌≡◌, ◌≢◌, ◌⊎◌, ◌<◌, ◌∙◌, Some, false, true, ap, arith, inl, inr, is_ok, refl, subst, sym}
+use Rattle.std.proofs.Common.{◌≡◌, ◌≢◌, ◌⊎◌, ◌<◌, ◌∙◌, Some, false, true, ap, arith, inl, inr, is_ok, refl, rules, subst, sym}
 use Rattle.std.specs.Prelude.{OnOk}
 use Rattle.std.specs.declared.result.Result.{Result}
 use Rattle.md_engine.specs.declared.state.document.State.{State as DocumentState}
@@ -20,7 +20,8 @@ use Rattle.md_registry.specs.Registry.{opener_front, openers}
 use Rattle.md_at_once.specs.AtOnce.{EndsAtOnce, SeesAhead}
 use Rattle.md_at_once.proofs.NoIndent.{container-ends, ends-ahead, existing-stays, taken-held}
 use Rattle.md_tables.proofs.RowWords.{on-ok}
-use Rattle.md_at_once.proofs.WantOfMemory.{asked-open, met-following, open-met, state-wants}
+use Rattle.md_at_once.proofs.FlowRuns.{run-short}
+use Rattle.md_at_once.proofs.WantOfMemory.{events-short, state-wants}
 use Rattle.md_at_once.proofs.at_once.containers_existing.Goals as goal
 
 -- the next container was asked, and its prefix was taken
@@ -44,7 +45,7 @@ was_continued-requires c =
     let has_taken : is_ok c.take_plain_prefix.result ≡ true = c.if-or_error.ensures.negation in
     let asks : w0 ≡ asking_next w = c.ask_next.ensures ∙ ap asking_next c.continues_at_once.ensures.same in
     let e : w1 ≡ asked_taken (asking_next w) = taken c.take_plain_prefix.result w w0 w1 has_taken asks
-    c.take_plain_prefix.ensures in
+    c.take_plain_prefix.ensures.world in
     record {
       current = (took-prefix w w1 at_once e).seen;
       kept = λ changes.
@@ -69,7 +70,7 @@ loop-tokenizer-smaller c =
     let at_once : ContinuesAtOnce w = c.continues_at_once.ensures.proceeds c.loop-tokenizer-test.true in
     let has_taken : is_ok c.take_plain_prefix.result ≡ true = c.if-or_error.ensures.negation in
     let e : w1 ≡ asked_taken (asking_next w) = taken c.take_plain_prefix.result w w0 w1 has_taken
-    (c.ask_next.ensures ∙ ap asking_next c.continues_at_once.ensures.same) c.take_plain_prefix.ensures in
+    (c.ask_next.ensures ∙ ap asking_next c.continues_at_once.ensures.same) c.take_plain_prefix.ensures.world in
     let k : w2 ≡ (existing_after_transition w1).world = c.was_continued.ensures in
     let less = (took-prefix w w1 at_once e).less in
     let same : cells_left w2.setting.limit w2.point ≡ cells_left w1.setting.limit w1.point =
@@ -85,7 +86,7 @@ loop-tokenizer-preserved c =
     let at_once : ContinuesAtOnce w = c.continues_at_once.ensures.proceeds c.loop-tokenizer-test.true in
     let has_taken : is_ok c.take_plain_prefix.result ≡ true = c.if-or_error.ensures.negation in
     let e : w1 ≡ asked_taken (asking_next w) = taken c.take_plain_prefix.result w w0 w1 has_taken
-    (c.ask_next.ensures ∙ ap asking_next c.continues_at_once.ensures.same) c.take_plain_prefix.ensures in
+    (c.ask_next.ensures ∙ ap asking_next c.continues_at_once.ensures.same) c.take_plain_prefix.ensures.world in
     let k : w2 ≡ (existing_after_transition w1).world = c.was_continued.ensures in
     let took = took-prefix w w1 at_once e in
     record {
@@ -108,17 +109,9 @@ container_existing_before-requires c = record {
 
 pub returns-in-loop-tokenizer-clause-run : goal.returns-in-loop-tokenizer-clause-run
 returns-in-loop-tokenizer-clause-run c =
-    let first = n.Document document.ContainerExistingBefore in
-    let w = world c.loop-tokenizer.tokenizer in
-    let at_once : ContinuesAtOnce w = c.continues_at_once.ensures.proceeds c.loop-tokenizer-test.true in
-    record {
-      runs = λ fine. absurd (fine refl);
-      sees = λ fine. absurd (fine refl);
-      full =
-          inr
-          (met-following first first (world c.args.tokenizer.now) w c.loop-tokenizer.invariant.arrived
-          (open-met first w (asked-open w at_once)));
-    }
+    run-short (n.Document document.ContainerExistingBefore) (world c.args.tokenizer.now)
+    c.take_plain_prefix.new.tokenizer
+    (events-short c.take_plain_prefix.new.tokenizer (c.take_plain_prefix.ensures.full (search rules)))
 
 pub returns-then-has_no_indent-clause-run : goal.returns-then-has_no_indent-clause-run
 returns-then-has_no_indent-clause-run c =

@@ -1,5 +1,4 @@
-use Rattle.std.proofs.Common.{◌∙◌, ap, rules, subst, sym}
-use Rattle.std.specs.Str.{IsUtf8}
+use Rattle.std.proofs.Common.{◌∙◌, ap, sym}
 use Rattle.md_scan.specs.Words.{with_words}
 use Rattle.md_scan.proofs.TextWords.{utf8-past, utf8-with_word, utf8-word}
 use Rattle.md_scan.proofs.WordLemmas.{words-next, words-white}
