@@ -3,7 +3,7 @@
 # is set, they are in that folder) run with 256 KB of stack.
 #
 # - `test_bench levels` tries the parser on 100,000 markers of containers, of three kinds, the third of four containers, and the plain program
-#   on as many quotes and on a quarter of the others.
+#   on a quarter of each.
 # - `blocks` prints the outline of a line of 1,000,000 `*`, of one of as many spaces, and of 100,000 empty lines.
 # - `plain_blocks` prints the outline of 2,000 containers in one another, on one line and on two, the second of which closes them. The
 #   outlines are written here.

@@ -1,7 +1,7 @@
 #!/usr/bin/env python3
 """Tries whether a parse has become dearer, in numbers that are the same on each machine, without proof.
 
-`rt try` runs the program `test_memory` by an interpreter too, which counts steps. Of each text, so many parts must be
+`rt try` runs the program `test_cost` by an interpreter too, which counts steps. Of each text, so many parts must be
 read within STEPS steps, and so many within REQUESTS requests for memory. All are in one build. With `--measure` it
 prints how many parts there can be now, in steps of a twentieth.
 """
@@ -50,7 +50,7 @@ def tried(counts: dict[str, list[int]]) -> dict[str, dict[int, tuple[bool, bool]
         limits = ["--steps", str(STEPS), "--fail-alloc", str(REQUESTS + 1)]
         done = subprocess.run(
             ["rt", "try", "--cases", folder, *limits],
-            cwd=ROOT / "crates/test_memory", stdin=subprocess.DEVNULL, capture_output=True, text=True,
+            cwd=ROOT / "crates/test_cost", stdin=subprocess.DEVNULL, capture_output=True, text=True,
         )
     found: dict[str, dict[int, tuple[bool, bool]]] = {name: {} for name in names}
     pattern = r"^case=(\d+)x(\d+) run=ended status=(\d+) runners=(\d)"

@@ -73,9 +73,9 @@ impl Bench {
             }
             Bench::Plain(task) => task.perform::<Plain>(alloc, report),
             Bench::Levels(levels) => {
-                try_levels::<Blocks>(alloc, levels, levels, report)?;
+                try_levels::<Blocks>(alloc, levels, report)?;
                 // At each item it reads the rest of the line, so its time grows with the square of their number.
-                try_levels::<Plain>(alloc, levels, levels / 4, report)
+                try_levels::<Plain>(alloc, levels / 4, report)
             }
             Bench::Agree(most) => try_agree::<Blocks, Plain>(alloc, most, report),
             Bench::Nasty(nasty) => nasty.perform::<Blocks, Plain>(alloc, report),

@@ -1,8 +1,5 @@
-// The program `test_memory`. Without an argument it reads a text from its standard input and prints what a parse of it
-// takes; so an interpreter that counts steps can run it (`scripts/steps.py`).
-//
-// With one it makes a call of the library between two requests for memory of known sizes, so that a test can refuse the
-// requests of that call alone (`scripts/refuse_memory.sh`). The argument names the call:
+// The program `test_memory`: it makes one call of the library between two requests for memory of known sizes, so that
+// a test can refuse the requests of that call alone (`scripts/refuse_memory.sh`). Its argument names the call:
 //
 //     parse, parse_with, outline, outline_part
 //                                   it prints the outline of the text
@@ -16,10 +13,8 @@
 
 ghost use Rattle.markdown_blocks.specs.Parsed.{IsSmall, IsWithoutMdx};
 
-mod cost;
 mod states;
 
-use cost::Cost;
 use examples_layer::References;
 use markdown_blocks::configuration::ParseOptions;
 use markdown_blocks::event::Event;
@@ -29,7 +24,7 @@ use markdown_blocks::parser::{ParseState, parse, parse_with};
 use markdown_blocks::wrap::{footnote, item, quote};
 use md_program::body::{Body, MOST, Outlined};
 use md_program::print::print;
-use md_program::system::{Uninterrupted, arguments};
+use md_program::system::arguments;
 use printing::blocks::Blocks;
 use printing::run_blocks::run;
 use states::states;
@@ -190,22 +185,6 @@ fn ran<R: Read, W: Write, E: Write>(
     Ok(status)
 }
 
-/// The status of a run that prints what a parse takes.
-fn counted(rt: &HostRuntime) -> u8 {
-    md_program::run::run::<Cost, _, _, _>(
-        rt.alloc(),
-        "test_memory",
-        &[],
-        &mut Uninterrupted { stream: rt.stdin() },
-        &mut Uninterrupted {
-            stream: rt.stdout(),
-        },
-        &mut Uninterrupted {
-            stream: rt.stderr(),
-        },
-    )
-}
-
 /// The status of want of memory.
 const REFUSED: u8 = 3;
 
@@ -213,10 +192,7 @@ fn main(rt: HostRuntime) -> ExitCode {
     let Ok(args) = arguments(&rt) else {
         return ExitCode::from(REFUSED);
     };
-    let Some(word) = args.first() else {
-        return ExitCode::from(counted(&rt));
-    };
-    let word = word.as_str();
+    let word = args.first().map_or("parse", |word| word.as_str());
     if word == "run" {
         let ran = ran(
             rt.alloc(),

@@ -51,17 +51,14 @@ fn try_depth<B: Body>(
 /// has.
 const MARKERS: [(&str, usize, usize); 3] = [(">", 1, 1), ("- ", 2, 2), ("> - 1. [^a]: ", 6, 7)];
 
-/// Tries a body on markers of containers before an `a`: on so many quotes, and on so many markers with items. An outline
-/// of such a depth is not printed, since its indents have more bytes than there is memory: its lines and the depth of
-/// the last are counted.
+/// Tries a body on markers of containers so many times before an `a`. An outline of such a depth is not printed, since
+/// its indents have more bytes than there is memory: its lines and the depth of the last are counted.
 pub fn try_levels<B: Body>(
     alloc: Global,
-    quotes: usize,
-    items: usize,
+    levels: usize,
     report: &mut Report,
 ) -> Result<(), CaseError> {
     for (marker, depth, lines) in MARKERS {
-        let levels = if depth == 1 { quotes } else { items };
         let mut text = repeated(alloc, marker, levels)?;
         text.push('a')?;
         let mut wanted = String::new(alloc);

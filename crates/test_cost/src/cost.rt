@@ -1,7 +1,5 @@
 // What a parse takes, in numbers that are the same on each machine.
 
-ghost use Rattle.std.specs.Prelude.{Unit};
-
 use markdown_blocks::event::Event;
 use markdown_blocks::message::Message;
 use markdown_blocks::outline::outline;
@@ -18,7 +16,7 @@ use std::mem::size_of;
 pub struct Cost;
 
 impl Printing for Cost {
-    ghost prints = { λ text options output. Unit };
+    ghost prints = { λ text options output. Unit {0} };
 
     fn output(alloc: Global, text: &str, options: ParseOptions) -> Result<String, Message> {
         let options = Blocks::built(options);
