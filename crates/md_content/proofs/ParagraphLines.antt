@@ -18,8 +18,6 @@ use Rattle.md_engine.specs.declared.event.Name.{Name}
 use Rattle.md_engine.specs.declared.event.Name.TheVariants as parts
 use Rattle.md_engine.specs.declared.event.Point.{Point}
 use Rattle.md_engine.specs.Place.{IsPlaced}
-use Rattle.md_engine.specs.World.{World}
-use Rattle.md_content.specs.Resolves.{IsMoved}
 use Rattle.md_content.specs.ContentReads.{content_events, content_readings, wants_content}
 use Rattle.md_content.specs.Joined.{content_after, ends_content, is_continued, is_content, joined, joined_with}
 use Rattle.md_content.specs.Lines.{begins_chunk, lines_from}
@@ -725,8 +723,3 @@ given-end written held put held_after e puts same none =
 
 pub no-chunks : (n : ℕ) → nat_lt 0 n ≡ false → n ≡ 0
 no-chunks n h = grind (arith, nat_tests, h)
-
--- Moves follow one another.
-pub moved-on : (u v w : World) → IsMoved u v → IsMoved v w → IsMoved u w
-moved-on u v w first next =
-    next ∙ ap (λ (x : World). record x { point = w.point; current = w.current }) first

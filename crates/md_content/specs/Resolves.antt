@@ -22,10 +22,6 @@ abbrev pub found_in_content : List ℕ → List Event → Found
 found_in_content bytes events =
     record { done = is_all_read events; definitions = labels_in bytes events; footnotes = [] }
 
--- it is at another point, and sees what is there
-abbrev pub IsMoved : World → World → Type 0
-IsMoved old new = new ≡ record old { point = new.point; current = new.current }
-
 -- it changes events alone: lines that follow one another are joined, and read
 pub record Resolves (old : World) (found : Option Found) (new : World) : Type 0 where
   pub rest : new ≡ record old { events = new.events }

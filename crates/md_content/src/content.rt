@@ -88,6 +88,7 @@ fn text_with_line(tokenizer: &Tokenizer) -> HeldLeaf
 /// > | a
 ///     ^
 /// ```
+#[inline(always)]
 #[tactic(auto, using(crate::proofs::ContentMeaning::chunk_rule))]
 pub fn chunk_start(tokenizer: &mut Tokenizer) -> State
     requires { IsAt NeedsNothing (StateName.Content ContentState.ChunkStart) (world tokenizer.old) }
@@ -111,6 +112,7 @@ pub fn chunk_start(tokenizer: &mut Tokenizer) -> State
 /// > | ab
 ///     ^^
 /// ```
+#[inline(always)]
 #[tactic(auto, using(crate::proofs::ContentMeaning::chunk_rule))]
 pub fn chunk_inside(tokenizer: &mut Tokenizer) -> State
     requires { IsAt NeedsNothing (StateName.Content ContentState.ChunkInside) (world tokenizer.old) }
@@ -527,12 +529,10 @@ pub fn resolve(tokenizer: &mut Tokenizer) -> Result<Option<Subresult>, Message>
         bytes: tokenizer.bytes,
         options: tokenizer.options,
     };
-    let Tokenizer { point, current, .. } = *tokenizer;
     let events = tokenizer.take_events();
-    let read = read_lines(tokenizer, &reader, events)?;
+    let begin = paragraph::begin(tokenizer)?;
+    let read = read_lines(alloc, &reader, begin, events)?;
     let found = found_among(alloc, tokenizer.bytes, &read)?;
-    tokenizer.point = point;
-    tokenizer.current = current;
     tokenizer.set_events(read);
     Ok(Some(found))
 }

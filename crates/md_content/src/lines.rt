@@ -13,17 +13,14 @@
 //       ^ the line that it continues with
 // ```
 
-ghost use Rattle.std.specs.Prelude.{◌≡◌, ◌≤◌, ◌<◌, ◌+◌, ◌&&◌, ◌∷◌, ◌++◌, ℕ, length, drop, IfOk, IfSome, List, []};
+ghost use Rattle.std.specs.Prelude.{◌≡◌, ◌≤◌, ◌<◌, ◌+◌, ◌&&◌, ◌∷◌, ◌++◌, length, drop, IfOk, IfSome, List, []};
 ghost use Rattle.std.specs.Prelude.{OnOk, get_or, true};
 ghost use Rattle.std.specs.List.{prefix_len};
 ghost use Rattle.md_content.specs.ContentReads.{content_events, content_readings, wants_content};
 ghost use Rattle.md_content.specs.Joined.{ends_content, is_continued, is_content, is_of_prefix, joined, joined_with};
 ghost use Rattle.md_content.specs.Lines.{begins_chunk, is_passed, lines_from};
 ghost use Rattle.md_content.specs.ParagraphLines.{GivesParagraph, HasLines, IsParagraph, is_unlinked};
-ghost use Rattle.md_content.specs.Resolves.{IsMoved};
 ghost use Rattle.md_content.specs.WholeLines.{lines_of};
-ghost use Rattle.md_engine.specs.Place.{IsPlaced};
-ghost use Rattle.md_engine.specs.World.{world};
 ghost use Rattle.md_engine.specs.declared.event.Event.{Event};
 ghost use Rattle.md_engine.specs.declared.event.Name.{Name};
 ghost use Rattle.md_meaning.specs.Ascii.{left_bracket};
@@ -34,10 +31,8 @@ ghost use Rattle.md_events.specs.Rewritten.{given_of, held_of, left_of, written_
 ghost use Rattle.md_events.specs.Substituted.{Begun, Substituted, chunk_of, is_plain_prefix};
 
 use crate::content::{ContentReader, is_followed, is_within_line, may_define_at};
-use crate::paragraph;
 use md_engine::event::{Content, Event, Kind, Link, Name, Point};
 use md_engine::message::Message;
-use md_engine::tokenizer::Tokenizer;
 use md_events::inline::Chunk;
 use md_events::rewriting::Rewriting;
 use md_events::subtokenize::{Found, is_prefix, push_chunk};
@@ -239,7 +234,6 @@ fn further_lines(bytes: &[u8], events: &[Event]) -> Option<usize>
 fn take_line(all: &mut Rewriting, more: usize) -> Chunk
     requires { HasLines more (left_of all.old) }
     ensures line { lines_from (left_of all.old) ≡ result ∷ lines_from (left_of all.new) }
-    ensures placed { (bytes : List ℕ) → ArePlaced bytes (left_of all.old) → IsPlaced bytes result.first }
     ensures left { left_of all.new ≡ drop (joined_with (drop 1 (left_of all.old)) + 2) (left_of all.old) }
     ensures held { held_of all.new ≡ [] }
     ensures written { written_of all.new ≡ given_of all.old }
@@ -266,22 +260,20 @@ fn put_line(all: &mut Rewriting, line: &Chunk) -> Result<(), Message>
     all.push_linked(Name::Data, link, line.first, line.after)
 }
 
-/// Writes the event with which a paragraph begins at a point.
-fn put_begin(tokenizer: &mut Tokenizer, all: &mut Rewriting, point: Point) -> Result<(), Message>
-    requires events { (world tokenizer.old).events ≡ [] }
-    requires frames { (world tokenizer.old).frames ≡ [] }
-    requires placed { IsPlaced (world tokenizer.old).setting.bytes point }
+/// Writes the event with which a paragraph begins, at a point.
+#[inline(always)]
+fn put_begin(all: &mut Rewriting, begin: Event, point: Point) -> Result<(), Message>
+    requires { begin ≡ enter Name.Paragraph begin.point }
     ensures left { left_of all.new ≡ left_of all.old }
     ensures held { held_of all.new ≡ held_of all.old }
     ensures written { OnOk result
         (written_of all.new ≡ written_of all.old ++ enter Name.Paragraph point ∷ []) }
-    ensures moved { OnOk result (IsMoved (world tokenizer.old) (world tokenizer.new)) }
 {
-    let begin = paragraph::begin_at(tokenizer, point)?;
-    all.push(begin)
+    all.push(Event { point, ..begin })
 }
 
-/// Writes the event with which a paragraph ends at a point.
+/// Writes the event with which a paragraph ends, at a point.
+#[inline(always)]
 fn put_end(all: &mut Rewriting, point: Point) -> Result<(), Message>
     ensures left { left_of all.new ≡ left_of all.old }
     ensures held { held_of all.new ≡ held_of all.old }
@@ -297,24 +289,17 @@ fn put_end(all: &mut Rewriting, point: Point) -> Result<(), Message>
 }
 
 /// Writes the paragraph that is left first, a line and so many further lines, in their places: its text is what was
-/// content, and the ending between two lines belongs to the first.
-fn put_paragraph(
-    tokenizer: &mut Tokenizer,
-    all: &mut Rewriting,
-    further: usize,
-) -> Result<(), Message>
-    requires events { (world tokenizer.old).events ≡ [] }
-    requires frames { (world tokenizer.old).frames ≡ [] }
-    requires placed { ArePlaced (world tokenizer.old).setting.bytes (left_of all.old) }
+/// content, and the ending between two lines belongs to the first. `begin` is the event with which paragraphs begin.
+fn put_paragraph(all: &mut Rewriting, begin: Event, further: usize) -> Result<(), Message>
+    requires begin { begin ≡ enter Name.Paragraph begin.point }
     requires lines { HasLines further (left_of all.old) }
     ensures given { OnOk result
         (GivesParagraph further (given_of all.old) (left_of all.old) (given_of all.new) (left_of all.new)) }
     ensures fewer { OnOk result (length (left_of all.new) < length (left_of all.old)) }
-    ensures moved { OnOk result (IsMoved (world tokenizer.old) (world tokenizer.new)) }
 {
     let mut more = further;
     let mut line = take_line(all, more);
-    put_begin(tokenizer, all, line.first)?;
+    put_begin(all, begin, line.first)?;
     put_line(all, &line)?;
     while more > 0 {
         more -= 1;
@@ -396,24 +381,21 @@ fn passed(events: &[Event]) -> usize
 }
 
 /// The events with each part of content read, in one walk, in the list of the events: lines that follow one another are
-/// joined on the way. The tokenizer, which has no events, is at the begin of the last paragraph after that.
+/// joined on the way. `begin` is the event with which paragraphs begin.
 #[inline(never)]
 pub fn read_lines(
-    tokenizer: &mut Tokenizer,
+    alloc: Global,
     reader: &ContentReader,
+    begin: Event,
     events: Vec<Event>,
 ) -> Result<Vec<Event>, Message>
-    requires none { (world tokenizer.old).events ≡ [] }
-    requires frames { (world tokenizer.old).frames ≡ [] }
-    requires bytes { (world tokenizer.old).setting.bytes ≡ reader.now.bytes.now }
+    requires begin { begin ≡ enter Name.Paragraph begin.point }
     requires placed { ArePlaced reader.now.bytes.now events.items }
-    ensures moved { IfOk result (λ all. IsMoved (world tokenizer.old) (world tokenizer.new)) }
     ensures placed { IfOk result (λ all. ArePlaced reader.now.bytes.now all.items) }
     ensures substituted { IfOk result
         (λ all. Substituted wants_content (content_readings reader.now.bytes.now reader.now.options.now) [] 0
         (joined events.items) all.items) }
 {
-    let alloc = tokenizer.alloc;
     let mut all = Rewriting::new(events);
     let mut found = Found::nothing(alloc);
     let mut chunks = Vec::new(alloc);
@@ -421,7 +403,7 @@ pub fn read_lines(
         if begins_chunk(all.left()) {
             if !found.is_begun() {
                 if let Some(more) = further_lines(reader.bytes, all.left()) {
-                    put_paragraph(tokenizer, &mut all, more)?;
+                    put_paragraph(&mut all, begin, more)?;
                     continue;
                 }
             }

@@ -7,8 +7,6 @@
 
 ghost use Rattle.std.specs.Prelude.{◌≡◌, IfOk, IfSome, OnOk, []};
 ghost use Rattle.md_content.specs.ParagraphRule.{IsParagraphState};
-ghost use Rattle.md_content.specs.Resolves.{IsMoved};
-ghost use Rattle.md_engine.specs.Place.{IsPlaced};
 ghost use Rattle.md_engine.specs.World.{world};
 ghost use Rattle.md_engine.specs.declared.event.Name.{Name};
 ghost use Rattle.md_engine.specs.declared.state.Name.{Name as StateName};
@@ -19,7 +17,7 @@ ghost use Rattle.md_events.specs.Events.Nested.{enter};
 ghost use Rattle.md_events.specs.Stays.{TakesEach};
 ghost use Rattle.md_events.specs.Transition.{IsAt, NeedsNothing};
 
-use md_engine::event::{Content, Event, Link, Name, Point};
+use md_engine::event::{Content, Event, Link, Name};
 use md_engine::message::Message;
 use md_engine::or_error;
 use md_engine::state::paragraph::State as ParagraphState;
@@ -117,17 +115,16 @@ pub fn takes_at_once(state: ParagraphState) -> Option<Stay>
     }
 }
 
-/// The event with which a paragraph begins at a point, as the first state adds it to a tokenizer that has no events.
+/// The event with which a paragraph begins, as the first state adds it at the point of a tokenizer that has no events.
 ///
 /// An `Err` says that memory ran out.
-pub fn begin_at(tokenizer: &mut Tokenizer, point: Point) -> Result<Event, Message>
+pub fn begin(tokenizer: &mut Tokenizer) -> Result<Event, Message>
     requires events { (world tokenizer.old).events ≡ [] }
     requires frames { (world tokenizer.old).frames ≡ [] }
-    requires placed { IsPlaced (world tokenizer.old).setting.bytes point }
-    ensures event { IfOk result (λ event. event ≡ enter Name.Paragraph point) }
-    ensures moved { OnOk result (IsMoved (world tokenizer.old) (world tokenizer.new)) }
+    ensures event { IfOk result (λ event. event ≡ enter Name.Paragraph event.point) }
+    ensures same { OnOk result (world tokenizer.new ≡ record (world tokenizer.old) { events = [] }) }
 {
-    tokenizer.point = point;
+    let current = tokenizer.current;
     tokenizer.current = tokenizer.look();
     if let State::Error = start(tokenizer) {
         return Err(Message);
@@ -139,5 +136,6 @@ pub fn begin_at(tokenizer: &mut Tokenizer, point: Point) -> Result<Event, Messag
     let begin = *first;
     events.clear();
     tokenizer.set_events(events);
+    tokenizer.current = current;
     Ok(begin)
 }

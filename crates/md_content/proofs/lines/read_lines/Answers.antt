@@ -8,13 +8,12 @@ use Rattle.md_engine.specs.declared.event.Event.{Event}
 use Rattle.md_engine.specs.declared.event.Kind.TheVariants.{Enter}
 use Rattle.md_engine.specs.declared.event.Name.TheVariants.{Frontmatter}
 use Rattle.md_engine.specs.Place.{IsPlaced}
-use Rattle.md_engine.specs.World.{World, world}
 use Rattle.md_content.specs.ContentReads.{content_readings, wants_content}
 use Rattle.md_content.specs.Joined.{joined, joined_with}
 use Rattle.md_content.specs.Lines.{begins_chunk, is_passed}
 use Rattle.md_content.specs.ParagraphLines.{IsParagraph, Reached}
 use Rattle.md_content.proofs.LinesLemmas.{leads-end, leads-line, leads-passed}
-use Rattle.md_content.proofs.ParagraphLines.{from-unbegun, moved-on, no-chunks, to-unbegun}
+use Rattle.md_content.proofs.ParagraphLines.{from-unbegun, no-chunks, to-unbegun}
 use Rattle.md_content.proofs.lines.read_lines.Goals as goal
 use Rattle.md_events.specs.Parts.{ArePlaced}
 use Rattle.md_events.specs.Rewritten.{given_of, held_of, left_of, written_of}
@@ -38,7 +37,6 @@ loop-event-init c =
     let none : given_of all ≡ [] = ap (λ (l : List Event). l ++ held_of all) c.new-all.ensures.written
     ∙ c.new-all.ensures.held in
     record {
-      moved = refl;
       given = subst (ArePlaced text) (sym none) (All-nil (λ (e : Event). IsPlaced text e.point));
       left = subst (ArePlaced text) (sym c.new-all.ensures.left) c.requires.placed;
       found = subst (ArePlaced text) (sym found.ensures.events) (All-nil (λ (e : Event). IsPlaced text e.point));
@@ -47,12 +45,6 @@ loop-event-init c =
           (joined (left_of all)) found.result.events.items (given_of all) found.result.placed found.result.chunks
           (ap joined c.new-all.ensures.left) found.ensures.events found.ensures.placed found.ensures.chunks none;
     }
-
-pub put_paragraph-requires-clause-placed : goal.put_paragraph-requires-clause-placed
-put_paragraph-requires-clause-placed c =
-    subst (λ (bytes : List ℕ). ArePlaced bytes (left_of c.loop-event.all))
-    (sym (ap (λ (w : World). w.setting.bytes) c.loop-event.invariant.moved ∙ c.requires.bytes))
-    c.loop-event.invariant.left
 
 pub loop-event-preserved-in-Some-further_lines : goal.loop-event-preserved-in-Some-further_lines
 loop-event-preserved-in-Some-further_lines c =
@@ -75,8 +67,6 @@ loop-event-preserved-in-Some-further_lines c =
     c.in-Some-further_lines.ensures in
     let on = c.in_ok-put_paragraph.ensures.given text options events is reached in
     record {
-      moved = moved-on (world c.args.tokenizer.now) (world c.loop-event.tokenizer) (world c.put_paragraph.new.tokenizer)
-          inv.moved c.in_ok-put_paragraph.ensures.moved;
       given = on.given;
       left = on.left;
       found = inv.found;
@@ -109,7 +99,6 @@ loop-event-preserved-in-Continue-branch-3 c =
     ∙ (rw (c.skip.ensures.written, c.left-then-begins_chunk-3.ensures) at place.placed) in
     let following = rw c.left-then-begins_chunk-3.ensures at place.left in
     record {
-      moved = inv.moved;
       given = placed-place text (given_of c.loop-event.all) (given_of all) _ _ _ given inv.given read.placed;
       left =
           subst (ArePlaced text) (sym left)
@@ -146,7 +135,6 @@ loop-event-preserved-in-Continue-branch-4 c =
     ∙ append-nil (written_of all)
     ∙ (rw (c.skip-then-with-gt0.ensures.written, c.left-then-with-gt0.ensures) at c.in_ok-push.ensures.written) in
     record {
-      moved = inv.moved;
       given =
           subst (ArePlaced text) (sym given)
           (All-append (λ (e : Event). IsPlaced text e.point) (given_of old) (now ∷ []) inv.given
@@ -192,7 +180,6 @@ loop-event-preserved c =
     ∙ ap (λ (l : List Event). written_of old ++ l) c.hold_many.ensures.held
     ∙ sym (append_assoc (written_of old) (held_of old) (take many rest)) in
     record {
-      moved = inv.moved;
       given = placed-place text (given_of old) (given_of all) rest 0 many given inv.given inv.left;
       left =
           subst (ArePlaced text) (sym c.hold_many.ensures.left)

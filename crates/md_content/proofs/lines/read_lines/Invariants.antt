@@ -1,8 +1,6 @@
 use Rattle.std.proofs.Common.{drop, length}
 use Rattle.md_content.specs.ContentReads.{content_readings, wants_content}
 use Rattle.md_content.specs.Joined.{joined}
-use Rattle.md_content.specs.Resolves.{IsMoved}
-use Rattle.md_engine.specs.World.{world}
 use Rattle.md_content.proofs.lines.read_lines.Given as goal
 use Rattle.md_events.specs.Parts.{ArePlaced}
 use Rattle.md_events.specs.Rewritten.{given_of, left_of}
@@ -10,7 +8,6 @@ use Rattle.md_events.proofs.SubstitutedLemmas.{Leads}
 
 abbrev pub invariant-loop-event : goal.invariant-loop-event
 invariant-loop-event l = record {
-  moved : IsMoved (world l.fn.tokenizer) (world l.tokenizer);
   given : ArePlaced l.reader.bytes.now (given_of l.all);
   left : ArePlaced l.reader.bytes.now (left_of l.all);
   found : ArePlaced l.reader.bytes.now l.found.events.items;

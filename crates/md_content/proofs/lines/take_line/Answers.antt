@@ -1,11 +1,10 @@
-use Rattle.std.proofs.Common.{◌≡◌, ◌<◌, ◌+◌, ◌∙◌, ◌∷◌, ℕ, List, [], ap, arith, cond, drop, get_or, length, refl, subst, sym, true}
+use Rattle.std.proofs.Common.{◌≡◌, ◌+◌, ◌∙◌, ◌∷◌, ℕ, List, ap, arith, cond, drop, get_or, refl, sym}
 use Rattle.std.specs.Prelude.{None, nat_lt}
 use Rattle.md_engine.specs.declared.event.Event.{Event}
 use Rattle.md_engine.specs.declared.event.Kind.TheVariants.{Enter}
 use Rattle.md_engine.specs.declared.event.Name.TheVariants.{Frontmatter}
-use Rattle.md_engine.specs.Place.{IsPlaced}
 use Rattle.md_content.specs.Joined.{joined_with}
-use Rattle.md_content.specs.Lines.{begins_chunk, lines_from}
+use Rattle.md_content.specs.Lines.{lines_from}
 use Rattle.md_content.proofs.LinesLemmas.{lines-split}
 use Rattle.md_content.proofs.ParagraphLines.{begins, last-next, last-none, last-some}
 use Rattle.md_content.proofs.lines.take_line.Goals as goal
@@ -49,17 +48,3 @@ returns-clause-left c =
     ] in
     let next = last-next c.args.more last rest c.requires is in
     c.skip.ensures.left ∙ ap (λ (n : ℕ). drop n rest) (omega (arith, next))
-
--- a list with which a chunk begins has an event
-some-chunk : (events : List Event) → begins_chunk events ≡ true → 0 < length events
-some-chunk [] e = cc
-some-chunk (event ∷ events) e = omega arith
-
-pub returns-clause-placed : goal.returns-clause-placed
-returns-clause-placed c bytes placed =
-    let rest : List Event = left_of c.args.all.now in
-    let own : c.chunk_of-line.result.first ≡ (get_or rest 0 unset).point =
-    ap (λ (k : Chunk). k.first) c.chunk_of-line.ensures
-    ∙ ap (λ (l : List Event). (get_or l 0 unset).point) c.left-left.ensures in
-    subst (IsPlaced bytes) (sym own)
-    (placed 0 unset (some-chunk rest (begins c.args.more rest c.requires)))
