@@ -63,7 +63,7 @@ gcc -shared -o "$work/libhoxalgurre.so" -Wl,--whole-archive "$library" -Wl,--no-
 passed=0
 failed=0
 compare() {
-    if cmp -s "$work/wanted" "$work/told"; then
+    if cmp -s "$work/wanted" "$work/printed"; then
         passed=$((passed + 1))
     else
         echo "$1: prints something else than events"
@@ -73,16 +73,16 @@ compare() {
 for text in examples/texts/*.md docs/events.md; do
     for set in commonmark gfm all alerts; do
         "$events" "$set" <"$text" >"$work/wanted"
-        "$work/events" "$set" <"$text" >"$work/told" || true
+        "$work/events" "$set" <"$text" >"$work/printed" || true
         compare "examples/c $set $text"
-        python3 examples/python/hoxalgurre.py "$work/libhoxalgurre.so" "$set" <"$text" >"$work/told" || true
+        python3 examples/python/hoxalgurre.py "$work/libhoxalgurre.so" "$set" <"$text" >"$work/printed" || true
         compare "examples/python $set $text"
     done
 done
 
 # Calls that are refused: a byte that is not UTF-8, and a set that there is not.
 refused() {
-    printf 'ab\xffc' | "$@" >"$work/told" 2>&1 || echo "status $?" >>"$work/told"
+    printf 'ab\xffc' | "$@" >"$work/printed" 2>&1 || echo "status $?" >>"$work/printed"
     compare "$*"
 }
 printf 'events: not UTF-8 at byte 2\nstatus 1\n' >"$work/wanted"
@@ -115,7 +115,7 @@ int main(void) {
 C
 gcc -std=c11 -Wall -Wextra -Werror -Iinclude "$work/room.c" "$library" "$heap" -o "$work/room"
 echo 0 >"$work/wanted"
-"$work/room" && echo $? >"$work/told" || echo $? >"$work/told"
+"$work/room" && echo $? >"$work/printed" || echo $? >"$work/printed"
 compare "an array with little room"
 echo "c and python: $passed passed, $failed failed"
 [ "$failed" -eq 0 ]

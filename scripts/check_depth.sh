@@ -49,10 +49,10 @@ def outline(words, last):
 
 def refuse(text, number):
     """A run whose requests are refused as the number says, and whether one was."""
-    told, tell = os.pipe()
-    ended = run([program("plain_blocks")], text, {"LD_PRELOAD": LIBRARY, "REFUSE": number, "REFUSED_TO": str(tell)}, [tell])
-    os.close(tell)
-    with open(told, "rb") as requests:
+    readable, writable = os.pipe()
+    ended = run([program("plain_blocks")], text, {"LD_PRELOAD": LIBRARY, "REFUSE": number, "REFUSED_TO": str(writable)}, [writable])
+    os.close(writable)
+    with open(readable, "rb") as requests:
         return ended, b"r" in requests.read()
 
 

@@ -3,15 +3,15 @@
 # PROGRAMS is set, that folder has them under their names).
 #
 # - A line `<!-- run -->` is before a code block: a command, an empty line, and what the command prints. The
-#   command is `(cd crates/NAME && rt try -- ARGUMENTS)`, with `printf '..' |` in front of it or `< stdin` at its end. Where
+#   command is `(cd crates/NAME && rt try -- ARGUMENTS)`, with `printf '..' |` before it or `< stdin` at its end. Where
 #   the block has the command alone, it prints what the file `stdout` of the crate has. A code block that begins with such
 #   a command and has no such line is refused.
 # - A line `<!-- text -->` is before a fenced block with one line, which `printf '%b'` makes the text of, and a line
-#   `<!-- events SET -->` in front of a fenced block: what `events SET` prints of that text.
+#   `<!-- events SET -->` before a fenced block: what `events SET` prints of that text.
 # - A text in quotes, its set, an arrow and blocks, each but the set between backticks, as in `"> a\nb"` (gfm) → `quote (paragraph)`:
 #   the outline of the text, each word with what is one deeper in parentheses. Lines of text are left out, unless one is
 #   shown in quotes. The set is `commonmark` where none is named.
-# - A line `<!-- code FILE -->` is in front of a fenced block whose lines are in that file, in this order.
+# - A line `<!-- code FILE -->` is before a fenced block whose lines are in that file, in this order.
 #
 # `scripts/counts.py` has how many examples there are, and compares the numbers that the pages give.
 set -euo pipefail
@@ -40,12 +40,12 @@ def run(name, words, text):
     return ran.returncode, ran.stdout.decode(errors="replace")
 
 
-def compare(place, told, wanted):
+def compare(place, printed, wanted):
     global passed, failed
-    if told == wanted:
+    if printed == wanted:
         passed += 1
     else:
-        print(f"{place}: prints\n{told}\nand not\n{wanted}")
+        print(f"{place}: prints\n{printed}\nand not\n{wanted}")
         failed += 1
 
 
@@ -138,11 +138,11 @@ def check(page):
             quoted(place, mark[2], shown)
         elif mark and mark[1] == "text":
             text, at = block(page, lines, at + 1)
-            told = re.fullmatch(rf"<!-- events ({SETS}) -->", lines[at])
-            if len(text) != 1 or not told:
+            page = re.fullmatch(rf"<!-- events ({SETS}) -->", lines[at])
+            if len(text) != 1 or not page:
                 sys.exit(f"{place}: a text is one line, and a line `<!-- events SET -->` is after it")
             shown, at = block(page, lines, at + 1)
-            compare(place, run("events", [told[1]], escaped(text[0])), (0, "".join(line + "\n" for line in shown)))
+            compare(place, run("events", [page[1]], escaped(text[0])), (0, "".join(line + "\n" for line in shown)))
         elif mark:
             sys.exit(f"{place}: events without a text")
         elif re.fullmatch(r"```+\w*", line):

@@ -14,12 +14,12 @@ FOLDER = "examples/texts"
 passed = failed = 0
 
 
-def compare(place, told, wanted):
+def compare(place, printed, wanted):
     global passed, failed
-    if told == wanted:
+    if printed == wanted:
         passed += 1
     else:
-        print(f"{place}: prints\n{told}\nand not\n{wanted}")
+        print(f"{place}: prints\n{printed}\nand not\n{wanted}")
         failed += 1
 
 
@@ -112,9 +112,9 @@ def places(value):
 
 
 def read_json(task, path, constructs, status=0):
-    told = json.loads(run(task, "-f", "json", "-c", constructs, path, status=status))
-    compare(f"{path}: {task}: file", [one["file"] for one in told], [path])
-    return told[0]
+    printed = json.loads(run(task, "-f", "json", "-c", constructs, path, status=status))
+    compare(f"{path}: {task}: file", [one["file"] for one in printed], [path])
+    return printed[0]
 
 
 def check(name):
@@ -135,17 +135,17 @@ def check(name):
     compare(f"{path}: headings as text", run("headings", "-c", constructs, path).split("\n")[:-1], lines)
     # Labels.
     status = 1 if wanted["labels"] else 0
-    told = run("labels", "-c", constructs, path, status=status).split("\n")[:-1]
-    compare(f"{path}: labels", told, [f"{path}:{label}" for label in wanted["labels"]])
+    printed = run("labels", "-c", constructs, path, status=status).split("\n")[:-1]
+    compare(f"{path}: labels", printed, [f"{path}:{label}" for label in wanted["labels"]])
     findings = read_json("labels", path, constructs, status=status)["findings"]
     lines = []
     for f in findings:
         start = f["position"]["start"]
-        behind = f", first in line {f['first_line']}" if f["first_line"] else ""
-        lines.append(f"{path}:{start['line']}:{start['column']}: {f['problem']} [{f['label']}]{behind}")
+        first = f", first in line {f['first_line']}" if f["first_line"] else ""
+        lines.append(f"{path}:{start['line']}:{start['column']}: {f['problem']} [{f['label']}]{first}")
         part = raw[start["offset"]:f["position"]["end"]["offset"]]
         compare(f"{path}: {part}", (part[:1], part[-1:]), (b"[", b"]"))
-    compare(f"{path}: labels as JSON", lines, told)
+    compare(f"{path}: labels as JSON", lines, printed)
     # HTML.
     page = run("html", "-c", constructs, path)
     compare(f"{path}: tags", tags(page), wanted["html"])

@@ -3,7 +3,7 @@
 # from the text. No must-fail edit can say so, since what the borrow checker refuses does not reach the prover.
 #
 # Two copies of `crates/examples_api` keep the text in a `String` of their own. One drops it after the last use of a line, and
-# prints what `crates/examples_api` does. The other drops it in front of that, which the borrow checker must refuse.
+# prints what `crates/examples_api` does. The other drops it before that, which the borrow checker must refuse.
 set -euo pipefail
 cd "$(dirname "$0")/.."
 work=$(mktemp -d)

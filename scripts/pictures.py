@@ -67,8 +67,8 @@ def kind(name):
 
 def read_events():
     """The events of the text: whether one enters, its name, and its point."""
-    told = subprocess.run([EVENTS, "gfm"], input=TEXT.encode(), capture_output=True, check=True, timeout=60).stdout
-    for row in told.decode().splitlines():
+    printed = subprocess.run([EVENTS, "gfm"], input=TEXT.encode(), capture_output=True, check=True, timeout=60).stdout
+    for row in printed.decode().splitlines():
         sign, name, *point = row.split()
         yield sign == "+", name, tuple(map(int, point))
 

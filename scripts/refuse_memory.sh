@@ -9,7 +9,7 @@
 #   answer while each request is refused.
 # - Of `blocks`, `events`, `plain_blocks` and `examples_references`, those of the whole program: on the texts of their stored runs, and
 #   the first two with the argument `alerts` on each begin of a text with a byte order mark, frontmatter, headings of both kinds,
-#   quotes, a break, nested lists, an alert with a fence, HTML, definitions, in a quote and in front of an underline, a table and a
+#   quotes, a break, nested lists, an alert with a fence, HTML, definitions, in a quote and before an underline, a table and a
 #   footnote definition; the third on that text. The fourth parses its text with an inline layer, wraps it in a quote and in an item,
 #   and parses both; a reference in it goes over two lines of a quote, and is defined after it. A refused run ends with status 3, says
 #   so on its standard error and prints nothing.
@@ -166,11 +166,11 @@ def program(name):
 
 def run(command, text, refused, marks={}):
     """The status of a run, what it printed and what it complained of; how many requests it was refused, and how many did not count."""
-    told, tell = os.pipe()
-    named = {"LD_PRELOAD": library, "REFUSE": str(refused), "REFUSED_TO": str(tell), **marks}
-    ran = subprocess.run(command, input=text, capture_output=True, env=named, pass_fds=[tell], timeout=60)
-    os.close(tell)
-    with open(told, "rb") as requests:
+    readable, writable = os.pipe()
+    named = {"LD_PRELOAD": library, "REFUSE": str(refused), "REFUSED_TO": str(writable), **marks}
+    ran = subprocess.run(command, input=text, capture_output=True, env=named, pass_fds=[writable], timeout=60)
+    os.close(writable)
+    with open(readable, "rb") as requests:
         said = requests.read()
     return (ran.returncode, ran.stdout, ran.stderr), said.count(b"r"), said.count(b"o")
 

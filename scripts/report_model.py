@@ -1,7 +1,7 @@
 """What `hoxalgurre` has to print of a text, from what the proved programs `blocks` and `events` print of it.
 
 `blocks` prints a line for each block and for each of its texts, `events` where each part begins and ends. From both come
-the places of blocks, the virtual spaces in front of their texts, the records of events and the headings. The HTML is that
+the places of blocks, the virtual spaces before their texts, the records of events and the headings. The HTML is that
 of the examples of CommonMark 0.31.2 and of GFM, over the tree of blocks, with the texts as they are in the source;
 docs/rendering.md says what differs."""
 import json
@@ -102,7 +102,7 @@ class Model:
             self.blocks.append(block)
 
     def place(self):
-        """Gives the blocks their places, and their lines the virtual spaces in front of them."""
+        """Gives the blocks their places, and their lines the virtual spaces before them."""
         found = places(self.events)
         if len(found) != len(self.blocks):
             raise ValueError("blocks and events disagree")

@@ -56,7 +56,7 @@ on a third line.
    $ tool run
    ```
 
-2. Then call it, as told [below][use].
+2. Then call it, as given [below][use].
 
 > {LINE}
 
@@ -303,11 +303,11 @@ class Program:
         self.path = path
         self.counts: dict[int, int] = {}
 
-    def instructions(self, text: str, told: list[str]) -> int:
+    def instructions(self, text: str, given: list[str]) -> int:
         """The instructions from the start of the process to its end."""
-        key = hash((text, *told))
+        key = hash((text, *given))
         if key not in self.counts:
-            command = ["valgrind", "--tool=callgrind", "--callgrind-out-file=/dev/null", self.path, *told]
+            command = ["valgrind", "--tool=callgrind", "--callgrind-out-file=/dev/null", self.path, *given]
             done = subprocess.run(command, input=text.encode(), stdout=subprocess.DEVNULL, stderr=subprocess.PIPE)
             found = re.search(rb"Collected : (\d+)", done.stderr)
             if done.returncode != 0 or not found:
@@ -315,11 +315,11 @@ class Program:
             self.counts[key] = int(found[1])
         return self.counts[key]
 
-    def by_byte(self, text: str, told: list[str]) -> float:
+    def by_byte(self, text: str, given: list[str]) -> float:
         """The instructions by byte of text, less those of an empty one."""
-        return (self.instructions(text, told) - self.instructions("", told)) / len(text.encode())
+        return (self.instructions(text, given) - self.instructions("", given)) / len(text.encode())
 
-    def run(self, part: str, size: int, told: list[str]) -> tuple[float, int]:
+    def run(self, part: str, size: int, given: list[str]) -> tuple[float, int]:
         """The seconds and the most bytes that a run takes on a part again and again, up to this size.
 
         What this script holds when it starts the process counts too, so it keeps no text of that size.
@@ -331,7 +331,7 @@ class Program:
             source.write(block[: size % len(block)])
             source.seek(0)
             start = time.perf_counter()
-            process = subprocess.Popen([self.path, *told], stdin=source, stdout=subprocess.DEVNULL)
+            process = subprocess.Popen([self.path, *given], stdin=source, stdout=subprocess.DEVNULL)
             _, status, usage = os.wait4(process.pid, 0)
             seconds = time.perf_counter() - start
         process.returncode = os.waitstatus_to_exitcode(status)
@@ -353,9 +353,9 @@ def others(commands: list[str]) -> dict[str, tuple[Program, list[str]]]:
     """The programs of these commands that are installed, each with its arguments."""
     found = {}
     for command in commands:
-        name, *told = shlex.split(command)
+        name, *given = shlex.split(command)
         if path := shutil.which(name):
-            found[Path(name).name] = (Program(Path(path)), told)
+            found[Path(name).name] = (Program(Path(path)), given)
     return found
 
 
@@ -363,18 +363,18 @@ def print_cost(program: Program, size: int, beside: dict[str, tuple[Program, lis
     """What a byte of text costs, where the text is so long already: of a text less its first half."""
     head("Text", "Instructions a byte", "Memory a byte", *beside)
     for name, part in PARTS.items():
-        told = arguments(name)
+        given = arguments(name)
         half, whole = filled(part, size // 2), filled(part, size // 2) * 2
 
-        def cost(program: Program, told: list[str]) -> str:
-            more = program.instructions(whole, told) - program.instructions(half, told)
+        def cost(program: Program, given: list[str]) -> str:
+            more = program.instructions(whole, given) - program.instructions(half, given)
             return f"{more / (len(whole) - len(half)):.1f}"
 
         least = 8 * size
-        while program.run(part, least, told)[1] < 40 * MEGABYTE and least < 60 * MEGABYTE:
+        while program.run(part, least, given)[1] < 40 * MEGABYTE and least < 60 * MEGABYTE:
             least *= 2
-        memory = (program.run(part, 2 * least, told)[1] - program.run(part, least, told)[1]) / least
-        row(name, cost(program, told), f"{memory:.1f}", *(cost(*other) for other in beside.values()))
+        memory = (program.run(part, 2 * least, given)[1] - program.run(part, least, given)[1]) / least
+        row(name, cost(program, given), f"{memory:.1f}", *(cost(*other) for other in beside.values()))
 
 
 def print_growth(program: Program, size: int) -> None:

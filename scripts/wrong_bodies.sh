@@ -1,5 +1,5 @@
 #!/usr/bin/env bash
-# Tries wrong bodies without proof, each of which must change a row: those that no contract can refuse, or that one may come to let
+# Tries wrong bodies without proof, each of which must change a row: those that no contract can refuse, or that one may let
 # through, and those of promises that no must-fail edit tries.
 #
 # Each file of scripts/wrong-bodies has lines `file:`, `old:` (once in that file) and `new:`. All are applied to one copy

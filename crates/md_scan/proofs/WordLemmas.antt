@@ -52,7 +52,7 @@ words-next b others rest e f =
     subst (λ r. words r ≡ take (prefix_len is_black r) r ∷ words (drop (prefix_len is_black r) r)) (sym e)
     (words-front b others (sym f))
 
--- whitespace in front of words
+-- whitespace before words
 pub words-white : (b : ℕ) (others rest : List ℕ) → rest ≡ b ∷ others → is_white b ≡ true → words rest ≡ words others
 words-white b others rest e white = ap words e ∙ rw white refl
 

@@ -256,61 +256,61 @@ quote
   paragraph
     | [!T\u{131}P]
 
-own choice: alerts; text behind the marker | alerts | alerts block_quote
+own choice: alerts; text after the marker | alerts | alerts block_quote
 "> [!NOTE]."
 quote
   paragraph
     | [!NOTE].
 
-own choice: alerts; text behind the marker | alerts | alerts block_quote
+own choice: alerts; text after the marker | alerts | alerts block_quote
 "> [!NOTE]]"
 quote
   paragraph
     | [!NOTE]]
 
-own choice: alerts; text behind the marker | alerts | alerts block_quote
+own choice: alerts; text after the marker | alerts | alerts block_quote
 "> [!NOTE] [!TIP]"
 quote
   paragraph
     | [!NOTE] [!TIP]
 
-own choice: alerts; text behind the marker | alerts | alerts block_quote
+own choice: alerts; text after the marker | alerts | alerts block_quote
 "> [!NOTE]\\"
 quote
   paragraph
     | [!NOTE]\\
 
-own choice: alerts; text behind the marker | alerts | alerts block_quote
+own choice: alerts; text after the marker | alerts | alerts block_quote
 "> [!NOTE]\u{a0}"
 quote
   paragraph
     | [!NOTE]\u{a0}
 
-own choice: alerts; text behind the marker | alerts | alerts block_quote
+own choice: alerts; text after the marker | alerts | alerts block_quote
 "> [!NOTE]\u{c}"
 quote
   paragraph
     | [!NOTE]\u{c}
 
-own choice: alerts; text behind the marker | alerts | alerts block_quote
+own choice: alerts; text after the marker | alerts | alerts block_quote
 "> [!NOTE]\0"
 quote
   paragraph
     | [!NOTE]\0
 
-own choice: alerts; text in front of the marker | alerts | alerts block_quote
+own choice: alerts; text before the marker | alerts | alerts block_quote
 "> \u{feff}[!NOTE]"
 quote
   paragraph
     | \u{feff}[!NOTE]
 
-own choice: alerts; text in front of the marker | alerts | alerts block_quote
+own choice: alerts; text before the marker | alerts | alerts block_quote
 "> a [!NOTE]"
 quote
   paragraph
     | a [!NOTE]
 
-own choice: alerts; text behind the marker | alerts | alerts block_quote definition
+own choice: alerts; text after the marker | alerts | alerts block_quote definition
 "> [!NOTE]: /a"
 quote
   definition
@@ -320,7 +320,7 @@ definitions 1
 = !note
 footnotes 0
 
-own choice: alerts; text behind the marker | alerts | alerts block_quote gfm_table
+own choice: alerts; text after the marker | alerts | alerts block_quote gfm_table
 "> [!NOTE] | a\n> -|-"
 quote
   table 2
@@ -329,19 +329,19 @@ quote
       cell | a
     delimiter | -|-
 
-own choice: alerts; the end of the text behind the marker | alerts | alerts block_quote
+own choice: alerts; the end of the text after the marker | alerts | alerts block_quote
 "> [!NOTE]"
 alert note
 
-own choice: alerts; the end of the text behind the marker | alerts | alerts block_quote
+own choice: alerts; the end of the text after the marker | alerts | alerts block_quote
 ">[!NOTE]"
 alert note
 
-own choice: alerts; the end of the text behind the marker | alerts | alerts block_quote
+own choice: alerts; the end of the text after the marker | alerts | alerts block_quote
 "> [!NOTE]\n"
 alert note
 
-own choice: alerts; the end of the text behind the marker | alerts | alerts block_quote
+own choice: alerts; the end of the text after the marker | alerts | alerts block_quote
 "> [!CAUTION]\t"
 alert caution
 
@@ -418,21 +418,21 @@ quote
   code
     | [!NOTE]
 
-own choice: alerts; a whole tab behind the space | alerts | alerts block_quote
+own choice: alerts; a whole tab after the space | alerts | alerts block_quote
 "> \t[!NOTE]"
 alert note
 
-own choice: alerts; a tab behind two spaces | alerts | alerts block_quote
+own choice: alerts; a tab after two spaces | alerts | alerts block_quote
 ">  \t[!NOTE]"
 alert note
 
-own choice: alerts; a tab behind three spaces | alerts | alerts block_quote code_indented
+own choice: alerts; a tab after three spaces | alerts | alerts block_quote code_indented
 ">   \t[!NOTE]"
 quote
   code
     |   [!NOTE]
 
-own choice: alerts; tabs behind the marker | alerts | alerts block_quote
+own choice: alerts; tabs after the marker | alerts | alerts block_quote
 ">[!NOTE]\t\t \n> a"
 alert note
   paragraph
@@ -565,24 +565,24 @@ alert tip
   paragraph
     | -|-
 
-own choice: alerts; a break behind it | alerts | alerts block_quote thematic_break
+own choice: alerts; a break after it | alerts | alerts block_quote thematic_break
 "> [!TIP]\n---"
 alert tip
 break
 
-own choice: alerts; an empty item behind it | alerts | alerts block_quote list_item
+own choice: alerts; an empty item after it | alerts | alerts block_quote list_item
 "> [!TIP]\n-"
 alert tip
 list -
   item
 
-own choice: alerts; a blank line behind it | alerts | alerts block_quote
+own choice: alerts; a blank line after it | alerts | alerts block_quote
 "> [!TIP]\n>\n> a"
 alert tip
   paragraph
     | a
 
-own choice: alerts; a blank line behind it | alerts | alerts block_quote
+own choice: alerts; a blank line after it | alerts | alerts block_quote
 "> [!TIP]\n\n> a"
 alert tip
 quote
@@ -723,7 +723,7 @@ list .
   item
     alert tip
 
-own choice: alerts; in an item, behind four columns | alerts | alerts block_quote code_indented list_item
+own choice: alerts; in an item, after four columns | alerts | alerts block_quote code_indented list_item
 "- >     [!NOTE]\n-     > [!NOTE]"
 list -
   item
@@ -771,11 +771,11 @@ html
   | > [!NOTE]
 alert note
 
-own choice: alerts; behind a byte order mark | alerts | alerts block_quote
+own choice: alerts; after a byte order mark | alerts | alerts block_quote
 "\u{feff}> [!NOTE]"
 alert note
 
-own choice: alerts; behind frontmatter | alerts | alerts block_quote frontmatter
+own choice: alerts; after frontmatter | alerts | alerts block_quote frontmatter
 "+++\n+++\n> [!NOTE]\n> +++"
 frontmatter +
 alert note

@@ -430,7 +430,7 @@ heading 2
   | --
   | a
 
-own choice: frontmatter; a line behind it has no column of a mark | all | frontmatter heading_atx code_indented
+own choice: frontmatter; a line after it has no column of a mark | all | frontmatter heading_atx code_indented
 "\u{feff}+++\n+++\n\ta"
 frontmatter +
 code

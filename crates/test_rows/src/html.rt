@@ -208,7 +208,7 @@ paragraph
 paragraph
   | a
 
-CommonMark 4.6, kind 1: whitespace in front of the `>` ends nothing | commonmark | html_flow
+CommonMark 4.6, kind 1: whitespace before the `>` ends nothing | commonmark | html_flow
 "<script\na\n</sCript >\nb</script\n>\n</Script>c\nd"
 html
   | <script
@@ -220,7 +220,7 @@ html
 paragraph
   | d
 
-CommonMark 4.6, kind 1: an end behind what only begins like one | commonmark | html_flow
+CommonMark 4.6, kind 1: an end after what only begins like one | commonmark | html_flow
 "<pre></</pre>\n<pre><</a</STYLE>\n<pre></prex></pre\n</>\n</script></pre>a\nb"
 html
   | <pre></</pre>

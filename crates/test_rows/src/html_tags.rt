@@ -299,7 +299,7 @@ paragraph
 paragraph
   | <div//>
 
-CommonMark 4.6, kind 6: its closing tags may have anything behind whitespace | commonmark | html_flow
+CommonMark 4.6, kind 6: its closing tags may have anything after whitespace | commonmark | html_flow
 "</div a='b\n>c\n\n</DIV/>\na"
 html
   | </div a='b
@@ -390,7 +390,7 @@ html
 paragraph
   | ===
 
-CommonMark 4.6, kind 7: behind HTML that has ended | commonmark | html_flow
+CommonMark 4.6, kind 7: after HTML that has ended | commonmark | html_flow
 "<!--a-->\n<!--b-->\n</c>\nd"
 html
   | <!--a-->

@@ -241,13 +241,13 @@ own choice: only the first byte order mark is taken off | commonmark | heading_a
 paragraph
   | \u{feff}# a
 
-own choice: a byte order mark stands at the start of the text | commonmark | nothing
+own choice: a byte order mark is at the start of the text | commonmark | nothing
 "a\n\u{feff}"
 paragraph
   | a
   | \u{feff}
 
-own choice: a byte order mark stands at the start of the text | commonmark | nothing
+own choice: a byte order mark is at the start of the text | commonmark | nothing
 " \u{feff}"
 paragraph
   | \u{feff}

@@ -434,14 +434,14 @@ heading 2
 paragraph
   | c
 
-CommonMark 4.3 and 5.2: behind a heading no paragraph is open | commonmark | heading_setext list_item
+CommonMark 4.3 and 5.2: after a heading no paragraph is open | commonmark | heading_setext list_item
 "a\n=\n-"
 heading 1
   | a
 list -
   item
 
-CommonMark 4.3 and 5.2: behind a heading no paragraph is open | commonmark | heading_setext list_item
+CommonMark 4.3 and 5.2: after a heading no paragraph is open | commonmark | heading_setext list_item
 "a\n=\n2. b"
 heading 1
   | a
@@ -450,14 +450,14 @@ list .
     paragraph
       | b
 
-CommonMark 4.3 and 4.4: behind a heading no paragraph is open | commonmark | code_indented heading_setext
+CommonMark 4.3 and 4.4: after a heading no paragraph is open | commonmark | code_indented heading_setext
 "a\n-\n    b"
 heading 2
   | a
 code
   | b
 
-CommonMark 4.3 and 4.6: behind a heading no paragraph is open | commonmark | heading_setext html_flow
+CommonMark 4.3 and 4.6: after a heading no paragraph is open | commonmark | heading_setext html_flow
 "a\n=\n<x>\n="
 heading 1
   | a
