@@ -12,7 +12,7 @@ use Rattle.md_meaning.specs.Rest.{is_blank, is_white, run_len}
 use Rattle.md_meaning.proofs.TextsLemmas.{NoEnding, no_ending-drop}
 use Rattle.md_code.specs.Fence.{may_begin}
 use Rattle.md_code.specs.FenceLine.{is_closing}
-use Rattle.md_code.specs.FenceRule.{is_end, is_line, run_end, run_rest, run_size}
+use Rattle.md_leaves.specs.CellRuns.{is_end, is_line, run_end, run_rest, run_size}
 use Rattle.md_code.proofs.FenceMeaning.{first_is, run-none}
 use Rattle.md_events.specs.Ahead.{from_ending, line_bytes, line_cells, line_end, point_after, white_end, white_rest}
 use Rattle.md_events.specs.Events.Places.{past_byte, past_text}

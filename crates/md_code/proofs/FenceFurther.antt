@@ -21,7 +21,7 @@ use Rattle.md_meaning.proofs.TextsLemmas.{NoEnding, no_ending-drop}
 use Rattle.md_code.specs.Fence.{block_name, chunk_name, held_indent, held_marker, may_begin}
 use Rattle.md_code.specs.FenceLine.{chunk_events, closes_here, closing_end, fence_continues, further_end}
 use Rattle.md_code.specs.FenceLine.{further_events, further_inside, further_rest, is_closing, spaces}
-use Rattle.md_code.specs.FenceRule.{is_end, is_line, run_end, run_rest, run_size}
+use Rattle.md_leaves.specs.CellRuns.{is_end, is_line, run_end, run_rest, run_size}
 use Rattle.md_leaves.specs.Further.{further_link}
 use Rattle.md_code.proofs.FenceCells.{closing-spread, first-spread, line-all, line-done, line-run, line-white}
 use Rattle.md_code.proofs.FenceCells.{marker-dark, marker-proceeds}

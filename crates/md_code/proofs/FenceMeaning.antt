@@ -32,11 +32,12 @@ use Rattle.md_code.specs.Fence.{fence_name, fence_ready, fence_transition, held_
 use Rattle.md_code.specs.Fence.{info_before_code, info_code, is_on, is_refused, line_entered, may_close}
 use Rattle.md_code.specs.Fence.{meta_before_code, meta_code, meta_name, sees_refused, sequence_close_code}
 use Rattle.md_code.specs.Fence.{sequence_name, sequence_open_code, start_code, string_link}
-use Rattle.md_code.specs.FenceRule.{FenceMeans, HasFence, before_chunk, before_close, before_info, before_meta}
-use Rattle.md_code.specs.FenceRule.{before_sequence, after_sequence, after_white_of, block_begun, close_at, close_end}
-use Rattle.md_code.specs.FenceRule.{closed_or_content, content_at, fence_at, further_at, in_chunk, in_close, in_info}
-use Rattle.md_code.specs.FenceRule.{in_meta, in_sequence, is_end, is_line, is_word, line_begun, line_done, opens}
-use Rattle.md_code.specs.FenceRule.{part_begun, part_ended, refuses, run_end, run_has, run_rest, run_size, with_event}
+use Rattle.md_leaves.specs.CellRuns.{after_white_of, is_end, is_line, is_word, run_end, run_has, run_rest, run_size}
+use Rattle.md_leaves.specs.CellRuns.{with_event}
+use Rattle.md_code.specs.FenceRule.{FenceMeans, HasFence, after_sequence, before_chunk, before_close, before_info}
+use Rattle.md_code.specs.FenceRule.{before_meta, before_sequence, block_begun, close_at, close_end, closed_or_content}
+use Rattle.md_code.specs.FenceRule.{content_at, fence_at, further_at, in_chunk, in_close, in_info, in_meta, in_sequence}
+use Rattle.md_code.specs.FenceRule.{line_begun, line_done, opens, part_begun, part_ended, refuses}
 use Rattle.md_leaves.specs.Further.{further_link}
 use Rattle.md_code.proofs.FenceTermination.{rest-clear}
 use Rattle.md_leaves.proofs.LeafSteps.{sees-one, white_frame}

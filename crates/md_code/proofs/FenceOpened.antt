@@ -16,10 +16,10 @@ use Rattle.md_meaning.specs.Rest.{is_white}
 use Rattle.md_code.specs.Fence.{block_name, cleared, fence_name, is_on, is_refused, may_begin, sequence_name}
 use Rattle.md_code.specs.FenceLine.{fence_begins, fence_by, fence_opened, info_events, is_opening, marker_at}
 use Rattle.md_code.specs.FenceLine.{meta_events, open_events, after_events}
-use Rattle.md_code.specs.FenceRule.{before_info, before_meta, before_sequence, after_sequence, after_white_of}
-use Rattle.md_code.specs.FenceRule.{block_begun, fence_at, in_info, in_meta, in_sequence, is_end, is_line, is_word}
-use Rattle.md_code.specs.FenceRule.{opens, part_begun, part_ended, refuses, run_end, run_has, run_rest, run_size}
-use Rattle.md_code.specs.FenceRule.{with_event}
+use Rattle.md_leaves.specs.CellRuns.{after_white_of, is_end, is_line, is_word, run_end, run_has, run_rest, run_size}
+use Rattle.md_leaves.specs.CellRuns.{with_event}
+use Rattle.md_code.specs.FenceRule.{after_sequence, before_info, before_meta, before_sequence, block_begun, fence_at}
+use Rattle.md_code.specs.FenceRule.{in_info, in_meta, in_sequence, opens, part_begun, part_ended, refuses}
 use Rattle.md_code.proofs.FenceCells.{SameLine, line-all, line-done, line-run, line-white, marker-dark, marker-proceeds}
 use Rattle.md_code.proofs.FenceCells.{run-length}
 use Rattle.md_code.proofs.FenceTermination.{rest-clear}

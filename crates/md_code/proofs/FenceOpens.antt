@@ -20,7 +20,7 @@ use Rattle.md_meaning.specs.State.{OpenFence}
 use Rattle.md_meaning.proofs.TextsLemmas.{NoEnding, no_ending-drop}
 use Rattle.md_code.specs.Fence.{is_on, is_refused, may_begin}
 use Rattle.md_code.specs.FenceLine.{fence_begins, fence_opened, is_opening, marker_at}
-use Rattle.md_code.specs.FenceRule.{is_line, run_has, run_rest, run_size}
+use Rattle.md_leaves.specs.CellRuns.{is_line, run_has, run_rest, run_size}
 use Rattle.md_code.proofs.FenceCells.{first-spread, marker-dark, marker-ten, not-lt, run-walk, stop-first}
 use Rattle.md_code.proofs.FenceFurther.{small-following}
 use Rattle.md_code.proofs.FenceOpened.{marker-may}

@@ -18,7 +18,7 @@ use Rattle.md_meaning.proofs.TextsLemmas.{NoEnding, no_ending-drop}
 use Rattle.md_code.specs.Fence.{meta_name}
 use Rattle.md_code.specs.FenceLine.{after_events, info_events, later_part, meta_events, spaces}
 use Rattle.md_code.specs.FenceParts.{bytes_at, part_of, parts_of}
-use Rattle.md_code.specs.FenceRule.{is_end, is_line, is_word, run_end, run_rest}
+use Rattle.md_leaves.specs.CellRuns.{is_end, is_line, is_word, run_end, run_rest}
 use Rattle.md_code.proofs.FenceCells.{RunOf, line-all, run-length, run-walk}
 use Rattle.md_code.proofs.FenceFurther.{is_nothing, nothing-end}
 use Rattle.md_events.specs.Ahead.{white_end, white_rest}

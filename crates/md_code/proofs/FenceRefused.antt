@@ -11,9 +11,10 @@ use Rattle.md_engine.specs.Meaning.{Cell, Here, Refuses}
 use Rattle.md_meaning.specs.Leaves.{is_fence_marker, least_size}
 use Rattle.md_code.specs.Fence.{is_on, is_refused, may_begin, sequence_name}
 use Rattle.md_code.specs.FenceLine.{fence_begins, fence_opened, is_opening, marker_at}
-use Rattle.md_code.specs.FenceRule.{before_info, before_meta, before_sequence, after_sequence, after_white_of}
-use Rattle.md_code.specs.FenceRule.{fence_at, in_info, in_meta, in_sequence, is_end, is_line, is_word, part_begun}
-use Rattle.md_code.specs.FenceRule.{part_ended, refuses, run_end, run_has, run_rest, run_size, with_event}
+use Rattle.md_leaves.specs.CellRuns.{after_white_of, is_end, is_line, is_word, run_end, run_has, run_rest, run_size}
+use Rattle.md_leaves.specs.CellRuns.{with_event}
+use Rattle.md_code.specs.FenceRule.{after_sequence, before_info, before_meta, before_sequence, fence_at, in_info}
+use Rattle.md_code.specs.FenceRule.{in_meta, in_sequence, part_begun, part_ended, refuses}
 use Rattle.md_code.proofs.FenceTermination.{rest-clear}
 use Rattle.md_code.proofs.FenceOpened.{has-run, has-white, in_block, marker-may, refused-dark, word-line}
 use Rattle.md_code.proofs.FenceMeaning.{line-first, run-has-none}

@@ -14,9 +14,10 @@ use Rattle.md_code.specs.Fence.{block_name, chunk_name, cleared, fence_name, hel
 use Rattle.md_code.specs.Fence.{sequence_name}
 use Rattle.md_code.specs.FenceLine.{chunk_events, closes_here, closing_end, closing_events}
 use Rattle.md_code.specs.FenceLine.{further_taken, is_closing, spaces}
-use Rattle.md_code.specs.FenceRule.{before_chunk, before_close, after_columns, after_white_of, close_at, close_end}
-use Rattle.md_code.specs.FenceRule.{closed_or_content, content_at, further_at, in_chunk, in_close, is_end, is_line}
-use Rattle.md_code.specs.FenceRule.{line_begun, refuses, run_end, run_rest, run_size, with_event}
+use Rattle.md_leaves.specs.CellRuns.{after_columns, after_white_of, is_end, is_line, run_end, run_rest, run_size}
+use Rattle.md_leaves.specs.CellRuns.{with_event}
+use Rattle.md_code.specs.FenceRule.{before_chunk, before_close, close_at, close_end, closed_or_content, content_at}
+use Rattle.md_code.specs.FenceRule.{further_at, in_chunk, in_close, line_begun, refuses}
 use Rattle.md_leaves.specs.Further.{further_link}
 use Rattle.md_code.proofs.FenceTermination.{rest-clear}
 use Rattle.md_code.proofs.FenceMeaning.{line-first, run-none}

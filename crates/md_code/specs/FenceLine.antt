@@ -12,7 +12,7 @@ use Rattle.md_engine.specs.Meaning.{Accepts, Cell, Here, Outcome, Refuses}
 use Rattle.md_meaning.specs.Leaves.{is_fence_marker, least_size}
 use Rattle.md_code.specs.Fence.{block_name, chunk_name, fence_name, held_indent, held_marker, held_size, is_on}
 use Rattle.md_code.specs.Fence.{is_refused, meta_name, sequence_name, string_link}
-use Rattle.md_code.specs.FenceRule.{is_end, is_line, is_word, run_end, run_has, run_rest, run_size}
+use Rattle.md_leaves.specs.CellRuns.{is_end, is_line, is_word, run_end, run_has, run_rest, run_size}
 use Rattle.md_leaves.specs.Further.{further_link}
 use Rattle.md_events.specs.Ahead.{begins_white, from_ending, line_end, white_end, white_rest}
 use Rattle.md_events.specs.Events.Nested.{enter, enter_link, exit, pair}

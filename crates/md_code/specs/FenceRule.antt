@@ -1,8 +1,7 @@
 -- The rule of fenced code and math, as what is left of it at each state (CommonMark 4.5).
-use Rattle.std.specs.Prelude.{◌≡◌, ℕ, suc, ◌+◌, ◌-◌, Bool, true, false, ◌&&◌, ◌==◌, not, nat_lt}
+use Rattle.std.specs.Prelude.{◌≡◌, ℕ, ◌+◌, ◌-◌, ◌&&◌, ◌==◌, not, nat_lt}
 use Rattle.std.specs.Prelude.{if◌then◌else◌, List, [], ◌∷◌, ◌++◌}
 use Rattle.md_engine.specs.declared.configuration.ParseOptions.{ParseOptions}
-use Rattle.md_engine.specs.declared.event.Event.{Event}
 use Rattle.md_engine.specs.declared.event.Name.{Name}
 use Rattle.md_engine.specs.declared.event.Name.TheVariants as part
 use Rattle.md_engine.specs.declared.event.Point.{Point}
@@ -16,64 +15,17 @@ use Rattle.md_engine.specs.Scheme.{position}
 use Rattle.md_engine.specs.Sees.{IsStep}
 use Rattle.md_engine.specs.World.{World}
 use Rattle.md_meaning.specs.Leaves.{is_fence_marker, least_size}
-use Rattle.md_meaning.specs.Rest.{is_white}
 use Rattle.md_code.specs.Fence.{FenceInvariant, block_name, chunk_name, cleared, fence_name, held_indent, held_marker}
 use Rattle.md_code.specs.Fence.{held_size, is_on, is_refused, meta_name, sequence_name, string_link, fence_transition}
+use Rattle.md_leaves.specs.CellRuns.{run_size, run_end, run_rest, run_has, is_word, is_line}
+use Rattle.md_leaves.specs.CellRuns.{is_end, with_event, after_columns, after_white_of}
 use Rattle.md_leaves.specs.Further.{further_link}
-use Rattle.md_events.specs.Ahead.{HasWhite, begins_white, white_end, white_rest}
-use Rattle.md_events.specs.Events.Nested.{enter, enter_link, exit, pair}
-use Rattle.md_events.specs.Look.{first_seen}
-use Rattle.md_events.specs.Spaces.{any_size, calmed, ends_line, small_indent}
+use Rattle.md_events.specs.Ahead.{HasWhite, begins_white, white_rest}
+use Rattle.md_events.specs.Events.Nested.{enter, enter_link, exit}
+use Rattle.md_events.specs.Spaces.{any_size, small_indent}
 use Rattle.md_events.specs.States.{IsState}
 use Rattle.md_engine.specs.declared.tokenizer.Tokenizer.{Tokenizer}
 use Rattle.md_engine.specs.Full.{IsFull}
-
--- The cells that come first and pass a test: how many there are, where they end, and what follows them.
-
-abbrev pub run_size : (ℕ → Bool) → List Cell → ℕ
-run_size t [] = 0
-run_size t (c ∷ cs) = if t c.byte then suc (run_size t cs) else 0
-
-abbrev pub run_end : (ℕ → Bool) → List Cell → Point → Point
-run_end t [] p = p
-run_end t (c ∷ cs) p = if t c.byte then run_end t cs c.after else p
-
-abbrev pub run_rest : (ℕ → Bool) → List Cell → List Cell
-run_rest t [] = []
-run_rest t (c ∷ cs) = if t c.byte then run_rest t cs else c ∷ cs
-
--- whether one of them is such a byte
-abbrev pub run_has : (ℕ → Bool) → (ℕ → Bool) → List Cell → Bool
-run_has bad t [] = false
-run_has bad t (c ∷ cs) = if t c.byte then (if bad c.byte then true else run_has bad t cs) else false
-
--- a byte of a word, and one of a line
-abbrev pub is_word : ℕ → Bool
-is_word b = not (is_white b) && not (b == 10)
-
-abbrev pub is_line : ℕ → Bool
-is_line b = not (b == 10)
-
--- whether the line ends here
-abbrev pub is_end : List Cell → Bool
-is_end cells = ends_line (first_seen cells)
-
--- with one more event
-abbrev pub with_event : Here → Event → Here
-with_event h e = record h { events = h.events ++ e ∷ [] }
-
--- after whitespace that comes first, up to so many columns
-abbrev pub after_columns : ℕ → List Cell → Here → Here
-after_columns room cells h = record h {
-  events = h.events ++ pair part.SpaceOrTab h.point (white_end room cells h.point);
-  point = white_end room cells h.point;
-  scratch = calmed h.scratch;
-}
-
--- what is left after whitespace, if some comes first
-abbrev pub after_white_of : ℕ → (List Cell → Here → Outcome) → List Cell → Here → Outcome
-after_white_of room following cells h =
-    if begins_white cells then following (white_rest room cells) (after_columns room cells h) else following cells h
 
 abbrev pub refuses : Here → Outcome
 refuses h = Refuses (cleared h.scratch) h.flags

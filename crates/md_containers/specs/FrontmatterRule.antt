@@ -11,7 +11,7 @@ use Rattle.md_engine.specs.Meaning.{Accepts, Behaviour, Cell, Fails, Here, Outco
 use Rattle.md_engine.specs.Sees.{IsStep}
 use Rattle.md_engine.specs.World.{Flags, World}
 use Rattle.md_leaves.specs.Heading.{without_size}
-use Rattle.md_code.specs.FenceRule.{after_white_of, is_end, run_end, run_rest, run_size, with_event}
+use Rattle.md_leaves.specs.CellRuns.{after_white_of, is_end, run_end, run_rest, run_size, with_event}
 use Rattle.md_events.specs.Ahead.{HasWhite}
 use Rattle.md_events.specs.Events.Nested.{enter, exit, pair}
 use Rattle.md_events.specs.Look.{first_seen}

@@ -11,6 +11,7 @@ pub mod HeadingSetextRule
 pub mod Turned
 pub mod LeafStart
 pub mod MarkRuns
+pub mod CellRuns
 pub mod Spanned
 pub mod SpannedWalk
 pub mod NonLazy

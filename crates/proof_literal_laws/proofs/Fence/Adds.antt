@@ -20,7 +20,7 @@ use Rattle.md_meaning.proofs.TextsLemmas.{NoEnding, no_ending-drop}
 use Rattle.md_code.specs.Fence.{block_name, fence_name, may_begin, meta_name, sequence_name}
 use Rattle.md_code.specs.FenceLine.{after_events, fence_adds, open_events, spaces}
 use Rattle.md_code.specs.FenceParts.{bytes_at, part_of, parts_of}
-use Rattle.md_code.specs.FenceRule.{run_end, run_rest}
+use Rattle.md_leaves.specs.CellRuns.{run_end, run_rest}
 use Rattle.md_code.proofs.FenceCells.{RunOf, marker-dark, marker-ten, run-walk}
 use Rattle.md_code.proofs.FenceFurther.{small-following}
 use Rattle.md_events.proofs.RestLines.{indent-trims, rest-past}

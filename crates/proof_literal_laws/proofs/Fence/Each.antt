@@ -15,7 +15,7 @@ use Rattle.md_meaning.specs.Texts.{first_byte}
 use Rattle.md_code.specs.Fence.{block_name, fence_name, held_marker, meta_name, sequence_name, string_link}
 use Rattle.md_code.specs.FenceLine.{after_events, fence_adds, info_events, later_part, meta_events, open_events}
 use Rattle.md_code.specs.FenceLine.{spaces}
-use Rattle.md_code.specs.FenceRule.{is_end, is_line, is_word, run_end, run_rest}
+use Rattle.md_leaves.specs.CellRuns.{is_end, is_line, is_word, run_end, run_rest}
 use Rattle.md_events.specs.Ahead.{begins_white, line_end, white_end, white_rest}
 use Rattle.md_events.specs.Events.Nested.{around, enter, enter_link, exit, pair}
 use Rattle.md_events.specs.Events.Places.{past_text}

@@ -11,7 +11,7 @@ use Rattle.md_engine.specs.declared.tokenizer.held_leaf.HeldLeaf.{HeldLeaf}
 use Rattle.md_engine.specs.declared.tokenizer.held_leaf.HeldLeaf.TheVariants as held_leaf
 use Rattle.md_engine.specs.Meaning.{Cell}
 use Rattle.md_code.specs.FenceLine.{fence_adds, fence_opened, is_opening, marker_at}
-use Rattle.md_code.specs.FenceRule.{run_size}
+use Rattle.md_leaves.specs.CellRuns.{run_size}
 use Rattle.md_code.specs.Fence.{is_on}
 use Rattle.md_events.specs.Ahead.{white_end, white_rest}
 use Rattle.md_events.specs.Spaces.{small_indent}

@@ -14,9 +14,9 @@ use Rattle.md_meaning.specs.Leaves.{is_fence_marker, least_size}
 use Rattle.md_meaning.specs.Rest.{is_white}
 use Rattle.md_code.specs.Fence.{is_on, is_refused, may_begin, meta_name, sequence_name}
 use Rattle.md_code.specs.FenceLine.{fence_begins, fence_by, fence_opened, is_opening, marker_at}
-use Rattle.md_code.specs.FenceRule.{before_info, before_meta, before_sequence, after_sequence, after_white_of}
-use Rattle.md_code.specs.FenceRule.{fence_at, in_info, in_meta, in_sequence, is_end, is_line, is_word, opens}
-use Rattle.md_code.specs.FenceRule.{part_begun, part_ended, refuses, run_end, run_has, run_rest, run_size}
+use Rattle.md_leaves.specs.CellRuns.{after_white_of, is_end, is_line, is_word, run_end, run_has, run_rest, run_size}
+use Rattle.md_code.specs.FenceRule.{after_sequence, before_info, before_meta, before_sequence, fence_at, in_info}
+use Rattle.md_code.specs.FenceRule.{in_meta, in_sequence, opens, part_begun, part_ended, refuses}
 use Rattle.md_code.proofs.FenceCells.{line-all, line-done, run-length}
 use Rattle.md_code.proofs.FenceOpened.{fence-whole}
 use Rattle.md_code.proofs.FenceOpens.{marker-no}

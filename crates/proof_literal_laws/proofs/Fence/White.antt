@@ -10,7 +10,7 @@ use Rattle.md_engine.specs.declared.tokenizer.Line.{Line}
 use Rattle.md_engine.specs.Meaning.{Cell}
 use Rattle.md_meaning.specs.Rest.{Rest, is_white}
 use Rattle.md_code.specs.FenceLine.{spaces}
-use Rattle.md_code.specs.FenceRule.{run_end}
+use Rattle.md_leaves.specs.CellRuns.{run_end}
 use Rattle.md_code.proofs.FenceCells.{first-spread, stop-first}
 use Rattle.md_events.proofs.RestLines.{count-one}
 use Rattle.md_code.proofs.FenceMeaning.{run-none}

@@ -22,7 +22,7 @@ use Rattle.md_code.specs.Fence.{block_name, chunk_name, fence_name, held_indent,
 use Rattle.md_code.specs.Fence.{sequence_name, is_open as is_fence}
 use Rattle.md_code.specs.FenceLine.{chunk_events, closes_here, closing_end, closing_events, further_end, further_inside}
 use Rattle.md_code.specs.FenceLine.{spaces}
-use Rattle.md_code.specs.FenceRule.{is_line, run_end, run_rest}
+use Rattle.md_leaves.specs.CellRuns.{is_line, run_end, run_rest}
 use Rattle.md_leaves.specs.Further.{further_link}
 use Rattle.md_code.proofs.FenceCells.{RunOf, first-spread, marker-dark, marker-ten, run-walk}
 use Rattle.md_code.proofs.FenceFurther.{chunk-agrees, closes-agrees, further-agrees, is_nothing, left_part}
