@@ -20,7 +20,7 @@ GROUPS = (
     ("Programs and examples", r"md_program|printing|reports|html_blocks|blocks|events|hoxalgurre|hoxalgurre_c|examples_.*",
      "what users run, link or copy"),
     ("The library", r"markdown_blocks", "parse, outline, wrap: what users name"),
-    ("Proofs of the exact list", r"proof_rows|proof_exact.*", "no code: the events of flow are the list of md_exact"),
+    ("Proofs of the exact list", r"proof_rows|proof_exact.*|proof_parts", "no code: the events of flow are the list of md_exact"),
     ("The machine", r"md_registry|md_flow|md_at_once", "which constructs there are; lines, read call by call and at once"),
     ("Laws of constructs", r"proof_frame|proof_.*_laws", "no code: each construct seen by bytes, by cells and by lines"),
     ("After flow", r"md_order|md_resolve|md_outline|md_wrap", "resolvers, the outline, texts written into containers"),

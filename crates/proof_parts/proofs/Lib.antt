@@ -1,0 +1,11 @@
+pub mod Groups
+pub mod Moved
+pub mod RowsMoved
+pub mod Appended
+pub mod LinesParts
+pub mod TextParts
+pub mod TreeParts
+pub mod WholeParts
+pub mod CutAfter
+pub mod TextCut
+pub mod Examples
