@@ -26,6 +26,7 @@ GROUPS = (
     ("After flow", r"md_order|md_resolve|md_outline|md_wrap", "resolvers, the outline, texts written into containers"),
     ("Constructs", r"md_leaves|md_code|md_html|md_tables|md_link_definitions|md_content|md_containers",
      "the states of each construct, with their rules"),
+    ("Inline layers", r"md_inline_events|proof_inlines", "what a layer finds in a text part, as events that keep the promise"),
     ("Beliefs and the tokenizer", r"md_engine|md_meaning|md_events|md_exact|md_scan",
      "what a text means, what events are, and what calls states"),
 )

@@ -1,6 +1,1 @@
-pub mod LineLemmas
-pub mod FrontLemmas
-pub mod BalanceLemmas
-pub mod ChunkLemmas
-pub mod FramedLemmas
-pub mod WalkLemmas
+pub mod ReferenceLemmas

@@ -1,2 +1,2 @@
 pub mod References
-pub mod Room
+pub mod Listed

@@ -1,28 +1,24 @@
--- The shortcut references of a text part (CommonMark 6.3), and the events that mark them.
-use Rattle.std.specs.Prelude.{ℕ, zero, suc, Bool, true, false, ◌&&◌, ◌||◌, ◌==◌}
-use Rattle.std.specs.Prelude.{count_by, nat_le, not, if◌then◌else◌, List, [], ◌∷◌, ◌++◌}
-use Rattle.std.specs.Prelude.{length, take, drop, map, Option, Some, None}
+-- The shortcut references of a text part (CommonMark 6.3), as a forest over its text.
+use Rattle.std.specs.Prelude.{ℕ, zero, suc, ◌+◌, ◌-◌, Bool, false, ◌&&◌, ◌||◌, ◌==◌}
+use Rattle.std.specs.Prelude.{count_by, nat_le, not, if◌then◌else◌, List, [], ◌∷◌}
+use Rattle.std.specs.Prelude.{length, map, Option, Some, None}
 use Rattle.std.specs.List.{list_all, list_any}
 use Rattle.std.specs.Str.{bytes_eq}
 use Rattle.md_engine.specs.declared.event.Event.{Event}
 use Rattle.md_engine.specs.declared.event.Name.TheVariants as n
-use Rattle.md_engine.specs.declared.event.Point.{Point}
 use Rattle.md_meaning.specs.Ascii.{backslash, left_bracket, right_bracket, space}
 use Rattle.md_meaning.specs.Enclosed.{Closed, Open, Broken, enclosed, Enclosed}
 use Rattle.md_meaning.specs.Label.{normal_form}
-use Rattle.md_meaning.specs.Lines.{is_ending, without_ending}
+use Rattle.md_meaning.specs.Lines.{is_ending}
 use Rattle.md_meaning.specs.Rest.{is_white}
-use Rattle.md_events.specs.declared.inline.Chunk.{Chunk}
 use Rattle.md_events.specs.declared.inline.PartKind.{PartKind}
 use Rattle.md_events.specs.declared.inline.PartKind.TheVariants as kind
-use Rattle.md_events.specs.Events.Inline.{Part, chunk_text, pair_unless_empty, plain_events, together}
-use Rattle.md_events.specs.Events.Nested.{enter, exit}
-use Rattle.md_events.specs.Events.Places.{past_byte, past_text}
+use Rattle.md_events.specs.Events.Inline.{Part}
 use Rattle.md_events.specs.TextPart.{Document}
-use Rattle.examples_marks.specs.declared.roles.Place.{Place}
-use Rattle.examples_marks.specs.declared.roles.Place.TheVariants.{Outside, Taken, Inside}
-use Rattle.examples_marks.specs.declared.roles.Role.{Role}
-use Rattle.examples_marks.specs.declared.roles.Role.TheVariants.{Text, Opens, Last, Closes}
+use Rattle.md_inline_events.specs.Forest.{Forest, nothing, over, part, piece}
+use Rattle.md_inline_events.specs.Woven.{read_text, woven_events}
+use Rattle.examples_marks.specs.declared.found.Found.{Found}
+use Rattle.examples_marks.specs.declared.found.Found.TheVariants.{Text, Reference}
 
 -- Labels.
 
@@ -60,107 +56,46 @@ defined_len document Broken = None
 abbrev pub label_len : Document → List ℕ → Option ℕ
 label_len document text = defined_len document (enclosed left_bracket right_bracket false text)
 
--- Roles: what a byte of a text part is to its references. A text is read from left to right: outside of references, a
--- backslash takes the byte after it.
+-- What is found at the front of a text: so many bytes of text, or a reference whose label has so many bytes. A backslash
+-- takes the byte after it, and a bracket that none takes opens a reference to a definition, or is text.
 
--- a bracket that no backslash takes opens a reference to a definition, or is text
-abbrev pub bracket_role : Option ℕ → Role × Place
-bracket_role (Some len) = (Opens, Inside len)
-bracket_role None = (Text, Outside)
+abbrev pub escaped : List ℕ → Found
+escaped [] = Text 1
+escaped (b ∷ text) = Text 2
 
-abbrev pub outside_role : Document → ℕ → List ℕ → Role × Place
-outside_role document byte following =
-    if byte == backslash then (Text, Taken)
-    else if byte == left_bracket then bracket_role (label_len document following)
-    else (Text, Outside)
+abbrev pub bracket : Option ℕ → Found
+bracket (Some len) = Reference len
+bracket None = Text 1
 
--- the role of a byte at a place, and the place of the byte after it
-abbrev pub role_at : Document → Place → ℕ → List ℕ → Role × Place
-role_at document Outside byte following = outside_role document byte following
-role_at document Taken byte following = (Text, Outside)
-role_at document (Inside zero) byte following = (Closes, Outside)
-role_at document (Inside (suc zero)) byte following = (Last, Inside zero)
-role_at document (Inside (suc (suc left))) byte following = (Text, Inside (suc left))
+abbrev pub found : Document → ℕ → List ℕ → Found
+found document byte following =
+    if byte == backslash then escaped following
+    else if byte == left_bracket then bracket (label_len document following)
+    else Text 1
 
--- the roles of the bytes of a text
-abbrev pub roles : Document → Place → List ℕ → List Role
-roles document place [] = []
-roles document place (byte ∷ following) =
-    (role_at document place byte following).0 ∷ roles document (role_at document place byte following).1 following
+-- Forests.
 
--- Events.
+-- a reference whose label has so many bytes, and what follows
+abbrev pub reference : ℕ → Forest → Forest
+reference len following =
+    part n.Link (piece n.LabelMarker 0 (part n.LabelText (over n.Data len nothing) (piece n.LabelMarker 0 nothing)))
+    following
 
--- around a label, and its brackets
-abbrev pub opened : Point → Point → List Event
-opened at following =
-    enter n.Link at ∷ enter n.LabelMarker at ∷ exit n.LabelMarker following ∷ enter n.LabelText following ∷ []
+-- A text from left to right: so many bytes of text are before it, and so many of its own are already taken.
+abbrev pub references : Document → ℕ → ℕ → List ℕ → Forest
+references document plain taken [] = over n.Data plain nothing
+references document plain (suc taken) (byte ∷ text) = references document plain taken text
+references document plain zero (byte ∷ text) = elim (found document byte text) [
+  | Text len ↦ references document (plain + len) (len - 1) text
+  | Reference len ↦ over n.Data plain (reference len (references document 0 (len + 1) text))
+]
 
-abbrev pub closed : Point → Point → List Event
-closed at following = enter n.LabelMarker at ∷ exit n.LabelMarker following ∷ exit n.Link following ∷ []
+-- What the layer finds in the text of a part: its references; in a string there is text alone.
+abbrev pub reference_forest : Document → PartKind → List ℕ → Forest
+reference_forest document kind.Text text = references document 0 0 text
+reference_forest document kind.String text = over n.Data (length text) nothing
 
--- What a byte between two points brings, where the text before it began at `from`. Text waits for what ends it.
-abbrev pub byte_events : Role → Point → Point → Point → List Event
-byte_events Text from at following = []
-byte_events Opens from at following = pair_unless_empty n.Data from at ++ opened at following
-byte_events Last from at following = pair_unless_empty n.Data from following ++ exit n.LabelText following ∷ []
-byte_events Closes from at following = pair_unless_empty n.Data from at ++ closed at following
-
--- where the text that waits begins, after such a byte
-abbrev pub text_from : Role → Point → Point → Point
-text_from Text from following = from
-text_from Opens from following = following
-text_from Last from following = following
-text_from Closes from following = following
-
--- the events of a line, from a point on
-abbrev pub line_events : List ℕ → List Role → Point → Point → List Event
-line_events [] roles from at = pair_unless_empty n.Data from at
-line_events (byte ∷ line) [] from at = line_events line [] from (past_byte byte at)
-line_events (byte ∷ line) (role ∷ roles) from at =
-    byte_events role from at (past_byte byte at)
-    ++ line_events line roles (text_from role from (past_byte byte at)) (past_byte byte at)
-
-abbrev pub is_last : Role → Bool
-is_last Last = true
-is_last _ = false
-
--- whether a label ends with the bytes of these roles
-abbrev pub ends_label : List Role → Bool
-ends_label roles = list_any is_last roles
-
--- what follows a line: its ending, if it has one, and there the end of a label that continues up to it
-abbrev pub ending_events : Point → Point → Bool → List Event
-ending_events end after ends =
-    pair_unless_empty n.LineEnding end after ++ (if ends then exit n.LabelText after ∷ [] else [])
-
--- the events of a chunk with this text, whose bytes have these roles
-abbrev pub chunk_events : Chunk → List ℕ → List Role → List Event
-chunk_events chunk text roles =
-    line_events (without_ending text) (take (length (without_ending text)) roles) chunk.first chunk.first
-    ++ ending_events (past_text (without_ending text) chunk.first) chunk.after
-    (ends_label (drop (length (without_ending text)) roles))
-
--- the events of each chunk; the roles are those of all their bytes
-abbrev pub chunks_events : List ℕ → List Chunk → List Role → List (List Event)
-chunks_events bytes [] roles = []
-chunks_events bytes (chunk ∷ chunks) roles =
-    chunk_events chunk (chunk_text bytes chunk) (take (length (chunk_text bytes chunk)) roles)
-    ∷ chunks_events bytes chunks (drop (length (chunk_text bytes chunk)) roles)
-
--- the text of a part: that of its chunks, without container prefixes between them
-abbrev pub part_text : List ℕ → List Chunk → List ℕ
-part_text bytes [] = []
-part_text bytes (chunk ∷ chunks) = chunk_text bytes chunk ++ part_text bytes chunks
-
--- the events of a part that may hold references
-abbrev pub text_events : Document → List Chunk → List Event
-text_events document chunks =
-    together (chunks_events document.bytes chunks (roles document Outside (part_text document.bytes chunks)))
-
-abbrev pub events_of_kind : PartKind → Document → Part → List Event
-events_of_kind kind.Text document part = text_events document part.chunks
-events_of_kind kind.String document part = plain_events document.bytes part
-
--- What the layer answers for a part: its references are marked; a string has none.
+-- What the layer answers for a part.
 abbrev pub reference_events : Document → Part → List Event
-reference_events document part = events_of_kind part.kind document part
+reference_events document held =
+    woven_events document.bytes held (reference_forest document held.kind (read_text document.bytes held))

@@ -1,4 +1,4 @@
-// The shortcut references of a text part (CommonMark 6.3), and the events that mark them.
+// The shortcut references of a text part (CommonMark 6.3), as tokens.
 //
 // A reference is a label between brackets that a definition of the document has, wherever that definition is:
 //
@@ -8,11 +8,9 @@
 // A label is not blank and has at most 999 bytes, and it may go over the lines of a text part. It is compared in its
 // normal form: so `[a B]` refers to `[A  b]: /c`. Everything else is text, brackets without a definition too.
 //
-// Events: `Link` around a reference, `LabelMarker` over each bracket, `LabelText` around the label, and `Data` and
-// `LineEnding` as the plain layer gives them.
+// Parts: `Link` around a reference, `LabelMarker` over each bracket, `LabelText` around the label, and `Data` over text.
 #![tactic(auto)]
 
-mod events;
+pub mod found;
 mod label;
-pub mod part;
-pub mod roles;
+pub mod tokens;

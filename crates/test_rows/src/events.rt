@@ -509,6 +509,84 @@ Definition
       DefinitionDestinationString
         Data "d"
 
+an indent and whitespace after the text are within what is open, and no part of it | commonmark | references
+"[q\r\n \t] \t\n\n[q]: r"
+Paragraph
+  Link
+    LabelMarker "["
+    LabelText
+      Data "q"
+      LineEnding "\r\n"
+    SpaceOrTab " \t"
+    LabelMarker "]"
+  SpaceOrTab " \t"
+LineEnding "\n"
+BlankLineEnding "\n"
+Definition
+  DefinitionLabel
+    DefinitionLabelMarker "["
+    DefinitionLabelString
+      Data "q"
+    DefinitionLabelMarker "]"
+  DefinitionMarker ":"
+  SpaceOrTab " "
+  DefinitionDestination
+    DefinitionDestinationRaw
+      DefinitionDestinationString
+        Data "r"
+
+the rest of a cut tab is an indent | commonmark | references
+">\t[q]\n\n[q]: r"
+BlockQuote
+  BlockQuotePrefix
+    BlockQuoteMarker ">"
+    SpaceOrTab "" 1
+  Paragraph
+    SpaceOrTab "\t"
+    Link
+      LabelMarker "["
+      LabelText
+        Data "q"
+      LabelMarker "]"
+LineEnding "\n"
+BlankLineEnding "\n"
+Definition
+  DefinitionLabel
+    DefinitionLabelMarker "["
+    DefinitionLabelString
+      Data "q"
+    DefinitionLabelMarker "]"
+  DefinitionMarker ":"
+  SpaceOrTab " "
+  DefinitionDestination
+    DefinitionDestinationRaw
+      DefinitionDestinationString
+        Data "r"
+
+a string begins with its whitespace, and has the indents of its further lines beside its text | commonmark | references
+"[q]: r ' [q]\n  s '"
+Definition
+  DefinitionLabel
+    DefinitionLabelMarker "["
+    DefinitionLabelString
+      Data "q"
+    DefinitionLabelMarker "]"
+  DefinitionMarker ":"
+  SpaceOrTab " "
+  DefinitionDestination
+    DefinitionDestinationRaw
+      DefinitionDestinationString
+        Data "r"
+  SpaceOrTab " "
+  DefinitionTitle
+    DefinitionTitleMarker "'"
+    DefinitionTitleString
+      Data " [q]"
+      LineEnding "\n"
+      SpaceOrTab "  "
+      Data "s "
+    DefinitionTitleMarker "'"
+
 a cell is read by the layer | gfm | references
 "[q]|x\n-|-\n\n[q]: r"
 GfmTable

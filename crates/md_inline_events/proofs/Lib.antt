@@ -1,0 +1,5 @@
+pub mod CursorLemmas
+pub mod TokenLemmas
+pub mod StretchLemmas
+pub mod ChunkSteps
+pub mod LineSteps

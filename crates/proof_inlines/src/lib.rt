@@ -1,0 +1,2 @@
+// Any forest over a text part gives events that keep the promise of every inline layer.
+#![tactic(auto)]
