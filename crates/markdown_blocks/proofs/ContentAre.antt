@@ -25,9 +25,14 @@ use Rattle.proof_rows.proofs.TextAre.{lines_of, rows_of, text-are}
 use Rattle.proof_rows.proofs.AloneGroups.{leaves-alone}
 use Rattle.md_content.specs.Joined.{joined}
 use Rattle.proof_table_laws.specs.Headed.{heads_read}
-use Rattle.md_order.specs.Alone.{HoldNoBlock, MayPass, Nothing}
+use Rattle.proof_rows.proofs.NestGroups.{leaves-nest}
+use Rattle.proof_rows.proofs.TextsNest.{lines-given, texts-given}
+use Rattle.md_content.specs.ContentNests.{ContentNests, IsGiven}
+use Rattle.md_flow.specs.Nests.{TextsNest}
+use Rattle.md_order.specs.Alone.{HoldNoBlock, Nothing}
 use Rattle.md_order.specs.InOrder.{every}
-use Rattle.markdown_blocks.proofs.FlowReads.{FlowFlushed, text-quiet}
+use Rattle.md_order.specs.Nests.{MayNest}
+use Rattle.markdown_blocks.proofs.FlowReads.{FlowFlushed, MaySet, text-quiet}
 
 pub part-of : (options : ParseOptions) (bytes : List ℕ) →
     FrontPart bytes first_point (body_point options bytes) (front_events options bytes)
@@ -50,6 +55,22 @@ content-are options bytes built small content read =
     (rows_of options bytes)
     (text-are options bytes built small) (text-quiet options bytes (body_point options bytes))) read)
 
+-- What is read of lines of text nests, heads of tables first.
+texts-nest : (options : ParseOptions) (bytes : List ℕ) → IsWithoutMdx options → length bytes < 2 ^ 61 →
+    TextsNest bytes options (rows_events (rows_of options bytes))
+texts-nest options bytes built small = λ out read.
+    subst (IsGiven (rows_events (rows_of options bytes))) (sym (content-are options bytes built small out read))
+    (texts-given options bytes (body_point options bytes) (lines_of options bytes) (rows_of options bytes)
+    (text-are options bytes built small) (text-quiet options bytes (body_point options bytes)))
+
+content-nests : (options : ParseOptions) (bytes : List ℕ) → IsWithoutMdx options → length bytes < 2 ^ 61 →
+    ContentNests bytes options (heads_read options bytes (rows_events (rows_of options bytes)))
+content-nests options bytes built small = λ out read.
+    subst (IsGiven (heads_read options bytes (rows_events (rows_of options bytes))))
+    (sym (content-are options bytes built small out read))
+    (lines-given options bytes (body_point options bytes) (lines_of options bytes) (rows_of options bytes)
+    (text-are options bytes built small) (text-quiet options bytes (body_point options bytes)))
+
 -- Once the lines of each leaf of several are joined, leaf blocks hold no block: so the resolvers may run in one pass.
 joined-alone : (options : ParseOptions) (bytes : List ℕ) → IsWithoutMdx options → length bytes < 2 ^ 61 →
     (found : Found) (new : World) → FlowFlushed bytes options (body_point options bytes) found new →
@@ -61,11 +82,31 @@ joined-alone options bytes built small found new flow =
     (rows_of options bytes) (refl, refl) (text-are options bytes built small)
     (text-quiet options bytes (body_point options bytes)))
 
+-- And each resolver gets what fits it.
+joined-nests : (options : ParseOptions) (bytes : List ℕ) → IsWithoutMdx options → length bytes < 2 ^ 61 →
+    (found : Found) (new : World) → FlowFlushed bytes options (body_point options bytes) found new →
+    MayNest every bytes (lines_joined options new.events)
+joined-nests options bytes built small found new flow =
+    subst (λ (l : List Event). MayNest every bytes (lines_joined options l))
+    (sym (flow.events_are ∙ content-are options bytes built small flow.content flow.content_read))
+    (leaves-nest options bytes (body_point options bytes) (lines_of options bytes) (rows_of options bytes)
+    (text-are options bytes built small) (text-quiet options bytes (body_point options bytes)))
+
 -- So it is from a point that is the begin of the body.
-pub joined-pass : (options : ParseOptions) (bytes : List ℕ) (p : Point) → IsWithoutMdx options →
+pub joined-set : (options : ParseOptions) (bytes : List ℕ) (p : Point) → IsWithoutMdx options →
     length bytes < 2 ^ 61 → (found : Found) (new : World) → p ≡ body_point options bytes →
-    FlowFlushed bytes options p found new → MayPass every (lines_joined options new.events)
-joined-pass options bytes p built small found new begins flow =
-    inr
-    (joined-alone options bytes built small found new
-    (subst (λ (q : Point). FlowFlushed bytes options q found new) begins flow))
+    FlowFlushed bytes options p found new → MaySet bytes options p new.events
+joined-set options bytes p built small found new begins flow =
+    let body = subst (λ (q : Point). FlowFlushed bytes options q found new) begins flow in
+    record {
+      texts_nest =
+          subst (λ (q : Point). TextsNest bytes options (rows_events (text_rows options bytes q))) (sym begins)
+          (texts-nest options bytes built small);
+      content_nests =
+          subst
+          (λ (q : Point).
+          ContentNests bytes options (heads_read options bytes (rows_events (text_rows options bytes q)))) (sym begins)
+          (content-nests options bytes built small);
+      may_pass = inr (joined-alone options bytes built small found new body);
+      may_nest = joined-nests options bytes built small found new body;
+    }

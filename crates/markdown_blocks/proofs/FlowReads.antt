@@ -19,6 +19,7 @@ use Rattle.md_engine.specs.TextFeed.{text_feed}
 use Rattle.md_engine.specs.World.{Setting, World, fresh, reads_to}
 use Rattle.md_engine.proofs.Keeps.{runs-append, runs-at_end, runs-setting}
 use Rattle.md_containers.specs.Listed.{listed}
+use Rattle.md_content.specs.ContentNests.{ContentNests}
 use Rattle.md_content.specs.ContentReads.{content_readings, wants_content}
 use Rattle.md_content.specs.Joined.{joined}
 use Rattle.md_content.specs.Labels.{labels_in}
@@ -28,11 +29,13 @@ use Rattle.md_leaves.specs.HeadingText.{headings_resolved}
 use Rattle.md_leaves.specs.Turned.{turned}
 use Rattle.md_order.specs.Alone.{MayPass}
 use Rattle.md_order.specs.InOrder.{every}
+use Rattle.md_order.specs.Nests.{MayNest}
 use Rattle.md_tables.specs.Tabled.{tabled}
 use Rattle.md_registry.specs.Resolving.{lines_joined, resolved_as}
 use Rattle.md_events.specs.Substituted.{Substituted}
 use Rattle.markdown_blocks.specs.ContentRead.{AreSideBySide, ReadIf, holds_content, side_by_side}
 use Rattle.markdown_blocks.proofs.HoldsContent.{held-parts, quiet-side}
+use Rattle.md_flow.specs.Nests.{TextsNest}
 use Rattle.markdown_blocks.specs.Fed.{FlowRan}
 use Rattle.markdown_blocks.specs.FlowReads.{FlowReads, has_text}
 use Rattle.proof_rows.specs.TextRows.{text_cells, text_rows, text_setting}
@@ -393,9 +396,17 @@ flow-flushed-from bytes options p start to end at none flushed found new same al
     (reads_to start n) end at in
     flow-flushed bytes options p end at none flushed found new small (subst P same (subst Q all run)) f h
 
+-- what the resolvers ask of the events that they get: that of content of the events of the lines, the others of what it
+-- leaves
+pub record MaySet (bytes : List ℕ) (options : ParseOptions) (p : Point) (events : List Event) : Type 0 where
+  pub texts_nest : TextsNest bytes options (rows_events (text_rows options bytes p))
+  pub content_nests : ContentNests bytes options (heads_read options bytes (rows_events (text_rows options bytes p)))
+  pub may_pass : MayPass every (lines_joined options events)
+  pub may_nest : MayNest every bytes (lines_joined options events)
+
 -- and once the lines of leaves are joined, and lists, headings and tables are set
 pub flow-reads : (bytes : List ℕ) (options : ParseOptions) (p : Point) (found : Found) (items new : World) →
-    FlowFlushed bytes options p found items → MayPass every (lines_joined options items.events) →
+    FlowFlushed bytes options p found items → MaySet bytes options p items.events →
     new ≡
     record items {
       events = tabled (turned (headings_resolved (listed items.setting.bytes (lines_joined options items.events))));
@@ -417,7 +428,10 @@ flow-reads bytes options p found items new h may set =
       events = h.events;
       content = h.content;
       content_read = h.content_read;
-      may_pass = subst (λ (l : List Event). MayPass every (lines_joined options l)) h.events_are may;
+      texts_nest = may.texts_nest;
+      content_nests = may.content_nests;
+      may_pass = subst (λ (l : List Event). MayPass every (lines_joined options l)) h.events_are may.may_pass;
+      may_nest = subst (λ (l : List Event). MayNest every bytes (lines_joined options l)) h.events_are may.may_nest;
       events_are = is;
       rest = all ∙ ap (λ (l : List Event). record h.ended { events = l }) (sym is);
       setting = ap (λ (x : World). x.setting) set ∙ h.setting;

@@ -8,6 +8,7 @@ use Rattle.md_engine.specs.declared.state.State.{State}
 use Rattle.md_engine.specs.Found.{Found, nothing}
 use Rattle.md_engine.specs.World.{World}
 use Rattle.md_containers.specs.Listed.{listed}
+use Rattle.md_content.specs.ContentNests.{ContentNests}
 use Rattle.md_content.specs.ContentReads.{content_readings, wants_content}
 use Rattle.md_content.specs.Joined.{joined}
 use Rattle.md_content.specs.Labels.{labels_in}
@@ -16,8 +17,10 @@ use Rattle.md_leaves.specs.HeadingText.{headings_resolved}
 use Rattle.md_leaves.specs.Turned.{turned}
 use Rattle.md_order.specs.Alone.{MayPass}
 use Rattle.md_order.specs.InOrder.{every}
+use Rattle.md_order.specs.Nests.{MayNest}
 use Rattle.md_tables.specs.Tabled.{tabled}
 use Rattle.md_events.specs.Substituted.{Substituted}
+use Rattle.md_flow.specs.Nests.{TextsNest}
 use Rattle.markdown_blocks.specs.Fed.{FlowRan}
 use Rattle.proof_table_laws.specs.Headed.{heads_read}
 use Rattle.proof_frame.specs.Row.{Row}
@@ -41,8 +44,13 @@ pub record FlowReads (bytes : List ℕ) (options : ParseOptions) (p : Point) (fo
   pub content : List Event
   pub content_read : Substituted wants_content (content_readings bytes options) [] 0
       (joined (heads_read options bytes (rows_events (text_rows options bytes p)))) content
+  -- which nests where the lines did,
+  pub texts_nest : TextsNest bytes options (rows_events (text_rows options bytes p))
+  pub content_nests : ContentNests bytes options (heads_read options bytes (rows_events (text_rows options bytes p)))
   -- of which leaf blocks hold no block, once the lines of each leaf of several are joined: so one pass may set all
   pub may_pass : MayPass every (lines_joined options content)
+  -- and each resolver gets what fits it: where this nests, so does what they make of it
+  pub may_nest : MayNest every bytes (lines_joined options content)
   -- then these lines are joined, and lists are put around items, headings get their texts, and
   -- tables their cells
   pub events_are : new.events ≡ tabled (turned (headings_resolved (listed bytes (lines_joined options content))))

@@ -13,6 +13,7 @@ pub mod ContentMeaning
 pub mod ContentRuns
 pub mod JoinedLemmas
 pub mod LinesLemmas
+pub mod NestsLemmas
 pub mod ContentReadsLemmas
 pub mod SettledLemmas
 pub mod LineReads

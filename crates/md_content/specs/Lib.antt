@@ -13,6 +13,7 @@ pub mod ParagraphLines
 pub mod Labels
 pub mod FootnoteLabels
 pub mod LabelTexts
+pub mod ContentNests
 pub mod ContentReads
 pub mod WholeLines
 pub mod LabelLook

@@ -23,9 +23,11 @@ ghost use Rattle.md_engine.specs.declared.state.State.{State};
 ghost use Rattle.md_engine.specs.declared.state.content.State.{State as ContentState};
 ghost use Rattle.md_content.specs.States.{content_scheme, content_transition};
 ghost use Rattle.md_content.specs.Chunks.{chunk_transition};
+ghost use Rattle.md_events.specs.Events.Nested.{Nested};
 ghost use Rattle.md_events.specs.WholeLine.{line_taken};
 ghost use Rattle.md_content.specs.Chunks.{rest_taken};
 ghost use Rattle.md_link_definitions.specs.OpenText.{text_following};
+ghost use Rattle.md_content.specs.ContentNests.{ContentNests};
 ghost use Rattle.md_content.specs.ContentReads.{content_events, is_piece_end, settled};
 ghost use Rattle.md_content.specs.Resolves.{Resolves, found_in_content, has_neither, is_all_read};
 ghost use Rattle.md_content.specs.LabelLook.{may_close, may_define_in};
@@ -517,12 +519,19 @@ fn found_among(alloc: Global, bytes: &[u8], events: &[Event]) -> Result<Subresul
     })
 }
 
-/// Joins the lines of content that follow one another, and reads them. It finds the labels of definitions.
+/// Joins the lines of content that follow one another, and reads them. It finds the labels of definitions. Events that
+/// nest still do, if what is read of lines that follow one another nests by itself.
 ///
 /// After an `Err` the parse has failed, and the tokenizer is only dropped.
 pub fn resolve(tokenizer: &mut Tokenizer) -> Result<Option<Subresult>, Message>
     requires { (world tokenizer.old).frames ≡ [] }
-    ensures { IfOk result (λ found. Resolves (world tokenizer.old) (option_map found_in found) (world tokenizer.new)) }
+    ensures resolves { IfOk result
+        (λ found. Resolves (world tokenizer.old) (option_map found_in found) (world tokenizer.new)) }
+    ensures nested { OnOk result
+        (ContentNests (world tokenizer.old).setting.bytes (world tokenizer.old).setting.options
+        (world tokenizer.old).events →
+        Nested (world tokenizer.old).events →
+        Nested (world tokenizer.new).events) }
 {
     let alloc = tokenizer.alloc;
     let reader = ContentReader {

@@ -1,2 +1,3 @@
 pub mod OnOk
 pub mod SoundParts
+pub mod TextsNest

@@ -17,7 +17,7 @@ use md_registry::choices;
 pub use md_resolve::pass::pass;
 
 /// Runs the resolver of this name; changes nothing for names of the inline layer. Events that nest still do, if what
-/// the resolver gets fits it; of content that is not said.
+/// the resolver gets fits it.
 ///
 /// After an `Err`, which says that memory ran out, the parse has failed and the tokenizer is only dropped.
 pub fn call(tokenizer: &mut Tokenizer, name: Name) -> Result<Option<Subresult>, Message>
@@ -26,7 +26,7 @@ pub fn call(tokenizer: &mut Tokenizer, name: Name) -> Result<Option<Subresult>, 
     ensures resolves { IfOk result
         (λ found. resolved_as name (world tokenizer.old) (option_map found_in found) (world tokenizer.new)) }
     ensures nested { OnOk result
-        (MayNestBy name (world tokenizer.old).events →
+        (MayNestBy name (world tokenizer.old) →
         Nested (world tokenizer.old).events → Nested (world tokenizer.new).events) }
 {
     match name {

@@ -266,7 +266,7 @@ heading-more e es h =
     (and_left (is_exit e.kind) (is_heading e.name) (begin-opens e.kind e.name h).3)
     ∙ sym (one-more (heading_len es))
 
-heading-front : (w : Wanted) (e : Event) (es : List Event) → w.atx ≡ true → begins is_heading e ≡ true →
+pub heading-front : (w : Wanted) (e : Event) (es : List Event) → w.atx ≡ true → begins is_heading e ≡ true →
     MayStay w (e ∷ es) → AreQuiet w (e ∷ take (heading_len es) es)
 heading-front w e es on h stay =
     let parts = begin-opens e.kind e.name h in (

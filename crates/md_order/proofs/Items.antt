@@ -24,7 +24,7 @@ all-past w on (e ∷ xs) ys h =
     items-past w on e (xs ++ ys) h.0 ∙ ap (λ (l : List Event). e ∷ l) (all-past w on xs ys h.1)
 
 -- What is given for an item passes the other resolvers.
-given-pass : (w : Wanted) (bytes : List ℕ) (place : ListPlace) (e : Event) (es : List Event) →
+pub given-pass : (w : Wanted) (bytes : List ℕ) (place : ListPlace) (e : Event) (es : List Event) →
     is_item (role e.name) ≡ true → AllPass w (given bytes place e es)
 given-pass w bytes place e es h = go (turn e.kind (role e.name))
   where

@@ -102,7 +102,7 @@ not-none : (x : Bool) → not x ≡ false → x ≡ true
 not-none true h = refl
 not-none false h = absurd (let no : true ≡ false = h in cc)
 
-not-all : (x : Bool) → not x ≡ true → x ≡ false
+pub not-all : (x : Bool) → not x ≡ true → x ≡ false
 not-all true h = absurd (let no : false ≡ true = h in cc)
 not-all false h = refl
 

@@ -186,7 +186,7 @@ in-ending f valid = go (closes InEnding f) refl
         (ending-item f.name ending, ending-heading f.name ending)
     go false is = (unset-item f.name (valid is), (unset-bare f.name (valid is)).heading)
 
-has-ahead : (a i : Bool) (bytes : List ℕ) (place : Place) (es : List Event) → HoldNoBlock Nothing es →
+pub has-ahead : (a i : Bool) (bytes : List ℕ) (place : Place) (es : List Event) → HoldNoBlock Nothing es →
     has_underline (ahead a i bytes place es) ≡ has_underline es
 has-ahead a i bytes place [] h = ap has_underline (ahead-none a i bytes place)
 has-ahead a i bytes place (e ∷ es) h = go (is_line_ending e.name) refl (is_item (role e.name)) refl
@@ -214,7 +214,7 @@ has-ahead a i bytes place (e ∷ es) h = go (is_line_ending e.name) refl (is_ite
 -- A look for the end of the paragraph that is open passes what is in it.
 
 -- an event of no paragraph
-past-one : (e : Event) (es : List Event) → is_paragraph e.name ≡ false → is_turned (e ∷ es) ≡ is_turned es
+pub past-one : (e : Event) (es : List Event) → is_paragraph e.name ≡ false → is_turned (e ∷ es) ≡ is_turned es
 past-one e es h =
     ap (λ (x : Bool). cond x (has_underline es) (is_turned es)) (and_right (is_exit e.kind) (is_paragraph e.name) h)
 

@@ -22,12 +22,13 @@ use Rattle.md_order.proofs.SetextLook.{ahead, ahead-pass, turned-ahead}
 use Rattle.md_order.proofs.Stay.{one-setext, stay-opens}
 
 -- What such an event is not.
-record IsText (name : Name) : Type 0 where
-  item : is_item (role name) ≡ false
-  heading : is_heading name ≡ false
-  table : (kind : Kind) → begins_table (bound_by kind name) ≡ false
+pub record IsText (name : Name) : Type 0 where
+  pub item : is_item (role name) ≡ false
+  pub heading : is_heading name ≡ false
+  pub table : (kind : Kind) → begins_table (bound_by kind name) ≡ false
 
-text-name : (name : Name) → cond (is_paragraph name) false (cond (is_underline name) false true) ≡ false → IsText name
+pub text-name : (name : Name) → cond (is_paragraph name) false (cond (is_underline name) false true) ≡ false →
+    IsText name
 text-name n.Paragraph h = record { item = refl; heading = refl; table = λ kind. tableless kind n.Paragraph refl }
 text-name n.HeadingSetextUnderline h = record {
   item = refl;
@@ -38,11 +39,11 @@ text-name _ h = absurd (let no : true ≡ false = h in cc)
 
 -- No table begins where a heading or its text does.
 
-abbrev NoTables : List Event → Type 0
+abbrev pub NoTables : List Event → Type 0
 NoTables [] = Unit {0}
 NoTables (e ∷ es) = (begins_table (bound_of e) ≡ false) × NoTables es
 
-given-tableless : (t : Turn) (on begins : Bool) (e : Event) → begins_table (bound_of e) ≡ false →
+pub given-tableless : (t : Turn) (on begins : Bool) (e : Event) → begins_table (bound_of e) ≡ false →
     NoTables (given_by t on begins e)
 given-tableless BeginsText on true e h = (refl, (refl, tt))
 given-tableless BeginsText on false e h = (h, tt)
@@ -83,7 +84,7 @@ same-by EndsUnderline on x y e h = record { given = refl; on = refl }
 same-by Stays on x y e h = record { given = refl; on = refl }
 
 -- the begin of a paragraph is one of a block
-paragraph-begun : (kind : Kind) (name : Name) → turn_by kind name ≡ BeginsText →
+pub paragraph-begun : (kind : Kind) (name : Name) → turn_by kind name ≡ BeginsText →
     (is_enter kind ≡ true) × (is_set name ≡ true) × (opened_by name ≡ InParagraph)
 paragraph-begun Enter n.Paragraph h = (refl, refl, refl)
 paragraph-begun Exit n.Paragraph h = absurd (let no : EndsText ≡ BeginsText = h in cc)

@@ -473,18 +473,22 @@ const WITHOUT_SETEXT: [ResolveName; 3] = [
 ];
 
 /// Runs all four resolvers in one pass. Paragraphs are passed at once where `underlines` is false, since there is no
-/// underline of a heading among the events.
+/// underline of a heading among the events. Events that nest still do, if what each resolver gets fits it.
 ///
 /// After an `Err`, which says that memory ran out, the parse has failed, and the tokenizer is only dropped.
 pub fn pass_all(tokenizer: &mut Tokenizer, underlines: bool) -> Result<(), Message>
     requires frames { (world tokenizer.old).frames ≡ [] }
     requires may { MayPass (every) (world tokenizer.old).events }
     requires underlines { underlines ≡ false → HoldNoUnderline (world tokenizer.old).events }
-    ensures { OnOk result
+    ensures world { OnOk result
         (world tokenizer.new ≡
         record (world tokenizer.old) {
           events = in_order (every) (world tokenizer.old).setting.bytes (world tokenizer.old).events;
         }) }
+    ensures nested { OnOk result
+        (MayNest (every) (world tokenizer.old).setting.bytes (world tokenizer.old).events →
+        Nested (world tokenizer.old).events →
+        Nested (world tokenizer.new).events) }
 {
     if underlines {
         pass(tokenizer, &ALL)?;

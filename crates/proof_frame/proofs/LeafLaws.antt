@@ -24,6 +24,7 @@ use Rattle.proof_frame.specs.LineLeaf.{LineLeaf}
 use Rattle.proof_frame.proofs.ClosedFacts.{IsClosed}
 use Rattle.proof_frame.proofs.LeafFacts.{LeafFacts, LineAt}
 use Rattle.proof_frame.proofs.LinedFacts.{AreLined}
+use Rattle.proof_frame.proofs.NestFacts.{NestFacts}
 use Rattle.proof_frame.proofs.OutsideFacts.{LineResolver}
 use Rattle.proof_frame.proofs.SpannedFacts.{AreUnspanned}
 use Rattle.proof_frame.proofs.UnturnedFacts.{AreUnturned}
@@ -117,6 +118,9 @@ pub record LeafLaws (resolver : LineResolver) (l : LineLeaf) : Type 1 where
       l.starts options on r ≡ true → AreUnspanned (l.added options on (rest_line r) p)
   pub alone : l.ends ≡ true → (options : ParseOptions) (on : HeldLeaf) (r : Rest) (p : Point) →
       l.starts options on r ≡ true → IsClosed (l.added options on (rest_line r) p)
+  -- what it adds fits the resolvers,
+  pub nests : l.ends ≡ true → (options : ParseOptions) (on : HeldLeaf) (r : Rest) (p : Point) →
+      l.starts options on r ≡ true → NestFacts (l.added options on (rest_line r) p)
   -- the resolver sets what is its own,
   pub set : l.ends ≡ true → (options : ParseOptions) (on : HeldLeaf) (r : Rest) (p : Point) (es : List Event) →
       l.starts options on r ≡ true →

@@ -32,6 +32,7 @@ pub mod LineWalk
 pub mod LinedFacts
 pub mod IndentRemoved
 pub mod MarkRuns
+pub mod NestFacts
 pub mod NestedEvents
 pub mod OneChunk
 pub mod OneLine

@@ -5,6 +5,7 @@ pub mod Found
 pub mod Hashes
 pub mod Laws
 pub mod Names
+pub mod Nests
 pub mod NoContent
 pub mod Outside
 pub mod Places

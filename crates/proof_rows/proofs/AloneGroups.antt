@@ -36,7 +36,7 @@ use Rattle.proof_leaf_laws.proofs.HeadingSetext.Line.{underline-alone}
 use Rattle.proof_rows.proofs.Underlines.{under-holds}
 
 -- Around the leaf of a line.
-closed-rows : OfRows IsClosed
+pub closed-rows : OfRows IsClosed
 closed-rows = record {
   append = closed-append;
   fronts = closed-front;
@@ -84,7 +84,7 @@ headed-closed options bytes row next rows head are front =
     (table-alone bytes row next rows
     (headed-table options bytes row next rows (headed-is options bytes row next rows head are)))
 
-groups-closed : (options : ParseOptions) (bytes : List ℕ) (gs : List Group) → AreGroups options bytes gs →
+pub groups-closed : (options : ParseOptions) (bytes : List ℕ) (gs : List Group) → AreGroups options bytes gs →
     IsClosed (spanned_groups options bytes gs)
 groups-closed options bytes [] are = closed-each [] tt
 groups-closed options bytes (Single row ∷ gs) are =

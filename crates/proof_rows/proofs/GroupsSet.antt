@@ -65,14 +65,14 @@ single-set options bytes row es is kind e =
     leaf TextRow e es = absurd (is.other e)
 
 -- The lines of a leaf of several, joined, are left as they are,
-span-outside : (options : ParseOptions) (bytes : List ℕ) (row : Row) (rows : List Row) →
+pub span-outside : (options : ParseOptions) (bytes : List ℕ) (row : Row) (rows : List Row) →
     AreSpan options bytes row rows → Begins row → AreOutside (spanned_group options bytes (LeafLines row rows))
 span-outside options bytes row rows are begins =
     span-holds AreOutside outside-rows (λ es h. each-as IsLined IsOutside lined-outside es h) options bytes row rows are
     begins
 
 -- and so are those of a table with its head.
-headed-outside : (options : ParseOptions) (bytes : List ℕ) (row next : Row) (rows : List Row) →
+pub headed-outside : (options : ParseOptions) (bytes : List ℕ) (row next : Row) (rows : List Row) →
     IsHead options bytes row next → AreSpan options bytes next rows → HasFront bytes row →
     AreOutside (spanned_group options bytes (Headed row next rows))
 headed-outside options bytes row next rows head are front =
@@ -80,7 +80,7 @@ headed-outside options bytes row next rows head are front =
     (λ e. and_right (is_enter e.kind) (is_own n.SpaceOrTab) refl) options bytes row next rows head are front
 
 -- Texts are left as they are too: no name of a definition is of a resolver,
-text-outside : (options : ParseOptions) (bytes : List ℕ) (row : Row) (rows : List Row) →
+pub text-outside : (options : ParseOptions) (bytes : List ℕ) (row : Row) (rows : List Row) →
     AreLines options bytes row rows → HasFront bytes row → AreOutside (unread_group options bytes (Lines row rows))
 text-outside options bytes =
     text-holds AreOutside outside-rows (of-each IsOutside outside-of) options bytes
@@ -90,14 +90,14 @@ text-outside options bytes =
     (lines-prefixed options bytes row rows are)))
 
 -- nor is that of an underline
-underlined-outside : (options : ParseOptions) (bytes : List ℕ) (row : Row) (rows : List Row) (under : Row) →
+pub underlined-outside : (options : ParseOptions) (bytes : List ℕ) (row : Row) (rows : List Row) (under : Row) →
     AreLines options bytes row rows → IsUnder options bytes (last_row row rows) under → HasFront bytes row →
     AreOutside (unread_group options bytes (Turned row rows under))
 underlined-outside options bytes row rows under are is front =
     turned-holds AreOutside outside-rows options bytes row rows under is (text-outside options bytes row rows are front)
     (under-holds AreOutside underline-outside options bytes row rows under are is)
 
-groups-set : (options : ParseOptions) (bytes : List ℕ) (gs : List Group) → AreGroups options bytes gs →
+pub groups-set : (options : ParseOptions) (bytes : List ℕ) (gs : List Group) → AreGroups options bytes gs →
     resolved (spanned_groups options bytes gs) ≡ set_groups options bytes gs
 groups-set options bytes [] are = refl
 groups-set options bytes (Single row ∷ gs) are =

@@ -160,7 +160,7 @@ rows-read options bytes open_before still p (line ∷ next ∷ lines) (row ∷ b
     (below ∷ rows) are.5 quiet.1)
 
 -- Where tables are off there are none.
-heads-rows : (options : ParseOptions) (bytes : List ℕ) (open_before : List Container) (still : HeldLeaf) (p : Point)
+pub heads-rows : (options : ParseOptions) (bytes : List ℕ) (open_before : List Container) (still : HeldLeaf) (p : Point)
     (lines : List (List ℕ)) (rows : List Row) →
     AreRows options bytes open_before still p lines rows → EachNoContent rows →
     heads_read options bytes (rows_events rows) ≡ rows_events (head_rows bytes rows)

@@ -93,11 +93,11 @@ again-unheaded bytes (row ∷ below ∷ rows) =
 -- Their groups.
 
 -- a head and its lines, as those of one leaf
-abbrev as_span : List ℕ → Group → Group
+abbrev pub as_span : List ℕ → Group → Group
 as_span bytes (Headed row next rows) = LeafLines (as_table bytes row) (next ∷ rows)
 as_span bytes group = group
 
-abbrev as_spans : List ℕ → List Group → List Group
+abbrev pub as_spans : List ℕ → List Group → List Group
 as_spans bytes [] = []
 as_spans bytes (group ∷ gs) = as_span bytes group ∷ as_spans bytes gs
 
@@ -196,7 +196,7 @@ head-onto row gs heads = go row.kind heads
     go (LeafRow l) h = ap (λ (m : LeafName). onto_leaf (leaf m).ends row gs) (heads-table l h)
 
 -- The groups of the lines are these.
-again-groups : (bytes : List ℕ) (rows : List Row) → groups (head_rows bytes rows) ≡ as_spans bytes (groups rows)
+pub again-groups : (bytes : List ℕ) (rows : List Row) → groups (head_rows bytes rows) ≡ as_spans bytes (groups rows)
 again-groups bytes [] = refl
 again-groups bytes (row ∷ rows) =
     ap (onto_groups (read_again bytes row rows) (read_again bytes row rows).kind) (again-groups bytes rows)

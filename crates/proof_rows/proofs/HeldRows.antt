@@ -4,19 +4,17 @@ use Rattle.std.specs.Prelude.{None, Option, Some}
 use Rattle.std.proofs.Common.{◌≡◌, ℕ, Bool, true, false, cond, List, [], ◌∷◌, ◌++◌, refl, sym, subst, append_assoc}
 use Rattle.md_engine.specs.declared.configuration.ParseOptions.{ParseOptions}
 use Rattle.md_engine.specs.declared.event.Event.{Event}
-use Rattle.md_engine.specs.declared.event.Kind.{Kind}
-use Rattle.md_engine.specs.declared.event.Kind.TheVariants.{Enter, Exit}
+use Rattle.md_engine.specs.declared.event.Kind.TheVariants.{Enter}
 use Rattle.md_engine.specs.declared.event.Name.{Name}
 use Rattle.md_engine.specs.declared.event.Name.TheVariants as n
 use Rattle.md_engine.specs.declared.event.Point.{Point}
 use Rattle.md_containers.specs.ItemsHeld.{HoldsItems, IsHeld, ItemsHeld}
-use Rattle.md_containers.specs.Listed.{Begins as TurnBegins, Ends as TurnEnds, Stays as TurnStays, is_item, turn}
-use Rattle.md_containers.specs.Unlisted.{in_place}
+use Rattle.md_containers.specs.Listed.{Begins as TurnBegins, Stays as TurnStays, is_item, turn}
 use Rattle.md_containers.proofs.UnlistedLemmas.{NoListing, held-append}
 use Rattle.md_engine.specs.Place.{first_point}
 use Rattle.md_meaning.specs.State.{Container}
 use Rattle.md_events.specs.Events.Blocks.{is_block}
-use Rattle.md_events.specs.Events.Nested.{exit, open_after, open_following}
+use Rattle.md_events.specs.Events.Nested.{exit, open_after}
 use Rattle.md_events.specs.Events.Spelled.{Role, role}
 use Rattle.md_events.proofs.NestedLemmas.{balanced-open}
 use Rattle.md_events.proofs.SpelledLemmas.{Between}
@@ -28,18 +26,18 @@ use Rattle.proof_rows.specs.Rows.{tail_events, group_ending, is_blank_group}
 use Rattle.proof_rows.specs.BlockList.{group_unread, tabled_groups}
 use Rattle.proof_frame.proofs.ContainerNames.{container-facts, open_names}
 use Rattle.proof_frame.proofs.FrontFacts.{Begins, Following, Proceeds, LinePrefix}
-use Rattle.proof_frame.proofs.FrontLemmas.{Turns, ends-turn, fronts-turn, turns-balanced}
+use Rattle.proof_frame.proofs.FrontLemmas.{Turns, ends-turn, fronts-turn}
+use Rattle.proof_frame.proofs.NestFacts.{KeepsItems, balanced-items, end-held, held-through, unlisted-held}
 use Rattle.proof_frame.proofs.LeafAllowed.{between-unlisted, ending-between, roles-unlisted}
 use Rattle.proof_rows.proofs.NestedRows.{ByGroups, Keeps, rows-hold}
 use Rattle.proof_frame.proofs.PrefixNames.{prefixes-roles}
 use Rattle.proof_rows.proofs.RowFacts.{AreRows}
-use Rattle.proof_frame.proofs.SpanLemmas.{Nested_in}
 use Rattle.proof_leaf_laws.proofs.Frontmatter.Whole.{FrontPart}
 
 -- What is open.
 
 -- each of these names is that of a block
-abbrev AreBlocks : List Name → Type 0
+abbrev pub AreBlocks : List Name → Type 0
 AreBlocks [] = Unit {0}
 AreBlocks (name ∷ names) = (is_block (role name) ≡ true) × AreBlocks names
 
@@ -64,42 +62,13 @@ blocks-hold (name ∷ names) h = h.0
 
 -- Events.
 
--- what begins in blocks may be an item, and whatever ends may be one
+-- what begins in blocks may be an item
 begin-held : (x : Role) (names : List Name) → HoldsItems names → IsHeld (turn Enter x) names
 begin-held x names h = go (is_item x)
   where
     go : (item : Bool) → IsHeld (cond item TurnBegins TurnStays) names
     go true = h
     go false = tt
-
-end-held : (x : Role) (names : List Name) → IsHeld (turn Exit x) names
-end-held x names = go (is_item x)
-  where
-    go : (item : Bool) → IsHeld (cond item TurnEnds TurnStays) names
-    go true = tt
-    go false = tt
-
--- an event that is no item is anywhere: each name is tested
-no_item : (name : Name) → in_place name ≡ name → is_item (role name) ≡ false
-no_item n.ListItem h = cc
-no_item _ h = refl
-
-stays-held : (kind : Kind) (x : Role) (names : List Name) → is_item x ≡ false → IsHeld (turn kind x) names
-stays-held Enter x names h = subst (λ (item : Bool). IsHeld (cond item TurnBegins TurnStays) names) (sym h) tt
-stays-held Exit x names h = end-held x names
-
-unlisted-held : (names : List Name) (es : List Event) → NoListing es → ItemsHeld names es
-unlisted-held names [] h = tt
-unlisted-held names (e ∷ es) h = (
-  stays-held e.kind (role e.name) names (no_item e.name h.0),
-  unlisted-held (open_following names e.kind e.name) es h.1,
-)
-
--- events before others
-held-through : (from to : List Name) (xs ys : List Event) → ItemsHeld from xs → open_after from xs ≡ to →
-    ItemsHeld to ys → ItemsHeld from (xs ++ ys)
-held-through from to xs ys h opened k =
-    held-append from xs ys h (subst (λ (names : List Name). ItemsHeld names ys) (sym opened) k)
 
 -- Lines.
 
@@ -137,21 +106,18 @@ ending-opens name row names = go row.after
 -- Groups.
 
 -- a group before such events, with what is in its place and before it
-group-held : (options : ParseOptions) (bytes : List ℕ) (names kept : List Name) (p : Point) (group : Group)
+pub group-held : (options : ParseOptions) (bytes : List ℕ) (names kept : List Name) (p : Point) (group : Group)
     (front inside events : List Event) →
     LinePrefix bytes (first_row group).change.opens p (first_row group).first front → Keeps names group kept →
-    AreBlocks names →
-    Nested_in (first_row group).first (final_row group).end inside → NoListing inside →
-    (AreBlocks kept → ItemsHeld kept events) →
+    AreBlocks names → KeepsItems inside → (AreBlocks kept → ItemsHeld kept events) →
     ItemsHeld names
     ((front ++ inside ++ tail_events (group_ending group) (final_row group)) ++ events)
-group-held options bytes names kept p group front inside events is keeps blocks nested none on =
+group-held options bytes names kept p group front inside events is keeps blocks items on =
     subst (ItemsHeld names) (sym apart)
     (held-through names all front (inside ++ (ends ++ (ending ++ events)))
     (fronts-held bytes row.change.opens names p row.first front blocks is)
     (fronts-turn bytes row.change.opens names p row.first front is).opened
-    (held-through all all inside (ends ++ (ending ++ events)) (unlisted-held all inside none)
-    (turns-balanced all inside nested.0).opened
+    (items all (ends ++ (ending ++ events))
     (held-through all kept ends (ending ++ events) (ends-held last.closed_after all last.end)
     (subst (λ (l : List Name). Turns l kept ends) (sym keeps) (ends-turn last.closed_after kept last.end)).opened
     (held-through kept kept ending events (unlisted-held kept ending quiet)
@@ -193,8 +159,9 @@ unread-by_groups options bytes = record {
   none = λ p blocks. tt;
   group = λ names kept p group gs o keeps on blocks.
       group-held options bytes names kept p group (first_row group).front (group_unread options bytes group)
-      (tabled_groups options bytes gs) o.front keeps blocks o.leaf.1.stretch.unread_nested
-      (roles-unlisted (group_unread options bytes group) o.leaf.1.stretch.unread_roles) on;
+      (tabled_groups options bytes gs) o.front keeps blocks
+      (balanced-items (group_unread options bytes group) o.leaf.1.stretch.unread_nested.0
+      (roles-unlisted (group_unread options bytes group) o.leaf.1.stretch.unread_roles)) on;
 }
 
 -- and once they are
@@ -206,8 +173,9 @@ read-by_groups options bytes = record {
   none = λ p blocks. tt;
   group = λ names kept p group gs o keeps on blocks.
       group-held options bytes names kept p group (front_done bytes (first_row group)) (group_done options bytes group)
-      (groups_events options bytes gs) o.front_read.is keeps blocks o.leaf.1.stretch.nested
-      (roles-unlisted (group_done options bytes group) o.leaf.1.stretch.roles) on;
+      (groups_events options bytes gs) o.front_read.is keeps blocks
+      (balanced-items (group_done options bytes group) o.leaf.1.stretch.nested.0
+      (roles-unlisted (group_done options bytes group) o.leaf.1.stretch.roles)) on;
 }
 
 -- The events of a text, with its front.

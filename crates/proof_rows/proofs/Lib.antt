@@ -36,6 +36,7 @@ pub mod JoinedLeaves
 pub mod JoinedLemmas
 pub mod KindLemmas
 pub mod Labels
+pub mod NestGroups
 pub mod NestedRows
 pub mod OutsideLemmas
 pub mod ParagraphReads
@@ -57,6 +58,7 @@ pub mod TablesOff
 pub mod Text
 pub mod TextFound
 pub mod TextGroups
+pub mod TextsNest
 pub mod TextProgress
 pub mod TileCovers
 pub mod TileParts

@@ -80,16 +80,16 @@ pub blank-holds : (L : List Event → Type 0) → OfRows L → (line : List ℕ)
 blank-holds L of [] p = of.fronts [] tt
 blank-holds L of (b ∷ line) p = of.white p _
 
--- as its states leave it
-pub single-holds : (L : List Event → Type 0) → OfRows L →
+-- as its states leave it: what is in it,
+pub single-inside : (L : List Event → Type 0) → ((line : List ℕ) (p : Point) → L (blank_line line p)) →
     ((l : LeafName) → (leaf l).ends ≡ true → (options : ParseOptions) (on : HeldLeaf) (r : Rest) (p : Point) →
     (leaf l).starts options on r ≡ true → L ((leaf l).added options on (rest_line r) p)) →
-    (options : ParseOptions) (bytes : List ℕ) (row : Row) → IsSingle options bytes row → L (row_events row)
-single-holds L of adds options bytes row is =
-    around-holds L of bytes row row (is_blank_by row.kind row) (leaf_events row.kind row) is.front (added row.kind refl)
+    (options : ParseOptions) (bytes : List ℕ) (row : Row) → IsSingle options bytes row →
+    L (leaf_events row.kind row)
+single-inside L blank adds options bytes row is = added row.kind refl
   where
     added : (kind : RowKind) → row.kind ≡ kind → L (leaf_events kind row)
-    added BlankRow e = subst L (sym (is.is.blank e)) (blank-holds L of is.line row.first)
+    added BlankRow e = subst L (sym (is.is.blank e)) (blank is.line row.first)
     added (LeafRow l) e =
         subst L
         (sym
@@ -97,6 +97,15 @@ single-holds L of adds options bytes row is =
         (adds l (is.ends l e) options row.on is.is.rest row.first
         (kind-starts options row.on is.is.rest l (sym is.is.kind ∙ e)))
     added TextRow e = absurd (is.other e)
+
+-- and all of it
+pub single-holds : (L : List Event → Type 0) → OfRows L →
+    ((l : LeafName) → (leaf l).ends ≡ true → (options : ParseOptions) (on : HeldLeaf) (r : Rest) (p : Point) →
+    (leaf l).starts options on r ≡ true → L ((leaf l).added options on (rest_line r) p)) →
+    (options : ParseOptions) (bytes : List ℕ) (row : Row) → IsSingle options bytes row → L (row_events row)
+single-holds L of adds options bytes row is =
+    around-holds L of bytes row row (is_blank_by row.kind row) (leaf_events row.kind row) is.front
+    (single-inside L (blank-holds L of) adds options bytes row is)
 
 -- and once it is set
 pub set-holds : (L : List Event → Type 0) → OfRows L →

@@ -36,7 +36,7 @@ use Rattle.proof_rows.proofs.TurnedGroups.{headings-set}
 use Rattle.proof_rows.proofs.UnspannedGroups.{single-unspanned, text-unspanned, turned-unspanned}
 
 -- a table is a leaf of several lines, so none begins outside of those
-unspanned-untabled : (es : List Event) → AreUnspanned es → AreUntabled es
+pub unspanned-untabled : (es : List Event) → AreUnspanned es → AreUntabled es
 unspanned-untabled [] h = tt
 unspanned-untabled (e ∷ es) h = (no-table e.kind e.name h.0, unspanned-untabled es h.1)
 
@@ -45,7 +45,7 @@ lines-free : (es : List Event) → AreLined es → AreFree es
 lines-free [] h = tt
 lines-free (e ∷ es) h = (lined-free e.name h.0, lines-free es h.1)
 
-span-passes : (options : ParseOptions) (bytes : List ℕ) (row : Row) (rows : List Row) →
+pub span-passes : (options : ParseOptions) (bytes : List ℕ) (row : Row) (rows : List Row) →
     AreSpan options bytes row rows → Begins row → AreUntabled (tabled_group options bytes (LeafLines row rows))
 span-passes options bytes row rows are begins =
     let last : Row = last_row row rows in

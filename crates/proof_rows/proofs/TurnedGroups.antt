@@ -83,13 +83,13 @@ unlined-passed (e ∷ xs) ys h k = go (is_prefix e.name) (is_enter e.kind) (unli
     go false true more = (passes-parts e h.0).1
     go false false more = refl
 
-prefixes-are : (es : List Event) → ArePrefixes es → turns.ArePrefixes es
+pub prefixes-are : (es : List Event) → ArePrefixes es → turns.ArePrefixes es
 prefixes-are [] h = tt
 prefixes-are (e ∷ es) h = (h.0.0, prefixes-are es h.1)
 
 -- What is around the leaf of a line, and lines that are no text.
 
-unturned-rows : OfRows AreUnturned
+pub unturned-rows : OfRows AreUnturned
 unturned-rows = record {
   append = each-append IsUnturned;
   fronts = fronts-unturned;
@@ -98,10 +98,10 @@ unturned-rows = record {
   white = λ p q. (refl, (refl, tt));
 }
 
-front-unturned : (bytes : List ℕ) (row : Row) → HasFront bytes row → AreUnturned row.front
+pub front-unturned : (bytes : List ℕ) (row : Row) → HasFront bytes row → AreUnturned row.front
 front-unturned = front-holds AreUnturned unturned-rows
 
-tail-unturned : (blank : Bool) (row : Row) → AreUnturned (tail_events (ending_name blank) row)
+pub tail-unturned : (blank : Bool) (row : Row) → AreUnturned (tail_events (ending_name blank) row)
 tail-unturned = tail-holds AreUnturned unturned-rows
 
 single-unturned : (options : ParseOptions) (bytes : List ℕ) (row : Row) → IsSingle options bytes row →
@@ -110,12 +110,12 @@ single-unturned = set-holds AreUnturned unturned-rows (λ l. (laws l).unturned)
 
 -- Lines of leaves of several, joined.
 
-span-unturned : (options : ParseOptions) (bytes : List ℕ) (row : Row) (rows : List Row) →
+pub span-unturned : (options : ParseOptions) (bytes : List ℕ) (row : Row) (rows : List Row) →
     AreSpan options bytes row rows → Begins row → AreUnturned (tabled_group options bytes (LeafLines row rows))
 span-unturned =
     span-holds AreUnturned unturned-rows (λ es h. each-as IsLined IsUnturned lined-unturned es h)
 
-headed-unturned : (options : ParseOptions) (bytes : List ℕ) (row next : Row) (rows : List Row) →
+pub headed-unturned : (options : ParseOptions) (bytes : List ℕ) (row next : Row) (rows : List Row) →
     IsHead options bytes row next → AreSpan options bytes next rows → HasFront bytes row →
     AreUnturned (spanned_group options bytes (Headed row next rows))
 headed-unturned =
@@ -196,7 +196,7 @@ text-unlined options bytes row rows es are front =
     (cut-unlined options bytes row rows text (text_done options bytes row rows) (tail ++ es)
     (cut-is options bytes row rows are)))
 
-groups-unlined : (options : ParseOptions) (bytes : List ℕ) (gs : List Group) → AreGroups options bytes gs →
+pub groups-unlined : (options : ParseOptions) (bytes : List ℕ) (gs : List Group) → AreGroups options bytes gs →
     Unlined (set_groups options bytes gs)
 groups-unlined options bytes [] are = refl
 groups-unlined options bytes (Single row ∷ gs) are =
@@ -217,7 +217,7 @@ groups-unlined options bytes (LeafLines row rows ∷ gs) are =
     (groups-unlined options bytes gs are.2)
 
 -- so no underline follows lines of text
-no-underline : (options : ParseOptions) (bytes : List ℕ) (row : Row) (gs : List Group) → EndsBeforeGroups row gs →
+pub no-underline : (options : ParseOptions) (bytes : List ℕ) (row : Row) (gs : List Group) → EndsBeforeGroups row gs →
     Unlined (set_groups options bytes gs) →
     has_underline (tail_events n.LineEnding row ++ set_groups options bytes gs) ≡ false
 no-underline options bytes row gs ends none = go row.closed_after

@@ -7,6 +7,7 @@ pub mod Each
 pub mod Found
 pub mod Head
 pub mod Laws
+pub mod Nests
 pub mod Row
 pub mod RowAt
 pub mod RowCells

@@ -20,6 +20,7 @@ use Rattle.proof_leaf_laws.specs.Leaf.HeadingAtx.{heading_leaf, read_text}
 use Rattle.proof_leaf_laws.proofs.HeadingAtx.Outside.{heading_resolver}
 use Rattle.proof_leaf_laws.proofs.HeadingAtx.Cells.{heading-adds, heading-fits}
 use Rattle.proof_leaf_laws.proofs.HeadingAtx.Endings.{linked-others, title-others}
+use Rattle.proof_leaf_laws.proofs.HeadingAtx.Nests.{heading-nests}
 use Rattle.proof_leaf_laws.proofs.HeadingAtx.NoContent.{heading-no_content}
 use Rattle.proof_leaf_laws.proofs.HeadingAtx.Plain.{heading-plain}
 use Rattle.proof_leaf_laws.proofs.HeadingAtx.Spelled.{heading-reads}
@@ -106,5 +107,6 @@ heading-laws = record {
   unspanned = λ ends options on r p starts. heading-unspanned (rest_line r) p;
   unjoined = λ ends options on r p starts. heading-unjoined (rest_line r) p;
   alone = λ ends options on r p starts. heading-alone (rest_line r) p;
+  nests = λ ends options on r p starts. heading-nests (rest_line r) p;
   facts = λ ends options on. heading-facts options;
 }

@@ -109,16 +109,25 @@ heading-unspanned line p =
     (unread-each IsUnspanned unspanned-parts line p)
 
 -- None is of a text or an underline.
+
+unturned-parts : OfNames IsUnturned
+unturned-parts = record {
+  white = λ e is. rw is refl;
+  hashes = λ e is. rw is refl;
+  text = λ e is. rw is refl;
+  chunk = λ e is. rw is refl;
+}
+
+pub heading-added_unturned : (line : List ℕ) (p : Point) →
+    AreUnturned (heading_around line p (flow_title (title_of line p)))
+heading-added_unturned line p =
+    around-each IsUnturned (λ e is. rw is refl) line p (flow_title (title_of line p))
+    (flow-each IsUnturned unturned-parts line p)
+
 pub heading-unturned : (line : List ℕ) (p : Point) → AreUnturned (heading_leaf.unread line p)
 heading-unturned line p =
     around-each IsUnturned (λ e is. rw is refl) line p (unread_title (title_of line p))
-    (unread-each IsUnturned
-    (record {
-      white = λ e is. rw is refl;
-      hashes = λ e is. rw is refl;
-      text = λ e is. rw is refl;
-      chunk = λ e is. rw is refl;
-    }) line p)
+    (unread-each IsUnturned unturned-parts line p)
 
 -- None in it is of another block, and no other ends it.
 

@@ -44,5 +44,6 @@ setext-laws resolver = record {
   unspanned = λ ends options on r p starts. absurd (cc);
   unjoined = λ ends options on r p starts. absurd (cc);
   alone = λ ends options on r p starts. absurd (cc);
+  nests = λ ends options on r p starts. absurd (cc);
   facts = λ ends options on bytes r p q starts at. absurd (cc);
 }

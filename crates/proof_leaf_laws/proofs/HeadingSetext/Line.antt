@@ -42,6 +42,8 @@ use Rattle.proof_leaf_laws.proofs.HeadingSetext.Bytes.{underline-dark, underline
 use Rattle.proof_leaf_laws.proofs.HeadingSetext.Kinds.{setext-starts, underline-first}
 use Rattle.proof_frame.proofs.LeafFacts.{LineAt}
 use Rattle.proof_frame.proofs.LineTexts.{line-valid}
+use Rattle.proof_frame.proofs.MarkRuns.Items.{line-items}
+use Rattle.proof_frame.proofs.NestFacts.{KeepsItems}
 use Rattle.proof_frame.proofs.MarkRuns.Each.{Holds, each-others, line-holds, runs-hold}
 use Rattle.proof_leaf_laws.proofs.MarkRuns.Line.{HasRun, run-first, run-marks, run-text, run-whole, run_parts, runs-are}
 use Rattle.proof_frame.proofs.OutsideFacts.{AreOutside, IsOutside}
@@ -114,11 +116,21 @@ underline-block = record {
   shuts = λ q. refl;
 }
 
+pub underline-unset : (line : List ℕ) (p : Point) → Each IsUnset (underline_parts line p)
+underline-unset line p =
+    runs-hold IsUnset n.HeadingSetextUnderlineSequence (λ q. refl, λ q. refl) (λ q. refl, λ q. refl) Apart
+    (first_byte (trim_start line)) line p
+
 pub underline-alone : (line : List ℕ) (p : Point) → IsClosed (underline_line line p)
 underline-alone line p =
     closed-around n.HeadingSetextUnderline underline-block p (past_text line p) (underline_parts line p)
-    (runs-hold IsUnset n.HeadingSetextUnderlineSequence (λ q. refl, λ q. refl) (λ q. refl, λ q. refl) Apart
-    (first_byte (trim_start line)) line p)
+    (underline-unset line p)
+
+-- no item is in it,
+pub underline-items : (line : List ℕ) (p : Point) → KeepsItems (underline_line line p)
+underline-items line p =
+    line-items n.HeadingSetextUnderline n.HeadingSetextUnderlineSequence refl refl (first_byte (trim_start line)) line p
+    (past_text line p)
 
 -- and inside of it the one that sets headings changes none
 pub underline-unturned : (line : List ℕ) (p : Point) → AreUnturned (underline_parts line p)

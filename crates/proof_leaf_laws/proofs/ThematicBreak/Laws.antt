@@ -10,7 +10,7 @@ use Rattle.proof_leaf_laws.proofs.ThematicBreak.Facts.{break-facts, break-set, b
 use Rattle.proof_leaf_laws.proofs.ThematicBreak.Kinds.{break-fits}
 use Rattle.proof_leaf_laws.proofs.ThematicBreak.Runs.{break-adds, break-no_content}
 use Rattle.proof_leaf_laws.proofs.ThematicBreak.Trial.{break-looked, break-refused, break-shrinks, break-took}
-use Rattle.proof_leaf_laws.proofs.ThematicBreak.Unturned.{break-alone, break-unturned}
+use Rattle.proof_leaf_laws.proofs.ThematicBreak.Unturned.{break-alone, break-nests, break-unturned}
 use Rattle.md_engine.specs.declared.configuration.ParseOptions.{ParseOptions}
 use Rattle.md_engine.specs.declared.tokenizer.held_leaf.HeldLeaf.{HeldLeaf}
 use Rattle.md_meaning.specs.Rest.{Rest, trim_start}
@@ -44,6 +44,7 @@ break-laws resolver = record {
   unspanned = λ ends options on r p starts. break-unspanned (rest_line r) p;
   unjoined = λ ends options on r p starts. break-unspanned (rest_line r) p;
   alone = λ ends options on r p starts. break-alone (rest_line r) p;
+  nests = λ ends options on r p starts. break-nests (rest_line r) p;
   set = λ ends options on r p es starts. break-set resolver (rest_line r) p es;
   facts = λ ends options on bytes r p q starts. break-facts options bytes r p q (ruled options on r starts);
 }

@@ -46,5 +46,6 @@ fence_further-laws resolver = record {
   unspanned = λ ends options on r p starts. absurd (cc);
   unjoined = λ ends options on r p starts. absurd (cc);
   alone = λ ends options on r p starts. absurd (cc);
+  nests = λ ends options on r p starts. absurd (cc);
   facts = λ ends options on bytes r p q starts at. absurd (cc);
 }

@@ -34,6 +34,7 @@ html-laws resolver = record {
   unspanned = λ ends options on r p starts. absurd (cc);
   unjoined = λ ends options on r p starts. absurd (cc);
   alone = λ ends options on r p starts. absurd (cc);
+  nests = λ ends options on r p starts. absurd (cc);
   facts = λ ends options on bytes r p q starts is. absurd (cc);
 }
 
@@ -59,5 +60,6 @@ html_further-laws resolver = record {
   unspanned = λ ends options on r p starts. absurd (cc);
   unjoined = λ ends options on r p starts. absurd (cc);
   alone = λ ends options on r p starts. absurd (cc);
+  nests = λ ends options on r p starts. absurd (cc);
   facts = λ ends options on bytes r p q starts is. absurd (cc);
 }

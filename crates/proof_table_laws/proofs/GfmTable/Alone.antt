@@ -53,7 +53,7 @@ delimiter-unset line p = (
 
 -- Between two lines.
 
-gap-unset : (bytes : List ℕ) (row next : Row) → IsGap bytes row next → Each IsUnset (gap_events row next)
+pub gap-unset : (bytes : List ℕ) (row next : Row) → IsGap bytes row next → Each IsUnset (gap_events row next)
 gap-unset bytes row next gap =
     each-append IsUnset (ending_events n.LineEnding row) next.front
     (subst (Each IsUnset) (sym (ending-is n.LineEnding row gap.following gap.after)) (refl, (refl, tt)))

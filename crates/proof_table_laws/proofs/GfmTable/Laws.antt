@@ -31,5 +31,6 @@ table-laws resolver = record {
   unspanned = λ ends options on r p starts. absurd (cc);
   unjoined = λ ends options on r p starts. absurd (cc);
   alone = λ ends options on r p starts. absurd (cc);
+  nests = λ ends options on r p starts. absurd (cc);
   facts = λ ends options on bytes r p q starts is. absurd (cc);
 }

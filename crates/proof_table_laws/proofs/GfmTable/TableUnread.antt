@@ -182,7 +182,7 @@ prefixes-free : (es : List Event) → ArePrefixes es → AreFree es
 prefixes-free [] h = tt
 prefixes-free (e ∷ es) h = (prefix-free e.name h.0.0, prefixes-free es h.1)
 
-gap-free : (bytes : List ℕ) (row next : Row) → IsGap bytes row next → AreFree (gap_events row next)
+pub gap-free : (bytes : List ℕ) (row next : Row) → IsGap bytes row next → AreFree (gap_events row next)
 gap-free bytes row next gap =
     free-append (ending_events n.LineEnding row) next.front
     (subst AreFree (sym (ending-is n.LineEnding row gap.following gap.after)) (refl, (refl, tt)))

@@ -42,5 +42,5 @@ pass_all-requires-clause-underlines c = λ none.
 
 pub returns : goal.returns
 returns c =
-    c.in_ok-pass_all.ensures
+    c.in_ok-pass_all.ensures.world
     ∙ ap (λ (x : World). record x { events = in_order every x.setting.bytes x.events }) c.in_ok-underlines.ensures.world
