@@ -1,7 +1,12 @@
 #!/usr/bin/env python3
 """believed.py: counts what a reader has to believe of the contract of `parse`: the lines of all definitions that it
 unfolds to, without imports and comments, and the files that they are in. It fails where there are more than the limits
-below, or where one of these definitions names what belongs to the parser's run."""
+below, or where one of these definitions names what belongs to the parser's run.
+
+It counts the same of what calls of first states and of flow promise of the rest of a line (`line` of
+`constructs::call`, `flow::start`, `document::flow_inside` and `document::containers_after`), with what is not among the
+lines of `parse`. It fails where there is more than the limits below, or where one of these definitions names a rule by
+cells, a transition or a value."""
 import os
 import re
 import sys
@@ -12,6 +17,13 @@ STATEMENT = ("Rattle.markdown_blocks.specs.Parsed", "IsParsed")
 MEANING = ("md_meaning",)
 READING = ("md_events", "md_outline")
 MOST, MOST_ELSE = 3200, 700
+# what the calls of a line promise, by a behaviour; what that is at other states nobody has to believe
+LINES = "Rattle.md_flow.specs.LineRule"
+CALLS = ((LINES, "IsFirstCall"), (LINES, "IsLineCall"), (LINES, "IsMet"), (LINES, "IsMetFirst"), (LINES, "IsOpen"))
+MOST_OF_CALLS, MOST_NEW = 1650, 620
+# where rules by cells, transitions, schemes and values of constructs are from
+RULE = re.compile(r"Rattle\.(md_\w+\.specs\.(\w+Rule|Registry|Flow|Document|States|Scheme|Transition)|"
+                  r"proof_\w+\.specs\.(LineLeaf|ContainerRules|Rule|Leaf\.(?!Paragraph)\w+|Containers\.\w+))\.")
 # where worlds, behaviours, feeds and cells, states and tokenizers are from; kinds of HTML are the line definition's too
 RUN = re.compile(r"Rattle\.md_engine\.specs\.(World|Meaning|Sees|Scheme|TextFeed|declared\.state|"
                  r"declared\.tokenizer\.(?!held_leaf\.HtmlKind))\b")
@@ -122,10 +134,17 @@ def main():
     rest = lines - lines_of(meaning) - lines_of(reading)
     print(f"{STATEMENT[1]}: {lines} lines in {len({path for path, _ in all_of})} files: {lines_of(meaning)} of the line "
           f"definition, {lines_of(reading)} of what reads events, {rest} others")
+    of_calls = set().union(*(unfolded(*call) for call in CALLS))
+    calls, new = lines_of(of_calls), lines_of(of_calls - all_of)
+    print(f"{CALLS[0][1]}, {CALLS[1][1]}: {calls} lines in {len({path for path, _ in of_calls})} files, of which {new} "
+          f"are not among those of {STATEMENT[1]}")
+    of_rules = {f"{path}.{name}" for path, name in of_calls if RULE.match(f"{path}.") and path != LINES}
+    for name in sorted(of_rules):
+        print("believed: a clause of lines unfolds to", name)
     of_run = {f"{path}.{name}" for place in all_of for path, name in imports(*place) if RUN.match(path)}
     for name in sorted(of_run):
         print("believed: a definition names", name)
-    sys.exit(lines > MOST or rest > MOST_ELSE or bool(of_run))
+    sys.exit(lines > MOST or rest > MOST_ELSE or calls > MOST_OF_CALLS or new > MOST_NEW or bool(of_run | of_rules))
 
 
 main()

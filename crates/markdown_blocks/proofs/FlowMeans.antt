@@ -30,19 +30,8 @@ use Rattle.md_registry.specs.LineFlags as flags
 use Rattle.md_registry.specs.States.{FlowStep, flow_behaves, flow_behaves_by, flow_table_scheme, flow_transition}
 use Rattle.md_registry.proofs.FlowLemmas.{flow_by_line}
 use Rattle.md_registry.proofs.States.{flow_terminates}
-use Rattle.md_registry.proofs.ConstructStates.{construct-steps, container-states, leaf-states, white_has}
-
-flow_has : (bytes : List ℕ) (options : ParseOptions) (next : Rule) →
-    HasFlow (flow_behaves_by bytes options next) options next
-flow_has bytes options next = record {
-  blank = record { white = white_has bytes options next; each = λ _ _ _. refl };
-  chunk = λ _ _. refl;
-  starts = λ l. (leaf-states l).starts bytes options next;
-  opens = λ k. (container-states k).begins_is bytes options next;
-  is_continued = λ k. (container-states k).continued_is bytes options next;
-  containers = λ _ _ _. refl;
-  leaves = λ _ _ _. refl;
-}
+use Rattle.md_registry.proofs.ConstructStates.{construct-steps}
+use Rattle.md_flow.proofs.LineRule.Lines.{flow_has}
 
 -- where the table is at a state, the state has what it needs
 flow-needs : (state : FlowState) (w : World) → valid flow_table_scheme w (Next (n.Flow state)) → FlowInvariant state w

@@ -3,3 +3,4 @@ pub mod Parsed
 pub mod Fed
 pub mod ContentRead
 pub mod FlowReads
+pub mod FrontRead

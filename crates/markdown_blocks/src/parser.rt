@@ -15,6 +15,7 @@ ghost use Rattle.md_leaves.specs.Turned.{HoldNoUnderline};
 ghost use Rattle.markdown_blocks.specs.Alone.{may_change, passes_alone, stays_by_name};
 ghost use Rattle.markdown_blocks.specs.ContentRead.{AreSideBySide, ReadIf, holds_content};
 ghost use Rattle.markdown_blocks.specs.FlowReads.{FlowReads};
+ghost use Rattle.markdown_blocks.specs.FrontRead.{exact_front};
 ghost use Rattle.md_order.specs.Alone.{MayPass};
 ghost use Rattle.md_order.specs.InOrder.{every, in_order};
 ghost use Rattle.proof_container_laws.specs.Footnotes.{footnotes_listed};
@@ -119,7 +120,8 @@ fn read_front<'a>(
     options: &'a ParseOptions,
 ) -> Result<Tokenizer<'a>, Message>
     requires { IsSmall bytes.now }
-    ensures { IfOk result (λ tokenizer. ReadsFront bytes.now options.now (world tokenizer)) }
+    ensures reads { IfOk result (λ tokenizer. ReadsFront bytes.now options.now (world tokenizer)) }
+    ensures front { IfOk result (λ tokenizer. (world tokenizer).events ≡ exact_front options.now bytes.now) }
 {
     let mut tokenizer = Tokenizer::new(alloc, FIRST_POINT, bytes, options);
     let start = State::Next(StateName::Document(DocumentState::Start));

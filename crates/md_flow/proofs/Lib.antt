@@ -1,3 +1,3 @@
-pub mod OnOk
+pub mod LineRule
 pub mod SoundParts
 pub mod TextsNest

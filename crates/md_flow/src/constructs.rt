@@ -9,6 +9,7 @@ ghost use Rattle.md_engine.specs.declared.state.State.{State};
 ghost use Rattle.md_registry.specs.Registry.{construct_transition};
 ghost use Rattle.md_registry.specs.States.{flow_table_scheme, flow_transition};
 ghost use Rattle.md_events.specs.Stays.{TakesEach};
+ghost use Rattle.md_flow.specs.Calls.{FirstLine};
 
 use md_code::{code_indented, raw_flow};
 use md_containers::{block_quote, gfm_footnote_definition, list_item};
@@ -19,8 +20,9 @@ use md_html::html_flow;
 use md_leaves::{heading_atx, heading_setext, thematic_break};
 use md_tables::gfm_table;
 
-/// Calls a state of a construct.
+/// Calls a state of a construct. The first states take the rest of a line where the line definition says (`line`).
 #[inline(always)]
+#[tactic(auto, using(crate::proofs::LineRule::Calls::first_line))]
 pub fn call(tokenizer: &mut Tokenizer, name: StateName) -> State
     requires current { (world tokenizer.old).current ≡ looks (world tokenizer.old) }
     requires valid { valid flow_table_scheme (world tokenizer.old) (State.Next name) }
@@ -33,6 +35,7 @@ pub fn call(tokenizer: &mut Tokenizer, name: StateName) -> State
         (construct_transition name
         (world tokenizer.old)).world }
     ensures full { OnError result (IsFull tokenizer.new) }
+    ensures line { result ≢ State.Error → FirstLine name (world tokenizer.old) result (world tokenizer.new) }
 {
     match name {
         StateName::BlockQuote(state) => block_quote::call(tokenizer, state),

@@ -32,6 +32,7 @@ ghost use Rattle.md_registry.specs.Flow.{opener_transition};
 ghost use Rattle.md_registry.specs.FlowRule.{DocumentMeans, IsContainersState, IsDocumentState};
 ghost use Rattle.md_registry.specs.FlowRule.{IsSureDocumentState};
 ghost use Rattle.md_registry.specs.Registry.{opener_at};
+ghost use Rattle.md_flow.specs.Calls.{AskedLine, OpenLine};
 
 use crate::resolve;
 use md_containers::frontmatter;
@@ -318,10 +319,11 @@ pub fn container_new_after(tokenizer: &mut Tokenizer) -> State
 ///       ^
 /// ```
 #[inline(always)]
-#[tactic(auto, using(md_registry::proofs::FlowSteps::document_rule))]
+#[tactic(auto, using(md_registry::proofs::FlowSteps::document_rule, crate::proofs::LineRule::Calls::open_line))]
 pub fn containers_after(tokenizer: &mut Tokenizer) -> State
     requires { IsAt NeedsNothing (StateName.Document DocumentState.ContainersAfter) (world tokenizer.old) }
-    ensures { IsSureDocumentState DocumentState.ContainersAfter (world tokenizer.old) result tokenizer.new }
+    ensures state { IsSureDocumentState DocumentState.ContainersAfter (world tokenizer.old) result tokenizer.new }
+    ensures line { OpenLine (world tokenizer.old) result (world tokenizer.new) }
 {
     begin_line(tokenizer);
     if choices::continues_inside(tokenizer.flags.leaf) {
@@ -339,10 +341,11 @@ pub fn containers_after(tokenizer: &mut Tokenizer) -> State
 /// > | a
 ///     ^
 /// ```
-#[tactic(auto, using(md_registry::proofs::FlowSteps::document_rule))]
+#[tactic(auto, using(md_registry::proofs::FlowSteps::document_rule, crate::proofs::LineRule::Calls::asked_line))]
 pub fn flow_inside(tokenizer: &mut Tokenizer) -> State
     requires { IsAt NeedsNothing (StateName.Document DocumentState.FlowInside) (world tokenizer.old) }
-    ensures { IsDocumentState DocumentState.FlowInside (world tokenizer.old) result tokenizer.new }
+    ensures state { IsDocumentState DocumentState.FlowInside (world tokenizer.old) result tokenizer.new }
+    ensures line { result ≢ State.Error → AskedLine (world tokenizer.old) result (world tokenizer.new) }
 {
     match choices::inside_start(tokenizer.flags.leaf) {
         None => State::Retry(StateName::Flow(FlowState::Start)),

@@ -22,6 +22,7 @@ ghost use Rattle.md_registry.specs.Flow.{after_transition};
 ghost use Rattle.md_events.specs.Transition.{IsAt, NeedsNothing};
 ghost use Rattle.md_registry.specs.Flow.{leaf_transition, trial_code};
 ghost use Rattle.md_registry.specs.Registry.{tried_at};
+ghost use Rattle.md_flow.specs.Calls.{TriedLine};
 
 use md_engine::class::is_white;
 use md_engine::or_error;
@@ -36,16 +37,17 @@ use md_leaves::blank_line;
 use md_registry::choices::{self, FirstLeaf};
 
 /// At the start of the rest of a line: its first byte chooses what is tried (`choices::row`); a virtual space is a
-/// space.
+/// space. What takes the line is what the line definition says (`line`).
 ///
 /// ```markdown
 /// > | a
 ///     ^
 /// ```
-#[tactic(auto, using(md_registry::proofs::FlowSteps::flow_rule))]
+#[tactic(auto, using(md_registry::proofs::FlowSteps::flow_rule, crate::proofs::LineRule::Calls::tried_line))]
 pub fn start(tokenizer: &mut Tokenizer) -> State
     requires { IsAt NeedsNothing (StateName.Flow FlowState.Start) (world tokenizer.old) }
     ensures state { IsFlowState FlowState.Start (world tokenizer.old) result tokenizer.new }
+    ensures line { result ≢ State.Error → TriedLine (world tokenizer.old) result (world tokenizer.new) }
     ensures outside { (options : ParseOptions) (column byte : ℕ) (bytes : List ℕ) → is_white byte ≡ false →
         IsOutsideRow options column byte bytes }
     ensures ended { (options : ParseOptions) (column : ℕ) → IsOutsideEnd options column }

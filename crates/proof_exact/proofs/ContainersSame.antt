@@ -159,11 +159,11 @@ proceeds-same options (InFootnote label) cell_line text following line r p stop 
 
 -- Where one opens.
 
-abbrev Opens : List ℕ → List ℕ → TextLine → Rest → Taken → Passed → Type 0
+abbrev pub Opens : List ℕ → List ℕ → TextLine → Rest → Taken → Passed → Type 0
 Opens text following line r t passed =
     HasEvents text following line (plain_begin line t.container r t.rest) t.rest passed
 
-quote-opens : (options : ParseOptions) (cell_line : Line) (text following : List ℕ) (line : TextLine) (r : Rest)
+pub quote-opens : (options : ParseOptions) (cell_line : Line) (text following : List ℕ) (line : TextLine) (r : Rest)
     (p : Point) (stop : List Cell) (t : Taken) →
     LineIn text following line → OnLine text following line r p → NoEnding r.bytes → Stops stop →
     length (rest_cells cell_line r p ++ stop) < 2 ^ 63 → opens_quote options r ≡ Some t →
@@ -178,7 +178,7 @@ quote-opens options cell_line text following line r p stop t is on plain k short
       on = has.on;
     }
 
-item-begins : (cell_line : Line) (text following : List ℕ) (line : TextLine) (r : Rest) (p : Point) (stop : List Cell)
+pub item-begins : (cell_line : Line) (text following : List ℕ) (line : TextLine) (r : Rest) (p : Point) (stop : List Cell)
     (own : ItemPassed) (t : Taken) →
     LineIn text following line → OnLine text following line r p → NoEnding r.bytes → Stops stop →
     OpensItem cell_line text following p (past_rest r p) stop (rest_cells cell_line r p ++ stop) own t →
@@ -194,7 +194,7 @@ item-begins cell_line text following line r p stop own t is on plain k opened =
       on = has.on;
     }
 
-footnote-begins : (cell_line : Line) (text following : List ℕ) (line : TextLine) (r : Rest) (p : Point)
+pub footnote-begins : (cell_line : Line) (text following : List ℕ) (line : TextLine) (r : Rest) (p : Point)
     (stop : List Cell)
     (own : ItemPassed) (t : Taken) →
     LineIn text following line → OnLine text following line r p → NoEnding r.bytes → Stops stop →

@@ -155,13 +155,13 @@ span-role options r open_leaf is =
 
 -- Where text is open.
 
-left-size : (left : List (List ℕ)) → nat_lt 0 (length left) ≡ not (is_none_left left)
+pub left-size : (left : List (List ℕ)) → nat_lt 0 (length left) ≡ not (is_none_left left)
 left-size [] = refl
 left-size (line ∷ left) =
     let some : nat_lt 0 (length (line ∷ left)) ≡ true = grind (arith, nat_tests) in some
 
 -- a delimiter row is where the leaf of tables starts
-delimiter-starts : (options : ParseOptions) (bs : Blocks) (k : ParagraphLine) (ks : List ParagraphLine) (r : Rest) →
+pub delimiter-starts : (options : ParseOptions) (bs : Blocks) (k : ParagraphLine) (ks : List ParagraphLine) (r : Rest) →
     is_some (table_at options bs (k ∷ ks) r) ≡ table_leaf.starts options (text_on (k ∷ ks)) r
 delimiter-starts options bs k ks r = subst Done (sym is.is) (at_end is.front is.last)
   where

@@ -193,14 +193,14 @@ fence-framed : (options : ParseOptions) (on : HeldLeaf) (line : List ℕ) (p : P
 fence-framed options on line p = or_left _ _ (block-lines (held_marker on))
 
 -- an opening fence has a marker
-some-least : (m size : ℕ) → nat_le (least_size m) size ≡ true → 1 ≤ size
+pub some-least : (m size : ℕ) → nat_le (least_size m) size ≡ true → 1 ≤ size
 some-least m size h = go (m == dollar) h
   where
     go : (x : Bool) → nat_le (cond x 2 3) size ≡ true → 1 ≤ size
     go true h = grind (arith, nat_tests)
     go false h = grind (arith, nat_tests)
 
-opening-some : (options : ParseOptions) (r : Rest) → is_some (fence_at options r) ≡ true →
+pub opening-some : (options : ParseOptions) (r : Rest) → is_some (fence_at options r) ≡ true →
     1 ≤ run_len (first_byte (trim_start r.bytes)) (trim_start r.bytes)
 opening-some options r h =
     let text : List ℕ = trim_start r.bytes in

@@ -19,13 +19,13 @@ read_flow-requires-clause-small g c = rw c.as_bytes-bytes.ensures.value c.requir
 
 pub read_flow-requires-clause-placed : goal.read_flow-requires-clause-placed
 read_flow-requires-clause-placed g c =
-    rw c.in_ok-front.ensures.bytes_are at c.in_ok-front.front.sound.placed
+    rw c.in_ok-front.ensures.reads.bytes_are at c.in_ok-front.front.sound.placed
 
 pub read_flow-requires-clause-built : goal.read_flow-requires-clause-built
 read_flow-requires-clause-built g c = c.requires.built
 
 pub read_flow-requires-clause-begins : goal.read_flow-requires-clause-begins
-read_flow-requires-clause-begins g c = c.in_ok-front.ensures.point
+read_flow-requires-clause-begins g c = c.in_ok-front.ensures.reads.point
 
 pub subtokenize-requires-clause-placed : goal.subtokenize-requires-clause-placed
 subtokenize-requires-clause-placed g c =
@@ -56,11 +56,11 @@ is-ahead g c =
       built = c.requires.built;
       utf8 = subst IsUtf8 (sym text) c.utf8.value;
       small = subst (λ (l : List ℕ). length l < 2 ^ 61) (sym text) small;
-      starts = c.in_ok-front.ensures.point;
-      marks = c.in_ok-front.ensures.events;
+      starts = c.in_ok-front.ensures.reads.point;
+      marks = c.in_ok-front.ensures.reads.events;
       flow = c.in_ok-tokenizer.ensures;
       items_are = refl;
-      mark_placed = rw c.in_ok-front.ensures.bytes_are at c.in_ok-front.front.sound.right;
+      mark_placed = rw c.in_ok-front.ensures.reads.bytes_are at c.in_ok-front.front.sound.right;
       items_placed = rw same at c.in_ok-tokenizer.tokenizer.sound.right;
       definitions = refl;
       footnotes =

@@ -36,10 +36,10 @@ returns-then-continues_inside c =
     let u = world c.containers_after.new.tokenizer in
     run-on (n.Document document.ContainersAfter) (n.Document document.FlowInside) w u c.inside.result
     c.inside.new.tokenizer
-    (front w u c.containers_after.ensures.world c.requires.current (within-world c.args.tokenizer.now) true
+    (front w u c.containers_after.ensures.state.world c.requires.current (within-world c.args.tokenizer.now) true
     (sym c.continues_inside.ensures ∙ c.if-continues_inside.true))
-    (subst (λ (x : World). x.current ≡ looks x) (sym c.containers_after.ensures.world) c.requires.current)
-    (inl (ap (λ (x : World). x.point) c.containers_after.ensures.world)) c.inside.ensures
+    (subst (λ (x : World). x.current ≡ looks x) (sym c.containers_after.ensures.state.world) c.requires.current)
+    (inl (ap (λ (x : World). x.point) c.containers_after.ensures.state.world)) c.inside.ensures
 
 pub returns-then-ends_line : goal.returns-then-ends_line
 returns-then-ends_line c =
@@ -47,7 +47,7 @@ returns-then-ends_line c =
     let first = n.Document document.ContainersAfter in
     let w = world c.args.tokenizer.now in
     let u = world c.containers_after.new.tokenizer in
-    let begun : u ≡ record w { flags = begun_line w.flags } = c.containers_after.ensures.world in
+    let begun : u ≡ record w { flags = begun_line w.flags } = c.containers_after.ensures.state.world in
     let seen : u.current ≡ looks u = subst (λ (x : World). x.current ≡ looks x) (sym begun) c.requires.current in
     let ends : ends_line u.current ≡ true = sym c.ends_line.ensures ∙ c.if-ends_line.true in
     let at_line : ArrivedHere T first w (n.Flow flow.BlankLineBefore) u = λ is_end s v named sees may.
@@ -80,7 +80,7 @@ returns-else-ends_line c =
     let u = world c.containers_after.new.tokenizer in
     run-on (n.Document document.ContainersAfter) (n.Flow flow.Start) w u c.rest_begins.result
     c.rest_begins.new.tokenizer
-    (front w u c.containers_after.ensures.world c.requires.current (within-world c.args.tokenizer.now) false
+    (front w u c.containers_after.ensures.state.world c.requires.current (within-world c.args.tokenizer.now) false
     (sym c.continues_inside.ensures ∙ c.if-continues_inside.false))
-    (subst (λ (x : World). x.current ≡ looks x) (sym c.containers_after.ensures.world) c.requires.current)
-    (inl (ap (λ (x : World). x.point) c.containers_after.ensures.world)) c.rest_begins.ensures
+    (subst (λ (x : World). x.current ≡ looks x) (sym c.containers_after.ensures.state.world) c.requires.current)
+    (inl (ap (λ (x : World). x.point) c.containers_after.ensures.state.world)) c.rest_begins.ensures

@@ -18,8 +18,8 @@ further-requires c =
     let proceeds : c.flow_inside-to.result ≢ Error → Proceeds (n.Document document.FlowInside) w
     c.flow_inside-to.result u =
     λ fine. leaves-once (n.Document document.FlowInside) w c.flow_inside-to.result u (inside-leaves w)
-    (c.flow_inside-to.ensures.to fine)
-    (c.flow_inside-to.ensures.world fine) fine c.requires.current (within-world c.args.tokenizer.now) in
+    (c.flow_inside-to.ensures.state.to fine)
+    (c.flow_inside-to.ensures.state.world fine) fine c.requires.current (within-world c.args.tokenizer.now) in
     record {
       current =
           still-seen (n.Document document.FlowInside) (n.RawFlow its.AtNonLazyBreak) w u c.flow_inside-to.result
@@ -34,8 +34,8 @@ returns-then-is_further c =
     let proceeds : c.flow_inside-to.result ≢ Error → Proceeds (n.Document document.FlowInside) w
     c.flow_inside-to.result u =
     λ fine. leaves-once (n.Document document.FlowInside) w c.flow_inside-to.result u (inside-leaves w)
-    (c.flow_inside-to.ensures.to fine)
-    (c.flow_inside-to.ensures.world fine) fine c.requires.current (within-world c.args.tokenizer.now) in
+    (c.flow_inside-to.ensures.state.to fine)
+    (c.flow_inside-to.ensures.state.world fine) fine c.requires.current (within-world c.args.tokenizer.now) in
     run-through (n.Document document.FlowInside) (n.RawFlow its.AtNonLazyBreak) w u c.flow_inside-to.result
     c.further.result c.further.new.tokenizer c.requires.current (c.is_further.ensures c.if-is_further.true) proceeds
     c.further.ensures
@@ -47,12 +47,12 @@ returns c =
     let proceeds : c.flow_inside-to.result ≢ Error → Proceeds (n.Document document.FlowInside) w
     c.flow_inside-to.result u =
     λ fine. leaves-once (n.Document document.FlowInside) w c.flow_inside-to.result u (inside-leaves w)
-    (c.flow_inside-to.ensures.to fine)
-    (c.flow_inside-to.ensures.world fine) fine c.requires.current (within-world c.args.tokenizer.now) in
+    (c.flow_inside-to.ensures.state.to fine)
+    (c.flow_inside-to.ensures.state.world fine) fine c.requires.current (within-world c.args.tokenizer.now) in
     record {
       runs = λ fine. (proceeds fine).0;
       sees = λ fine. (proceeds fine).1;
       full =
           state-wants (n.Document document.FlowInside) w c.flow_inside-to.result c.flow_inside-to.new.tokenizer
-          c.flow_inside-to.ensures.full;
+          c.flow_inside-to.ensures.state.full;
     }

@@ -1,0 +1,6 @@
+pub mod Calls
+pub mod Events
+pub mod Leaf
+pub mod Lines
+pub mod Prefix
+pub mod Role
