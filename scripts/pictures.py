@@ -22,11 +22,10 @@ GROUPS = (
     ("The library", r"markdown_blocks", "parse, outline, wrap: what users name"),
     ("The machine", r"md_flow|md_at_once", "lines, read call by call and at once"),
     ("Proofs of the exact list", r"proof_rows|proof_exact.*|proof_parts", "no code: the events of flow are the list of md_exact"),
-    ("The registry", r"md_registry", "which constructs there are, and in which order"),
-    ("Laws of constructs", r"proof_frame|proof_.*_laws", "no code: each construct seen by bytes, by cells and by lines"),
-    ("After flow", r"md_order|md_resolve|md_outline|md_wrap", "resolvers, the outline, texts written into containers"),
-    ("Constructs", r"md_leaves|md_code|md_html|md_tables|md_link_definitions|md_content|md_containers",
-     "the states of each construct, with their rules"),
+    ("Laws of constructs", r"proof_frame|proof_.*_laws|md_registry",
+     "each construct seen by bytes, by cells and by lines; which there are, and in which order"),
+    ("Constructs", r"md_leaves|md_code|md_html|md_tables|md_link_definitions|md_content|md_containers|"
+     r"md_order|md_resolve|md_outline|md_wrap", "states and their rules; resolvers, the outline, texts written into containers"),
     ("Inline layers", r"md_inline_events|proof_inlines", "what a layer finds in a text part, as events that keep the promise"),
     ("Beliefs and the tokenizer", r"md_engine|md_meaning|md_events|md_exact|md_scan",
      "what a text means, what events are, and what calls states"),
@@ -171,7 +170,7 @@ def grouped(crates):
 
 def draw_crates():
     """A box for each group, with its crates, and a line to the group below."""
-    picture = Picture("The crates in ten groups, each above those that it depends on")
+    picture = Picture("The crates in nine groups, each above those that it depends on")
     width, size, top = 900, 12, 12
     groups = grouped(read_crates())
     for (title, _, what), names in zip(GROUPS, groups):

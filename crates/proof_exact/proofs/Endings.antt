@@ -34,7 +34,7 @@ use Rattle.proof_rows.proofs.RowLeaf.{row-as}
 use Rattle.proof_rows.proofs.Text.Parted.{text-nonblank}
 use Rattle.proof_rows.proofs.ContainedLemmas.{lines-open}
 use Rattle.proof_exact.proofs.GroupsMatch.{code-held}
-use Rattle.proof_exact.proofs.KindRoles.{further_role, leaf_role}
+use Rattle.proof_rows.proofs.KindRoles.{further_role, leaf_role}
 use Rattle.proof_exact.proofs.RowRoles.{IsCode, following_code, code-further, code-is, further_rows, is_headed}
 use Rattle.proof_exact.proofs.RowRoles.{row_role, row_role_by}
 

@@ -36,7 +36,7 @@ use Rattle.proof_rows.specs.Valid.{IsPlain, containers_of, still_of}
 use Rattle.proof_exact_lines.specs.Unlisted.{plain_ends, without_lists}
 use Rattle.proof_exact_lines.proofs.RowEvents.{ends-plain}
 use Rattle.proof_exact.proofs.ExactRoles.{AreMet, contained-by, contained_at, none-new}
-use Rattle.proof_exact.proofs.KindRoles.{further_role, kind_role, lazy-role, lazy_role}
+use Rattle.proof_rows.proofs.KindRoles.{further_role, kind_role, lazy-role, lazy_role}
 use Rattle.proof_exact.proofs.Opened.{all-same, containers-same, held_in}
 use Rattle.proof_exact.proofs.RowsMet.{KnowsStep}
 use Rattle.proof_rows.proofs.ContainedLemmas.{none-nil}

@@ -22,7 +22,7 @@ use Rattle.proof_rows.specs.Valid.{IsPlain, containers_of, still_of}
 use Rattle.proof_rows.proofs.ContainedLemmas.{contained-still}
 use Rattle.proof_rows.proofs.RowFacts.{IsRow}
 use Rattle.proof_exact.proofs.Opened.{all-same, taken_prefixes-same, held_in, new-same, prefixed}
-use Rattle.proof_exact.proofs.KindRoles.{kind_role, line-role}
+use Rattle.proof_rows.proofs.KindRoles.{kind_role, line-role}
 use Rattle.proof_exact.proofs.RowRoles.{IsNext, MeetsLeaf, next-line, next-none, role-before, row_role}
 
 -- what a line does where this is open

@@ -29,7 +29,7 @@ use Rattle.proof_exact_lines.proofs.FlowLines.{ReadAs, same-line}
 use Rattle.proof_exact_lines.proofs.Spans.{SameLine}
 use Rattle.proof_exact_lines.specs.Unlisted.{without_lists}
 use Rattle.proof_exact_lines.proofs.GroupEvents.{ending-none, without-append, without-none}
-use Rattle.proof_exact.proofs.KindRoles.{further_role}
+use Rattle.proof_rows.proofs.KindRoles.{further_role}
 use Rattle.proof_exact.proofs.RowRoles.{following_code, in_code, is_headed, row_role_by}
 use Rattle.proof_exact.proofs.Fit.{Fit}
 use Rattle.proof_exact_lines.proofs.Tables.{IsTableLine, table-line}

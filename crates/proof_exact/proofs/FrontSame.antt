@@ -24,7 +24,7 @@ use Rattle.md_exact.specs.Places.{TextLine}
 use Rattle.md_exact.specs.Prefixes.{following_all, further_prefix, further_prefixes, taken_prefixes, opened}
 use Rattle.md_exact.proofs.OnLine.{LineIn, OnLine}
 use Rattle.proof_exact_lines.specs.Unlisted.{plain_begin, plain_begins}
-use Rattle.proof_exact.proofs.ContainersSame.{proceeds-same, opens-same}
+use Rattle.proof_rows.proofs.ContainersSame.{proceeds-same, opens-same}
 
 -- the containers of these
 abbrev pub held_in : List Taken → List Container

@@ -11,7 +11,7 @@ use Rattle.proof_frame.specs.HeldLeaf.{takes_lazy}
 use Rattle.proof_frame.specs.LeafName.{LeafName}
 use Rattle.proof_frame.specs.Row.{BlankRow, LeafRow, Row, RowKind, TextRow}
 use Rattle.md_registry.specs.Registry.{leaf}
-use Rattle.proof_exact.proofs.KindRoles.{further_role}
+use Rattle.proof_rows.proofs.KindRoles.{further_role}
 use Rattle.proof_exact.proofs.RowRoles.{following_code, in_code, is_headed, row_role, row_role_by}
 
 -- Those after a line that are put together with it, and the others.

@@ -12,10 +12,8 @@ pub mod Tails
 pub mod Remaining
 pub mod CutTexts
 pub mod WholeTexts
-pub mod ContainersSame
 pub mod FrontSame
 pub mod Opened
-pub mod KindRoles
 pub mod RowRoles
 pub mod SpanGroups
 pub mod TextRuns

@@ -22,7 +22,7 @@ use Rattle.proof_rows.specs.Rows.{is_further, is_text, line_following, takes_hea
 use Rattle.proof_rows.proofs.KindLemmas.{kind-starts}
 use Rattle.proof_rows.proofs.RowFacts.{IsRow}
 use Rattle.proof_rows.proofs.RowLeaf.{row-as}
-use Rattle.proof_exact.proofs.KindRoles.{further_role, kind_role, leaf_role}
+use Rattle.proof_rows.proofs.KindRoles.{further_role, kind_role, leaf_role}
 
 -- whether the first of these lines takes the line before it as its head
 abbrev pub is_headed : List Row → Bool

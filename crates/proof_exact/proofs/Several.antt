@@ -1,11 +1,9 @@
 -- Leaves of several lines: what the lines of HTML, of fenced code and math, and of indented code have in them, and what
 -- follows the last of them.
 use Rattle.std.proofs.Common.{◌≡◌, ◌⊎◌, inl, inr, ℕ, zero, suc, ◌≤◌, Bool, true, false, cond, List, [], ◌∷◌, ◌++◌}
-use Rattle.std.proofs.Common.{refl, sym, ap, ap₂, ◌∙◌, append_assoc, append-nil, arith, map, subst}
-use Rattle.std.specs.Prelude.{◌==◌, nat_le, not, Option, Some, None}
-use Rattle.std.specs.Option.{is_some}
+use Rattle.std.proofs.Common.{refl, sym, ap, ap₂, ◌∙◌, append_assoc, append-nil, map, subst}
+use Rattle.std.specs.Prelude.{not, Option, Some, None}
 use Rattle.std.proofs.lemmas.Bool.{or_left, or_parts}
-use Rattle.std.proofs.lemmas.Bool.Decides.{nat_tests}
 use Rattle.md_engine.specs.declared.configuration.ParseOptions.{ParseOptions}
 use Rattle.md_engine.specs.declared.event.Event.{Event}
 use Rattle.md_engine.specs.declared.event.Name.{Name}
@@ -17,13 +15,11 @@ use Rattle.md_code.specs.Fence.{block_name, held_marker, is_open as is_fence}
 use Rattle.md_html.specs.Html.{is_html}
 use Rattle.md_leaves.specs.Spanned.{renamed}
 use Rattle.md_leaves.specs.declared.spans.Place.TheVariants.{Outside}
-use Rattle.md_meaning.specs.Ascii.{dollar}
 use Rattle.md_meaning.specs.Bytes.{is_end}
 use Rattle.md_meaning.specs.Html.{HtmlKind, html_ends}
-use Rattle.md_meaning.specs.Leaves.{Finished, Opened, closes, fence_at, least_size}
-use Rattle.md_meaning.specs.Rest.{Rest, cut_tab, is_blank, line_of, run_len, trim_start}
+use Rattle.md_meaning.specs.Leaves.{Finished, Opened, closes}
+use Rattle.md_meaning.specs.Rest.{Rest, cut_tab, is_blank, line_of}
 use Rattle.md_meaning.specs.State.{Container, OpenHtml, Opening}
-use Rattle.md_meaning.specs.Texts.{first_byte}
 use Rattle.md_meaning.specs.Tree.{Html, Line}
 use Rattle.md_events.specs.Events.Spelled.{role}
 use Rattle.md_exact.specs.Blocks.{events_by, leaf_events, tail}
@@ -39,7 +35,6 @@ use Rattle.proof_literal_laws.specs.Leaf.Fence.{held_of, opening_at}
 use Rattle.proof_literal_laws.specs.Leaf.FenceFurther.{further_line, opening_of}
 use Rattle.proof_literal_laws.specs.Leaf.HtmlFlow.{begins_as, kind_begun}
 use Rattle.proof_literal_laws.proofs.CodeIndented.Rows.{in-framed, row-in}
-use Rattle.proof_literal_laws.proofs.Fence.Opened.{fence-starts}
 use Rattle.proof_literal_laws.proofs.FenceFurther.Joined.{block-lines}
 use Rattle.md_registry.specs.Registry.{asked_first, leaf}
 use Rattle.proof_rows.specs.Rows.{tail_events}
@@ -191,20 +186,6 @@ html-group options bytes x r xs rs fit kind pairs proceeds are =
 fence-framed : (options : ParseOptions) (on : HeldLeaf) (line : List ℕ) (p : Point) →
     is_framed ((leaf FenceFurther).added options on line p) ≡ true
 fence-framed options on line p = or_left _ _ (block-lines (held_marker on))
-
--- an opening fence has a marker
-pub some-least : (m size : ℕ) → nat_le (least_size m) size ≡ true → 1 ≤ size
-some-least m size h = go (m == dollar) h
-  where
-    go : (x : Bool) → nat_le (cond x 2 3) size ≡ true → 1 ≤ size
-    go true h = grind (arith, nat_tests)
-    go false h = grind (arith, nat_tests)
-
-pub opening-some : (options : ParseOptions) (r : Rest) → is_some (fence_at options r) ≡ true →
-    1 ≤ run_len (first_byte (trim_start r.bytes)) (trim_start r.bytes)
-opening-some options r h =
-    let text : List ℕ = trim_start r.bytes in
-    some-least (first_byte text) (run_len (first_byte text) text) (fence-starts options r h).fence.size
 
 -- what is open after a line of a block that this fence has opened: that block, or none
 abbrev Left : Opening → HeldLeaf → Type 0

@@ -7,6 +7,7 @@ pub mod AloneGroups
 pub mod Begun
 pub mod BetweenRows
 pub mod ContainedLemmas
+pub mod ContainersSame
 pub mod ContentCut
 pub mod Defined
 pub mod EachRow
@@ -35,6 +36,7 @@ pub mod HeldRows
 pub mod JoinedLeaves
 pub mod JoinedLemmas
 pub mod KindLemmas
+pub mod KindRoles
 pub mod Labels
 pub mod NestGroups
 pub mod NestedRows

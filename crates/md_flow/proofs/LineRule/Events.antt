@@ -26,8 +26,8 @@ use Rattle.md_meaning.specs.Texts.{first_byte}
 use Rattle.md_registry.specs.OpenSpan.{IsBuiltLeaf, IsOpenSpan}
 use Rattle.md_registry.specs.Registry.{leaf as value}
 use Rattle.md_registry.proofs.Registry.{laws}
-use Rattle.proof_exact.proofs.KindRoles.{leaf_role}
-use Rattle.proof_exact.proofs.Several.{opening-some, some-least}
+use Rattle.proof_rows.proofs.KindRoles.{leaf_role}
+use Rattle.proof_literal_laws.proofs.Fence.Opened.{opening-some, some-least}
 use Rattle.proof_exact_lines.proofs.BeginsAt.{BeginsAt, begins-place, rest_bytes}
 use Rattle.proof_exact_lines.proofs.LeafLines.{break-one, code-first, code-further, end_at, ends-at, fence-first}
 use Rattle.proof_exact_lines.proofs.LeafLines.{fence-further, heading-one, html-first, html-further, leaf-one}

@@ -27,7 +27,7 @@ use Rattle.md_registry.specs.OpenSpan.{IsBuiltLeaf}
 use Rattle.md_registry.specs.Registry.{construct_transition, leaf}
 use Rattle.md_registry.specs.States.{flow_behaves_by, flow_table_scheme}
 use Rattle.md_engine.proofs.StepOf.{steps-as}
-use Rattle.proof_exact.proofs.KindRoles.{leaf_role}
+use Rattle.proof_rows.proofs.KindRoles.{leaf_role}
 use Rattle.proof_exact_lines.proofs.BeginsAt.{BeginsAt}
 use Rattle.proof_exact_lines.proofs.LeafLines.{ends-at}
 use Rattle.proof_exact_lines.proofs.OnLine.{on-begins}

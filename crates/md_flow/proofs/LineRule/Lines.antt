@@ -35,7 +35,7 @@ use Rattle.md_registry.specs.LineFlags.{begun_line}
 use Rattle.md_registry.specs.OpenSpan.{IsBuiltLeaf}
 use Rattle.md_registry.specs.Registry.{asked_first}
 use Rattle.md_registry.specs.States.{flow_behaves_by}
-use Rattle.proof_exact.proofs.KindRoles.{kind_role, line-role}
+use Rattle.proof_rows.proofs.KindRoles.{kind_role, line-role}
 use Rattle.proof_exact_lines.proofs.BeginsAt.{begins-place}
 use Rattle.proof_exact_lines.proofs.LeafLines.{blank-one}
 use Rattle.proof_frame.specs.HeldLeaf.{met_by, takes_lazy}

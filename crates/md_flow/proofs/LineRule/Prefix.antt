@@ -37,8 +37,8 @@ use Rattle.md_registry.specs.States.{flow_behaves_by, flow_table_scheme}
 use Rattle.proof_container_laws.specs.Containers.BlockQuote.{quote_new}
 use Rattle.proof_container_laws.specs.Containers.GfmFootnoteDefinition.{footnote_passed, footnote_passes}
 use Rattle.proof_container_laws.specs.Containers.ListItem.{item_passed, item_passes}
-use Rattle.proof_exact.proofs.ContainersSame.{HasEvents, Opens, footnote-begins, item-begins, proceeds-same}
-use Rattle.proof_exact.proofs.ContainersSame.{quote-opens}
+use Rattle.proof_rows.proofs.ContainersSame.{HasEvents, Opens, footnote-begins, item-begins, proceeds-same}
+use Rattle.proof_rows.proofs.ContainersSame.{quote-opens}
 use Rattle.proof_exact_lines.specs.Unlisted.{plain_begin}
 use Rattle.proof_frame.proofs.PassedFacts.{Agree, HasFurther, HasOpening, HasPassed}
 use Rattle.proof_frame.proofs.RegistryRead.{of-read}

@@ -20,7 +20,7 @@ use Rattle.md_meaning.specs.Tree.{Break, End}
 use Rattle.md_registry.specs.OpenSpan.{IsBuiltLeaf, IsOpenSpan}
 use Rattle.md_registry.specs.Registry.{leaf}
 use Rattle.md_registry.proofs.HeadingSetext.Found.{is_underlined, none-underlined, some-underlined, starts-by}
-use Rattle.proof_exact.proofs.KindRoles.{delimiter-starts, leaf_role, left-size}
+use Rattle.proof_rows.proofs.KindRoles.{delimiter-starts, leaf_role, left-size}
 use Rattle.proof_frame.specs.Context.{context_of}
 use Rattle.proof_frame.specs.HeldLeaf.{kind_of_leaf, met_by}
 use Rattle.proof_frame.specs.Leaf.Paragraph.{open_lines}

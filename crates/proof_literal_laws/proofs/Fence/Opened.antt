@@ -1,9 +1,11 @@
 -- What the line definition opens where a fence is on the rest of a line.
-use Rattle.std.proofs.Common.{◌≡◌, ℕ, Bool, true, false, cond, ◌&&◌, List, [], ◌∷◌, drop, Option, Some, None, refl}
-use Rattle.std.proofs.Common.{ap, ◌∙◌}
-use Rattle.std.specs.Prelude.{nat_le}
+use Rattle.std.proofs.Common.{◌≡◌, ℕ, ◌≤◌, Bool, true, false, cond, ◌&&◌, List, [], ◌∷◌, drop, Option, Some, None, refl}
+use Rattle.std.proofs.Common.{ap, ◌∙◌, arith}
+use Rattle.std.specs.Prelude.{nat_le, ◌==◌}
+use Rattle.std.proofs.lemmas.Bool.Decides.{nat_tests}
 use Rattle.std.specs.Option.{is_some}
 use Rattle.md_engine.specs.declared.configuration.ParseOptions.{ParseOptions}
+use Rattle.md_meaning.specs.Ascii.{dollar}
 use Rattle.md_meaning.specs.Leaves.{LeafResult, Opened, allows, fence_at, fence_from}
 use Rattle.md_meaning.specs.Leaves.{is_fence_marker, least_size, opening}
 use Rattle.md_meaning.specs.Rest.{Rest, has_small_indent, indent, run_len, trim_start}
@@ -62,3 +64,17 @@ fence-starts options r e = go (has_small_indent options r) refl e
         let is = from-starts options (indent r) (trim_start r.bytes) e in
         record { small = f; fence = is.0; opens = ap (λ (x : Bool). cond x from None) f ∙ is.1 }
     go false f e = absurd (cc)
+
+-- an opening fence has a marker
+pub some-least : (m size : ℕ) → nat_le (least_size m) size ≡ true → 1 ≤ size
+some-least m size h = go (m == dollar) h
+  where
+    go : (x : Bool) → nat_le (cond x 2 3) size ≡ true → 1 ≤ size
+    go true h = grind (arith, nat_tests)
+    go false h = grind (arith, nat_tests)
+
+pub opening-some : (options : ParseOptions) (r : Rest) → is_some (fence_at options r) ≡ true →
+    1 ≤ run_len (first_byte (trim_start r.bytes)) (trim_start r.bytes)
+opening-some options r h =
+    let text : List ℕ = trim_start r.bytes in
+    some-least (first_byte text) (run_len (first_byte text) text) (fence-starts options r h).fence.size
