@@ -9,7 +9,7 @@ import sys
 sys.setrecursionlimit(100000)
 
 TOKEN = re.compile(
-    r'(?P<white>\s+)|(?P<string>"[^"]*")|(?P<number>\d+)|(?P<name>[^\W\d]\w*)|(?P<sign>\+\+|==|&&|\|\||\[\]|↦|→|\S)'
+    r'(?P<white>\s+)|(?P<string>"(?:[^"\\]|\\.)*")|(?P<number>\d+)|(?P<name>[^\W\d]\w*)|(?P<sign>\+\+|==|&&|\|\||\[\]|↦|→|\S)'
 )
 # how strong an operator binds, and whether to the right
 OPERATORS = {"||": (1, 1), "&&": (2, 1), "==": (3, 0), "++": (4, 1), "∷": (4, 1), "+": (5, 0), "-": (5, 0), "%": (6, 0)}

@@ -12,9 +12,9 @@ import antt
 import counts
 
 CRATES = os.path.join(os.path.dirname(os.path.dirname(os.path.abspath(__file__))), "crates")
-# the constructs of the two settings that the texts have
-CONSTRUCTS = """block_quote code_fenced code_indented definition frontmatter gfm_footnote_definition gfm_table heading_atx
-heading_setext html_flow list_item math_flow thematic_break""".split()
+# the constructs of the two settings that the texts have, but alerts
+FIELDS = open(os.path.join(CRATES, "md_engine/src/configuration.rt"), encoding="utf8").read()
+CONSTRUCTS = re.findall(r"^    pub (?!mdx_|alerts)(\w+): bool,$", FIELDS, re.M)
 ROWS = "Leaf Text Container List Nested Meeting Alert".split()
 
 # what it does, its file, what is there, and what is put in its place

@@ -1,27 +1,32 @@
 """The functions through which every parse goes that meets what they are named for: the first state of each construct, the
 states before leaves, and `pass`. scripts/wrong_bodies.sh gives each a wrong answer as its first statement, and a row has
 to change. `docs/DIFFERENCES.md` has the states through which no parse goes."""
+import glob
+import os
 import re
 from collections import namedtuple
 
 State = namedtuple("State", "file function answer")
 
-CONSTRUCTS = {
-    "md_leaves": "blank_line heading_atx heading_setext partial_bom thematic_break",
-    "md_code": "code_indented raw_flow",
-    "md_html": "html_flow",
-    "md_link_definitions": "definition destination label space_or_tab_eol title",
-    "md_tables": "gfm_table",
-    "md_content": "paragraph",
-    "md_containers": "block_quote frontmatter gfm_footnote_definition list_item",
-    "md_events": "space_or_tab",
-    "md_flow": "document flow",
-}
-LEAVES = "code_indented raw html heading_atx heading_setext thematic_break gfm_table"
+CRATES = os.path.join(os.path.dirname(os.path.dirname(os.path.abspath(__file__))), "crates")
+# the states that are attempted, and those before leaves
+ATTEMPTED = re.compile(r"^pub fn (start|before_(?!content)\w+)\(tokenizer: &mut Tokenizer\) -> State$", re.M)
+UNUSED = "md_leaves/src/partial_non_lazy_continuation.rt"
+
+
+def attempted():
+    """The first state of each module that has one, and each state of flow before a leaf."""
+    for path in sorted(glob.glob(os.path.join(CRATES, "md_*/src/*.rt"))):
+        file = os.path.relpath(path, CRATES)
+        with open(path, encoding="utf-8") as text:
+            functions = ATTEMPTED.findall(text.read())
+        for function in functions if file != UNUSED else ():
+            if function == "start" or file == "md_flow/src/flow.rt":
+                yield State(file, function, "State::Nok")
+
+
 FIRST = [
-    *(State(f"{crate}/src/{module}.rt", "start", "State::Nok")
-      for crate, modules in CONSTRUCTS.items() for module in modules.split()),
-    *(State("md_flow/src/flow.rt", f"before_{leaf}", "State::Nok") for leaf in LEAVES.split()),
+    *attempted(),
     State("md_content/src/content.rt", "chunk_start", "State::Nok"),
     State("md_resolve/src/pass.rt", "pass", "Ok(None)"),
 ]

@@ -9,7 +9,7 @@ use markdown_blocks::configuration::{Constructs, ParseOptions};
 use markdown_blocks::event::{Event, Kind, Name};
 use markdown_blocks::label::normal_form;
 use markdown_blocks::message::Message;
-use markdown_blocks::names::{is_block, is_container, is_prefix, is_text_part};
+use markdown_blocks::names::{bare_word, is_block, is_container, is_prefix, is_text_part, text_of};
 use markdown_blocks::outline::{outline, outline_part};
 use markdown_blocks::parser::{MAX_LEN, parse, parse_with};
 use markdown_blocks::plain::Plain;
@@ -157,6 +157,8 @@ fn report(alloc: Global) -> Result<String, Message> {
     let cell = Name::GfmTableCellText;
     writeln!(lines, "{} {}", is_container(cell), is_text_part(cell))?;
     writeln!(lines, "{}", is_prefix(Name::BlockQuoteMarker))?;
+    let word = bare_word(Name::ThematicBreak);
+    writeln!(lines, "{} {:?}", text_of(cell), word)?;
     writeln!(lines, "{}", Message)?;
     write!(
         lines,

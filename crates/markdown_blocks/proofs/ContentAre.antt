@@ -1,12 +1,15 @@
 -- What is in a text once its lines and its content are read: texts that are not read yet.
 use Rattle.md_engine.specs.declared.tokenizer.held_leaf.HeldLeaf.TheVariants as held_leaf
-use Rattle.std.proofs.Common.{◌≡◌, ◌^◌, ◌<◌, ℕ, List, [], inr, length, refl, sym, ◌∙◌, subst}
+use Rattle.std.proofs.Common.{◌≡◌, ◌^◌, ◌<◌, ℕ, List, [], inr, length, drop, refl, sym, ◌∙◌, subst, arith}
 use Rattle.md_engine.specs.declared.configuration.ParseOptions.{ParseOptions}
 use Rattle.md_engine.specs.declared.event.Event.{Event}
 use Rattle.md_engine.specs.declared.event.Point.{Point}
 use Rattle.md_engine.specs.Found.{Found}
-use Rattle.md_engine.specs.Place.{first_point}
+use Rattle.md_engine.specs.Place.{IsPlaced, first_point}
 use Rattle.md_engine.specs.World.{World}
+use Rattle.md_meaning.specs.Texts.{split_lines}
+use Rattle.md_events.proofs.PlacesLemmas.{Placed, placed-facts}
+use Rattle.md_events.proofs.ReachedLemmas.{point-placed}
 use Rattle.md_registry.specs.Resolving.{lines_joined}
 use Rattle.md_content.specs.ContentReads.{content_readings, wants_content}
 use Rattle.md_events.specs.Substituted.{Substituted}
@@ -21,7 +24,7 @@ use Rattle.proof_rows.proofs.GroupLemmas.{content-read}
 use Rattle.proof_rows.proofs.HeadJoined.{heads-joined}
 use Rattle.proof_rows.proofs.Begun.{begun}
 use Rattle.proof_leaf_laws.proofs.Frontmatter.Whole.{FrontPart}
-use Rattle.proof_rows.proofs.TextAre.{lines_of, rows_of, text-are}
+use Rattle.proof_rows.proofs.TextAre.{MayBegin, from-are}
 use Rattle.proof_rows.proofs.AloneGroups.{leaves-alone}
 use Rattle.md_content.specs.Joined.{joined}
 use Rattle.proof_table_laws.specs.Headed.{heads_read}
@@ -39,74 +42,69 @@ pub part-of : (options : ParseOptions) (bytes : List ℕ) →
 part-of options bytes = (begun options bytes).fronted.part
 
 -- The events of a text, once flow and content were read, and heads of tables before content.
-pub content-are : (options : ParseOptions) (bytes : List ℕ) → IsWithoutMdx options → length bytes < 2 ^ 61 →
-    (content : List Event) →
+pub content-are : (options : ParseOptions) (bytes : List ℕ) (p : Point) → IsWithoutMdx options →
+    length bytes < 2 ^ 61 → MayBegin bytes p → (content : List Event) →
     Substituted wants_content (content_readings bytes options) [] 0
-    (joined (heads_read options bytes (rows_events (text_rows options bytes (body_point options bytes))))) content →
-    content ≡ unread_groups options bytes (groups (rows_of options bytes))
-content-are options bytes built small content read =
-    content-read options bytes [] held_leaf.None (body_point options bytes) (lines_of options bytes)
-    (rows_of options bytes)
-    (refl, refl) (text-are options bytes built small) (text-quiet options bytes (body_point options bytes))
+    (joined (heads_read options bytes (rows_events (text_rows options bytes p)))) content →
+    content ≡ unread_groups options bytes (groups (text_rows options bytes p))
+content-are options bytes p built small begins content read =
+    content-read options bytes [] held_leaf.None p (split_lines (drop p.index bytes)) (text_rows options bytes p)
+    (refl, refl) (from-are options bytes p built small begins) (text-quiet options bytes p)
     wants_content (content_readings bytes options) refl content-alone
     (content-reads options bytes) content
     (subst (λ (l : List Event). Substituted wants_content (content_readings bytes options) [] 0 l content)
-    (heads-joined options bytes [] held_leaf.None (body_point options bytes) (lines_of options bytes)
-    (rows_of options bytes)
-    (text-are options bytes built small) (text-quiet options bytes (body_point options bytes))) read)
+    (heads-joined options bytes [] held_leaf.None p (split_lines (drop p.index bytes)) (text_rows options bytes p)
+    (from-are options bytes p built small begins) (text-quiet options bytes p)) read)
 
 -- What is read of lines of text nests, heads of tables first.
-texts-nest : (options : ParseOptions) (bytes : List ℕ) → IsWithoutMdx options → length bytes < 2 ^ 61 →
-    TextsNest bytes options (rows_events (rows_of options bytes))
-texts-nest options bytes built small = λ out read.
-    subst (IsGiven (rows_events (rows_of options bytes))) (sym (content-are options bytes built small out read))
-    (texts-given options bytes (body_point options bytes) (lines_of options bytes) (rows_of options bytes)
-    (text-are options bytes built small) (text-quiet options bytes (body_point options bytes)))
+texts-nest : (options : ParseOptions) (bytes : List ℕ) (p : Point) → IsWithoutMdx options → length bytes < 2 ^ 61 →
+    MayBegin bytes p → TextsNest bytes options (rows_events (text_rows options bytes p))
+texts-nest options bytes p built small begins = λ out read.
+    subst (IsGiven (rows_events (text_rows options bytes p)))
+    (sym (content-are options bytes p built small begins out read))
+    (texts-given options bytes p (split_lines (drop p.index bytes)) (text_rows options bytes p)
+    (from-are options bytes p built small begins) (text-quiet options bytes p))
 
-content-nests : (options : ParseOptions) (bytes : List ℕ) → IsWithoutMdx options → length bytes < 2 ^ 61 →
-    ContentNests bytes options (heads_read options bytes (rows_events (rows_of options bytes)))
-content-nests options bytes built small = λ out read.
-    subst (IsGiven (heads_read options bytes (rows_events (rows_of options bytes))))
-    (sym (content-are options bytes built small out read))
-    (lines-given options bytes (body_point options bytes) (lines_of options bytes) (rows_of options bytes)
-    (text-are options bytes built small) (text-quiet options bytes (body_point options bytes)))
+content-nests : (options : ParseOptions) (bytes : List ℕ) (p : Point) → IsWithoutMdx options → length bytes < 2 ^ 61 →
+    MayBegin bytes p → ContentNests bytes options (heads_read options bytes (rows_events (text_rows options bytes p)))
+content-nests options bytes p built small begins = λ out read.
+    subst (IsGiven (heads_read options bytes (rows_events (text_rows options bytes p))))
+    (sym (content-are options bytes p built small begins out read))
+    (lines-given options bytes p (split_lines (drop p.index bytes)) (text_rows options bytes p)
+    (from-are options bytes p built small begins) (text-quiet options bytes p))
 
 -- Once the lines of each leaf of several are joined, leaf blocks hold no block: so the resolvers may run in one pass.
-joined-alone : (options : ParseOptions) (bytes : List ℕ) → IsWithoutMdx options → length bytes < 2 ^ 61 →
-    (found : Found) (new : World) → FlowFlushed bytes options (body_point options bytes) found new →
-    HoldNoBlock Nothing (lines_joined options new.events)
-joined-alone options bytes built small found new flow =
+joined-alone : (options : ParseOptions) (bytes : List ℕ) (p : Point) → IsWithoutMdx options →
+    length bytes < 2 ^ 61 → MayBegin bytes p → (found : Found) (new : World) →
+    FlowFlushed bytes options p found new → HoldNoBlock Nothing (lines_joined options new.events)
+joined-alone options bytes p built small begins found new flow =
     subst (λ (l : List Event). HoldNoBlock Nothing (lines_joined options l))
-    (sym (flow.events_are ∙ content-are options bytes built small flow.content flow.content_read))
-    (leaves-alone options bytes [] held_leaf.None (body_point options bytes) (lines_of options bytes)
-    (rows_of options bytes) (refl, refl) (text-are options bytes built small)
-    (text-quiet options bytes (body_point options bytes)))
+    (sym (flow.events_are ∙ content-are options bytes p built small begins flow.content flow.content_read))
+    (leaves-alone options bytes [] held_leaf.None p (split_lines (drop p.index bytes)) (text_rows options bytes p)
+    (refl, refl) (from-are options bytes p built small begins) (text-quiet options bytes p))
 
 -- And each resolver gets what fits it.
-joined-nests : (options : ParseOptions) (bytes : List ℕ) → IsWithoutMdx options → length bytes < 2 ^ 61 →
-    (found : Found) (new : World) → FlowFlushed bytes options (body_point options bytes) found new →
-    MayNest every bytes (lines_joined options new.events)
-joined-nests options bytes built small found new flow =
+joined-nests : (options : ParseOptions) (bytes : List ℕ) (p : Point) → IsWithoutMdx options →
+    length bytes < 2 ^ 61 → MayBegin bytes p → (found : Found) (new : World) →
+    FlowFlushed bytes options p found new → MayNest every bytes (lines_joined options new.events)
+joined-nests options bytes p built small begins found new flow =
     subst (λ (l : List Event). MayNest every bytes (lines_joined options l))
-    (sym (flow.events_are ∙ content-are options bytes built small flow.content flow.content_read))
-    (leaves-nest options bytes (body_point options bytes) (lines_of options bytes) (rows_of options bytes)
-    (text-are options bytes built small) (text-quiet options bytes (body_point options bytes)))
+    (sym (flow.events_are ∙ content-are options bytes p built small begins flow.content flow.content_read))
+    (leaves-nest options bytes p (split_lines (drop p.index bytes)) (text_rows options bytes p)
+    (from-are options bytes p built small begins) (text-quiet options bytes p))
 
--- So it is from a point that is the begin of the body.
 pub joined-set : (options : ParseOptions) (bytes : List ℕ) (p : Point) → IsWithoutMdx options →
-    length bytes < 2 ^ 61 → (found : Found) (new : World) → p ≡ body_point options bytes →
-    FlowFlushed bytes options p found new → MaySet bytes options p new.events
-joined-set options bytes p built small found new begins flow =
-    let body = subst (λ (q : Point). FlowFlushed bytes options q found new) begins flow in
-    record {
-      texts_nest =
-          subst (λ (q : Point). TextsNest bytes options (rows_events (text_rows options bytes q))) (sym begins)
-          (texts-nest options bytes built small);
-      content_nests =
-          subst
-          (λ (q : Point).
-          ContentNests bytes options (heads_read options bytes (rows_events (text_rows options bytes q)))) (sym begins)
-          (content-nests options bytes built small);
-      may_pass = inr (joined-alone options bytes built small found new body);
-      may_nest = joined-nests options bytes built small found new body;
-    }
+    length bytes < 2 ^ 61 → (found : Found) (new : World) → MayBegin bytes p → FlowFlushed bytes options p found new →
+    MaySet bytes options p new.events
+joined-set options bytes p built small found new begins flow = record {
+  texts_nest = texts-nest options bytes p built small begins;
+  content_nests = content-nests options bytes p built small begins;
+  may_pass = inr (joined-alone options bytes p built small begins found new flow);
+  may_nest = joined-nests options bytes p built small begins found new flow;
+}
+
+-- Flow may begin at a point of the text where no tab is cut.
+pub placed-begins : (bytes : List ℕ) (p : Point) → IsPlaced bytes p → p.vs ≡ 0 → MayBegin bytes p
+placed-begins bytes p placed whole =
+    let facts : Placed bytes p = placed-facts bytes p (point-placed bytes p placed) in
+    record { index = placed.index; vs = whole; column = let is = facts.column in omega (arith, is) }

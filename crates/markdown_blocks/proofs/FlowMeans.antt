@@ -30,7 +30,7 @@ use Rattle.md_registry.specs.LineFlags as flags
 use Rattle.md_registry.specs.States.{FlowStep, flow_behaves, flow_behaves_by, flow_table_scheme, flow_transition}
 use Rattle.md_registry.proofs.FlowLemmas.{flow_by_line}
 use Rattle.md_registry.proofs.States.{flow_terminates}
-use Rattle.md_registry.proofs.ConstructStates.{construct-steps}
+use Rattle.md_registry.proofs.Registry.{construct-steps}
 use Rattle.md_flow.proofs.LineRule.Lines.{flow_has}
 
 -- where the table is at a state, the state has what it needs

@@ -19,7 +19,7 @@ use Rattle.proof_rows.proofs.GroupLines.{AreLines, kept-of, line-of}
 use Rattle.proof_rows.proofs.LineSteps.{becomes_by, renewed-spot, with_result, contained_at, continues_further}
 use Rattle.proof_rows.proofs.LineSteps.{continues_lazy, longer, path_by, renewed, spot_by, step-contained}
 use Rattle.md_registry.proofs.OpenSpan.{TurnsText}
-use Rattle.md_registry.proofs.LeafStarts.{text-turns}
+use Rattle.md_registry.proofs.Dispatch.{text-turns}
 use Rattle.proof_rows.proofs.RowLeaf.{EndsOnLine, block_of, row-facts}
 use Rattle.proof_frame.proofs.SpanLaws.{IsLineOf}
 use Rattle.proof_rows.proofs.StepAfter.{IsContinued, further-unlazy, proceeds-on, lazy-text}

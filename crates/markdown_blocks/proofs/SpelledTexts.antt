@@ -21,7 +21,7 @@ use Rattle.proof_table_laws.specs.Leaf.GfmTable.{table_leaf}
 use Rattle.proof_frame.specs.Leaf.Paragraph.{held_of}
 use Rattle.proof_rows.proofs.GroupLines.{kept-of}
 use Rattle.proof_rows.proofs.LineSteps.{with_result, longer}
-use Rattle.md_registry.proofs.LeafStarts.{text-turns}
+use Rattle.md_registry.proofs.Dispatch.{text-turns}
 use Rattle.proof_rows.proofs.RowLeaf.{row-as}
 use Rattle.proof_frame.proofs.SpanLaws.{AreAfter, IsLineOf, becomes_after}
 use Rattle.proof_frame.specs.LeafName.{GfmTable, LeafName}

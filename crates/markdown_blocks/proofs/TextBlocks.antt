@@ -1,7 +1,7 @@
 -- What is in a text before its text parts are read, where the constructs of MDX are off: its block list, which tiles it
 -- and spells its tree, and its labels. No inline layer changes that.
 use Rattle.md_engine.specs.declared.tokenizer.held_leaf.HeldLeaf.TheVariants as held_leaf
-use Rattle.std.proofs.Common.{◌≡◌, ◌^◌, ◌<◌, ℕ, Bool, true, List, [], ◌++◌, length, refl, ap}
+use Rattle.std.proofs.Common.{◌≡◌, ◌^◌, ◌<◌, ℕ, Bool, true, List, [], ◌++◌, drop, length, refl, ap}
 use Rattle.std.proofs.Common.{sym, ◌∙◌, subst, cond, false}
 use Rattle.std.specs.Prelude.{IsTrue}
 use Rattle.std.specs.Str.{IsUtf8}
@@ -26,6 +26,7 @@ use Rattle.md_meaning.specs.Label.{labels}
 use Rattle.md_leaves.specs.Turned.{turned}
 use Rattle.md_events.specs.Events.Inline.{Covers, pieces, together}
 use Rattle.md_meaning.specs.Meaning.{tree, with_frontmatter}
+use Rattle.md_meaning.specs.Texts.{split_lines}
 use Rattle.md_events.specs.Events.Nested.{Nested}
 use Rattle.md_events.specs.Events.Places.{are_placed}
 use Rattle.md_events.specs.Events.Spelled.{spelled}
@@ -40,6 +41,7 @@ use Rattle.proof_rows.specs.BlockList.{block_list, tabled_groups}
 use Rattle.proof_leaf_laws.specs.Front.{body_point, front_events}
 use Rattle.markdown_blocks.specs.FlowReads.{FlowReads}
 use Rattle.proof_container_laws.specs.Footnotes.{footnotes_listed}
+use Rattle.proof_rows.specs.TextRows.{text_rows}
 use Rattle.proof_rows.specs.WithoutMdx.{IsWithoutMdx}
 use Rattle.proof_frame.specs.Row.{Row}
 use Rattle.proof_rows.specs.Rows.{groups, groups_events}
@@ -72,7 +74,7 @@ use Rattle.proof_rows.proofs.PlainEvents.{groups-unlisted}
 use Rattle.proof_rows.proofs.RowFacts.{AreRows}
 use Rattle.proof_rows.proofs.AloneGroups.{leaves-alone}
 use Rattle.proof_rows.proofs.TabledGroups.{chain}
-use Rattle.proof_rows.proofs.TextAre.{lines_of, rows_of, text-are}
+use Rattle.proof_rows.proofs.TextAre.{MayBegin, body-begins, from-are, lines_of, rows_of, text-are}
 use Rattle.markdown_blocks.proofs.ContentAre.{content-are, part-of}
 use Rattle.markdown_blocks.proofs.FlowReads.{text-quiet}
 use Rattle.proof_rows.proofs.TileCovers.{blocks-cover}
@@ -83,59 +85,61 @@ use Rattle.markdown_blocks.proofs.TreeRows.{body-rows, body-shallow, body_of, tr
 use Rattle.proof_frame.proofs.LeafAllowed.{roles-unlisted}
 
 -- Then the lines of each leaf of several were joined, lists were put around items, and headings and tables were set.
-resolved-are : (options : ParseOptions) (bytes : List ℕ) → IsWithoutMdx options → length bytes < 2 ^ 61 →
-    (found : Found) (new : World) → (flow : FlowReads bytes options (body_point options bytes) found new) →
-    new.events ≡ listed bytes (tabled_groups options bytes (groups (rows_of options bytes)))
-resolved-are options bytes built small found new flow =
-    let lines : List (List ℕ) = lines_of options bytes in
-    let are = text-are options bytes built small in
-    let quiet : EachNoContent (rows_of options bytes) = text-quiet options bytes (body_point options bytes) in
+pub resolved-are : (options : ParseOptions) (bytes : List ℕ) (p : Point) → IsWithoutMdx options →
+    length bytes < 2 ^ 61 → MayBegin bytes p → (found : Found) (new : World) →
+    (flow : FlowReads bytes options p found new) →
+    new.events ≡ listed bytes (tabled_groups options bytes (groups (text_rows options bytes p)))
+resolved-are options bytes p built small begins found new flow =
+    let lines : List (List ℕ) = split_lines (drop p.index bytes) in
+    let rows : List Row = text_rows options bytes p in
+    let are : AreRows options bytes [] held_leaf.None p lines rows = from-are options bytes p built small begins in
+    let quiet : EachNoContent rows = text-quiet options bytes p in
     flow.events_are
     ∙ ap (λ (l : List Event). tabled (turned (headings_resolved (listed bytes (lines_joined options l)))))
-    (content-are options bytes built small flow.content flow.content_read)
-    ∙ lists-first bytes (lines_joined options (unread_groups options bytes (groups (rows_of options bytes))))
-    (leaves-alone options bytes [] held_leaf.None (body_point options bytes) lines
-    (rows_of options bytes) (refl, refl) are
-    quiet)
-    ∙ ap (listed bytes)
-    (chain options bytes [] held_leaf.None (body_point options bytes) lines (rows_of options bytes)
-    (refl, refl) are quiet)
+    (content-are options bytes p built small begins flow.content flow.content_read)
+    ∙ lists-first bytes (lines_joined options (unread_groups options bytes (groups rows)))
+    (leaves-alone options bytes [] held_leaf.None p lines rows (refl, refl) are quiet)
+    ∙ ap (listed bytes) (chain options bytes [] held_leaf.None p lines rows (refl, refl) are quiet)
 
--- The labels that content found are those of the tree.
+-- The labels that content found are those of what the lines become,
+pub labels-from : (options : ParseOptions) (bytes : List ℕ) (p : Point) → IsWithoutMdx options →
+    length bytes < 2 ^ 61 → MayBegin bytes p → (found : Found) (new : World) → FlowReads bytes options p found new →
+    found.definitions ≡ defined_in (body_of options bytes p)
+labels-from options bytes p built small begins found new flow =
+    let lines : List (List ℕ) = split_lines (drop p.index bytes) in
+    let rows : List Row = text_rows options bytes p in
+    let are : AreRows options bytes [] held_leaf.None p lines rows = from-are options bytes p built small begins in
+    flow.definitions
+    ∙ ap (labels_in bytes) (content-are options bytes p built small begins flow.content flow.content_read)
+    ∙ rows-labels options bytes (groups rows)
+    (groups-are options bytes [] held_leaf.None p lines rows (refl, refl) are (text-quiet options bytes p))
+    (rows-outer options bytes p lines rows built are)
+    ∙ ap defined_in (body-rows options built bytes p rows are)
+
+-- which are those of the tree.
 labels-are : (options : ParseOptions) (bytes : List ℕ) → IsWithoutMdx options → length bytes < 2 ^ 61 →
     (found : Found) (new : World) → FlowReads bytes options (body_point options bytes) found new →
     found.definitions ≡ (labels (tree options bytes)).definitions
 labels-are options bytes built small found new flow =
     let p : Point = body_point options bytes in
     let begins = begun options bytes in
-    let lines : List (List ℕ) = lines_of options bytes in
-    let rows : List Row = rows_of options bytes in
-    let part = part-of options bytes in
-    let are : AreRows options bytes [] held_leaf.None p lines rows = text-are options bytes built small in
-    flow.definitions
-    ∙ ap (labels_in bytes) (content-are options bytes built small flow.content flow.content_read)
-    ∙ rows-labels options bytes (groups rows)
-    (groups-are options bytes [] held_leaf.None p lines rows (refl, refl) are (text-quiet options bytes p))
-    (rows-outer options bytes p lines rows built are)
-    ∙ ap defined_in (body-rows options built bytes p rows are)
+    labels-from options bytes p built small (body-begins options bytes) found new flow
     ∙ sym (grouped-defined (body_of options bytes p))
     ∙ sym (fronts-defined begins.block (grouped (body_of options bytes p)) begins.kind)
     ∙ ap defined_in (sym (tree-body options bytes p (front_events options bytes) begins))
 
--- The labels of footnote definitions among the events are those of the tree too,
-footnotes-are : (options : ParseOptions) (bytes : List ℕ) → IsWithoutMdx options → length bytes < 2 ^ 61 →
-    (found : Found) (new : World) → FlowReads bytes options (body_point options bytes) found new →
-    footnote_labels_in bytes new.events ≡ (labels (tree options bytes)).footnotes
-footnotes-are options bytes built small found new flow =
-    let p : Point = body_point options bytes in
-    let begins = begun options bytes in
-    let lines : List (List ℕ) = lines_of options bytes in
-    let rows : List Row = rows_of options bytes in
-    let are : AreRows options bytes [] held_leaf.None p lines rows = text-are options bytes built small in
+-- The labels of footnote definitions among the events are those of what the lines become,
+pub footnotes-from : (options : ParseOptions) (bytes : List ℕ) (p : Point) → IsWithoutMdx options →
+    length bytes < 2 ^ 61 → MayBegin bytes p → (found : Found) (new : World) → FlowReads bytes options p found new →
+    footnote_labels_in bytes new.events ≡ noted_in (body_of options bytes p)
+footnotes-from options bytes p built small begins found new flow =
+    let lines : List (List ℕ) = split_lines (drop p.index bytes) in
+    let rows : List Row = text_rows options bytes p in
+    let are : AreRows options bytes [] held_leaf.None p lines rows = from-are options bytes p built small begins in
     let blocks : List Event = tabled_groups options bytes (groups rows) in
     let body : List Event = groups_events options bytes (groups rows) in
     let nests : Nests options bytes p (groups rows) = rows-nest options bytes p lines rows are in
-    ap (footnote_labels_in bytes) (resolved-are options bytes built small found new flow)
+    ap (footnote_labels_in bytes) (resolved-are options bytes p built small begins found new flow)
     ∙ listed-labels bytes bytes blocks
     ∙ sym
     (read-labels bytes blocks
@@ -146,6 +150,15 @@ footnotes-are options bytes built small found new flow =
     ∙ are_valid-labels bytes body (rows-are_valid options bytes p lines rows are) nests.balanced.matches
     (rows-parted options bytes p lines rows are) (rows-outer options bytes p lines rows built are)
     ∙ ap noted_in (body-rows options built bytes p rows are)
+
+-- which are those of the tree too,
+footnotes-are : (options : ParseOptions) (bytes : List ℕ) → IsWithoutMdx options → length bytes < 2 ^ 61 →
+    (found : Found) (new : World) → FlowReads bytes options (body_point options bytes) found new →
+    footnote_labels_in bytes new.events ≡ (labels (tree options bytes)).footnotes
+footnotes-are options bytes built small found new flow =
+    let p : Point = body_point options bytes in
+    let begins = begun options bytes in
+    footnotes-from options bytes p built small (body-begins options bytes) found new flow
     ∙ sym (grouped-noted (body_of options bytes p))
     ∙ sym (fronts-noted begins.block (grouped (body_of options bytes p)) begins.kind)
     ∙ ap noted_in (sym (tree-body options bytes p (front_events options bytes) begins))
@@ -245,7 +258,8 @@ pub blocks-read : (options : ParseOptions) (bytes : List ℕ) (start : Point) (f
 blocks-read options bytes start found new mark items built small starts marks flow are =
     let from : FlowReads bytes options (body_point options bytes) found new = subst
     (λ (p : Point). FlowReads bytes options p found new) starts flow in
-    ap (λ (l : List Event). mark ++ l) (are ∙ resolved-are options bytes built small found new from)
+    ap (λ (l : List Event). mark ++ l) (are
+    ∙ resolved-are options bytes (body_point options bytes) built small (body-begins options bytes) found new from)
     ∙ ap (λ (l : List Event). l ++ listed bytes (tabled_groups options bytes (groups (rows_of options bytes)))) marks
     ∙ front-listed options bytes built small
 

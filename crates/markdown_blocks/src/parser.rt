@@ -8,7 +8,6 @@ ghost use Rattle.md_engine.specs.World.{fresh, world};
 ghost use Rattle.md_content.specs.Joined.{is_content};
 ghost use Rattle.md_events.specs.TextPart.{IsTextPart, document_of, text_kind, wants_text};
 ghost use Rattle.md_registry.specs.Document.{ReadsFront};
-ghost use Rattle.proof_leaf_laws.specs.Front.{body_point};
 ghost use Rattle.md_registry.specs.Resolving.{lines_joined};
 ghost use Rattle.md_leaves.specs.Spanned.{passes_on};
 ghost use Rattle.md_leaves.specs.Turned.{HoldNoUnderline};
@@ -398,7 +397,7 @@ fn read_flow<'a>(
     requires small { IsSmall bytes.now }
     requires built { IsWithoutMdx options.now }
     requires placed { IsPlaced bytes.now start }
-    requires begins { start ≡ body_point options.now bytes.now }
+    requires whole { start.vs ≡ 0 }
     ensures { IfOk result (λ read. FlowReads bytes.now options.now start (found_in read.1) (world read.0)) }
 {
     let mut tokenizer = flow_tokenizer(alloc, bytes, options, start)?;

@@ -15,8 +15,9 @@ use md_engine::subtokenize::Subresult;
 use md_engine::table::Table;
 use md_engine::tokenizer::Tokenizer;
 use md_events::space_or_tab;
-use md_flow::{constructs, resolve};
+use md_flow::resolve;
 use md_leaves::blank_line;
+use md_registry::choices;
 
 /// The states of flow.
 pub struct FlowTable;
@@ -46,7 +47,7 @@ impl Table for FlowTable {
         match name {
             StateName::Content(state) => content::takes_at_once(state),
             StateName::SpaceOrTab(state) => space_or_tab::takes_at_once(state),
-            _ => constructs::takes_at_once(name),
+            _ => choices::takes_at_once(name),
         }
     }
 

@@ -11,7 +11,7 @@ use Rattle.md_meaning.specs.Grouped.{grouped, grouped_block}
 use Rattle.md_meaning.specs.State.{then_block}
 use Rattle.md_meaning.specs.Texts.{first_byte}
 use Rattle.md_meaning.specs.Tree.{Block, Blocks, End, Line}
-use Rattle.md_events.specs.Events.Spelled.{OpenContainer, AsDigits, AsFootnoteLabel, AsItemMarker, BreakLeaf}
+use Rattle.md_events.specs.Events.Spelled.{OpenContainer, AsDigits, AsFootnoteLabel, AsItemMarker, BareLeaf}
 use Rattle.md_events.specs.Events.Spelled.{ContainerRole, IsEnding, IsPrefix, IsQuiet, IsQuoteMarker, ItemShape}
 use Rattle.md_events.specs.Events.Spelled.{OpenLeaf, LeafRole, Purpose, Reading, Role, Shape, TextRole, Text, at_ending}
 use Rattle.md_events.specs.Events.Spelled.{begun, block_of, finished, named, next_line, on_leaf, on_shape, read_by}
@@ -313,11 +313,11 @@ leaf-begin bytes x p ls r ahead other next now held may known =
     leaf-part bytes Enter x p ls r ahead other next now held may tt known
 
 pub leaf-other : (leaf : OpenLeaf) → IsOther (block_of leaf)
-leaf-other BreakLeaf = tt
+leaf-other (BareLeaf word) = tt
 leaf-other _ = tt
 
 pub leaf-grouped : (leaf : OpenLeaf) → grouped_block (block_of leaf) ≡ block_of leaf
-leaf-grouped BreakLeaf = refl
+leaf-grouped (BareLeaf word) = refl
 leaf-grouped _ = refl
 
 -- a block is added that is neither a list nor an item, and holds none

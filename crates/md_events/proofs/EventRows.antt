@@ -4,6 +4,7 @@ use Rattle.std.specs.Prelude.{Some, None}
 use Rattle.md_engine.specs.declared.event.Event.{Event}
 use Rattle.md_engine.specs.declared.event.Name.TheVariants as n
 use Rattle.md_meaning.specs.Tree as t
+use Rattle.md_meaning.specs.declared.outline.Word.TheVariants.{Break}
 use Rattle.md_events.specs.Events.Spelled.{spelled}
 use Rattle.md_events.specs.Events.Nested.{pair, around}
 use Rattle.md_events.specs.Events.Grammar.{keeps_grammar}
@@ -87,7 +88,7 @@ break_events =
     ++ pair n.ThematicBreakSequence (at 1 3 2) (at 1 5 4))
 
 abbrev pub break_tree : t.Blocks
-break_tree = t.More (t.Break) t.End
+break_tree = t.More (t.Bare Break) t.End
 
 row-break : Row break_text break_events break_tree
 unfolding spelled keeps_grammar

@@ -1,20 +1,19 @@
 -- A construct that is off occurs nowhere in the tree of a text.
-use Rattle.std.proofs.Common.{◌≡◌, ℕ, zero, suc, Bool, true, false, cond, arith, ◌==◌, ◌&&◌, ◌||◌, List, [], ◌∷◌, ◌++◌}
+use Rattle.std.proofs.Common.{◌≡◌, ℕ, zero, suc, Bool, true, false, cond, arith, ◌==◌, ◌&&◌, List, [], ◌∷◌, ◌++◌}
 use Rattle.std.proofs.Common.{length, Option, Some, None, refl, ◌∙◌}
 use Rattle.std.proofs.lemmas.Bool.{and_from, and_parts, or_right}
 use Rattle.md_engine.specs.declared.configuration.ParseOptions.{ParseOptions}
 use Rattle.md_meaning.specs.declared.alert.AlertKind.{AlertKind}
 use Rattle.md_meaning.specs.Alert.{alert_at}
-use Rattle.md_meaning.specs.Containers.{taken_as, with_kind}
-use Rattle.md_meaning.specs.Containers.{Labelled, Marker, Taken, continues, footnote_by, footnote_continues, item_by}
-use Rattle.md_meaning.specs.Containers.{item_continues, opens, opens_footnote, opens_item, opens_quote, quote_taken}
+use Rattle.md_meaning.specs.Containers.{taken_as, with_kind, Labelled, Marker, Taken, continues, footnote_by}
+use Rattle.md_meaning.specs.Containers.{footnote_continues, item_by, item_continues, opens, opens_footnote, opens_item}
+use Rattle.md_meaning.specs.Containers.{opens_quote, quote_taken}
 use Rattle.md_meaning.specs.Definition.{Defined, cut_definitions}
 use Rattle.md_meaning.specs.Grouped.{grouped, grouped_block, with_front, with_item}
-use Rattle.md_meaning.specs.Html.{HtmlKind, html_ends}
-use Rattle.md_meaning.specs.Leaves.{ParagraphContext, LeafResult, Finished, NoText, Opened, Text, break_at, closes}
-use Rattle.md_meaning.specs.Leaves.{code_at, code_continued, fence_at, fence_from, fence_continued, is_continued}
-use Rattle.md_meaning.specs.Leaves.{heading_at, html_at, html_by, html_continued, html_line, is_fence_marker, starts}
-use Rattle.md_meaning.specs.Leaves.{table_at, table_by, table_continued, underline_depth, underlined, underlined_by}
+use Rattle.md_meaning.specs.Html.{HtmlKind}
+use Rattle.md_meaning.specs.Leaves.{LeafResult, Finished, NoText, Opened, Text, closes, code_continued, fence_continued}
+use Rattle.md_meaning.specs.Leaves.{is_continued, html_continued, starts, table_at, table_by, table_continued}
+use Rattle.md_meaning.specs.Leaves.{underline_depth, underlined, underlined_by}
 use Rattle.md_meaning.specs.Lines.{lines_of}
 use Rattle.md_meaning.specs.Meaning.{tree}
 use Rattle.md_events.specs.Events.On.{are_on, is_kind_on, is_on, is_setext_depth}
@@ -26,22 +25,17 @@ use Rattle.md_meaning.specs.State.{at_spot, closed, container_block, cut, fence_
 use Rattle.md_meaning.specs.State.{texts, then_block, then_definitions, then_leaf, then_paragraph}
 use Rattle.md_meaning.specs.Step.{all_continued, all_continued_by, became, leaf_line_by, on_or_fresh, row_or_text}
 use Rattle.md_meaning.specs.Step.{entered, fresh_by, fresh_line, is_concrete, is_open_text, stopped_by, leaf_line}
-use Rattle.md_meaning.specs.Step.{lazy_by, opened, spot_of, step, steps, stopped, text_by, text_line}
-use Rattle.md_meaning.specs.Step.{underline_or_text, with_lazy}
-use Rattle.md_meaning.specs.Tree.{Block, Blocks, Definition, End, Fence, Footnote, Heading, Html, Item, Line, ListOf}
-use Rattle.md_meaning.specs.Tree.{Math, More, Paragraph, Quote, Table}
+use Rattle.md_meaning.specs.Step.{lazy_by, opened, spot_of, step, steps, stopped, text_by, text_line, underline_or_text}
+use Rattle.md_meaning.specs.Step.{with_lazy}
+use Rattle.md_meaning.specs.Tree.{Block, Blocks, Definition, End, Footnote, Heading, Html, Item, Line, ListOf, More}
+use Rattle.md_meaning.specs.Tree.{Paragraph, Quote, Table}
 use Rattle.md_meaning.proofs.ColumnLemmas.{opened_by, step_by}
 use Rattle.md_meaning.proofs.FindsLemmas.{Finds, first-found, none-found, some-found, unless-found, when-found}
 use Rattle.md_meaning.proofs.TreeLemmas.{tree_by}
+use Rattle.md_events.proofs.LeafBecomes.{BecameOn, first_of_two, first_of_three, is_leaf_on, is_marker_on}
+use Rattle.md_events.proofs.LeafBecomes.{fence_block-on, html_line-on, starts-on}
 
 -- Blocks.
-
--- the first of two or three tests that pass
-first_of_two : (x y : Bool) → (x && y) ≡ true → x ≡ true
-first_of_two x y h = (and_parts x y h).0
-
-first_of_three : (x y z : Bool) → (x && y && z) ≡ true → x ≡ true
-first_of_three x y z h = first_of_two x y (first_of_two (x && y) z h)
 
 -- one more block
 then-on : (options : ParseOptions) (bs : Blocks) (b : Block) → are_on options bs ≡ true → is_on options b ≡ true →
@@ -84,30 +78,6 @@ shut_paragraph-on options bs lines h =
 
 -- Open leaves.
 
--- a marker of 36 fences math, and every other code
-abbrev is_marker_on : ParseOptions → ℕ → Bool
-is_marker_on options m = cond (m == 36) options.constructs.math_flow options.constructs.code_fenced
-
--- whether the construct of an open leaf is on
-abbrev is_leaf_on : ParseOptions → Leaf → Bool
-is_leaf_on options NoLeaf = true
-is_leaf_on options (OpenParagraph lines) = true
-is_leaf_on options (OpenCode lines) = options.constructs.code_indented
-is_leaf_on options (OpenFence o lines) = is_marker_on options o.marker
-is_leaf_on options (OpenHtml kind lines) = options.constructs.html_flow
-is_leaf_on options (OpenTable delimiter rows) = options.constructs.gfm_table
-
--- fenced code and math are on as their marker is
-fence_block-on : (options : ParseOptions) (o : Opening) (lines : List Line) (closed : Bool) →
-    is_on options (fence_block o lines closed) ≡ is_marker_on options o.marker
-fence_block-on options o lines closed = go (o.marker == 36)
-  where
-    go : (x : Bool) →
-        is_on options (cond x (Math o.meta lines closed) (Fence o.marker o.info o.meta lines closed)) ≡
-        cond x options.constructs.math_flow options.constructs.code_fenced
-    go true = refl
-    go false = refl
-
 -- what a leaf becomes when it is closed
 then_leaf-on : (options : ParseOptions) (bs : Blocks) (leaf : Leaf) → are_on options bs ≡ true →
     is_leaf_on options leaf ≡ true → are_on options (then_leaf options bs leaf) ≡ true
@@ -119,53 +89,11 @@ then_leaf-on options bs (OpenFence o lines) h k =
 then_leaf-on options bs (OpenHtml kind lines) h k = then-on options bs (Html lines) h k
 then_leaf-on options bs (OpenTable delimiter rows) h k = then-on options bs (Table delimiter rows) h k
 
--- what a leaf became with a line: on, open or finished
-abbrev BecameOn : ParseOptions → LeafResult → Type 0
-BecameOn options (Opened leaf) = is_leaf_on options leaf ≡ true
-BecameOn options (Finished block) = is_on options block ≡ true
-
--- a thematic break
-break-on : (options : ParseOptions) (r : Rest) → Finds (break_at options r) (BecameOn options)
-unfolding break_at
-break-on options r = λ c e. grind (arith)
-
--- an ATX heading
-heading-on : (options : ParseOptions) (r : Rest) → Finds (heading_at options r) (BecameOn options)
-unfolding heading_at
-heading-on options r = λ c e. grind (arith)
-
--- indented code
-code-on : (options : ParseOptions) (against : ParagraphContext) (r : Rest) →
-    Finds (code_at options against r) (BecameOn options)
-unfolding code_at
-code-on options against r = search (when-found, some-found, first_of_three)
-
 -- indented code that continues
 code_continues-on : (options : ParseOptions) (lines : List Line) (r : Rest) → options.constructs.code_indented ≡ true →
     Finds (code_continued lines r) (BecameOn options)
 unfolding code_continued
 code_continues-on options lines r on = search (when-found, some-found)
-
--- a marker that may fence
-marker-on : (options : ParseOptions) (m : ℕ) → is_fence_marker options m ≡ true → is_marker_on options m ≡ true
-marker-on options m h = go (m == 36) h
-  where
-    go : (x : Bool) →
-        cond x options.constructs.math_flow (options.constructs.code_fenced && ((m == 96) || (m == 126))) ≡ true →
-        cond x options.constructs.math_flow options.constructs.code_fenced ≡ true
-    go true h = h
-    go false h = (and_parts options.constructs.code_fenced ((m == 96) || (m == 126)) h).0
-
--- an opening fence
-fence_from-on : (options : ParseOptions) (columns : ℕ) (bytes : List ℕ) →
-    Finds (fence_from options columns bytes) (BecameOn options)
-fence_from-on options columns [] = none-found (BecameOn options)
-fence_from-on options columns (m ∷ bytes) = search (when-found, some-found, first_of_three, marker-on)
-
--- an opening fence after an indent
-fence-on : (options : ParseOptions) (r : Rest) → Finds (fence_at options r) (BecameOn options)
-unfolding fence_at
-fence-on options r = search (when-found, fence_from-on)
 
 -- fenced code or math that continues
 fence_continues-on : (options : ParseOptions) (o : Opening) (lines : List Line) (r : Rest) →
@@ -180,40 +108,11 @@ fence_continues-on options o lines r h = go (closes options o r)
     go true = fence_block-on options o lines true ∙ h
     go false = h
 
--- a line of HTML
-html_line-on : (options : ParseOptions) (kind : HtmlKind) (lines : List Line) (r : Rest) →
-    options.constructs.html_flow ≡ true → BecameOn options (html_line kind lines r)
-html_line-on options kind lines r h = go (html_ends kind r.bytes)
-  where
-    go : (x : Bool) →
-        BecameOn options
-        (cond x (Finished (Html (lines ++ line_of r ∷ []))) (Opened (OpenHtml kind (lines ++ line_of r ∷ []))))
-    go true = h
-    go false = h
-
--- HTML of a kind
-html_by-on : (options : ParseOptions) (against : ParagraphContext) (r : Rest) (kind : Option HtmlKind) →
-    options.constructs.html_flow ≡ true → Finds (html_by against r kind) (BecameOn options)
-html_by-on options against r None h = none-found (BecameOn options)
-html_by-on options against r (Some kind) h = search (when-found, some-found, html_line-on)
-
--- HTML
-html-on : (options : ParseOptions) (against : ParagraphContext) (r : Rest) →
-    Finds (html_at options against r) (BecameOn options)
-unfolding html_at
-html-on options against r = search (when-found, html_by-on, first_of_two)
-
 -- HTML that continues
 html_continues-on : (options : ParseOptions) (kind : HtmlKind) (lines : List Line) (r : Rest) →
     options.constructs.html_flow ≡ true → Finds (html_continued kind lines r) (BecameOn options)
 unfolding html_continued
 html_continues-on options kind lines r h = search (unless-found, some-found, html_line-on)
-
--- the first leaf that starts at a rest
-starts-on : (options : ParseOptions) (against : ParagraphContext) (r : Rest) →
-    Finds (starts options against r) (BecameOn options)
-unfolding starts
-starts-on options against r = search (first-found, code-on, fence-on, html-on, heading-on, break-on)
 
 -- a table that continues
 table_continues-on : (options : ParseOptions) (delimiter : List ℕ) (rows : List (List (List ℕ))) (r : Rest) →

@@ -1,8 +1,9 @@
 -- The events of a text: its byte order mark, its frontmatter, and the lines of its body, put together as leaves.
 use Rattle.std.specs.Prelude.{ℕ, ◌-◌, Bool, true, false, ◌||◌, if◌then◌else◌, List, [], ◌∷◌, ◌++◌, flat_map, length}
-use Rattle.std.specs.Prelude.{map, take, drop, Some, None}
+use Rattle.std.specs.Prelude.{map, take, drop, Option, Some, None}
 use Rattle.md_engine.specs.declared.configuration.ParseOptions.{ParseOptions}
 use Rattle.md_engine.specs.declared.event.Event.{Event}
+use Rattle.md_engine.specs.declared.event.Name.{Name}
 use Rattle.md_engine.specs.declared.event.Name.TheVariants as n
 use Rattle.md_meaning.specs.Bytes.{is_end}
 use Rattle.md_meaning.specs.Leaves.{LeafResult, Opened, Finished}
@@ -12,7 +13,8 @@ use Rattle.md_meaning.specs.Rest.{Rest}
 use Rattle.md_meaning.specs.State.{At, OpenCode, OpenFence, OpenHtml}
 use Rattle.md_meaning.specs.Step.{spot_of}
 use Rattle.md_meaning.specs.Texts.{first_byte}
-use Rattle.md_meaning.specs.Tree.{Break, End, Heading, Html}
+use Rattle.md_meaning.specs.Tree.{Bare, End, Heading, Html}
+use Rattle.md_events.specs.Events.Names.{bare_names}
 use Rattle.md_events.specs.Events.Nested.{pair}
 use Rattle.md_events.specs.Events.Places.{first_point}
 use Rattle.md_exact.specs.Leaves.{content_line, fence, heading_line, joined, leaf, runs_line, table}
@@ -81,9 +83,14 @@ abbrev pub grouped : List Row → List (List Row)
 grouped [] = []
 grouped (row ∷ rows) = onto row (grouped rows)
 
+-- a leaf of which nothing is known but its word, by its names: runs of markers, with whitespace between them
+abbrev pub bare_events : List Row → Option (Name × Name) → List Event
+bare_events rows (Some names) = leaf names.0 (runs_line names.1) rows
+bare_events rows None = []
+
 -- a leaf that is no text, by what the line definition has of its first line
 abbrev pub leaf_events : ParseOptions → LeafResult → List Row → List Event
-leaf_events options (Finished Break) rows = leaf n.ThematicBreak (runs_line n.ThematicBreakSequence) rows
+leaf_events options (Finished (Bare word)) rows = bare_events rows (bare_names word)
 leaf_events options (Finished (Heading depth lines)) rows = leaf n.HeadingAtx heading_line rows
 leaf_events options (Opened (OpenCode lines)) rows = leaf n.CodeIndented (content_line n.CodeFlowChunk 4) rows
 leaf_events options (Opened (OpenFence o lines)) rows = fence options o rows

@@ -11,7 +11,7 @@
 ghost use Rattle.std.specs.Prelude.{◌≡◌, ◌≢◌, List, false, true, ℕ};
 ghost use Rattle.md_engine.specs.declared.configuration.ParseOptions.{ParseOptions};
 ghost use Rattle.md_meaning.specs.Rest.{is_white};
-ghost use Rattle.md_registry.specs.Dispatch.{IsOutsideEnd, IsOutsideRow};
+ghost use Rattle.md_registry.specs.Registry.{IsOutsideEnd, IsOutsideRow};
 ghost use Rattle.md_engine.specs.Full.{IsFull, OnError};
 ghost use Rattle.md_engine.specs.World.{world};
 ghost use Rattle.md_engine.specs.declared.state.Name.{Name as StateName};

@@ -28,7 +28,8 @@ use Rattle.md_meaning.specs.Step.{all_continued, all_continued_by, fresh_by, fre
 use Rattle.md_meaning.specs.Step.{lazy_by, leaf_line_by, on_or_fresh, opened, row_or_text, spot_of, step, stopped}
 use Rattle.md_meaning.specs.Step.{stopped_by, text_by, text_line, underline_or_text, with_lazy}
 use Rattle.md_meaning.specs.Table.{delimiter_columns, row_cells}
-use Rattle.md_meaning.specs.Tree.{Blocks, Break, End, Heading, Line}
+use Rattle.md_meaning.specs.declared.outline.Word.TheVariants.{Break}
+use Rattle.md_meaning.specs.Tree.{Bare, Blocks, End, Heading, Line}
 
 -- no byte is a tab
 abbrev pub NoTab : List ℕ → Type 0
@@ -326,7 +327,7 @@ break_at-any options c d bytes h =
     ap
     (λ (k : ℕ).
     if options.constructs.thematic_break && is_small options k && is_rule (trim_start bytes)
-    then Some (Finished Break) else None)
+    then Some (Finished (Bare Break)) else None)
     (indent-any c d bytes h)
 
 heading_at-any : (options : ParseOptions) (c d : ℕ) (bytes : List ℕ) → NoTab bytes →

@@ -5,7 +5,8 @@ use Rattle.md_engine.specs.declared.configuration.TheConstants.ParseOptions as g
 use Rattle.md_meaning.specs.declared.alert.AlertKind.{AlertKind}
 use Rattle.md_meaning.specs.declared.alert.AlertKind.TheVariants as kind
 use Rattle.md_meaning.specs.Alert.{alert_at}
-use Rattle.md_meaning.specs.Tree.{Line, Block, Frontmatter, Quote, ListOf, Item, Footnote, Heading, Break, Code}
+use Rattle.md_meaning.specs.declared.outline.Word.TheVariants.{Break}
+use Rattle.md_meaning.specs.Tree.{Line, Block, Frontmatter, Quote, ListOf, Item, Footnote, Heading, Bare, Code}
 use Rattle.md_meaning.specs.Tree.{Html, Fence, Math, Definition, Paragraph, Table, Blocks, End, More}
 use Rattle.md_meaning.specs.Html.{is_raw_name, is_basic_name, begins_raw, begins_basic, after_value}
 use Rattle.md_meaning.specs.Html.{after_assignment, after_attribute, ends_opening, begins_complete, kind_after}
@@ -91,7 +92,8 @@ record Rows : Type 0 where
   lazy_in_two : tree plain (text_of (codes "> > a" ∷ codes "> b" ∷ [])) ≡
       blocks (quote (quote (paragraph_2 a b ∷ []) ∷ []) ∷ [])
   not_lazy : tree plain (text_of (codes "> # a" ∷ b ∷ [])) ≡ blocks (quote (Heading 1 (a ∷ []) ∷ []) ∷ paragraph b ∷ [])
-  lazy_break : tree plain (text_of (codes "> a" ∷ codes "***" ∷ [])) ≡ blocks (quote (paragraph a ∷ []) ∷ Break ∷ [])
+  lazy_break : tree plain (text_of (codes "> a" ∷ codes "***" ∷ [])) ≡
+      blocks (quote (paragraph a ∷ []) ∷ Bare Break ∷ [])
   blank_in_quote : tree plain (text_of (codes ">a" ∷ codes ">" ∷ codes ">b" ∷ [])) ≡
       blocks (quote (paragraph a ∷ paragraph b ∷ []) ∷ [])
   -- alerts
@@ -125,7 +127,7 @@ record Rows : Type 0 where
   number_two : tree plain (text_of (a ∷ codes "2. b" ∷ [])) ≡ blocks (paragraph_2 a (codes "2. b") ∷ [])
   number_after_quote : tree plain (text_of (codes "> a" ∷ codes "2. b" ∷ [])) ≡
       blocks (quote (paragraph a ∷ []) ∷ ListOf 46 (blocks (Item 46 (50 ∷ []) (blocks (paragraph b ∷ [])) ∷ [])) ∷ [])
-  break_no_item : tree plain (codes "* * *") ≡ blocks (Break ∷ [])
+  break_no_item : tree plain (codes "* * *") ≡ blocks (Bare Break ∷ [])
   -- tabs
   cut_tab : tree plain (codes ">" ++ tab ++ tab ++ a) ≡
       blocks (quote (Code (record { spaces = 2; text = a } ∷ []) ∷ []) ∷ [])
@@ -133,7 +135,7 @@ record Rows : Type 0 where
       blocks (bullets (bullet (paragraph a ∷ []) ∷ []) ∷ paragraph b ∷ [])
   mark_before_tab : tree plain (239 ∷ 187 ∷ 191 ∷ tab ++ a) ≡ blocks (paragraph a ∷ [])
   -- headings
-  underline : tree plain (text_of (a ∷ codes "=" ∷ codes "---" ∷ [])) ≡ blocks (Heading 1 (a ∷ []) ∷ Break ∷ [])
+  underline : tree plain (text_of (a ∷ codes "=" ∷ codes "---" ∷ [])) ≡ blocks (Heading 1 (a ∷ []) ∷ Bare Break ∷ [])
   hashes : tree plain (text_of (codes "# # #" ∷ codes "## a#" ∷ codes "### ###" ∷ [])) ≡
       blocks (Heading 1 (codes "#" ∷ []) ∷ Heading 2 (codes "a#" ∷ []) ∷ Heading 3 [] ∷ [])
   -- code
@@ -153,7 +155,7 @@ record Rows : Type 0 where
   -- frontmatter and footnotes
   frontmatter : tree extended (text_of (codes "---" ∷ codes "+++" ∷ codes "---" ∷ a ∷ [])) ≡
       blocks (Frontmatter 45 (codes "+++" ∷ []) ∷ paragraph a ∷ [])
-  no_frontmatter : tree extended (text_of (codes "---" ∷ a ∷ [])) ≡ blocks (Break ∷ paragraph a ∷ [])
+  no_frontmatter : tree extended (text_of (codes "---" ∷ a ∷ [])) ≡ blocks (Bare Break ∷ paragraph a ∷ [])
   footnote : tree extended (text_of (codes "[^a]: b" ∷ [] ∷ codes "    c" ∷ [])) ≡
       blocks (Footnote a (blocks (paragraph b ∷ paragraph c ∷ [])) ∷ [])
   -- HTML

@@ -4,7 +4,9 @@ use Rattle.std.specs.Prelude.{◌++◌, length, take, drop, reverse, count_by, O
 use Rattle.std.specs.List.{list_all, list_any, suffix_len, take_while}
 use Rattle.std.specs.Option.{option_or, is_some}
 use Rattle.md_engine.specs.declared.configuration.ParseOptions.{ParseOptions}
-use Rattle.md_meaning.specs.Tree.{Line, Block, Heading, Break, Html, Blocks}
+use Rattle.md_meaning.specs.declared.outline.Word.{Word}
+use Rattle.md_meaning.specs.declared.outline.Word.TheVariants.{Break}
+use Rattle.md_meaning.specs.Tree.{Line, Block, Bare, Heading, Html, Blocks}
 use Rattle.md_meaning.specs.Rest.{Rest, is_white, is_blank, is_parted, run_len, trim_start, trim_end, trim, indent}
 use Rattle.md_meaning.specs.Rest.{has_small_indent, is_small, lose, line_of}
 use Rattle.md_meaning.specs.Html.{HtmlKind, Basic, Complete, html_kind, html_ends}
@@ -47,10 +49,15 @@ is_rule [] = false
 is_rule (m ∷ bytes) =
     is_rule_marker m && list_all (λ b. (b == m) || is_white b) bytes && nat_le 2 (count_by (λ b. b == m) bytes)
 
+-- whether the construct of a leaf block is on of which nothing is known but its word
+abbrev pub is_bare_on : ParseOptions → Word → Bool
+is_bare_on options Break = options.constructs.thematic_break
+is_bare_on options word = false
+
 unfoldable pub break_at : ParseOptions → Rest → Option LeafResult
 break_at options r =
     if options.constructs.thematic_break && has_small_indent options r && is_rule (trim_start r.bytes)
-    then Some (Finished Break)
+    then Some (Finished (Bare Break))
     else None
 
 -- ATX heading (CommonMark 4.2).

@@ -4,7 +4,7 @@ use Rattle.md_meaning.specs.declared.alert.AlertKind.{AlertKind}
 use Rattle.md_meaning.specs.declared.outline.OutlineLine.{OutlineLine}
 use Rattle.md_meaning.specs.declared.outline.Word.{Word}
 use Rattle.md_meaning.specs.declared.outline.Word.TheVariants as word
-use Rattle.md_meaning.specs.Tree.{Line, Block, Frontmatter, Quote, ListOf, Item, Footnote, Heading, Break, Code}
+use Rattle.md_meaning.specs.Tree.{Line, Block, Frontmatter, Quote, ListOf, Item, Footnote, Heading, Bare, Code}
 use Rattle.md_meaning.specs.Tree.{Html, Fence, Math, Definition, Paragraph, Table, Blocks, End, More}
 
 -- a line of the outline; the virtual spaces and the text are those of `OutlineLine`
@@ -74,7 +74,7 @@ abbrev mutual
   block_entries depth (Footnote label bs) =
       entry depth word.Footnote ∷ entry_with (depth + 1) word.Label label ∷ outline (depth + 1) bs
   block_entries depth (Heading n lines) = entry depth (word.Heading n) ∷ entries (depth + 1) word.Line lines
-  block_entries depth Break = entry depth word.Break ∷ []
+  block_entries depth (Bare w) = entry depth w ∷ []
   block_entries depth (Code lines) = entry depth word.Code ∷ line_entries (depth + 1) lines
   block_entries depth (Html lines) = entry depth word.Html ∷ line_entries (depth + 1) lines
   block_entries depth (Fence marker info meta lines closed) =

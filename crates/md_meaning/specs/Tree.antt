@@ -1,6 +1,7 @@
 -- The block tree: what a text means, without positions.
 use Rattle.std.specs.Prelude.{ℕ, Bool, List, Option}
 use Rattle.md_meaning.specs.declared.alert.AlertKind.{AlertKind}
+use Rattle.md_meaning.specs.declared.outline.Word.{Word}
 
 -- a line of code, HTML or math: virtual spaces, then bytes
 pub record Line : Type 0 where
@@ -22,7 +23,8 @@ mutual
     Footnote : List ℕ → Blocks → Block
     -- the depth, and the lines
     Heading : ℕ → List (List ℕ) → Block
-    Break : Block
+    -- a leaf block of which nothing is known but the word that shows it: a thematic break
+    Bare : Word → Block
     Code : List Line → Block
     Html : List Line → Block
     -- the byte of the fences, `info`, `meta`, the lines, and whether there is a closing fence

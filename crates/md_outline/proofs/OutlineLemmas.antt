@@ -17,7 +17,7 @@ use Rattle.md_meaning.specs.declared.outline.Word.{Word}
 use Rattle.md_meaning.specs.Outline.{Entry, outline}
 use Rattle.md_events.specs.Events.Spelled.{AsHeading, ContainerRole, IsCell, IsFence, IsPrefix, OpenLeaf, LeafRole}
 use Rattle.md_events.specs.Events.Spelled.{OrderedShape, Reading, TextRole, UnorderedShape, begun, byte_at, read}
-use Rattle.md_events.specs.Events.Spelled.{read_by, spelled, unread, OfBreak, IsQuoteMarker, IsEnding}
+use Rattle.md_events.specs.Events.Spelled.{read_by, spelled, unread, OfBare, IsQuoteMarker, IsEnding}
 use Rattle.md_events.specs.Events.Spelled as spelled
 use Rattle.md_outline.specs.Between.{is_between}
 use Rattle.md_outline.specs.HeadingDepths.{fits}
@@ -87,11 +87,11 @@ span-step bytes Enter IsFence p s = span-fenced s.lined s
 span-step bytes Enter IsCell p s = span-cell s
 span-step bytes Enter IsQuoteMarker p s = span-quoted bytes p.index s.text s.leaf s.lined s
 span-step bytes Exit IsEnding p s = span-line bytes p.index s.lined s.text s
-span-step bytes Exit (LeafRole OfBreak) p s = span-leaf s.leaf s
+span-step bytes Exit (LeafRole (OfBare word)) p s = span-leaf s.leaf s
 span-step bytes Exit (LeafRole _) p s = first_of (cc, search (span-leaf))
 span-step bytes Exit (TextRole AsHeading) p s = span-recorded bytes purpose.Title p.index s.text s refl
 span-step bytes Exit (TextRole x) p s = span-recorded bytes (text_as x) p.index s.text s refl
-span-step bytes Enter (LeafRole OfBreak) p s = refl
+span-step bytes Enter (LeafRole (OfBare word)) p s = refl
 span-step bytes Enter (TextRole AsHeading) p s = refl
 span-step bytes _ (ContainerRole OrderedShape) p s = refl
 span-step bytes _ _ p s = refl

@@ -14,7 +14,7 @@ use Rattle.md_events.specs.Events.Spelled.{ContainerRole}
 use Rattle.md_events.specs.Events.Spelled.{FootnoteShape, IsEnding, IsPrefix, IsQuoteMarker, LeafKind, LeafRole}
 use Rattle.md_events.specs.Events.Spelled.{OpenLeaf, OrderedShape, Purpose, Reading, Role, Text, TextRole}
 use Rattle.md_events.specs.Events.Spelled.{UnorderedShape, finished, left, read_by, read_enter, read_exit, role}
-use Rattle.md_events.specs.Events.Spelled.{IsCell, IsFence, IsRow, IsTitle, OfBreak, OfHeadingAtx, OpenContainer}
+use Rattle.md_events.specs.Events.Spelled.{IsCell, IsFence, IsRow, IsTitle, OfBare, OfHeadingAtx, OpenContainer}
 use Rattle.md_events.specs.Events.Spelled.{after_prefix, at_cell, at_fence, at_row, at_title, before_prefix}
 use Rattle.md_events.specs.Events.Spelled.{after_title, next_line, recorded_at, unread}
 use Rattle.md_outline.specs.LinesAllowed.{AtEnd, AtEnding, AtLine, AtMarkers, AfterPart, AfterUnderline, InAtxText}
@@ -88,7 +88,7 @@ span-exits _ p inside span h = h
 
 site-begun : (kind : LeafKind) (text : Bool) → SiteWithin text true (begun_site kind)
 site-begun OfHeadingAtx text = tt
-site-begun OfBreak text = tt
+site-begun (OfBare word) text = tt
 site-begun _ text = refl
 
 site-ending : (bytes : List ℕ) (p : Point) (kind : LeafKind) (text leaf : Bool) → leaf ≡ true →

@@ -9,7 +9,7 @@
 --   said its text later: so it has `FootnoteState`, a stage of `ListsBegin`, and `FootnoteLemmas`. A quote is shown
 --   with its kind, which a marker before its blocks gives it: so it has `AlertState` and `AlertLemmas`.
 -- - A leaf block: the same, and what is known of it: `leaf_of` and `is_known` here, `Leaf` with `noted` and `push_leaf`
---   in code.
+--   in code. One of which nothing is known but its word has no clause of its own (`OfBare`, `Leaf::Bare`).
 -- - A leaf block of several lines (`has_lines`): `is_unlisted` and `shown_as` here, `role_of` in code; its lines are
 --   shown as they come (`LinedState`), where they may (`LinesAllowed`), and `LinedLemmas` has what is proved of it. A
 --   setext heading is one, whose lines are those of its text, shown as those of a paragraph (`TitledLemmas`), and so is
@@ -22,9 +22,9 @@ use Rattle.md_meaning.specs.declared.outline.Word.TheVariants as word
 use Rattle.md_meaning.specs.Outline.{Entry, block_entries, quote_word}
 use Rattle.md_events.specs.Events.Spelled.{AsCell, AsDelimiter, AsDestination, AsDigits, AsFootnoteLabel, AsHeading}
 use Rattle.md_events.specs.Events.Spelled.{AsInfo, AsItemMarker, AsLabel, AsLine, AsMarkers, AsMeta, AsParagraph}
-use Rattle.md_events.specs.Events.Spelled.{AsTitle, BreakLeaf, FootnoteShape, HeadingAtxLeaf, ContainerRole, IsCell}
+use Rattle.md_events.specs.Events.Spelled.{AsTitle, BareLeaf, FootnoteShape, HeadingAtxLeaf, ContainerRole, IsCell}
 use Rattle.md_events.specs.Events.Spelled.{IsEnding, IsFence, IsPrefix, IsQuiet, IsQuoteMarker, IsRow, IsTitle}
-use Rattle.md_events.specs.Events.Spelled.{ItemShape, LeafKind, OfBreak, OfCode, OfDefinition, OfFence, OfFrontmatter}
+use Rattle.md_events.specs.Events.Spelled.{ItemShape, LeafKind, OfBare, OfCode, OfDefinition, OfFence, OfFrontmatter}
 use Rattle.md_events.specs.Events.Spelled.{OfHeadingAtx, OfHeadingSetext, OfHtml, OfMath, OfTable, OpenLeaf, LeafRole}
 use Rattle.md_events.specs.Events.Spelled.{OrderedShape, QuoteShape, TextRole, UnorderedShape, block_of}
 use Rattle.md_events.specs.Events.Spelled as spelled
@@ -40,14 +40,14 @@ use Rattle.md_outline.specs.declared.outline.role.Purpose.TheVariants as purpose
 use Rattle.md_outline.specs.declared.outline.role.Role.{Role}
 use Rattle.md_outline.specs.declared.outline.role.Role.TheVariants as role
 
--- the roles of breaks, ATX headings without their texts, paragraphs, block quotes, items and footnote definitions, and
--- of what the tree does not show
+-- the roles of leaf blocks that have their word alone, ATX headings without their texts, paragraphs, block quotes, items
+-- and footnote definitions, and of what the tree does not show
 abbrev pub is_plain : spelled.Role → Bool
 is_plain (ContainerRole (QuoteShape kind)) = true
 is_plain (ContainerRole (ItemShape marker digits)) = true
 is_plain (ContainerRole (FootnoteShape label)) = true
 is_plain IsPrefix = true
-is_plain (LeafRole OfBreak) = true
+is_plain (LeafRole (OfBare word)) = true
 is_plain (LeafRole OfHeadingAtx) = true
 is_plain (TextRole AsParagraph) = true
 is_plain (TextRole AsMarkers) = true
@@ -128,7 +128,7 @@ shown_as (ContainerRole UnorderedShape) = role.List
 shown_as (ContainerRole (ItemShape marker digits)) = role.Container word.Item
 shown_as (ContainerRole (FootnoteShape label)) = role.Container word.Footnote
 shown_as IsPrefix = role.Prefix
-shown_as (LeafRole OfBreak) = role.Leaf leaf.Break
+shown_as (LeafRole (OfBare word)) = role.Leaf (leaf.Bare word)
 shown_as (LeafRole OfHeadingAtx) = role.Leaf (leaf.Heading (record { markers = None; text = None }))
 shown_as (TextRole AsParagraph) = role.Text purpose.Block
 shown_as (TextRole AsMarkers) = role.Text purpose.Markers
@@ -170,12 +170,12 @@ is_seen _ = true
 
 -- what is known of a leaf block, as the tree has it
 abbrev pub leaf_of : Leaf → OpenLeaf
-leaf_of leaf.Break = BreakLeaf
+leaf_of (leaf.Bare word) = BareLeaf word
 leaf_of (leaf.Heading heading) = HeadingAtxLeaf (heading_of heading)
 
 -- the leaf blocks that are shown as they end, with what is known of them by then
 abbrev pub is_known : OpenLeaf → Bool
-is_known BreakLeaf = true
+is_known (BareLeaf word) = true
 is_known (HeadingAtxLeaf heading) = true
 is_known _ = false
 

@@ -61,8 +61,8 @@ use Rattle.md_registry.proofs.Dispatch.{AreNext, row-left, row-next}
 use Rattle.md_registry.proofs.LinesAtOnce.{looks-dark}
 use Rattle.md_meaning.specs.Rest.{is_white}
 use Rattle.std.proofs.lemmas.Bool.{or_parts}
-use Rattle.md_registry.proofs.ConstructStates.{HasTrial, container-states, is-tried, leaf-next, opener-before}
-use Rattle.md_registry.proofs.ConstructStates.{tried-before}
+use Rattle.md_registry.proofs.Registry.{HasTrial, container-states, is-tried, leaf-next, opener-before}
+use Rattle.md_registry.proofs.Registry.{tried-before}
 use Rattle.md_registry.proofs.Registry.{container-laws, laws, trial-asked}
 
 -- an attempt that was begun here

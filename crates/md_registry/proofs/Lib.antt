@@ -14,9 +14,7 @@ pub mod Openers
 pub mod OpensAtOnce
 pub mod OverEnd
 pub mod PlainLaws
-pub mod LeafStarts
 pub mod SpanLeaves
-pub mod ConstructStates
 pub mod Registry
 pub mod States
 pub mod Termination

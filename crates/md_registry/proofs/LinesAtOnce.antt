@@ -6,7 +6,7 @@ use Rattle.md_registry.specs.Flow.{inside_code, inside_transition, leaf_front, l
 use Rattle.md_registry.specs.Flow.{blank_line_code, flow_end_code, flow_end_transition, new_before_transition}
 use Rattle.md_registry.specs.Flow.{opener_transition, row_transition, start_by, start_code, start_transition}
 use Rattle.md_registry.specs.Flow.{trial_code}
-use Rattle.md_registry.specs.Registry.{asked_first, container_rules, front_of, leaf, may_open, next_opener}
+use Rattle.md_registry.specs.Registry.{asked_first, container_rules, front_of, is_common, leaf, may_open, next_opener}
 use Rattle.md_registry.specs.Registry.{opener_front, openers, opens_with, row, trials}
 use Rattle.std.specs.Option.{is_some}
 use Rattle.std.specs.List.{list_any, All}
@@ -34,14 +34,14 @@ use Rattle.md_leaves.proofs.HeadingCalls.{remains-of, sees-from}
 use Rattle.md_events.specs.Look.{following_code, first_following, looks_after, may_with}
 use Rattle.md_events.specs.Spaces.{ends_line}
 use Rattle.md_events.specs.Transition.{Transition, entered, exited, taken, tried}
-use Rattle.md_registry.specs.AtOnce.{all_asked, content_alone, is_common, opens_none, openers_passed}
+use Rattle.md_registry.specs.AtOnce.{all_asked, content_alone, opens_none, openers_passed}
 use Rattle.md_registry.specs.Document.{document_own_transition}
 use Rattle.proof_frame.specs.EndingName.{ending_name}
 use Rattle.md_registry.specs.LineFlags.{asking, begun_line, blank_here, blanked, next_line}
 use Rattle.md_registry.specs.LineFlags.{nothing_is_here, kept_containers}
 use Rattle.proof_frame.specs.LeafName.{GfmTable, LeafName}
 use Rattle.md_registry.specs.States.{FlowStep, flow_transition}
-use Rattle.md_registry.proofs.ConstructStates.{NextOpener, container-states}
+use Rattle.md_registry.proofs.Registry.{NextOpener, container-states}
 use Rattle.md_registry.proofs.Openers.{at-opener}
 use Rattle.md_registry.proofs.Dispatch.{common-row}
 use Rattle.md_tables.specs.GfmTable.{begins_code as table_begins, may_begin as may_table}

@@ -18,7 +18,7 @@ use Rattle.md_registry.specs.FlowRule.{containers_behave, openers_of}
 use Rattle.md_registry.specs.Registry.{container_rules, opener_front, openers_after, trials}
 use Rattle.md_registry.specs.States.{containers_owner, flow_owner, flow_table_scheme}
 use Rattle.md_registry.proofs.Termination.{OpenerFits, TrialFits}
-use Rattle.md_registry.proofs.ConstructStates.{NextOpener, container-states}
+use Rattle.md_registry.proofs.Registry.{NextOpener, container-states}
 
 -- A state where a container is tried: whose it is, its rank and tries, what it does, and what is left there.
 

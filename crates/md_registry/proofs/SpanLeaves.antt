@@ -14,7 +14,7 @@ use Rattle.md_engine.specs.declared.configuration.ParseOptions.{ParseOptions}
 use Rattle.md_meaning.specs.Leaves.{LeafResult, Finished, Opened, closes, fence_continued, html_line}
 use Rattle.md_meaning.specs.Rest.{Rest, indent, is_blank, line_of, lose}
 use Rattle.md_meaning.specs.State.{NoLeaf, OpenCode, OpenFence, OpenHtml, Opening, fence_block, without_trailing_blank}
-use Rattle.md_meaning.specs.Tree.{Break, Code, Html, Line}
+use Rattle.md_meaning.specs.Tree.{Code, Html, Line, Paragraph}
 use Rattle.md_leaves.specs.HeadingSetext.{is_text}
 use Rattle.proof_frame.specs.HeldLeaf.{kind_of_leaf, left_by, takes_lazy}
 use Rattle.proof_frame.specs.LineLeaf.{LineLeaf}
@@ -176,7 +176,7 @@ further-span : (first l : LineLeaf) → SpanLaws first l →
 further-span first l laws none = record {
   first_spanned = λ options bytes row is begins. absurd (none options row.on is.rest is.starts begins);
   further_spanned = laws.further_spanned;
-  block = λ options bytes row rows is are. Break;
+  block = λ options bytes row rows is are. Paragraph [];
   facts = λ options bytes row rows is begins are. absurd (none options row.on is.rest is.starts begins);
   shuts = λ options bytes row rows is begins are bs. absurd (none options row.on is.rest is.starts begins);
 }

@@ -48,8 +48,8 @@ use Rattle.md_registry.proofs.Dispatch.{AreNext, row-next}
 use Rattle.md_registry.proofs.Openers as opening
 use Rattle.md_registry.proofs.Trials as trying
 use Rattle.md_registry.proofs.Trials.{inside_fits, leaf-fits}
-use Rattle.md_registry.proofs.ConstructStates.{blank_fits, construct-does, container-states, opener-before}
-use Rattle.md_registry.proofs.ConstructStates.{tried-before, is-tried, white_fits}
+use Rattle.md_registry.proofs.Registry.{blank_fits, construct-does, container-states, opener-before}
+use Rattle.md_registry.proofs.Registry.{tried-before, is-tried, white_fits}
 
 chunk_fits : ChunkFits flow_table_scheme
 chunk_fits = record { each = λ state. fits flow_owner (n.Content state) }

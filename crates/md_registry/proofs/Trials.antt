@@ -15,7 +15,7 @@ use Rattle.proof_frame.specs.LeafName.{CodeFurther, FenceFurther, HtmlFurther, L
 use Rattle.md_registry.specs.Registry.{following, front_of, leaf}
 use Rattle.md_registry.specs.States.{flow_owner, flow_table_scheme, leaves_owner}
 use Rattle.md_registry.proofs.Termination.{InsideFits, LeafFits, TrialFits}
-use Rattle.md_registry.proofs.ConstructStates.{HasTrial, NextIs, leaf-next, leaf-states}
+use Rattle.md_registry.proofs.Registry.{HasTrial, NextIs, leaf-next, leaf-states}
 
 -- A state where a leaf is tried: whose it is, its rank and tries, and what is left there.
 

@@ -8,8 +8,7 @@ use Rattle.md_engine.specs.declared.tokenizer.held_leaf.HeldLeaf.{HeldLeaf}
 use Rattle.md_engine.specs.World.{World, container_of}
 use Rattle.md_registry.specs.LineFlags.{asking, begun_line, next_container}
 use Rattle.proof_frame.specs.LeafName.{GfmTable}
-use Rattle.md_registry.specs.Registry.{container_rules, leaf, may_open, openers}
-use Rattle.md_meaning.specs.Ascii.{asterisk, backtick, dollar, equals_sign, hash, hyphen, less_than, tilde, underscore}
+use Rattle.md_registry.specs.Registry.{container_rules, leaf, may_open, openers, is_common}
 
 -- the prefix of a container on a further line is here, by its kind, and can be taken at once
 abbrev pub HasPrefix : Container → ContainerKind → World → Type 0
@@ -39,13 +38,6 @@ asking_next w = asking_by (next_container w.flags) w
 abbrev pub opens_none : Option ℕ → Bool
 opens_none None = false
 opens_none (Some b) = not (is_white b || b == 10 || list_any (λ k. may_open k b) openers)
-
--- whether the row of a byte has no leaf but the table
-abbrev pub is_common : ℕ → Bool
-is_common b =
-    not
-    (b == hash || b == dollar || b == backtick || b == tilde || b == asterisk || b == underscore || b == hyphen
-    || b == equals_sign || b == less_than)
 
 -- whether one look shows that the rest of a line is content, where the line meets this leaf: what is here is no
 -- whitespace and does not end the line, and only a table may begin with it, which does not

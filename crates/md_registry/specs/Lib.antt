@@ -7,4 +7,3 @@ pub mod OpenSpan
 pub mod Registry
 pub mod Resolving
 pub mod States
-pub mod Dispatch

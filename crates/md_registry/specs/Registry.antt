@@ -1,6 +1,6 @@
 -- The constructs that are built, and their order: the one place of the frame's definitions that names them.
 use Rattle.std.specs.Prelude.{◌≡◌, refl, Bool, ℕ, suc, ◌+◌, ◌*◌, nat_lt, true, ◌==◌, if◌then◌else◌, ◌||◌, List, [], ◌∷◌}
-use Rattle.std.specs.Prelude.{length, Option, Some, None}
+use Rattle.std.specs.Prelude.{length, Option, Some, None, false, not}
 use Rattle.md_engine.specs.declared.tokenizer.held_leaf.HeldLeaf.{HeldLeaf}
 use Rattle.std.specs.Option.{option_or}
 use Rattle.md_engine.specs.declared.configuration.ParseOptions.{ParseOptions}
@@ -59,6 +59,9 @@ use Rattle.proof_frame.specs.TurnLeaf.{TurnLeaf}
 use Rattle.proof_frame.specs.LeafName.{CodeFurther, CodeIndented, Fence, FenceFurther, GfmTable, HeadingAtx}
 use Rattle.proof_frame.specs.LeafName.{HeadingSetext, HtmlFlow, HtmlFurther, LeafName, ThematicBreak, after_in, number}
 use Rattle.proof_frame.specs.ContainerNames.{IsOf, container_kind, kind_number}
+use Rattle.std.specs.List.{list_any}
+use Rattle.md_meaning.specs.Leaves.{ParagraphContext, break_at, code_at, fence_at, heading_at, html_at, underline_depth}
+use Rattle.md_meaning.specs.Rest.{Rest}
 
 -- Leaves that take a line: of indented code, of fenced code and math, and of HTML, one takes the first line, and one
 -- each further line. The underline of a setext heading takes a line that turns the text before it; one more leaf takes
@@ -91,6 +94,13 @@ row b =
     else if b == equals_sign then HeadingSetext ∷ GfmTable ∷ []
     else if b == less_than then HtmlFlow ∷ GfmTable ∷ []
     else GfmTable ∷ []
+
+-- whether the row of a byte has no leaf but the table
+abbrev pub is_common : ℕ → Bool
+is_common b =
+    not
+    (b == hash || b == dollar || b == backtick || b == tilde || b == asterisk || b == underscore || b == hyphen
+    || b == equals_sign || b == less_than)
 
 -- The leaf that is asked, before blank lines and all others, whether a line continues the one that it meets.
 unfoldable pub asked_first : HeldLeaf → Option LeafName
@@ -289,3 +299,35 @@ construct_behaves bytes options (s.ListItem state) cells h = item_behaves option
 construct_behaves bytes options (s.RawFlow state) cells h = fence_behaves options state cells h
 construct_behaves bytes options (s.ThematicBreak state) cells h = break_behaves options state cells h
 construct_behaves bytes options _ cells h = Refuses h.scratch h.flags
+
+-- The dispatch law: no rule of the line definition outside of the row of the first byte accepts the rest of a line, the
+-- paragraph and the table apart. The table is in each row. Where nothing is left of a line, none of them does.
+
+-- whether the row of a byte has this leaf
+abbrev pub in_row : LeafName → ℕ → Bool
+in_row l b = list_any (λ k. number k == number l) (row b)
+
+-- a rest that begins with this byte at a column, without a virtual space in front
+abbrev pub begun : ℕ → ℕ → List ℕ → Rest
+begun column b bytes = record { column = column; spaces = 0; bytes = b ∷ bytes }
+
+pub record IsOutsideRow (options : ParseOptions) (column b : ℕ) (bytes : List ℕ) : Type 0 where
+  pub code : (against : ParagraphContext) → code_at options against (begun column b bytes) ≡ None
+  pub fence : in_row Fence b ≡ false → fence_at options (begun column b bytes) ≡ None
+  pub html : in_row HtmlFlow b ≡ false → (against : ParagraphContext) →
+      html_at options against (begun column b bytes) ≡ None
+  pub heading : in_row HeadingAtx b ≡ false → heading_at options (begun column b bytes) ≡ None
+  pub break : in_row ThematicBreak b ≡ false → break_at options (begun column b bytes) ≡ None
+  pub underline : in_row HeadingSetext b ≡ false → underline_depth options (begun column b bytes) ≡ None
+
+-- nothing is left of a line, at a column
+abbrev pub ended : ℕ → Rest
+ended column = record { column = column; spaces = 0; bytes = [] }
+
+pub record IsOutsideEnd (options : ParseOptions) (column : ℕ) : Type 0 where
+  pub code : (against : ParagraphContext) → code_at options against (ended column) ≡ None
+  pub fence : fence_at options (ended column) ≡ None
+  pub html : (against : ParagraphContext) → html_at options against (ended column) ≡ None
+  pub heading : heading_at options (ended column) ≡ None
+  pub break : break_at options (ended column) ≡ None
+  pub underline : underline_depth options (ended column) ≡ None

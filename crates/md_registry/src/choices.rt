@@ -6,20 +6,23 @@
 //
 // What flow itself is made of (blank lines, content, whitespace) is in its own table.
 
-ghost use Rattle.std.specs.Prelude.{◌≡◌, [], OnOk, Some, false, is_err, true};
-ghost use Rattle.md_engine.specs.Full.{Grown, IsFullList};
+ghost use Rattle.std.specs.Prelude.{◌≡◌, ◌≢◌, [], IfSome, None, OnOk, Some, false, is_err, true};
+ghost use Rattle.md_engine.specs.Full.{Grown, IsFull, IsFullList, OnError};
+ghost use Rattle.md_engine.specs.Scheme.{valid};
 ghost use Rattle.md_containers.specs.PlainBullet.{IsPlainBullet};
 ghost use Rattle.md_engine.specs.declared.tokenizer.container.name.ContainerKind.{ContainerKind};
 ghost use Rattle.std.specs.Option.{is_some, option_map};
-ghost use Rattle.md_engine.specs.World.{World, container_of, world};
+ghost use Rattle.md_engine.specs.World.{World, container_of, looks, world};
 ghost use Rattle.md_engine.specs.declared.state.Name.{Name as StateName};
+ghost use Rattle.md_engine.specs.declared.state.State.{State};
 ghost use Rattle.md_engine.specs.declared.state.flow.State.{State as FlowState};
 ghost use Rattle.md_registry.specs.LineFlags.{asking};
 ghost use Rattle.md_registry.specs.Resolving.{joins_lines};
 ghost use Rattle.proof_table_laws.specs.Headed.{heads_read};
-ghost use Rattle.md_registry.specs.Registry.{bars_containers};
-ghost use Rattle.md_registry.specs.Registry.{continues_with, asked_first, leaf};
-ghost use Rattle.md_registry.specs.AtOnce.{HasPrefix, all_asked, content_alone, is_common, opens_none, prefix_taken};
+ghost use Rattle.md_registry.specs.Registry.{bars_containers, is_common};
+ghost use Rattle.md_registry.specs.Registry.{construct_transition, continues_with, asked_first, leaf};
+ghost use Rattle.md_registry.specs.States.{flow_table_scheme, flow_transition};
+ghost use Rattle.md_registry.specs.AtOnce.{HasPrefix, all_asked, content_alone, opens_none, prefix_taken};
 ghost use Rattle.md_registry.specs.Flow.{leaf_end, row_transition, trial_code};
 ghost use Rattle.md_registry.specs.Registry.{may_continue, may_open, next_opener, opener_front, openers};
 ghost use Rattle.proof_frame.specs.LeafName.{LeafName};
@@ -28,13 +31,13 @@ ghost use Rattle.md_meaning.specs.Rest.{is_white};
 ghost use Rattle.proof_literal_laws.specs.Leaf.CodeIndented.{is_code};
 ghost use Rattle.md_events.specs.Look.{looks_after, may_with};
 ghost use Rattle.md_events.specs.Spaces.{sees_white};
+ghost use Rattle.md_events.specs.Stays.{TakesEach};
 
 use md_code::{code_indented, raw_flow};
 use md_containers::{block_quote, gfm_footnote_definition, list_item, plain_item};
 use md_engine::class::is_white;
 use md_engine::configuration::ParseOptions;
 use md_engine::message::Message;
-use md_engine::state::Name as StateName;
 use md_engine::state::block_quote::State as QuoteState;
 use md_engine::state::code_indented::State as CodeState;
 use md_engine::state::document::State as DocumentState;
@@ -47,6 +50,8 @@ use md_engine::state::html_flow::State as HtmlState;
 use md_engine::state::list_item::State as ItemState;
 use md_engine::state::raw_flow::State as RawState;
 use md_engine::state::thematic_break::State as BreakState;
+use md_engine::state::{Name as StateName, State};
+use md_engine::stay::Stay;
 use md_engine::tokenizer::{Container, ContainerKind, HeldLeaf, Tokenizer};
 use md_events::space_or_tab::look_after_white;
 use md_html::html_flow;
@@ -475,4 +480,51 @@ pub fn read_heads(tokenizer: &mut Tokenizer) -> Result<(), Message>
         heads::resolve(tokenizer)?;
     }
     Ok(())
+}
+
+/// Calls a state of a construct.
+#[inline(always)]
+pub fn call(tokenizer: &mut Tokenizer, name: StateName) -> State
+    requires current { (world tokenizer.old).current ≡ looks (world tokenizer.old) }
+    requires valid { valid flow_table_scheme (world tokenizer.old) (State.Next name) }
+    ensures to { result ≢ State.Error →
+        result ≡
+        (construct_transition name
+        (world tokenizer.old)).to }
+    ensures world { result ≢ State.Error →
+        world tokenizer.new ≡
+        (construct_transition name
+        (world tokenizer.old)).world }
+    ensures full { OnError result (IsFull tokenizer.new) }
+{
+    match name {
+        StateName::BlockQuote(state) => block_quote::call(tokenizer, state),
+        StateName::CodeIndented(state) => code_indented::call(tokenizer, state),
+        StateName::GfmFootnoteDefinition(state) => gfm_footnote_definition::call(tokenizer, state),
+        StateName::GfmTable(state) => gfm_table::call(tokenizer, state),
+        StateName::HeadingAtx(state) => heading_atx::call(tokenizer, state),
+        StateName::HeadingSetext(state) => heading_setext::call(tokenizer, state),
+        StateName::HtmlFlow(state) => html_flow::call(tokenizer, state),
+        StateName::ListItem(state) => list_item::call(tokenizer, state),
+        StateName::RawFlow(state) => raw_flow::call(tokenizer, state),
+        StateName::ThematicBreak(state) => thematic_break::call(tokenizer, state),
+        _ => State::Nok,
+    }
+}
+
+/// What a state of a construct only takes and counts.
+pub fn takes_at_once(name: StateName) -> Option<Stay>
+    ensures { IfSome result (λ stay. TakesEach stay name (flow_transition name)) }
+{
+    match name {
+        StateName::CodeIndented(state) => code_indented::takes_at_once(state),
+        StateName::GfmTable(state) => gfm_table::takes_at_once(state),
+        StateName::HeadingAtx(state) => heading_atx::takes_at_once(state),
+        StateName::HeadingSetext(state) => heading_setext::takes_at_once(state),
+        StateName::HtmlFlow(state) => html_flow::takes_at_once(state),
+        StateName::ListItem(state) => list_item::takes_at_once(state),
+        StateName::RawFlow(state) => raw_flow::takes_at_once(state),
+        StateName::ThematicBreak(state) => thematic_break::takes_at_once(state),
+        _ => None,
+    }
 }

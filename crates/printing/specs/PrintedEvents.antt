@@ -5,14 +5,9 @@ use Rattle.std.specs.Fmt.{decimal}
 use Rattle.md_engine.specs.declared.event.Event.{Event}
 use Rattle.md_engine.specs.declared.event.Kind.{Kind}
 use Rattle.md_engine.specs.declared.event.Kind.TheVariants.{Enter, Exit}
-use Rattle.md_engine.specs.declared.event.Name.{Name}
 use Rattle.md_engine.specs.declared.event.Point.{Point}
-use Rattle.md_events.specs.Events.Names.{facts}
+use Rattle.md_events.specs.Events.Names.{name_text}
 use Rattle.md_program.specs.Printed.{line_end}
-
--- a name, as it is spelled in the library
-abbrev pub name_text : Name → List ℕ
-name_text name = codes (facts name).text
 
 -- `+` for an enter, `-` for an exit
 abbrev pub sign : Kind → List ℕ

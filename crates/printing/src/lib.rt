@@ -3,7 +3,6 @@
 
 pub mod blocks;
 pub mod events;
-pub mod names;
 pub mod print;
 pub mod printed;
 pub mod run_blocks;

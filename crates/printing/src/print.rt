@@ -2,9 +2,9 @@
 ghost use Rattle.std.specs.Prelude.{◌≡◌, ◌++◌, OnOk, IfOk, string_bytes};
 ghost use Rattle.printing.specs.PrintedEvents.{printed_event, printed_events, printed_point, sign};
 
-use crate::names::text_of;
 use md_engine::event::{Event, Kind, Point};
 use md_engine::message::Message;
+use md_events::names::text_of;
 use md_program::print::{push_counted, push_repeated};
 use std::alloc::{AllocError, Global};
 

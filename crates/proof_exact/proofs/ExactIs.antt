@@ -1,38 +1,35 @@
 -- The exact list of a text is its block list.
-use Rattle.md_engine.specs.declared.tokenizer.held_leaf.HeldLeaf.TheVariants as held_leaf
-use Rattle.std.proofs.Common.{◌≡◌, ◌⊎◌, inl, inr, ℕ, suc, ◌^◌, ◌<◌, List, [], ◌++◌, length, map, take, refl, sym, ap}
-use Rattle.std.proofs.Common.{ap₂, ◌∙◌, append_assoc}
+use Rattle.std.proofs.Common.{◌≡◌, ◌⊎◌, inl, inr, ℕ, ◌^◌, ◌<◌, List, [], ◌++◌, drop, length, map, take}
+use Rattle.std.proofs.Common.{sym, ap, ap₂, ◌∙◌, append_assoc}
 use Rattle.md_engine.specs.declared.configuration.ParseOptions.{ParseOptions}
 use Rattle.md_engine.specs.declared.event.Event.{Event}
+use Rattle.md_engine.specs.declared.event.Point.{Point}
 use Rattle.md_engine.specs.declared.event.Name.TheVariants as n
 use Rattle.md_containers.specs.Listed.{listed}
 use Rattle.md_meaning.specs.Preamble.{without_mark}
 use Rattle.md_meaning.specs.Texts.{first_byte}
-use Rattle.md_exact.specs.Blocks.{exact, front_line, front_row, front_size, grouped, mark_events, tail, text_lines}
+use Rattle.md_exact.specs.Blocks.{exact, front_line, front_row, front_size, grouped, mark_events}
+use Rattle.md_exact.specs.Blocks.{tail, text_lines}
 use Rattle.md_exact.specs.Leaves.{leaf}
 use Rattle.md_exact.specs.Places.{TextLine}
 use Rattle.md_exact.specs.Rows.{Row, rows_of as exact_rows}
 use Rattle.proof_exact_lines.proofs.Front.{front-same}
 use Rattle.proof_exact_lines.specs.Unlisted.{unlisted, unlisted_groups}
 use Rattle.proof_exact_lines.proofs.ExactText.{exact-listed}
-use Rattle.proof_exact.proofs.ExactRoles.{AreMet}
 use Rattle.proof_exact.proofs.NoLines.{none-events}
-use Rattle.proof_frame.specs.Row.{Row as FrameRow}
-use Rattle.proof_leaf_laws.specs.Front.{body_point, front_events}
+use Rattle.proof_leaf_laws.specs.Front.{front_events}
 use Rattle.proof_rows.specs.BlockList.{block_list, tabled_groups}
 use Rattle.proof_rows.specs.Rows.{groups}
-use Rattle.proof_rows.specs.TextRows.{text_cells}
-use Rattle.proof_rows.proofs.GroupsAre.{groups-are}
-use Rattle.proof_rows.proofs.JoinedLemmas.{EachNoContent, rows_at-no_content}
+use Rattle.proof_rows.specs.TextRows.{text_rows}
 use Rattle.proof_rows.specs.WithoutMdx.{IsWithoutMdx}
-use Rattle.proof_rows.proofs.TextAre.{lines_of, rows_of, text-are}
-use Rattle.proof_exact.proofs.TextMet.{body_lines, nothing, text-match, text-met}
-use Rattle.proof_exact.proofs.Fit.{Fit}
-use Rattle.proof_exact.proofs.TextFit.{text-fit}
-use Rattle.proof_exact.proofs.BlocksSame.{groups-same}
-use Rattle.proof_exact.proofs.Put.{rows-put}
+use Rattle.proof_rows.proofs.TextAre.{rows_of}
+use Rattle.proof_exact.proofs.LinesExact.{lines-same, nothing}
+use Rattle.proof_exact.proofs.TextLines.{BodyLines, body-lines}
 
 -- the lines of its body, as the exact list has them
+abbrev body_lines : ParseOptions → List ℕ → List TextLine
+body_lines options text = drop (front_size options text) (text_lines text)
+
 abbrev body_rows : ParseOptions → List ℕ → List Row
 body_rows options text = exact_rows options nothing (body_lines options text)
 
@@ -40,28 +37,22 @@ body_rows options text = exact_rows options nothing (body_lines options text)
 body-same : (options : ParseOptions) (text : List ℕ) → IsWithoutMdx options → length text < 2 ^ 61 →
     tabled_groups options text (groups (rows_of options text)) ≡
     unlisted_groups options (grouped (body_rows options text))
-body-same options text built small = go (text-met options text built small)
+body-same options text built small = go (body-lines options text)
   where
-    rows : List FrameRow
-    rows = rows_of options text
-
-    quiet : EachNoContent rows
-    quiet =
-        let cells = text_cells text options (body_point options text) in
-        rows_at-no_content options (suc (length cells)) [] held_leaf.None cells (body_point options text)
-
-    go : (body_lines options text ≡ []) ⊎ AreMet options text nothing (body_lines options text) rows →
-        tabled_groups options text (groups rows) ≡ unlisted_groups options (grouped (body_rows options text))
+    go : (body_lines options text ≡ []) ⊎ BodyLines options text →
+        tabled_groups options text (groups (rows_of options text))
+        ≡ unlisted_groups options (grouped (body_rows options text))
     go (inl none) =
         none-events options text small none
         ∙ sym
         (ap (λ (lines : List TextLine). unlisted_groups options (grouped (exact_rows options nothing lines))) none)
-    go (inr are) =
-        groups-same options text small (groups rows) (grouped (body_rows options text))
-        (groups-are options text [] held_leaf.None (body_point options text) (lines_of options text) rows (refl, refl)
-        (text-are options text built small) quiet)
-        (text-match options text (Fit options text) are (text-fit options text built small are))
-        (rows-put options nothing (body_lines options text))
+    go (inr is) =
+        let left = is.left in
+        ap (λ (p : Point). tabled_groups options text (groups (text_rows options text p))) is.point
+        ∙ lines-same options text built small left.number left.index left.column left.fulls
+        (record { are = left.are; placed = left.placed })
+        ∙ ap (λ (lines : List TextLine). unlisted_groups options (grouped (exact_rows options nothing lines)))
+        (sym left.is)
 
 -- So does all of it, without lists,
 unlisted-is : (options : ParseOptions) (text : List ℕ) → IsWithoutMdx options → length text < 2 ^ 61 →

@@ -1,29 +1,26 @@
 -- The events of a group, and of the groups after it: that of a leaf on one line, and in general.
 use Rattle.std.proofs.Common.{◌≡◌, ℕ, true, false, List, [], ◌∷◌, ◌++◌, refl, sym, ap, ap₂, ◌∙◌, append-nil}
-use Rattle.std.proofs.lemmas.Bool.{and_parts}
-use Rattle.std.specs.Prelude.{◌&&◌, not}
 use Rattle.md_engine.specs.declared.configuration.ParseOptions.{ParseOptions}
 use Rattle.md_engine.specs.declared.event.Event.{Event}
 use Rattle.md_engine.specs.declared.event.Name.TheVariants as n
-use Rattle.md_leaves.specs.HeadingSetext.{turns_nothing}
-use Rattle.md_leaves.specs.HeadingSetextRule.{is_underline}
-use Rattle.md_meaning.specs.Leaves.{is_rule}
-use Rattle.md_meaning.specs.Rest.{trim_start}
-use Rattle.md_exact.specs.Blocks.{events_by, tail}
+use Rattle.md_exact.specs.Blocks.{events_by, tail, bare_events}
+use Rattle.md_exact.specs.Leaves as lines
 use Rattle.md_exact.specs.Leaves.{content_line}
-use Rattle.md_exact.specs.Rows.{Role, Row}
-use Rattle.proof_frame.specs.LeafName.{CodeFurther, HeadingAtx, LeafName, ThematicBreak}
+use Rattle.md_exact.specs.Rows.{Role, Row, First}
+use Rattle.proof_frame.specs.LeafName.{CodeFurther, HeadingAtx, LeafName}
 use Rattle.proof_frame.specs.Row.{BlankRow, LeafRow, Row as FrameRow, RowKind, TextRow, blank_line}
-use Rattle.proof_leaf_laws.specs.Leaf.ThematicBreak.{is_ruled}
 use Rattle.md_registry.specs.Registry.{leaf}
 use Rattle.proof_rows.specs.BlockList.{group_unread, tabled_group}
 use Rattle.proof_rows.specs.Rows.{Group, Single, final_row, first_row, group_ending, leaf_unread, tail_events}
 use Rattle.proof_rows.proofs.GroupLines.{IsSingle}
 use Rattle.proof_exact_lines.proofs.BeginsAt.{rest_bytes}
-use Rattle.proof_exact_lines.proofs.LeafLines.{blank-one, break-one, heading-one}
+use Rattle.proof_exact_lines.proofs.BareLine.{bare-one}
+use Rattle.proof_exact_lines.proofs.LeafLines.{blank-one, heading-one}
 use Rattle.proof_exact_lines.specs.Unlisted.{unlisted_group, without_lists}
 use Rattle.proof_exact.proofs.Fit.{Fit}
 use Rattle.proof_exact.proofs.FitLines.{MayEnd, blank-role, first-role, leaf-starts, line-is, read-as, tail-same}
+use Rattle.md_meaning.specs.State.{NoLeaf}
+use Rattle.md_registry.proofs.Registry.{EndsOnLine, IsBare, IsHeading, ends-on_line}
 
 -- A group, by what follows it and by its leaf.
 pub group-same : (options : ParseOptions) (bytes : List ℕ) (x : Row) (xs : List Row) (g : Group) →
@@ -39,17 +36,19 @@ group-same options bytes x xs g fit ends is =
 single-leaf : (options : ParseOptions) (bytes : List ℕ) (x : Row) (r : FrameRow) → Fit options bytes x r →
     (l : LeafName) → r.kind ≡ LeafRow l → (leaf l).ends ≡ true →
     events_by options x.role (x ∷ []) ≡ (leaf l).unread (rest_bytes x.rest) r.first
-single-leaf options bytes x r fit HeadingAtx e ends =
-    ap (λ (role : Role). events_by options role (x ∷ [])) (first-role options bytes x r fit HeadingAtx e refl)
-    ∙ heading-one x r.first (read-as options bytes x r fit).at
-single-leaf options bytes x r fit ThematicBreak e ends =
-    let starts = leaf-starts options bytes x r fit ThematicBreak e in
-    let ruled = (and_parts (is_ruled options x.rest)
-    (not (turns_nothing options r.on && is_underline (trim_start x.rest.bytes))) starts).0 in
-    ap (λ (role : Role). events_by options role (x ∷ [])) (first-role options bytes x r fit ThematicBreak e refl)
-    ∙ break-one x r.first (read-as options bytes x r fit).at
-    (and_parts _ (is_rule (trim_start x.rest.bytes)) ruled).1
-single-leaf options bytes x r fit _ e ends = cc
+single-leaf options bytes x r fit l e ends = by l (ends-on_line l ends) e
+  where
+    by : (l : LeafName) → EndsOnLine l → r.kind ≡ LeafRow l →
+        events_by options x.role (x ∷ []) ≡ (leaf l).unread (rest_bytes x.rest) r.first
+    by _ IsHeading e =
+        ap (λ (role : Role). events_by options role (x ∷ [])) (first-role options bytes x r fit HeadingAtx e refl)
+        ∙ heading-one x r.first (read-as options bytes x r fit).at
+    by _ (IsBare l bare) e =
+        ap (λ (role : Role). events_by options role (x ∷ []))
+        (first-role options bytes x r fit l e (bare.begins r.on) ∙ ap First (bare.finishes options NoLeaf x.rest))
+        ∙ ap (bare_events (x ∷ [])) bare.names
+        ∙ bare-one (leaf l) bare x r.first (read-as options bytes x r fit).at
+        (bare.marked options r.on x.rest (leaf-starts options bytes x r fit l e))
 
 single-events : (options : ParseOptions) (bytes : List ℕ) (x : Row) (r : FrameRow) → Fit options bytes x r →
     IsSingle options bytes r → events_by options x.role (x ∷ []) ≡ leaf_unread bytes r.kind r

@@ -30,5 +30,4 @@ pub mod Ends
 pub mod Endings
 pub mod Fed
 pub mod FedRows
-pub mod TextFit
-pub mod TextMet
+pub mod LinesExact

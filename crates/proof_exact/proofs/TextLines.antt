@@ -1,5 +1,5 @@
 -- The lines after the front of a text, by their bytes: they are those that rows are made of.
-use Rattle.std.proofs.Common.{◌≡◌, ◌≤◌, ◌⊎◌, inl, inr, ℕ, zero, suc, ◌+◌, ◌-◌, Bool, true, false, cond, List, [], ◌∷◌}
+use Rattle.std.proofs.Common.{◌≡◌, ◌≤◌, ◌⊎◌, inl, inr, ℕ, zero, suc, ◌+◌, Bool, true, false, cond, List, [], ◌∷◌}
 use Rattle.std.proofs.Common.{◌++◌, length, drop, refl, ap, ap₂, sym, ◌∙◌, subst, subst₂, append_assoc}
 use Rattle.std.proofs.Common.{arith}
 use Rattle.std.proofs.Math.Seq.{drop-append_seam, drop-nil}
@@ -36,7 +36,7 @@ some-ending Return = refl
 some-ending Both = refl
 
 -- The lines of a text, from a point on, have the bytes of its lines.
-have-bytes : (number index column : ℕ) (text : List ℕ) (fulls : List (List ℕ)) → IsLines text fulls →
+pub have-bytes : (number index column : ℕ) (text : List ℕ) (fulls : List (List ℕ)) → IsLines text fulls →
     HaveBytes column (lines_from number index column fulls) (split_lines text)
 have-bytes number index column text fulls NoLines = (refl, refl, tt)
 have-bytes number index column text fulls (LastLine b line h) =
@@ -272,28 +272,3 @@ body-lines options text = by (begins q lines (front-body options text)) left
     by (inl none) is = inl none
     by (inr from) (inl none) = inl none
     by (inr from) (inr is) = inr (some from is)
-
--- So they have the bytes of the lines of its body, of which the first begins in the column of that.
-pub body-bytes : (options : ParseOptions) (text : List ℕ) →
-    let q = body_point options text in
-    let lines = drop (front_size options text) (text_lines text) in
-    (lines ≡ []) ⊎ HaveBytes (q.column - 1) lines (split_lines (drop q.index text))
-body-bytes options text = go (body-lines options text)
-  where
-    q : Point
-    q = body_point options text
-
-    lines : List TextLine
-    lines = drop (front_size options text) (text_lines text)
-
-    go : (lines ≡ []) ⊎ BodyLines options text →
-        (lines ≡ []) ⊎ HaveBytes (q.column - 1) lines (split_lines (drop q.index text))
-    go (inl none) = inl none
-    go (inr is) =
-        let left = is.left in
-        let column : left.column + 1 - 1 ≡ left.column = omega arith in
-        inr
-        (subst (λ (p : Point). HaveBytes (p.column - 1) lines (split_lines (drop p.index text))) (sym is.point)
-        (subst₂
-        (λ (ls : List TextLine) (c : ℕ). HaveBytes c ls (split_lines (drop left.index text))) (sym left.is) (sym column)
-        (have-bytes left.number left.index left.column (drop left.index text) left.fulls left.are)))

@@ -24,7 +24,7 @@ use Rattle.md_meaning.proofs.FindsLemmas.{Finds, none-found, some-found, unless-
 use Rattle.md_exact.specs.Rows.{AfterCode, Blank, Delimiter, First, FirstText, Further, FurtherText, Role, Underline}
 use Rattle.md_exact.specs.Rows.{first_or, fresh_role, is_blank_role, role_on}
 use Rattle.proof_exact_lines.specs.Last.{HasLine, item_of, last_after, last_in, last_of}
-use Rattle.proof_exact_lines.proofs.LeafLines.{Starts, html_line-starts, leaf-starts}
+use Rattle.md_events.proofs.LeafBecomes.{Starts, html_line-starts, leaf-starts}
 
 -- What a line brings.
 

@@ -2,9 +2,9 @@
 -- has for its rest.
 use Rattle.std.proofs.Common.{◌≡◌, ℕ, zero, suc, ◌<◌, ◌≤◌, Bool, true, false, cond, ◌&&◌, ◌||◌, List, [], ◌∷◌, ◌++◌}
 use Rattle.std.proofs.Common.{length, take, drop, refl, sym, ap, ap₂, ◌∙◌, subst, append-nil, arith, map}
-use Rattle.std.specs.Prelude.{◌==◌, nat_le, nat_lt, count_by, Option, Some, None}
+use Rattle.std.specs.Prelude.{◌==◌, nat_lt}
 use Rattle.std.specs.List.{AllPass, list_all, prefix_len}
-use Rattle.std.proofs.lemmas.Bool.{and_from, and_parts, eq-eqb, or_right}
+use Rattle.std.proofs.lemmas.Bool.{and_from, and_parts, or_right}
 use Rattle.std.proofs.lemmas.List.{take-append-drop}
 use Rattle.std.proofs.lemmas.List.Folds.{list_all-append}
 use Rattle.md_engine.specs.declared.configuration.ParseOptions.{ParseOptions}
@@ -20,13 +20,8 @@ use Rattle.md_leaves.specs.declared.spans.Place.TheVariants.{Outside}
 use Rattle.md_leaves.proofs.TitleRuns.{pass-first, pass-rest}
 use Rattle.md_leaves.proofs.TitleTexts.{front-passes, front-stops}
 use Rattle.md_meaning.specs.Bytes.{begins, is_end}
-use Rattle.md_meaning.specs.Leaves.{is_rule, is_rule_marker, Finished, LeafResult, Opened, ParagraphContext, allows}
-use Rattle.md_meaning.specs.Leaves.{break_at, code_at, code_line, fence_at, fence_from, heading_at, heading_lines}
-use Rattle.md_meaning.specs.Leaves.{heading_text, html_at, html_by, html_line, is_fence_marker, is_free, least_size}
-use Rattle.md_meaning.specs.Leaves.{may_start, opening, starts}
 use Rattle.md_meaning.specs.Rest.{Rest, after_indent, cut_tab, indent, is_blank, is_white, lose, run_len, trim_start}
-use Rattle.md_meaning.specs.Rest.{has_small_indent, is_parted, line_of}
-use Rattle.md_meaning.specs.State.{Opening, OpenCode, OpenFence, OpenHtml}
+use Rattle.md_meaning.specs.State.{Opening}
 use Rattle.md_meaning.specs.Texts.{first_byte}
 use Rattle.md_events.specs.Events.Nested.{around, enter_link, exit, pair}
 use Rattle.md_events.specs.Events.Places.{past_text}
@@ -38,8 +33,6 @@ use Rattle.proof_frame.specs.Row.{blank_line}
 use Rattle.proof_frame.proofs.BetweenFacts.{all-more}
 use Rattle.proof_leaf_laws.specs.Leaf.HeadingAtx.{heading_leaf}
 use Rattle.proof_leaf_laws.specs.Leaf.HeadingSetext.{setext_leaf}
-use Rattle.proof_leaf_laws.specs.Leaf.ThematicBreak.{break_leaf}
-use Rattle.proof_leaf_laws.specs.Leaf.ThematicBreak as rule
 use Rattle.proof_literal_laws.specs.Leaf.CodeIndented.{code_events, code_parts}
 use Rattle.proof_literal_laws.specs.Leaf.CodeIndented as code
 use Rattle.proof_literal_laws.specs.Leaf.Fence.{fence_around, fence_line, held_of, linked, past_white, white_part}
@@ -57,100 +50,6 @@ use Rattle.proof_exact_lines.proofs.Lost.{line-lost}
 use Rattle.proof_exact_lines.proofs.OnLine.{begins-again}
 use Rattle.proof_exact_lines.proofs.Parts.{end-following}
 use Rattle.proof_exact_lines.proofs.Runs.{AreMarks, is_mark, line-runs}
-use Rattle.std.specs.Option.{option_or}
-use Rattle.md_meaning.specs.Ascii.{hash}
-use Rattle.md_meaning.specs.Html.{HtmlKind, html_ends, html_kind}
-use Rattle.md_meaning.specs.Tree.{Break, Heading, Html, Line}
-use Rattle.md_meaning.proofs.FindsLemmas.{Finds, first-found, none-found, some-found, when-found}
-
--- What a line begins that no leaf meets.
-
--- what begins: code, a fence, HTML, a heading or a break
-abbrev pub Starts : LeafResult → Type 0
-Starts (Opened (OpenCode lines)) = Unit {0}
-Starts (Opened (OpenFence o lines)) = Unit {0}
-Starts (Opened (OpenHtml kind lines)) = Unit {0}
-Starts (Opened leaf) = ⊥
-Starts (Finished Break) = Unit {0}
-Starts (Finished (Heading depth lines)) = Unit {0}
-Starts (Finished (Html lines)) = Unit {0}
-Starts (Finished block) = ⊥
-
--- where a test passes
-when-starts : (x : Bool) (c : LeafResult) → Starts c → Finds (cond x (Some c) None) Starts
-when-starts x c h = when-found Starts x (Some c) (λ e. some-found Starts c h)
-
-fence-starts : (options : ParseOptions) (columns : ℕ) (bytes : List ℕ) → Finds (fence_from options columns bytes) Starts
-fence-starts options columns [] = none-found Starts
-fence-starts options columns (m ∷ bytes) =
-    let size = run_len m (m ∷ bytes) in
-    let after = drop size (m ∷ bytes) in
-    when-starts (is_fence_marker options m && nat_le (least_size m) size && allows m after)
-    (Opened (OpenFence (opening m size columns (trim_start after)) [])) tt
-
-pub html_line-starts : (kind : HtmlKind) (lines : List Line) (r : Rest) → Starts (html_line kind lines r)
-html_line-starts kind lines r = go (html_ends kind r.bytes)
-  where
-    go : (x : Bool) → Starts (cond x (Finished (Html (lines ++ line_of r ∷ [])))
-        (Opened (OpenHtml kind (lines ++ line_of r ∷ []))))
-    go true = tt
-    go false = tt
-
-html-starts : (against : ParagraphContext) (r : Rest) (kind : Option HtmlKind) → Finds (html_by against r kind) Starts
-html-starts against r None = none-found Starts
-html-starts against r (Some kind) =
-    when-found Starts (may_start against kind) (Some (html_line kind [] r))
-    (λ e. some-found Starts (html_line kind [] r) (html_line-starts kind [] r))
-
-code_at-starts : (options : ParseOptions) (against : ParagraphContext) (r : Rest) →
-    Finds (code_at options against r) Starts
-unfolding code_at
-code_at-starts options against r =
-    when-starts (options.constructs.code_indented && is_free against && nat_le 4 (indent r))
-    (Opened (OpenCode (code_line r ∷ []))) tt
-
-fence_at-starts : (options : ParseOptions) (r : Rest) → Finds (fence_at options r) Starts
-unfolding fence_at
-fence_at-starts options r =
-    when-found Starts (has_small_indent options r) (fence_from options (indent r) (trim_start r.bytes))
-    (λ e. fence-starts options (indent r) (trim_start r.bytes))
-
-html_at-starts : (options : ParseOptions) (against : ParagraphContext) (r : Rest) →
-    Finds (html_at options against r) Starts
-unfolding html_at
-html_at-starts options against r =
-    when-found Starts (options.constructs.html_flow && has_small_indent options r)
-    (html_by against r (html_kind (trim_start r.bytes))) (λ e. html-starts against r (html_kind (trim_start r.bytes)))
-
-heading_at-starts : (options : ParseOptions) (r : Rest) → Finds (heading_at options r) Starts
-unfolding heading_at
-heading_at-starts options r =
-    let text = trim_start r.bytes in
-    let depth = run_len hash text in
-    when-starts
-    (options.constructs.heading_atx && has_small_indent options r && nat_le 1 depth && nat_le depth 6
-    && is_parted (drop depth text))
-    (Finished (Heading depth (heading_lines (heading_text (drop depth text))))) tt
-
-break_at-starts : (options : ParseOptions) (r : Rest) → Finds (break_at options r) Starts
-unfolding break_at
-break_at-starts options r =
-    when-starts
-    (options.constructs.thematic_break && has_small_indent options r && is_rule (trim_start r.bytes))
-    (Finished Break) tt
-
-pub leaf-starts : (options : ParseOptions) (against : ParagraphContext) (r : Rest) →
-    Finds (starts options against r) Starts
-unfolding starts
-leaf-starts options against r =
-    let heading = option_or (heading_at options r) (break_at options r) in
-    let html = option_or (html_at options against r) heading in
-    first-found Starts (code_at options against r) (option_or (fence_at options r) html)
-    (code_at-starts options against r)
-    (first-found Starts (fence_at options r) html (fence_at-starts options r)
-    (first-found Starts (html_at options against r) heading (html_at-starts options against r)
-    (first-found Starts (heading_at options r) (break_at options r) (heading_at-starts options r)
-    (break_at-starts options r))))
 
 -- A leaf on one line.
 
@@ -179,7 +78,7 @@ heading-one row p at =
     leaf-one n.HeadingAtx heading_line row p at
     ∙ ap (around n.HeadingAtx p (end_at row.rest p)) (heading-line row.line row.rest p at)
 
--- Thematic breaks and underlines.
+-- Lines of markers.
 
 -- whitespace and markers are marks
 white-mark : (m b : ℕ) → is_white b ≡ true → is_mark m b ≡ true
@@ -196,7 +95,7 @@ pass-marks f m (b ∷ bytes) more h =
     (pass-marks f m bytes more (pass-rest f b bytes h))
 
 -- the bytes after the whitespace of a rest, with a tab that is cut or without
-trim-cut : (r : Rest) → trim_start (rest_bytes r) ≡ trim_start r.bytes
+pub trim-cut : (r : Rest) → trim_start (rest_bytes r) ≡ trim_start r.bytes
 trim-cut r = go r.spaces
   where
     go : (spaces : ℕ) → trim_start (cut_tab spaces ++ r.bytes) ≡ trim_start r.bytes
@@ -204,7 +103,7 @@ trim-cut r = go r.spaces
     go (suc k) = ap (λ (i : ℕ). drop i (9 ∷ r.bytes)) (count-one is_white 9 r.bytes refl)
 
 -- the runs of a line of marks that is not blank
-marks-line : (name : Name) (line : TextLine) (r : Rest) (p : Point) (m : ℕ) (bytes : List ℕ) → BeginsAt line r p →
+pub marks-line : (name : Name) (line : TextLine) (r : Rest) (p : Point) (m : ℕ) (bytes : List ℕ) → BeginsAt line r p →
     trim_start r.bytes ≡ m ∷ bytes → AreMarks m (m ∷ bytes) →
     runs_line name line r ≡ mark_runs name Apart m (rest_bytes r) p
 marks-line name line r p m bytes at e h =
@@ -230,27 +129,6 @@ marks-line name line r p m bytes at e h =
     some : (xs : List ℕ) → trim_start xs ≡ m ∷ bytes → 0 < length xs
     some [] k = cc
     some (x ∷ xs) k = omega arith
-
-pub break-one : (row : Row) (p : Point) → BeginsAt row.line row.rest p → is_rule (trim_start row.rest.bytes) ≡ true →
-    leaf n.ThematicBreak (runs_line n.ThematicBreakSequence) (row ∷ []) ≡ break_leaf.unread (rest_bytes row.rest) p
-break-one row p at h =
-    leaf-one n.ThematicBreak (runs_line n.ThematicBreakSequence) row p at
-    ∙ ap (around n.ThematicBreak p (end_at row.rest p))
-    (go (trim_start row.rest.bytes) refl h
-    ∙ ap (λ (l : List ℕ). mark_runs n.ThematicBreakSequence Apart (rule.first_byte l) (rest_bytes row.rest) p)
-    (sym (trim-cut row.rest)))
-  where
-    go : (bytes : List ℕ) → trim_start row.rest.bytes ≡ bytes → is_rule bytes ≡ true →
-        runs_line n.ThematicBreakSequence row.line row.rest ≡
-        mark_runs n.ThematicBreakSequence Apart (rule.first_byte bytes) (rest_bytes row.rest) p
-    go [] e k = cc
-    go (m ∷ bytes) e k =
-        let both = and_parts (is_rule_marker m && list_all (is_mark m) bytes)
-        (nat_le 2 (count_by (λ (b : ℕ). b == m) bytes)) k in
-        let marks = (and_parts (is_rule_marker m) (list_all (is_mark m) bytes) both.0).1 in
-        let first : is_mark m m ≡ true = ap (λ (t : Bool). t || is_white m) (eq-eqb m m refl) in
-        marks-line n.ThematicBreakSequence row.line row.rest p m bytes at e
-        (and_from (is_mark m m) (list_all (is_mark m) bytes) first marks)
 
 pub underline-one : (row : Row) (p : Point) → BeginsAt row.line row.rest p →
     is_underline (trim_start row.rest.bytes) ≡ true →

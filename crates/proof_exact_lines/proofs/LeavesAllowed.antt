@@ -1,25 +1,30 @@
 -- Each leaf of the lines of a body holds no item, and is the next block for what is before it.
-use Rattle.std.proofs.Common.{◌≡◌, ℕ, Bool, true, false, cond, List, [], ◌∷◌, ◌++◌, refl, ap, sym, ◌∙◌}
-use Rattle.std.proofs.Common.{subst, append-nil}
-use Rattle.std.specs.Prelude.{◌==◌, None}
+use Rattle.std.proofs.Common.{◌≡◌, ℕ, Bool, true, false, cond, List, [], ◌∷◌, ◌++◌, refl, ap, sym, ◌∙◌, subst}
+use Rattle.std.proofs.Common.{append-nil}
+use Rattle.std.specs.Prelude.{◌==◌, Option, None}
 use Rattle.std.specs.Option.{is_some}
 use Rattle.md_engine.specs.declared.configuration.ParseOptions.{ParseOptions}
 use Rattle.md_engine.specs.declared.event.Event.{Event}
+use Rattle.md_engine.specs.declared.event.Kind.TheVariants.{Enter}
+use Rattle.md_engine.specs.declared.event.Name.{Name}
 use Rattle.md_engine.specs.declared.event.Name.TheVariants as n
 use Rattle.md_engine.specs.declared.event.Point.{Point}
 use Rattle.md_meaning.specs.Ascii.{dollar}
 use Rattle.md_meaning.specs.Leaves.{Finished, LeafResult, Opened, is_continued}
 use Rattle.md_meaning.specs.Rest.{Rest, after_indent, is_blank}
 use Rattle.md_meaning.specs.State.{Leaf, OpenCode, OpenFence, OpenHtml, Path, spot}
-use Rattle.md_meaning.specs.Tree.{Break, Heading, Html}
+use Rattle.md_meaning.specs.declared.outline.Word.{Word}
+use Rattle.md_meaning.specs.Tree.{Bare, Heading, Html}
 use Rattle.md_events.specs.Events.Blocks.{is_block}
 use Rattle.md_events.specs.Events.Nested.{enter, exit}
-use Rattle.md_events.specs.Events.Spelled.{role}
-use Rattle.md_containers.specs.Listed.{next_item}
+use Rattle.md_events.specs.Events.Spelled as spelled
+use Rattle.md_events.specs.Events.Spelled.{LeafRole, OfBare, role}
+use Rattle.md_events.proofs.LeafBecomes.{IsBare, Starts, leaf-starts}
+use Rattle.md_containers.specs.Listed.{is_item, marker_ahead, next_by, next_item}
 use Rattle.md_exact.specs.Blocks as blocks
-use Rattle.md_exact.specs.Blocks.{grouped, leaf_events}
-use Rattle.md_exact.specs.Leaves.{content_line, fence_part, fenced_line, for_marker, heading_line, info_parts}
-use Rattle.md_exact.specs.Leaves.{joined, last_end, leaf, onto_next, runs_line, span, start}
+use Rattle.md_exact.specs.Blocks.{bare_events, grouped, leaf_events}
+use Rattle.md_exact.specs.Leaves.{content_line, fence_part, fenced_line, for_marker, heading_line, info_parts, joined}
+use Rattle.md_exact.specs.Leaves.{last_end, leaf, onto_next, runs_line, span, start}
 use Rattle.md_exact.specs.Places.{TextLine, white, whole}
 use Rattle.md_exact.specs.Prefixes.{further_prefixes}
 use Rattle.md_exact.specs.Rows.{AfterCode, Blank, Delimiter, First, FirstText, Further, FurtherText, Head, Role, Row}
@@ -32,7 +37,6 @@ use Rattle.proof_exact_lines.proofs.GroupEvents.{first_group, grouped-first, res
 use Rattle.proof_exact_lines.proofs.LeafEvents.{Plain, content-items, fence-items, heading-items, leaf-items}
 use Rattle.proof_exact_lines.proofs.LeafEvents.{runs_line-items, table-items}
 use Rattle.proof_exact_lines.proofs.LeafLast.{fresh-cases}
-use Rattle.proof_exact_lines.proofs.LeafLines.{Starts, leaf-starts}
 use Rattle.proof_exact_lines.proofs.LineWalk.{after}
 use Rattle.proof_exact_lines.proofs.ListWalk.{further-none, none-piece}
 use Rattle.proof_exact_lines.proofs.RowLast.{begins-facts, on_of, remains-facts}
@@ -145,6 +149,23 @@ name-leads bytes m es p rest = go (m == dollar)
     go true = refl
     go false = refl
 
+bare-leads : (bytes : List ℕ) (name : Name) (w : Word) (p : Point) (es : List Event) → role name ≡ LeafRole (OfBare w) →
+    next_item bytes (enter name p ∷ es) ≡ None
+bare-leads bytes name w p es is =
+    ap (λ (x : spelled.Role). next_by Enter x (marker_ahead bytes es) (next_item bytes es)) is
+
+bare-is : (bytes : List ℕ) (w : Word) (bare : IsBare w) (row : Row) (rows : List Row) → Plain rows →
+    IsLeaf bytes (leaf bare.block (runs_line bare.run) (row ∷ rows))
+bare-is bytes w bare row rows k = record {
+  items =
+      leaf-items bare.block (runs_line bare.run) (ap is_item bare.is) (runs_line-items bare.run (ap is_item bare.quiet))
+      row rows k;
+  next = λ rest.
+      bare-leads bytes bare.block w (start (row ∷ rows))
+      ((joined (runs_line bare.run) (row ∷ rows) ++ exit bare.block (start (last_end (row ∷ rows))) ∷ []) ++ rest)
+      bare.is;
+}
+
 first-is : (options : ParseOptions) (bytes : List ℕ) (c : LeafResult) (row : Row) (rows : List Row) → Starts c →
     Plain rows → IsLeaf bytes (leaf_events options c (row ∷ rows))
 first-is options bytes (Opened (OpenCode lines)) row rows h k = record {
@@ -170,12 +191,9 @@ first-is options bytes (Opened (OpenHtml kind lines)) row rows h k = record {
   next = λ rest. refl;
 }
 first-is options bytes (Opened _) row rows h k = absurd h
-first-is options bytes (Finished Break) row rows h k = record {
-  items =
-      leaf-items n.ThematicBreak (runs_line n.ThematicBreakSequence) refl (runs_line-items n.ThematicBreakSequence refl)
-      row rows k;
-  next = λ rest. refl;
-}
+first-is options bytes (Finished (Bare word)) row rows h k =
+    subst (λ (names : Option (Name × Name)). IsLeaf bytes (bare_events (row ∷ rows) names)) (sym h.names)
+    (bare-is bytes word h row rows k)
 first-is options bytes (Finished (Heading depth lines)) row rows h k = record {
   items = leaf-items n.HeadingAtx heading_line refl heading-items row rows k;
   next = λ rest. refl;

@@ -14,6 +14,7 @@ pub mod Lost
 pub mod Fences
 pub mod OnLine
 pub mod LeafLines
+pub mod BareLine
 pub mod Spans
 pub mod FlowLines
 pub mod TextLines

@@ -1,4 +1,5 @@
 pub mod AroundOutside
+pub mod BareLine
 pub mod BetweenFacts
 pub mod BlankLine
 pub mod ChunkFacts

@@ -24,10 +24,10 @@ use Rattle.proof_rows.specs.Rows.{inside_or, is_further, kind_of, line_kind}
 use Rattle.proof_table_laws.proofs.GfmTable.Found.{table-proceeds}
 use Rattle.proof_rows.proofs.KindLemmas.{kind-plain, kind-starts}
 use Rattle.md_registry.proofs.OpenSpan.{BecomesShallow, OpenSpan}
-use Rattle.md_registry.proofs.LeafStarts.{IsAgainst, result_of, leaf_at}
+use Rattle.md_registry.proofs.Dispatch.{IsAgainst, result_of, leaf_at, or_table, other_at, other_trials, table-last}
 use Rattle.md_registry.proofs.SpanLeaves.{code-open, fence-open, html-open}
 use Rattle.md_registry.proofs.Registry.{bars_containers-none, insider-open, laws, text-laws}
-use Rattle.proof_rows.proofs.RegistryFound.{or_table, other_at, other_trials, table-last, untabled-at, untext-found}
+use Rattle.proof_rows.proofs.RegistryFound.{untabled-at, untext-found}
 use Rattle.proof_frame.proofs.ShallowBlocks.{shallow-then}
 use Rattle.proof_rows.proofs.TableStarts.{asked-untabled}
 

@@ -28,14 +28,15 @@ use Rattle.proof_table_laws.proofs.GfmTable.Found.{table-found}
 use Rattle.md_registry.specs.OpenSpan.{IsBuiltLeaf, IsOpenSpan}
 use Rattle.md_registry.specs.Registry.{leaf}
 use Rattle.md_registry.proofs.HeadingSetext.Found.{setext-found}
-use Rattle.md_registry.proofs.LeafStarts.{result_of, leaf_at, lost-none, setext-taken, text-starts}
+use Rattle.md_registry.proofs.Dispatch.{result_of, leaf_at, lost-none, setext-taken, text-starts, or_table, other_at}
+use Rattle.md_registry.proofs.Dispatch.{table-last}
 use Rattle.md_registry.proofs.Registry.{insider-none, text-laws}
 use Rattle.proof_rows.specs.Rows.{is_further, kind_of, line_kind}
 use Rattle.proof_rows.proofs.ContainedLemmas.{lines-unlazy}
 use Rattle.proof_rows.proofs.FurtherSpan.{FurtherSpan, context-none, further-span, met-none, none-further, other-begins}
 use Rattle.proof_rows.proofs.FurtherSpan.{other_kind, span-lazy}
 use Rattle.proof_rows.proofs.KindLemmas.{kind-plain}
-use Rattle.proof_rows.proofs.RegistryFound.{or_table, other_at, table-last, untabled-at, untext-found}
+use Rattle.proof_rows.proofs.RegistryFound.{untabled-at, untext-found}
 use Rattle.proof_rows.proofs.TextFound.{Ended, following-text, ended, knows-head, lazy_on, may-left, text-others}
 use Rattle.proof_rows.proofs.TextFound.{text_on, underlined-untabled, unturned-setext}
 

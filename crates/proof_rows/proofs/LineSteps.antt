@@ -37,9 +37,9 @@ use Rattle.proof_rows.proofs.ContainedLemmas.{change-opens, ended-open, lazy-som
 use Rattle.proof_rows.proofs.KindLemmas.{kind-plain}
 use Rattle.proof_rows.proofs.FurtherSpan.{FurtherSpan, built-concrete, context-none, further-span, met-none}
 use Rattle.proof_rows.proofs.FurtherSpan.{none-further, other-begins, other_kind, span-lazy}
-use Rattle.md_registry.proofs.LeafStarts.{result_of, leaf_at, text-starts}
+use Rattle.md_registry.proofs.Dispatch.{result_of, leaf_at, text-starts, other_at}
 use Rattle.md_registry.proofs.Registry.{insider-none, text-laws}
-use Rattle.proof_rows.proofs.RegistryFound.{other_at, untabled-at, untext-found}
+use Rattle.proof_rows.proofs.RegistryFound.{untabled-at, untext-found}
 use Rattle.proof_rows.proofs.TextFound.{front_before, lazy_on, text-becomes, text_result, text_on}
 
 -- Leaves of several lines.

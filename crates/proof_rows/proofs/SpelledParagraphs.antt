@@ -28,7 +28,7 @@ use Rattle.proof_frame.specs.Row.{BlankRow, Row, TextRow, after_row, last_row, r
 use Rattle.proof_rows.specs.Rows.{kind_of}
 use Rattle.proof_frame.proofs.FrontFacts.{LinePrefix}
 use Rattle.proof_frame.proofs.PlainRoles.{chunk-roles}
-use Rattle.md_registry.proofs.LeafStarts.{leaf_at}
+use Rattle.md_registry.proofs.Dispatch.{leaf_at}
 use Rattle.proof_rows.proofs.RowFacts as f
 use Rattle.proof_frame.proofs.CollectFacts.{Collects, collects-inline, collects-following, collects-back}
 use Rattle.proof_frame.proofs.ParagraphLines.{IsRead, begins-white, collects-fronts, ends-before, fronts-between}

@@ -35,7 +35,7 @@ use Rattle.proof_rows.proofs.LineSteps.{after_path, becomes_by, contained-lazy, 
 use Rattle.proof_rows.proofs.LineSteps.{continues_further, continues_lazy, kept_to, longer, new_line, path_by, renewed}
 use Rattle.proof_rows.proofs.LineSteps.{renewed-spot, spot_by, step-contained, with_result}
 use Rattle.md_registry.proofs.OpenSpan.{Begun, BecomesShallow, TurnsText}
-use Rattle.md_registry.proofs.LeafStarts.{text-turns}
+use Rattle.md_registry.proofs.Dispatch.{text-turns}
 use Rattle.md_registry.proofs.SpanLeaves.{leaf-begun}
 use Rattle.md_registry.proofs.Registry.{laws, text-laws}
 use Rattle.proof_frame.proofs.ShallowBlocks.{shallow-then}

@@ -40,9 +40,9 @@ use Rattle.proof_table_laws.proofs.GfmTable.Found.{KnowsHead, table-found}
 use Rattle.md_registry.proofs.HeadingSetext.Found.{none-underlined, setext-found}
 use Rattle.proof_rows.proofs.KindLemmas.{first-passes}
 use Rattle.proof_frame.proofs.LastKept.{last-is}
-use Rattle.md_registry.proofs.LeafStarts.{result_of, leaf_at, lost-none, setext-taken}
+use Rattle.md_registry.proofs.Dispatch.{result_of, leaf_at, lost-none, setext-taken, or_table, other-headless, other_at}
+use Rattle.md_registry.proofs.Dispatch.{other_trials, others-found, table-last}
 use Rattle.md_registry.proofs.Registry.{text-laws}
-use Rattle.proof_rows.proofs.RegistryFound.{or_table, other-headless, other_at, other_trials, others-found, table-last}
 use Rattle.md_registry.proofs.UnderNames.{further-text}
 
 -- what is held of these lines, and as what a lazy line meets it

@@ -1,6 +1,7 @@
 // The blocks of a tree: what a text means, with slices of it.
 
 use md_meaning::alert::AlertKind;
+use md_meaning::outline::Word;
 
 /// A line of code, HTML or math: columns left of a cut tab, and then bytes.
 #[derive(Clone, Copy)]
@@ -24,7 +25,8 @@ pub enum Block<'a> {
     Footnote(&'a [u8], Vec<Block<'a>>),
     /// The depth, and the lines.
     Heading(u8, Vec<&'a [u8]>),
-    Break,
+    /// One of which nothing is known but the word that shows it.
+    Bare(Word),
     Code(Vec<Line<'a>>),
     Html(Vec<Line<'a>>),
     /// The byte of the fences, info, meta, the lines, and whether there is a closing fence.

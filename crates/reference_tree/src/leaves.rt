@@ -15,6 +15,7 @@ ghost use Rattle.reference_tree.specs.States.{leaf_meaning, proceeded_option, Ha
 use crate::state::{Leaf, LeafResult, Opening, ParagraphContext};
 use md_engine::configuration::ParseOptions;
 use md_engine::message::Message;
+use md_meaning::outline::Word;
 use md_scan::bytes::{is_blank, is_parted, is_white, run_len, trim_start};
 use md_scan::heading::heading_text;
 use md_scan::memory;
@@ -58,7 +59,7 @@ fn break_at<'a>(options: &ParseOptions, rest: &Rest<'a>) -> Option<LeafResult<'a
     ensures { result_option result ≡ leaves.break_at options.now (rest_meaning rest.now) }
 {
     if options.constructs.thematic_break && rest.has_small_indent(options) && is_rule(rest.text()) {
-        Some(LeafResult::Finished(Block::Break))
+        Some(LeafResult::Finished(Block::Bare(Word::Break)))
     } else {
         None
     }

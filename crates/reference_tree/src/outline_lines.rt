@@ -289,7 +289,7 @@ fn push_block<'a>(
         Block::Item(_, _, _) => push_word(outline, depth, Word::Item),
         Block::Footnote(label, _) => push_footnote(outline, depth, label),
         Block::Heading(level, lines) => push_lined(outline, depth, Word::Heading(*level), lines),
-        Block::Break => push_word(outline, depth, Word::Break),
+        Block::Bare(word) => push_word(outline, depth, *word),
         Block::Code(lines) => push_spaced(outline, depth, Word::Code, lines),
         Block::Html(lines) => push_spaced(outline, depth, Word::Html, lines),
         Block::Fence(marker, info, meta, lines, closed) => {

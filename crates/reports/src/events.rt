@@ -2,7 +2,7 @@
 
 use crate::position::Place;
 use markdown_blocks::event::{Event, Kind};
-use printing::names::text_of;
+use markdown_blocks::names::text_of;
 use serde::Serialize;
 use std::alloc::{AllocError, Global};
 

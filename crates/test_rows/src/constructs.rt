@@ -1,6 +1,7 @@
 // Sets of constructs, by their names.
 
 use md_engine::configuration::Constructs;
+use md_meaning::outline::Word;
 
 /// The names of the constructs of `Constructs::ALERTS`.
 pub const NAMES: [&str; 14] = [
@@ -71,5 +72,26 @@ pub fn both(a: &Constructs, b: &Constructs) -> Constructs {
         math_flow: a.math_flow && b.math_flow,
         thematic_break: a.thematic_break && b.thematic_break,
         ..Constructs::NONE
+    }
+}
+
+/// Whether nothing makes a word without the construct of this name. Headings of depth 1 and 2 are of two constructs,
+/// which their events show apart.
+pub fn is_of(word: Word, name: &str) -> bool {
+    match word {
+        Word::Frontmatter(_) => name == "frontmatter",
+        Word::Heading(depth) => depth > 2 && name == "heading_atx",
+        Word::Break => name == "thematic_break",
+        Word::Code => name == "code_indented",
+        Word::Fence { .. } => name == "code_fenced",
+        Word::Math { .. } => name == "math_flow",
+        Word::Html => name == "html_flow",
+        Word::Definition => name == "definition",
+        Word::Table(_) => name == "gfm_table",
+        Word::Quote => name == "block_quote",
+        Word::Alert(_) => name == "alerts" || name == "block_quote",
+        Word::List(_) => name == "list_item",
+        Word::Footnote => name == "gfm_footnote_definition",
+        _ => false,
     }
 }

@@ -5,32 +5,10 @@ use crate::report::Report;
 use crate::rows::options_of;
 use md_engine::configuration::Constructs;
 use md_engine::event::{Event, Name};
-use md_meaning::outline::Word;
 use md_program::body::{Body, MOST};
 use std::alloc::Global;
 use test_rows::case::{Case, CaseError};
-use test_rows::constructs::{NAMES, switch};
-
-/// Whether nothing makes a word without the construct of this name. Headings of depth 1 and 2 are of two constructs,
-/// which their events show apart.
-fn is_of(word: Word, name: &str) -> bool {
-    match word {
-        Word::Frontmatter(_) => name == "frontmatter",
-        Word::Heading(depth) => depth > 2 && name == "heading_atx",
-        Word::Break => name == "thematic_break",
-        Word::Code => name == "code_indented",
-        Word::Fence { .. } => name == "code_fenced",
-        Word::Math { .. } => name == "math_flow",
-        Word::Html => name == "html_flow",
-        Word::Definition => name == "definition",
-        Word::Table(_) => name == "gfm_table",
-        Word::Quote => name == "block_quote",
-        Word::Alert(_) => name == "alerts" || name == "block_quote",
-        Word::List(_) => name == "list_item",
-        Word::Footnote => name == "gfm_footnote_definition",
-        _ => false,
-    }
-}
+use test_rows::constructs::{NAMES, is_of, switch};
 
 /// Whether this is an event of a heading of the construct of this name.
 fn is_heading_of(event: &Event, name: &str) -> bool {

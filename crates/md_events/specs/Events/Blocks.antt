@@ -1,6 +1,7 @@
 -- Which events are of blocks.
-use Rattle.std.specs.Prelude.{Bool, true, false}
-use Rattle.md_events.specs.Events.Spelled.{AsParagraph, ContainerRole, LeafRole, OfBreak, OfCode, OfDefinition, OfFence}
+use Rattle.std.specs.Prelude.{Bool, true, false, Option, Some, None}
+use Rattle.md_meaning.specs.declared.outline.Word.{Word}
+use Rattle.md_events.specs.Events.Spelled.{AsParagraph, ContainerRole, LeafRole, OfBare, OfCode, OfDefinition, OfFence}
 use Rattle.md_events.specs.Events.Spelled.{OfFrontmatter, OfHeadingAtx, OfHeadingSetext, OfHtml, OfMath, OfTable, Role}
 use Rattle.md_events.specs.Events.Spelled.{TextRole}
 
@@ -24,12 +25,17 @@ is_literal (LeafRole OfMath) = true
 is_literal (LeafRole OfHtml) = true
 is_literal _ = false
 
--- whether it is a heading or a break
-abbrev pub is_heading_or_break : Role → Bool
-is_heading_or_break (LeafRole OfHeadingAtx) = true
-is_heading_or_break (LeafRole OfHeadingSetext) = true
-is_heading_or_break (LeafRole OfBreak) = true
-is_heading_or_break _ = false
+-- the word of a leaf block of which nothing else is known
+abbrev pub bare_word : Role → Option Word
+bare_word (LeafRole (OfBare word)) = Some word
+bare_word _ = None
+
+-- whether it is a heading, or a leaf block of which nothing is known but its word
+abbrev pub is_heading_or_bare : Role → Bool
+is_heading_or_bare (LeafRole OfHeadingAtx) = true
+is_heading_or_bare (LeafRole OfHeadingSetext) = true
+is_heading_or_bare (LeafRole (OfBare word)) = true
+is_heading_or_bare _ = false
 
 -- whether it is any other leaf block with parts
 abbrev pub has_other_parts : Role → Bool

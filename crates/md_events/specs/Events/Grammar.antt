@@ -10,9 +10,10 @@ use Rattle.md_engine.specs.declared.event.Kind.TheVariants.{Enter, Exit}
 use Rattle.md_engine.specs.declared.event.Name.{Name}
 use Rattle.md_engine.specs.declared.event.Name.TheVariants as n
 use Rattle.md_events.specs.Events.Names.{facts}
+pub use Rattle.md_events.specs.Events.Names.{after_block, block, blocks}
 pub use Rattle.md_events.specs.Events.Words.{Expression, Many, Never, Nothing, One, Or, Then, and_then, following}
-pub use Rattle.md_events.specs.Events.Words.{after_block, block, blocks, line_break, may_end, next_line, one, optional}
-pub use Rattle.md_events.specs.Events.Words.{or_else, plain_text, prefixes, some, unread_text, white}
+pub use Rattle.md_events.specs.Events.Words.{line_break, may_end, next_line, one, optional, or_else, plain_text}
+pub use Rattle.md_events.specs.Events.Words.{prefixes, some, unread_text, white}
 
 -- What is in a part of each name, where this is in text parts.
 abbrev pub inside : Expression → Name → Expression

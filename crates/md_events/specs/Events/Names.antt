@@ -9,10 +9,12 @@ use Rattle.md_events.specs.declared.inline.PartKind.{PartKind}
 use Rattle.md_events.specs.declared.inline.PartKind.TheVariants as k
 use Rattle.md_meaning.specs.Ascii.{backtick, dollar, hash, hyphen, space, tab}
 use Rattle.md_meaning.specs.Rest.{is_blank}
+use Rattle.md_meaning.specs.declared.outline.Word.{Word}
+use Rattle.md_meaning.specs.declared.outline.Word.TheVariants as word
 use Rattle.md_events.specs.Events.Roles.{AsCell, AsDelimiter, AsDestination, AsDigits, AsFootnoteLabel, AsHeading}
 use Rattle.md_events.specs.Events.Roles.{AsInfo, AsItemMarker, AsLabel, AsLine, AsMarkers, AsMeta, AsParagraph, AsTitle}
 use Rattle.md_events.specs.Events.Roles.{ContainerRole, FootnoteShape, IsCell, IsEnding, IsFence, IsPrefix, IsQuiet}
-use Rattle.md_events.specs.Events.Roles.{IsQuoteMarker, IsRow, IsTitle, ItemShape, LeafKind, LeafRole, OfBreak, OfCode}
+use Rattle.md_events.specs.Events.Roles.{IsQuoteMarker, IsRow, IsTitle, ItemShape, LeafKind, LeafRole, OfBare, OfCode}
 use Rattle.md_events.specs.Events.Roles.{OfDefinition, OfFence, OfFrontmatter, OfHeadingAtx, OfHeadingSetext, OfHtml}
 use Rattle.md_events.specs.Events.Roles.{OfMath, OfTable, OrderedShape, Purpose, QuoteShape, Role, Shape, TextRole}
 use Rattle.md_events.specs.Events.Roles.{UnorderedShape}
@@ -20,8 +22,8 @@ use Rattle.md_events.specs.Events.PieceRules.{is_address, is_break_run, is_byte_
 use Rattle.md_events.specs.Events.PieceRules.{is_escaped, is_frontmatter_sequence, is_in_line, is_item_value}
 use Rattle.md_events.specs.Events.PieceRules.{is_line_ending, is_one_of, is_quote_marker, is_run}
 use Rattle.md_events.specs.Events.PieceRules.{is_strikethrough_sequence, is_strong_sequence, is_underline}
-use Rattle.md_events.specs.Events.Words.{Expression, Many, Nothing, One, Then, blocks, line_break, next_line, one}
-use Rattle.md_events.specs.Events.Words.{optional, some, white}
+use Rattle.md_events.specs.Events.Words.{Expression, Many, Nothing, One, Then, line_break, next_line, one, optional}
+use Rattle.md_events.specs.Events.Words.{prefixes, some, white}
 
 -- What a name says of the line on which it is.
 pub data OnLine : Type 0 where
@@ -110,6 +112,23 @@ inline_part text = record (plain text) { is_inline = true }
 abbrev pub inline_piece : String → (List ℕ → Bool) → NameFacts
 inline_piece text rule = record (piece text rule) { is_inline = true }
 
+-- The blocks of a container.
+
+abbrev pub block : Expression
+block =
+    One
+    (n.BlockQuote ∷ n.ListOrdered ∷ n.ListUnordered ∷ n.GfmFootnoteDefinition ∷ n.HeadingAtx ∷ n.HeadingSetext
+    ∷ n.ThematicBreak ∷ n.CodeIndented ∷ n.CodeFenced ∷ n.MathFlow ∷ n.HtmlFlow ∷ n.Definition ∷ n.Paragraph
+    ∷ n.GfmTable ∷ [])
+
+-- after a block: two blocks never are on one line
+abbrev pub after_block : Expression
+after_block = Many (Then line_break (optional block))
+
+-- the blocks of a container, with the line endings between them
+abbrev pub blocks : Expression
+blocks = Then (Then prefixes (optional block)) after_block
+
 -- The rows.
 abbrev pub facts : Name → NameFacts
 -- frontmatter: a fence, lines, and a fence
@@ -168,7 +187,8 @@ facts n.HeadingSetextUnderline =
     part_with "HeadingSetextUnderline" (Then white (Then (one n.HeadingSetextUnderlineSequence) white))
 facts n.HeadingSetextUnderlineSequence = text_piece "HeadingSetextUnderlineSequence" AsMarkers is_underline
 -- a thematic break
-facts n.ThematicBreak = leaf "ThematicBreak" OfBreak (Then white (some (Then (one n.ThematicBreakSequence) white)))
+facts n.ThematicBreak =
+    leaf "ThematicBreak" (OfBare word.Break) (Then white (some (Then (one n.ThematicBreakSequence) white)))
 facts n.ThematicBreakSequence = piece "ThematicBreakSequence" is_break_run
 -- indented code: its indent and its lines, of which the first is not empty
 facts n.CodeIndented =
@@ -349,3 +369,12 @@ facts n.GfmTaskListItemCheck = inline_part "GfmTaskListItemCheck"
 facts n.GfmTaskListItemMarker = inline_piece "GfmTaskListItemMarker" (is_one_of (codes "[]"))
 facts n.GfmTaskListItemValueChecked = inline_piece "GfmTaskListItemValueChecked" (is_one_of (codes "xX"))
 facts n.GfmTaskListItemValueUnchecked = inline_piece "GfmTaskListItemValueUnchecked" (is_one_of (space ∷ tab ∷ []))
+
+-- a name, as it is spelled in the library
+abbrev pub name_text : Name → List ℕ
+name_text name = codes (facts name).text
+
+-- of a leaf block of which nothing is known but its word: its name, and that of a run of its markers
+abbrev pub bare_names : Word → Option (Name × Name)
+bare_names word.Break = Some (n.ThematicBreak, n.ThematicBreakSequence)
+bare_names _ = None

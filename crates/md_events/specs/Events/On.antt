@@ -2,7 +2,8 @@
 use Rattle.std.specs.Prelude.{ℕ, Bool, true, ◌&&◌, ◌||◌, ◌==◌, Option, Some, None}
 use Rattle.md_engine.specs.declared.configuration.ParseOptions.{ParseOptions}
 use Rattle.md_meaning.specs.declared.alert.AlertKind.{AlertKind}
-use Rattle.md_meaning.specs.Tree.{Block, Frontmatter, Quote, ListOf, Item, Footnote, Heading, Break, Code, Html}
+use Rattle.md_meaning.specs.Leaves.{is_bare_on}
+use Rattle.md_meaning.specs.Tree.{Block, Frontmatter, Quote, ListOf, Item, Footnote, Heading, Bare, Code, Html}
 use Rattle.md_meaning.specs.Tree.{Fence, Math, Definition, Paragraph, Table, Blocks, End, More}
 
 -- an underline makes a heading of depth 1 or 2 (CommonMark 4.3)
@@ -25,7 +26,7 @@ abbrev mutual
   is_on options (Footnote label blocks) = options.constructs.gfm_footnote_definition && are_on options blocks
   is_on options (Heading depth lines) =
       options.constructs.heading_atx || (options.constructs.heading_setext && is_setext_depth depth)
-  is_on options Break = options.constructs.thematic_break
+  is_on options (Bare word) = is_bare_on options word
   is_on options (Code lines) = options.constructs.code_indented
   is_on options (Html lines) = options.constructs.html_flow
   is_on options (Fence marker info meta lines closed) = options.constructs.code_fenced

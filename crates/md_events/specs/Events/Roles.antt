@@ -1,6 +1,7 @@
 -- What the events of a part mean for the tree, by its name.
 use Rattle.std.specs.Prelude.{ℕ, List, Option}
 use Rattle.md_meaning.specs.declared.alert.AlertKind.{AlertKind}
+use Rattle.md_meaning.specs.declared.outline.Word.{Word}
 
 -- What is known of an open container: which list it is, an item's marker and digits, the label of a footnote
 -- definition. There is no marker yet where it is 0, and no digits or label where they are empty.
@@ -16,7 +17,8 @@ pub data LeafKind : Type 0 where
   OfFrontmatter : LeafKind
   OfHeadingAtx : LeafKind
   OfHeadingSetext : LeafKind
-  OfBreak : LeafKind
+  -- one of which nothing is known but the word that shows it
+  OfBare : Word → LeafKind
   OfCode : LeafKind
   OfFence : LeafKind
   OfMath : LeafKind

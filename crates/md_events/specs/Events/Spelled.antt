@@ -9,10 +9,11 @@ use Rattle.md_engine.specs.declared.event.Event.{Event}
 use Rattle.md_engine.specs.declared.event.Kind.{Kind}
 use Rattle.md_engine.specs.declared.event.Kind.TheVariants.{Enter, Exit}
 use Rattle.md_engine.specs.declared.event.Name.{Name}
-use Rattle.md_meaning.specs.Tree.{Line, Block, Blocks, Quote, ListOf, Item, Footnote, Heading, Break, Code, Html}
+use Rattle.md_meaning.specs.Tree.{Line, Block, Blocks, Quote, ListOf, Item, Footnote, Heading, Bare, Code, Html}
 use Rattle.md_meaning.specs.Tree.{Fence, Math, Definition, Paragraph, Table, End, More}
 use Rattle.md_meaning.specs.Tree as t
 use Rattle.md_meaning.specs.declared.alert.AlertKind.{AlertKind}
+use Rattle.md_meaning.specs.declared.outline.Word.{Word}
 use Rattle.md_meaning.specs.Alert.{first_kind, has_marker, kinds}
 use Rattle.md_meaning.specs.Containers.{is_bullet}
 use Rattle.md_meaning.specs.Rest.{trim, tab_columns}
@@ -20,7 +21,7 @@ use Rattle.md_meaning.specs.State.{then_block}
 use Rattle.md_meaning.specs.Texts.{split_lines, trim_each, trim_further, first_byte}
 use Rattle.md_events.specs.Events.Names.{facts}
 pub use Rattle.md_events.specs.Events.Roles.{Shape, QuoteShape, OrderedShape, UnorderedShape, ItemShape, FootnoteShape}
-pub use Rattle.md_events.specs.Events.Roles.{LeafKind, OfFrontmatter, OfHeadingAtx, OfHeadingSetext, OfBreak, OfCode}
+pub use Rattle.md_events.specs.Events.Roles.{LeafKind, OfFrontmatter, OfHeadingAtx, OfHeadingSetext, OfBare, OfCode}
 pub use Rattle.md_events.specs.Events.Roles.{OfFence, OfMath, OfHtml, OfDefinition, OfTable, Purpose, AsParagraph}
 pub use Rattle.md_events.specs.Events.Roles.{AsHeading, AsMarkers, AsLine, AsInfo, AsMeta, AsLabel, AsDestination}
 pub use Rattle.md_events.specs.Events.Roles.{AsTitle, AsCell, AsDelimiter, AsFootnoteLabel, AsDigits, AsItemMarker}
@@ -87,7 +88,7 @@ pub data OpenLeaf : Type 0 where
   FrontmatterLeaf : Fenced → OpenLeaf
   HeadingAtxLeaf : HeadingSoFar → OpenLeaf
   HeadingSetextLeaf : HeadingSoFar → OpenLeaf
-  BreakLeaf : OpenLeaf
+  BareLeaf : Word → OpenLeaf
   -- the lines
   CodeLeaf : List Line → OpenLeaf
   -- the fences, `info` and `meta`
@@ -160,7 +161,7 @@ abbrev pub fresh : LeafKind → OpenLeaf
 fresh OfFrontmatter = FrontmatterLeaf no_fences
 fresh OfHeadingAtx = HeadingAtxLeaf no_heading
 fresh OfHeadingSetext = HeadingSetextLeaf no_heading
-fresh OfBreak = BreakLeaf
+fresh (OfBare word) = BareLeaf word
 fresh OfCode = CodeLeaf (empty_line ∷ [])
 fresh OfFence = FenceLeaf no_fences None None
 fresh OfMath = MathLeaf no_fences None
@@ -241,7 +242,7 @@ block_of (FrontmatterLeaf fences) =
     t.Frontmatter (first_byte fences.markers) (map (λ (line : Line). line.text) fences.lines)
 block_of (HeadingAtxLeaf heading) = Heading (length heading.markers) heading.text
 block_of (HeadingSetextLeaf heading) = Heading (underline_depth (first_byte heading.markers)) heading.text
-block_of BreakLeaf = Break
+block_of (BareLeaf word) = Bare word
 block_of (CodeLeaf lines) = Code lines
 block_of (FenceLeaf fences info meta) = Fence (first_byte fences.markers) info meta fences.lines fences.closed
 block_of (MathLeaf fences meta) = Math meta fences.lines fences.closed

@@ -80,21 +80,6 @@ next_line = Then (one n.LineEnding) prefixes
 abbrev pub line_break : Expression
 line_break = Then (One (n.LineEnding ∷ n.BlankLineEnding ∷ [])) prefixes
 
-abbrev pub block : Expression
-block =
-    One
-    (n.BlockQuote ∷ n.ListOrdered ∷ n.ListUnordered ∷ n.GfmFootnoteDefinition ∷ n.HeadingAtx ∷ n.HeadingSetext
-    ∷ n.ThematicBreak ∷ n.CodeIndented ∷ n.CodeFenced ∷ n.MathFlow ∷ n.HtmlFlow ∷ n.Definition ∷ n.Paragraph
-    ∷ n.GfmTable ∷ [])
-
--- after a block: two blocks never are on one line
-abbrev pub after_block : Expression
-after_block = Many (Then line_break (optional block))
-
--- the blocks of a container, with the line endings between them
-abbrev pub blocks : Expression
-blocks = Then (Then prefixes (optional block)) after_block
-
 -- a text part that is not read yet: its chunks, one a line
 abbrev pub unread_text : Expression
 unread_text = Then (one n.Data) (Many (One (n.Data ∷ n.SpaceOrTab ∷ n.BlockQuotePrefix ∷ [])))

@@ -1,7 +1,7 @@
 -- What the value of a leaf adds for a line is what the exact list has in it.
 use Rattle.std.proofs.Common.{◌≡◌, ℕ, zero, suc, Bool, true, false, cond, ◌&&◌, List, [], ◌∷◌, ◌++◌, refl, sym, ap}
 use Rattle.std.proofs.Common.{ap₂, ◌∙◌, append-nil, subst}
-use Rattle.std.specs.Prelude.{not, Option, Some, None}
+use Rattle.std.specs.Prelude.{Option, Some, None}
 use Rattle.std.proofs.lemmas.Bool.{and_parts}
 use Rattle.md_engine.specs.declared.configuration.ParseOptions.{ParseOptions}
 use Rattle.md_engine.specs.declared.event.Event.{Event}
@@ -12,32 +12,35 @@ use Rattle.md_code.specs.Fence.{block_name, may_begin as is_begun}
 use Rattle.md_events.specs.Events.Nested.{around}
 use Rattle.md_exact.specs.Leaves.{content_line, fence_part, fenced_line, info_parts, leaf}
 use Rattle.md_exact.specs.Places.{TextLine, line_end, place, white}
-use Rattle.md_exact.specs.Rows.{First, FirstText, Further, Row}
+use Rattle.md_exact.specs.Blocks.{bare_events}
+use Rattle.md_exact.specs.Rows.{First, FirstText, Further, Role, Row}
 use Rattle.md_leaves.specs.HeadingSetext.{may_turn}
 use Rattle.md_leaves.specs.HeadingSetext as setext
 use Rattle.md_leaves.specs.HeadingSetextRule.{is_underline}
 use Rattle.md_leaves.specs.HeadingText.{headings_resolved}
 use Rattle.md_meaning.specs.Bytes.{is_end}
 use Rattle.md_meaning.specs.Html.{HtmlKind, html_ends}
-use Rattle.md_meaning.specs.Leaves.{is_rule}
+use Rattle.md_meaning.specs.Leaves.{Finished}
+use Rattle.md_meaning.specs.Tree.{Bare}
 use Rattle.md_meaning.specs.Rest.{Rest, after_indent, cut_tab, has_small_indent, is_blank, trim_start}
 use Rattle.md_meaning.specs.State.{Leaf, NoLeaf, OpenCode, OpenFence, OpenHtml, OpenParagraph, OpenTable, Opening}
 use Rattle.md_meaning.specs.Texts.{first_byte}
 use Rattle.md_registry.specs.OpenSpan.{IsBuiltLeaf, IsOpenSpan}
 use Rattle.md_registry.specs.Registry.{leaf as value}
-use Rattle.md_registry.proofs.Registry.{laws}
-use Rattle.proof_rows.proofs.KindRoles.{leaf_role}
+use Rattle.md_registry.proofs.Registry.{EndsOnLine, IsBare, IsHeading, ends-on_line, laws}
+use Rattle.proof_rows.proofs.KindRoles.{further_role, leaf_role}
 use Rattle.proof_literal_laws.proofs.Fence.Opened.{opening-some, some-least}
 use Rattle.proof_exact_lines.proofs.BeginsAt.{BeginsAt, begins-place, rest_bytes}
-use Rattle.proof_exact_lines.proofs.LeafLines.{break-one, code-first, code-further, end_at, ends-at, fence-first}
+use Rattle.proof_exact_lines.proofs.BareLine.{bare-one}
+use Rattle.proof_exact_lines.proofs.LeafLines.{code-first, code-further, end_at, ends-at, fence-first}
 use Rattle.proof_exact_lines.proofs.LeafLines.{fence-further, heading-one, html-first, html-further, leaf-one}
 use Rattle.proof_exact_lines.proofs.LeafLines.{linked_around, underline-one}
 use Rattle.proof_exact_lines.proofs.Parts.{white-front}
+use Rattle.proof_frame.proofs.BareLine.{BareLine}
 use Rattle.proof_frame.specs.LeafName.{CodeFurther, CodeIndented, Fence, FenceFurther, GfmTable, HeadingAtx}
-use Rattle.proof_frame.specs.LeafName.{HeadingSetext, HtmlFlow, HtmlFurther, LeafName, ThematicBreak}
+use Rattle.proof_frame.specs.LeafName.{HeadingSetext, HtmlFlow, HtmlFurther, LeafName}
 use Rattle.proof_frame.specs.RestLine.{rest_line}
 use Rattle.proof_leaf_laws.specs.Leaf.HeadingAtx.{heading_leaf}
-use Rattle.proof_leaf_laws.specs.Leaf.ThematicBreak.{is_ruled}
 use Rattle.proof_literal_laws.proofs.HtmlFlow.Found as html
 use Rattle.proof_literal_laws.specs.Leaf.Fence.{opening_at}
 use Rattle.proof_literal_laws.specs.Leaf.FenceFurther.{fence_further}
@@ -75,14 +78,30 @@ heading-added options all open_leaf line r p at starts =
     ∙ append-nil (heading_leaf.unread (rest_bytes r) p)
     ∙ sym (heading-one (row line r) p at)
 
-break-added : (options : ParseOptions) (all : Bool) (open_leaf : Leaf) (line : TextLine) (r : Rest) (p : Point) →
-    BeginsAt line r p → IsAdded options ThematicBreak all open_leaf line r p
-break-added options all open_leaf line r p at starts =
-    sym
-    (break-one (row line r) p at
-    (and_parts (options.constructs.thematic_break && has_small_indent options r) (is_rule (trim_start r.bytes))
-    (and_parts (is_ruled options r)
-    (not (setext.turns_nothing options (met all open_leaf) && is_underline (trim_start r.bytes))) starts).0).1)
+-- one of which nothing is known but its word
+bare-added : (options : ParseOptions) (l : LeafName) → BareLine (value l) → (all : Bool) (open_leaf : Leaf)
+    (line : TextLine) (r : Rest) (p : Point) → BeginsAt line r p → IsAdded options l all open_leaf line r p
+bare-added options l bare all open_leaf line r p at starts =
+    subst (λ (role : Role). AreOf options role line r es) (sym is_first)
+    (bare.added options (met all open_leaf) (rest_line r) p
+    ∙ sym (bare-one (value l) bare (row line r) p at (bare.marked options (met all open_leaf) r starts))
+    ∙ sym (ap (bare_events (alone line r)) bare.names))
+  where
+    es : List Event
+    es = added options l all open_leaf r p
+
+    is_first : leaf_role options open_leaf (met all open_leaf) r l ≡ First (Finished (Bare bare.word))
+    is_first =
+        ap
+        (λ (x : Bool).
+            cond x (further_role open_leaf (value l).heads) (First ((value l).becomes options NoLeaf r)))
+        (bare.begins (met all open_leaf))
+        ∙ ap First (bare.finishes options NoLeaf r)
+
+ended-added : (options : ParseOptions) (l : LeafName) → EndsOnLine l → (all : Bool) (open_leaf : Leaf)
+    (line : TextLine) (r : Rest) (p : Point) → BeginsAt line r p → IsAdded options l all open_leaf line r p
+ended-added options _ IsHeading all open_leaf line r p at = heading-added options all open_leaf line r p at
+ended-added options _ (IsBare l bare) all open_leaf line r p at = bare-added options l bare all open_leaf line r p at
 
 underline-added : (options : ParseOptions) (all : Bool) (open_leaf : Leaf) (line : TextLine) (r : Rest) (p : Point) →
     BeginsAt line r p → IsAdded options HeadingSetext all open_leaf line r p
@@ -243,7 +262,7 @@ leaf-added options FenceFurther all open_leaf line r p built at =
     further-fence options all open_leaf line r p built at
 leaf-added options HtmlFlow all open_leaf line r p built at = html-added options all open_leaf line r p at
 leaf-added options HtmlFurther all open_leaf line r p built at = further-html options all open_leaf line r p at
-leaf-added options HeadingAtx all open_leaf line r p built at = heading-added options all open_leaf line r p at
 leaf-added options HeadingSetext all open_leaf line r p built at = underline-added options all open_leaf line r p at
-leaf-added options ThematicBreak all open_leaf line r p built at = break-added options all open_leaf line r p at
 leaf-added options GfmTable all open_leaf line r p built at = table-added options all open_leaf line r p
+leaf-added options l all open_leaf line r p built at =
+    ended-added options l (ends-on_line l refl) all open_leaf line r p at

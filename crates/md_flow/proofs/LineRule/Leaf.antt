@@ -21,7 +21,7 @@ use Rattle.md_exact.specs.Places.{TextLine, line_end, place}
 use Rattle.md_exact.specs.Rows.{Role}
 use Rattle.md_meaning.specs.Rest.{Rest, is_blank}
 use Rattle.md_meaning.specs.State.{Leaf}
-use Rattle.md_registry.proofs.ConstructStates.{construct-steps, leaf-states}
+use Rattle.md_registry.proofs.Registry.{construct-steps, leaf-states}
 use Rattle.md_registry.proofs.Registry.{laws}
 use Rattle.md_registry.specs.OpenSpan.{IsBuiltLeaf}
 use Rattle.md_registry.specs.Registry.{construct_transition, leaf}

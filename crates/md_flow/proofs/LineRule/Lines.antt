@@ -25,7 +25,7 @@ use Rattle.md_exact.specs.Places.{TextLine, line_end, place}
 use Rattle.md_exact.specs.Rows.{FirstText, FurtherText, Role, Row}
 use Rattle.md_meaning.specs.Rest.{Rest}
 use Rattle.md_meaning.specs.State.{Leaf, NoLeaf, OpenCode, OpenFence, OpenHtml, OpenParagraph, OpenTable}
-use Rattle.md_registry.proofs.ConstructStates.{container-states, leaf-states, white_has}
+use Rattle.md_registry.proofs.Registry.{container-states, leaf-states, white_has}
 use Rattle.md_registry.proofs.FlowSteps.{containers_means, leaves_means}
 use Rattle.md_registry.proofs.Registry.{insider-none}
 use Rattle.md_registry.specs.Document.{document_own_transition}

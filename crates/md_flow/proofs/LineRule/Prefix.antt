@@ -30,7 +30,7 @@ use Rattle.md_exact.specs.Prefixes.{further_prefix}
 use Rattle.md_meaning.specs.Containers.{Taken, continues, opens_footnote, opens_item}
 use Rattle.md_meaning.specs.Rest.{Rest}
 use Rattle.md_meaning.specs.State.{Container, InFootnote, InItem, InQuote}
-use Rattle.md_registry.proofs.ConstructStates.{construct-steps, container-states}
+use Rattle.md_registry.proofs.Registry.{construct-steps, container-states}
 use Rattle.md_registry.proofs.Registry.{container-laws}
 use Rattle.md_registry.specs.Registry.{construct_transition, container_rules, continues_by}
 use Rattle.md_registry.specs.States.{flow_behaves_by, flow_table_scheme}

@@ -16,7 +16,8 @@ use Rattle.md_meaning.specs.Leaves.{is_free, underline_depth}
 use Rattle.md_meaning.specs.Rest.{Rest, has_small_indent, indent, is_blank, trim_start}
 use Rattle.md_meaning.specs.State.{Leaf, NoLeaf, OpenCode, OpenFence, OpenHtml, OpenParagraph, OpenTable, ParagraphLine}
 use Rattle.md_meaning.specs.State.{cut, texts}
-use Rattle.md_meaning.specs.Tree.{Break, End}
+use Rattle.md_meaning.specs.Tree.{Bare, End}
+use Rattle.md_meaning.specs.declared.outline.Word.TheVariants.{Break}
 use Rattle.md_registry.specs.OpenSpan.{IsBuiltLeaf, IsOpenSpan}
 use Rattle.md_registry.specs.Registry.{leaf}
 use Rattle.md_registry.proofs.HeadingSetext.Found.{is_underlined, none-underlined, some-underlined, starts-by}
@@ -190,7 +191,7 @@ broken : (options : ParseOptions) (all : Bool) (open_leaf : Leaf) (r : Rest) →
     role_if options ThematicBreak all open_leaf r (break_leaf.starts options (met all open_leaf) r)
 broken options all open_leaf r none =
     ap as_first (break-found options (met all open_leaf) r none)
-    ∙ first-if (break_leaf.starts options (met all open_leaf) r) (Finished Break)
+    ∙ first-if (break_leaf.starts options (met all open_leaf) r) (Finished (Bare Break))
 
 nothing-left : (options : ParseOptions) (r : Rest) (k : ParagraphLine) (ks : List ParagraphLine) →
     turns_nothing options true (OpenParagraph (k ∷ ks)) r ≡

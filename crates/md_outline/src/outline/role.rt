@@ -10,6 +10,7 @@ use crate::outline::heading::{Heading, push_heading};
 use crate::outline::lines::{push, text_of};
 use md_engine::event::Name;
 use md_engine::message::Message;
+use md_events::names::bare_word;
 use md_meaning::outline::{OutlineLine, Word};
 
 /// What a text shows the leaf block that it is in.
@@ -55,7 +56,8 @@ pub enum Purpose {
 /// A leaf block that is open, with what it was said.
 #[derive(Clone, Copy)]
 pub enum Leaf<'a> {
-    Break,
+    /// One of which nothing is known but its word.
+    Bare(Word),
     Heading(Heading<'a>),
 }
 
@@ -103,7 +105,6 @@ pub fn role_of<'a>(name: Name) -> Role<'a>
         Name::ListItemMarker => Role::Text(Purpose::Marker),
         Name::GfmFootnoteDefinition => Role::Container(Word::Footnote),
         Name::GfmFootnoteDefinitionLabelString => Role::Text(Purpose::FootnoteLabel),
-        Name::ThematicBreak => Role::Leaf(Leaf::Break),
         Name::HeadingAtx => Role::Leaf(Leaf::Heading(Heading {
             markers: None,
             text: None,
@@ -142,7 +143,10 @@ pub fn role_of<'a>(name: Name) -> Role<'a>
         Name::FrontmatterChunk | Name::CodeFlowChunk | Name::MathFlowChunk | Name::HtmlFlowData =>
             Role::Text(Purpose::Line),
         Name::LineEnding => Role::Ending,
-        _ => Role::Quiet,
+        _ => match bare_word(name) {
+            Some(word) => Role::Leaf(Leaf::Bare(word)),
+            None => Role::Quiet,
+        },
     }
 }
 
@@ -154,7 +158,7 @@ impl<'a> Leaf<'a> {
         match (self, note) {
             (Leaf::Heading(heading), Note::Markers) => Leaf::Heading(heading.marked(text)),
             (Leaf::Heading(heading), Note::Title) => Leaf::Heading(heading.titled(text_of(text))),
-            (Leaf::Break, _) => Leaf::Break,
+            (Leaf::Bare(word), _) => Leaf::Bare(word),
         }
     }
 }
@@ -169,7 +173,7 @@ pub fn push_leaf<'a>(
         (entries_of lines.new.items ≡ entries_of lines.old.items ++ leaf_entries depth (leaf_of leaf.entry)) }
 {
     match leaf {
-        Leaf::Break => push(lines, depth, Word::Break, ""),
+        Leaf::Bare(word) => push(lines, depth, word, ""),
         Leaf::Heading(heading) => push_heading(lines, depth, heading),
     }
 }

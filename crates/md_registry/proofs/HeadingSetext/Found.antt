@@ -1,33 +1,23 @@
 -- Where the line definition has an underline, and of which depth; no leaf that is tried before it starts there.
 use Rattle.std.proofs.Common.{◌≡◌, ℕ, Bool, true, false, cond, ◌&&◌, ◌||◌, List, [], ◌∷◌, refl, sym, ap, ap₂, ◌∙◌}
-use Rattle.std.proofs.Common.{subst, arith}
-use Rattle.std.specs.Prelude.{◌==◌, nat_le, not, Option, Some, None}
+use Rattle.std.proofs.Common.{subst}
+use Rattle.std.specs.Prelude.{◌==◌, Option, Some, None}
 use Rattle.std.specs.List.{list_all}
-use Rattle.std.proofs.lemmas.Bool.{and_left, and_parts, and_right, eqb-true, false_from_ne_true}
-use Rattle.std.proofs.lemmas.Bool.Decides.{nat_tests}
+use Rattle.std.proofs.lemmas.Bool.{and_left, eqb-true}
 use Rattle.md_engine.specs.declared.configuration.ParseOptions.{ParseOptions}
 use Rattle.md_engine.specs.declared.tokenizer.held_leaf.HeldLeaf.{HeldLeaf}
-use Rattle.md_engine.specs.declared.tokenizer.held_leaf.HeldLeaf.TheVariants as held_leaf
 use Rattle.md_meaning.specs.Ascii.{equals_sign, hyphen}
 use Rattle.md_meaning.specs.Bytes.{begins}
 use Rattle.md_meaning.specs.Leaves as definition
-use Rattle.md_meaning.specs.Leaves.{is_fence_marker, underline_depth}
-use Rattle.md_meaning.specs.Rest.{Rest, has_small_indent, indent, is_blank, is_white, trim, trim_end, trim_start}
+use Rattle.md_meaning.specs.Leaves.{underline_depth}
+use Rattle.md_meaning.specs.Rest.{Rest, has_small_indent, is_blank, is_white, trim, trim_end, trim_start}
 use Rattle.md_meaning.specs.Texts.{first_byte}
-use Rattle.md_leaves.specs.HeadingRule.{is_heading}
-use Rattle.md_leaves.specs.HeadingSetext.{is_marker, is_text, may_turn}
+use Rattle.md_leaves.specs.HeadingSetext.{may_turn}
 use Rattle.md_leaves.specs.HeadingSetextRule.{is_run, is_underline}
 use Rattle.md_leaves.proofs.TitleTexts.{front-stops}
-use Rattle.proof_literal_laws.specs.Leaf.CodeIndented.{code_leaf}
-use Rattle.proof_literal_laws.specs.Leaf.Fence.{fence_leaf}
-use Rattle.proof_leaf_laws.specs.Leaf.HeadingAtx.{heading_leaf}
 use Rattle.proof_leaf_laws.specs.Leaf.HeadingSetext.{depth_of, setext_leaf}
-use Rattle.proof_literal_laws.specs.Leaf.HtmlFlow.{html_leaf}
-use Rattle.proof_literal_laws.proofs.Fence.Opened.{fence-starts}
-use Rattle.proof_leaf_laws.proofs.HeadingAtx.Cells.{heading-other}
-use Rattle.proof_leaf_laws.proofs.HeadingSetext.Kinds.{Underlines, underline-first, run-one, run-other, setext-starts}
+use Rattle.proof_leaf_laws.proofs.HeadingSetext.Kinds.{run-one, run-other}
 use Rattle.proof_leaf_laws.proofs.HeadingSetext.Trimmed.{trim-more}
-use Rattle.proof_literal_laws.proofs.HtmlFlow.Found.{html-first}
 
 -- Its depth.
 
@@ -156,81 +146,3 @@ some-underlined options r depth some = go (is_underlined options r) (sym (depth-
     go : (x : Bool) → cond x (Some (depth_of r)) None ≡ Some depth → x ≡ true
     go true e = refl
     go false e = cc
-
--- What starts elsewhere.
-
--- its marker is one of no fence, and begins neither HTML nor a heading
-marker-fence : (options : ParseOptions) (m : ℕ) → is_marker m ≡ true → is_fence_marker options m ≡ true → ⊥
-marker-fence options m mark fence = go (m == 36) refl fence
-  where
-    other : (m : ℕ) → is_marker m ≡ true → ((m == 96) || (m == 126)) ≡ false
-    other m mark = grind (arith, nat_tests)
-
-    dollar : (m : ℕ) → is_marker m ≡ true → (m == 36) ≡ false
-    dollar m mark = grind (arith, nat_tests)
-
-    go : (x : Bool) → (m == 36) ≡ x →
-        cond x options.constructs.math_flow (options.constructs.code_fenced && ((m == 96) || (m == 126))) ≡ true → ⊥
-    go true e h = let bad = sym e ∙ dollar m mark in cc
-    go false e h =
-        let both = and_parts options.constructs.code_fenced ((m == 96) || (m == 126)) h in
-        let bad = sym both.1 ∙ other m mark in cc
-
--- nor of HTML
-marker-html : (m : ℕ) → is_marker m ≡ true → m ≡ 60 → ⊥
-marker-html m mark e = grind (arith, nat_tests)
-
--- nor of a heading
-marker-heading : (bs : List ℕ) → is_marker (first_byte bs) ≡ true → is_heading bs ≡ false
-marker-heading [] mark = refl
-marker-heading (b ∷ bs) mark = heading-other b bs (other b mark)
-  where
-    other : (m : ℕ) → is_marker m ≡ true → (m == 35) ≡ false
-    other m mark = grind (arith, nat_tests)
-
--- code begins in no open text
-text-code : (options : ParseOptions) (on : HeldLeaf) (r : Rest) → is_text on ≡ true →
-    code_leaf.starts options on r ≡ false
-text-code options (held_leaf.Text at) r text =
-    let on : Bool = options.constructs.code_indented in
-    and_left (on && false && nat_le 4 (indent r)) (not (is_blank r.bytes))
-    (and_left (on && false) (nat_le 4 (indent r)) (and_right on false refl))
-text-code options _ r text = cc
-
--- Where an underline starts no leaf does that is tried before it.
-pub record StartsNone (options : ParseOptions) (on : HeldLeaf) (r : Rest) : Type 0 where
-  pub code : code_leaf.starts options on r ≡ false
-  pub fence : fence_leaf.starts options on r ≡ false
-  pub html : html_leaf.starts options on r ≡ false
-  pub heading : heading_leaf.starts options on r ≡ false
-
--- so it is after text
-pub underlined-first : (options : ParseOptions) (on : HeldLeaf) (r : Rest) → is_text on ≡ true →
-    is_underlined options r ≡ true → StartsNone options on r
-underlined-first options on r text is = record {
-  code = text-code options on r text;
-  fence =
-      false_from_ne_true (fence_leaf.starts options on r)
-      (λ e. marker-fence options (first_byte (trim_start r.bytes)) mark (fence-starts options r e).fence.marker);
-  html =
-      false_from_ne_true (html_leaf.starts options on r)
-      (λ e. marker-html (first_byte (trim_start r.bytes)) mark (html-first options on r e));
-  heading = heading;
-}
-  where
-    mark : is_marker (first_byte (trim_start r.bytes)) ≡ true
-    mark =
-        underline-first (trim_start r.bytes)
-        (and_parts (options.constructs.heading_setext && has_small_indent options r)
-        (is_underline (trim_start r.bytes)) is).1
-
-    heading : heading_leaf.starts options on r ≡ false
-    heading =
-        and_right (options.constructs.heading_atx && has_small_indent options r) (is_heading (trim_start r.bytes))
-        (marker-heading (trim_start r.bytes) mark)
-
-pub setext-first : (options : ParseOptions) (on : HeldLeaf) (r : Rest) → setext_leaf.starts options on r ≡ true →
-    StartsNone options on r
-setext-first options on r starts =
-    let is : Underlines options on r = setext-starts options on r starts in
-    underlined-first options on r is.text (sym (starts-by options on r true is.turns) ∙ starts)

@@ -23,7 +23,7 @@ use Rattle.md_events.specs.Events.Spelled.{FootnoteShape, ContainerRole, IsEndin
 use Rattle.md_events.specs.Events.Spelled.{ItemShape, OpenLeaf, LeafRole, OrderedShape, Purpose, QuoteShape, Reading}
 use Rattle.md_events.specs.Events.Spelled.{Role, Shape, TextRole, Text, UnorderedShape, at_ending, block_around}
 use Rattle.md_events.specs.Events.Spelled.{block_of, byte_at, finished, left, named, on_leaf, on_shape, read, read_by}
-use Rattle.md_events.specs.Events.Spelled.{role, spelled, text_to, recorded_at, BreakLeaf, CodeLeaf, DefinitionLeaf}
+use Rattle.md_events.specs.Events.Spelled.{role, spelled, text_to, recorded_at, BareLeaf, CodeLeaf, DefinitionLeaf}
 use Rattle.md_events.specs.Events.Spelled.{FenceLeaf, FrontmatterLeaf, HeadingAtxLeaf, HeadingSetextLeaf, HtmlLeaf}
 use Rattle.md_events.specs.Events.Spelled.{MathLeaf, TableLeaf, is_before_blocks, kind_at, next_line, unread, with_kind}
 use Rattle.md_meaning.specs.declared.alert.AlertKind.{AlertKind}
@@ -269,7 +269,7 @@ leaf-unnoted : (leaf : OpenLeaf) → noted_by (block_of leaf) ≡ []
 leaf-unnoted (FrontmatterLeaf fences) = refl
 leaf-unnoted (HeadingAtxLeaf heading) = refl
 leaf-unnoted (HeadingSetextLeaf heading) = refl
-leaf-unnoted BreakLeaf = refl
+leaf-unnoted (BareLeaf word) = refl
 leaf-unnoted (CodeLeaf lines) = refl
 leaf-unnoted (FenceLeaf fences info meta) = refl
 leaf-unnoted (MathLeaf fences meta) = refl

@@ -6,7 +6,7 @@ use Rattle.md_engine.specs.declared.event.Event.{Event}
 use Rattle.md_engine.specs.declared.event.Point.{Point}
 use Rattle.md_engine.specs.declared.tokenizer.held_leaf.HeldLeaf.{HeldLeaf}
 use Rattle.md_meaning.specs.Rest.{Rest}
-use Rattle.md_meaning.specs.Tree.{Break}
+use Rattle.md_meaning.specs.Tree.{Paragraph}
 use Rattle.md_leaves.specs.Spanned.{renamed}
 use Rattle.md_leaves.specs.declared.spans.Place.TheVariants.{Between}
 use Rattle.md_leaves.proofs.SpannedLines.{NoBlocks}
@@ -59,7 +59,7 @@ setext-span = record {
   further_spanned =
       λ options bytes row is further.
       inr (subst IsBare (sym is.inside) (underline-bare (rest_line is.rest) row.first));
-  block = λ options bytes row rows is are. Break;
+  block = λ options bytes row rows is are. Paragraph [];
   facts = λ options bytes row rows is begins are. absurd (setext-begins options row.on is.rest is.starts begins);
   shuts = λ options bytes row rows is begins are bs. absurd (setext-begins options row.on is.rest is.starts begins);
 }

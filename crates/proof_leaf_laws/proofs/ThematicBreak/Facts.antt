@@ -14,16 +14,18 @@ use Rattle.md_events.specs.Events.Endings.{on_line}
 use Rattle.md_events.specs.Events.Grammar.{Expression, Nothing, following, inside, plain_text, unread_text}
 use Rattle.md_events.specs.Events.Pieces.{is_run, may_cover}
 use Rattle.md_events.specs.Events.Places.{past_byte, past_text}
-use Rattle.md_events.specs.Events.Spelled.{OfBreak, role}
+use Rattle.md_events.specs.Events.Spelled.{OfBare, role}
 use Rattle.md_meaning.specs.Leaves.{is_rule, is_rule_marker}
 use Rattle.md_meaning.specs.Rest.{Rest, is_white, trim_start}
-use Rattle.md_meaning.specs.Tree.{Break}
+use Rattle.md_meaning.specs.declared.outline.Word.TheVariants.{Break}
+use Rattle.md_meaning.specs.Tree.{Bare}
 use Rattle.md_events.proofs.EndingsLemmas.{AreOthers, Leads, in_leaf, is_other, others-lead}
 use Rattle.md_events.proofs.GrammarLemmas.{IsWord}
 use Rattle.md_events.proofs.SpelledLemmas.{Quiet, Roles}
 use Rattle.proof_frame.proofs.EachEvent.{Each}
 use Rattle.proof_frame.specs.RestLine.{rest_line}
-use Rattle.proof_leaf_laws.specs.Leaf.ThematicBreak.{break_line, first_byte, is_ruled}
+use Rattle.proof_leaf_laws.specs.Leaf.ThematicBreak.{break_line, is_ruled}
+use Rattle.md_meaning.specs.Texts.{first_byte}
 use Rattle.proof_frame.specs.MarkRuns.{Apart, Marks, Run, White, mark_runs}
 use Rattle.proof_frame.proofs.BetweenFacts.{is_low}
 use Rattle.proof_frame.proofs.LeafFacts.{LeafFacts, LineAt}
@@ -208,12 +210,13 @@ break-word text m (b ∷ bs) p mark first = go (b == m) refl
 -- The whole break.
 pub break-facts : (options : ParseOptions) (bytes : List ℕ) (r : Rest) (p q : Point) →
     is_ruled options r ≡ true → LineAt bytes r (rest_line r) p q →
-    LeafFacts bytes (Some Break) true p q (break_line (rest_line r) p) (break_line (rest_line r) p)
+    LeafFacts bytes (Some (Bare Break)) true p q (break_line (rest_line r) p) (break_line (rest_line r) p)
 break-facts options bytes r p q starts at =
     subst
     (λ (x : Point).
-    LeafFacts bytes (Some Break) true p x (break_line (rest_line r) p) (break_line (rest_line r) p)) (sym at.end)
-    (leaf-around n.ThematicBreak OfBreak (record { is = refl; leaf = refl; no_part = refl; block = refl }) (record {
+    LeafFacts bytes (Some (Bare Break)) true p x (break_line (rest_line r) p) (break_line (rest_line r) p)) (sym at.end)
+    (leaf-around n.ThematicBreak (OfBare Break)
+    (record { is = refl; leaf = refl; no_part = refl; block = refl }) (record {
       unread_starts = first line rule m;
       starts = first line rule m;
       stretch =

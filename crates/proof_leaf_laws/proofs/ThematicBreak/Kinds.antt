@@ -17,7 +17,8 @@ use Rattle.md_meaning.proofs.TextsLemmas.{NoEnding}
 use Rattle.md_engine.specs.declared.configuration.ParseOptions.{ParseOptions}
 use Rattle.md_engine.specs.declared.tokenizer.held_leaf.HeldLeaf.{HeldLeaf}
 use Rattle.proof_leaf_laws.proofs.HeadingSetext.Kinds.{underline-records}
-use Rattle.proof_leaf_laws.specs.Leaf.ThematicBreak.{break_leaf, first_byte}
+use Rattle.proof_leaf_laws.specs.Leaf.ThematicBreak.{break_leaf}
+use Rattle.md_meaning.specs.Texts.{first_byte}
 use Rattle.proof_leaf_laws.proofs.MarkRuns.Cells.{IsMark}
 use Rattle.proof_frame.proofs.MarkRuns.Fits.{Reports, line-fits}
 use Rattle.md_leaves.specs.HeadingSetext.{turns_nothing}

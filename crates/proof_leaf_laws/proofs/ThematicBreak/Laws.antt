@@ -1,7 +1,9 @@
 -- The laws of thematic breaks.
-use Rattle.std.proofs.Common.{refl, ◌≡◌, true}
-use Rattle.std.proofs.lemmas.Bool.{and_parts}
-use Rattle.std.specs.Prelude.{◌&&◌, not}
+use Rattle.std.proofs.Common.{refl, ◌≡◌, ℕ, Bool, true, ◌||◌, List, [], ◌∷◌, ap}
+use Rattle.std.proofs.lemmas.Bool.{and_from, and_parts, eq-eqb}
+use Rattle.std.specs.List.{list_all}
+use Rattle.std.specs.Prelude.{◌&&◌, ◌==◌, count_by, nat_le, not}
+use Rattle.md_engine.specs.declared.event.Name.TheVariants as n
 use Rattle.proof_frame.specs.RestLine.{rest_line}
 use Rattle.proof_leaf_laws.specs.Leaf.ThematicBreak.{break_leaf, is_ruled}
 use Rattle.proof_frame.proofs.LeafLaws.{LeafLaws}
@@ -13,7 +15,10 @@ use Rattle.proof_leaf_laws.proofs.ThematicBreak.Trial.{break-looked, break-refus
 use Rattle.proof_leaf_laws.proofs.ThematicBreak.Unturned.{break-alone, break-nests, break-unturned}
 use Rattle.md_engine.specs.declared.configuration.ParseOptions.{ParseOptions}
 use Rattle.md_engine.specs.declared.tokenizer.held_leaf.HeldLeaf.{HeldLeaf}
-use Rattle.md_meaning.specs.Rest.{Rest, trim_start}
+use Rattle.md_meaning.specs.Leaves.{is_rule, is_rule_marker}
+use Rattle.md_meaning.specs.Rest.{Rest, has_small_indent, is_white, trim_start}
+use Rattle.md_meaning.specs.declared.outline.Word.TheVariants.{Break}
+use Rattle.proof_frame.proofs.BareLine.{AreMarks, BareLine}
 use Rattle.md_leaves.specs.HeadingSetext.{turns_nothing}
 use Rattle.md_leaves.specs.HeadingSetextRule.{is_underline}
 
@@ -47,4 +52,35 @@ break-laws resolver = record {
   nests = λ ends options on r p starts. break-nests (rest_line r) p;
   set = λ ends options on r p es starts. break-set resolver (rest_line r) p es;
   facts = λ ends options on bytes r p q starts. break-facts options bytes r p q (ruled options on r starts);
+}
+
+-- A break is of nothing but its word.
+
+rule-marks : (text : List ℕ) → is_rule text ≡ true → AreMarks text
+rule-marks [] e = absurd (cc)
+rule-marks (m ∷ bytes) e =
+    let Mark : ℕ → Bool = λ (b : ℕ). (b == m) || is_white b in
+    let both = and_parts (is_rule_marker m && list_all Mark bytes)
+    (nat_le 2 (count_by (λ (b : ℕ). b == m) bytes)) e in
+    record {
+      marks =
+          and_from (Mark m) (list_all Mark bytes) (ap (λ (t : Bool). t || is_white m) (eq-eqb m m refl))
+          (and_parts (is_rule_marker m) (list_all Mark bytes) both.0).1;
+      some = λ none. cc;
+    }
+
+pub break-bare : BareLine break_leaf
+break-bare = record {
+  word = Break;
+  block = n.ThematicBreak;
+  run = n.ThematicBreakSequence;
+  names = refl;
+  begins = λ on. refl;
+  finishes = λ options leaf r. refl;
+  added = λ options on line p. refl;
+  unread = λ line p. refl;
+  marked = λ options on r starts.
+      rule-marks (trim_start r.bytes)
+      (and_parts (options.constructs.thematic_break && has_small_indent options r) (is_rule (trim_start r.bytes))
+      (ruled options on r starts)).1;
 }

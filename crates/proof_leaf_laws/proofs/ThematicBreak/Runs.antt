@@ -17,7 +17,8 @@ use Rattle.md_events.proofs.FeedLines.{Stops}
 use Rattle.md_events.proofs.RestCells.{RestAt, rest_cells}
 use Rattle.md_meaning.proofs.TextsLemmas.{NoEnding}
 use Rattle.proof_frame.specs.RestLine.{rest_line}
-use Rattle.proof_leaf_laws.specs.Leaf.ThematicBreak.{break_leaf, first_byte, first_cell, is_ruled}
+use Rattle.proof_leaf_laws.specs.Leaf.ThematicBreak.{break_leaf, first_cell, is_ruled}
+use Rattle.md_meaning.specs.Texts.{first_byte}
 use Rattle.proof_frame.proofs.ContentFacts.{NoContent}
 use Rattle.proof_frame.proofs.EachEvent.{Each}
 use Rattle.proof_leaf_laws.proofs.MarkRuns.Cells.{line-adds}

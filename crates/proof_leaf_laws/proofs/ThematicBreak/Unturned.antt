@@ -4,7 +4,8 @@ use Rattle.md_engine.specs.declared.event.Name.TheVariants as n
 use Rattle.md_engine.specs.declared.event.Point.{Point}
 use Rattle.md_events.specs.Events.Places.{past_text}
 use Rattle.md_meaning.specs.Rest.{trim_start}
-use Rattle.proof_leaf_laws.specs.Leaf.ThematicBreak.{break_line, first_byte}
+use Rattle.proof_leaf_laws.specs.Leaf.ThematicBreak.{break_line}
+use Rattle.md_meaning.specs.Texts.{first_byte}
 use Rattle.proof_frame.proofs.ClosedFacts.{IsClosed, OpensNothing, closed-each}
 use Rattle.proof_frame.proofs.MarkRuns.Each.{line-holds}
 use Rattle.proof_frame.proofs.MarkRuns.Items.{line-items}

@@ -20,7 +20,9 @@ use Rattle.md_events.specs.Events.Places.{past_text}
 use Rattle.md_events.specs.Spaces.{small_indent}
 use Rattle.md_meaning.specs.Leaves.{Finished, is_rule}
 use Rattle.md_meaning.specs.Rest.{Rest, has_small_indent, trim_start}
-use Rattle.md_meaning.specs.Tree.{Break}
+use Rattle.md_meaning.specs.Texts.{first_byte}
+use Rattle.md_meaning.specs.declared.outline.Word.TheVariants.{Break}
+use Rattle.md_meaning.specs.Tree.{Bare}
 use Rattle.proof_frame.specs.LineLeaf.{LineLeaf}
 use Rattle.proof_frame.specs.MarkRuns.{mark_runs}
 use Rattle.proof_frame.specs.MarkRuns as mark
@@ -52,11 +54,6 @@ break_inside options cells p =
 
 -- By its bytes.
 
--- the byte of the markers, and 0 of none
-abbrev pub first_byte : List ℕ → ℕ
-first_byte [] = 0
-first_byte (b ∷ bs) = b
-
 -- a break on a line that begins at this point
 abbrev pub break_line : List ℕ → Point → List Event
 break_line line p =
@@ -83,8 +80,8 @@ break_leaf = record {
   keeps = λ options on cells p. held_leaf.None;
   starts = λ options on r. is_ruled options r && not (turns_nothing options on && is_underline (trim_start r.bytes));
   holds = λ options on r. held_leaf.None;
-  becomes = λ options open_leaf r. Finished Break;
-  block = λ r. Break;
+  becomes = λ options open_leaf r. Finished (Bare Break);
+  block = λ r. Bare Break;
   added = λ options on line p. break_line line p;
   unread = break_line;
   done = λ bytes line p. break_line line p;

@@ -8,7 +8,7 @@ use Rattle.md_engine.specs.declared.event.Point.{Point}
 use Rattle.md_engine.specs.declared.tokenizer.held_leaf.HeldLeaf.{HeldLeaf}
 use Rattle.md_engine.specs.declared.tokenizer.held_leaf.HeldLeaf.TheVariants as held_leaf
 use Rattle.md_meaning.specs.Rest.{Rest}
-use Rattle.md_meaning.specs.Tree.{Break}
+use Rattle.md_meaning.specs.Tree.{Paragraph}
 use Rattle.md_leaves.specs.Further.{further_link}
 use Rattle.md_leaves.specs.Spanned.{has_lines}
 use Rattle.md_leaves.proofs.SpannedLines.{IsFurther, NoLines}
@@ -93,7 +93,7 @@ table-span = record {
       λ options bytes row is further.
       inl (subst (IsSpanned IsNone IsFurther) (sym is.inside)
       (line-spanned row.on options (rest_line is.rest) row.first));
-  block = λ options bytes row rows is are. Break;
+  block = λ options bytes row rows is are. Paragraph [];
   facts = λ options bytes row rows is begins are. absurd (table-begins options row.on is.rest is.starts begins);
   shuts = λ options bytes row rows is begins are bs. absurd (table-begins options row.on is.rest is.starts begins);
 }

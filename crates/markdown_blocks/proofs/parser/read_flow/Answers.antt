@@ -5,7 +5,7 @@ use Rattle.md_engine.specs.World.{World, world}
 use Rattle.md_engine.specs.declared.event.Event.{Event}
 use Rattle.markdown_blocks.specs.Alone.{stays_by_name}
 use Rattle.markdown_blocks.specs.ContentRead.{ReadIf}
-use Rattle.markdown_blocks.proofs.ContentAre.{joined-set}
+use Rattle.markdown_blocks.proofs.ContentAre.{joined-set, placed-begins}
 use Rattle.markdown_blocks.proofs.FlowReads.{FlowFlushed, flow-flushed-from, flow-reads, flushed-frames, flushed-side}
 use Rattle.markdown_blocks.proofs.FlowReads.{read-frames}
 use Rattle.markdown_blocks.proofs.StaysAlone.{alone-same, stay-alone, stay-none}
@@ -28,7 +28,7 @@ returns-then-same-len c =
     (c.nothing.ensures, refl)) in
     flow-reads c.args.bytes.now c.args.options.now c.args.start _ _ _ flushed
     (joined-set c.args.options.now c.args.bytes.now c.args.start c.requires.built (omega (arith, c.requires.small)) _ w
-    c.requires.begins flushed)
+    (placed-begins c.args.bytes.now c.args.start c.requires.placed c.requires.whole) flushed)
     (ap (λ (es : List Event). record w { events = es })
     (sym (alone-same c.args.options.now w.setting.bytes w.events all)))
 
@@ -54,7 +54,8 @@ resolve_blocks-requires-clause-frames c =
 pub resolve_blocks-requires-clause-may : goal.resolve_blocks-requires-clause-may
 resolve_blocks-requires-clause-may c =
     (joined-set c.args.options.now c.args.bytes.now c.args.start c.requires.built (omega (arith, c.requires.small))
-    (found_in c.in_ok-found.found) (world c.read_content.new.tokenizer) c.requires.begins
+    (found_in c.in_ok-found.found) (world c.read_content.new.tokenizer)
+    (placed-begins c.args.bytes.now c.args.start c.requires.placed c.requires.whole)
     (flow-flushed-from c.args.bytes.now c.args.options.now c.args.start _ _ _ _ _ _ _ _
     c.in_ok-tokenizer.ensures refl
     (omega (arith, c.requires.small)) (c.push.ensures.runs c.in_default.not-Error) c.in_ok-flush.ensures
@@ -70,5 +71,5 @@ returns c =
     c.in_ok-found.ensures.content in
     flow-reads c.args.bytes.now c.args.options.now c.args.start _ _ _ flushed
     (joined-set c.args.options.now c.args.bytes.now c.args.start c.requires.built (omega (arith, c.requires.small)) _
-    items c.requires.begins flushed)
+    items (placed-begins c.args.bytes.now c.args.start c.requires.placed c.requires.whole) flushed)
     c.in_ok-resolve_blocks.ensures

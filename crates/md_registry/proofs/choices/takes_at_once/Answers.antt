@@ -1,5 +1,5 @@
 use Rattle.std.proofs.lemmas.Option.{IfSome_then}
-use Rattle.md_flow.proofs.constructs.takes_at_once.Goals as goal
+use Rattle.md_registry.proofs.choices.takes_at_once.Goals as goal
 
 pub returns-in-HeadingAtx : goal.returns-in-HeadingAtx
 returns-in-HeadingAtx c =

@@ -1,5 +1,5 @@
 use Rattle.std.proofs.Common.{refl}
-use Rattle.printing.proofs.names.text_of.Goals as goal
+use Rattle.md_events.proofs.names.text_of.Goals as goal
 
 pub returns-in-Frontmatter : goal.returns-in-Frontmatter
 returns-in-Frontmatter c = rw c.in-Frontmatter.is refl
