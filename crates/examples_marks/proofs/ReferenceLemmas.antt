@@ -101,7 +101,8 @@ Fits (Text len) size = (0 < len) × (len ≤ suc size)
 Fits (Reference len) size = (0 < len) × (len < size)
 
 pub found-fits : (document : Document) (byte : ℕ) (text : List ℕ) → Fits (found document byte text) (length text)
-found-fits document byte text = go (byte == backslash) (byte == left_bracket) (label_len document text) (label-fits document text)
+found-fits document byte text = go (byte == backslash) (byte == left_bracket) (label_len document text) (label-fits
+    document text)
   where
     escape : (text : List ℕ) → Fits (escaped text) (length text)
     escape [] = (omega arith, omega arith)
@@ -159,7 +160,8 @@ references-size document plain zero (b ∷ text) h =
           rest 0 (len + 1) (omega (arith, fits.1)),
         )
 
-reference-names : (len : ℕ) (following : Forest) → has_names following ≡ true → has_names (reference len following) ≡ true
+reference-names : (len : ℕ) (following : Forest) → has_names following ≡ true → has_names (reference len following) ≡
+    true
 reference-names zero following h = h
 reference-names (suc more) following h = h
 
@@ -227,22 +229,6 @@ tokens-reference : (len : ℕ) (following : Forest) → 0 < len →
 tokens-reference zero following h = absurd (omega (arith, h))
 tokens-reference (suc more) following h = refl
 
--- one step more
-pub text_step : (document : Document) (plain len byte : ℕ) (following rest left : List ℕ) (done : List Token)
-    (total : List Token) → rest ≡ byte ∷ following → Text len ≡ found document byte following →
-    left ≡ drop (len - 1) following → live done ++ tokens (references document plain 0 rest) ≡ total →
-    live done ++ tokens (references document (plain + len) 0 left) ≡ total
-text_step document plain len byte following rest left done total r f l all =
-    ap (λ (x : List ℕ). live done ++ tokens (references document (plain + len) 0 x)) l
-    ∙ ap (λ (x : Forest). live done ++ tokens x) (sym (references-taken document (plain + len) (len - 1) following))
-    ∙ ap (λ (x : Found). live done ++ tokens
-    (elim x [
-      | Text len ↦ references document (plain + len) (len - 1) following
-      | Reference len ↦ over n.Data plain (reference len (references document 0 (len + 1) following))
-    ])) f
-    ∙ ap (λ (x : List ℕ). live done ++ tokens (references document plain 0 x)) (sym r)
-    ∙ all
-
 pub reference_step : (document : Document) (plain len byte : ℕ) (following rest left : List ℕ)
     (done one two total : List Token) → rest ≡ byte ∷ following → Reference len ≡ found document byte following →
     left ≡ drop (len + 1) following → one ≡ done ++ t.Over n.Data plain ∷ [] → two ≡ one ++ reference_tokens len →
@@ -272,7 +258,8 @@ reference_step document plain len byte following rest left done one two total r 
     ∙ all
 
 pub last_step : (document : Document) (plain : ℕ) (rest : List ℕ) (done all total : List Token) →
-    length rest ≡ 0 → all ≡ done ++ t.Over n.Data plain ∷ [] → live done ++ tokens (references document plain 0 rest) ≡ total →
+    length rest ≡ 0 → all ≡ done ++ t.Over n.Data plain ∷ [] → live done ++ tokens (references document plain 0 rest)
+    ≡ total →
     live all ≡ total
 last_step document plain (b ∷ rest) done all total r a e = absurd (omega (arith, r))
 last_step document plain [] done all total r a e =

@@ -56,7 +56,8 @@ defined_len document Broken = None
 abbrev pub label_len : Document → List ℕ → Option ℕ
 label_len document text = defined_len document (enclosed left_bracket right_bracket false text)
 
--- What is found at the front of a text: so many bytes of text, or a reference whose label has so many bytes. A backslash
+-- What is found at the front of a text: so many bytes of text, or a reference whose label has so many bytes. A
+-- backslash
 -- takes the byte after it, and a bracket that none takes opens a reference to a definition, or is text.
 
 abbrev pub escaped : List ℕ → Found

@@ -8,7 +8,7 @@
 // A label is not blank and has at most 999 bytes, and it may go over the lines of a text part. It is compared in its
 // normal form: so `[a B]` refers to `[A  b]: /c`. Everything else is text, brackets without a definition too.
 //
-// Parts: `Link` around a reference, `LabelMarker` over each bracket, `LabelText` around the label, and `Data` over text.
+// Parts: `Link` around a reference, `LabelMarker` over each bracket, `LabelText` around the label, `Data` over text.
 #![tactic(auto)]
 
 pub mod found;

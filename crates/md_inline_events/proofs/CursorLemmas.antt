@@ -1,32 +1,21 @@
 -- One step of a writer through its tokens.
-use Rattle.std.proofs.Common.{◌≡◌, ℕ, zero, suc, ◌+◌, ◌-◌, ◌<◌, ◌≤◌, Bool, true, false, List, [], ◌∷◌, ◌++◌, cond, length, take, drop}
+use Rattle.std.proofs.Common.{◌≡◌, ℕ, zero, suc, ◌+◌, ◌-◌, ◌<◌, ◌≤◌, Bool, true, false, List, [], ◌∷◌, ◌++◌, cond}
+use Rattle.std.proofs.Common.{length, take, drop}
 use Rattle.std.proofs.Common.{refl, ap, sym, ◌∙◌, append_assoc, slice_index_or, subst, arith}
 use Rattle.std.proofs.lemmas.List.{append-nil, drop_more}
-use Rattle.md_engine.specs.declared.event.Event.{Event}
 use Rattle.md_engine.specs.declared.event.Name.{Name}
 use Rattle.md_engine.specs.declared.event.Point.{Point}
 use Rattle.md_events.specs.Events.Inline.{pair_unless_empty}
-use Rattle.md_events.specs.Events.Nested.{exit, pair}
+use Rattle.md_events.specs.Events.Nested.{pair}
 use Rattle.md_events.proofs.InlineLemmas.{same-refl}
 use Rattle.md_inline_events.specs.Cursor.{back_of, before_piece, begun, entering, first_back, first_front, is_piece}
-use Rattle.md_inline_events.specs.Cursor.{left_first, marks_left, passed, piece_len, piece_name, rest_marks, token_marks}
-use Rattle.md_inline_events.specs.Marks.{Mark, back_events, back_from, begins, exited, passes, stays}
+use Rattle.md_inline_events.specs.Cursor.{left_first, marks_left, passed, piece_len, piece_name, rest_marks}
+use Rattle.md_inline_events.specs.Cursor.{token_marks}
+use Rattle.md_inline_events.specs.Marks.{Mark, begins, stays}
 use Rattle.md_inline_events.specs.declared.token.Token.{Token}
 use Rattle.md_inline_events.specs.declared.token.Token.TheVariants as t
 
--- Within a piece nothing begins.
-
-pub within_front : (left : ℕ) (ts : List Token) → 0 < left → first_front (marks_left left ts) ≡ passes
-within_front zero ts h = absurd (omega (arith, h))
-within_front (suc zero) ts h = refl
-within_front (suc (suc more)) ts h = refl
-
-pub within_passed : (left : ℕ) (ts : List Token) → 0 < left → passed (marks_left left ts) ≡ marks_left left ts
-within_passed zero ts h = absurd (omega (arith, h))
-within_passed (suc zero) ts h = refl
-within_passed (suc (suc more)) ts h = refl
-
--- Before its last byte nothing ends either, and after all pieces nothing does.
+-- Within a piece nothing begins, and before its last byte nothing ends; after all pieces neither does.
 
 no-back : (count : ℕ) → first_back (drop count (marks_left 0 [])) ≡ stays
 no-back zero = refl
@@ -128,7 +117,8 @@ next-piece : (opens : List Name) (ts rest : List Token) (token : Token) →
 next-piece opens [] rest token h = cc
 next-piece opens (t.Enters name ∷ ts) rest token h =
     next-piece (opens ++ name ∷ []) ts rest token h
-    ∙ ap (λ (l : List Name). begun l (piece_name token) (rest_marks (piece_len token) (left_first rest)) ++ token_marks [] rest)
+    ∙ ap (λ (l : List Name). begun l (piece_name token) (rest_marks (piece_len token) (left_first rest)) ++
+    token_marks [] rest)
     (append_assoc opens (name ∷ []) (entering (take (before_piece ts) ts)))
 next-piece opens (t.Leaves name ∷ ts) rest token h = next-piece opens ts rest token h
 next-piece opens (t.Over name zero ∷ ts) rest token h = next-piece opens ts rest token h
@@ -137,8 +127,10 @@ next-piece opens (t.Over name (suc more) ∷ ts) rest token h =
     let two : ts ≡ rest = cc in
     ap (λ (l : List Name). begun l name (rest_marks (suc more) (left_first ts)) ++ token_marks [] ts)
     (sym (append-nil opens))
-    ∙ ap (λ (k : Token). begun (opens ++ []) (piece_name k) (rest_marks (piece_len k) (left_first ts)) ++ token_marks [] ts) one
-    ∙ ap (λ (l : List Token). begun (opens ++ []) (piece_name token) (rest_marks (piece_len token) (left_first l)) ++ token_marks [] l) two
+    ∙ ap (λ (k : Token). begun (opens ++ []) (piece_name k) (rest_marks (piece_len k) (left_first ts)) ++ token_marks
+    [] ts) one
+    ∙ ap (λ (l : List Token). begun (opens ++ []) (piece_name token) (rest_marks (piece_len token) (left_first l)) ++
+    token_marks [] l) two
 
 begun-front : (opens closes : List Name) (name : Name) (left : ℕ) (ms : List Mark) → 0 < left →
     first_front (begun opens name (rest_marks left closes) ++ ms) ≡ begins opens name
@@ -201,58 +193,3 @@ begins_here left ts split opening rest k d made z e lt s o r m =
 
 pub no-pair : (name : Name) (p : Point) → pair_unless_empty name p p ≡ []
 no-pair name p = ap (λ (x : Bool). cond x [] (pair name p p)) (same-refl p)
-
-pub back_step : (names : List Name) (name other : Name) (from p : Point) →
-    back_events (back_of (other ∷ names)) name from p ≡
-    (pair_unless_empty name from p ++ exit other p ∷ []) ++ back_events (back_of names) name p p
-back_step [] name other from p =
-    sym (append-nil (pair_unless_empty name from p ++ exit other p ∷ []))
-back_step (next ∷ names) name other from p =
-    sym (append_assoc (pair_unless_empty name from p) (exit other p ∷ []) (exited (next ∷ names) p))
-    ∙ ap (λ (l : List Event). (pair_unless_empty name from p ++ exit other p ∷ []) ++ (l ++ exited (next ∷ names) p))
-    (sym (no-pair name p))
-
-pub back_from_step : (names : List Name) (other : Name) (from p : Point) →
-    back_from (back_of (other ∷ names)) from p ≡ back_from (back_of names) p p
-back_from_step [] other from p = refl
-back_from_step (next ∷ names) other from p = refl
-
-pub leaves_step : (rest following : List Token) (name part : Name) (begun p : Point) (old one two total : List Event) →
-    rest ≡ t.Leaves part ∷ following → one ≡ old ++ pair_unless_empty name begun p → two ≡ one ++ exit part p ∷ [] →
-    old ++ back_events (back_of (left_first rest)) name begun p ≡ total →
-    two ++ back_events (back_of (left_first following)) name p p ≡ total
-leaves_step rest following name part begun p old one two total r o w all =
-    let later : List Event = back_events (back_of (left_first following)) name p p in
-    ap (λ (l : List Event). l ++ later) (w ∙ ap (λ (l : List Event). l ++ exit part p ∷ []) o
-    ∙ append_assoc old (pair_unless_empty name begun p) (exit part p ∷ []))
-    ∙ append_assoc old (pair_unless_empty name begun p ++ exit part p ∷ []) later
-    ∙ ap (λ (l : List Event). old ++ l) (sym (back_step (left_first following) name part begun p))
-    ∙ ap (λ (l : List Token). old ++ back_events (back_of (left_first l)) name begun p) (sym r)
-    ∙ all
-
-pub leaves_from : (rest following : List Token) (part : Name) (begun p total : Point) →
-    rest ≡ t.Leaves part ∷ following → back_from (back_of (left_first rest)) begun p ≡ total →
-    back_from (back_of (left_first following)) p p ≡ total
-leaves_from rest following part begun p total r all =
-    sym (back_from_step (left_first following) part begun p)
-    ∙ ap (λ (l : List Token). back_from (back_of (left_first l)) begun p) (sym r) ∙ all
-
--- what a piece over no byte or the end of a part leaves
-pub leaves_marks : (rest following : List Token) (name : Name) → rest ≡ t.Leaves name ∷ following →
-    token_marks [] following ≡ token_marks [] rest
-leaves_marks rest following name r = ap (token_marks []) (sym r)
-
-pub free_marks : (rest following : List Token) (name : Name) → rest ≡ t.Over name 0 ∷ following →
-    token_marks [] following ≡ token_marks [] rest
-free_marks rest following name r = ap (token_marks []) (sym r)
-
-pub first_rest : (rest following : List Token) (name : Name) → rest ≡ t.Over name 0 ∷ following →
-    left_first following ≡ left_first rest
-first_rest rest following name r = ap left_first (sym r)
-
-pub first_none : (rest following : List Token) (token : Token) → rest ≡ token ∷ following →
-    (token ≡ t.Leaves (piece_name token) → ⊥) → (token ≡ t.Over (piece_name token) 0 → ⊥) → left_first rest ≡ []
-first_none rest following (t.Enters name) r h k = ap left_first r
-first_none rest following (t.Leaves name) r h k = absurd (h refl)
-first_none rest following (t.Over name zero) r h k = absurd (k refl)
-first_none rest following (t.Over name (suc more)) r h k = ap left_first r

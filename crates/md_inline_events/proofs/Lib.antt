@@ -3,3 +3,4 @@ pub mod TokenLemmas
 pub mod StretchLemmas
 pub mod ChunkSteps
 pub mod LineSteps
+pub mod SpanSteps

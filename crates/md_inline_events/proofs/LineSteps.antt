@@ -6,14 +6,14 @@ use Rattle.md_engine.specs.declared.event.Event.{Event}
 use Rattle.md_engine.specs.declared.event.Name.{Name}
 use Rattle.md_engine.specs.declared.event.Name.TheVariants as n
 use Rattle.md_engine.specs.declared.event.Point.{Point}
-use Rattle.md_events.specs.declared.inline.Chunk.{Chunk}
 use Rattle.md_events.specs.Events.Inline.{pair_unless_empty}
 use Rattle.md_events.specs.Events.Places.{past_byte, past_text}
+use Rattle.md_events.proofs.InlineLemmas.{past_text-append}
 use Rattle.md_inline_events.specs.Cursor.{first_back, first_front, marks_left, passed}
 use Rattle.md_inline_events.specs.Marks.{Mark, back_events, back_from, closes_in, entered, exited, front_events}
 use Rattle.md_inline_events.specs.Marks.{front_from, front_name, last_name, line_events, opens_in}
 use Rattle.md_inline_events.specs.Marks.{Back, Front, begins, ends, passes, stays}
-use Rattle.md_inline_events.specs.Woven.{Sides, as_feed, ending_events, read_side, side_events}
+use Rattle.md_inline_events.specs.Woven.{Sides, as_feed, ending_events, read_side}
 use Rattle.md_inline_events.specs.declared.token.Token.{Token}
 use Rattle.md_inline_events.proofs.CursorLemmas.{no-pair}
 
@@ -128,17 +128,6 @@ run_step left ts (b ∷ run) following rest count last ms mid after name here ne
     ∙ ap (λ (z : List ℕ). old ++ line_events z ms name from at) (sym r)
     ∙ all
 
-pub marks_step : (count more : ℕ) (ms mid left : List Mark) → more ≡ suc count → mid ≡ passed ms →
-    left ≡ drop 1 mid → drop count left ≡ drop more ms
-marks_step count more ms mid left k m l =
-    ap (λ (x : List Mark). drop count x) (l ∙ ap (λ (x : List Mark). drop 1 x) m) ∙ go count ms
-    ∙ ap (λ (c : ℕ). drop c ms) (sym k)
-  where
-    go : (count : ℕ) (ms : List Mark) → drop count (drop 1 (passed ms)) ≡ drop (suc count) ms
-    go zero [] = refl
-    go (suc count) [] = refl
-    go count (mark ∷ ms) = refl
-
 pub name_step : (count more : ℕ) (ms mid left : List Mark) (name here last : Name) → more ≡ suc count →
     mid ≡ passed ms → left ≡ drop 1 mid → here ≡ front_name (first_front ms) name → last ≡ here →
     last_name last (take count left) ≡ last_name name (take more ms)
@@ -148,14 +137,11 @@ name_step count more ms mid left name here last k m l h s =
     ∙ ap (λ (c : ℕ). last_name name (take c ms)) (sym k)
   where
     go : (count : ℕ) (ms : List Mark) →
-        last_name (front_name (first_front ms) name) (take count (drop 1 (passed ms))) ≡ last_name name (take (suc count) ms)
+        last_name (front_name (first_front ms) name) (take count (drop 1 (passed ms))) ≡ last_name name (take (suc
+        count) ms)
     go zero [] = refl
     go (suc count) [] = refl
     go count (mark ∷ ms) = refl
-
-past-both : (xs ys : List ℕ) (p : Point) → past_text (xs ++ ys) p ≡ past_text ys (past_text xs p)
-past-both [] ys p = refl
-past-both (x ∷ xs) ys p = past-both xs ys (past_byte x p)
 
 -- The same of so many bytes.
 
@@ -219,7 +205,8 @@ run_name left ts run following rest (suc count) ms mid after name here next_name
     let whole : suc (count + length following) ≡ length rest = omega (arith, sum) in
     let part : suc count + length following ≡ suc (count + length following) = omega arith in
     ap (λ (z : Name). last_name z (take (length following) after)) s
-    ∙ ap (λ (z : List Mark). last_name here (take (length following) z)) (l ∙ ap (λ (z : List Mark). drop (suc count) z) mm)
+    ∙ ap (λ (z : List Mark). last_name here (take (length following) z)) (l ∙ ap (λ (z : List Mark). drop (suc count)
+    z) mm)
     ∙ sym (names left ts (suc count) (length following) here none fits)
     ∙ ap (λ (z : List Mark). last_name here (take (suc count + length following) z)) (sym mm ∙ m)
     ∙ ap (λ (z : ℕ). last_name here (take z (passed ms))) part
@@ -230,7 +217,7 @@ run_name left ts run following rest (suc count) ms mid after name here next_name
 pub run_point : (run following rest : List ℕ) (at to end : Point) → rest ≡ run ++ following → to ≡ past_text run at →
     past_text rest at ≡ end → past_text following to ≡ end
 run_point run following rest at to end r t all =
-    ap (λ (p : Point). past_text following p) t ∙ sym (past-both run following at)
+    ap (λ (p : Point). past_text following p) t ∙ sym (past_text-append run following at)
     ∙ ap (λ (l : List ℕ). past_text l at) (sym r) ∙ all
 
 -- An ending.
@@ -270,11 +257,6 @@ ending_step [] ms mid name here end after old one two three some o m h w t = abs
 ending_step (b ∷ ending) ms mid name here end after old one two three some o m h w t =
     rw (t, w, o, h, m) (sym (ending-events b ending ms name end after old))
 
-pub ending_marks : (ending : List ℕ) (ms mid left : List Mark) → 0 < length ending → mid ≡ passed ms →
-    left ≡ drop 1 mid → left ≡ drop (length (as_feed ending)) ms
-ending_marks [] ms mid left some m l = absurd (omega (arith, some))
-ending_marks (b ∷ ending) ms mid left some m l = marks_step 0 1 ms mid left refl m l
-
 pub ending_name : (ending : List ℕ) (ms mid left : List Mark) (name here last : Name) → 0 < length ending →
     mid ≡ passed ms → left ≡ drop 1 mid → here ≡ front_name (first_front ms) name → last ≡ here →
     last ≡ last_name name (take (length (as_feed ending)) ms)
@@ -284,7 +266,7 @@ ending_name (b ∷ ending) ms mid left name here last some m l h s =
 
 -- A chunk.
 
-drop-both : (xs ys : List ℕ) (ms : List Mark) → drop (length ys) (drop (length xs) ms) ≡ drop (length (xs ++ ys)) ms
+pub drop-both : (xs ys : List ℕ) (ms : List Mark) → drop (length ys) (drop (length xs) ms) ≡ drop (length (xs ++ ys)) ms
 drop-both [] ys ms = refl
 drop-both (x ∷ xs) ys [] = drop-none (length ys)
 drop-both (x ∷ xs) ys (m ∷ ms) = drop-both xs ys ms
@@ -296,36 +278,12 @@ last-both [] ys ms name = refl
 last-both (x ∷ xs) ys [] name = ap (λ (l : List Mark). last_name name l) (take-none (length ys))
 last-both (x ∷ xs) ys (m ∷ ms) name = last-both xs ys ms (front_name m.front name)
 
-pub side_marks : (side : Sides) (ms mid left : List Mark) → mid ≡ drop (length side.text) ms →
-    left ≡ drop (length (as_feed side.ending)) mid → left ≡ drop (length (read_side side)) ms
-side_marks side ms mid left m l =
-    l ∙ ap (λ (x : List Mark). drop (length (as_feed side.ending)) x) m ∙ drop-both side.text (as_feed side.ending) ms
-
 pub side_name : (side : Sides) (ms mid : List Mark) (name here last : Name) → mid ≡ drop (length side.text) ms →
     here ≡ last_name name (take (length side.text) ms) →
     last ≡ last_name here (take (length (as_feed side.ending)) mid) →
     last ≡ last_name name (take (length (read_side side)) ms)
 side_name side ms mid name here last m h l =
     l ∙ ap (λ (x : Name). last_name x (take (length (as_feed side.ending)) mid)) h
-    ∙ ap (λ (x : List Mark). last_name (last_name name (take (length side.text) ms)) (take (length (as_feed side.ending)) x)) m
+    ∙ ap (λ (x : List Mark). last_name (last_name name (take (length side.text) ms)) (take (length (as_feed
+    side.ending)) x)) m
     ∙ last-both side.text (as_feed side.ending) ms name
-
-pub side_step : (chunk : Chunk) (side : Sides) (ms mid : List Mark) (name : Name) (first after end : Point)
-    (old one two three four : List Event) → first ≡ past_text side.indent chunk.first →
-    one ≡ old ++ pair_unless_empty n.SpaceOrTab chunk.first first →
-    two ≡ one ++ line_events side.text ms name first first → mid ≡ drop (length side.text) ms →
-    after ≡ past_text side.text first → end ≡ past_text side.trail after →
-    three ≡ two ++ pair_unless_empty n.SpaceOrTab after end →
-    four ≡ three ++ ending_events end chunk.after side.ending mid →
-    four ≡ old ++ side_events chunk side ms name
-side_step chunk side ms mid name first after end old one two three four f o w m a e t q =
-    let white : List Event = pair_unless_empty n.SpaceOrTab chunk.first first in
-    let text : List Event = line_events side.text ms name first first in
-    let trail : List Event = pair_unless_empty n.SpaceOrTab after end in
-    let ending : List Event = ending_events end chunk.after side.ending mid in
-    q ∙ ap (λ (l : List Event). l ++ ending) (t ∙ ap (λ (l : List Event). l ++ trail)
-    (w ∙ ap (λ (l : List Event). l ++ text) o))
-    ∙ append_assoc ((old ++ white) ++ text) trail ending
-    ∙ append_assoc (old ++ white) text (trail ++ ending)
-    ∙ append_assoc old white (text ++ (trail ++ ending))
-    ∙ rw (m, e, a, f) refl

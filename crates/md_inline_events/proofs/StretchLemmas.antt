@@ -15,7 +15,7 @@ use Rattle.md_events.specs.TextPart.{Document, IsTextPart}
 use Rattle.md_events.proofs.TextParts.{text-part, text-part-chunks}
 use Rattle.md_inline_events.specs.Room.{IsStretch}
 
-index-before : (p q : Point) → IsTrue (at_or_before p q) → p.index ≤ q.index
+pub index-before : (p q : Point) → IsTrue (at_or_before p q) → p.index ≤ q.index
 index-before p q h = grind (arith, nat_tests)
 
 stretches : (bytes : List ℕ) (p : Point) (chunks : List Chunk) → in_order p chunks ≡ true →

@@ -61,7 +61,7 @@ close-last : (names : List Name) (front : Rattle.md_inline_events.specs.Marks.Fr
 close-last [] front = refl
 close-last (name ∷ names) front = close-back names (name ∷ []) [] front
 
-finish-length : (name : Name) (ms : List Mark) → length (finish name ms) ≡ length ms
+pub finish-length : (name : Name) (ms : List Mark) → length (finish name ms) ≡ length ms
 finish-length name [] = refl
 finish-length name (m ∷ []) = refl
 finish-length name (m ∷ k ∷ ms) = ap suc (finish-length name (k ∷ ms))
@@ -104,7 +104,7 @@ begin-append : (a : Name) (xs ys : List Mark) → 0 < length xs → begin a (xs 
 begin-append a [] ys h = absurd (omega (arith, h))
 begin-append a (x ∷ xs) ys h = refl
 
-begin-length : (name : Name) (ms : List Mark) → length (begin name ms) ≡ length ms
+pub begin-length : (name : Name) (ms : List Mark) → length (begin name ms) ≡ length ms
 begin-length name [] = refl
 begin-length name (m ∷ ms) = refl
 
@@ -129,7 +129,11 @@ left-marks opens (t.Over name (suc more) ∷ ts) =
     let own : List Mark = close (left_first ts) (piece_marks name more) in
     ap (λ (l : List Mark). begun opens name (rest_marks (suc more) (left_first ts)) ++ l) (left-marks [] ts)
     ∙ ap (λ (l : List Mark). l ++ plain_marks ts) (begun-closed opens (left_first ts) name more)
-    ∙ sym (begin_all-front opens own (plain_marks ts) (omega (arith, close-length (left_first ts) (piece_marks name more))))
+    ∙ sym (begin_all-front opens own (plain_marks ts) (omega (
+      arith,
+      close-length (left_first ts) (piece_marks name
+          more),
+    )))
 
 -- Places that are kept free give nothing.
 
@@ -269,7 +273,8 @@ from-here (part name inside following) rest h =
         close (left_first rest) (finish name (begin name ms) ++ marks following) ++ plain_marks rest
     go [] is h first second =
         second h
-        ∙ ap (λ (l : List Mark). close (left_first rest) (finish name (begin name l) ++ marks following) ++ plain_marks rest)
+        ∙ ap (λ (l : List Mark). close (left_first rest) (finish name (begin name l) ++ marks following) ++
+        plain_marks rest)
         (sym (marks-none inside is))
     go (token ∷ ts) is h first second =
         let names : List Name = left_first later in

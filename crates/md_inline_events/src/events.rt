@@ -4,6 +4,7 @@ ghost use Rattle.std.specs.Prelude.{◌≡◌, ◌+◌, ◌*◌, ◌^◌, ◌<�
 ghost use Rattle.md_events.specs.Events.Inline.{pair_unless_empty};
 ghost use Rattle.md_events.specs.Events.Places.{past_byte, past_text};
 
+use md_engine::class::Class;
 use md_engine::event::{Event, Kind, Name, Point};
 use md_engine::message::Message;
 use md_scan::memory::push;
@@ -35,8 +36,17 @@ pub(crate) fn past_text(text: &[u8], point: Point) -> Point
     ensures column { result.column ≤ 4 * result.index + 5 }
 {
     let mut at = point;
-    for byte in text {
-        at = past_byte(*byte, at);
+    let mut rest = text;
+    while let Some((byte, following)) = rest.split_first() {
+        let to = past_byte(*byte, at);
+        let count = Class::Text.span(following);
+        at = Point {
+            line: to.line,
+            column: to.column + count,
+            index: to.index + count,
+            vs: to.vs,
+        };
+        rest = following.split_at(count).1;
     }
     at
 }

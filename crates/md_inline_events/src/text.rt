@@ -112,7 +112,8 @@ pub(crate) fn next_side<'a>(
 ///
 /// An `Err` says that memory ran out.
 fn push_side(text: &mut Vec<u8>, side: &Sides) -> Result<(), Message>
-    ensures { OnOk result (text.new.items ≡ text.old.items ++ (side.now.text.now ++ woven.as_feed side.now.ending.now)) }
+    ensures { OnOk result (text.new.items ≡
+        text.old.items ++ (side.now.text.now ++ woven.as_feed side.now.ending.now)) }
 {
     if text.extend_from_slice(side.text).is_err() {
         return Err(Message);

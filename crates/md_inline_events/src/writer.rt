@@ -137,8 +137,8 @@ fn push_chunks(
     tokens: &[Token],
 ) -> Result<(), Message>
     requires { All (IsStretch bytes.now) chunks.now }
-    ensures { OnOk result (events.new.items ≡ events.old.items
-        ++ together (woven.chunks_events bytes.now leaves_out leaves_out chunks.now (token_marks [] tokens.now) n.Data)) }
+    ensures { OnOk result (events.new.items ≡ events.old.items ++ together
+        (woven.chunks_events bytes.now leaves_out leaves_out chunks.now (token_marks [] tokens.now) n.Data)) }
 {
     let mut cursor = Cursor {
         name: Name::Data,
@@ -168,7 +168,8 @@ pub fn push_part(
     tokens: &[Token],
 ) -> Result<(), Message>
     requires { IsTextPart (document_of state.now) (record { kind = kind; chunks = chunks.now }) }
-    ensures { (forest : Forest) → listed.live tokens.now ≡ listed.tokens forest → OnOk result (events.new.items ≡ events.old.items
+    ensures { (forest : Forest) → listed.live tokens.now ≡ listed.tokens forest → OnOk result (events.new.items ≡
+        events.old.items
         ++ woven.woven_events state.now.bytes.now (record { kind = kind; chunks = chunks.now }) forest) }
 {
     push_chunks(events, state.bytes, is_text(kind), chunks, tokens)

@@ -59,7 +59,8 @@ turns-back : (back : Back) (next : List Name) (piece : Name) (from following : P
     Turns (closes_in back ++ next) next (back_events back piece from following)
 turns-back stays next piece from following = record { matches = tt; still = refl }
 turns-back (ends closes) next piece from following =
-    turns-append (closes ++ next) (closes ++ next) next (pair_unless_empty piece from following) (exited closes following)
+    turns-append (closes ++ next) (closes ++ next) next (pair_unless_empty piece from following) (exited closes
+    following)
     (turns-pair (closes ++ next) piece from following) (turns-exited closes next following)
 
 turns-from : (names mid next : List Name) (es : List Event) → names ≡ mid → Turns mid next es → Turns names next es
@@ -106,7 +107,8 @@ runs-split names end (suc count) (mark ∷ marks) runs =
 around-ending : (names end opens closes : List Name) (p q : Point) → opened opens names ≡ closes ++ end →
     Turns names end (entered opens p ++ (pair_unless_empty n.LineEnding p q ++ exited closes q))
 around-ending names end opens closes p q fits =
-    turns-append names (opened opens names) end (entered opens p) (pair_unless_empty n.LineEnding p q ++ exited closes q)
+    turns-append names (opened opens names) end (entered opens p) (pair_unless_empty n.LineEnding p q ++ exited closes
+    q)
     (turns-entered opens names p)
     (turns-from (opened opens names) (closes ++ end) end (pair_unless_empty n.LineEnding p q ++ exited closes q) fits
     (turns-append (closes ++ end) (closes ++ end) end (pair_unless_empty n.LineEnding p q) (exited closes q)

@@ -22,7 +22,8 @@ use Rattle.md_events.specs.Events.Inline.{line_end, line_endings, may_be_inside,
 use Rattle.md_events.specs.Events.Nested.{enter, exit, pair}
 use Rattle.md_events.specs.Events.Places.{are_placed, at_or_before, is_placed, past_byte, past_text, same_place}
 use Rattle.md_events.specs.Substituted.{belongs}
-use Rattle.md_events.proofs.InlineLemmas.{before-text, end-before, end-placed, endings-append, line-no_ending, past-index}
+use Rattle.md_events.proofs.InlineLemmas.{before-text, end-before, end-placed, endings-append, line-no_ending}
+use Rattle.md_events.proofs.InlineLemmas.{past-index, past_text-append}
 use Rattle.md_events.proofs.NestedLemmas.{at_or_before-refl, at_or_before-trans}
 use Rattle.md_events.proofs.PlacesLemmas.{Placed, all-append, apart-later, drop-next}
 use Rattle.md_events.proofs.PlacesLemmas.{placed-byte, placed-facts, placed-from}
@@ -61,15 +62,11 @@ trail_after chunk side = past_text side.trail (text_after chunk side)
 abbrev pub marks_after : Sides → List Mark → List Mark
 marks_after side marks = drop (length side.text) marks
 
-pub past-append : (xs ys : List ℕ) (p : Point) → past_text (xs ++ ys) p ≡ past_text ys (past_text xs p)
-past-append [] ys p = refl
-past-append (x ∷ xs) ys p = past-append xs ys (past_byte x p)
-
 pub side-end : (bytes : List ℕ) (chunk : Chunk) (side : Sides) → Divides (chunk_text bytes chunk) side →
     trail_after chunk side ≡ line_end bytes chunk
 side-end bytes chunk side is =
-    sym (past-append side.text side.trail (text_begin chunk side))
-    ∙ sym (past-append side.indent (side.text ++ side.trail) chunk.first)
+    sym (past_text-append side.text side.trail (text_begin chunk side))
+    ∙ sym (past_text-append side.indent (side.text ++ side.trail) chunk.first)
     ∙ ap (λ (l : List ℕ). past_text l chunk.first) is.line
 
 pair-all : (test : Event → Bool) (name : Name) (p q : Point) → test (enter name p) ≡ true →
@@ -105,7 +102,7 @@ text-length : (bytes : List ℕ) (chunk : Chunk) → Whole bytes chunk →
 text-length bytes chunk w =
     range-length bytes chunk.first.index chunk.after.index (placed-facts bytes chunk.after w.after).index
 
--- where the text goes on following its line, the line ends before the chunk does
+-- where the text has more than its line, the line ends before the chunk does
 line-before : (bytes : List ℕ) (chunk : Chunk) → Whole bytes chunk →
     length (without_ending (chunk_text bytes chunk)) < length (chunk_text bytes chunk) →
     (line_end bytes chunk).index < chunk.after.index
@@ -231,7 +228,8 @@ module _ (test : Event → Bool) (P : Point → Type 0)
       let trail : List Event = pair_unless_empty n.SpaceOrTab after end ++ ending in
       all-append test (pair_unless_empty n.SpaceOrTab chunk.first first)
       (line_events side.text marks piece first first ++ trail)
-      (all-pair test P holds n.SpaceOrTab chunk.first first refl (along-first P (side.indent ++ (side.text ++ side.trail)) chunk.first all)
+      (all-pair test P holds n.SpaceOrTab chunk.first first refl (along-first P (side.indent ++ (side.text ++
+      side.trail)) chunk.first all)
       (along-first P side.text first within))
       (all-append test (line_events side.text marks piece first first) trail
       (all-line test P holds side.text marks piece first first named part (along-first P side.text first within) within)
@@ -285,7 +283,8 @@ side-placed bytes chunk side marks piece w is named part =
     ∙ take-append-drop size (drop chunk.first.index bytes)) in
     let test : Event → Bool = λ e. is_placed bytes e.point in
     let P : Point → Type 0 = λ p. is_placed bytes p ≡ true in
-    let last : is_placed bytes end ≡ true = subst P (sym (side-end bytes chunk side is)) (end-placed bytes chunk w.first) in
+    let last : is_placed bytes end ≡ true = subst P (sym (side-end bytes chunk side is)) (end-placed bytes chunk
+    w.first) in
     all-side test P (placed-test bytes) bytes chunk side marks piece is named part
     (along-placed bytes line (drop (length line) text ++ following) chunk.first (placed-facts bytes chunk.first w.first)
     next (line-no_ending text))

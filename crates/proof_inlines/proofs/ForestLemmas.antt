@@ -87,7 +87,8 @@ forest-named (piece name more following) h =
 forest-named (part name inside following) h =
     let outer : (is_part_name name ≡ true) × (has_names inside && has_names following ≡ true) = and_parts
     (is_part_name name) (has_names inside && has_names following) h in
-    let inner : (has_names inside ≡ true) × (has_names following ≡ true) = and_parts (has_names inside) (has_names following)
+    let inner : (has_names inside ≡ true) × (has_names following ≡ true) = and_parts (has_names inside) (has_names
+    following)
     outer.1 in
     all-marks (finish name (begin name (marks inside))) (marks following)
     (finish-named name (begin name (marks inside)) outer.0

@@ -1,7 +1,7 @@
 -- Events of marks are what every inline layer promises.
 use Rattle.std.proofs.Common.{◌≡◌, ℕ, ◌+◌, ◌≤◌, Bool, true, false, cond, ◌&&◌, List, [], ◌∷◌, ◌++◌, length, take, drop}
-use Rattle.std.proofs.Common.{zero, suc, refl, ap, sym, ◌∙◌, subst, append_assoc, arith}
-use Rattle.std.specs.Prelude.{IsTrue, nat_lt}
+use Rattle.std.proofs.Common.{refl, ap, sym, ◌∙◌, subst, append_assoc, arith}
+use Rattle.std.specs.Prelude.{nat_lt}
 use Rattle.std.specs.List.{list_all, prefix_len}
 use Rattle.std.proofs.lemmas.Bool.{and_parts}
 use Rattle.std.proofs.lemmas.Bool.Decides.{nat_tests}
@@ -23,8 +23,12 @@ use Rattle.md_events.proofs.CutLemmas.{cut-front, cut-last}
 use Rattle.md_events.proofs.InlineLemmas.{before-text, endings-append}
 use Rattle.md_events.proofs.PlacesLemmas.{all-append}
 use Rattle.md_events.proofs.PlainSteps.{lines-each}
-use Rattle.md_inline_events.specs.Marks.{Mark, closes_in, entered, exited, is_part_name, last_name, line_events, opens_in}
-use Rattle.md_inline_events.specs.Woven.{Sides, as_feed, chunks_events, ending_events, indent_len, is_text, marked_events}
+use Rattle.md_inline_events.proofs.LineSteps.{drop-both}
+use Rattle.md_inline_events.proofs.StretchLemmas.{index-before}
+use Rattle.md_inline_events.specs.Marks.{Mark, closes_in, entered, exited, is_part_name, last_name, line_events}
+use Rattle.md_inline_events.specs.Marks.{opens_in}
+use Rattle.md_inline_events.specs.Woven.{Sides, as_feed, chunks_events, ending_events, indent_len, is_text}
+use Rattle.md_inline_events.specs.Woven.{marked_events}
 use Rattle.md_inline_events.specs.Woven.{next_side, read_chunks, read_side, read_text, side_events, sides, text_len}
 use Rattle.proof_inlines.proofs.Named.{AreMarks, Runs, is_named}
 use Rattle.proof_inlines.proofs.BalanceLemmas.{Turns, runs-split, turns-append, turns-side}
@@ -116,7 +120,8 @@ module _ (bytes : List ℕ) (ends : Bool) where
       let size : ℕ = length (read_side (here starts chunk chunks)) in
       all-append (λ (e : Event). is_placed bytes e.point) (here_events starts chunk chunks marks piece)
       (all_events true chunks (left starts chunk chunks marks) (later starts chunk chunks marks piece))
-      (side-placed bytes chunk (here starts chunk chunks) marks piece ws.0 (here-divides starts chunk chunks) named part)
+      (side-placed bytes chunk (here starts chunk chunks) marks piece ws.0 (here-divides starts chunk chunks) named
+      part)
       (chunks-placed true chunks (left starts chunk chunks marks) (later starts chunk chunks marks piece) ws.1
       (named-drop size marks named) (later-named starts chunk chunks marks piece named part))
 
@@ -173,7 +178,8 @@ module _ (bytes : List ℕ) (ends : Bool) where
       let feed : ℕ = length (as_feed side.ending) in
       let first = runs-split names next text marks runs in
       let second = runs-split first.0 next feed (drop text marks) first.2 in
-      let same : drop feed (drop text marks) ≡ left starts chunk chunks marks = drop-both side.text (as_feed side.ending)
+      let same : drop feed (drop text marks) ≡ left starts chunk chunks marks = drop-both side.text (as_feed
+      side.ending)
       marks in
       turns-append names second.0 next (here_events starts chunk chunks marks piece)
       (all_events true chunks (left starts chunk chunks marks) (later starts chunk chunks marks piece))
@@ -186,23 +192,8 @@ module _ (bytes : List ℕ) (ends : Bool) where
         length-append (read_side side) (read_chunks bytes true ends chunks),
       ))
       (subst (λ (l : List Mark). Runs second.0 l next) same second.2))
-    where
-      none : List Mark
-      none = []
-
-      drop-none : (count : ℕ) → drop count none ≡ none
-      drop-none zero = refl
-      drop-none (suc count) = refl
-
-      drop-both : (xs ys : List ℕ) (ms : List Mark) → drop (length ys) (drop (length xs) ms) ≡ drop (length (xs ++ ys)) ms
-      drop-both [] ys ms = refl
-      drop-both (x ∷ xs) ys [] = drop-none (length ys)
-      drop-both (x ∷ xs) ys (m ∷ ms) = drop-both xs ys ms
 
   -- What is in the place of each chunk.
-
-  index-before : (p q : Point) → IsTrue (at_or_before p q) → p.index ≤ q.index
-  index-before p q h = grind (arith, nat_tests)
 
   -- whether no event in front belongs to a chunk that ends at this byte
   abbrev Late : ℕ → List Event → Type 0
@@ -242,7 +233,8 @@ module _ (bytes : List ℕ) (ends : Bool) where
       let ending : List Event = ending_events to chunk.after side.ending (marks_after side marks) in
       let trail : List Event = pair_unless_empty n.SpaceOrTab after to ++ ending in
       let text : List Event = line_events side.text marks piece first first in
-      let one : chunk.first.index ≤ first.index = index-before chunk.first first (before-text side.indent chunk.first) in
+      let one : chunk.first.index ≤ first.index = index-before chunk.first first (before-text side.indent chunk.first)
+      in
       let two : first.index ≤ after.index = index-before first after (before-text side.text first) in
       let three : after.index ≤ to.index = index-before after to (before-text side.trail after) in
       subst (Late end) (sym (append_assoc (pair_unless_empty n.SpaceOrTab chunk.first first) (text ++ trail) es))
@@ -284,7 +276,8 @@ module _ (bytes : List ℕ) (ends : Bool) where
   chunks-cut p end starts (chunk ∷ next ∷ chunks) marks piece ws named part order lines =
       let outer : (at_or_before p chunk.first && at_or_before chunk.first chunk.after ≡ true) ×
       (in_order chunk.after (next ∷ chunks) ≡ true) = and_parts
-      (at_or_before p chunk.first && at_or_before chunk.first chunk.after) (in_order chunk.after (next ∷ chunks)) order in
+      (at_or_before p chunk.first && at_or_before chunk.first chunk.after) (in_order chunk.after (next ∷ chunks))
+      order in
       let line : (is_one_line (split_lines (chunk_text bytes chunk)) false ≡ true) ×
       (are_lines bytes end (next ∷ chunks) ≡ true) = and_parts
       (is_one_line (split_lines (chunk_text bytes chunk)) false) (are_lines bytes end (next ∷ chunks)) lines in
@@ -298,7 +291,8 @@ module _ (bytes : List ℕ) (ends : Bool) where
       (chunks-late chunk.after.index chunk.after true (next ∷ chunks) others name ws.1 (omega arith) outer.1)
       ∙ ap (λ (l : List (List Event)). here_events starts chunk (next ∷ chunks) marks piece ∷ l)
       (chunks-cut chunk.after end true (next ∷ chunks) others name ws.1
-      (named-drop (length (read_side side)) marks named) (later-named starts chunk (next ∷ chunks) marks piece named part)
+      (named-drop (length (read_side side)) marks named) (later-named starts chunk (next ∷ chunks) marks piece named
+      part)
       outer.1 line.1)
 
 -- The whole part.
@@ -319,6 +313,7 @@ marks-framed bytes held marks is are =
       endings = chunks-endings bytes outer outer chunks marks n.Data are.named refl;
       fills =
           subst (Fills chunks)
-          (sym (chunks-cut bytes outer first_point is.end outer chunks marks n.Data ws are.named refl is.order is.lines))
+          (sym (chunks-cut bytes outer first_point is.end outer chunks marks n.Data ws are.named refl is.order
+          is.lines))
           (chunks-fill bytes outer outer chunks marks n.Data ws);
     }

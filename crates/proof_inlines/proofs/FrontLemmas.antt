@@ -19,7 +19,7 @@ use Rattle.md_inline_events.specs.Marks.{exited, front_events, front_from, front
 use Rattle.md_inline_events.specs.Marks.{stays}
 use Rattle.md_inline_events.specs.Woven.{Sides, ending_events, side_events}
 
--- where a piece began does not come following
+-- a piece did not begin after the byte that it goes up to
 
 front-index : (front : Front) (from at : Point) → from.index ≤ at.index → (front_from front from at).index ≤ at.index
 front-index passes from at h = h
@@ -43,7 +43,7 @@ back-later (ends closes) index from following h k = omega (arith, h, k)
 pub regroup : (a b c d : List Event) → (a ++ (b ++ c)) ++ d ≡ a ++ (b ++ (c ++ d))
 regroup a b c d = append_assoc a (b ++ c) d ∙ ap (λ (l : List Event). a ++ l) (append_assoc b c d)
 
--- What holds of events that begin with an enter from some byte on, holds where events of a line stand in front of
+-- What holds of events that begin with an enter from some byte on, holds where events of a line are in front of
 -- others of which it holds.
 module _ (P : List Event → Type 0) (index : ℕ)
     (start : (name : Name) (p : Point) (es : List Event) → index ≤ p.index → P (enter name p ∷ es)) where
@@ -168,7 +168,8 @@ covers-front (begins opens name) piece from at r es opening rest =
     (subst (λ (ps : List Piece). Covers at ps r) (sym (pieces-entered opens at es opening)) rest))
 
 covers-back : (back : Back) (piece : Name) (from following r : Point) (es : List Event) →
-    Covers (back_from back from following) (pieces es) r → Covers from (pieces (back_events back piece from following ++ es)) r
+    Covers (back_from back from following) (pieces es) r → Covers from (pieces (back_events back piece from following
+    ++ es)) r
 covers-back stays piece from following r es rest = rest
 covers-back (ends closes) piece from following r es rest =
     subst (λ (l : List Event). Covers from (pieces l) r)
@@ -227,7 +228,8 @@ pub opening-ending : (end after : Point) (ending : List ℕ) (marks : List Mark)
 opening-ending end after [] marks none = opening-only end after
 opening-ending end after (b ∷ ending) [] none = opening-only end after
 opening-ending end after (b ∷ ending) (mark ∷ marks) none =
-    opening-entered (opens_in mark.front) end (pair_unless_empty n.LineEnding end after ++ exited (closes_in mark.back) after)
+    opening-entered (opens_in mark.front) end (pair_unless_empty n.LineEnding end after ++ exited (closes_in
+    mark.back) after)
     (opening-closed end after (closes_in mark.back) (λ h. let e = none h in cc))
 
 covers-only : (end after : Point) → Covers end (pieces (pair_unless_empty n.LineEnding end after)) after

@@ -128,7 +128,8 @@ module _ (test : Event → Bool) (P : Point → Type 0)
       is_part_name piece ≡ true → P from → P following → list_all test (back_events back piece from following) ≡ true
   all-back stays piece from following m k f b = refl
   all-back (ends closes) piece from following m k f b =
-      all-append test (pair_unless_empty piece from following) (exited closes following) (all-pair piece from following k f b)
+      all-append test (pair_unless_empty piece from following) (exited closes following) (all-pair piece from
+      following k f b)
       (all-exited closes following m b)
 
   from-back : (back : Back) (from following : Point) → P from → P following → P (back_from back from following)
@@ -155,7 +156,8 @@ module _ (test : Event → Bool) (P : Point → Type 0)
       (all-front mark.front piece from at (named-front mark parts.0) k f along.0)
       (all-append test (back_events mark.back here begun following) (line_events line marks here more following)
       (all-back mark.back here begun following (named-back mark parts.0) named here_holds next)
-      (all-line line marks here more following parts.1 named (from-back mark.back begun following here_holds next) along.1))
+      (all-line line marks here more following parts.1 named (from-back mark.back begun following here_holds next)
+      along.1))
 
 -- No `LineEnding` is in a line.
 
@@ -222,7 +224,8 @@ last-later : (o q r : Point) (es : List Event) → IsTrue (at_or_before o q) →
 last-later o q r [] h k last = at_or_before-trans o q r h k
 last-later o q r (e ∷ es) h k last = last
 
-pub proceeds-append : (p q r : Point) (xs ys : List Event) → IsTrue (at_or_before q r) → Proceeds p q xs → Proceeds q r ys →
+pub proceeds-append : (p q r : Point) (xs ys : List Event) → IsTrue (at_or_before q r) → Proceeds p q xs → Proceeds q
+    r ys →
     Proceeds p r (xs ++ ys)
 proceeds-append p q r xs ys h g k = record {
   forward = forward-append p xs ys g.forward (forward-from (last_point p xs) q ys g.last k.forward);
@@ -277,7 +280,8 @@ back-before : (back : Back) (from following : Point) → IsTrue (at_or_before fr
 back-before stays from following h = h
 back-before (ends closes) from following h = at_or_before-refl following
 
-pub proceeds-line : (line : List ℕ) (marks : List Mark) (piece : Name) (from at : Point) → IsTrue (at_or_before from at) →
+pub proceeds-line : (line : List ℕ) (marks : List Mark) (piece : Name) (from at : Point) → IsTrue (at_or_before from
+    at) →
     Proceeds from (past_text line at) (line_events line marks piece from at)
 proceeds-line [] marks piece from at h = proceeds-pair piece from at h
 proceeds-line (b ∷ line) [] piece from at h =
@@ -295,7 +299,8 @@ proceeds-line (b ∷ line) (mark ∷ marks) piece from at h =
     let last : IsTrue (at_or_before following (past_text line following)) = before-text line following in
     proceeds-append from begun (past_text line following) (front_events mark.front piece from at)
     (back_events mark.back here begun following ++ line_events line marks here more following)
-    (at_or_before-trans begun following (past_text line following) first last) (proceeds-front mark.front piece from at h)
+    (at_or_before-trans begun following (past_text line following) first last) (proceeds-front mark.front piece from
+    at h)
     (proceeds-append begun more (past_text line following) (back_events mark.back here begun following)
     (line_events line marks here more following)
     (at_or_before-trans more following (past_text line following) second last)

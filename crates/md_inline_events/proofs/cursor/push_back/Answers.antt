@@ -1,4 +1,4 @@
-use Rattle.std.proofs.Common.{◌≡◌, ◌-◌, List, ◌++◌, drop, ap, sym, ◌∙◌, arith}
+use Rattle.std.proofs.Common.{◌++◌, ap, sym, ◌∙◌, arith}
 use Rattle.std.proofs.lemmas.List.{append-nil}
 use Rattle.md_inline_events.specs.Marks.{Back, back_events, back_from}
 use Rattle.md_inline_events.proofs.CursorLemmas.{far_back, far_marks, last_back, last_marks}

@@ -53,7 +53,8 @@ returns-clause-events c =
     c.in_ok-enter_all.ensures
     ∙ ap (λ (l : List Event). l ++ opens) c.in_ok-push_unless_empty.ensures
     ∙ append_assoc c.args.events.now.items before opens
-    ∙ ap (λ (f : Front). c.args.events.now.items ++ front_events f c.args.cursor.name c.args.from c.args.at) (sym b.front)
+    ∙ ap (λ (f : Front). c.args.events.now.items ++ front_events f c.args.cursor.name c.args.from c.args.at) (sym
+    b.front)
 
 pub returns-clause-marks : goal.returns-clause-marks
 returns-clause-marks c =

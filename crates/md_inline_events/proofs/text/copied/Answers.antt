@@ -9,7 +9,8 @@ use Rattle.md_inline_events.proofs.text.copied.Goals as goal
 pub loop-chunk-preserved : goal.loop-chunk-preserved
 loop-chunk-preserved c =
     let each : All (IsStretch c.args.bytes.now) (c.in-Some.chunk.now ∷ c.in-Some.following.now) =
-    subst (λ (l : List Chunk). All (IsStretch c.args.bytes.now) l) c.in-Some.ensures.cases.0 c.loop-chunk.invariant.each in
+    subst (λ (l : List Chunk). All (IsStretch c.args.bytes.now) l) c.in-Some.ensures.cases.0
+    c.loop-chunk.invariant.each in
     record {
       text =
           read-step c.args.bytes.now c.loop-chunk.starts c.args.leaves_out c.in-Some.chunk.now c.in-Some.following.now

@@ -13,5 +13,6 @@ returns-clause-events c =
 pub returns-clause-name : goal.returns-clause-name
 returns-clause-name c =
     ending_name c.args.ending.now (cursor_marks c.args.cursor) (cursor_marks c.in_ok-entered.entered)
-    (cursor_marks c.in_ok-left.left) c.args.cursor.name c.in_ok-entered.entered.name c.in_ok-left.left.name (grind arith)
+    (cursor_marks c.in_ok-left.left) c.args.cursor.name c.in_ok-entered.entered.name c.in_ok-left.left.name (grind
+    arith)
     c.in_ok-entered.ensures.marks c.in_ok-left.ensures.marks c.in_ok-entered.ensures.name c.in_ok-left.ensures.name

@@ -1,4 +1,4 @@
-use Rattle.std.proofs.Common.{◌≡◌, ℕ, ◌+◌, ◌-◌, ◌<◌, ◌≤◌, List, [], ◌++◌, length, take, ap, sym, refl, ◌∙◌, arith}
+use Rattle.std.proofs.Common.{◌≡◌, ℕ, ◌-◌, ◌<◌, ◌≤◌, List, ◌++◌, length, take, ap, sym, refl, ◌∙◌, arith}
 use Rattle.std.proofs.lemmas.List.{take-append-drop}
 use Rattle.md_inline_events.specs.SidesOf.{cursor_marks}
 use Rattle.md_inline_events.proofs.LineSteps.{run_marks, run_name, run_point, run_step}
@@ -11,7 +11,8 @@ loop-rest-preserved c =
     let count : ℕ = length run in
     let rest : c.loop-rest.rest.now ≡ run ++ following = sym
     (ap (λ (l : List ℕ). l ++ following) c.split_at.ensures.front
-    ∙ ap (λ (l : List ℕ). take c.run_len.result c.loop-rest.rest.now ++ l) c.split_at.ensures.back ∙ take-append-drop c.run_len.result c.loop-rest.rest.now) in
+    ∙ ap (λ (l : List ℕ). take c.run_len.result c.loop-rest.rest.now ++ l) c.split_at.ensures.back ∙ take-append-drop
+    c.run_len.result c.loop-rest.rest.now) in
     let some : 0 < count = grind arith in
     let fits : 0 < c.in_ok-entered.entered.left → count ≤ c.in_ok-entered.entered.left = λ k.
     omega (arith, c.run_len.ensures.fits k, c.split_at.ensures.front_len) in

@@ -1,0 +1,42 @@
+-- Bytes of text are passed at once: each is one column.
+use Rattle.std.proofs.Common.{◌≡◌, ℕ, zero, suc, ◌+◌, ◌-◌, ◌<◌, ◌≤◌, true, false, List, [], ◌∷◌, length, drop}
+use Rattle.std.proofs.Common.{refl, ap, sym, ◌∙◌, arith}
+use Rattle.std.specs.Prelude.{◌==◌, slice_index}
+use Rattle.md_engine.specs.Classes.{IsSpan, has}
+use Rattle.md_engine.specs.declared.class.Class.TheVariants.{Text}
+use Rattle.md_engine.specs.declared.event.Point.{Point}
+use Rattle.md_engine.proofs.ClassLemmas.{no-ending}
+use Rattle.md_events.specs.Events.Places.{past_byte, past_text}
+use Rattle.md_events.proofs.PlainRuns.{ahead}
+
+ahead-none : (p : Point) → p ≡ ahead 0 p
+ahead-none p =
+    let same : (m : ℕ) → m ≡ m + 0 = λ m. omega arith in
+    rw (← same p.column, ← same p.index) refl
+
+ahead-more : (b n : ℕ) (p : Point) → 1 ≤ p.column → p.vs ≡ 0 → (b == 9) ≡ false →
+    ahead n (past_byte b p) ≡ ahead (suc n) p
+ahead-more b n p first none plain =
+    let column : p.column - 1 + 1 + 1 + n ≡ p.column + suc n = omega (arith, first) in
+    let index : p.index + 1 + n ≡ p.index + suc n = omega arith in
+    rw (plain, column, index) (ap (λ (m : ℕ). record (ahead (suc n) p) { vs = m }) (sym none))
+
+span-past : (n : ℕ) (line : List ℕ) (p : Point) → n ≤ length line →
+    ((k : ℕ) → k < n → has Text (slice_index line k) ≡ true) → 1 ≤ p.column → p.vs ≡ 0 →
+    past_text line p ≡ past_text (drop n line) (ahead n p)
+span-past zero line p low each first none = ap (λ (q : Point). past_text line q) (ahead-none p)
+span-past (suc n) [] p low each first none = absurd (omega (arith, low))
+span-past (suc n) (b ∷ line) p low each first none =
+    let plain = no-ending Text b (each 0 (omega arith)) in
+    span-past n line (past_byte b p) (omega (arith, low)) (λ k h. each (suc k) (omega (arith, h))) (omega arith) refl
+    ∙ ap (λ (q : Point). past_text (drop n line) q) (ahead-more b n p first none plain.1)
+
+pub span_step : (rest following left : List ℕ) (b count : ℕ) (at to next end : Point) → rest ≡ b ∷ following →
+    to ≡ past_byte b at → IsSpan Text following count → left ≡ drop count following → next ≡ ahead count to →
+    past_text rest at ≡ end → past_text left next ≡ end
+span_step rest following left b count at to next end r t span l n all =
+    ap (λ (q : Point). past_text left q) (n ∙ ap (λ (q : Point). ahead count q) t)
+    ∙ ap (λ (x : List ℕ). past_text x (ahead count (past_byte b at))) l
+    ∙ sym (span-past count following (past_byte b at) span.within span.each (omega arith) refl)
+    ∙ ap (λ (x : List ℕ). past_text x at) (sym r)
+    ∙ all
