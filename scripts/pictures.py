@@ -15,7 +15,7 @@ TEXTS = ("Data", "CodeFlowChunk", "MathFlowChunk", "HtmlFlowData", "FrontmatterC
 
 # The groups of crates, from the top: each depends on those below it.
 GROUPS = (
-    ("Tests and the reference program", r"test_.*|reference_.*|plain_blocks",
+    ("Tests and the reference program", r"test_.*|reference_(?!inlines).*|plain_blocks",
      "what compares definitions, programs and the library with each other"),
     ("Programs and examples", r"md_program|printing|reports|html_blocks|blocks|events|hoxalgurre|hoxalgurre_c|examples_.*",
      "what users run, link or copy"),
@@ -26,7 +26,8 @@ GROUPS = (
      "each construct seen by bytes, by cells and by lines; which there are, and in which order"),
     ("Constructs", r"md_leaves|md_code|md_html|md_tables|md_link_definitions|md_content|md_containers|"
      r"md_order|md_resolve|md_outline|md_wrap", "states and their rules; resolvers, the outline, texts written into containers"),
-    ("Inline layers", r"md_inline_events|proof_inlines", "what a layer finds in a text part, as events that keep the promise"),
+    ("Inline layers", r"md_inline_.*|proof_inline.*|md_entities|md_inlines|reference_inlines",
+     "what a text part means, and what a layer finds in it"),
     ("Beliefs and the tokenizer", r"md_engine|md_meaning|md_events|md_exact|md_scan",
      "what a text means, what events are, and what calls states"),
 )
@@ -170,7 +171,7 @@ def grouped(crates):
 
 def draw_crates():
     """A box for each group, with its crates, and a line to the group below."""
-    picture = Picture("The crates in nine groups, each above those that it depends on")
+    picture = Picture("The crates in ten groups, each above those that it depends on")
     width, size, top = 900, 12, 12
     groups = grouped(read_crates())
     for (title, _, what), names in zip(GROUPS, groups):

@@ -1,0 +1,5 @@
+pub mod CharacterLemmas
+pub mod CodeLemmas
+pub mod HtmlLemmas
+pub mod LabelLemmas
+pub mod TargetLemmas

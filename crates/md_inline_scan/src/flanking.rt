@@ -1,0 +1,157 @@
+// Delimiter runs, and the characters beside them (CommonMark 2.1, 6.2).
+ghost use Rattle.std.specs.Prelude.{◌≡◌, ◌≤◌, length, slice_get};
+ghost use Rattle.std.specs.List.{prefix_len, suffix_len};
+ghost use Rattle.md_inline_grammars.specs.Characters as characters;
+ghost use Rattle.md_inline_grammars.specs.Flanking as flanking;
+
+use md_inline_grammars::{Run, Side};
+use md_scan::bytes::run_len;
+use ucd_category::{GeneralCategory, GeneralCategoryGroup};
+
+/// Whether this is Unicode whitespace.
+fn is_whitespace(c: char) -> bool
+    ensures { result ≡ characters.is_whitespace c }
+{
+    if c < '\u{80}' {
+        c == '\t' || c == '\n' || c == '\u{c}' || c == '\r' || c == ' '
+    } else {
+        GeneralCategory::for_char(c) == GeneralCategory::SpaceSeparator
+    }
+}
+
+/// Whether this is Unicode punctuation.
+fn is_punctuation(c: char) -> bool
+    ensures { result ≡ characters.is_punctuation c }
+{
+    if c < '\u{80}' {
+        c.is_ascii_punctuation()
+    } else {
+        let category = GeneralCategory::for_char(c);
+        GeneralCategoryGroup::Punctuation.contains(category)
+            || GeneralCategoryGroup::Symbol.contains(category)
+    }
+}
+
+/// What a character is beside a run.
+fn side_of(c: char) -> Side
+    ensures { result ≡ characters.side_of c }
+{
+    if is_whitespace(c) {
+        Side::White
+    } else if is_punctuation(c) {
+        Side::Punctuation
+    } else {
+        Side::Other
+    }
+}
+
+/// The character that these bytes spell, if they are UTF-8.
+fn character(bytes: &[u8]) -> Option<char>
+    ensures { result ≡ characters.character bytes.now }
+{
+    match str::from_utf8(bytes) {
+        Ok(text) => text.chars().next(),
+        Err(_) => None,
+    }
+}
+
+/// What these bytes of a character are beside a run.
+#[tactic(auto, unfolding(md_inline_grammars::specs::Characters::side))]
+fn side(bytes: &[u8]) -> Side
+    ensures { result ≡ characters.side bytes.now }
+{
+    match bytes {
+        [] => Side::White,
+        [byte] if *byte < 128 => side_of(char::from(*byte)),
+        [_] => Side::Other,
+        [_, _, ..] => match character(bytes) {
+            Some(c) => side_of(c),
+            None => Side::Other,
+        },
+    }
+}
+
+fn is_within(byte: u8) -> bool
+    ensures { result ≡ characters.is_within byte }
+{
+    128 <= byte && byte < 192
+}
+
+/// How many bytes come first that are not the first of a character.
+fn within_len(text: &[u8]) -> usize
+    ensures value { result ≡ prefix_len characters.is_within text.now }
+    ensures bound { result ≤ length text.now }
+{
+    text.iter().take_while(|byte| is_within(**byte)).count()
+}
+
+/// How many bytes come last that are not the first of a character.
+fn within_end_len(text: &[u8]) -> usize
+    ensures value { result ≡ suffix_len characters.is_within text.now }
+    ensures bound { result ≤ length text.now }
+{
+    text.iter()
+        .rev()
+        .take_while(|byte| is_within(**byte))
+        .count()
+}
+
+/// The bytes of the first character.
+fn first_bytes(text: &[u8]) -> &[u8]
+    ensures { result.now ≡ characters.first_bytes text.now }
+{
+    match text {
+        [_, rest @ ..] => text.split_at(1 + within_len(rest)).0,
+        [] => text,
+    }
+}
+
+/// The bytes of the last character.
+fn last_bytes(text: &[u8]) -> &[u8]
+    ensures { result.now ≡ characters.last_bytes text.now }
+{
+    let within = within_end_len(text);
+    text.split_at((text.len() - within).saturating_sub(1)).1
+}
+
+/// Whether a run is left-flanking; with its sides exchanged, whether it is right-flanking.
+fn flanks(before: Side, after: Side) -> bool
+    ensures { result ≡ flanking.flanks before after }
+{
+    match (before, after) {
+        (_, Side::White) => false,
+        (Side::Other, Side::Punctuation) => false,
+        _ => true,
+    }
+}
+
+fn opens(mark: u8, before: Side, after: Side) -> bool
+    ensures { result ≡ flanking.opens mark before after }
+{
+    flanks(before, after)
+        && (mark != b'_' || !flanks(after, before) || matches!(before, Side::Punctuation))
+}
+
+fn closes(mark: u8, before: Side, after: Side) -> bool
+    ensures { result ≡ flanking.closes mark before after }
+{
+    flanks(after, before)
+        && (mark != b'_' || !flanks(before, after) || matches!(after, Side::Punctuation))
+}
+
+/// The run of this byte that comes first in a text, after another.
+#[tactic(auto, unfolding(md_inline_grammars::specs::Flanking::run_at))]
+pub fn run_at(mark: u8, before: &[u8], text: &[u8]) -> Run
+    ensures { result ≡ flanking.run_at mark before.now text.now }
+{
+    let size = run_len(mark, text);
+    let left = side(last_bytes(before));
+    let right = side(first_bytes(text.split_at(size).1));
+    Run {
+        mark,
+        size,
+        left: size,
+        opens: opens(mark, left, right),
+        closes: closes(mark, left, right),
+    }
+}

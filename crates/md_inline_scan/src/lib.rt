@@ -1,0 +1,12 @@
+// Inline constructs by plain functions over bytes: each returns what its definition in `md_inline_grammars` gives.
+#![tactic(auto)]
+
+pub mod autolink;
+pub mod breaks;
+pub mod class;
+pub mod code;
+pub mod escape;
+pub mod flanking;
+pub mod html;
+pub mod target;
+pub mod task;

@@ -1,0 +1,2 @@
+// That the inline definition gives each text a forest over all of it.
+#![tactic(auto)]

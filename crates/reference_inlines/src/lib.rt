@@ -1,0 +1,14 @@
+// Laws of the inline definition, as functions whose contracts are the laws.
+#![tactic(auto)]
+
+ghost use Rattle.std.specs.Prelude.{ℕ, Bool, List};
+ghost use Rattle.md_meaning.specs.Label.{Labels};
+ghost use Rattle.md_inline_events.specs.Forest.{IsForestOf};
+ghost use Rattle.md_inline_grammars.specs.declared.InlineOptions as given;
+ghost use Rattle.md_inlines.specs.Content as inlines;
+
+/// The inline content of a text is a forest over all of its bytes, with inline names, for all options and labels.
+pub fn content_is_over_its_text()
+    ensures { (options : given.InlineOptions) (labels : Labels) (first : Bool) (text : List ℕ)
+        → IsForestOf text (inlines.content options labels first text) }
+{}
